@@ -1,0 +1,23 @@
+//! The values of variables and parameters, and their kinds.
+use crate::{GroupName, ObjRef, Octets};
+
+/// The kinds of values, one for each class of variables.
+#[derive(Clone, Copy, Debug, PartialEq, Eq)]
+pub enum Kind {
+    Bool,
+    Int,
+    Octets,
+    Object,
+    Content,
+}
+
+/// A value: of a variable, of a parameter, or the data of an event.
+#[derive(Clone, Debug, Drop, PartialEq, Eq)]
+pub enum Value {
+    Bool(bool),
+    Int(i32),
+    Octets(Octets),
+    Object(ObjRef),
+    /// The name of a content file.
+    Content(GroupName),
+}

@@ -1,0 +1,3 @@
+pub mod Screen
+pub mod Answer
+pub mod Play

@@ -1,0 +1,176 @@
+//! `Engine`: a machine that can be refused memory, and runs of it.
+ghost use Rattle.std.specs.Prelude.{◌≡◌, ◌≤◌, true, false, length, take, IfOk, IfErr, OnOk, OnErr, IsErrOf};
+ghost use Rattle.mh_model.specs.State.{begun};
+ghost use Rattle.mh_model.specs.Step.{step as step_lem, stepped, posted, is_full, is_idle, moved, run as run_lem, most_steps};
+ghost use Rattle.mh_model.specs.Picture.{shown};
+ghost use Rattle.mh_engine.specs.Answer.{answer_of, rest_of};
+
+use crate::machine::Machine;
+use crate::refusal::{Refused, RefusedWhy, RunEnd, StepError, Unstarted};
+use crate::rest::Rest;
+use crate::stepped::Stepped;
+use mh_model::{Fault, Input, Move, Picture};
+use mh_service::Service;
+use std::alloc::Global;
+use std::marker::Model;
+
+/// An engine that plays a service (ETSI ES 202 184, the receiver's MHEG-5 engine). A contract sees the
+/// state of the machine, and whether the engine has stopped for want of memory.
+#[derive(Drop)]
+pub struct Engine {
+    machine: Machine,
+    stopped: bool,
+}
+
+impl Model for Engine {
+    ghost use Rattle.mh_engine.specs.Play.{Play};
+
+    ghost Value = { Play };
+
+    ghost view = { λ e. record { state = e.machine; stopped = e.stopped } };
+}
+
+impl Engine {
+    /// An engine for the service, whether or not a verifier would accept it.
+    pub fn start_lenient(alloc: Global, service: Service) -> Result<Engine, Unstarted>
+        ensures begun { IfOk result (λ engine. engine ≡ record { state = begun service; stopped = false }) }
+        ensures back { IfErr result (λ unstarted. unstarted.service ≡ service) }
+    {
+        let machine = Machine::begin(alloc, service)?;
+        Ok(Engine {
+            machine,
+            stopped: false,
+        })
+    }
+
+    /// Adds an input at the end of the queue. A refused one is handed back, and nothing changes.
+    pub fn post(&mut self, input: Input) -> Result<(), Refused>
+        ensures posted { OnOk result (self.new ≡ record self.old { state = posted input self.old.state }) }
+        ensures accepted { OnOk result ((self.old.stopped ≡ false) × (is_full self.old.state ≡ false)) }
+        ensures stopped { IfErr result (λ refused. refused.why ≡ RefusedWhy.Stopped → self.old.stopped ≡ true) }
+        ensures full { IfErr result (λ refused. refused.why ≡ RefusedWhy.QueueFull → (self.old.stopped ≡ false) × (is_full self.old.state ≡ true)) }
+        ensures back { IfErr result (λ refused. refused.input ≡ input) }
+        ensures kept { OnErr result (self.new ≡ self.old) }
+    {
+        if self.stopped {
+            return refuse(RefusedWhy::Stopped, input);
+        }
+        if self.machine.is_full() {
+            return refuse(RefusedWhy::QueueFull, input);
+        }
+        match self.machine.post(input) {
+            Ok(()) => Ok(()),
+            Err(_) => refuse(RefusedWhy::NoMemory, input),
+        }
+    }
+
+    /// One step of the machine. Where memory is refused the state stays as it was, and the engine makes no
+    /// further step.
+    pub fn step(&mut self) -> Result<Stepped, StepError>
+        ensures step { OnOk result (self.new ≡ record self.old { state = step_lem self.old.state }) }
+        ensures answer { IfOk result (λ answer. answer ≡ answer_of self.old.state) }
+        ensures running { OnOk result (self.old.stopped ≡ false) }
+        ensures room { OnOk result (self.old.state.taken ≡ most_steps → is_idle self.old.state ≡ true) }
+        ensures stopped { IsErrOf result StepError.Stopped → (self.old.stopped ≡ true) × (self.new ≡ self.old) }
+        ensures full { IsErrOf result StepError.CountFull → (self.old.state.taken ≡ most_steps) × (is_idle self.old.state ≡ false) × (self.new ≡ self.old) }
+        ensures no_memory { IsErrOf result StepError.NoMemory → self.new ≡ record self.old { stopped = true } }
+    {
+        if self.stopped {
+            return Err(StepError::Stopped);
+        }
+        if self.machine.is_idle() {
+            return Ok(Stepped::Idle);
+        }
+        if self.machine.taken() == u64::MAX {
+            return Err(StepError::CountFull);
+        }
+        match self.machine.step() {
+            Ok(answer) => Ok(answer),
+            Err(_) => {
+                self.stopped = true;
+                Err(StepError::NoMemory)
+            }
+        }
+    }
+
+    /// The picture that is shown.
+    pub fn picture(&self) -> &Picture
+        ensures { result.now ≡ shown self.now.state }
+    {
+        self.machine.picture()
+    }
+
+    /// The steps taken.
+    pub fn taken(&self) -> u64
+        ensures { result ≡ self.now.state.taken }
+    {
+        self.machine.taken()
+    }
+
+    /// The faults met, in order.
+    pub fn faults(&self) -> &[Fault]
+        ensures { result.now ≡ self.now.state.faults }
+    {
+        self.machine.faults()
+    }
+
+    /// What is left to do.
+    pub fn rest(&self) -> Rest
+        ensures { result ≡ rest_of self.now.state }
+    {
+        if self.machine.is_idle() {
+            Rest::Idle
+        } else {
+            Rest::More
+        }
+    }
+}
+
+fn refuse(why: RefusedWhy, input: Input) -> Result<(), Refused>
+    ensures { IsErrOf result (record { why = why; input = input }) }
+{
+    Err(Refused { why, input })
+}
+
+/// One move of a run. A post that finds the queue full is passed over.
+fn make(engine: &mut Engine, next: &Move) -> Result<(), StepError>
+    ensures made { OnOk result (engine.new.state ≡ moved next.now engine.old.state) }
+    ensures kept { OnErr result (engine.new.state ≡ engine.old.state) }
+{
+    match next {
+        Move::Post(input) => post_or_pass(engine, *input),
+        Move::Step => {
+            let _ = engine.step()?;
+            Ok(())
+        }
+    }
+}
+
+fn post_or_pass(engine: &mut Engine, input: Input) -> Result<(), StepError>
+    ensures made { OnOk result (engine.new.state ≡ posted input engine.old.state) }
+    ensures kept { OnErr result (engine.new.state ≡ engine.old.state) }
+{
+    match engine.post(input) {
+        Ok(()) => Ok(()),
+        Err(refused) => match refused.why {
+            RefusedWhy::QueueFull => Ok(()),
+            RefusedWhy::Stopped => Err(StepError::Stopped),
+            RefusedWhy::NoMemory => Err(StepError::NoMemory),
+        },
+    }
+}
+
+/// Makes these moves in order. It ends early where memory is refused, where the engine has stopped, or
+/// where the count of steps is full, and then says how many moves were made.
+pub fn run(engine: &mut Engine, moves: &[Move]) -> Result<(), RunEnd>
+    ensures all { OnOk result (engine.new.state ≡ run_lem moves.now engine.old.state) }
+    ensures part { IfErr result (λ end. engine.new.state ≡ run_lem (take end.made moves.now) engine.old.state) }
+    ensures within { IfErr result (λ end. end.made ≤ length moves.now) }
+{
+    for (made, next) in moves.iter().enumerate() {
+        if let Err(why) = make(engine, next) {
+            return Err(RunEnd { made, why });
+        }
+    }
+    Ok(())
+}

@@ -1,0 +1,63 @@
+//! Why the engine refuses a call.
+use mh_model::Input;
+use mh_service::Service;
+use std::alloc::AllocError;
+use thiserror::Error;
+
+/// A service that could not be started for want of memory. It is handed back.
+#[derive(Drop)]
+pub struct Unstarted {
+    pub service: Service,
+}
+
+/// Why an input was not accepted.
+#[derive(Clone, Copy, Debug, PartialEq, Eq, Error)]
+pub enum RefusedWhy {
+    #[error("memory was refused")]
+    NoMemory,
+    /// Number 55: a step of this engine was refused memory.
+    #[error("55: the engine has stopped for want of memory")]
+    Stopped,
+    /// Number 51: as many inputs wait as may.
+    #[error("51: the queue is full")]
+    QueueFull,
+}
+
+/// An input that was not accepted. It is handed back.
+#[derive(Clone, Copy, Debug, PartialEq, Eq)]
+pub struct Refused {
+    pub why: RefusedWhy,
+    pub input: Input,
+}
+
+/// Why a step was not made.
+#[derive(Clone, Copy, Debug, PartialEq, Eq, Error)]
+pub enum StepError {
+    #[error("memory was refused")]
+    NoMemory,
+    /// Number 55: an earlier step of this engine was refused memory.
+    #[error("55: the engine has stopped for want of memory")]
+    Stopped,
+    /// Number 56: as many steps are counted as can be.
+    #[error("56: the count of steps is full")]
+    CountFull,
+}
+
+/// A run that ended before its last move.
+#[derive(Clone, Copy, Debug, PartialEq, Eq)]
+pub struct RunEnd {
+    /// How many moves were made.
+    pub made: usize,
+    pub why: StepError,
+}
+
+impl From<AllocError> for StepError {
+    ghost use Rattle.std.specs.Prelude.{◌≡◌};
+    ghost use Rattle.mh_engine.specs.declared.refusal.StepError.TheVariants.{NoMemory};
+
+    ghost from_gives = { λ _ e. e ≡ NoMemory };
+
+    fn from(_refused: AllocError) -> StepError {
+        StepError::NoMemory
+    }
+}

@@ -1,0 +1,10 @@
+//! What is left to do.
+
+/// What is left to do.
+#[derive(Clone, Copy, Debug, PartialEq, Eq)]
+pub enum Rest {
+    /// The next step does something.
+    More,
+    /// There is no work and no input.
+    Idle,
+}

@@ -1,0 +1,13 @@
+//! What a step answers.
+use mh_model::Fault;
+
+/// What one step did.
+#[derive(Debug, Drop)]
+pub enum Stepped {
+    /// There is nothing to do.
+    Idle,
+    /// An item was done, or an input taken.
+    Did,
+    /// The first item was stuck, and is removed.
+    Faulted(Fault),
+}

@@ -1,0 +1,220 @@
+//! `Group`: what is written, where the tables allow it.
+ghost use Rattle.std.specs.Prelude.{◌≡◌, true, false, length, IfOk, IfErr, OnOk, OnErr, ◌&&◌, ◌==◌};
+ghost use Rattle.std.specs.List.{list_all, list_any};
+ghost use Rattle.mh_group.specs.Table.{attribute_number};
+ghost use Rattle.mh_group.specs.Fit.{is_group, fits as fits_lem, fits_parameter as fits_parameter_lem, fits_parameters as fits_parameters_lem, fits_action as fits_action_lem, fits_effect as fits_effect_lem, fits_field as fits_field_lem, fits_fields as fits_fields_lem, is_rising, rises_above, has_required as has_required_lem, fits_ingredient as fits_ingredient_lem, items_of};
+ghost use Rattle.mh_group.specs.declared.written.Written.{Written};
+
+use crate::shape::{Need, Shape};
+use crate::written::{Field, Ingredient, Setting, Written};
+use crate::{Action, Attribute, Class, Parameter};
+use std::marker::Model;
+
+/// A group that the tables allow: each object has the fields of its class, each once, in the order of
+/// their numbers and with values in range, and each action has its parameters. A contract sees what is
+/// written.
+#[derive(Debug, Drop)]
+pub struct Group {
+    written: Written,
+}
+
+impl Model for Group {
+    ghost use Rattle.std.specs.Prelude.{◌≡◌, true};
+    ghost use Rattle.mh_group.specs.declared.written.Written.{Written};
+    ghost use Rattle.mh_group.specs.Fit.{is_group};
+
+    ghost Value = { Written };
+
+    ghost view = { λ g. g.written };
+
+    ghost invariant = { λ g. is_group g.written ≡ true };
+}
+
+impl Group {
+    /// The group that is written so. What the tables do not allow is handed back.
+    pub fn new(written: Written) -> Result<Group, Written>
+        ensures fits { OnOk result (is_group written ≡ true) }
+        ensures same { IfOk result (λ group. group ≡ written) }
+        ensures unfit { OnErr result (is_group written ≡ false) }
+        ensures back { IfErr result (λ back. back ≡ written) }
+    {
+        if fits_group(&written) {
+            Ok(Group { written })
+        } else {
+            Err(written)
+        }
+    }
+
+    /// What is written.
+    pub fn written(&self) -> &Written
+        ensures same { result.now ≡ self.now }
+        ensures fits { is_group self.now ≡ true }
+    {
+        &self.written
+    }
+
+    pub fn into_written(self) -> Written
+        ensures same { result ≡ self }
+    {
+        let Group { written } = self;
+        written
+    }
+}
+
+/// The ingredients of a group; none where it writes no items.
+pub fn items(written: &Written) -> &[Ingredient]
+    ensures { result.now ≡ items_of written.now }
+{
+    match &written.items {
+        Some(items) => items.as_slice(),
+        None => &[],
+    }
+}
+
+/// Whether the value has the shape and lies in its range.
+pub fn fits(shape: Shape, setting: &Setting) -> bool
+    ensures { result ≡ fits_lem shape setting.now }
+{
+    match (shape, setting) {
+        (Shape::Effect, Setting::Effect(effect)) => fits_effect(effect.as_slice()),
+        (Shape::Bool, Setting::Bool(_)) => true,
+        (Shape::Int, Setting::Int(_)) => true,
+        (Shape::Natural, Setting::Int(value)) => 0 <= *value,
+        (Shape::Pair, Setting::Pair(_, _)) => true,
+        (Shape::Size, Setting::Pair(width, height)) => 0 <= *width && 0 <= *height,
+        (Shape::Screen, Setting::Pair(width, height)) => *width == 720 && *height == 576,
+        (Shape::Ref, Setting::Ref(_)) => true,
+        (Shape::Event, Setting::Event(_)) => true,
+        (Shape::Data, Setting::Bool(_)) => true,
+        (Shape::Data, Setting::Int(_)) => true,
+        (Shape::Colour, Setting::Octets(octets)) => octets.as_slice().len() == 4,
+        _ => false,
+    }
+}
+
+/// Whether the parameter is of the kind that is needed.
+fn fits_parameter(need: Need, parameter: &Parameter) -> bool
+    ensures { result ≡ fits_parameter_lem need parameter.now }
+{
+    match (need, parameter) {
+        (Need::Int, Parameter::Int(_)) => true,
+        (Need::Typed, Parameter::Typed(_)) => true,
+        _ => false,
+    }
+}
+
+/// Whether the action is written with the parameters that it needs.
+pub fn fits_action(action: &Action) -> bool
+    ensures { result ≡ fits_action_lem action.now }
+{
+    fits_parameters(action.name.needs(), action.parameters.as_slice())
+}
+
+fn fits_parameters(needed: &[Need], given: &[Parameter]) -> bool
+    ensures { result ≡ fits_parameters_lem needed.now given.now }
+{
+    match needed {
+        [] => given.is_empty(),
+        [need, others @ ..] => match given {
+            [] => false,
+            [parameter, rest @ ..] => {
+                fits_parameter(*need, parameter) && fits_parameters(others, rest)
+            }
+        },
+    }
+}
+
+fn fits_effect(effect: &[Action]) -> bool
+    ensures { result ≡ fits_effect_lem effect.now }
+{
+    effect.iter().all(|action| fits_action(action))
+}
+
+fn fits_field(class: Class, field: &Field) -> bool
+    ensures { result ≡ fits_field_lem class field.now }
+{
+    class.takes(field.attribute) && fits(field.attribute.shape(), &field.setting)
+}
+
+fn are_rising(fields: &[Field]) -> bool
+    ensures { result ≡ is_rising fields.now }
+{
+    let mut last = 0;
+    for field in fields {
+        let number = field.attribute.number();
+        if number <= last {
+            return false;
+        }
+        last = number;
+    }
+    true
+}
+
+fn has_attribute(fields: &[Field], attribute: Attribute) -> bool
+    ensures { result ≡ list_any (λ f. attribute_number f.attribute == attribute_number attribute) fields.now }
+{
+    let number = attribute.number();
+    fields
+        .iter()
+        .any(|field| field.attribute.number() == number)
+}
+
+fn has_required(class: Class, fields: &[Field]) -> bool
+    ensures { result ≡ has_required_lem class fields.now }
+{
+    class
+        .required()
+        .iter()
+        .all(|attribute| has_attribute(fields, *attribute))
+}
+
+fn fits_fields(class: Class, fields: &[Field]) -> bool
+    ensures { result ≡ fits_fields_lem class fields.now }
+{
+    if !are_rising(fields) {
+        return false;
+    }
+    if !has_required(class, fields) {
+        return false;
+    }
+    fits_each(class, fields)
+}
+
+fn fits_each(class: Class, fields: &[Field]) -> bool
+    ensures { result ≡ list_all (fits_field_lem class) fields.now }
+{
+    fields.iter().all(|field| fits_field(class, field))
+}
+
+fn fits_ingredient(ingredient: &Ingredient) -> bool
+    ensures { result ≡ fits_ingredient_lem ingredient.now }
+{
+    if ingredient.class.is_group() {
+        return false;
+    }
+    if ingredient.number.get() == 0 {
+        return false;
+    }
+    fits_fields(ingredient.class, ingredient.fields.as_slice())
+}
+
+#[tactic(auto, unfolding(crate::specs::Fit::is_group))]
+fn fits_group(written: &Written) -> bool
+    ensures { result ≡ is_group written.now }
+{
+    if !written.class.is_group() {
+        return false;
+    }
+    if !fits_fields(written.class, written.fields.as_slice()) {
+        return false;
+    }
+    fit_ingredients(items(written))
+}
+
+fn fit_ingredients(ingredients: &[Ingredient]) -> bool
+    ensures { result ≡ list_all fits_ingredient_lem ingredients.now }
+{
+    ingredients
+        .iter()
+        .all(|ingredient| fits_ingredient(ingredient))
+}

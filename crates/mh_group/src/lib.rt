@@ -1,0 +1,27 @@
+//! What a group file says: classes, attributes, actions, references, and the tables that tell what
+//! fits where. A value of `Group` is one that the tables allow.
+#![tactic(auto)]
+
+pub mod action;
+pub mod action_name;
+pub mod attribute;
+pub mod class;
+pub mod group;
+pub mod number;
+pub mod reference;
+pub mod shape;
+pub mod words;
+pub mod written;
+pub mod written_name;
+
+pub use action::{Action, Effect, Parameter, Typed};
+pub use action_name::ActionName;
+pub use attribute::Attribute;
+pub use class::Class;
+pub use group::Group;
+pub use number::Number;
+pub use reference::{Generic, Ref};
+pub use shape::{Need, Shape};
+pub use words::{event_of_word, event_word};
+pub use written::{Field, Ingredient, Setting, Written};
+pub use written_name::WrittenName;

@@ -1,0 +1,76 @@
+//! The words of the types of events.
+ghost use Rattle.std.specs.Prelude.{◌≡◌};
+ghost use Rattle.std.specs.List.{find};
+ghost use Rattle.std.specs.Str.{bytes_eq};
+ghost use Rattle.mh_group.specs.Words.{event_word as event_word_lem, events};
+
+use mh_base::EventType;
+
+const ALL: [EventType; 25] = [
+    EventType::IsAvailable,
+    EventType::ContentAvailable,
+    EventType::IsDeleted,
+    EventType::IsRunning,
+    EventType::IsStopped,
+    EventType::UserInput,
+    EventType::TimerFired,
+    EventType::AsyncStopped,
+    EventType::InteractionCompleted,
+    EventType::TokenMovedFrom,
+    EventType::TokenMovedTo,
+    EventType::StreamEvent,
+    EventType::HighlightOn,
+    EventType::HighlightOff,
+    EventType::IsSelected,
+    EventType::IsDeselected,
+    EventType::TestEvent,
+    EventType::FirstItemPresented,
+    EventType::LastItemPresented,
+    EventType::HeadItems,
+    EventType::TailItems,
+    EventType::ItemSelected,
+    EventType::ItemDeselected,
+    EventType::EntryFieldFull,
+    EventType::EngineEvent,
+];
+
+/// The type of events that this word names, if there is one.
+pub fn event_of_word(word: &[u8]) -> Option<EventType>
+    ensures { result ≡ find (λ x. bytes_eq (event_word_lem x) word.now) events }
+{
+    ALL.iter().copied().find(|x| event_word(*x) == word)
+}
+
+/// The word of a type of events in the textual notation.
+#[tactic(auto, unfolding(crate::specs::Words::event_word))]
+pub fn event_word(event: EventType) -> &'static [u8]
+    ensures { result.now ≡ event_word_lem event }
+{
+    match event {
+        EventType::IsAvailable => b"IsAvailable",
+        EventType::ContentAvailable => b"ContentAvailable",
+        EventType::IsDeleted => b"IsDeleted",
+        EventType::IsRunning => b"IsRunning",
+        EventType::IsStopped => b"IsStopped",
+        EventType::UserInput => b"UserInput",
+        EventType::TimerFired => b"TimerFired",
+        EventType::AsyncStopped => b"AsyncStopped",
+        EventType::InteractionCompleted => b"InteractionCompleted",
+        EventType::TokenMovedFrom => b"TokenMovedFrom",
+        EventType::TokenMovedTo => b"TokenMovedTo",
+        EventType::StreamEvent => b"StreamEvent",
+        EventType::HighlightOn => b"HighlightOn",
+        EventType::HighlightOff => b"HighlightOff",
+        EventType::IsSelected => b"IsSelected",
+        EventType::IsDeselected => b"IsDeselected",
+        EventType::TestEvent => b"TestEvent",
+        EventType::FirstItemPresented => b"FirstItemPresented",
+        EventType::LastItemPresented => b"LastItemPresented",
+        EventType::HeadItems => b"HeadItems",
+        EventType::TailItems => b"TailItems",
+        EventType::ItemSelected => b"ItemSelected",
+        EventType::ItemDeselected => b"ItemDeselected",
+        EventType::EntryFieldFull => b"EntryFieldFull",
+        EventType::EngineEvent => b"EngineEvent",
+    }
+}

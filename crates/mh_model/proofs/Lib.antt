@@ -1,0 +1,4 @@
+pub mod FirstLemmas
+pub mod PropertyLemmas
+pub mod PlanesLemmas
+pub mod PaintingLemmas

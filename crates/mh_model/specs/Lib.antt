@@ -1,0 +1,12 @@
+pub mod First
+pub mod Key
+pub mod Property
+pub mod Service
+pub mod State
+pub mod Items
+pub mod Stuck
+pub mod Rules
+pub mod Step
+pub mod Planes
+pub mod Picture
+pub mod Painting

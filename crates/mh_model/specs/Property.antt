@@ -1,0 +1,56 @@
+-- What an object holds under an attribute: what was put there last, else what was written, else the
+-- default of the tables.
+use Rattle.std.specs.Prelude.{ℕ, Bool, true, false, ◌==◌, ◌&&◌, List, [], ◌∷◌, Option, Some, None, ℤ, pos}
+use Rattle.std.specs.List.{find}
+use Rattle.std.specs.Option.{option_map}
+use Rattle.mh_base.specs.declared.obj_ref.ObjRef.{ObjRef}
+use Rattle.mh_base.specs.declared.value.Value.{Value}
+use Rattle.mh_base.specs.declared.value.Value.TheVariants as value
+use Rattle.mh_base.specs.declared.colour.Colour.{Colour}
+use Rattle.mh_base.specs.declared.event.EventType.{EventType}
+use Rattle.mh_group.specs.declared.attribute.Attribute.{Attribute}
+use Rattle.mh_group.specs.Table.{attribute_number}
+use Rattle.mh_model.specs.declared.act.Act.{Act}
+use Rattle.mh_model.specs.declared.object.Held.{Held}
+use Rattle.mh_model.specs.declared.object.Held.TheVariants as of
+use Rattle.mh_model.specs.declared.object.Property.{Property}
+use Rattle.mh_model.specs.First.{put_first}
+
+abbrev pub is_of : Attribute → Property → Bool
+is_of a p = attribute_number p.attribute == attribute_number a
+
+-- what is held under the attribute, if anything is
+abbrev pub held : Attribute → List Property → Option Held
+held a ps = option_map (λ p. p.held) (find (is_of a) ps)
+
+-- the properties with this held under the attribute
+abbrev pub with_held : Attribute → Held → List Property → List Property
+with_held a h ps = put_first (is_of a) (record { attribute = a; held = h }) ps
+
+abbrev pub as_bool : Bool → Option Held → Bool
+as_bool d (Some (of.Value (value.Bool b))) = b
+as_bool d _ = d
+
+abbrev pub as_int : ℤ → Option Held → ℤ
+as_int d (Some (of.Value (value.Int n))) = n
+as_int d _ = d
+
+abbrev pub as_pair : Option Held → ℤ × ℤ
+as_pair (Some (of.Pair a b)) = (a, b)
+as_pair _ = (pos 0, pos 0)
+
+abbrev pub as_colour : Colour → Option Held → Colour
+as_colour d (Some (of.Colour c)) = c
+as_colour d _ = d
+
+abbrev pub as_effect : Option Held → List Act
+as_effect (Some (of.Effect e)) = e
+as_effect _ = []
+
+abbrev pub as_event : Option Held → Option EventType
+as_event (Some (of.Event e)) = Some e
+as_event _ = None
+
+abbrev pub as_value : Option Held → Option Value
+as_value (Some (of.Value v)) = Some v
+as_value _ = None

@@ -1,0 +1,44 @@
+-- The state of the object machine.
+use Rattle.std.specs.Prelude.{ℕ, Bool, true, false, List, [], ◌∷◌, Option, Some, None}
+use Rattle.mh_base.specs.declared.obj_ref.ObjRef.{ObjRef}
+use Rattle.mh_model.specs.declared.object.Object.{Object}
+use Rattle.mh_model.specs.declared.item.Item.{Item}
+use Rattle.mh_model.specs.declared.item.Item.TheVariants as item
+use Rattle.mh_model.specs.declared.input.Input.{Input}
+use Rattle.mh_model.specs.declared.fault.Fault.{Fault}
+use Rattle.mh_model.specs.Service.{Service, group_objects}
+
+pub record State : Type 0 where
+  -- the service, which stays as it is
+  pub service : Service
+  -- the configuration: the active application, and the current scene if there is one
+  pub application : List ℕ
+  pub scene : Option (List ℕ)
+  -- the present objects: those of the application, then those of the scene, each group in Items order
+  pub objects : List Object
+  -- the display stack, the bottom first
+  pub stack : List ObjRef
+  -- the inputs that wait
+  pub queue : List Input
+  -- the work that is to be done before the next input is taken
+  pub work : List Item
+  -- a transition has begun, and its exchange is still to come
+  pub transition : Bool
+  -- the steps taken, and the faults met
+  pub taken : ℕ
+  pub faults : List Fault
+
+-- the state from which a run begins: the start application is there and about to be entered
+abbrev pub begun : Service → State
+begun s = record {
+  service = s;
+  application = s.start;
+  scene = None;
+  objects = group_objects s s.start;
+  stack = [];
+  queue = [];
+  work = item.Enter s.start ∷ [];
+  transition = false;
+  taken = 0;
+  faults = [];
+}

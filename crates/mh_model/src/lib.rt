@@ -1,0 +1,27 @@
+//! The object machine on paper: what a service, a state, an item, a rule, a step, a run and a picture
+//! are, in `specs/`, and the few plain types that those definitions and the engine share.
+//!
+//! Verifier and engine both stand on this crate and on nothing of each other.
+#![tactic(auto)]
+
+pub mod act;
+pub mod cell;
+pub mod event;
+pub mod fault;
+pub mod input;
+pub mod item;
+pub mod key;
+pub mod object;
+pub mod picture;
+pub mod visible;
+
+pub use act::{Act, Effect};
+pub use cell::Cell;
+pub use event::Event;
+pub use fault::{Fault, FaultKind};
+pub use input::{Input, Move};
+pub use item::Item;
+pub use key::Key;
+pub use object::{Held, Object, Properties, Property};
+pub use picture::Picture;
+pub use visible::Visible;

@@ -1,0 +1,103 @@
+//! `Picture`: what is shown, cell by cell, in three planes of numbers.
+ghost use Rattle.std.specs.Prelude.{◌≡◌, ◌<◌, IfOk, length, slice_index, slice_set, ◌∷◌, [], replicate, vec_len};
+ghost use Rattle.mh_model.specs.Planes.{IsWhole, blank, flat};
+ghost use Rattle.mh_model.specs.Picture.{cell_of};
+
+use crate::Cell;
+use std::alloc::{AllocError, Global};
+use std::marker::Model;
+
+/// The columns of the picture.
+pub const COLUMNS: usize = 60;
+
+/// The rows of the picture.
+pub const ROWS: usize = 36;
+
+/// The cells of the picture.
+pub const CELLS: usize = 2160;
+
+/// A picture of 60 by 36 cells, row by row (the display of ETSI ES 202 184 has 720 by 576 units, a cell
+/// 12 by 16). A contract sees its three planes.
+#[derive(Clone, Debug, Drop)]
+pub struct Picture {
+    scalars: Vec<u32>,
+    fores: Vec<u32>,
+    backs: Vec<u32>,
+}
+
+impl Model for Picture {
+    ghost use Rattle.mh_model.specs.Planes.{Planes, IsWhole};
+
+    ghost Value = { Planes };
+
+    ghost view = { λ p. record { scalars = p.scalars.items; fores = p.fores.items; backs = p.backs.items } };
+
+    ghost invariant = { λ p. IsWhole (record { scalars = p.scalars.items; fores = p.fores.items; backs = p.backs.items }) };
+}
+
+impl Picture {
+    /// A picture of black spaces.
+    #[tactic(auto, unfolding(crate::specs::Planes::flat))]
+    pub fn black(alloc: Global) -> Result<Picture, AllocError>
+        ensures { IfOk result (λ p. p ≡ blank) }
+    {
+        Ok(Picture {
+            scalars: filled(alloc, 32)?,
+            fores: filled(alloc, 0)?,
+            backs: filled(alloc, 0)?,
+        })
+    }
+
+    /// The cell with this number: its row times 60, and its column.
+    pub fn cell(&self, at: usize) -> Cell
+        requires { at < 2160 }
+        ensures { result ≡ cell_of self.now at }
+    {
+        Cell {
+            scalar: self.scalars[at],
+            fore: self.fores[at],
+            back: self.backs[at],
+        }
+    }
+
+    /// How many cells there are.
+    pub fn cells(&self) -> usize
+        ensures number { result ≡ 2160 }
+        ensures whole { IsWhole self.now }
+    {
+        self.backs.len()
+    }
+
+    /// Puts the colour behind a cell.
+    pub fn set_back(&mut self, at: usize, back: u32)
+        requires { at < 2160 }
+        ensures { self.new ≡ record self.old { backs = slice_set self.old.backs at back } }
+    {
+        self.backs[at] = back;
+    }
+
+    /// Makes every cell a black space.
+    #[tactic(auto, unfolding(crate::specs::Planes::flat))]
+    pub fn clear(&mut self)
+        ensures { self.new ≡ blank }
+    {
+        fill(&mut self.scalars, 32);
+        fill(&mut self.fores, 0);
+        fill(&mut self.backs, 0);
+    }
+}
+
+#[tactic(auto, unfolding(crate::specs::Planes::flat))]
+fn filled(alloc: Global, number: u32) -> Result<Vec<u32>, AllocError>
+    ensures { IfOk result (λ v. v.items ≡ flat number) }
+{
+    let numbers = vec![in alloc; number; CELLS]?;
+    Ok(numbers)
+}
+
+fn fill(plane: &mut Vec<u32>, number: u32)
+    requires { vec_len plane.old ≡ 2160 }
+    ensures { plane.new.items ≡ flat number }
+{
+    plane.as_mut_slice().fill(number);
+}

@@ -1,0 +1,4 @@
+pub mod Resolved
+pub mod Limits
+pub mod Refusals
+pub mod Numbers

@@ -1,0 +1,166 @@
+-- Why files are no service, or none that is played yet: one definition for each number, with the group
+-- that it names, and the order in which they are looked for.
+use Rattle.std.specs.Prelude.{◌≡◌, ℕ, Bool, true, false, ◌&&◌, ◌||◌, not, ◌==◌, nat_eq, if◌then◌else◌, List, [], ◌∷◌, ◌++◌, map, filter, Option, Some, None}
+use Rattle.std.specs.List.{list_all, list_any, find}
+use Rattle.std.specs.Option.{option_map, option_or}
+use Rattle.std.specs.Ordering.{is_lt, nat_cmp}
+use Rattle.std.specs.Cmp.Lexicographic.{slice_cmp}
+use Rattle.std.specs.Str.{bytes_eq}
+use Rattle.mh_group.specs.declared.class.Class.{Class}
+use Rattle.mh_group.specs.declared.class.Class.TheVariants as class
+use Rattle.mh_group.specs.declared.reference.Ref.{Ref}
+use Rattle.mh_group.specs.declared.reference.Generic.{Generic}
+use Rattle.mh_group.specs.declared.reference.Generic.TheVariants as generic
+use Rattle.mh_group.specs.declared.action.Action.{Action}
+use Rattle.mh_group.specs.declared.action.Parameter.{Parameter}
+use Rattle.mh_group.specs.declared.action.Parameter.TheVariants as parameter
+use Rattle.mh_group.specs.declared.action.Typed.{Typed}
+use Rattle.mh_group.specs.declared.action.Typed.TheVariants as typed
+use Rattle.mh_group.specs.declared.written.Setting.{Setting}
+use Rattle.mh_group.specs.declared.written.Setting.TheVariants as setting
+use Rattle.mh_group.specs.declared.written.Field.{Field}
+use Rattle.mh_group.specs.declared.written.Ingredient.{Ingredient}
+use Rattle.mh_group.specs.declared.written.Written.{Written}
+use Rattle.mh_group.specs.Table.{class_number}
+use Rattle.mh_group.specs.Fit.{items_of}
+use Rattle.mh_service.specs.declared.room.Room.{Room}
+use Rattle.mh_service.specs.declared.service_error.Why.{Why}
+use Rattle.mh_service.specs.declared.service_error.Why.TheVariants as why
+use Rattle.mh_service.specs.declared.service_error.ServiceError.{ServiceError}
+use Rattle.mh_service.specs.declared.service_error.ServiceError.TheVariants as error
+use Rattle.mh_service.specs.Limits.{whole_room, has_room, room_behind}
+use Rattle.mh_service.specs.Resolved.{group_leads}
+
+-- a file of a service: the name of a group, and what it writes
+abbrev pub File : Type 0
+File = List ℕ × Written
+
+-- the name of the first file that passes the test
+abbrev pub first_named : (File → Bool) → List File → Option (List ℕ)
+first_named p files = option_map (λ f. f.0) (find p files)
+
+-- 30: the first name that came before, in files or among those that were seen
+abbrev pub double_name : List (List ℕ) → List File → Option (List ℕ)
+double_name seen [] = None
+double_name seen (f ∷ fs) = if list_any (bytes_eq f.0) seen then Some f.0 else double_name (seen ++ f.0 ∷ []) fs
+
+-- 31: no group has the start name
+
+abbrev pub has_group : List ℕ → List File → Bool
+has_group name files = list_any (λ f. bytes_eq f.0 name) files
+
+abbrev pub missing_start : List ℕ → List File → Option (List ℕ)
+missing_start start files = if has_group start files then None else Some start
+
+-- 32: the first group in which two ingredients have one number
+
+abbrev pub has_double : List ℕ → List ℕ → Bool
+has_double seen [] = false
+has_double seen (n ∷ ns) = if list_any (nat_eq n) seen then true else has_double (seen ++ n ∷ []) ns
+
+abbrev pub has_double_number : Written → Bool
+has_double_number w = has_double [] (map (λ i. i.number) (items_of w))
+
+abbrev pub double_number : List File → Option (List ℕ)
+double_number files = first_named (λ f. has_double_number f.1) files
+
+-- 33: the start group is no application
+
+abbrev pub is_application : Class → Bool
+is_application class.Application = true
+is_application _ = false
+
+abbrev pub has_application : List ℕ → List File → Bool
+has_application name files = list_any (λ f. bytes_eq f.0 name && is_application f.1.class) files
+
+abbrev pub start_unfit : List ℕ → List File → Option (List ℕ)
+start_unfit start files = if has_application start files then None else Some start
+
+-- 34: the first group for which there is no room behind the ones before it
+abbrev pub over_limit : Room → List File → Option (List ℕ)
+over_limit r [] = None
+over_limit r (f ∷ fs) = if has_room r f.1 then over_limit (room_behind r f.1) fs else Some f.0
+
+-- 35: the first group with a written name that leads to no path
+abbrev pub bad_reference : List File → Option (List ℕ)
+bad_reference files = first_named (λ f. not (group_leads f.0 f.1)) files
+
+-- 36: what is not played yet, indirect values and more than one application or scene
+
+abbrev pub is_direct : {T : Type 0} → Generic T → Bool
+is_direct (generic.Direct x) = true
+is_direct (generic.Indirect r) = false
+
+abbrev pub is_direct_parameter : Parameter → Bool
+is_direct_parameter (parameter.Int n) = is_direct n
+is_direct_parameter (parameter.Typed (typed.Int n)) = is_direct n
+
+abbrev pub is_direct_action : Action → Bool
+is_direct_action a = is_direct a.target && list_all is_direct_parameter a.parameters
+
+abbrev pub is_direct_setting : Setting → Bool
+is_direct_setting (setting.Effect acts) = list_all is_direct_action acts
+is_direct_setting _ = true
+
+abbrev pub is_direct_field : Field → Bool
+is_direct_field f = is_direct_setting f.setting
+
+abbrev pub is_direct_ingredient : Ingredient → Bool
+is_direct_ingredient i = list_all is_direct_field i.fields
+
+-- the group writes no indirect value
+abbrev pub is_direct_group : Written → Bool
+is_direct_group w = list_all is_direct_field w.fields && list_all is_direct_ingredient (items_of w)
+
+-- names are in the order of their bytes
+abbrev pub is_before : List ℕ → List ℕ → Bool
+is_before a b = is_lt (slice_cmp nat_cmp a b)
+
+-- a group of the same class has a name before this one
+abbrev pub is_further : List File → File → Bool
+is_further files f = list_any (λ g. class_number g.1.class == class_number f.1.class && is_before g.0 f.0) files
+
+abbrev pub is_unplayed : List File → File → Bool
+is_unplayed files f = not (is_direct_group f.1) || is_further files f
+
+-- the first in order of these names and of the one so far
+abbrev pub least_name : Option (List ℕ) → List (List ℕ) → Option (List ℕ)
+least_name best [] = best
+least_name None (n ∷ ns) = least_name (Some n) ns
+least_name (Some m) (n ∷ ns) = least_name (Some (if is_before n m then n else m)) ns
+
+abbrev pub first_unplayed : List File → Option (List ℕ)
+first_unplayed files = least_name None (map (λ f. f.0) (filter (is_unplayed files) files))
+
+-- A refusal: the reason, and the name of the group.
+
+abbrev pub Refusal : Type 0
+Refusal = Why × List ℕ
+
+abbrev pub for_reason : Why → Option (List ℕ) → Option Refusal
+for_reason y name = option_map (λ n. (y, n)) name
+
+-- what is looked for before the references are resolved
+abbrev pub refusal_before : List ℕ → List File → Option Refusal
+refusal_before start files =
+    option_or (for_reason why.DoubleName (double_name [] files))
+    (option_or (for_reason why.NoStart (missing_start start files))
+    (option_or (for_reason why.DoubleNumber (double_number files))
+    (option_or (for_reason why.NotAnApplication (start_unfit start files))
+    (for_reason why.Limit (over_limit whole_room files)))))
+
+-- the first refusal of these files, in the order of the numbers
+abbrev pub refusal_of : List ℕ → List File → Option Refusal
+refusal_of start files =
+    option_or (refusal_before start files)
+    (option_or (for_reason why.BadReference (bad_reference files))
+    (for_reason why.NotYet (first_unplayed files)))
+
+-- the error is this refusal, or memory was refused
+abbrev pub Refuses : Option Refusal → ServiceError → Type 0
+Refuses r (error.Refused y group) = r ≡ Some (y, group)
+Refuses r error.NoMemory = Unit {0}
+
+-- the error says that this file writes a name that leads to no path, or memory was refused
+abbrev pub RefusesAt : File → ServiceError → Type 0
+RefusesAt f e = Refuses (for_reason why.BadReference (bad_reference (f ∷ []))) e

@@ -1,0 +1,245 @@
+//! The refusals of a service that need no reference resolved, each with the group that it names.
+ghost use Rattle.std.specs.Prelude.{◌≡◌, ◌&&◌, not, true, false, None, Some, ◌∷◌, [], map, IfOk, OnOk, IfErr};
+ghost use Rattle.std.specs.List.{list_all, list_any};
+ghost use Rattle.std.specs.Option.{option_map, option_copied};
+ghost use Rattle.mh_service.specs.Refusals.{Refuses, for_reason, double_name as double_name_lem, missing_start as missing_start_lem, double_number as double_number_lem, has_double_number as has_double_number_lem, has_double, start_unfit as start_unfit_lem, is_application as is_application_lem, has_group as has_group_lem, has_application as has_application_lem, over_limit as over_limit_lem, least_name, first_unplayed as first_unplayed_lem, is_unplayed as is_unplayed_lem, is_further as is_further_lem, is_before as is_before_lem, is_direct, is_direct_parameter as is_direct_parameter_lem, is_direct_action as is_direct_action_lem, is_direct_setting as is_direct_setting_lem, is_direct_field as is_direct_field_lem, is_direct_ingredient as is_direct_ingredient_lem, is_direct_group as is_direct_group_lem, refusal_before};
+ghost use Rattle.mh_service.specs.Limits.{whole_room};
+
+use crate::room::Room;
+use crate::{ServiceError, Why};
+use indexmap::IndexSet;
+use mh_base::GroupName;
+use mh_group::{
+    Action, Class, Field, Generic, Group, Ingredient, Parameter, Setting, Typed, Written, group,
+};
+use std::alloc::{AllocError, Global};
+
+/// Refuses what can be refused before references are resolved.
+pub fn refuse_before(
+    alloc: Global,
+    start: &GroupName,
+    files: &[(GroupName, Group)],
+) -> Result<(), ServiceError>
+    ensures refused { IfErr result (Refuses (refusal_before start.now files.now)) }
+    ensures good { OnOk result (refusal_before start.now files.now ≡ None) }
+{
+    refuse(Why::DoubleName, double_name(alloc, files)?)?;
+    refuse(Why::NoStart, missing_start(start, files))?;
+    refuse(Why::DoubleNumber, double_number(alloc, files)?)?;
+    refuse(Why::NotAnApplication, start_unfit(start, files))?;
+    refuse(Why::Limit, over_limit(files))
+}
+
+/// The refusal for this reason, where there is such a group.
+pub fn refuse(why: Why, group: Option<&GroupName>) -> Result<(), ServiceError>
+    ensures refused { IfErr result (Refuses (for_reason why (option_copied group.entry))) }
+    ensures good { OnOk result (option_copied group.entry ≡ None) }
+{
+    match group {
+        None => Ok(()),
+        Some(group) => Err(ServiceError::Refused {
+            why,
+            group: group.clone()?,
+        }),
+    }
+}
+
+/// The first name that came before.
+fn double_name(
+    alloc: Global,
+    files: &[(GroupName, Group)],
+) -> Result<Option<&GroupName>, AllocError>
+    ensures { IfOk result (λ name. option_copied name ≡ double_name_lem [] files.now) }
+{
+    let mut seen: IndexSet<GroupName> = IndexSet::new(alloc);
+    for file in files {
+        let name = file.0.clone()?;
+        if !seen.insert(name)? {
+            return Ok(Some(&file.0));
+        }
+    }
+    Ok(None)
+}
+
+fn missing_start<'a>(start: &'a GroupName, files: &[(GroupName, Group)]) -> Option<&'a GroupName>
+    ensures { option_copied result ≡ missing_start_lem start.now files.now }
+{
+    if has_group(start, files) {
+        None
+    } else {
+        Some(start)
+    }
+}
+
+fn has_group(name: &GroupName, files: &[(GroupName, Group)]) -> bool
+    ensures { result ≡ has_group_lem name.now files.now }
+{
+    files.iter().any(|file| file.0 == *name)
+}
+
+/// The first group in which two ingredients have one number.
+fn double_number(
+    alloc: Global,
+    files: &[(GroupName, Group)],
+) -> Result<Option<&GroupName>, AllocError>
+    ensures { IfOk result (λ name. option_copied name ≡ double_number_lem files.now) }
+{
+    for file in files {
+        if has_double_number(alloc, group::items(file.1.written()))? {
+            return Ok(Some(&file.0));
+        }
+    }
+    Ok(None)
+}
+
+fn has_double_number(alloc: Global, ingredients: &[Ingredient]) -> Result<bool, AllocError>
+    ensures { IfOk result (λ double. double ≡ has_double [] (map (λ i. i.number) ingredients.now)) }
+{
+    let mut seen: IndexSet<u32> = IndexSet::new(alloc);
+    for ingredient in ingredients {
+        if !seen.insert(ingredient.number.get())? {
+            return Ok(true);
+        }
+    }
+    Ok(false)
+}
+
+/// The start, where no application has its name.
+fn start_unfit<'a>(start: &'a GroupName, files: &[(GroupName, Group)]) -> Option<&'a GroupName>
+    ensures { option_copied result ≡ start_unfit_lem start.now files.now }
+{
+    if has_application(start, files) {
+        None
+    } else {
+        Some(start)
+    }
+}
+
+fn has_application(name: &GroupName, files: &[(GroupName, Group)]) -> bool
+    ensures { result ≡ has_application_lem name.now files.now }
+{
+    files.iter().any(|file| file.0 == *name && is_application(file.1.written().class))
+}
+
+fn is_application(class: Class) -> bool
+    ensures { result ≡ is_application_lem class }
+{
+    matches!(class, Class::Application)
+}
+
+/// The first group with which a limit is passed.
+fn over_limit(files: &[(GroupName, Group)]) -> Option<&GroupName>
+    ensures { option_copied result ≡ over_limit_lem whole_room files.now }
+{
+    let mut room = Room::whole();
+    for file in files {
+        match room.after(file.1.written()) {
+            None => return Some(&file.0),
+            Some(left) => room = left,
+        }
+    }
+    None
+}
+
+/// The first group in order of name that is not played yet: one that writes an indirect value, and each
+/// application or scene but the first.
+pub fn first_unplayed(files: &[(GroupName, Group)]) -> Option<&GroupName>
+    ensures { option_copied result ≡ first_unplayed_lem files.now }
+{
+    let mut least: Option<&GroupName> = None;
+    for file in files {
+        if is_unplayed(files, file) {
+            least = Some(lesser(least, &file.0));
+        }
+    }
+    least
+}
+
+/// The first of two names in order of their bytes.
+fn lesser<'a>(best: Option<&'a GroupName>, name: &'a GroupName) -> &'a GroupName
+    ensures { Some result.now ≡ least_name (option_copied best.entry) (name.now ∷ []) }
+{
+    match best {
+        None => name,
+        Some(best) => { if is_before(name, best) { name } else { best } }
+    }
+}
+
+fn is_before(first: &GroupName, second: &GroupName) -> bool
+    ensures { result ≡ is_before_lem first.now second.now }
+{
+    first.as_bytes().cmp(&second.as_bytes()).is_lt()
+}
+
+fn is_unplayed(files: &[(GroupName, Group)], file: &(GroupName, Group)) -> bool
+    ensures { result ≡ is_unplayed_lem files.now file.now }
+{
+    !is_direct_group(file.1.written()) || is_further(files, file)
+}
+
+/// Whether a group of the same class has a name before this one.
+fn is_further(files: &[(GroupName, Group)], file: &(GroupName, Group)) -> bool
+    ensures { result ≡ is_further_lem files.now file.now }
+{
+    let number = file.1.written().class.number();
+    files.iter().any(|other| other.1.written().class.number() == number
+        && is_before(&other.0, &file.0))
+}
+
+/// Whether the group writes no indirect value.
+fn is_direct_group(written: &Written) -> bool
+    ensures { result ≡ is_direct_group_lem written.now }
+{
+    are_direct_fields(written.fields.as_slice()) && are_direct_ingredients(group::items(written))
+}
+
+fn are_direct_ingredients(ingredients: &[Ingredient]) -> bool
+    ensures { result ≡ list_all is_direct_ingredient_lem ingredients.now }
+{
+    ingredients.iter().all(|ingredient| are_direct_fields(ingredient.fields.as_slice()))
+}
+
+fn are_direct_fields(fields: &[Field]) -> bool
+    ensures { result ≡ list_all is_direct_field_lem fields.now }
+{
+    fields.iter().all(|field| is_direct_setting(&field.setting))
+}
+
+fn is_direct_setting(setting: &Setting) -> bool
+    ensures { result ≡ is_direct_setting_lem setting.now }
+{
+    match setting {
+        Setting::Effect(actions) => are_direct_actions(actions.as_slice()),
+        _ => true,
+    }
+}
+
+fn are_direct_actions(actions: &[Action]) -> bool
+    ensures { result ≡ list_all is_direct_action_lem actions.now }
+{
+    actions.iter().all(|action| is_direct_action(action))
+}
+
+fn is_direct_action(action: &Action) -> bool
+    ensures { result ≡ is_direct_action_lem action.now }
+{
+    matches!(action.target, Generic::Direct(_))
+        && are_direct_parameters(action.parameters.as_slice())
+}
+
+fn are_direct_parameters(parameters: &[Parameter]) -> bool
+    ensures { result ≡ list_all is_direct_parameter_lem parameters.now }
+{
+    parameters
+        .iter()
+        .all(|parameter| is_direct_parameter(parameter))
+}
+
+fn is_direct_parameter(parameter: &Parameter) -> bool
+    ensures { result ≡ is_direct_parameter_lem parameter.now }
+{
+    match parameter {
+        Parameter::Int(number) => matches!(number, Generic::Direct(_)),
+        Parameter::Typed(Typed::Int(number)) => matches!(number, Generic::Direct(_)),
+    }
+}

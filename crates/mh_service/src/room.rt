@@ -1,0 +1,92 @@
+//! `Room`: what is left of the limits of a service.
+ghost use Rattle.std.specs.Prelude.{◌≡◌, ◌≤◌, ◌-◌, SomeIff};
+ghost use Rattle.std.specs.List.{sum_by};
+ghost use Rattle.mh_service.specs.Limits.{whole_room as whole_room_lem, room_after, group_actions, object_actions, field_actions, ingredient_actions, setting_actions};
+
+use mh_group::{Field, Ingredient, Setting, Written, group};
+
+/// The most groups of a service.
+pub const MOST_GROUPS: usize = 256;
+
+/// The most ingredients of one group.
+pub const MOST_OF_GROUP: usize = 1024;
+
+/// The most ingredients of a service.
+pub const MOST_INGREDIENTS: usize = 4096;
+
+/// The most actions that a service writes.
+pub const MOST_ACTIONS: usize = 65535;
+
+/// How many groups, ingredients and actions a service may still have.
+#[derive(Clone, Copy, Debug, PartialEq, Eq)]
+pub struct Room {
+    pub groups: usize,
+    pub ingredients: usize,
+    pub actions: usize,
+}
+
+impl Room {
+    /// The room of an empty service.
+    pub fn whole() -> Room
+        ensures { result ≡ whole_room_lem }
+    {
+        Room {
+            groups: MOST_GROUPS,
+            ingredients: MOST_INGREDIENTS,
+            actions: MOST_ACTIONS,
+        }
+    }
+
+    /// What is left behind this group, or none where a limit is passed with it.
+    pub fn after(self, written: &Written) -> Option<Room>
+        ensures { result ≡ room_after self written.now }
+    {
+        let count = group::items(written).len();
+        if self.groups == 0 || count > MOST_OF_GROUP || count > self.ingredients {
+            return None;
+        }
+        let actions = behind_group(self.actions, written)?;
+        Some(Room {
+            groups: self.groups - 1,
+            ingredients: self.ingredients - count,
+            actions,
+        })
+    }
+}
+
+/// What is left of a room for actions behind those of a group.
+fn behind_group(room: usize, written: &Written) -> Option<usize>
+    ensures { SomeIff result (group_actions written.now ≤ room) (room - group_actions written.now) }
+{
+    let left = behind_object(room, written.fields.as_slice())?;
+    behind_ingredients(left, group::items(written))
+}
+
+fn behind_ingredients(room: usize, ingredients: &[Ingredient]) -> Option<usize>
+    ensures { SomeIff result (sum_by ingredient_actions ingredients.now ≤ room) (room - sum_by ingredient_actions ingredients.now) }
+{
+    let mut left = room;
+    for ingredient in ingredients {
+        left = behind_object(left, ingredient.fields.as_slice())?;
+    }
+    Some(left)
+}
+
+fn behind_object(room: usize, fields: &[Field]) -> Option<usize>
+    ensures { SomeIff result (object_actions fields.now ≤ room) (room - object_actions fields.now) }
+{
+    let mut left = room;
+    for field in fields {
+        left = left.checked_sub(actions_of(&field.setting))?;
+    }
+    Some(left)
+}
+
+fn actions_of(setting: &Setting) -> usize
+    ensures { result ≡ setting_actions setting.now }
+{
+    match setting {
+        Setting::Effect(actions) => actions.len(),
+        _ => 0,
+    }
+}
