@@ -10,3 +10,4 @@ pub mod Step
 pub mod Planes
 pub mod Picture
 pub mod Painting
+pub mod Example

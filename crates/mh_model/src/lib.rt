@@ -7,6 +7,7 @@
 pub mod act;
 pub mod cell;
 pub mod event;
+pub mod example;
 pub mod fault;
 pub mod input;
 pub mod item;

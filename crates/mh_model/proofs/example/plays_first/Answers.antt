@@ -1,0 +1,19 @@
+use Rattle.std.proofs.Common.{refl}
+use Rattle.mh_model.specs.Example.{settled, moved_on}
+use Rattle.mh_model.proofs.example.plays_first.Goals as goal
+
+pub returns : goal.returns
+unfolding settled moved_on
+returns c = record {
+  eleven = refl;
+  idle = refl;
+  left = refl;
+  right = refl;
+  below = refl;
+  beside = refl;
+  two = refl;
+  idle_again = refl;
+  gone = refl;
+  come = refl;
+  faultless = refl;
+}

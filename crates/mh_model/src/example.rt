@@ -1,0 +1,14 @@
+//! The first example, played by the definitions alone.
+ghost use Rattle.mh_model.specs.Example.{PlaysFirst, PlaysOthers};
+
+/// The law that the definitions play the first example as its report says: 11 steps, then 2, with the
+/// rectangle where it should be.
+pub fn plays_first()
+    ensures { PlaysFirst }
+{}
+
+/// The law that the definitions play an empty application, and a link that names an absent object, as their
+/// reports say.
+pub fn plays_others()
+    ensures { PlaysOthers }
+{}
