@@ -16,7 +16,6 @@ use Rattle.mh_group.specs.declared.reference.Generic.TheVariants as generic
 use Rattle.mh_group.specs.declared.action.Action.{Action}
 use Rattle.mh_group.specs.declared.action.Parameter.{Parameter}
 use Rattle.mh_group.specs.declared.action.Parameter.TheVariants as parameter
-use Rattle.mh_group.specs.declared.action.Typed.{Typed}
 use Rattle.mh_group.specs.declared.action.Typed.TheVariants as typed
 use Rattle.mh_group.specs.declared.written.Setting.{Setting}
 use Rattle.mh_group.specs.declared.written.Setting.TheVariants as setting

@@ -1,4 +1,7 @@
-//! The refusals of a service that need no reference resolved, each with the group that it names.
+//! The refusals of a service that need no reference resolved.
+//!
+//! Promise: each look-out finds exactly the group that its definition names, and they come in the order
+//! of their numbers. Names that lead to no path are left to `service`, which resolves them.
 ghost use Rattle.std.specs.Prelude.{◌≡◌, ◌&&◌, not, true, false, None, Some, ◌∷◌, [], map, IfOk, OnOk, IfErr};
 ghost use Rattle.std.specs.List.{list_all, list_any};
 ghost use Rattle.std.specs.Option.{option_map, option_copied};

@@ -179,6 +179,7 @@ fn argument(alloc: Global, from: &GroupName, parameter: &Parameter) -> Result<Va
     }
 }
 
+/// The number; an indirect one, which is not played yet, stands as the reference to its variable.
 fn integer(alloc: Global, from: &GroupName, written: &Generic<i32>) -> Result<Value, NameError>
     ensures found { IfOk result (λ integer. integer ≡ integer_of from.now written.now) }
     ensures good { OnOk result (integer_leads from.now written.now ≡ true) }
@@ -190,6 +191,7 @@ fn integer(alloc: Global, from: &GroupName, written: &Generic<i32>) -> Result<Va
     }
 }
 
+/// The target; an indirect one, which is not played yet, stands as the reference to its variable.
 fn target(alloc: Global, from: &GroupName, written: &Generic<Ref>) -> Result<ObjRef, NameError>
     ensures found { IfOk result (λ target. target ≡ target_of from.now written.now) }
     ensures good { OnOk result (target_leads from.now written.now ≡ true) }

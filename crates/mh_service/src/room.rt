@@ -1,4 +1,7 @@
 //! `Room`: what is left of the limits of a service.
+//!
+//! Promise: no count can overflow, however much a group writes. Which group is refused is left to
+//! `refusing`.
 ghost use Rattle.std.specs.Prelude.{◌≡◌, ◌≤◌, ◌-◌, SomeIff};
 ghost use Rattle.std.specs.List.{sum_by};
 ghost use Rattle.mh_service.specs.Limits.{whole_room as whole_room_lem, room_after, group_actions, object_actions, field_actions, ingredient_actions, setting_actions};

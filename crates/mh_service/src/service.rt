@@ -1,4 +1,7 @@
 //! `Service`: groups under their names, each a list of objects.
+//!
+//! Promise: the groups are those of the files in their order, resolved once, and an object is found
+//! exactly where its group has one with its number. That the service can be played is left to others.
 ghost use Rattle.std.specs.Prelude.{◌≡◌, IfOk, IfErr, OnOk, None, true, false, [], ◌∷◌, ◌++◌, map};
 ghost use Rattle.std.specs.List.{list_any};
 ghost use Rattle.std.specs.Option.{option_copied};

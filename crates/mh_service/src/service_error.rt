@@ -1,4 +1,4 @@
-//! Why files are no service.
+//! Why files are no service: the reason, its number, and the group.
 ghost use Rattle.std.specs.Prelude.{◌≡◌};
 ghost use Rattle.mh_service.specs.Numbers.{why_number};
 

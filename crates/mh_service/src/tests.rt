@@ -181,10 +181,338 @@ fn outcome(alloc: Global, files: Vec<(GroupName, Group)>) -> Result<(u32, u8), N
     }
 }
 
+#[test]
+fn refuses_in_order(rt: HostRuntime) -> Result<(), Fail> {
+    let cases: [(&str, &[Plan], u32, u8); 6] = [
+        (
+            "names twice, no start",
+            &[
+                (b'b', APP, 0, 0, Flaw::Nothing),
+                (b's', SCENE, 0, 0, Flaw::Nothing),
+                (b's', SCENE, 0, 0, Flaw::Nothing),
+                (b'b', APP, 0, 0, Flaw::Nothing),
+            ],
+            30,
+            b's',
+        ),
+        (
+            "no start, numbers twice",
+            &[(b'b', APP, 2, 0, Flaw::Double)],
+            31,
+            b'a',
+        ),
+        (
+            "numbers twice, a scene to start with",
+            &[
+                (b'a', SCENE, 0, 0, Flaw::Nothing),
+                (b'c', APP, 3, 0, Flaw::Double),
+                (b'b', APP, 3, 0, Flaw::Double),
+            ],
+            32,
+            b'c',
+        ),
+        (
+            "a scene to start with, a limit",
+            &[(b'a', SCENE, 1025, 0, Flaw::Nothing)],
+            33,
+            b'a',
+        ),
+        (
+            "a limit, a bad target",
+            &[
+                (b'a', APP, 0, 1, Flaw::Target),
+                (b's', SCENE, 1025, 0, Flaw::Nothing),
+            ],
+            34,
+            b's',
+        ),
+        (
+            "a bad target, an indirect one",
+            &[
+                (b'a', APP, 0, 1, Flaw::Indirect),
+                (b's', SCENE, 0, 1, Flaw::Target),
+            ],
+            35,
+            b's',
+        ),
+    ];
+    for (what, plans, number, group) in cases {
+        let files = all_planned(rt.alloc(), plans)?;
+        let outcome = outcome(rt.alloc(), files)?;
+        assert_eq!(rt; outcome, (number, group), "{what}");
+    }
+    Ok(())
+}
 
 #[test]
-fn refuses(rt: HostRuntime) -> Result<(), Fail> {
-    let files = all_planned(rt.alloc(), &[(b'a', APP, 0, 1, Flaw::Target)])?;
-    assert_eq!(rt; outcome(rt.alloc(), files)?, (35, b'a'));
+fn looks_at_each_name(rt: HostRuntime) -> Result<(), Fail> {
+    let cases: [(&str, &[Plan], u32, u8); 4] = [
+        (
+            "targets lead somewhere",
+            &[
+                (b'a', APP, 0, 1, Flaw::Nothing),
+                (b's', SCENE, 3, 2, Flaw::Nothing),
+            ],
+            0,
+            b'-',
+        ),
+        ("a bad target", &[(b'a', APP, 0, 1, Flaw::Target)], 35, b'a'),
+        (
+            "a bad source, twice",
+            &[
+                (b's', SCENE, 0, 0, Flaw::Source),
+                (b'a', APP, 0, 0, Flaw::Source),
+            ],
+            35,
+            b's',
+        ),
+        (
+            "a bad indirect target",
+            &[(b'a', APP, 0, 1, Flaw::BadIndirect)],
+            35,
+            b'a',
+        ),
+    ];
+    for (what, plans, number, group) in cases {
+        let files = all_planned(rt.alloc(), plans)?;
+        let outcome = outcome(rt.alloc(), files)?;
+        assert_eq!(rt; outcome, (number, group), "{what}");
+    }
+    Ok(())
+}
+
+#[test]
+fn names_what_is_not_played(rt: HostRuntime) -> Result<(), Fail> {
+    let cases: [(&str, &[Plan], u32, u8); 4] = [
+        (
+            "an indirect target",
+            &[
+                (b'a', APP, 0, 0, Flaw::Nothing),
+                (b's', SCENE, 0, 1, Flaw::Indirect),
+            ],
+            36,
+            b's',
+        ),
+        (
+            "a second application",
+            &[
+                (b'b', APP, 0, 0, Flaw::Nothing),
+                (b'a', APP, 0, 0, Flaw::Nothing),
+            ],
+            36,
+            b'b',
+        ),
+        (
+            "a third and a second scene",
+            &[
+                (b'a', APP, 0, 0, Flaw::Nothing),
+                (b'z', SCENE, 0, 0, Flaw::Nothing),
+                (b'y', SCENE, 0, 0, Flaw::Nothing),
+                (b'x', SCENE, 0, 0, Flaw::Nothing),
+            ],
+            36,
+            b'y',
+        ),
+        (
+            "two causes",
+            &[
+                (b'a', APP, 0, 0, Flaw::Nothing),
+                (b't', SCENE, 0, 0, Flaw::Nothing),
+                (b's', SCENE, 0, 1, Flaw::Indirect),
+            ],
+            36,
+            b's',
+        ),
+    ];
+    for (what, plans, number, group) in cases {
+        let files = all_planned(rt.alloc(), plans)?;
+        let outcome = outcome(rt.alloc(), files)?;
+        assert_eq!(rt; outcome, (number, group), "{what}");
+    }
+    Ok(())
+}
+
+#[test]
+fn keeps_the_limits(rt: HostRuntime) -> Result<(), Fail> {
+    let cases: [(&str, &[Plan], u32, u8); 6] = [
+        (
+            "1024 ingredients",
+            &[(b'a', APP, 1024, 0, Flaw::Nothing)],
+            0,
+            b'-',
+        ),
+        (
+            "1025 ingredients",
+            &[
+                (b'a', APP, 0, 0, Flaw::Nothing),
+                (b's', SCENE, 1025, 0, Flaw::Nothing),
+            ],
+            34,
+            b's',
+        ),
+        (
+            "4096 ingredients",
+            &[
+                (b'a', APP, 1024, 0, Flaw::Nothing),
+                (b's', SCENE, 1024, 0, Flaw::Nothing),
+                (b't', SCENE, 1024, 0, Flaw::Nothing),
+                (b'u', SCENE, 1024, 0, Flaw::Nothing),
+                (b'v', SCENE, 0, 0, Flaw::Nothing),
+            ],
+            36,
+            b't',
+        ),
+        (
+            "4097 ingredients",
+            &[
+                (b'a', APP, 1024, 0, Flaw::Nothing),
+                (b's', SCENE, 1024, 0, Flaw::Nothing),
+                (b't', SCENE, 1024, 0, Flaw::Nothing),
+                (b'u', SCENE, 1024, 0, Flaw::Nothing),
+                (b'v', SCENE, 1, 0, Flaw::Nothing),
+            ],
+            34,
+            b'v',
+        ),
+        (
+            "65535 actions",
+            &[
+                (b'a', APP, 0, 65534, Flaw::Nothing),
+                (b's', SCENE, 0, 1, Flaw::Nothing),
+            ],
+            0,
+            b'-',
+        ),
+        (
+            "65536 actions",
+            &[
+                (b'a', APP, 0, 65535, Flaw::Nothing),
+                (b's', SCENE, 0, 1, Flaw::Nothing),
+            ],
+            34,
+            b's',
+        ),
+    ];
+    for (what, plans, number, group) in cases {
+        let files = all_planned(rt.alloc(), plans)?;
+        let outcome = outcome(rt.alloc(), files)?;
+        assert_eq!(rt; outcome, (number, group), "{what}");
+    }
+    Ok(())
+}
+
+/// An application and so many scenes.
+fn crowd(alloc: Global, count: u32) -> Result<Vec<(GroupName, Group)>, Fail> {
+    let mut files = Vec::new(alloc);
+    files.push(planned(alloc, (b'a', APP, 0, 0, Flaw::Nothing))?)?;
+    for i in 0..count {
+        let path = format!(in alloc; "s{i}")?;
+        let name = GroupName::of_path(alloc, path.as_bytes())?;
+        let group = group(alloc, SCENE, Seq::new(alloc), Seq::new(alloc))?;
+        files.push((name, group))?;
+    }
+    Ok(files)
+}
+
+#[test]
+fn counts_groups(rt: HostRuntime) -> Result<(), Fail> {
+    // the second scene in order of name is s1, the last one s255
+    for (count, expected) in [(255, (36, b'1')), (256, (34, b'5'))] {
+        let files = crowd(rt.alloc(), count)?;
+        assert_eq!(rt; outcome(rt.alloc(), files)?, expected, "{count} scenes");
+    }
+    Ok(())
+}
+
+fn rectangle(alloc: Global) -> Result<Ingredient, Fail> {
+    let size = Setting::Pair(24, 32);
+    let mut fields = fields(alloc, Attribute::OrigBoxSize, size)?;
+    fields.push(Field {
+        attribute: Attribute::OrigRefFillColour,
+        setting: Setting::Octets(Octets::from_slice(alloc, &[255, 1, 2, 3])?),
+    })?;
+    Ok(Ingredient {
+        class: Class::Rectangle,
+        number: number(10)?,
+        fields,
+    })
+}
+
+fn shown(alloc: Global) -> Result<Group, Fail> {
+    let mut items = Seq::new(alloc);
+    items.push(rectangle(alloc)?)?;
+    items.push(variable(alloc, 20)?)?;
+    items.push(link(alloc, b"x")?)?;
+    group(alloc, SCENE, Seq::new(alloc), items)
+}
+
+/// The application `a`, and the scene `d/s` with a rectangle 10, a variable 20 and a link 5000.
+fn small(alloc: Global) -> Result<Service, Fail> {
+    let mut files = all_planned(alloc, &[(b'a', APP, 0, 0, Flaw::Nothing)])?;
+    files.push((GroupName::of_path(alloc, b"d/s")?, shown(alloc)?))?;
+    let start = GroupName::of_path(alloc, b"a")?;
+    Ok(Service::of_files(alloc, files, start)?)
+}
+
+#[test]
+fn finds_objects(rt: HostRuntime) -> Result<(), Fail> {
+    let service = small(rt.alloc())?;
+    let cases: [(&[u8], u32, Option<Class>); 7] = [
+        (b"a", 0, Some(Class::Application)),
+        (b"d/s", 0, Some(Class::Scene)),
+        (b"d/s", 10, Some(Class::Rectangle)),
+        (b"d/s", 5000, Some(Class::Link)),
+        (b"d/s", 12, None),
+        (b"a", 10, None),
+        (b"s", 10, None),
+    ];
+    for (path, number, class) in cases {
+        let group = GroupName::of_path(rt.alloc(), path)?;
+        let at = ObjRef { group, number };
+        let found = service.find(&at).map(|object| object.class);
+        assert_eq!(rt; found, class, "{at:?}");
+    }
+    Ok(())
+}
+
+fn source(link: &Object) -> Option<&[u8]> {
+    match link.properties.get(Attribute::EventSource) {
+        Some(Held::Value(Value::Object(source))) => Some(source.group.as_bytes()),
+        _ => None,
+    }
+}
+
+/// The red of the fill colour.
+fn red(rectangle: &Object) -> Option<u8> {
+    match rectangle.properties.get(Attribute::OrigRefFillColour) {
+        Some(Held::Colour(colour)) => Some(colour.red),
+        _ => None,
+    }
+}
+
+/// The target of the first action of the link.
+fn target(link: &Object) -> Option<u32> {
+    match link.properties.get(Attribute::LinkEffect) {
+        Some(Held::Effect(effect)) => effect.as_slice().first().map(|act| act.target.number),
+        _ => None,
+    }
+}
+
+/// A part of the link and a part of the rectangle that the scene of `small` holds.
+fn parts(objects: &[Object]) -> Option<(&[u8], u32, u8)> {
+    match objects {
+        [_, rectangle, _, link] => Some((source(link)?, target(link)?, red(rectangle)?)),
+        _ => None,
+    }
+}
+
+#[test]
+fn holds_what_is_written(rt: HostRuntime) -> Result<(), Fail> {
+    let service = small(rt.alloc())?;
+    let scene = GroupName::of_path(rt.alloc(), b"d/s")?;
+    let objects = service.group(&scene).ok_or("no scene")?;
+    let (source, target, red) = parts(objects).ok_or("other objects")?;
+    assert_eq!(rt; source, b"d/x".as_slice());
+    assert_eq!(rt; (target, red), (20, 255));
     Ok(())
 }

@@ -1,4 +1,4 @@
-use Rattle.std.proofs.Common.{◌≡◌, ◌&&◌, true, ◌++◌, ◌∷◌, map, drop}
+use Rattle.std.proofs.Common.{◌≡◌, true, ◌++◌, ◌∷◌, map, drop}
 use Rattle.std.specs.List.{list_all}
 use Rattle.mh_service.specs.Resolved.{ingredient_leads, object_of, new_object, field_leads}
 use Rattle.mh_service.proofs.resolving.objects.Given as goal

@@ -1,0 +1,11 @@
+pub mod Numbers
+pub mod Bytes
+pub mod Words
+pub mod Spelling
+pub mod Lexing
+pub mod Signs
+pub mod Rest
+pub mod Left
+pub mod Gives
+pub mod Escapes
+pub mod Reading

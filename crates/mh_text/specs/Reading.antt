@@ -1,0 +1,415 @@
+-- The exact reading: the group that a text writes, or the first refusal from the left. It goes from
+-- token to token, as the reader does; what it means is said by the laws that join it to the spelling.
+use Rattle.std.specs.Prelude.{ℕ, zero, suc, ◌-◌, Bool, true, false, ◌&&◌, not, ◌==◌, nat_lt, if◌then◌else◌, List, [], ◌∷◌, ◌++◌, length, take, drop, insert, Option, Some, None, Result, Ok, ℤ, pos, int_lt, unsigned_abs}
+use Rattle.std.specs.Ordering.{int_eq}
+use Rattle.std.specs.List.{list_all, list_any, prefix_len}
+use Rattle.mh_base.specs.declared.event.EventType.{EventType}
+use Rattle.mh_base.specs.Path.{is_name_byte}
+use Rattle.mh_group.specs.declared.class.Class.{Class}
+use Rattle.mh_group.specs.declared.attribute.Attribute.{Attribute}
+use Rattle.mh_group.specs.declared.action_name.ActionName.{ActionName}
+use Rattle.mh_group.specs.declared.shape.Shape.{Shape}
+use Rattle.mh_group.specs.declared.shape.Shape.TheVariants as shape
+use Rattle.mh_group.specs.declared.shape.Need.{Need}
+use Rattle.mh_group.specs.declared.shape.Need.TheVariants as need
+use Rattle.mh_group.specs.declared.reference.Ref.{Ref}
+use Rattle.mh_group.specs.declared.reference.Ref.TheVariants as ref
+use Rattle.mh_group.specs.declared.reference.Generic.{Generic}
+use Rattle.mh_group.specs.declared.reference.Generic.TheVariants.{Direct}
+use Rattle.mh_group.specs.declared.action.Action.{Action}
+use Rattle.mh_group.specs.declared.action.Typed.{Typed}
+use Rattle.mh_group.specs.declared.action.Typed.TheVariants as of_typed
+use Rattle.mh_group.specs.declared.action.Parameter.{Parameter}
+use Rattle.mh_group.specs.declared.action.Parameter.TheVariants as of_parameter
+use Rattle.mh_group.specs.declared.written.Setting.{Setting}
+use Rattle.mh_group.specs.declared.written.Setting.TheVariants as of_setting
+use Rattle.mh_group.specs.declared.written.Field.{Field}
+use Rattle.mh_group.specs.declared.written.Ingredient.{Ingredient}
+use Rattle.mh_group.specs.declared.written.Written.{Written}
+use Rattle.mh_group.specs.Table.{attribute_number, shape_of, takes, needs_of, is_group_class}
+use Rattle.mh_group.specs.Fit.{is_group, has_required}
+use Rattle.mh_text.specs.declared.sign.Sign.{Sign}
+use Rattle.mh_text.specs.declared.sign.Sign.TheVariants as sign
+use Rattle.mh_text.specs.declared.text_error.Why.{Why}
+use Rattle.mh_text.specs.declared.text_error.Why.TheVariants.{Syntax, Range, Limit, Lexical}
+use Rattle.mh_text.specs.declared.octet_text.Escape.TheVariants.{Outside}
+use Rattle.mh_text.specs.Escapes.{unescaped}
+use Rattle.mh_text.specs.Rest.{Left, Piece}
+use Rattle.mh_text.specs.Left.{left, whole}
+use Rattle.mh_text.specs.Gives.{Refusal, refused, ◌>>=◌}
+
+-- the token is refused
+abbrev pub refused_at : {A : Type 0} → Why → Piece → Result A Refusal
+refused_at w p = refused w p.start
+
+-- the end, where nothing is wrong there
+abbrev pub end_of : {A : Type 0} → A → Option Why → ℕ → Result A Refusal
+end_of x None o = Ok x
+end_of x (Some w) o = refused w o
+
+-- what is wrong at the end, where a token is wanted
+abbrev pub missing : {A : Type 0} → Option Why → ℕ → Result A Refusal
+missing None o = refused Syntax o
+missing (Some w) o = refused w o
+
+-- the next token and what is left behind it; none at the end
+abbrev pub taken : Left → Result (Option (Piece × Left)) Refusal
+taken left = first left.pieces
+  where
+    first : List Piece → Result (Option (Piece × Left)) Refusal
+    first [] = end_of None left.wrong left.offset
+    first (p ∷ ps) = Ok (Some (p, record left { pieces = ps }))
+
+-- the next token and what is left behind it
+abbrev pub next : Left → Result (Piece × Left) Refusal
+next left = first left.pieces
+  where
+    first : List Piece → Result (Piece × Left) Refusal
+    first [] = missing left.wrong left.offset
+    first (p ∷ ps) = Ok (p, record left { pieces = ps })
+
+-- nothing is left
+abbrev pub ended : Left → Result (Unit {0}) Refusal
+ended left = first left.pieces
+  where
+    first : List Piece → Result (Unit {0}) Refusal
+    first [] = end_of tt left.wrong left.offset
+    first (p ∷ ps) = refused_at Syntax p
+
+abbrev pub is_same : Bool → Bool → Bool
+is_same true b = b
+is_same false b = not b
+
+abbrev pub is_open : Sign → Bool
+is_open sign.OpenParenthesis = true
+is_open _ = false
+
+abbrev pub is_close : Sign → Bool
+is_close sign.CloseParenthesis = true
+is_close _ = false
+
+abbrev pub is_open_brace : Sign → Bool
+is_open_brace sign.OpenBrace = true
+is_open_brace _ = false
+
+abbrev pub is_close_brace : Sign → Bool
+is_close_brace sign.CloseBrace = true
+is_close_brace _ = false
+
+-- what is left behind a token that passes the test; another is refused so
+abbrev pub past : (Sign → Bool) → Why → Left → Result Left Refusal
+past test w left = next left >>= λ x. if test x.0.sign then Ok x.1 else refused_at w x.0
+
+unfoldable pub opened : Left → Result Left Refusal
+opened left = past is_open Syntax left
+
+unfoldable pub closed : Left → Result Left Refusal
+closed left = past is_close Syntax left
+
+-- behind a list that can take no more members
+unfoldable pub closed_list : Left → Result Left Refusal
+closed_list left = past is_close Limit left
+
+unfoldable pub braced : Left → Result Left Refusal
+braced left = past is_open_brace Syntax left
+
+-- the bytes between the marks of a string
+abbrev pub inner : List ℕ → List ℕ
+inner text = take (length text - 2) (drop 1 text)
+
+unfoldable pub name_of : Piece → Result (List ℕ) Refusal
+name_of p = named p.sign
+  where
+    named : Sign → Result (List ℕ) Refusal
+    named sign.Text = if list_all is_name_byte (inner p.text) then Ok (inner p.text) else refused_at Lexical p
+    named _ = refused_at Syntax p
+
+unfoldable pub integer_of : Piece → Result ℤ Refusal
+integer_of p = written p.sign
+  where
+    written : Sign → Result ℤ Refusal
+    written (sign.Integer x) = Ok x
+    written _ = refused_at Syntax p
+
+-- an integer from 0
+unfoldable pub natural_of : Piece → Result ℤ Refusal
+natural_of p = integer_of p >>= λ x. if int_lt x (pos 0) then refused_at Range p else Ok x
+
+-- this integer and no other
+unfoldable pub fixed_of : ℤ → Piece → Result ℤ Refusal
+fixed_of wanted p = integer_of p >>= λ x. if int_eq x wanted then Ok x else refused_at Range p
+
+-- the number of an object
+unfoldable pub number_of : Piece → Result ℕ Refusal
+number_of p = natural_of p >>= λ x. Ok (unsigned_abs x)
+
+-- the number of an ingredient, from 1
+unfoldable pub ingredient_number_of : Piece → Result ℕ Refusal
+ingredient_number_of p = number_of p >>= λ n. if n == 0 then refused_at Range p else Ok n
+
+unfoldable pub truth_of : Piece → Result Bool Refusal
+truth_of p = written p.sign
+  where
+    written : Sign → Result Bool Refusal
+    written (sign.Truth b) = Ok b
+    written _ = refused_at Syntax p
+
+unfoldable pub event_of : Piece → Result EventType Refusal
+event_of p = written p.sign
+  where
+    written : Sign → Result EventType Refusal
+    written (sign.Event e) = Ok e
+    written _ = refused_at Syntax p
+
+unfoldable pub octets_of : Piece → Result (List ℕ) Refusal
+octets_of p = written p.sign
+  where
+    written : Sign → Result (List ℕ) Refusal
+    written sign.Text = Ok (inner p.text)
+    written sign.Quoted = Ok (unescaped Outside (inner p.text))
+    written _ = refused_at Syntax p
+
+-- a colour has four octets
+unfoldable pub colour_of : Piece → Result (List ℕ) Refusal
+colour_of p = octets_of p >>= λ octets. if length octets == 4 then Ok octets else refused_at Range p
+
+-- what stands behind the opening parenthesis of a reference with a name
+unfoldable pub named_reference : Left → Result (Ref × Left) Refusal
+named_reference left = do
+  a ← next left
+  name ← name_of a.0
+  b ← next a.1
+  number ← number_of b.0
+  behind ← closed b.1
+  Ok (ref.In name number, behind)
+
+-- a reference that begins with this token
+unfoldable pub reference : Piece → Left → Result (Ref × Left) Refusal
+reference p left = begun p.sign
+  where
+    begun : Sign → Result (Ref × Left) Refusal
+    begun (sign.Integer _) = number_of p >>= λ n. Ok (ref.Here n, left)
+    begun sign.OpenParenthesis = named_reference left
+    begun _ = refused_at Syntax p
+
+unfoldable pub generic_reference : Left → Result (Generic Ref × Left) Refusal
+generic_reference left = do
+  a ← next left
+  target ← reference a.0 a.1
+  Ok (Direct target.0, target.1)
+
+unfoldable pub generic_integer : Left → Result (Generic ℤ × Left) Refusal
+generic_integer left = do
+  a ← next left
+  x ← integer_of a.0
+  Ok (Direct x, a.1)
+
+-- the next member of a list, which begins with its token; none behind the closing parenthesis
+unfoldable pub next_member : {A : Type 0} → (Piece → Left → Result (A × Left) Refusal) → Left → Result (Option A × Left) Refusal
+next_member member left = next left >>= λ a.
+    if is_close a.0.sign then Ok (None, a.1) else (member a.0 a.1 >>= λ x. Ok (Some x.0, x.1))
+
+-- a list goes on behind a member, and else is done
+abbrev pub continued : {A : Type 0} → (List A → Left → Result (List A × Left) Refusal) → List A → Option A → Left → Result (List A × Left) Refusal
+continued further done None left = Ok (done, left)
+continued further done (Some x) left = further (done ++ x ∷ []) left
+
+-- the members of a list up to its closing parenthesis, of which so many more may come
+unfoldable pub listed : {A : Type 0} → (Piece → Left → Result (A × Left) Refusal) → ℕ → List A → Left → Result (List A × Left) Refusal
+listed member zero done left = closed_list left >>= λ behind. Ok (done, behind)
+listed member (suc n) done left = next_member member left >>= λ x. continued (listed member n) done x.0 x.1
+
+-- a value with the keyword of its kind in front
+unfoldable pub typed : Left → Result (Typed × Left) Refusal
+typed left = next left >>= λ a. kind a.0 a.1 a.0.sign
+  where
+    kind : Piece → Left → Sign → Result (Typed × Left) Refusal
+    kind p behind sign.IntegerKind = generic_integer behind >>= λ x. Ok (of_typed.Int x.0, x.1)
+    kind p behind _ = refused_at Syntax p
+
+unfoldable pub parameter : Need → Left → Result (Parameter × Left) Refusal
+parameter need.Int left = generic_integer left >>= λ x. Ok (of_parameter.Int x.0, x.1)
+parameter need.Typed left = typed left >>= λ x. Ok (of_parameter.Typed x.0, x.1)
+
+-- the parameters that are needed, in their order
+abbrev pub parameters : List Need → List Parameter → Left → Result (List Parameter × Left) Refusal
+parameters [] done left = Ok (done, left)
+parameters (n ∷ ns) done left = parameter n left >>= λ x. parameters ns (done ++ x.0 ∷ []) x.1
+
+unfoldable pub action_name_of : Piece → Result ActionName Refusal
+action_name_of p = written p.sign
+  where
+    written : Sign → Result ActionName Refusal
+    written (sign.Action name) = Ok name
+    written _ = refused_at Syntax p
+
+-- the action that begins with this token
+unfoldable pub action : Piece → Left → Result (Action × Left) Refusal
+action p left = do
+  name ← action_name_of p
+  a ← opened left
+  target ← generic_reference a
+  given ← parameters (needs_of name) [] target.1
+  behind ← closed given.1
+  Ok (record { name = name; target = target.0; parameters = given.0 }, behind)
+
+unfoldable pub effect : Left → Result (List Action × Left) Refusal
+effect left = opened left >>= λ a. listed action 4096 [] a
+
+-- the data of an event
+unfoldable pub data_of : Piece → Result Setting Refusal
+data_of p = written p.sign
+  where
+    written : Sign → Result Setting Refusal
+    written (sign.Truth b) = Ok (of_setting.Bool b)
+    written (sign.Integer x) = Ok (of_setting.Int x)
+    written _ = refused_at Syntax p
+
+-- the value of a shape of one token
+unfoldable pub single : Shape → Piece → Result Setting Refusal
+single shape.Bool p = truth_of p >>= λ x. Ok (of_setting.Bool x)
+single shape.Int p = integer_of p >>= λ x. Ok (of_setting.Int x)
+single shape.Natural p = natural_of p >>= λ x. Ok (of_setting.Int x)
+single shape.Event p = event_of p >>= λ x. Ok (of_setting.Event x)
+single shape.Data p = data_of p
+single shape.Colour p = colour_of p >>= λ x. Ok (of_setting.Octets x)
+single _ p = refused_at Syntax p
+
+-- one integer of a pair; the screen's has one value
+unfoldable pub part : Shape → ℤ → Piece → Result ℤ Refusal
+part shape.Size screen p = natural_of p
+part shape.Screen screen p = fixed_of screen p
+part _ screen p = integer_of p
+
+unfoldable pub pair : Shape → Piece → Left → Result (Setting × Left) Refusal
+pair s p left = do
+  x ← part s (pos 720) p
+  a ← next left
+  y ← part s (pos 576) a.0
+  Ok (of_setting.Pair x y, a.1)
+
+-- the value of this shape, which begins with this token
+unfoldable pub setting_at : Shape → Piece → Left → Result (Setting × Left) Refusal
+setting_at shape.Ref p left = reference p left >>= λ x. Ok (of_setting.Ref x.0, x.1)
+setting_at shape.Pair p left = pair shape.Pair p left
+setting_at shape.Size p left = pair shape.Size p left
+setting_at shape.Screen p left = pair shape.Screen p left
+setting_at s p left = single s p >>= λ x. Ok (x, left)
+
+unfoldable pub setting : Shape → Left → Result (Setting × Left) Refusal
+setting shape.Effect left = effect left >>= λ x. Ok (of_setting.Effect x.0, x.1)
+setting s left = next left >>= λ a. setting_at s a.0 a.1
+
+abbrev pub has_attribute : List Field → Attribute → Bool
+has_attribute fields a = list_any (λ f. attribute_number f.attribute == attribute_number a) fields
+
+-- the attribute that this token names, where the class takes it and it has not come before
+unfoldable pub attribute_of : Class → List Field → Piece → Result Attribute Refusal
+attribute_of c fields p = named p.sign
+  where
+    named : Sign → Result Attribute Refusal
+    named (sign.Attribute a) = if takes c a && not (has_attribute fields a) then Ok a else refused_at Syntax p
+    named _ = refused_at Syntax p
+
+-- the fields with one more, put behind those of smaller numbers
+abbrev pub placed : Field → List Field → List Field
+placed f fields = insert fields (prefix_len (λ g. nat_lt (attribute_number g.attribute) (attribute_number f.attribute)) fields) f
+
+abbrev pub is_items_shape : Shape → Bool
+is_items_shape shape.Items = true
+is_items_shape _ = false
+
+-- the token is the keyword of a group's items
+unfoldable pub is_items : Sign → Bool
+is_items (sign.Attribute a) = is_items_shape (shape_of a)
+is_items _ = false
+
+-- the next field, with the token at which it begins; none at the closing brace or the keyword of the
+-- items
+unfoldable pub next_field : Class → List Field → Left → Result (Option Field × Piece × Left) Refusal
+next_field c done left = next left >>= λ a.
+    if is_close_brace a.0.sign then Ok (None, a.0, a.1)
+    else (attribute_of c done a.0 >>= λ name.
+    if is_items_shape (shape_of name) then Ok (None, a.0, a.1)
+    else (setting (shape_of name) a.1 >>= λ x. Ok (Some (record { attribute = name; setting = x.0 }), a.0, x.1)))
+
+-- fields go on behind a field, and else are done
+abbrev pub gathered : (List Field → Left → Result (List Field × Piece × Left) Refusal) → List Field → Option Field → Piece → Left → Result (List Field × Piece × Left) Refusal
+gathered further done None p left = Ok (done, p, left)
+gathered further done (Some f) p left = further (placed f done) left
+
+-- The fields up to the closing brace or the keyword of the items, put in order among those that came
+-- before, with the token at which they end; so many more may come.
+unfoldable pub fields : Class → ℕ → List Field → Left → Result (List Field × Piece × Left) Refusal
+fields c zero done left = next left >>= λ a. refused_at Limit a.0
+fields c (suc n) done left = next_field c done left >>= λ x. gathered (fields c n) done x.0 x.1 x.2
+
+-- the fields behind the items, which do not come twice
+unfoldable pub fields_behind_items : Class → List Field → Left → Result (List Field × Piece × Left) Refusal
+fields_behind_items c done left = fields c 4096 done left >>= λ x. if is_items x.1.sign then refused_at Syntax x.1 else Ok (x.0, x.1, x.2)
+
+-- the fields, where none that the class needs is missing
+unfoldable pub complete : Class → List Field → Piece → Result (List Field) Refusal
+complete c done end = if has_required c done then Ok done else refused_at Syntax end
+
+-- the class of a group, or of an ingredient
+unfoldable pub class_of : Bool → Piece → Result Class Refusal
+class_of wanted p = named p.sign
+  where
+    named : Sign → Result Class Refusal
+    named (sign.Class c) = if is_same (is_group_class c) wanted then Ok c else refused_at Syntax p
+    named _ = refused_at Syntax p
+
+-- the ingredient that begins with this token
+unfoldable pub ingredient : Piece → Left → Result (Ingredient × Left) Refusal
+ingredient p left = if is_open_brace p.sign then described else refused_at Syntax p
+  where
+    described : Result (Ingredient × Left) Refusal
+    described = do
+      a ← next left
+      class ← class_of false a.0
+      b ← next a.1
+      number ← ingredient_number_of b.0
+      x ← fields class 4096 [] b.1
+      done ← complete class x.0 x.1
+      Ok (record { class = class; number = number; fields = done }, x.2)
+
+unfoldable pub items : Left → Result (List Ingredient × Left) Refusal
+items left = opened left >>= λ a. listed ingredient 4096 [] a
+
+-- a name, and the number 0
+unfoldable pub identifier : Left → Result (List ℕ × Left) Refusal
+identifier left = do
+  a ← opened left
+  b ← next a
+  name ← name_of b.0
+  c ← next b.1
+  number ← number_of c.0
+  behind ← (if number == 0 then closed c.1 else refused_at Range c.0)
+  Ok (name, behind)
+
+-- what stands between a group's identifier and its closing brace
+unfoldable pub body : Class → Left → Result (List Field × Option (List Ingredient) × Piece × Left) Refusal
+body c left = fields c 4096 [] left >>= λ x.
+    if is_items x.1.sign then (do
+      y ← items x.2
+      z ← fields_behind_items c x.0 y.1
+      Ok (z.0, Some y.0, z.1, z.2))
+    else Ok (x.0, None, x.1, x.2)
+
+unfoldable pub group : Left → Result (Written × Left) Refusal
+group left = do
+  a ← braced left
+  b ← next a
+  class ← class_of true b.0
+  identity ← identifier b.1
+  x ← body class identity.1
+  done ← complete class x.0 x.2
+  Ok (record { class = class; identifier = identity.0; fields = done; items = x.1 }, x.3)
+
+-- the group that the text writes, or the first refusal from the left
+unfoldable pub read : List ℕ → Result Written Refusal
+read bytes = if nat_lt 1048576 (length bytes) then refused Limit 0 else (do
+  x ← group (left false (whole bytes))
+  end ← ended x.1
+  if is_group x.0 then Ok x.0 else refused Syntax (length bytes))

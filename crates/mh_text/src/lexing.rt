@@ -1,0 +1,235 @@
+//! The bytes of tokens and of what lies between them: how long the white space at the front is, and
+//! which token begins behind it. Where a token stands is left to `token`.
+ghost use Rattle.std.specs.Prelude.{◌≡◌, ◌+◌, ◌≤◌, ◌<◌, length, IfSome, false};
+ghost use Rattle.std.specs.List.{prefix_len};
+ghost use Rattle.mh_text.specs.Bytes.{is_space as is_space_lem, is_letter as is_letter_lem, is_digit as is_digit_lem, is_letter_or_digit as is_letter_or_digit_lem, is_hexadecimal as is_hexadecimal_lem, is_text_byte as is_text_byte_lem, is_quoted_byte as is_quoted_byte_lem, begins_with as begins_with_lem};
+ghost use Rattle.mh_text.specs.Lexing.{gap_length as gap_length_lem, token_at as token_at_lem, bare_token_at as bare_token_at_lem, number_length as number_length_lem, keyword_length as keyword_length_lem, text_length as text_length_lem, quoted_length as quoted_length_lem, is_escaped as is_escaped_lem};
+
+use crate::TokenKind;
+
+pub(crate) fn is_space(byte: u8) -> bool
+    ensures { result ≡ is_space_lem byte }
+{
+    byte == b' ' || byte == b'\t' || byte == b'\r' || byte == b'\n'
+}
+
+pub(crate) fn is_letter(byte: u8) -> bool
+    ensures { result ≡ is_letter_lem byte }
+{
+    matches!(byte, b'A'..=b'Z' | b'a'..=b'z')
+}
+
+pub(crate) fn is_digit(byte: u8) -> bool
+    ensures { result ≡ is_digit_lem byte }
+{
+    matches!(byte, b'0'..=b'9')
+}
+
+fn is_letter_or_digit(byte: u8) -> bool
+    ensures { result ≡ is_letter_or_digit_lem byte }
+{
+    is_letter(byte) || is_digit(byte)
+}
+
+pub(crate) fn is_hexadecimal(byte: u8) -> bool
+    ensures { result ≡ is_hexadecimal_lem byte }
+{
+    matches!(byte, b'0'..=b'9' | b'A'..=b'F' | b'a'..=b'f')
+}
+
+/// Whether the byte may stand in a string between `"`.
+pub(crate) fn is_text_byte(byte: u8) -> bool
+    ensures { result ≡ is_text_byte_lem byte }
+{
+    32 <= byte && byte <= 126 && byte != b'"'
+}
+
+/// Whether the byte may stand in a string between `'`.
+pub(crate) fn is_quoted_byte(byte: u8) -> bool
+    ensures { result ≡ is_quoted_byte_lem byte }
+{
+    32 <= byte && byte <= 126 && byte != b'\''
+}
+
+/// How many bytes of white space and comments stand at the front. A comment goes from `//` to the end
+/// of its line.
+pub(crate) fn gap_length(bytes: &[u8]) -> usize
+    ensures exact { result ≡ gap_length_lem false bytes.now }
+    ensures within { result ≤ length bytes.now }
+{
+    let mut is_comment = false;
+    for (at, byte) in bytes.iter().enumerate() {
+        if is_comment {
+            is_comment = *byte != b'\n';
+        } else if *byte == b'/' && begins_with(&bytes[at + 1..], b'/') {
+            is_comment = true;
+        } else if !is_space(*byte) {
+            return at;
+        }
+    }
+    bytes.len()
+}
+
+/// Whether this byte stands at the front.
+pub(crate) fn begins_with(bytes: &[u8], wanted: u8) -> bool
+    ensures { result ≡ begins_with_lem wanted bytes.now }
+{
+    match bytes {
+        [] => false,
+        [byte, ..] => *byte == wanted,
+    }
+}
+
+/// The kind and the length of the token at the front, or none where no token begins so.
+#[tactic(auto, unfolding(crate::specs::Lexing::token_at))]
+pub(crate) fn token_at(bytes: &[u8]) -> Option<(TokenKind, usize)>
+    ensures exact { result ≡ token_at_lem bytes.now }
+    ensures within { IfSome result (λ found. found.1 ≤ length bytes.now) }
+    ensures some { IfSome result (λ found. 0 < found.1) }
+{
+    let (first, rest) = bytes.split_first()?;
+    match *first {
+        b'{' => Some((TokenKind::OpenBrace, 1)),
+        b'}' => Some((TokenKind::CloseBrace, 1)),
+        b'(' => Some((TokenKind::OpenParenthesis, 1)),
+        b')' => Some((TokenKind::CloseParenthesis, 1)),
+        b':' => Some((TokenKind::Keyword, 1 + keyword_length(rest)?)),
+        b'-' => Some((TokenKind::Integer, 1 + number_length(rest)?)),
+        b'"' => Some((TokenKind::Text, 1 + text_length(rest)?)),
+        b'\'' => Some((TokenKind::Quoted, 1 + quoted_length(rest)?)),
+        _ => bare_token_at(bytes),
+    }
+}
+
+/// The token at the front, where it is a word or begins with a digit.
+#[tactic(auto, unfolding(crate::specs::Lexing::bare_token_at))]
+fn bare_token_at(bytes: &[u8]) -> Option<(TokenKind, usize)>
+    ensures exact { result ≡ bare_token_at_lem bytes.now }
+    ensures within { IfSome result (λ found. found.1 ≤ length bytes.now) }
+    ensures some { IfSome result (λ found. 0 < found.1) }
+{
+    if let Some(length) = number_length(bytes) {
+        return Some((TokenKind::Integer, length));
+    }
+    let length = letters_length(bytes);
+    if length == 0 {
+        return None;
+    }
+    Some((TokenKind::Word, length))
+}
+
+/// How many letters stand at the front.
+fn letters_length(bytes: &[u8]) -> usize
+    ensures exact { result ≡ prefix_len is_letter_lem bytes.now }
+    ensures within { result ≤ length bytes.now }
+{
+    bytes.iter().take_while(|byte| is_letter(**byte)).count()
+}
+
+/// How many digits stand at the front.
+fn digits_length(bytes: &[u8]) -> usize
+    ensures exact { result ≡ prefix_len is_digit_lem bytes.now }
+    ensures within { result ≤ length bytes.now }
+{
+    bytes.iter().take_while(|byte| is_digit(**byte)).count()
+}
+
+/// How many letters and digits stand at the front.
+fn name_length(bytes: &[u8]) -> usize
+    ensures exact { result ≡ prefix_len is_letter_or_digit_lem bytes.now }
+    ensures within { result ≤ length bytes.now }
+{
+    bytes
+        .iter()
+        .take_while(|byte| is_letter_or_digit(**byte))
+        .count()
+}
+
+/// How many bytes stand at the front that a string between `"` may hold.
+fn text_bytes_length(bytes: &[u8]) -> usize
+    ensures exact { result ≡ prefix_len is_text_byte_lem bytes.now }
+    ensures within { result ≤ length bytes.now }
+{
+    bytes.iter().take_while(|byte| is_text_byte(**byte)).count()
+}
+
+/// How many bytes stand at the front that a string between `'` may hold.
+fn quoted_bytes_length(bytes: &[u8]) -> usize
+    ensures exact { result ≡ prefix_len is_quoted_byte_lem bytes.now }
+    ensures within { result ≤ length bytes.now }
+{
+    bytes
+        .iter()
+        .take_while(|byte| is_quoted_byte(**byte))
+        .count()
+}
+
+/// The length of a number at the front, if a digit stands there.
+#[tactic(auto, unfolding(crate::specs::Lexing::number_length))]
+fn number_length(bytes: &[u8]) -> Option<usize>
+    ensures exact { result ≡ number_length_lem bytes.now }
+    ensures within { IfSome result (λ found. found ≤ length bytes.now) }
+    ensures some { IfSome result (λ found. 0 < found) }
+{
+    let length = digits_length(bytes);
+    if length == 0 {
+        return None;
+    }
+    Some(length)
+}
+
+/// The length of a name at the front, if a letter stands there.
+#[tactic(auto, unfolding(crate::specs::Lexing::keyword_length))]
+fn keyword_length(bytes: &[u8]) -> Option<usize>
+    ensures exact { result ≡ keyword_length_lem bytes.now }
+    ensures within { IfSome result (λ found. found ≤ length bytes.now) }
+{
+    match bytes {
+        [first, ..] if is_letter(*first) => Some(name_length(bytes)),
+        _ => None,
+    }
+}
+
+/// The length of what goes to the closing `"` and takes it in, if the string is closed.
+#[tactic(auto, unfolding(crate::specs::Lexing::text_length))]
+fn text_length(bytes: &[u8]) -> Option<usize>
+    ensures exact { result ≡ text_length_lem bytes.now }
+    ensures within { IfSome result (λ found. found ≤ length bytes.now) }
+{
+    let inner = text_bytes_length(bytes);
+    match &bytes[inner..] {
+        [b'"', ..] => Some(inner + 1),
+        _ => None,
+    }
+}
+
+/// The length of what goes to the closing `'` and takes it in, if the string is closed and each `=`
+/// has its two digits.
+#[tactic(auto, unfolding(crate::specs::Lexing::quoted_length))]
+fn quoted_length(bytes: &[u8]) -> Option<usize>
+    ensures exact { result ≡ quoted_length_lem bytes.now }
+    ensures within { IfSome result (λ found. found ≤ length bytes.now) }
+{
+    let inner = quoted_bytes_length(bytes);
+    match &bytes[inner..] {
+        [b'\'', ..] if is_escaped(&bytes[..inner]) => Some(inner + 1),
+        _ => None,
+    }
+}
+
+/// Whether two hexadecimal digits stand behind each `=`.
+fn is_escaped(bytes: &[u8]) -> bool
+    ensures { result ≡ is_escaped_lem 0 bytes.now }
+{
+    let mut wanted = 0u8;
+    for byte in bytes {
+        if wanted == 0 {
+            wanted = if *byte == b'=' { 2 } else { 0 };
+        } else if !is_hexadecimal(*byte) {
+            return false;
+        } else {
+            wanted = if wanted == 1 { 0 } else { 1 };
+        }
+    }
+    wanted == 0
+}

@@ -1,0 +1,216 @@
+//! `Place`: where reading stands in a text. It gives the next token with its meaning, or the first
+//! thing that is wrong there; what is wanted is left to the readers.
+ghost use Rattle.std.specs.Prelude.{◌≡◌, false};
+ghost use Rattle.mh_text.specs.Left.{left, whole, meant as meant_lem};
+ghost use Rattle.mh_text.specs.Signs.{sign_of as sign_of_lem};
+ghost use Rattle.mh_text.specs.Gives.{Gives, Fails, refused};
+ghost use Rattle.mh_text.specs.Words.{needs_gap as needs_gap_lem};
+ghost use Rattle.mh_text.specs.Reading.{taken, next, opened, closed, closed_list, braced, ended, inner};
+
+use crate::sign::{Sign, sign_of};
+use crate::{TextError, Token, TokenKind, Tokens, Why};
+use std::marker::Model;
+
+/// A token with its meaning.
+#[derive(Debug, Drop)]
+pub(crate) struct Piece<'a> {
+    sign: Sign,
+    start: usize,
+    text: &'a [u8],
+}
+
+impl<'a> Model for Piece<'a> {
+    ghost use Rattle.mh_text.specs.Rest.{Piece};
+
+    ghost Value = { Piece };
+
+    ghost view = { λ p. record { sign = p.sign; start = p.start; text = p.text.now } };
+}
+
+impl<'a> Piece<'a> {
+    pub(crate) fn sign(&self) -> Sign
+        ensures { result ≡ self.now.sign }
+    {
+        self.sign
+    }
+
+    /// The refusal that names this token.
+    pub(crate) fn refused(&self, why: Why) -> TextError
+        ensures { result ≡ TextError.At why self.now.start }
+    {
+        TextError::At {
+            why,
+            offset: self.start,
+        }
+    }
+
+    /// The bytes between the marks of a string.
+    pub(crate) fn inner(&self) -> &'a [u8]
+        ensures { result.now ≡ inner self.now.text }
+    {
+        match self.text {
+            [_, inner @ .., _] => inner,
+            _ => &[],
+        }
+    }
+}
+
+/// Where reading stands: the tokens that are left, and whether white space has to come before a
+/// further keyword, word or integer. A contract sees the tokens that are left.
+#[derive(Debug, Drop)]
+pub(crate) struct Place<'a> {
+    tokens: Tokens<'a>,
+    is_tight: bool,
+}
+
+impl<'a> Model for Place<'a> {
+    ghost use Rattle.mh_text.specs.Rest.{Left};
+    ghost use Rattle.mh_text.specs.Left.{left};
+
+    ghost Value = { Left };
+
+    ghost view = { λ p. left p.is_tight p.tokens };
+}
+
+impl<'a> Place<'a> {
+    pub(crate) fn new(bytes: &'a [u8]) -> Place<'a>
+        ensures { result ≡ left false (whole bytes.now) }
+    {
+        Place {
+            tokens: Tokens::new(bytes),
+            is_tight: false,
+        }
+    }
+
+    /// The next token and the place behind it; none at the end, whose offset is the second part.
+    fn taken(self) -> Result<Option<(Piece<'a>, Place<'a>)>, TextError>
+        ensures { Gives (λ x. x) result (taken self.entry) }
+    {
+        let Place {
+            mut tokens,
+            is_tight,
+        } = self;
+        let offset = tokens.offset();
+        match tokens.next() {
+            Ok(Some(token)) => meant(is_tight, offset, token, tokens),
+            Ok(None) => Ok(None),
+            Err(error) => Err(error),
+        }
+    }
+
+    /// The next token and the place behind it.
+    pub(crate) fn next(self) -> Result<(Piece<'a>, Place<'a>), TextError>
+        ensures { Gives (λ x. x) result (next self.entry) }
+    {
+        let end = self.tokens.end();
+        match self.taken()? {
+            Some(taken) => Ok(taken),
+            None => Err(TextError::At {
+                why: Why::Syntax,
+                offset: end,
+            }),
+        }
+    }
+
+    /// The place behind an opening parenthesis, which is wanted here.
+    #[tactic(auto, unfolding(crate::specs::Reading::opened))]
+    pub(crate) fn opened(self) -> Result<Place<'a>, TextError>
+        ensures { Gives (λ x. x) result (opened self.entry) }
+    {
+        let (piece, place) = self.next()?;
+        match piece.sign {
+            Sign::OpenParenthesis => Ok(place),
+            _ => Err(piece.refused(Why::Syntax)),
+        }
+    }
+
+    /// The place behind a closing parenthesis, which is wanted here.
+    #[tactic(auto, unfolding(crate::specs::Reading::closed))]
+    pub(crate) fn closed(self) -> Result<Place<'a>, TextError>
+        ensures { Gives (λ x. x) result (closed self.entry) }
+    {
+        let (piece, place) = self.next()?;
+        match piece.sign {
+            Sign::CloseParenthesis => Ok(place),
+            _ => Err(piece.refused(Why::Syntax)),
+        }
+    }
+
+    /// The place behind the closing parenthesis of a list that can take no more members.
+    #[tactic(auto, unfolding(crate::specs::Reading::closed_list))]
+    pub(crate) fn closed_list(self) -> Result<Place<'a>, TextError>
+        ensures { Gives (λ x. x) result (closed_list self.entry) }
+    {
+        let (piece, place) = self.next()?;
+        match piece.sign {
+            Sign::CloseParenthesis => Ok(place),
+            _ => Err(piece.refused(Why::Limit)),
+        }
+    }
+
+    /// The place behind an opening brace, which is wanted here.
+    #[tactic(auto, unfolding(crate::specs::Reading::braced))]
+    pub(crate) fn braced(self) -> Result<Place<'a>, TextError>
+        ensures { Gives (λ x. x) result (braced self.entry) }
+    {
+        let (piece, place) = self.next()?;
+        match piece.sign {
+            Sign::OpenBrace => Ok(place),
+            _ => Err(piece.refused(Why::Syntax)),
+        }
+    }
+
+    /// Nothing but white space is left, which is wanted here.
+    pub(crate) fn ended(self) -> Result<(), TextError>
+        ensures { Gives (λ x. x) result (ended self.entry) }
+    {
+        match self.taken()? {
+            Some((piece, _)) => Err(piece.refused(Why::Syntax)),
+            None => Ok(()),
+        }
+    }
+}
+
+/// The token with its meaning, and the place behind it. It stood in what was left from the offset on.
+fn meant<'a>(
+    is_tight: bool,
+    offset: usize,
+    token: Token<'a>,
+    behind: Tokens<'a>,
+) -> Result<Option<(Piece<'a>, Place<'a>)>, TextError>
+    ensures { Gives (λ x. x) result (taken (meant_lem is_tight offset token.entry.kind token.entry.start token.entry.text.now
+        (sign_of_lem token.entry.kind token.entry.text.now) (left (needs_gap_lem token.entry.kind) behind.entry))) }
+{
+    let start = token.start;
+    let sign = match sign_of(token.kind, token.text) {
+        Ok(sign) => sign,
+        Err(why) => return Err(TextError::At { why, offset: start }),
+    };
+    let needs_gap = needs_gap(token.kind);
+    if is_tight && needs_gap && start == offset {
+        return Err(TextError::At {
+            why: Why::Syntax,
+            offset: start,
+        });
+    }
+    let piece = Piece {
+        sign,
+        start,
+        text: token.text,
+    };
+    let place = Place {
+        tokens: behind,
+        is_tight: needs_gap,
+    };
+    Ok(Some((piece, place)))
+}
+
+/// Whether white space has to stand between two tokens of such kinds.
+fn needs_gap(kind: TokenKind) -> bool
+    ensures { result ≡ needs_gap_lem kind }
+{
+    matches!(
+        kind,
+        TokenKind::Keyword | TokenKind::Word | TokenKind::Integer
+    )
+}

@@ -1,0 +1,145 @@
+//! `Sign`: what a token means. Keywords, words and integers are looked up here, wherever they stand;
+//! what may stand where is left to the readers.
+ghost use Rattle.std.specs.Prelude.{◌≡◌, ◌≤◌, Some, None, nat_le, if◌then◌else◌, ◌+◌, ◌*◌};
+ghost use Rattle.mh_text.specs.Signs.{sign_of as sign_of_lem, keyword_sign as keyword_sign_lem, name_sign as name_sign_lem, word_sign as word_sign_lem, integer_sign as integer_sign_lem, integer_of as integer_of_lem, positive as positive_lem, negative as negative_lem};
+ghost use Rattle.mh_text.specs.Bytes.{number_behind};
+
+use crate::{TokenKind, Why};
+use mh_base::EventType;
+use mh_group::{ActionName, Attribute, Class};
+
+/// What a token means.
+#[derive(Clone, Copy, Debug)]
+pub(crate) enum Sign {
+    OpenBrace,
+    CloseBrace,
+    OpenParenthesis,
+    CloseParenthesis,
+    Class(Class),
+    Attribute(Attribute),
+    Action(ActionName),
+    /// The keyword in front of a value of the kind Int.
+    IntegerKind,
+    Event(EventType),
+    Truth(bool),
+    Integer(i32),
+    Text,
+    Quoted,
+}
+
+/// What the token means: 22 where no table has its name, 23 where its number has more than 32 bits.
+#[tactic(auto, unfolding(crate::specs::Signs::sign_of))]
+pub(crate) fn sign_of(kind: TokenKind, text: &[u8]) -> Result<Sign, Why>
+    ensures { result ≡ sign_of_lem kind text.now }
+{
+    match kind {
+        TokenKind::OpenBrace => Ok(Sign::OpenBrace),
+        TokenKind::CloseBrace => Ok(Sign::CloseBrace),
+        TokenKind::OpenParenthesis => Ok(Sign::OpenParenthesis),
+        TokenKind::CloseParenthesis => Ok(Sign::CloseParenthesis),
+        TokenKind::Keyword => keyword_sign(text).ok_or(Why::UnknownName),
+        TokenKind::Word => word_sign(text).ok_or(Why::UnknownName),
+        TokenKind::Integer => integer_sign(text).ok_or(Why::Range),
+        TokenKind::Text => Ok(Sign::Text),
+        TokenKind::Quoted => Ok(Sign::Quoted),
+    }
+}
+
+/// What the keyword means, with its colon in front.
+fn keyword_sign(text: &[u8]) -> Option<Sign>
+    ensures { result ≡ keyword_sign_lem text.now }
+{
+    match text {
+        [_, name @ ..] => name_sign(name),
+        [] => None,
+    }
+}
+
+/// What the name of a keyword means.
+#[tactic(auto, unfolding(crate::specs::Signs::name_sign))]
+fn name_sign(name: &[u8]) -> Option<Sign>
+    ensures { result ≡ name_sign_lem name.now }
+{
+    if let Some(class) = Class::of_word(name) {
+        return Some(Sign::Class(class));
+    }
+    if let Some(attribute) = Attribute::of_word(name) {
+        return Some(Sign::Attribute(attribute));
+    }
+    if let Some(action) = ActionName::of_word(name) {
+        return Some(Sign::Action(action));
+    }
+    if name == b"GInteger".as_slice() {
+        return Some(Sign::IntegerKind);
+    }
+    None
+}
+
+#[tactic(auto, unfolding(crate::specs::Signs::word_sign))]
+fn word_sign(text: &[u8]) -> Option<Sign>
+    ensures { result ≡ word_sign_lem text.now }
+{
+    if text == b"true".as_slice() {
+        return Some(Sign::Truth(true));
+    }
+    if text == b"false".as_slice() {
+        return Some(Sign::Truth(false));
+    }
+    match mh_group::event_of_word(text) {
+        Some(event) => Some(Sign::Event(event)),
+        None => None,
+    }
+}
+
+fn integer_sign(text: &[u8]) -> Option<Sign>
+    ensures { result ≡ integer_sign_lem text.now }
+{
+    match integer_of(text) {
+        Some(value) => Some(Sign::Integer(value)),
+        None => None,
+    }
+}
+
+/// The number that the digits write, perhaps behind a minus sign, if 32 bits can hold it.
+#[tactic(auto, unfolding(crate::specs::Signs::integer_of))]
+fn integer_of(text: &[u8]) -> Option<i32>
+    ensures { result ≡ integer_of_lem text.now }
+{
+    match text {
+        [] => None,
+        [b'-', digits @ ..] => negative(digits),
+        _ => positive(text),
+    }
+}
+
+fn positive(digits: &[u8]) -> Option<i32>
+    ensures { result ≡ positive_lem (number_behind 0 digits.now) }
+{
+    let magnitude = magnitude(digits)?;
+    if magnitude < 2147483648 {
+        Some(magnitude as i32)
+    } else {
+        None
+    }
+}
+
+fn negative(digits: &[u8]) -> Option<i32>
+    ensures { result ≡ negative_lem (number_behind 0 digits.now) }
+{
+    let magnitude = magnitude(digits)?;
+    Some((-i64::from(magnitude)) as i32)
+}
+
+/// The number that the digits write, if it is at most 2,147,483,648.
+fn magnitude(digits: &[u8]) -> Option<u32>
+    ensures { result ≡ (if nat_le (number_behind 0 digits.now) 2147483648 then Some (number_behind 0 digits.now) else None) }
+{
+    let mut value = 0u64;
+    for digit in digits {
+        value = value * 10 + u64::from(digit.saturating_sub(b'0'));
+        if value > 2147483648 {
+            return None;
+        }
+    }
+    Some(value as u32)
+}

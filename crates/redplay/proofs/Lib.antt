@@ -1,0 +1,4 @@
+pub mod ScriptLemmas
+pub mod SinkLemmas
+pub mod FrameLemmas
+pub mod StepLemmas
