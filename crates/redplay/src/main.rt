@@ -10,6 +10,8 @@ pub mod player;
 pub mod report;
 pub mod script;
 pub mod sink;
+#[cfg(test)]
+mod small_runs;
 pub mod status;
 #[cfg(test)]
 mod tests;

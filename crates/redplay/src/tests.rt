@@ -7,7 +7,7 @@ use std::process::Abort;
 use std::test::Fail;
 
 /// A file: its path and its text.
-type File = (&'static str, &'static str);
+pub type File = (&'static str, &'static str);
 
 const APPLICATION: File = (
     "a",
@@ -51,7 +51,7 @@ total 13
 ";
 
 /// Plays, and compares what was written and how it ended.
-fn check(
+pub fn check(
     rt: &(impl Abort + AllocGlobal),
     case: &str,
     files: &[File],
