@@ -1,10 +1,11 @@
 //! `Group`: what is written, where the tables allow it.
-ghost use Rattle.std.specs.Prelude.{◌≡◌, true, false, length, IfOk, IfErr, OnOk, OnErr, ◌&&◌, ◌==◌};
+ghost use Rattle.std.specs.Prelude.{◌≡◌, true, false, length, IfOk, IfErr, OnOk, OnErr, ◌==◌, Some};
 ghost use Rattle.std.specs.List.{list_all, list_any};
 ghost use Rattle.mh_group.specs.Table.{attribute_number};
-ghost use Rattle.mh_group.specs.Fit.{is_group, fits as fits_lem, fits_parameter as fits_parameter_lem, fits_parameters as fits_parameters_lem, fits_action as fits_action_lem, fits_effect as fits_effect_lem, fits_field as fits_field_lem, fits_fields as fits_fields_lem, is_rising, rises_above, has_required as has_required_lem, fits_ingredient as fits_ingredient_lem, items_of};
+ghost use Rattle.mh_group.specs.Fit.{is_group, misfit_of as misfit_of_lem, fits as fits_lem, fits_parameter as fits_parameter_lem, fits_parameters as fits_parameters_lem, fits_action as fits_action_lem, fits_effect as fits_effect_lem, is_rising, rises_above, has_required as has_required_lem, takes_each as takes_each_lem, fits_each as fits_each_lem, fields_misfit as fields_misfit_lem, ingredient_misfit as ingredient_misfit_lem, ingredients_misfit as ingredients_misfit_lem, items_of};
 ghost use Rattle.mh_group.specs.declared.written.Written.{Written};
 
+use crate::misfit::{Misfit, MisfitWhy};
 use crate::shape::{Need, Shape};
 use crate::written::{Field, Ingredient, Setting, Written};
 use crate::{Action, Attribute, Class, Parameter};
@@ -31,17 +32,17 @@ impl Model for Group {
 }
 
 impl Group {
-    /// The group that is written so. What the tables do not allow is handed back.
-    pub fn new(written: Written) -> Result<Group, Written>
+    /// The group that is written so. What the tables do not allow is handed back, with its cause.
+    pub fn new(written: Written) -> Result<Group, Misfit>
         ensures fits { OnOk result (is_group written ≡ true) }
         ensures same { IfOk result (λ group. group ≡ written) }
+        ensures why { IfErr result (λ misfit. Some misfit.why ≡ misfit_of_lem written) }
         ensures unfit { OnErr result (is_group written ≡ false) }
-        ensures back { IfErr result (λ back. back ≡ written) }
+        ensures back { IfErr result (λ misfit. misfit.written ≡ written) }
     {
-        if fits_group(&written) {
-            Ok(Group { written })
-        } else {
-            Err(written)
+        match misfit_of(&written) {
+            None => Ok(Group { written }),
+            Some(why) => Err(Misfit { why, written }),
         }
     }
 
@@ -130,12 +131,6 @@ fn fits_effect(effect: &[Action]) -> bool
     effect.iter().all(|action| fits_action(action))
 }
 
-fn fits_field(class: Class, field: &Field) -> bool
-    ensures { result ≡ fits_field_lem class field.now }
-{
-    class.takes(field.attribute) && fits(field.attribute.shape(), &field.setting)
-}
-
 fn are_rising(fields: &[Field]) -> bool
     ensures { result ≡ is_rising fields.now }
 {
@@ -168,53 +163,72 @@ fn has_required(class: Class, fields: &[Field]) -> bool
         .all(|attribute| has_attribute(fields, *attribute))
 }
 
-fn fits_fields(class: Class, fields: &[Field]) -> bool
-    ensures { result ≡ fits_fields_lem class fields.now }
+fn takes_each(class: Class, fields: &[Field]) -> bool
+    ensures { result ≡ takes_each_lem class fields.now }
+{
+    fields.iter().all(|field| class.takes(field.attribute))
+}
+
+fn fits_each(fields: &[Field]) -> bool
+    ensures { result ≡ fits_each_lem fields.now }
+{
+    fields
+        .iter()
+        .all(|field| fits(field.attribute.shape(), &field.setting))
+}
+
+/// Why these are no fields of an object of the class, if they are not.
+fn fields_misfit(class: Class, fields: &[Field]) -> Option<MisfitWhy>
+    ensures { result ≡ fields_misfit_lem class fields.now }
 {
     if !are_rising(fields) {
-        return false;
+        return Some(MisfitWhy::Order);
     }
     if !has_required(class, fields) {
-        return false;
+        return Some(MisfitWhy::Missing);
     }
-    fits_each(class, fields)
+    if !takes_each(class, fields) {
+        return Some(MisfitWhy::NotTaken);
+    }
+    if !fits_each(fields) {
+        return Some(MisfitWhy::Value);
+    }
+    None
 }
 
-fn fits_each(class: Class, fields: &[Field]) -> bool
-    ensures { result ≡ list_all (fits_field_lem class) fields.now }
-{
-    fields.iter().all(|field| fits_field(class, field))
-}
-
-fn fits_ingredient(ingredient: &Ingredient) -> bool
-    ensures { result ≡ fits_ingredient_lem ingredient.now }
+fn ingredient_misfit(ingredient: &Ingredient) -> Option<MisfitWhy>
+    ensures { result ≡ ingredient_misfit_lem ingredient.now }
 {
     if ingredient.class.is_group() {
-        return false;
+        return Some(MisfitWhy::NotAnIngredient);
     }
     if ingredient.number.get() == 0 {
-        return false;
+        return Some(MisfitWhy::Unnumbered);
     }
-    fits_fields(ingredient.class, ingredient.fields.as_slice())
+    fields_misfit(ingredient.class, ingredient.fields.as_slice())
 }
 
-#[tactic(auto, unfolding(crate::specs::Fit::is_group))]
-fn fits_group(written: &Written) -> bool
-    ensures { result ≡ is_group written.now }
+fn ingredients_misfit(ingredients: &[Ingredient]) -> Option<MisfitWhy>
+    ensures { result ≡ ingredients_misfit_lem ingredients.now }
+{
+    for ingredient in ingredients {
+        if let Some(why) = ingredient_misfit(ingredient) {
+            return Some(why);
+        }
+    }
+    None
+}
+
+/// Why this is no group, if it is none.
+#[tactic(auto, unfolding(crate::specs::Fit::misfit_of))]
+fn misfit_of(written: &Written) -> Option<MisfitWhy>
+    ensures { result ≡ misfit_of_lem written.now }
 {
     if !written.class.is_group() {
-        return false;
+        return Some(MisfitWhy::NotAGroup);
     }
-    if !fits_fields(written.class, written.fields.as_slice()) {
-        return false;
+    if let Some(why) = fields_misfit(written.class, written.fields.as_slice()) {
+        return Some(why);
     }
-    fit_ingredients(items(written))
-}
-
-fn fit_ingredients(ingredients: &[Ingredient]) -> bool
-    ensures { result ≡ list_all fits_ingredient_lem ingredients.now }
-{
-    ingredients
-        .iter()
-        .all(|ingredient| fits_ingredient(ingredient))
+    ingredients_misfit(items(written))
 }
