@@ -1,0 +1,188 @@
+//! Plays from outside: what is written for a service and a script.
+use crate::options::Options;
+use crate::play::play_bytes;
+use crate::sink::ListSink;
+use mh_base::GroupName;
+use std::process::Abort;
+use std::test::Fail;
+
+/// A file: its path and its text.
+pub type File = (&'static str, &'static str);
+
+const APPLICATION: File = (
+    "a",
+    r#"{:Application ("~/a" 0) :OnStartUp ( :TransitionTo (("~/s" 0)) ) }"#,
+);
+
+const SCENE: File = (
+    "s",
+    r#"{:Scene ("~/s" 0) :InputEventReg 3 :SceneCS 720 576 :Items (
+        {:Rectangle 10 :OrigBoxSize 24 32 :OrigPosition 12 16 :OrigLineWidth 0 :OrigRefFillColour '=FF=00=00=00' }
+        {:Link 11 :EventSource 0 :EventType UserInput :EventData 100 :LinkEffect ( :SetPosition (10 24 16) ) } ) }"#,
+);
+
+const ABSENT: File = (
+    "s",
+    r#"{:Scene ("~/s" 0) :InputEventReg 3 :SceneCS 720 576 :Items (
+        {:Rectangle 10 :OrigBoxSize 24 32 :OrigPosition 12 16 :OrigLineWidth 0 :OrigRefFillColour '=FF=00=00=00' }
+        {:Link 11 :EventSource 0 :EventType UserInput :EventData 100 :LinkEffect ( :SetPosition (99 24 16) ) } ) }"#,
+);
+
+const EMPTY: File = ("a", r#"{:Application ("~/a" 0) :Items ( ) }"#);
+
+const OUTSIDE: File = (
+    "a",
+    r#"{:Application ("~/a" 0) :OnStartUp ( :TransitionTo (("~/../x" 0)) ) }"#,
+);
+
+const OPEN: File = ("a", r#"{:Application ("~/a" 0)"#);
+
+const NO_GROUP: File = ("note", "nothing that begins a group");
+
+const FRAMES: &str = "did 11 idle
+frame 1
+row 01: 1-2 000000/ff0000 \"\"
+row 02: 1-2 000000/ff0000 \"\"
+did 2 idle
+frame 2
+row 01: 2-3 000000/ff0000 \"\"
+row 02: 2-3 000000/ff0000 \"\"
+total 13
+";
+
+/// Plays, and compares what was written and how it ended.
+pub fn check(
+    rt: &(impl Abort + AllocGlobal),
+    case: &str,
+    files: &[File],
+    script: &str,
+    wanted: (&str, u8),
+) -> Result<(), Fail> {
+    let alloc = rt.alloc();
+    let mut read = Vec::new(alloc);
+    for (path, text) in files {
+        let name = GroupName::of_path(alloc, path.as_bytes())?;
+        read.push((name, Vec::from_slice(alloc, text.as_bytes())?))?;
+    }
+    let options = Options {
+        start: Vec::from_slice(alloc, b"a")?,
+        lenient: true,
+    };
+    let mut sink = ListSink {
+        bytes: Vec::new(alloc),
+        failures: 0,
+    };
+    let status = play_bytes(
+        alloc,
+        read.as_slice(),
+        script.as_bytes(),
+        &options,
+        &mut sink,
+    )?;
+    let written = String::from_utf8_lossy(alloc, sink.bytes.as_slice())?;
+    assert_eq!(rt; written.as_str(), wanted.0, "{case}");
+    assert_eq!(rt; status.code(), wanted.1, "{case}");
+    Ok(())
+}
+
+#[test]
+fn plays(rt: HostRuntime) -> Result<(), Fail> {
+    let moves = "run\nshow\nkey red\nrun\nshow\n";
+    let first = [APPLICATION, SCENE];
+    check(&rt, "a red box that moves", &first, moves, (FRAMES, 0))?;
+    let with_note = [APPLICATION, NO_GROUP, SCENE];
+    check(
+        &rt,
+        "a file that is no group",
+        &with_note,
+        moves,
+        (FRAMES, 0),
+    )?;
+    let nothing = ("did 2 idle\nframe 1\ntotal 2\n", 0);
+    check(&rt, "an empty application", &[EMPTY], "run\nshow", nothing)?;
+    let faulted = (
+        "did 11 idle\nfault absent SetPosition s 99\ndid 2 idle\ntotal 13\n",
+        3,
+    );
+    let absent = [APPLICATION, ABSENT];
+    check(
+        &rt,
+        "an absent object",
+        &absent,
+        "run\nkey red\nrun",
+        faulted,
+    )
+}
+
+#[test]
+fn does_not_play(rt: HostRuntime) -> Result<(), Fail> {
+    let outside = ("service 35 a\n", 2);
+    check(&rt, "a name that leads outside", &[OUTSIDE], "run", outside)?;
+    let open = ("file a 21 23\n", 2);
+    check(&rt, "a group without an end", &[OPEN], "run", open)?;
+    check(&rt, "a file before the script", &[OPEN], "walk", open)?;
+    let no_start = ("service 31 a\n", 2);
+    check(&rt, "no application", &[SCENE], "run", no_start)?;
+    check(
+        &rt,
+        "a group twice",
+        &[EMPTY, EMPTY],
+        "run",
+        ("service 30 a\n", 2),
+    )
+}
+
+#[test]
+fn refuses_an_input_too_many(rt: HostRuntime) -> Result<(), Fail> {
+    let alloc = rt.alloc();
+    let mut script = String::from_str(alloc, "run\n")?;
+    for _ in 0..257 {
+        script.push_str("key red\n")?;
+    }
+    script.push_str("step 1\nkey red\nrun\n")?;
+    let wanted = (
+        "did 11 idle\nrefused 51\ndid 1 more\ndid 513 idle\ntotal 525\n",
+        0,
+    );
+    let files = [APPLICATION, SCENE];
+    check(&rt, "257 keys", &files, script.as_str(), wanted)
+}
+
+#[test]
+fn reads_scripts(rt: HostRuntime) -> Result<(), Fail> {
+    for (script, written, status) in [
+        ("", "total 0\n", 0),
+        ("# only a comment\n\n\n", "total 0\n", 0),
+        ("step 0", "did 0 more\ntotal 0\n", 0),
+        ("step 1\nstep 001", "did 1 more\ndid 1 idle\ntotal 2\n", 0),
+        ("step 4294967295", "did 2 idle\ntotal 2\n", 0),
+        ("show\nshow", "frame 1\nframe 2\ntotal 0\n", 0),
+        ("step 4294967296", "script 1\n", 2),
+        ("step", "script 1\n", 2),
+        ("step ", "script 1\n", 2),
+        ("step -1", "script 1\n", 2),
+        ("step +1", "script 1\n", 2),
+        ("run\nkey purple", "script 2\n", 2),
+        ("key  red", "script 1\n", 2),
+        ("key red ", "script 1\n", 2),
+        (" run", "script 1\n", 2),
+        ("run\r\n", "script 1\n", 2),
+        ("#\n\nRun\n", "script 3\n", 2),
+    ] {
+        check(&rt, script, &[EMPTY], script, (written, status))?;
+    }
+    Ok(())
+}
+
+#[test]
+fn knows_all_keys(rt: HostRuntime) -> Result<(), Fail> {
+    for name in [
+        "up", "down", "left", "right", "0", "1", "2", "3", "4", "5", "6", "7", "8", "9", "select",
+        "cancel", "red", "green", "yellow", "blue", "text",
+    ] {
+        let script = format!(in rt.alloc(); "run\nkey {name}\nrun")?;
+        let wanted = ("did 2 idle\ndid 1 idle\ntotal 3\n", 0);
+        check(&rt, name, &[EMPTY], script.as_str(), wanted)?;
+    }
+    Ok(())
+}
