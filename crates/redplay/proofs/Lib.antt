@@ -1,5 +1,0 @@
-pub mod ScriptLemmas
-pub mod SinkLemmas
-pub mod FrameLemmas
-pub mod StepLemmas
-pub mod PlayLemmas

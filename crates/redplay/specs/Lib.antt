@@ -1,6 +1,0 @@
-pub mod Text
-pub mod Script
-pub mod Sink
-pub mod Frame
-pub mod Report
-pub mod Played
