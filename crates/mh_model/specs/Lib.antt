@@ -10,4 +10,7 @@ pub mod Step
 pub mod Planes
 pub mod Picture
 pub mod Painting
+pub mod Configuration
+pub mod Active
+pub mod Acceptable
 pub mod Example

@@ -6,6 +6,7 @@
 
 pub mod act;
 pub mod cell;
+pub mod config;
 pub mod event;
 pub mod example;
 pub mod fault;
@@ -18,6 +19,7 @@ pub mod visible;
 
 pub use act::{Act, Effect};
 pub use cell::Cell;
+pub use config::Config;
 pub use event::Event;
 pub use fault::{Fault, FaultKind};
 pub use input::{Input, Move};
