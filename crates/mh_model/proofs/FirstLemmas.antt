@@ -1,6 +1,6 @@
 -- The first hit of a list by its place: what is found there, and what changing it or putting a member
 -- in its place gives.
-use Rattle.std.specs.Prelude.{◌≡◌, ℕ, ◌+◌, ◌<◌, ◌≤◌, Bool, true, false, not, nat_lt, List, [], ◌∷◌, ◌++◌, length, Option, Some, None, cond, refl, slice_set, slice_index_or, suc, zero}
+use Rattle.std.specs.Prelude.{◌≡◌, ℕ, ◌+◌, ◌<◌, ◌≤◌, Bool, true, false, List, [], ◌∷◌, ◌++◌, length, Some, None, refl, slice_set, slice_index_or, suc}
 use Rattle.std.specs.List.{find, position, position_or_len}
 use Rattle.std.proofs.Common.{ap, ◌∙◌, sym, subst, arith}
 use Rattle.mh_base.proofs.PathLemmas.{position-some, position-none}

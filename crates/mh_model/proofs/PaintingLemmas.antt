@@ -1,14 +1,13 @@
 -- Painting up gives the picture that looking down gives.
-use Rattle.std.specs.Prelude.{◌≡◌, ℕ, ◌+◌, ◌<◌, List, [], ◌∷◌, ◌++◌, length, map, reverse, Option, Some, None, slice_index, replicate, refl, zero, suc}
-use Rattle.std.specs.List.{range_with_len, filter_map, cons_option}
-use Rattle.std.proofs.Common.{ap, ◌∙◌, sym, arith, get_or, append_assoc, append-nil}
+use Rattle.std.specs.Prelude.{◌≡◌, ℕ, ◌<◌, List, [], ◌∷◌, ◌++◌, length, reverse, Option, Some, None, slice_index, replicate, refl}
+use Rattle.std.specs.List.{cons_option}
+use Rattle.std.proofs.Common.{ap, ◌∙◌, sym, arith, append_assoc, append-nil}
 use Rattle.std.proofs.lemmas.List.{reverse-append, length-replicate, get_or-replicate}
 use Rattle.std.proofs.lemmas.List.FromFn.{fill_by_all, get_or-map-range_with_len, length-map-range_with_len}
 use Rattle.mh_base.specs.declared.obj_ref.ObjRef.{ObjRef}
-use Rattle.mh_model.specs.declared.cell.Cell.{Cell}
 use Rattle.mh_model.specs.declared.object.Object.{Object}
 use Rattle.mh_model.specs.declared.visible.Visible.{Visible}
-use Rattle.mh_model.specs.Planes.{Planes, flat, blank}
+use Rattle.mh_model.specs.Planes.{flat, blank}
 use Rattle.mh_model.specs.Picture.{plane, picture_of, cell_at, back_at, back_or, ground_of, painted, visibles, picture}
 use Rattle.mh_model.specs.Service.{object_at}
 use Rattle.mh_model.specs.Painting.{painted_over, maybe_over, painted_up}

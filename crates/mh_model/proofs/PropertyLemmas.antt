@@ -1,10 +1,9 @@
 -- What is held under an attribute, by the place at which it stands.
-use Rattle.std.specs.Prelude.{◌≡◌, ℕ, List, [], ◌∷◌, ◌++◌, Option, Some, None, slice_set, slice_index_or}
+use Rattle.std.specs.Prelude.{◌≡◌, ℕ, List, [], ◌∷◌, ◌++◌, Some, None, slice_set, slice_index_or}
 use Rattle.std.specs.List.{position}
 use Rattle.std.specs.Option.{option_map}
-use Rattle.std.proofs.Common.{ap, ◌∙◌, sym}
+use Rattle.std.proofs.Common.{ap, sym}
 use Rattle.mh_group.specs.declared.attribute.Attribute.{Attribute}
-use Rattle.mh_model.specs.declared.object.Held.{Held}
 use Rattle.mh_model.specs.declared.object.Property.{Property}
 use Rattle.mh_model.specs.Property.{held, with_held, is_of}
 use Rattle.mh_model.proofs.FirstLemmas.{first-position, none-position}

@@ -1,6 +1,6 @@
 -- What can come to be done in a configuration: the actions of its active effects, what is wrong with one of
 -- them, and where it leads.
-use Rattle.std.specs.Prelude.{ℕ, Bool, true, false, ◌&&◌, ◌==◌, if◌then◌else◌, List, ◌++◌, filter, Option, Some, None}
+use Rattle.std.specs.Prelude.{Bool, true, false, ◌&&◌, ◌==◌, if◌then◌else◌, List, ◌++◌, filter, Option, Some, None}
 use Rattle.std.specs.List.{flat_map}
 use Rattle.std.specs.Option.{option_map_or}
 use Rattle.mh_base.specs.declared.value.Value.{Value}

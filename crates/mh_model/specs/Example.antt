@@ -1,7 +1,6 @@
 -- The first example, played by the definitions alone: one application that transits to a scene with a
 -- red rectangle, which moves by one cell when the red key comes.
 use Rattle.std.specs.Prelude.{◌≡◌, ℕ, true, false, List, [], ◌∷◌, pos, replicate}
-use Rattle.mh_base.specs.declared.obj_ref.ObjRef.{ObjRef}
 use Rattle.mh_base.specs.declared.value.Value.TheVariants as value
 use Rattle.mh_base.specs.declared.event.EventType.TheVariants as event
 use Rattle.mh_group.specs.declared.class.Class.TheVariants as class

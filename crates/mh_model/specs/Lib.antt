@@ -13,4 +13,6 @@ pub mod Painting
 pub mod Configuration
 pub mod Active
 pub mod Acceptable
+pub mod Safe
+pub mod Headline
 pub mod Example

@@ -1,5 +1,5 @@
 -- Painting from the bottom of the stack up, which gives the same picture as looking down.
-use Rattle.std.specs.Prelude.{ℕ, List, [], ◌∷◌, Option, Some, None, slice_index}
+use Rattle.std.specs.Prelude.{List, [], ◌∷◌, Option, Some, None, slice_index}
 use Rattle.mh_base.specs.declared.obj_ref.ObjRef.{ObjRef}
 use Rattle.mh_model.specs.declared.object.Object.{Object}
 use Rattle.mh_model.specs.declared.visible.Visible.{Visible}

@@ -1,9 +1,8 @@
 -- What an object holds under an attribute: what was put there last, else what was written, else the
 -- default of the tables.
-use Rattle.std.specs.Prelude.{ℕ, Bool, true, false, ◌==◌, ◌&&◌, List, [], ◌∷◌, Option, Some, None, ℤ, pos}
+use Rattle.std.specs.Prelude.{Bool, ◌==◌, List, [], Option, Some, None, ℤ, pos}
 use Rattle.std.specs.List.{find}
 use Rattle.std.specs.Option.{option_map}
-use Rattle.mh_base.specs.declared.obj_ref.ObjRef.{ObjRef}
 use Rattle.mh_base.specs.declared.value.Value.{Value}
 use Rattle.mh_base.specs.declared.value.Value.TheVariants as value
 use Rattle.mh_base.specs.declared.colour.Colour.{Colour}

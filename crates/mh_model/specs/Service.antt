@@ -1,10 +1,9 @@
 -- Services: groups by their names, each a list of objects with the group itself first.
-use Rattle.std.specs.Prelude.{ℕ, Bool, ◌==◌, ◌&&◌, not, List, [], ◌∷◌, Option, Some, None, unwrap_or}
+use Rattle.std.specs.Prelude.{ℕ, Bool, ◌==◌, ◌&&◌, List, [], Option, unwrap_or}
 use Rattle.std.specs.List.{find}
 use Rattle.std.specs.Option.{option_map}
 use Rattle.std.specs.Str.{bytes_eq}
 use Rattle.mh_base.specs.declared.obj_ref.ObjRef.{ObjRef}
-use Rattle.mh_group.specs.declared.class.Class.{Class}
 use Rattle.mh_model.specs.declared.object.Object.{Object}
 
 -- a finite map from the names of groups to their objects, and the application to start with

@@ -10,6 +10,7 @@ pub mod config;
 pub mod event;
 pub mod example;
 pub mod fault;
+pub mod headline;
 pub mod input;
 pub mod item;
 pub mod key;

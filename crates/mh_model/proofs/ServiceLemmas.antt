@@ -1,0 +1,228 @@
+-- What holds of the objects of every service.
+use Rattle.std.specs.Prelude.{◌≡◌, ℕ, ◌==◌, Bool, true, false, ◌&&◌, not, if◌then◌else◌, cond, List, [], ◌∷◌, ◌++◌, filter, Option, Some, None, unwrap_or, refl}
+use Rattle.std.specs.Cmp.Derive.{both_true}
+use Rattle.std.specs.List.{find, list_all}
+use Rattle.std.specs.Option.{option_map, option_map_or, option_or}
+use Rattle.std.specs.Str.{bytes_eq}
+use Rattle.std.proofs.Common.{ap, ◌∙◌, sym, subst, append-nil}
+use Rattle.std.proofs.lemmas.Bool.Decides.{Decides-eqb}
+use Rattle.std.proofs.lemmas.List.Elements.{filter-append}
+use Rattle.std.proofs.lemmas.List.Folds.{list_all-append, find-append}
+use Rattle.std.proofs.lemmas.Slice.Eq.{bytes_eq-Decides}
+use Rattle.mh_base.specs.declared.obj_ref.ObjRef.{ObjRef}
+use Rattle.mh_group.specs.declared.class.Class.{Class}
+use Rattle.mh_group.specs.declared.class.Class.TheVariants as class
+use Rattle.mh_group.specs.Table.{is_link, is_group_class, is_scene}
+use Rattle.mh_model.specs.declared.config.Config.{Config}
+use Rattle.mh_model.specs.declared.object.Object.{Object}
+use Rattle.mh_model.specs.Service.{Service, same_ref, object_at, group_ref, group_objects, is_in}
+use Rattle.mh_model.specs.Configuration.{is_application, is_group_of, is_ingredient_of, is_group_list, is_service, scene_objects, present}
+use Rattle.mh_model.specs.Safe.{is_there, is_scene_if_any}
+
+-- Truth
+
+pub and_left : (a b : Bool) → (a && b) ≡ true → a ≡ true
+and_left true b e = refl
+and_left false b e = e
+
+pub and_right : (a b : Bool) → (a && b) ≡ true → b ≡ true
+and_right true b e = e
+and_right false b e = absurd cc
+
+-- Lists
+
+pub all_left : {X : Type 0} (p : X → Bool) (xs ys : List X) → list_all p (xs ++ ys) ≡ true → list_all p xs ≡ true
+all_left p xs ys h = and_left (list_all p xs) (list_all p ys) (sym (list_all-append p xs ys) ∙ h)
+
+pub all_right : {X : Type 0} (p : X → Bool) (xs ys : List X) → list_all p (xs ++ ys) ≡ true → list_all p ys ≡ true
+all_right p xs ys h = and_right (list_all p xs) (list_all p ys) (sym (list_all-append p xs ys) ∙ h)
+
+pub all_joined : {X : Type 0} (p : X → Bool) (xs ys : List X) → list_all p xs ≡ true → list_all p ys ≡ true → list_all p (xs ++ ys) ≡ true
+all_joined p xs ys h k = list_all-append p xs ys ∙ both_true h k
+
+pub all_both : {X : Type 0} (p q : X → Bool) (xs : List X) → list_all p xs ≡ true → list_all q xs ≡ true → list_all (λ x. p x && q x) xs ≡ true
+all_both p q [] h k = refl
+all_both p q (x ∷ xs) h k =
+    both_true (both_true (and_left (p x) (list_all p xs) h) (and_left (q x) (list_all q xs) k)) (all_both p q xs (and_right (p x) (list_all p xs) h) (and_right (q x) (list_all q xs) k))
+
+-- a test that follows from another
+pub all_follow : {X : Type 0} (p q : X → Bool) → ((x : X) → p x ≡ true → q x ≡ true) → (xs : List X) → list_all p xs ≡ true → list_all q xs ≡ true
+all_follow p q follows [] h = refl
+all_follow p q follows (x ∷ xs) h = both_true (follows x (and_left (p x) (list_all p xs) h)) (all_follow p q follows xs (and_right (p x) (list_all p xs) h))
+
+pub filter_all : {X : Type 0} (p : X → Bool) (xs : List X) → list_all p xs ≡ true → filter p xs ≡ xs
+filter_all p [] h = refl
+filter_all {X} p (x ∷ xs) h =
+    ap (λ (b : Bool). cond b (x ∷ filter p xs) (filter p xs)) (and_left (p x) (list_all p xs) h) ∙ ap (λ (t : List X). x ∷ t) (filter_all p xs (and_right (p x) (list_all p xs) h))
+
+pub filter_none : {X : Type 0} (p : X → Bool) (xs : List X) → list_all (λ x. not (p x)) xs ≡ true → filter p xs ≡ []
+filter_none p [] h = refl
+filter_none {X} p (x ∷ xs) h = by (p x) (and_left (not (p x)) (list_all (λ y. not (p y)) xs) h) (filter_none p xs (and_right (not (p x)) (list_all (λ y. not (p y)) xs) h))
+  where
+    by : (b : Bool) → not b ≡ true → filter p xs ≡ [] → cond b (x ∷ filter p xs) (filter p xs) ≡ []
+    by true e none = absurd cc
+    by false e none = none
+
+some_same : {X : Type 0} {x y : X} → Some x ≡ Some y → x ≡ y
+some_same {X} {x} {y} e = ap (λ (m : Option X). option_map_or (λ (z : X). z) m x) e
+
+-- what is found passes the test, and whatever all members pass
+pub found : {X : Type 0} (p q : X → Bool) (xs : List X) (y : X) → list_all q xs ≡ true → find p xs ≡ Some y → (p y ≡ true) × (q y ≡ true)
+found p q [] y h e = absurd cc
+found {X} p q (x ∷ xs) y h e = by (p x) refl (and_left (q x) (list_all q xs) h) (λ rest. found p q xs y (and_right (q x) (list_all q xs) h) rest) e
+  where
+    by : (b : Bool) → p x ≡ b → q x ≡ true → (find p xs ≡ Some y → (p y ≡ true) × (q y ≡ true)) → cond b (Some x) (find p xs) ≡ Some y → (p y ≡ true) × (q y ≡ true)
+    by true is good below e = subst (λ (z : X). (p z ≡ true) × (q z ≡ true)) (some_same e) (is, good)
+    by false is good below e = below e
+
+-- References
+
+pub same_ref-same : (a b : ObjRef) → same_ref a b ≡ true → a ≡ b
+same_ref-same a b h =
+    let groups : a.group ≡ b.group = (bytes_eq-Decides a.group b.group).0 (and_left (bytes_eq a.group b.group) (a.number == b.number) h) in
+    let numbers : a.number ≡ b.number = (Decides-eqb a.number b.number).0 (and_right (bytes_eq a.group b.group) (a.number == b.number) h) in
+    λ i. record { group = groups i; number = numbers i }
+
+pub is_there_left : (r : ObjRef) (os ps : List Object) → is_there r os ≡ true → is_there r (os ++ ps) ≡ true
+is_there_left r os ps h = ap (λ (m : Option Object). option_map_or (λ (o : Object). true) m false) (find-append (λ (o : Object). same_ref o.key r) os ps) ∙ by (object_at r os) h
+  where
+    by : (m : Option Object) → option_map_or (λ (o : Object). true) m false ≡ true → option_map_or (λ (o : Object). true) (option_or m (object_at r ps)) false ≡ true
+    by None e = absurd cc
+    by (Some o) e = refl
+
+pub is_there_right : (r : ObjRef) (os ps : List Object) → is_there r ps ≡ true → is_there r (os ++ ps) ≡ true
+is_there_right r os ps h = ap (λ (m : Option Object). option_map_or (λ (o : Object). true) m false) (find-append (λ (o : Object). same_ref o.key r) os ps) ∙ by (object_at r os) h
+  where
+    by : (m : Option Object) → is_there r ps ≡ true → option_map_or (λ (o : Object). true) (option_or m (object_at r ps)) false ≡ true
+    by None e = e
+    by (Some o) e = refl
+
+-- a group of some class is there itself
+pub group_is_there : (is_class : Class → Bool) (v : Service) (g : List ℕ) → is_group_of is_class v g ≡ true → is_there (group_ref g) (group_objects v g) ≡ true
+group_is_there is_class v g h = by (object_at (group_ref g) (group_objects v g)) h
+  where
+    by : (m : Option Object) → option_map_or (λ (o : Object). is_class o.class) m false ≡ true → option_map_or (λ (o : Object). true) m false ≡ true
+    by None e = e
+    by (Some o) e = refl
+
+-- The objects of a service
+
+-- an object has number 0 exactly where it is a group
+abbrev pub is_whole : Object → Bool
+is_whole o = if o.key.number == 0 then is_group_class o.class else not (is_group_class o.class)
+
+whole_group : (o : Object) → (o.key.number == 0) ≡ true → is_group_class o.class ≡ true → is_whole o ≡ true
+whole_group o zeroth is = ap (λ (b : Bool). if b then is_group_class o.class else not (is_group_class o.class)) zeroth ∙ is
+
+whole_ingredient : (b c : Bool) → not b ≡ true → not c ≡ true → (if b then c else not c) ≡ true
+whole_ingredient true c e f = absurd cc
+whole_ingredient false c e f = f
+
+-- the objects of one group: each is of the group, and is whole
+abbrev is_right_in : List ℕ → Object → Bool
+is_right_in g o = is_in g o && is_whole o
+
+ingredient_right : (g : List ℕ) (o : Object) → is_ingredient_of g o ≡ true → is_right_in g o ≡ true
+ingredient_right g o h =
+    let first = and_left (is_in g o && not (o.key.number == 0)) (not (is_group_class o.class)) h in
+    both_true (and_left (is_in g o) (not (o.key.number == 0)) first)
+    (whole_ingredient (o.key.number == 0) (is_group_class o.class) (and_right (is_in g o) (not (o.key.number == 0)) first) (and_right (is_in g o && not (o.key.number == 0)) (not (is_group_class o.class)) h))
+
+group_list_right : (g : List ℕ) (os : List Object) → is_group_list g os ≡ true → list_all (is_right_in g) os ≡ true
+group_list_right g [] h = absurd cc
+group_list_right g (o ∷ os) h =
+    let rest = and_right (is_in g o && o.key.number == 0 && is_group_class o.class) (list_all (is_ingredient_of g) os) h in
+    let front = and_left (is_in g o && o.key.number == 0 && is_group_class o.class) (list_all (is_ingredient_of g) os) h in
+    let is_group = and_right (is_in g o && o.key.number == 0) (is_group_class o.class) front in
+    let at = and_left (is_in g o && o.key.number == 0) (is_group_class o.class) front in
+    both_true (both_true (and_left (is_in g o) (o.key.number == 0) at) (whole_group o (and_right (is_in g o) (o.key.number == 0) at) is_group))
+    (all_follow (is_ingredient_of g) (is_right_in g) (ingredient_right g) os rest)
+
+group_objects_right : (v : Service) (g : List ℕ) → is_service v ≡ true → list_all (is_right_in g) (group_objects v g) ≡ true
+unfolding is_service
+group_objects_right v g h =
+    by (find (λ (e : List ℕ × List Object). bytes_eq e.0 g) v.groups) refl
+  where
+    lists : list_all (λ (e : List ℕ × List Object). is_group_list e.0 e.1) v.groups ≡ true
+    lists = and_left (list_all (λ (e : List ℕ × List Object). is_group_list e.0 e.1) v.groups) (is_group_of is_application v v.start) h
+
+    by : (m : Option (List ℕ × List Object)) → find (λ (e : List ℕ × List Object). bytes_eq e.0 g) v.groups ≡ m → list_all (is_right_in g) (unwrap_or (option_map (λ (e : List ℕ × List Object). e.1) m) []) ≡ true
+    by None e = refl
+    by (Some e) is =
+        let hit = found (λ (e : List ℕ × List Object). bytes_eq e.0 g) (λ (e : List ℕ × List Object). is_group_list e.0 e.1) v.groups e lists is in
+        subst (λ (n : List ℕ). list_all (is_right_in n) e.1 ≡ true) ((bytes_eq-Decides e.0 g).0 hit.0) (group_list_right e.0 e.1 hit.1)
+
+pub group_objects_whole : (v : Service) (g : List ℕ) → is_service v ≡ true → list_all is_whole (group_objects v g) ≡ true
+group_objects_whole v g h = all_follow (is_right_in g) is_whole (λ o right. and_right (is_in g o) (is_whole o) right) (group_objects v g) (group_objects_right v g h)
+
+pub group_objects_in : (v : Service) (g : List ℕ) → is_service v ≡ true → list_all (is_in g) (group_objects v g) ≡ true
+group_objects_in v g h = all_follow (is_right_in g) (is_in g) (λ o right. and_left (is_in g o) (is_whole o) right) (group_objects v g) (group_objects_right v g h)
+
+scene_objects_whole : (v : Service) (scene : Option (List ℕ)) → is_service v ≡ true → list_all is_whole (scene_objects v scene) ≡ true
+scene_objects_whole v None h = refl
+scene_objects_whole v (Some g) h = group_objects_whole v g h
+
+pub present_whole : (v : Service) (c : Config) → is_service v ≡ true → list_all is_whole (present v c) ≡ true
+present_whole v c h = all_joined is_whole (group_objects v c.app) (scene_objects v c.scene) (group_objects_whole v c.app h) (scene_objects_whole v c.scene h)
+
+-- an object that is found under number 0 is no link
+pub found_group : (g : List ℕ) (os : List Object) (o : Object) → list_all is_whole os ≡ true → object_at (group_ref g) os ≡ Some o → is_link o.class ≡ false
+found_group g os o h e =
+    let hit = found (λ (x : Object). same_ref x.key (group_ref g)) is_whole os o h e in
+    let is_group : is_group_class o.class ≡ true = ap (λ (b : Bool). if b then is_group_class o.class else not (is_group_class o.class)) (sym (and_right (bytes_eq o.key.group g) (o.key.number == 0) hit.0)) ∙ hit.1 in
+    by o.class is_group
+  where
+    by : (k : Class) → is_group_class k ≡ true → is_link k ≡ false
+    by class.Application is = refl
+    by class.Scene is = refl
+    by class.Link is = absurd cc
+    by class.IntegerVar is = refl
+    by class.Rectangle is = refl
+
+-- an object that is found under another number is no scene
+pub found_ingredient : (r : ObjRef) (os : List Object) (o : Object) → (r.number == 0) ≡ false → list_all is_whole os ≡ true → object_at r os ≡ Some o → is_scene o.class ≡ false
+found_ingredient r os o other h e =
+    let hit = found (λ (x : Object). same_ref x.key r) is_whole os o h e in
+    let key : o.key ≡ r = same_ref-same o.key r hit.0 in
+    let numbered : (o.key.number == 0) ≡ false = ap (λ (k : ObjRef). k.number == 0) key ∙ other in
+    let no_group : not (is_group_class o.class) ≡ true = ap (λ (b : Bool). if b then is_group_class o.class else not (is_group_class o.class)) (sym numbered) ∙ hit.1 in
+    by o.class no_group
+  where
+    by : (k : Class) → not (is_group_class k) ≡ true → is_scene k ≡ false
+    by class.Application is = refl
+    by class.Scene is = absurd cc
+    by class.Link is = refl
+    by class.IntegerVar is = refl
+    by class.Rectangle is = refl
+
+-- an application and a scene are two groups
+apart : (v : Service) (a b : List ℕ) → is_group_of is_application v a ≡ true → is_group_of is_scene v b ≡ true → bytes_eq b a ≡ false
+apart v a b app scene = by (bytes_eq b a) refl
+  where
+    both_of : (m : Option Object) → option_map_or (λ (o : Object). is_application o.class) m false ≡ true → option_map_or (λ (o : Object). is_scene o.class) m false ≡ true → ⊥
+    both_of None e f = cc
+    both_of (Some o) e f = one o.class e f
+      where
+        one : (k : Class) → is_application k ≡ true → is_scene k ≡ true → ⊥
+        one class.Application e f = cc
+        one class.Scene e f = cc
+        one class.Link e f = cc
+        one class.IntegerVar e f = cc
+        one class.Rectangle e f = cc
+
+    by : (t : Bool) → bytes_eq b a ≡ t → t ≡ false
+    by true e = absurd (both_of (object_at (group_ref a) (group_objects v a)) app (subst (λ (g : List ℕ). is_group_of is_scene v g ≡ true) ((bytes_eq-Decides b a).0 e) scene))
+    by false e = refl
+
+scene_is_out : (v : Service) (a : List ℕ) (scene : Option (List ℕ)) → is_service v ≡ true → is_group_of is_application v a ≡ true → is_scene_if_any v scene ≡ true → list_all (λ o. not (is_in a o)) (scene_objects v scene) ≡ true
+scene_is_out v a None h app is = refl
+scene_is_out v a (Some g) h app is =
+    all_follow (is_in g) (λ o. not (is_in a o)) (λ o in_g. ap (λ (n : List ℕ). not (bytes_eq n a)) ((bytes_eq-Decides o.key.group g).0 in_g) ∙ ap not (apart v a g app is)) (group_objects v g) (group_objects_in v g h)
+
+-- of what is present, the objects of the application are all that its group has
+pub application_objects : (v : Service) (c : Config) → is_service v ≡ true → is_group_of is_application v c.app ≡ true → is_scene_if_any v c.scene ≡ true → filter (is_in c.app) (present v c) ≡ group_objects v c.app
+application_objects v c h app scene =
+    filter-append (is_in c.app) (group_objects v c.app) (scene_objects v c.scene)
+    ∙ ap (λ (t : List Object). t ++ filter (is_in c.app) (scene_objects v c.scene)) (filter_all (is_in c.app) (group_objects v c.app) (group_objects_in v c.app h))
+    ∙ ap (λ (t : List Object). group_objects v c.app ++ t) (filter_none (is_in c.app) (scene_objects v c.scene) (scene_is_out v c.app c.scene h app scene))
+    ∙ append-nil (group_objects v c.app)

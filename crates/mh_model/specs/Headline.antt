@@ -1,0 +1,27 @@
+-- The headline: from an acceptable service nothing ever goes wrong.
+use Rattle.std.specs.Prelude.{◌≡◌, List, [], slice_get, Option, Some, None}
+use Rattle.mh_model.specs.declared.fault.Fault.{Fault}
+use Rattle.mh_model.specs.declared.input.Move.{Move}
+use Rattle.mh_model.specs.declared.item.Item.{Item}
+use Rattle.mh_model.specs.Service.{Service}
+use Rattle.mh_model.specs.State.{State, begun}
+use Rattle.mh_model.specs.Stuck.{stuck}
+use Rattle.mh_model.specs.Step.{run}
+use Rattle.mh_model.specs.Acceptable.{IsAcceptable}
+
+abbrev pub fault_at : Option Item → State → Option Fault
+fault_at None s = None
+fault_at (Some i) s = stuck i s
+
+-- what is wrong with the first item of the work list, if it is stuck
+abbrev pub front_fault : State → Option Fault
+front_fault s = fault_at (slice_get s.work 0) s
+
+-- no item is stuck, and none was
+pub record IsFaultless (s : State) : Type 0 where
+  pub front : front_fault s ≡ None
+  pub faults : s.faults ≡ []
+
+-- from an acceptable service no state of any run is stuck, whatever the moves
+abbrev pub NeverStuck : Type 0
+NeverStuck = (v : Service) → IsAcceptable v → (ms : List Move) → IsFaultless (run ms (begun v))
