@@ -3,9 +3,10 @@
 //! Promise: the groups are those of the files in their order, resolved once, and an object is found
 //! exactly where its group has one with its number. That the service can be played is left to others.
 ghost use Rattle.std.specs.Prelude.{◌≡◌, IfOk, IfErr, OnOk, None, true, false, [], ◌∷◌, ◌++◌, map};
-ghost use Rattle.std.specs.List.{list_any};
+ghost use Rattle.std.specs.List.{list_any, list_all};
 ghost use Rattle.std.specs.Option.{option_copied};
 ghost use Rattle.std.specs.Str.{bytes_eq};
+ghost use Rattle.mh_group.specs.Fit.{is_group};
 ghost use Rattle.mh_model.specs.Service.{object_at, group_objects};
 ghost use Rattle.mh_service.specs.Resolved.{resolved, group_leads, objects_under};
 ghost use Rattle.mh_service.specs.Refusals.{Refuses, RefusesAt, for_reason, refusal_of, bad_reference, double_name};
@@ -27,11 +28,15 @@ pub struct Service {
 }
 
 impl Model for Service {
+    ghost use Rattle.std.specs.Prelude.{◌≡◌, true};
     ghost use Rattle.mh_model.specs.Service.{Service as ServiceValue};
+    ghost use Rattle.mh_model.specs.Configuration.{is_service};
 
     ghost Value = { ServiceValue };
 
     ghost view = { λ s. record { groups = s.groups.entries; start = s.start } };
+
+    ghost invariant = { λ s. is_service (record { groups = s.groups.entries; start = s.start }) ≡ true };
 }
 
 impl Service {
@@ -88,6 +93,7 @@ fn groups(
 ) -> Result<IndexMap<GroupName, Seq<Object>>, ServiceError>
     requires { double_name [] files.now ≡ None }
     ensures groups { IfOk result (λ groups. groups.entries ≡ map resolved files.now) }
+    ensures allowed { OnOk result (list_all (λ f. is_group f.1) files.now ≡ true) }
     ensures good { OnOk result (bad_reference files.now ≡ None) }
     ensures refused { IfErr result (Refuses (for_reason Why.BadReference (bad_reference files.now))) }
 {
@@ -106,6 +112,7 @@ fn add(
 ) -> Result<(), ServiceError>
     requires { list_any (bytes_eq file.now.0) (map (λ e. e.0) groups.old.entries) ≡ false }
     ensures added { OnOk result (groups.new.entries ≡ groups.old.entries ++ resolved file.now ∷ []) }
+    ensures allowed { OnOk result (is_group file.now.1 ≡ true) }
     ensures good { OnOk result (group_leads file.now.0 file.now.1 ≡ true) }
     ensures refused { IfErr result (RefusesAt file.now) }
 {
@@ -117,6 +124,7 @@ fn add(
 
 fn objects(alloc: Global, file: &(GroupName, Group)) -> Result<Seq<Object>, ServiceError>
     ensures found { IfOk result (λ objects. objects ≡ (resolved file.now).1) }
+    ensures allowed { OnOk result (is_group file.now.1 ≡ true) }
     ensures good { OnOk result (group_leads file.now.0 file.now.1 ≡ true) }
     ensures refused { IfErr result (RefusesAt file.now) }
 {

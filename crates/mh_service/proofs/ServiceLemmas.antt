@@ -1,0 +1,163 @@
+-- What every service is: the objects of a group begin with the group itself, and the start is an application.
+use Rattle.std.proofs.Common.{◌≡◌, ℕ, Bool, true, false, cond, ◌&&◌, ◌||◌, not, ◌==◌, List, [], ◌∷◌, ◌++◌, map, Option, Some, None, refl, ap, ◌∙◌, sym, subst}
+use Rattle.std.specs.List.{list_all, list_any, find}
+use Rattle.std.specs.Option.{option_map, option_map_or, option_or}
+use Rattle.std.specs.Prelude.{unwrap_or, is_none}
+use Rattle.std.specs.Str.{bytes_eq}
+use Rattle.std.specs.Cmp.Lexicographic.{nat_list_eq_equiv}
+use Rattle.std.proofs.lemmas.Slice.Eq.{bytes_eq-Decides}
+use Rattle.mh_group.specs.declared.class.Class.{Class}
+use Rattle.mh_group.specs.declared.class.Class.TheVariants as class
+use Rattle.mh_group.specs.declared.misfit.MisfitWhy.{MisfitWhy}
+use Rattle.mh_group.specs.declared.misfit.MisfitWhy.TheVariants as misfit
+use Rattle.mh_group.specs.declared.written.Ingredient.{Ingredient}
+use Rattle.mh_group.specs.declared.written.Written.{Written}
+use Rattle.mh_group.specs.Table.{is_group_class}
+use Rattle.mh_group.specs.Fit.{is_group, misfit_of, fields_misfit, ingredient_misfit, ingredients_misfit, items_of}
+use Rattle.mh_model.specs.declared.object.Object.{Object}
+use Rattle.mh_model.specs.Service.{Service, object_at, group_objects, group_ref}
+use Rattle.mh_model.specs.Configuration.{is_service, is_group_list, is_ingredient_of, is_group_of, is_application as is_application_class}
+use Rattle.mh_service.specs.Resolved.{objects_of, object_of, resolved}
+use Rattle.mh_service.specs.Refusals.{File, double_name, missing_start, double_number, over_limit, has_application, is_application, start_unfit, for_reason, refusal_before}
+use Rattle.mh_service.specs.Limits.{whole_room}
+use Rattle.mh_service.specs.declared.service_error.Why.TheVariants as why
+
+-- Tests and options.
+
+both : (a b : Bool) → a ≡ true → b ≡ true → (a && b) ≡ true
+both true b p q = q
+both false b p q = p
+
+split : (a b : Bool) → (a && b) ≡ true → (a ≡ true) × (b ≡ true)
+split true b h = (refl, h)
+split false b h = cc
+
+or-false : (a b : Bool) → a ≡ false → (a || b) ≡ true → b ≡ true
+or-false true b p q = cc
+or-false false b p q = q
+
+or-left : (a b : Bool) → a ≡ true → (a || b) ≡ true
+or-left true b p = refl
+or-left false b p = cc
+
+any-append : {X : Type 0} (p : X → Bool) (xs ys : List X) → list_any p xs ≡ true → list_any p (xs ++ ys) ≡ true
+any-append p [] ys h = cc
+any-append {X} p (x ∷ xs) ys h = by (p x) (any-append p xs ys) h
+  where
+    by : (b : Bool) → (list_any p xs ≡ true → list_any p (xs ++ ys) ≡ true) → (b || list_any p xs) ≡ true → (b || list_any p (xs ++ ys)) ≡ true
+    by true ih h = refl
+    by false ih h = ih h
+
+any-last : {X : Type 0} (p : X → Bool) (xs : List X) (y : X) → p y ≡ true → list_any p (xs ++ y ∷ []) ≡ true
+any-last p [] y h = or-left (p y) false h
+any-last {X} p (x ∷ xs) y h = by (p x) (any-last p xs y h)
+  where
+    by : (b : Bool) → list_any p (xs ++ y ∷ []) ≡ true → (b || list_any p (xs ++ y ∷ [])) ≡ true
+    by true ih = refl
+    by false ih = ih
+
+neither : {T : Type 0} (a b : Option T) → option_or a b ≡ None → (a ≡ None) × (b ≡ None)
+neither None b h = (refl, h)
+neither (Some x) b h = cc
+
+same_bytes : (xs : List ℕ) → bytes_eq xs xs ≡ true
+same_bytes xs = nat_list_eq_equiv.refl xs
+
+-- The objects of a group.
+
+passed : {T : Type 0} (a b : Bool) (x y : T) (o : Option T) → cond a (Some x) (cond b (Some y) o) ≡ None → (a ≡ false) × (b ≡ false)
+passed true b x y o h = cc
+passed false true x y o h = cc
+passed false false x y o h = (refl, refl)
+
+plain_ingredient : (g : List ℕ) (i : Ingredient) → ingredient_misfit i ≡ None → is_ingredient_of g (object_of g i) ≡ true
+plain_ingredient g i h =
+    let two = passed _ _ _ _ _ h in
+    both _ _ (both _ _ (same_bytes g) (ap not two.1)) (ap not two.0)
+
+plain_ingredients : (g : List ℕ) (is : List Ingredient) → ingredients_misfit is ≡ None → list_all (is_ingredient_of g) (map (object_of g) is) ≡ true
+plain_ingredients g [] h = refl
+plain_ingredients g (i ∷ is) h =
+    let two = neither (ingredient_misfit i) (ingredients_misfit is) h in
+    both _ _ (plain_ingredient g i two.0) (plain_ingredients g is two.1)
+
+group_class : (w : Written) → is_group w ≡ true → (is_group_class w.class ≡ true) × (ingredients_misfit (items_of w) ≡ None)
+unfolding misfit_of
+group_class w h = by (is_group_class w.class) (fields_misfit w.class w.fields) (ingredients_misfit (items_of w)) h
+  where
+    by : (b : Bool) (f r : Option MisfitWhy) → is_none (cond (not b) (Some misfit.NotAGroup) (option_or f r)) ≡ true → (b ≡ true) × (r ≡ None)
+    by true None None h = (refl, refl)
+    by true None (Some x) h = cc
+    by true (Some y) r h = cc
+    by false f r h = cc
+
+group_list : (g : List ℕ) (w : Written) → is_group w ≡ true → is_group_list g (objects_of g w) ≡ true
+group_list g w h =
+    let two = group_class w h in
+    both _ _ (both _ _ (both _ _ (same_bytes g) refl) two.0) (plain_ingredients g (items_of w) two.1)
+
+group_lists : (files : List File) → list_all (λ f. is_group f.1) files ≡ true → list_all (λ e. is_group_list e.0 e.1) (map resolved files) ≡ true
+group_lists [] h = refl
+group_lists (f ∷ fs) h =
+    let two = split (is_group f.1) (list_all (λ (g : File). is_group g.1) fs) h in
+    both _ _ (group_list f.0 f.1 two.0) (group_lists fs two.1)
+
+-- The start.
+
+-- a name that came before comes in none of these files
+none_again : (p : File → Bool) (name : List ℕ) (seen : List (List ℕ)) (files : List File) → double_name seen files ≡ None → list_any (bytes_eq name) seen ≡ true → list_any (λ f. bytes_eq f.0 name && p f) files ≡ false
+none_again p name seen [] h k = refl
+none_again p name seen (f ∷ fs) h k = by (bytes_eq f.0 name) refl (list_any (bytes_eq f.0) seen) refl h (λ h. none_again p name (seen ++ f.0 ∷ []) fs h (any-append (bytes_eq name) seen (f.0 ∷ []) k))
+  where
+    by : (b : Bool) → bytes_eq f.0 name ≡ b → (c : Bool) → list_any (bytes_eq f.0) seen ≡ c → cond c (Some f.0) (double_name (seen ++ f.0 ∷ []) fs) ≡ None → (double_name (seen ++ f.0 ∷ []) fs ≡ None → list_any (λ (g : File). bytes_eq g.0 name && p g) fs ≡ false) → ((b && p f) || list_any (λ (g : File). bytes_eq g.0 name && p g) fs) ≡ false
+    by true e true d h ih = cc
+    by true e false d h ih =
+        let same : f.0 ≡ name = (bytes_eq-Decides f.0 name).0 e in
+        let seen_name : list_any (bytes_eq name) seen ≡ false = subst (λ (n : List ℕ). list_any (bytes_eq n) seen ≡ false) same d in
+        cc
+    by false e true d h ih = cc
+    by false e false d h ih = ih h
+
+same_class : (c : Class) → is_application c ≡ true → is_application_class c ≡ true
+same_class class.Application h = refl
+same_class class.Scene h = h
+same_class class.Link h = h
+same_class class.IntegerVar h = h
+same_class class.Rectangle h = h
+
+-- the first entry under the name is that of the application
+start_is : (name : List ℕ) (seen : List (List ℕ)) (files : List File) → double_name seen files ≡ None → has_application name files ≡ true → option_map_or (λ o. is_application_class o.class) (object_at (group_ref name) (unwrap_or (option_map (λ e. e.1) (find (λ e. bytes_eq e.0 name) (map resolved files))) [])) false ≡ true
+start_is name seen [] h k = cc
+start_is name seen (f ∷ fs) h k = by (bytes_eq f.0 name) refl (list_any (bytes_eq f.0) seen) h k (λ h k. start_is name (seen ++ f.0 ∷ []) fs h k)
+  where
+    first : (b : Bool) → bytes_eq f.0 name ≡ true → double_name (seen ++ f.0 ∷ []) fs ≡ None → is_application f.1.class ≡ b → (b || list_any (λ (g : File). bytes_eq g.0 name && is_application g.1.class) fs) ≡ true → is_application_class f.1.class ≡ true
+    first true e h d k = same_class f.1.class d
+    first false e h d k =
+        let same : f.0 ≡ name = (bytes_eq-Decides f.0 name).0 e in
+        let seen_name : list_any (bytes_eq name) (seen ++ f.0 ∷ []) ≡ true = any-last (bytes_eq name) seen f.0 (subst (λ (n : List ℕ). bytes_eq name n ≡ true) (sym same) (same_bytes name)) in
+        let none = none_again (λ (g : File). is_application g.1.class) name (seen ++ f.0 ∷ []) fs h seen_name in
+        cc
+
+    by : (b : Bool) → bytes_eq f.0 name ≡ b → (c : Bool) → cond c (Some f.0) (double_name (seen ++ f.0 ∷ []) fs) ≡ None → ((b && is_application f.1.class) || list_any (λ (g : File). bytes_eq g.0 name && is_application g.1.class) fs) ≡ true → (double_name (seen ++ f.0 ∷ []) fs ≡ None → list_any (λ (g : File). bytes_eq g.0 name && is_application g.1.class) fs ≡ true → option_map_or (λ (o : Object). is_application_class o.class) (object_at (group_ref name) (unwrap_or (option_map (λ (e : List ℕ × List Object). e.1) (find (λ (e : List ℕ × List Object). bytes_eq e.0 name) (map resolved fs))) [])) false ≡ true) → option_map_or (λ (o : Object). is_application_class o.class) (object_at (group_ref name) (unwrap_or (option_map (λ (e : List ℕ × List Object). e.1) (cond b (Some (resolved f)) (find (λ (e : List ℕ × List Object). bytes_eq e.0 name) (map resolved fs)))) [])) false ≡ true
+    by b e true h k ih = cc
+    by true e false h k ih = rw e (first (is_application f.1.class) e h refl k)
+    by false e false h k ih = ih h k
+
+-- what is looked for before the references does not stand
+unrefused : (a b c d e : Option (List ℕ)) → option_or (for_reason why.DoubleName a) (option_or (for_reason why.NoStart b) (option_or (for_reason why.DoubleNumber c) (option_or (for_reason why.NotAnApplication d) (for_reason why.Limit e)))) ≡ None → (a ≡ None) × (d ≡ None)
+unrefused None None None None e h = (refl, refl)
+unrefused (Some x) b c d e h = cc
+unrefused None (Some x) c d e h = cc
+unrefused None None (Some x) d e h = cc
+unrefused None None None (Some x) e h = cc
+
+-- the groups of files that are not refused, with their start
+pub is_service_of : (start : List ℕ) (files : List File) → list_all (λ f. is_group f.1) files ≡ true → refusal_before start files ≡ None → is_service (record { groups = map resolved files; start = start }) ≡ true
+unfolding is_service
+is_service_of start files groups good =
+    let none = unrefused (double_name [] files) (missing_start start files) (double_number files) (start_unfit start files) (over_limit whole_room files) good in
+    both _ _ (group_lists files groups) (start_is start [] files none.0 (fits (has_application start files) none.1))
+  where
+    fits : (b : Bool) → cond b None (Some start) ≡ None → b ≡ true
+    fits true h = refl
+    fits false h = cc

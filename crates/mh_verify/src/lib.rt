@@ -1,0 +1,8 @@
+//! The verifier: which services never go wrong.
+//!
+//! Promise: a service is accepted only where it is acceptable by the definitions of `mh_model`.
+#![tactic(auto)]
+
+pub mod accepted;
+
+pub use accepted::{Accepted, Rest};
