@@ -1,10 +1,16 @@
 -- What a step answers.
-use Rattle.std.specs.Prelude.{Option, Some, None, slice_get, if◌then◌else◌}
+use Rattle.std.specs.Prelude.{ℕ, Bool, true, not, ◌==◌, ◌||◌, ◌&&◌, List, [], ◌∷◌, Option, Some, None, slice_get, if◌then◌else◌}
 use Rattle.mh_model.specs.declared.fault.Fault.{Fault}
 use Rattle.mh_model.specs.declared.input.Input.{Input}
 use Rattle.mh_model.specs.declared.item.Item.{Item}
 use Rattle.mh_model.specs.State.{State}
-use Rattle.mh_model.specs.Step.{is_idle}
+use Rattle.mh_model.specs.declared.input.Move.{Move}
+use Rattle.mh_model.specs.declared.input.Move.TheVariants as move
+use Rattle.mh_model.specs.Step.{is_idle, moved, most_steps}
+use Rattle.mh_engine.specs.declared.refusal.RefusedWhy.{RefusedWhy}
+use Rattle.mh_engine.specs.declared.refusal.RefusedWhy.TheVariants as refused
+use Rattle.mh_engine.specs.declared.refusal.StepError.{StepError}
+use Rattle.mh_engine.specs.declared.refusal.StepError.TheVariants as failed
 use Rattle.mh_engine.specs.declared.rest.Rest.{Rest}
 use Rattle.mh_engine.specs.declared.rest.Rest.TheVariants as rest
 use Rattle.mh_model.specs.Stuck.{stuck}
@@ -27,3 +33,25 @@ answer_of s = answer_by (slice_get s.work 0) (slice_get s.queue 0) s
 -- what is left to do
 abbrev pub rest_of : State → Rest
 rest_of s = if is_idle s then rest.Idle else rest.More
+
+-- a step move is not counted where all steps are counted and there is something to do
+abbrev pub is_counted : Move → State → Bool
+is_counted (move.Post i) s = true
+is_counted move.Step s = not (s.taken == most_steps) || is_idle s
+
+-- each step move of a run is counted
+abbrev pub are_counted : List Move → State → Bool
+are_counted [] s = true
+are_counted (m ∷ ms) s = is_counted m s && are_counted ms (moved m s)
+
+-- Numbers of refusals. Want of memory has none.
+
+abbrev pub refusal_number : RefusedWhy → Option ℕ
+refusal_number refused.NoMemory = None
+refusal_number refused.Stopped = Some 55
+refusal_number refused.QueueFull = Some 51
+
+abbrev pub step_number : StepError → Option ℕ
+step_number failed.NoMemory = None
+step_number failed.Stopped = Some 55
+step_number failed.CountFull = Some 56

@@ -1,9 +1,9 @@
 //! `Engine`: a machine that can be refused memory, and runs of it.
-ghost use Rattle.std.specs.Prelude.{◌≡◌, ◌≤◌, true, false, length, take, IfOk, IfErr, OnOk, OnErr, IsErrOf};
+ghost use Rattle.std.specs.Prelude.{◌≡◌, ◌+◌, ◌<◌, true, false, [], length, take, IfOk, IfErr, OnOk, OnErr, IsErrOf};
 ghost use Rattle.mh_model.specs.State.{begun};
 ghost use Rattle.mh_model.specs.Step.{step as step_lem, stepped, posted, is_full, is_idle, moved, run as run_lem, most_steps};
 ghost use Rattle.mh_model.specs.Picture.{shown};
-ghost use Rattle.mh_engine.specs.Answer.{answer_of, rest_of};
+ghost use Rattle.mh_engine.specs.Answer.{answer_of, rest_of, is_counted, are_counted};
 
 use crate::machine::Machine;
 use crate::refusal::{Refused, RefusedWhy, RunEnd, StepError, Unstarted};
@@ -135,20 +135,36 @@ fn refuse(why: RefusedWhy, input: Input) -> Result<(), Refused>
 /// One move of a run. A post that finds the queue full is passed over.
 fn make(engine: &mut Engine, next: &Move) -> Result<(), StepError>
     ensures made { OnOk result (engine.new.state ≡ moved next.now engine.old.state) }
+    ensures counted { OnOk result (is_counted next.now engine.old.state ≡ true) }
+    ensures running { OnOk result ((engine.old.stopped ≡ false) × (engine.new.stopped ≡ false)) }
     ensures kept { OnErr result (engine.new.state ≡ engine.old.state) }
+    ensures stopped { IfErr result (λ why. why ≡ StepError.Stopped → engine.old.stopped ≡ true) }
+    ensures full { IfErr result (λ why. why ≡ StepError.CountFull → is_counted next.now engine.old.state ≡ false) }
 {
     match next {
         Move::Post(input) => post_or_pass(engine, *input),
-        Move::Step => {
-            let _ = engine.step()?;
-            Ok(())
-        }
+        Move::Step => step_on(engine),
     }
+}
+
+fn step_on(engine: &mut Engine) -> Result<(), StepError>
+    ensures made { OnOk result (engine.new.state ≡ stepped engine.old.state) }
+    ensures counted { OnOk result (is_counted Move.Step engine.old.state ≡ true) }
+    ensures running { OnOk result ((engine.old.stopped ≡ false) × (engine.new.stopped ≡ false)) }
+    ensures kept { OnErr result (engine.new.state ≡ engine.old.state) }
+    ensures stopped { IfErr result (λ why. why ≡ StepError.Stopped → engine.old.stopped ≡ true) }
+    ensures full { IfErr result (λ why. why ≡ StepError.CountFull → is_counted Move.Step engine.old.state ≡ false) }
+{
+    let _ = engine.step()?;
+    Ok(())
 }
 
 fn post_or_pass(engine: &mut Engine, input: Input) -> Result<(), StepError>
     ensures made { OnOk result (engine.new.state ≡ posted input engine.old.state) }
+    ensures running { OnOk result ((engine.old.stopped ≡ false) × (engine.new.stopped ≡ false)) }
     ensures kept { OnErr result (engine.new.state ≡ engine.old.state) }
+    ensures stopped { IfErr result (λ why. why ≡ StepError.Stopped → engine.old.stopped ≡ true) }
+    ensures other { IfErr result (λ why. why ≡ StepError.CountFull → ⊥) }
 {
     match engine.post(input) {
         Ok(()) => Ok(()),
@@ -164,8 +180,13 @@ fn post_or_pass(engine: &mut Engine, input: Input) -> Result<(), StepError>
 /// where the count of steps is full, and then says how many moves were made.
 pub fn run(engine: &mut Engine, moves: &[Move]) -> Result<(), RunEnd>
     ensures all { OnOk result (engine.new.state ≡ run_lem moves.now engine.old.state) }
+    ensures counted { OnOk result (are_counted moves.now engine.old.state ≡ true) }
+    ensures running { OnOk result (engine.old.stopped ≡ true → moves.now ≡ []) }
     ensures part { IfErr result (λ end. engine.new.state ≡ run_lem (take end.made moves.now) engine.old.state) }
-    ensures within { IfErr result (λ end. end.made ≤ length moves.now) }
+    ensures before { IfErr result (λ end. are_counted (take end.made moves.now) engine.old.state ≡ true) }
+    ensures within { IfErr result (λ end. end.made < length moves.now) }
+    ensures stopped { IfErr result (λ end. end.why ≡ StepError.Stopped → (engine.old.stopped ≡ true) × (end.made ≡ 0)) }
+    ensures full { IfErr result (λ end. end.why ≡ StepError.CountFull → are_counted (take (end.made + 1) moves.now) engine.old.state ≡ false) }
 {
     for (made, next) in moves.iter().enumerate() {
         if let Err(why) = make(engine, next) {

@@ -1,4 +1,7 @@
 //! Why the engine refuses a call.
+ghost use Rattle.std.specs.Prelude.{◌≡◌};
+ghost use Rattle.mh_engine.specs.Answer.{refusal_number, step_number};
+
 use mh_model::Input;
 use mh_service::Service;
 use std::alloc::AllocError;
@@ -23,6 +26,19 @@ pub enum RefusedWhy {
     QueueFull,
 }
 
+impl RefusedWhy {
+    /// The number under which it is reported; want of memory has none.
+    pub fn number(self) -> Option<u32>
+        ensures { result ≡ refusal_number self }
+    {
+        match self {
+            RefusedWhy::NoMemory => None,
+            RefusedWhy::Stopped => Some(55),
+            RefusedWhy::QueueFull => Some(51),
+        }
+    }
+}
+
 /// An input that was not accepted. It is handed back.
 #[derive(Clone, Copy, Debug, PartialEq, Eq)]
 pub struct Refused {
@@ -41,6 +57,19 @@ pub enum StepError {
     /// Number 56: as many steps are counted as can be.
     #[error("56: the count of steps is full")]
     CountFull,
+}
+
+impl StepError {
+    /// The number under which it is reported; want of memory has none.
+    pub fn number(self) -> Option<u32>
+        ensures { result ≡ step_number self }
+    {
+        match self {
+            StepError::NoMemory => None,
+            StepError::Stopped => Some(55),
+            StepError::CountFull => Some(56),
+        }
+    }
 }
 
 /// A run that ended before its last move.

@@ -48,7 +48,7 @@ pub fn refuse(why: Why, group: Option<&GroupName>) -> Result<(), ServiceError>
 }
 
 /// The first name that came before.
-fn double_name(
+pub fn double_name(
     alloc: Global,
     files: &[(GroupName, Group)],
 ) -> Result<Option<&GroupName>, AllocError>

@@ -1,0 +1,5 @@
+pub mod ScriptLemmas
+pub mod SinkLemmas
+pub mod FrameLemmas
+pub mod StepLemmas
+pub mod PlayLemmas

@@ -1,0 +1,6 @@
+pub mod Text
+pub mod Script
+pub mod Sink
+pub mod Frame
+pub mod Report
+pub mod Played

@@ -1,0 +1,87 @@
+//! The program: it reads a service and a script from files, plays them, and prints the report.
+#![tactic(auto)]
+
+pub mod command_line;
+#[cfg(test)]
+mod cutting_sink;
+pub mod gather;
+pub mod options;
+pub mod play;
+pub mod play_error;
+pub mod player;
+pub mod report;
+pub mod script;
+pub mod sink;
+#[cfg(test)]
+mod small_runs;
+pub mod status;
+#[cfg(test)]
+mod tests;
+pub mod text;
+pub mod unplayable;
+
+use command_line::{Asked, line_of};
+use gather::{Ungathered, gather, read_file};
+use options::Options;
+use play::play_bytes;
+use sink::WriterSink;
+use status::Status;
+use std::process::ExitCode;
+use std::rt::Runtime;
+use std::{env, io};
+
+/// The exit status where memory or writing failed.
+const FAILED: u8 = 4;
+
+fn main(rt: HostRuntime) -> ExitCode {
+    ExitCode::from(run(&rt).unwrap_or(FAILED))
+}
+
+/// Does what the command line asks for, and answers the exit status.
+fn run<R: Runtime + AllocGlobal>(rt: &R) -> io::Result<u8> {
+    let words = env::args(rt)?.collect::<Vec<String>>(rt.alloc())?;
+    match line_of(rt.alloc(), words.as_slice()) {
+        Ok(asked) => play_asked(rt, &asked),
+        Err(error) => {
+            error.print(rt)?;
+            Ok(if error.use_stderr() { 2 } else { 0 })
+        }
+    }
+}
+
+fn play_asked<R: Runtime + AllocGlobal>(rt: &R, asked: &Asked) -> io::Result<u8> {
+    let (Some(folder), Some(script)) = (asked.folder, asked.script) else {
+        return Ok(2);
+    };
+    match played(rt, folder, script, asked) {
+        Ok(status) => Ok(status),
+        Err(Ungathered::Unreadable(name)) => {
+            println!(rt; "read {name}")?;
+            Ok(Status::Unreadable.code())
+        }
+        Err(Ungathered::NoMemory) => Ok(FAILED),
+    }
+}
+
+fn played<R: Runtime + AllocGlobal>(
+    rt: &R,
+    folder: &str,
+    script: &str,
+    asked: &Asked,
+) -> Result<u8, Ungathered> {
+    let files = gather(rt, folder)?;
+    let script = read_file(rt, script, script)?;
+    let options = Options {
+        start: Vec::from_slice(rt.alloc(), asked.start.as_bytes())?,
+        lenient: asked.lenient,
+    };
+    let mut sink = WriterSink {
+        writer: io::writer(rt),
+        failures: 0,
+    };
+    let files = files.as_slice();
+    match play_bytes(rt.alloc(), files, script.as_slice(), &options, &mut sink) {
+        Ok(status) => Ok(status.code()),
+        Err(_) => Ok(FAILED),
+    }
+}

@@ -1,0 +1,10 @@
+//! What a caller may choose of a play.
+
+/// The choices of a play.
+#[derive(Drop)]
+pub struct Options {
+    /// The path of the application to start with, as it was given.
+    pub start: Vec<u8>,
+    /// Whether a service is played that a verifier would refuse. All are, as nothing verifies yet.
+    pub lenient: bool,
+}

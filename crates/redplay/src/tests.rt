@@ -1,0 +1,266 @@
+//! Plays from outside: what is written for a service and a script.
+use crate::options::Options;
+use crate::play::play_bytes;
+use crate::cutting_sink::CuttingSink;
+use crate::play_error::PlayError;
+use crate::sink::ListSink;
+use mh_base::GroupName;
+use std::alloc::Global;
+use std::process::Abort;
+use std::test::Fail;
+
+/// A file: its path and its text.
+pub type File = (&'static str, &'static str);
+
+const APPLICATION: File = (
+    "a",
+    r#"{:Application ("~/a" 0) :OnStartUp ( :TransitionTo (("~/s" 0)) ) }"#,
+);
+
+const SCENE: File = (
+    "s",
+    r#"{:Scene ("~/s" 0) :InputEventReg 3 :SceneCS 720 576 :Items (
+        {:Rectangle 10 :OrigBoxSize 24 32 :OrigPosition 12 16 :OrigLineWidth 0 :OrigRefFillColour '=FF=00=00=00' }
+        {:Link 11 :EventSource 0 :EventType UserInput :EventData 100 :LinkEffect ( :SetPosition (10 24 16) ) } ) }"#,
+);
+
+const ABSENT: File = (
+    "s",
+    r#"{:Scene ("~/s" 0) :InputEventReg 3 :SceneCS 720 576 :Items (
+        {:Rectangle 10 :OrigBoxSize 24 32 :OrigPosition 12 16 :OrigLineWidth 0 :OrigRefFillColour '=FF=00=00=00' }
+        {:Link 11 :EventSource 0 :EventType UserInput :EventData 100 :LinkEffect ( :SetPosition (99 24 16) ) } ) }"#,
+);
+
+const EMPTY: File = ("a", r#"{:Application ("~/a" 0) :Items ( ) }"#);
+
+const OUTSIDE: File = (
+    "a",
+    r#"{:Application ("~/a" 0) :OnStartUp ( :TransitionTo (("~/../x" 0)) ) }"#,
+);
+
+const OPEN: File = ("a", r#"{:Application ("~/a" 0)"#);
+
+const NO_GROUP: File = ("note", "nothing that begins a group");
+
+const MOVES: &str = "run\nshow\nkey red\nrun\nshow\n";
+
+const FRAMES: &str = "did 11 idle
+frame 1
+row 01: 1-2 000000/ff0000 \"\"
+row 02: 1-2 000000/ff0000 \"\"
+did 2 idle
+frame 2
+row 01: 2-3 000000/ff0000 \"\"
+row 02: 2-3 000000/ff0000 \"\"
+total 13
+";
+
+/// The files as they are handed in.
+fn sources(alloc: Global, files: &[File]) -> Result<Vec<(GroupName, Vec<u8>)>, Fail> {
+    let mut read = Vec::new(alloc);
+    for (path, text) in files {
+        let name = GroupName::of_path(alloc, path.as_bytes())?;
+        read.push((name, Vec::from_slice(alloc, text.as_bytes())?))?;
+    }
+    Ok(read)
+}
+
+fn options_from(alloc: Global, start: &str) -> Result<Options, Fail> {
+    Ok(Options {
+        start: Vec::from_slice(alloc, start.as_bytes())?,
+        lenient: true,
+    })
+}
+
+/// Plays from the start `a`, and compares what was written and how it ended.
+pub fn check(
+    rt: &(impl Abort + AllocGlobal),
+    case: &str,
+    files: &[File],
+    script: &str,
+    wanted: (&str, u8),
+) -> Result<(), Fail> {
+    check_from(rt, case, "a", files, script, wanted)
+}
+
+/// Plays from this start, and compares what was written and how it ended.
+fn check_from(
+    rt: &(impl Abort + AllocGlobal),
+    case: &str,
+    start: &str,
+    files: &[File],
+    script: &str,
+    wanted: (&str, u8),
+) -> Result<(), Fail> {
+    let alloc = rt.alloc();
+    let read = sources(alloc, files)?;
+    let options = options_from(alloc, start)?;
+    let mut sink = ListSink {
+        bytes: Vec::new(alloc),
+        failures: 0,
+    };
+    let status = play_bytes(
+        alloc,
+        read.as_slice(),
+        script.as_bytes(),
+        &options,
+        &mut sink,
+    )?;
+    let written = String::from_utf8_lossy(alloc, sink.bytes.as_slice())?;
+    assert_eq!(rt; written.as_str(), wanted.0, "{case}");
+    assert_eq!(rt; status.code(), wanted.1, "{case}");
+    Ok(())
+}
+
+#[test]
+fn plays(rt: HostRuntime) -> Result<(), Fail> {
+    let first = [APPLICATION, SCENE];
+    check(&rt, "a red box that moves", &first, MOVES, (FRAMES, 0))?;
+    let with_note = [APPLICATION, NO_GROUP, SCENE];
+    check(
+        &rt,
+        "a file that is no group",
+        &with_note,
+        MOVES,
+        (FRAMES, 0),
+    )?;
+    let nothing = ("did 2 idle\nframe 1\ntotal 2\n", 0);
+    check(&rt, "an empty application", &[EMPTY], "run\nshow", nothing)?;
+    let faulted = (
+        "did 11 idle\nfault absent SetPosition s 99\ndid 2 idle\ntotal 13\n",
+        3,
+    );
+    let absent = [APPLICATION, ABSENT];
+    check(
+        &rt,
+        "an absent object",
+        &absent,
+        "run\nkey red\nrun",
+        faulted,
+    )
+}
+
+#[test]
+fn does_not_play(rt: HostRuntime) -> Result<(), Fail> {
+    let outside = ("service 35 a\n", 2);
+    check(&rt, "a name that leads outside", &[OUTSIDE], "run", outside)?;
+    let open = ("file a 21 23\n", 2);
+    check(&rt, "a group without an end", &[OPEN], "run", open)?;
+    check(&rt, "a file before the script", &[OPEN], "walk", open)?;
+    let no_start = ("service 31 a\n", 2);
+    check(&rt, "no application", &[SCENE], "run", no_start)?;
+    check(
+        &rt,
+        "a group twice",
+        &[EMPTY, EMPTY],
+        "run",
+        ("service 30 a\n", 2),
+    )
+}
+
+#[test]
+fn refuses_an_input_too_many(rt: HostRuntime) -> Result<(), Fail> {
+    let alloc = rt.alloc();
+    let mut script = String::from_str(alloc, "run\n")?;
+    for _ in 0..257 {
+        script.push_str("key red\n")?;
+    }
+    script.push_str("step 1\nkey red\nrun\n")?;
+    let wanted = (
+        "did 11 idle\nrefused 51\ndid 1 more\ndid 513 idle\ntotal 525\n",
+        0,
+    );
+    let files = [APPLICATION, SCENE];
+    check(&rt, "257 keys", &files, script.as_str(), wanted)
+}
+
+#[test]
+fn reads_scripts(rt: HostRuntime) -> Result<(), Fail> {
+    for (script, written, status) in [
+        ("", "total 0\n", 0),
+        ("# only a comment\n\n\n", "total 0\n", 0),
+        ("step 0", "did 0 more\ntotal 0\n", 0),
+        ("step 1\nstep 001", "did 1 more\ndid 1 idle\ntotal 2\n", 0),
+        ("step 4294967295", "did 2 idle\ntotal 2\n", 0),
+        ("show\nshow", "frame 1\nframe 2\ntotal 0\n", 0),
+        ("step 4294967296", "script 1\n", 2),
+        ("step", "script 1\n", 2),
+        ("step ", "script 1\n", 2),
+        ("step -1", "script 1\n", 2),
+        ("step +1", "script 1\n", 2),
+        ("run\nkey purple", "script 2\n", 2),
+        ("key  red", "script 1\n", 2),
+        ("key red ", "script 1\n", 2),
+        (" run", "script 1\n", 2),
+        ("run\r\n", "script 1\n", 2),
+        ("#\n\nRun\n", "script 3\n", 2),
+    ] {
+        check(&rt, script, &[EMPTY], script, (written, status))?;
+    }
+    Ok(())
+}
+
+#[test]
+fn knows_all_keys(rt: HostRuntime) -> Result<(), Fail> {
+    for name in [
+        "up", "down", "left", "right", "0", "1", "2", "3", "4", "5", "6", "7", "8", "9", "select",
+        "cancel", "red", "green", "yellow", "blue", "text",
+    ] {
+        let script = format!(in rt.alloc(); "run\nkey {name}\nrun")?;
+        let wanted = ("did 2 idle\ndid 1 idle\ntotal 3\n", 0);
+        check(&rt, name, &[EMPTY], script.as_str(), wanted)?;
+    }
+    Ok(())
+}
+
+#[test]
+fn starts_where_it_is_told(rt: HostRuntime) -> Result<(), Fail> {
+    for (start, files, written) in [
+        ("b", [SCENE, EMPTY], "service 31 b\n"),
+        ("s", [SCENE, EMPTY], "service 33 s\n"),
+        ("", [SCENE, EMPTY], "service 31 \n"),
+        ("../a", [SCENE, EMPTY], "service 31 ../a\n"),
+        ("../a", [EMPTY, EMPTY], "service 30 a\n"),
+        ("b", [EMPTY, EMPTY], "service 30 a\n"),
+    ] {
+        check_from(&rt, start, start, &files, "run", (written, 2))?;
+    }
+    Ok(())
+}
+
+/// Plays the first example into a sink that takes so many writes of so many bytes: what it took is a
+/// beginning of the report, and all of it where the play answers a status.
+fn check_cut(rt: &(impl Abort + AllocGlobal), writes: usize, most: usize) -> Result<bool, Fail> {
+    let alloc = rt.alloc();
+    let files = sources(alloc, &[APPLICATION, SCENE])?;
+    let options = options_from(alloc, "a")?;
+    let mut sink = CuttingSink {
+        bytes: Vec::new(alloc),
+        failures: 0,
+        writes,
+        most,
+    };
+    let script = MOVES.as_bytes();
+    let ended = play_bytes(alloc, files.as_slice(), script, &options, &mut sink);
+    assert!(rt; FRAMES.as_bytes().starts_with(sink.bytes.as_slice()), "{writes} writes");
+    match ended {
+        Ok(_) => assert_eq!(rt; sink.bytes.len(), FRAMES.len(), "{writes} writes"),
+        Err(why) => {
+            assert_eq!(rt; why, PlayError::Write, "{writes} writes");
+            assert_eq!(rt; sink.failures, 1, "{writes} writes");
+        }
+    }
+    Ok(ended.is_ok())
+}
+
+#[test]
+fn a_failed_write_leaves_a_beginning(rt: HostRuntime) -> Result<(), Fail> {
+    for most in [1, 7, 1000] {
+        let mut writes = 0;
+        while writes < FRAMES.len() && !check_cut(&rt, writes, most)? {
+            writes += 1;
+        }
+        assert!(rt; check_cut(&rt, writes, most)?, "{writes} writes of {most} bytes");
+    }
+    Ok(())
+}
