@@ -1,5 +1,5 @@
 -- Changing the object to which a reference leads, by its place.
-use Rattle.std.specs.Prelude.{◌≡◌, ℕ, List, [], ◌∷◌, Option, Some, None, slice_set, slice_index_or, length, ◌<◌}
+use Rattle.std.specs.Prelude.{◌≡◌, ℕ, List, [], ◌∷◌, Option, Some, None, slice_set, slice_index_or}
 use Rattle.std.specs.List.{position}
 use Rattle.std.proofs.Common.{◌∙◌, sym, ap, arith}
 use Rattle.mh_base.specs.declared.obj_ref.ObjRef.{ObjRef}

@@ -1,2 +1,3 @@
 pub mod ChangedLemmas
 pub mod RunLemmas
+pub mod SafeEngine

@@ -1,5 +1,5 @@
 -- What a step answers.
-use Rattle.std.specs.Prelude.{ℕ, Bool, true, not, ◌==◌, ◌||◌, ◌&&◌, List, [], ◌∷◌, Option, Some, None, slice_get, if◌then◌else◌}
+use Rattle.std.specs.Prelude.{ℕ, Bool, true, false, not, ◌==◌, ◌||◌, ◌&&◌, List, [], ◌∷◌, Option, Some, None, slice_get, if◌then◌else◌}
 use Rattle.mh_model.specs.declared.fault.Fault.{Fault}
 use Rattle.mh_model.specs.declared.input.Input.{Input}
 use Rattle.mh_model.specs.declared.item.Item.{Item}
@@ -29,6 +29,11 @@ answer_by None None s = answer.Idle
 -- Idle where there is nothing to do, Faulted where the first item is stuck, else Did
 abbrev pub answer_of : State → Stepped
 answer_of s = answer_by (slice_get s.work 0) (slice_get s.queue 0) s
+
+abbrev pub is_faulted : Stepped → Bool
+is_faulted answer.Idle = false
+is_faulted answer.Did = false
+is_faulted (answer.Faulted f) = true
 
 -- what is left to do
 abbrev pub rest_of : State → Rest

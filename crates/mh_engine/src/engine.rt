@@ -1,46 +1,73 @@
 //! `Engine`: a machine that can be refused memory, and runs of it.
-ghost use Rattle.std.specs.Prelude.{◌≡◌, ◌+◌, ◌<◌, true, false, [], length, take, IfOk, IfErr, OnOk, OnErr, IsErrOf};
+ghost use Rattle.std.specs.Prelude.{◌≡◌, ◌+◌, ◌<◌, ◌^◌, true, false, None, [], length, take, IfOk, IfErr, OnOk, OnErr, IsErrOf};
 ghost use Rattle.mh_model.specs.State.{begun};
 ghost use Rattle.mh_model.specs.Step.{step as step_lem, stepped, posted, is_full, is_idle, moved, run as run_lem, most_steps};
+ghost use Rattle.mh_model.specs.Headline.{front_fault};
 ghost use Rattle.mh_model.specs.Picture.{shown};
-ghost use Rattle.mh_engine.specs.Answer.{answer_of, rest_of, is_counted, are_counted};
+ghost use Rattle.mh_engine.specs.Answer.{answer_of, is_faulted, rest_of, is_counted, are_counted};
 
 use crate::machine::Machine;
-use crate::refusal::{Refused, RefusedWhy, RunEnd, StepError, Unstarted};
+use crate::refusal::{Refused, RefusedWhy, RunEnd, StepError, Unaccepted, Unstarted};
 use crate::rest::Rest;
 use crate::stepped::Stepped;
 use mh_model::{Fault, Input, Move, Picture};
 use mh_service::Service;
-use std::alloc::Global;
+use mh_verify::Accepted;
+use std::alloc::{AllocError, Global};
 use std::marker::Model;
 
 /// An engine that plays a service (ETSI ES 202 184, the receiver's MHEG-5 engine). A contract sees the
-/// state of the machine, and whether the engine has stopped for want of memory.
+/// state of the machine, whether the engine has stopped for want of memory, and whether its service was
+/// accepted: then its state is safe.
 #[derive(Drop)]
 pub struct Engine {
     machine: Machine,
     stopped: bool,
+    accepted: bool,
 }
 
 impl Model for Engine {
+    ghost use Rattle.std.specs.Prelude.{◌≡◌, true};
+    ghost use Rattle.mh_model.specs.Safe.{IsSafe};
     ghost use Rattle.mh_engine.specs.Play.{Play};
 
     ghost Value = { Play };
 
-    ghost view = { λ e. record { state = e.machine; stopped = e.stopped } };
+    ghost view = { λ e. record { state = e.machine; stopped = e.stopped; accepted = e.accepted } };
+
+    ghost invariant = { λ e. e.accepted ≡ true → IsSafe e.machine };
 }
 
 impl Engine {
     /// An engine for the service, whether or not a verifier would accept it.
     pub fn start_lenient(alloc: Global, service: Service) -> Result<Engine, Unstarted>
-        ensures begun { IfOk result (λ engine. engine ≡ record { state = begun service; stopped = false }) }
+        ensures begun { IfOk result (λ engine. engine ≡ record { state = begun service; stopped = false; accepted = false }) }
         ensures back { IfErr result (λ unstarted. unstarted.service ≡ service) }
     {
         let machine = Machine::begin(alloc, service)?;
         Ok(Engine {
             machine,
             stopped: false,
+            accepted: false,
         })
+    }
+
+    /// An engine for a service that the verifier accepted: none of its steps finds an item stuck.
+    pub fn start(alloc: Global, accepted: Accepted) -> Result<Engine, Unaccepted>
+        ensures begun { IfOk result (λ engine. engine ≡ record { state = begun accepted; stopped = false; accepted = true }) }
+        ensures back { IfErr result (λ refused. refused.accepted ≡ accepted) }
+    {
+        let (service, rest) = accepted.apart();
+        match Machine::begin(alloc, service) {
+            Ok(machine) => Ok(Engine {
+                machine,
+                stopped: false,
+                accepted: true,
+            }),
+            Err(unstarted) => Err(Unaccepted {
+                accepted: rest.join(unstarted.service),
+            }),
+        }
     }
 
     /// Adds an input at the end of the queue. A refused one is handed back, and nothing changes.
@@ -69,6 +96,8 @@ impl Engine {
     pub fn step(&mut self) -> Result<Stepped, StepError>
         ensures step { OnOk result (self.new ≡ record self.old { state = step_lem self.old.state }) }
         ensures answer { IfOk result (λ answer. answer ≡ answer_of self.old.state) }
+        ensures never { self.old.accepted ≡ true → front_fault self.old.state ≡ None }
+        ensures faultless { IfOk result (λ answer. self.old.accepted ≡ true → is_faulted answer ≡ false) }
         ensures running { OnOk result (self.old.stopped ≡ false) }
         ensures room { OnOk result (self.old.state.taken ≡ most_steps → is_idle self.old.state ≡ true) }
         ensures stopped { IsErrOf result StepError.Stopped → (self.old.stopped ≡ true) × (self.new ≡ self.old) }
@@ -84,7 +113,7 @@ impl Engine {
         if self.machine.taken() == u64::MAX {
             return Err(StepError::CountFull);
         }
-        match self.machine.step() {
+        match advance(&mut self.machine, self.accepted) {
             Ok(answer) => Ok(answer),
             Err(_) => {
                 self.stopped = true;
@@ -107,9 +136,10 @@ impl Engine {
         self.machine.taken()
     }
 
-    /// The faults met, in order.
+    /// The faults met, in order. Where the service was accepted there are none.
     pub fn faults(&self) -> &[Fault]
-        ensures { result.now ≡ self.now.state.faults }
+        ensures faults { result.now ≡ self.now.state.faults }
+        ensures none { self.now.accepted ≡ true → result.now ≡ [] }
     {
         self.machine.faults()
     }
@@ -126,6 +156,21 @@ impl Engine {
     }
 }
 
+/// One step of a machine. For a service that was accepted nothing is asked of the first item.
+fn advance(machine: &mut Machine, accepted: bool) -> Result<Stepped, AllocError>
+    requires room { machine.old.taken + 1 < 2 ^ 64 }
+    requires free { accepted ≡ true → front_fault machine.old ≡ None }
+    ensures step { OnOk result (machine.new ≡ step_lem machine.old) }
+    ensures answer { IfOk result (λ answer. answer ≡ answer_of machine.old) }
+    ensures kept { OnErr result (machine.new ≡ machine.old) }
+{
+    if accepted {
+        machine.step_free()
+    } else {
+        machine.step()
+    }
+}
+
 fn refuse(why: RefusedWhy, input: Input) -> Result<(), Refused>
     ensures { IsErrOf result (record { why = why; input = input }) }
 {
@@ -138,6 +183,7 @@ fn make(engine: &mut Engine, next: &Move) -> Result<(), StepError>
     ensures counted { OnOk result (is_counted next.now engine.old.state ≡ true) }
     ensures running { OnOk result ((engine.old.stopped ≡ false) × (engine.new.stopped ≡ false)) }
     ensures kept { OnErr result (engine.new.state ≡ engine.old.state) }
+    ensures same { engine.new.accepted ≡ engine.old.accepted }
     ensures stopped { IfErr result (λ why. why ≡ StepError.Stopped → engine.old.stopped ≡ true) }
     ensures full { IfErr result (λ why. why ≡ StepError.CountFull → is_counted next.now engine.old.state ≡ false) }
 {
@@ -152,6 +198,7 @@ fn step_on(engine: &mut Engine) -> Result<(), StepError>
     ensures counted { OnOk result (is_counted Move.Step engine.old.state ≡ true) }
     ensures running { OnOk result ((engine.old.stopped ≡ false) × (engine.new.stopped ≡ false)) }
     ensures kept { OnErr result (engine.new.state ≡ engine.old.state) }
+    ensures same { engine.new.accepted ≡ engine.old.accepted }
     ensures stopped { IfErr result (λ why. why ≡ StepError.Stopped → engine.old.stopped ≡ true) }
     ensures full { IfErr result (λ why. why ≡ StepError.CountFull → is_counted Move.Step engine.old.state ≡ false) }
 {
@@ -163,6 +210,7 @@ fn post_or_pass(engine: &mut Engine, input: Input) -> Result<(), StepError>
     ensures made { OnOk result (engine.new.state ≡ posted input engine.old.state) }
     ensures running { OnOk result ((engine.old.stopped ≡ false) × (engine.new.stopped ≡ false)) }
     ensures kept { OnErr result (engine.new.state ≡ engine.old.state) }
+    ensures same { engine.new.accepted ≡ engine.old.accepted }
     ensures stopped { IfErr result (λ why. why ≡ StepError.Stopped → engine.old.stopped ≡ true) }
     ensures other { IfErr result (λ why. why ≡ StepError.CountFull → ⊥) }
 {
@@ -186,8 +234,11 @@ pub fn run(engine: &mut Engine, moves: &[Move]) -> Result<(), RunEnd>
     ensures before { IfErr result (λ end. are_counted (take end.made moves.now) engine.old.state ≡ true) }
     ensures within { IfErr result (λ end. end.made < length moves.now) }
     ensures stopped { IfErr result (λ end. end.why ≡ StepError.Stopped → (engine.old.stopped ≡ true) × (end.made ≡ 0)) }
+    ensures same { engine.new.accepted ≡ engine.old.accepted }
+    ensures faultless { engine.old.accepted ≡ true → engine.new.state.faults ≡ [] }
     ensures full { IfErr result (λ end. end.why ≡ StepError.CountFull → are_counted (take (end.made + 1) moves.now) engine.old.state ≡ false) }
 {
+    let _ = &engine.accepted;
     for (made, next) in moves.iter().enumerate() {
         if let Err(why) = make(engine, next) {
             return Err(RunEnd { made, why });

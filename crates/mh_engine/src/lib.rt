@@ -18,6 +18,6 @@ pub mod stepped;
 mod working;
 
 pub use engine::{Engine, run};
-pub use refusal::{Refused, RefusedWhy, RunEnd, StepError, Unstarted};
+pub use refusal::{Refused, RefusedWhy, RunEnd, StepError, Unaccepted, Unstarted};
 pub use rest::Rest;
 pub use stepped::Stepped;

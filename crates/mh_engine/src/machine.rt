@@ -6,10 +6,11 @@ ghost use Rattle.std.specs.Str.{bytes_eq};
 ghost use Rattle.mh_model.specs.Service.{is_in, object_at as object_at_lem, group_objects as group_objects_lem};
 ghost use Rattle.mh_model.specs.State.{begun};
 ghost use Rattle.mh_model.specs.Stuck.{stuck, stuck_act, target_class, is_transition as is_transition_lem};
+ghost use Rattle.mh_model.specs.Headline.{front_fault};
 ghost use Rattle.mh_model.specs.Items.{leaving as leaving_lem};
-ghost use Rattle.mh_model.specs.Step.{done, faulted, took, did, step, posted, is_full as is_full_lem, is_idle as is_idle_lem};
+ghost use Rattle.mh_model.specs.Step.{done, faulted, took, did, step, step_by, posted, is_full as is_full_lem, is_idle as is_idle_lem};
 ghost use Rattle.mh_model.specs.Picture.{shown, picture as picture_lem};
-ghost use Rattle.mh_engine.specs.Answer.{answer_of, judged};
+ghost use Rattle.mh_engine.specs.Answer.{answer_of, answer_by, judged};
 
 use crate::acting::{act, halt, halt_items, rises, run_items, start};
 use crate::hearing::heard;
@@ -273,7 +274,8 @@ impl Machine {
 
     /// Does an item that is not stuck.
     fn do_item(&mut self, item: &Item) -> Result<(), AllocError>
-        requires { self.old.taken + 1 < 2 ^ 64 }
+        requires room { self.old.taken + 1 < 2 ^ 64 }
+        requires free { stuck item.now self.old ≡ None }
         ensures done { OnOk result (self.new ≡ done item.now self.old) }
         ensures kept { OnErr result (self.new ≡ self.old) }
     {
@@ -341,7 +343,20 @@ impl Machine {
         }
     }
 
-    /// Takes the first input from the queue.
+    /// Takes the first input from the queue, if there is one.
+    fn take_first(&mut self) -> Result<Stepped, AllocError>
+        requires { self.old.taken + 1 < 2 ^ 64 }
+        ensures done { OnOk result (self.new ≡ step_by None (slice_get self.old.queue 0) self.old) }
+        ensures answer { IfOk result (λ a. a ≡ answer_by None (slice_get self.old.queue 0) self.old) }
+        ensures kept { OnErr result (self.new ≡ self.old) }
+    {
+        match first_input(&self.queue) {
+            Some(input) => self.take(input),
+            None => Ok(Stepped::Idle),
+        }
+    }
+
+    /// Takes this input, which is the first, from the queue.
     fn take(&mut self, input: Input) -> Result<Stepped, AllocError>
         requires { self.old.taken + 1 < 2 ^ 64 }
         ensures done { OnOk result (self.new ≡ took input self.old) }
@@ -364,10 +379,24 @@ impl Machine {
     {
         match first_item(&self.work)? {
             Some(item) => self.work_on(&item),
-            None => match first_input(&self.queue) {
-                Some(input) => self.take(input),
-                None => Ok(Stepped::Idle),
-            },
+            None => self.take_first(),
+        }
+    }
+
+    /// The same where the first item is not stuck: nothing is asked of it.
+    pub fn step_free(&mut self) -> Result<Stepped, AllocError>
+        requires room { self.old.taken + 1 < 2 ^ 64 }
+        requires free { front_fault self.old ≡ None }
+        ensures step { OnOk result (self.new ≡ step self.old) }
+        ensures answer { IfOk result (λ a. a ≡ answer_of self.old) }
+        ensures kept { OnErr result (self.new ≡ self.old) }
+    {
+        match first_item(&self.work)? {
+            Some(item) => {
+                self.do_item(&item)?;
+                Ok(Stepped::Did)
+            }
+            None => self.take_first(),
         }
     }
 

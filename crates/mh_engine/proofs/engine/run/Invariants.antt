@@ -9,3 +9,4 @@ invariant-loop-made l =
     × (are_counted (take l.made l.moves) l.fn.engine.state ≡ true)
     × (l.engine.stopped ≡ l.fn.engine.stopped)
     × (l.engine.stopped ≡ true → l.made ≡ 0)
+    × (l.engine.accepted ≡ l.fn.engine.accepted)

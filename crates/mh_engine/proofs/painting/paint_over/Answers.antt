@@ -1,7 +1,7 @@
-use Rattle.std.specs.Prelude.{◌≡◌, ◌<◌, ◌≤◌, ℕ, slice_index}
-use Rattle.std.proofs.Common.{◌∙◌, arith}
+use Rattle.std.specs.Prelude.{◌≡◌, ◌<◌, ℕ, slice_index}
+use Rattle.std.proofs.Common.{arith}
 use Rattle.mh_model.specs.Painting.{painted_over}
-use Rattle.mh_model.specs.Picture.{plane, back_or, ground_of}
+use Rattle.mh_model.specs.Picture.{back_or, ground_of}
 use Rattle.mh_model.proofs.PaintingLemmas.{is_plane}
 use Rattle.mh_model.proofs.PlanesLemmas.{same_planes}
 use Rattle.mh_engine.proofs.painting.paint_over.Goals as goal

@@ -1,0 +1,11 @@
+use Rattle.std.proofs.Common.{sym, subst}
+use Rattle.mh_model.specs.Safe.{IsSafe}
+use Rattle.mh_model.proofs.SafeLemmas.{safe_posted}
+use Rattle.mh_engine.proofs.engine.Engine.post.Goals as goal
+use Rattle.mh_engine.proofs.engine.Engine.post.Goals.{in-Ok, in-Err}
+
+pub invariant_of-self : goal.invariant_of-self
+invariant_of-self c = λ accepted. elim c.match-post.branch [
+  | in-Ok w ↦ subst IsSafe (sym w.in-Ok.ensures.posted) (safe_posted _ (c.self.invariant accepted) _)
+  | in-Err w ↦ subst IsSafe (sym w.in-Err.ensures.kept) (c.self.invariant accepted)
+]

@@ -1,0 +1,33 @@
+use Rattle.std.proofs.Common.{◌∙◌, ap, sym, subst}
+use Rattle.mh_model.specs.Safe.{IsSafe}
+use Rattle.mh_model.proofs.SafeLemmas.{safe_front, safe_step}
+use Rattle.mh_engine.specs.Answer.{is_faulted}
+use Rattle.mh_engine.specs.Play.{Play}
+use Rattle.mh_engine.proofs.SafeEngine.{KeepsSafe, kept_front, unfaulted}
+use Rattle.mh_engine.proofs.engine.Engine.step.Goals as goal
+
+pub returns-then-self-clause-never : goal.returns-then-self-clause-never
+returns-then-self-clause-never c = kept_front c.args.self.now (subst KeepsSafe c.self.view_is c.self.invariant)
+
+pub returns-then-taken-clause-never : goal.returns-then-taken-clause-never
+returns-then-taken-clause-never c = kept_front c.args.self.now (subst KeepsSafe c.self.view_is c.self.invariant)
+
+pub advance-requires-clause-free : goal.advance-requires-clause-free
+advance-requires-clause-free c = λ accepted. safe_front c.self.inside.machine (c.self.invariant accepted)
+
+pub invariant_of-self : goal.invariant_of-self
+invariant_of-self c = λ accepted. subst IsSafe (sym c.in-Ok.ensures.step) (safe_step c.self.inside.machine (c.self.invariant accepted))
+
+pub invariant_of-self-in-Err : goal.invariant_of-self-in-Err
+invariant_of-self-in-Err c = λ accepted. subst IsSafe (sym c.in-Err.ensures.kept) (c.self.invariant accepted)
+
+pub returns-in-Ok-clause-never : goal.returns-in-Ok-clause-never
+returns-in-Ok-clause-never c = kept_front c.args.self.now (subst KeepsSafe c.self.view_is c.self.invariant)
+
+pub returns-in-Ok-clause-faultless : goal.returns-in-Ok-clause-faultless
+returns-in-Ok-clause-faultless c = λ accepted.
+    let inside = ap (λ (p : Play). p.accepted) c.self.view_is ∙ accepted in
+    ap is_faulted c.in-Ok.ensures.answer ∙ unfaulted c.self.inside.machine (safe_front c.self.inside.machine (c.self.invariant inside))
+
+pub returns-in-Err-clause-never : goal.returns-in-Err-clause-never
+returns-in-Err-clause-never c = kept_front c.args.self.now (subst KeepsSafe c.self.view_is c.self.invariant)
