@@ -62,7 +62,7 @@ fn play<'a>(alloc: Global) -> Result<Command<'a>, AllocError> {
 fn described<'a>(alloc: Global) -> Command<'a> {
     Command::new(alloc, "play")
         .about("Plays a script on a service and prints what happens and what is shown")
-        .after_help("Example:\n  redplay play examples/first --script examples/first.script")
+        .after_help("Example:\n  redplay play examples/first/service --script examples/first/script")
 }
 
 fn folder<'a>(alloc: Global) -> Arg<'a> {
