@@ -3,6 +3,7 @@
 //! Promise: each application comes without a scene and then with each scene of the service, in the order
 //! of the groups. Which of them are reached is left to `mh_verify`.
 ghost use Rattle.std.specs.Prelude.{◌≡◌, ◌++◌, true, false, IfOk, OnOk};
+ghost use Rattle.mh_group.specs.Table.{is_scene};
 ghost use Rattle.mh_model.specs.Configuration.{configurations as configurations_lem, names as names_lem, with_scenes, is_group_of, is_service};
 ghost use Rattle.mh_model.specs.Service.{object_at, group_ref};
 ghost use Rattle.std.specs.List.{flat_map};
@@ -42,6 +43,13 @@ impl Service {
         let applications = self.names(alloc, Wanted::Applications)?;
         let scenes = self.names(alloc, Wanted::Scenes)?;
         all_with_scenes(alloc, applications.as_slice(), scenes.as_slice())
+    }
+
+    /// Whether a group of this name is a scene.
+    pub fn has_scene(&self, name: &GroupName) -> bool
+        ensures { result ≡ is_group_of is_scene self.now name.now }
+    {
+        self.is_of(name, Wanted::Scenes)
     }
 
     /// The names of the groups that are wanted, in their order.

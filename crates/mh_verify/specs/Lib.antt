@@ -1,1 +1,4 @@
 pub mod Free
+pub mod Kinds
+pub mod Refusals
+pub mod Order

@@ -4,5 +4,8 @@
 #![tactic(auto)]
 
 pub mod accepted;
+mod present;
+pub mod refusal;
 
 pub use accepted::{Accepted, Rest};
+pub use refusal::{Found, Place, Refusal, RefusalKind};
