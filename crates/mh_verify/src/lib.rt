@@ -4,6 +4,7 @@
 #![tactic(auto)]
 
 pub mod accepted;
+mod judging;
 mod present;
 pub mod refusal;
 

@@ -18,6 +18,7 @@ use std::marker::Model;
 
 /// The objects that are present: those of the application, then those of the scene. A contract sees them
 /// as one list.
+#[derive(Drop)]
 pub struct Present<'a> {
     application: &'a [Object],
     scene: &'a [Object],
