@@ -2,3 +2,4 @@ pub mod Resolved
 pub mod Limits
 pub mod Refusals
 pub mod Numbers
+pub mod Wanted

@@ -5,6 +5,7 @@
 //! `mh_model` and the crates above it.
 #![tactic(auto)]
 
+pub mod configurations;
 mod refusing;
 pub mod resolving;
 pub mod room;

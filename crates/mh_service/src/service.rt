@@ -8,6 +8,7 @@ ghost use Rattle.std.specs.Option.{option_copied};
 ghost use Rattle.std.specs.Str.{bytes_eq};
 ghost use Rattle.mh_group.specs.Fit.{is_group};
 ghost use Rattle.mh_model.specs.Service.{object_at, group_objects};
+ghost use Rattle.mh_model.specs.Configuration.{is_service};
 ghost use Rattle.mh_service.specs.Resolved.{resolved, group_leads, objects_under};
 ghost use Rattle.mh_service.specs.Refusals.{Refuses, RefusesAt, for_reason, refusal_of, bad_reference, double_name};
 
@@ -76,6 +77,14 @@ impl Service {
             None => None,
             Some(objects) => first_at(objects, at),
         }
+    }
+
+    /// The groups under their names.
+    pub(crate) fn groups(&self) -> &IndexMap<GroupName, Seq<Object>>
+        ensures entries { result.now.entries ≡ self.now.groups }
+        ensures service { is_service self.now ≡ true }
+    {
+        &self.groups
     }
 
     /// The name of the application that is started first.

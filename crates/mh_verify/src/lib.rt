@@ -4,5 +4,9 @@
 #![tactic(auto)]
 
 pub mod accepted;
+mod judging;
+mod present;
+pub mod refusal;
 
 pub use accepted::{Accepted, Rest};
+pub use refusal::{Found, Place, Refusal, RefusalKind};

@@ -1,0 +1,129 @@
+//! The configurations of a service.
+//!
+//! Promise: each application comes without a scene and then with each scene of the service, in the order
+//! of the groups. Which of them are reached is left to `mh_verify`.
+ghost use Rattle.std.specs.Prelude.{◌≡◌, ◌++◌, true, false, IfOk, OnOk};
+ghost use Rattle.mh_group.specs.Table.{is_scene};
+ghost use Rattle.mh_model.specs.Configuration.{configurations as configurations_lem, names as names_lem, with_scenes, is_group_of, is_service};
+ghost use Rattle.mh_model.specs.Service.{object_at, group_ref};
+ghost use Rattle.std.specs.List.{flat_map};
+ghost use Rattle.std.specs.Option.{option_copied, option_map_or};
+ghost use Rattle.mh_service.specs.Wanted.{is_wanted};
+
+use crate::Service;
+use mh_base::GroupName;
+use mh_group::Class;
+use mh_model::{Config, Object};
+use std::alloc::{AllocError, Global};
+
+/// Which groups are looked for.
+#[derive(Clone, Copy, Debug)]
+pub(crate) enum Wanted {
+    Applications,
+    Scenes,
+}
+
+impl Wanted {
+    fn takes(self, class: Class) -> bool
+        ensures { result ≡ is_wanted self class }
+    {
+        match self {
+            Wanted::Applications => matches!(class, Class::Application),
+            Wanted::Scenes => matches!(class, Class::Scene),
+        }
+    }
+}
+
+impl Service {
+    /// The configurations: each application without a scene, and then with each scene.
+    pub fn configurations(&self, alloc: Global) -> Result<Vec<Config>, AllocError>
+        ensures each { IfOk result (λ configs. configs.items ≡ configurations_lem self.now) }
+        ensures service { OnOk result (is_service self.now ≡ true) }
+    {
+        let applications = self.names(alloc, Wanted::Applications)?;
+        let scenes = self.names(alloc, Wanted::Scenes)?;
+        all_with_scenes(alloc, applications.as_slice(), scenes.as_slice())
+    }
+
+    /// Whether a group of this name is a scene.
+    pub fn has_scene(&self, name: &GroupName) -> bool
+        ensures { result ≡ is_group_of is_scene self.now name.now }
+    {
+        self.is_of(name, Wanted::Scenes)
+    }
+
+    /// The names of the groups that are wanted, in their order.
+    fn names(&self, alloc: Global, wanted: Wanted) -> Result<Vec<GroupName>, AllocError>
+        ensures each { IfOk result (λ names. names.items ≡ names_lem (is_wanted wanted) self.now) }
+        ensures service { OnOk result (is_service self.now ≡ true) }
+    {
+        let mut names = Vec::new(alloc);
+        for name in self.groups().keys() {
+            if self.is_of(name, wanted) {
+                names.push(name.clone()?)?;
+            }
+        }
+        Ok(names)
+    }
+
+    fn is_of(&self, name: &GroupName, wanted: Wanted) -> bool
+        ensures { result ≡ is_group_of (is_wanted wanted) self.now name.now }
+    {
+        match self.group(name) {
+            None => false,
+            Some(objects) => itself_is(objects, name, wanted),
+        }
+    }
+}
+
+/// Whether the group itself, which is among these objects, is wanted.
+fn itself_is(objects: &[Object], name: &GroupName, wanted: Wanted) -> bool
+    ensures { result ≡ option_map_or (λ o. is_wanted wanted o.class) (object_at (group_ref name.now) objects.now) false }
+{
+    match itself_among(objects, name) {
+        None => false,
+        Some(object) => wanted.takes(object.class),
+    }
+}
+
+fn itself_among<'a>(objects: &'a [Object], name: &GroupName) -> Option<&'a Object>
+    ensures { option_copied result ≡ object_at (group_ref name.now) objects.now }
+{
+    objects.iter().find(|o| o.key.group == *name && o.key.number == 0)
+}
+
+/// Each application without a scene, and then with each of these.
+fn all_with_scenes(
+    alloc: Global,
+    applications: &[GroupName],
+    scenes: &[GroupName],
+) -> Result<Vec<Config>, AllocError>
+    ensures { IfOk result (λ configs. configs.items ≡ flat_map (with_scenes scenes.now) applications.now) }
+{
+    let mut configs = Vec::new(alloc);
+    for app in applications {
+        push_with_scenes(&mut configs, app, scenes)?;
+    }
+    Ok(configs)
+}
+
+/// Puts the application at the end, without a scene and with each of these.
+fn push_with_scenes(
+    configs: &mut Vec<Config>,
+    app: &GroupName,
+    scenes: &[GroupName],
+) -> Result<(), AllocError>
+    ensures { OnOk result (configs.new.items ≡ configs.old.items ++ with_scenes scenes.now app.now) }
+{
+    configs.push(Config {
+        app: app.clone()?,
+        scene: None,
+    })?;
+    for scene in scenes {
+        configs.push(Config {
+            app: app.clone()?,
+            scene: Some(scene.clone()?),
+        })?;
+    }
+    Ok(())
+}

@@ -1,0 +1,44 @@
+-- Which refusal comes first: by name of the group, number of the object, number of the action, and kind; and
+-- then the first configuration, by name of the application and of the scene, no scene before any.
+use Rattle.std.specs.Prelude.{◌≡◌, Bool, false, List, Option, Some}
+use Rattle.std.specs.declared.cmp.Ordering.{Ordering}
+use Rattle.std.specs.Ordering.{is_lt, nat_cmp, on, then_cmp}
+use Rattle.std.specs.Option.{option_cmp}
+use Rattle.std.specs.Cmp.Lexicographic.{slice_cmp}
+use Rattle.std.specs.List.{Contains}
+use Rattle.mh_model.specs.declared.config.Config.{Config}
+use Rattle.mh_model.specs.Service.{Service}
+use Rattle.mh_model.specs.Acceptable.{IsReached}
+use Rattle.mh_verify.specs.declared.refusal.Found.{Found}
+use Rattle.mh_verify.specs.declared.refusal.Place.{Place}
+use Rattle.mh_verify.specs.declared.refusal.Refusal.{Refusal}
+use Rattle.mh_verify.specs.Kinds.{kind_number}
+use Rattle.mh_verify.specs.Refusals.{refusals_in}
+
+abbrev pub by_place : Place → Place → Ordering
+by_place = then_cmp (then_cmp (on (λ p. p.group) (slice_cmp nat_cmp)) (on (λ p. p.object) nat_cmp)) (on (λ p. p.index) nat_cmp)
+
+abbrev pub by_config : Config → Config → Ordering
+by_config = then_cmp (on (λ c. c.app) (slice_cmp nat_cmp)) (on (λ c. c.scene) (option_cmp (slice_cmp nat_cmp)))
+
+abbrev pub order : Found → Found → Ordering
+order = then_cmp (then_cmp (on (λ x. x.place) by_place) (on (λ x. kind_number x.kind) (option_cmp nat_cmp))) (on (λ x. x.config) by_config)
+
+abbrev pub is_before : Found → Found → Bool
+is_before x y = is_lt (order x y)
+
+-- a refusal of a configuration that is reached, and no refusal of any of those comes before it
+pub record IsFirst (s : Service) (x : Found) : Type 0 where
+  pub reached : IsReached s x.config
+  pub stands : Contains (refusals_in s x.config) x
+  pub first : (c : Config) (y : Found) → IsReached s c → Contains (refusals_in s c) y → is_before y x ≡ false
+
+-- the refusal says this of the service
+abbrev pub refusal_of : Service → Found → Refusal
+refusal_of s x = record { kind = x.kind; place = Some x.place; action = Some x.action; config = Some x.config; object = Some x.object; service = s }
+
+-- the refusal says what comes first
+pub record NamesFirst (s : Service) (r : Refusal) : Type 0 where
+  pub found : Found
+  pub first : IsFirst s found
+  pub names : r ≡ refusal_of s found

@@ -1,0 +1,80 @@
+//! Why a service is refused, and where.
+ghost use Rattle.std.specs.Prelude.{◌≡◌};
+ghost use Rattle.mh_verify.specs.Kinds.{kind_number, kind_of as kind_of_lem};
+
+use mh_base::{GroupName, ObjRef};
+use mh_group::ActionName;
+use mh_model::{Config, FaultKind};
+use mh_service::Service;
+use thiserror::Error;
+
+/// What is wrong with an action.
+#[derive(Clone, Copy, Debug, PartialEq, Eq, Error)]
+pub enum RefusalKind {
+    #[error("V1: an object that is named is absent")]
+    AbsentObject,
+    #[error("V2: the action has no rule for objects of the class")]
+    WrongClass,
+    #[error("V10: this is not verified yet")]
+    NotYet,
+    #[error("memory was refused")]
+    NoMemory,
+}
+
+impl RefusalKind {
+    /// The number under which the refusal is reported; none for want of memory.
+    pub fn number(self) -> Option<u32>
+        ensures { result ≡ kind_number self }
+    {
+        match self {
+            RefusalKind::AbsentObject => Some(1),
+            RefusalKind::WrongClass => Some(2),
+            RefusalKind::NotYet => Some(10),
+            RefusalKind::NoMemory => None,
+        }
+    }
+
+    /// How the fault is refused.
+    pub(crate) fn of_fault(fault: FaultKind) -> RefusalKind
+        ensures { result ≡ kind_of_lem fault }
+    {
+        match fault {
+            FaultKind::Absent => RefusalKind::AbsentObject,
+            FaultKind::WrongClass => RefusalKind::WrongClass,
+            FaultKind::WrongKind => RefusalKind::NotYet,
+        }
+    }
+}
+
+/// The place of an action: an object, and the number of the action there, counted from 1 through the
+/// effects of the object in their written order.
+#[derive(Clone, Debug, Drop, PartialEq, Eq)]
+pub struct Place {
+    pub group: GroupName,
+    pub object: u32,
+    pub index: usize,
+}
+
+/// Something wrong with an active action.
+#[derive(Debug, Drop)]
+pub struct Found {
+    pub kind: RefusalKind,
+    pub place: Place,
+    pub action: ActionName,
+    /// The reference at the place that is wrong.
+    pub object: ObjRef,
+    /// The configuration in which it is wrong.
+    pub config: Config,
+}
+
+/// A service that is not accepted, and why. For want of memory there is no place.
+#[derive(Drop)]
+pub struct Refusal {
+    pub kind: RefusalKind,
+    pub place: Option<Place>,
+    pub action: Option<ActionName>,
+    pub config: Option<Config>,
+    /// The reference at the place that is wrong.
+    pub object: Option<ObjRef>,
+    pub service: Service,
+}
