@@ -6,6 +6,7 @@
 pub mod accepted;
 mod judging;
 mod present;
+mod reaching;
 pub mod refusal;
 
 pub use accepted::{Accepted, Rest};
