@@ -78,7 +78,7 @@ either_still true t h = refl
 either_still false t h = h
 
 -- what was left is taken, or is left
-kept_one : (left : List Config) (c x : Config) → is_among left x ≡ true → (is_among (taken left c) x || is_among (without left c) x) ≡ true
+pub kept_one : (left : List Config) (c x : Config) → is_among left x ≡ true → (is_among (taken left c) x || is_among (without left c) x) ≡ true
 kept_one [] c x h = cc
 kept_one (y ∷ ys) c x h = by (same_config c y) h (kept_one ys c x)
   where
@@ -86,7 +86,7 @@ kept_one (y ∷ ys) c x h = by (same_config c y) h (kept_one ys c x)
     by true h ih = either_still (same_config x y) (is_among ys x) h
     by false h ih = passed_by (is_among (taken ys c) x) (same_config x y) (is_among ys x) (is_among (without ys c) x) h ih
 
-then_later : (a w b v : Bool) → (a || w) ≡ true → (w ≡ true → (b || v) ≡ true) → ((a || b) || v) ≡ true
+pub then_later : (a w b v : Bool) → (a || w) ≡ true → (w ≡ true → (b || v) ≡ true) → ((a || b) || v) ≡ true
 then_later true w b v h k = refl
 then_later false w b v h k = k h
 
