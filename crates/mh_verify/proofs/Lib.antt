@@ -1,2 +1,9 @@
 pub mod ListLemmas
 pub mod LeastLemmas
+pub mod SearchLemmas
+pub mod ContainsLemmas
+pub mod ConfigLemmas
+pub mod OrderLemmas
+pub mod RefusalLemmas
+pub mod TakenLemmas
+pub mod ListedLemmas

@@ -3,3 +3,4 @@ pub mod Kinds
 pub mod Refusals
 pub mod Order
 pub mod Least
+pub mod Reach

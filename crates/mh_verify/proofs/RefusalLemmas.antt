@@ -1,0 +1,114 @@
+-- A configuration has no refusals exactly where it is free; so what is found says what the contract says.
+use Rattle.std.proofs.Common.{◌≡◌, ◌⊎◌, inl, inr, ℕ, ◌+◌, Bool, true, false, ◌&&◌, List, [], ◌∷◌, ◌++◌, filter, Option, Some, None, refl, ap, sym, subst}
+use Rattle.std.specs.List.{Contains, list_all, flat_map}
+use Rattle.std.specs.Option.{option_map, option_to_list, option_map_or}
+use Rattle.mh_base.specs.declared.obj_ref.ObjRef.{ObjRef}
+use Rattle.mh_model.specs.declared.act.Act.{Act}
+use Rattle.mh_model.specs.declared.config.Config.{Config}
+use Rattle.mh_model.specs.declared.fault.Fault.{Fault}
+use Rattle.mh_model.specs.declared.object.Object.{Object}
+use Rattle.mh_model.specs.Service.{Service}
+use Rattle.mh_model.specs.Configuration.{present, is_among, starting}
+use Rattle.mh_model.specs.Active.{actions, is_active, active_actions, fault_of, leads}
+use Rattle.mh_model.specs.Acceptable.{IsReached, start, led, IsClosed, IsAcceptable, is_free, is_none, leads_into}
+use Rattle.mh_verify.specs.declared.refusal.Found.{Found}
+use Rattle.mh_verify.specs.Refusals.{found_at, wrong_from, wrong_with, refusals_in, RefusedIsNot}
+use Rattle.mh_verify.specs.Order.{IsFirst, is_before}
+use Rattle.mh_verify.specs.Least.{least_of}
+use Rattle.mh_verify.specs.Free.{AreFree}
+use Rattle.mh_verify.specs.Reach.{AreReached}
+use Rattle.mh_verify.proofs.ContainsLemmas.{both, halves, all_append, all_front, all_back, no_member, here, behind, first_or_behind, in_joined, joined_from, all_of, empty_joined}
+use Rattle.mh_verify.proofs.ConfigLemmas.{member_of, among_of}
+use Rattle.mh_verify.proofs.OrderLemmas.{first_of, none_of}
+
+abbrev is_good : Service → List Object → Act → Bool
+is_good s os a = is_none (fault_of s os a)
+
+nothing_wrong : (s : Service) (os : List Object) (c : Config) (key : ObjRef) (n : ℕ) (acts : List Act) → list_all (is_good s os) acts ≡ true → wrong_from s os c key n acts ≡ []
+nothing_wrong s os c key n [] h = refl
+nothing_wrong s os c key n (a ∷ acts) h = by (fault_of s os a) h (nothing_wrong s os c key (n + 1) acts)
+  where
+    by : (f : Option Fault) → (is_none f && list_all (is_good s os) acts) ≡ true → (list_all (is_good s os) acts ≡ true → wrong_from s os c key (n + 1) acts ≡ []) → option_to_list (option_map (found_at c key n) f) ++ wrong_from s os c key (n + 1) acts ≡ []
+    by None h ih = ih h
+    by (Some f) h ih = cc
+
+all_good : (s : Service) (os : List Object) (c : Config) (key : ObjRef) (n : ℕ) (acts : List Act) → wrong_from s os c key n acts ≡ [] → list_all (is_good s os) acts ≡ true
+all_good s os c key n [] h = refl
+all_good s os c key n (a ∷ acts) h = by (fault_of s os a) h (all_good s os c key (n + 1) acts)
+  where
+    by : (f : Option Fault) → option_to_list (option_map (found_at c key n) f) ++ wrong_from s os c key (n + 1) acts ≡ [] → (wrong_from s os c key (n + 1) acts ≡ [] → list_all (is_good s os) acts ≡ true) → (is_none f && list_all (is_good s os) acts) ≡ true
+    by None h ih = ih h
+    by (Some f) h ih = cc
+
+nil_append : {X : Type 0} (xs ys : List X) → xs ≡ [] → ys ≡ [] → xs ++ ys ≡ []
+nil_append [] ys h k = k
+nil_append (x ∷ xs) ys h k = cc
+
+nil_parts : {X : Type 0} (xs ys : List X) → xs ++ ys ≡ [] → (xs ≡ []) × (ys ≡ [])
+nil_parts [] ys h = (refl, h)
+nil_parts (x ∷ xs) ys h = cc
+
+nothing_wrong_with : (s : Service) (os : List Object) (c : Config) (objects : List Object) → list_all (is_good s os) (flat_map actions objects) ≡ true → flat_map (wrong_with s os c) objects ≡ []
+nothing_wrong_with s os c [] h = refl
+nothing_wrong_with s os c (o ∷ objects) h =
+    let front = all_front (is_good s os) (actions o) (flat_map actions objects) h in
+    let back = all_back (is_good s os) (actions o) (flat_map actions objects) h in
+    nil_append (wrong_with s os c o) (flat_map (wrong_with s os c) objects) (nothing_wrong s os c o.key 1 (actions o) front) (nothing_wrong_with s os c objects back)
+
+all_good_with : (s : Service) (os : List Object) (c : Config) (objects : List Object) → flat_map (wrong_with s os c) objects ≡ [] → list_all (is_good s os) (flat_map actions objects) ≡ true
+all_good_with s os c [] h = refl
+all_good_with s os c (o ∷ objects) h =
+    let two = nil_parts (wrong_with s os c o) (flat_map (wrong_with s os c) objects) h in
+    all_append (is_good s os) (actions o) (flat_map actions objects) (all_good s os c o.key 1 (actions o) two.0) (all_good_with s os c objects two.1)
+
+none_where_free : (s : Service) (c : Config) → is_free s c ≡ true → refusals_in s c ≡ []
+none_where_free s c h = nothing_wrong_with s (present s c) c (filter (is_active (present s c)) (present s c)) h
+
+free_where_none : (s : Service) (c : Config) → refusals_in s c ≡ [] → is_free s c ≡ true
+free_where_none s c h = all_good_with s (present s c) c (filter (is_active (present s c)) (present s c)) h
+
+-- The configuration of what is wrong there.
+
+config_from : (s : Service) (os : List Object) (c : Config) (key : ObjRef) (n : ℕ) (acts : List Act) (x : Found) → Contains (wrong_from s os c key n acts) x → x.config ≡ c
+config_from s os c key n [] x m = absurd (no_member x m)
+config_from s os c key n (a ∷ acts) x m = by (fault_of s os a) m (config_from s os c key (n + 1) acts x)
+  where
+    by : (f : Option Fault) → Contains (option_to_list (option_map (found_at c key n) f) ++ wrong_from s os c key (n + 1) acts) x → (Contains (wrong_from s os c key (n + 1) acts) x → x.config ≡ c) → x.config ≡ c
+    by None m ih = ih m
+    by (Some f) m ih = elim (first_or_behind (found_at c key n f) (wrong_from s os c key (n + 1) acts) x m) [ inl same ↦ sym (ap (λ (y : Found). y.config) same) | inr k ↦ ih k ]
+
+config_of : (s : Service) (c : Config) (x : Found) → Contains (refusals_in s c) x → x.config ≡ c
+config_of s c x m =
+    let from = joined_from (wrong_with s (present s c) c) (filter (is_active (present s c)) (present s c)) x m in
+    config_from s (present s c) c from.0.key 1 (actions from.0) x from.2
+
+-- A closed set has what is reached.
+
+pub has_reached : (s : Service) (cs : List Config) → IsClosed s cs → (c : Config) → IsReached s c → is_among cs c ≡ true
+has_reached s cs k _ start = k.start
+has_reached s cs k _ (led c a d r m e) =
+    let ih = has_reached s cs k c r in
+    let into : leads_into s cs c a ≡ true = all_of (leads_into s cs c) (active_actions (present s c)) a (k.each c ih) m in
+    subst (λ (o : Option Config). option_map_or (is_among cs) o true ≡ true) e into
+
+-- The verdicts.
+
+pub free_of : (s : Service) (cs : List Config) → AreReached s cs → least_of None (flat_map (refusals_in s) cs) ≡ None → AreFree s cs
+free_of s cs h e =
+    record { service = h.service; closed = h.closed; free = λ c m. free_where_none s c (empty_joined (refusals_in s) cs c (none_of (flat_map (refusals_in s) cs) e) (member_of cs c m)) }
+
+pub first_found : (s : Service) (cs : List Config) (x : Found) → AreReached s cs → least_of None (flat_map (refusals_in s) cs) ≡ Some x → IsFirst s x
+first_found s cs x h e =
+    let f = first_of (flat_map (refusals_in s) cs) x e in
+    let from = joined_from (refusals_in s) cs x f.one_of in
+    let same : x.config ≡ from.0 = config_of s from.0 x from.2 in
+    record {
+      reached = subst (λ (c : Config). IsReached s c) (sym same) (h.sound from.0 (among_of cs from.0 from.1));
+      stands = subst (λ (c : Config). Contains (refusals_in s c) x) (sym same) from.2;
+      first = λ c y r m. f.others y (in_joined (refusals_in s) cs c y (member_of cs c (has_reached s cs h.closed c r)) m);
+    }
+
+pub refused_is_not : RefusedIsNot
+refused_is_not s x r m good =
+    let free = good.free x.config (has_reached s good.reached good.closed x.config r) in
+    no_member x (subst (λ (xs : List Found). Contains xs x) (none_where_free s x.config free) m)
