@@ -11,6 +11,7 @@ pub mod room;
 pub mod service;
 pub mod service_error;
 
+pub use refusing::double_name;
 pub use service::Service;
 pub use service_error::{ServiceError, Why};
 

@@ -47,8 +47,9 @@ pub fn refuse(why: Why, group: Option<&GroupName>) -> Result<(), ServiceError>
     }
 }
 
-/// The first name that came before.
-fn double_name(
+/// The first name that came before, which is what 30 names. It is offered apart from the service for
+/// callers who have no start to give.
+pub fn double_name(
     alloc: Global,
     files: &[(GroupName, Group)],
 ) -> Result<Option<&GroupName>, AllocError>
