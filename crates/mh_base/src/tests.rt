@@ -77,7 +77,11 @@ fn takes_paths_of_255_bytes(rt: HostRuntime) -> Result<(), Fail> {
     for (front, count, length) in cases {
         let name = letters(rt.alloc(), front, count)?;
         let found = GroupName::resolve(rt.alloc(), &from, name.as_slice());
-        assert_eq!(rt; path_of(&found).len(), length, "{count} letters behind {front:?}");
+        assert_eq!(rt;
+            path_of(&found).len(),
+            length,
+            "{count} letters behind {front:?}"
+        );
     }
     Ok(())
 }
@@ -89,10 +93,18 @@ fn knows_the_types_of_events(rt: HostRuntime) {
     for number in 0..33 {
         let found = EventType::of_number(number);
         let again = found.map(|event| event.number());
-        let expected = if missing.contains(&number) { None } else { Some(number) };
+        let expected = if missing.contains(&number) {
+            None
+        } else {
+            Some(number)
+        };
         assert_eq!(rt; again, expected, "number {number}");
         let is_sync = found.map(|event| event.is_sync());
-        assert_eq!(rt; is_sync, expected.map(|n| !queued.contains(&n)), "type {number}");
+        assert_eq!(rt;
+            is_sync,
+            expected.map(|n| !queued.contains(&n)),
+            "type {number}"
+        );
     }
 }
 
