@@ -1,6 +1,6 @@
 -- The names of groups: paths, their parts, and what a written name leads to.
-use Rattle.std.specs.Prelude.{ℕ, ◌-◌, Bool, false, ◌&&◌, not, ◌==◌, nat_le, if◌then◌else◌, List, [], ◌∷◌, ◌++◌, length, take, drop}
-use Rattle.std.specs.List.{list_all, slice_split, suffix_len}
+use Rattle.std.specs.Prelude.{ℕ, Bool, false, ◌&&◌, not, ◌==◌, nat_le, if◌then◌else◌, List, [], ◌∷◌, ◌++◌, length, take, drop}
+use Rattle.std.specs.List.{list_all, slice_split, flat_map, prefix_len}
 use Rattle.std.specs.Str.{bytes_eq}
 
 -- a byte that a name may have: a space or visible, and no quotation mark
@@ -25,12 +25,21 @@ is_path bs = nat_le 1 (length bs) && nat_le (length bs) 255 && list_all is_name_
 
 -- what is left behind the slashes at the front
 abbrev pub behind_slashes : List ℕ → List ℕ
-behind_slashes [] = []
-behind_slashes (b ∷ bs) = if b == 47 then behind_slashes bs else b ∷ bs
+behind_slashes bs = drop (prefix_len (λ b. b == 47) bs) bs
 
--- the folder of a group, with its last slash: nothing where the group lies at the top
-abbrev pub folder_of : List ℕ → List ℕ
-folder_of path = take (length path - suffix_len (λ b. not (b == 47)) path) path
+-- all parts but the last
+abbrev pub but_last : List (List ℕ) → List (List ℕ)
+but_last [] = []
+but_last (p ∷ []) = []
+but_last (p ∷ q ∷ ps) = p ∷ but_last (q ∷ ps)
+
+-- the parts, each with a slash behind it
+abbrev pub closed : List (List ℕ) → List ℕ
+closed ps = flat_map (λ p. p ++ 47 ∷ []) ps
+
+-- the folder of a group: all parts of its path but the last, so nothing where the group lies at the top
+unfoldable pub folder_of : List ℕ → List ℕ
+folder_of path = closed (but_last (parts path))
 
 -- the bytes begin with `DSM:`
 abbrev pub has_scheme : List ℕ → Bool

@@ -27,3 +27,6 @@ pub use shape::{Need, Shape};
 pub use words::{event_of_word, event_word};
 pub use written::{Field, Ingredient, Setting, Written};
 pub use written_name::WrittenName;
+
+#[cfg(test)]
+mod tests;

@@ -52,12 +52,13 @@ missing_start start files = if has_group start files then None else Some start
 
 -- 32: the first group in which two ingredients have one number
 
-abbrev pub has_double : List ℕ → List ℕ → Bool
-has_double seen [] = false
-has_double seen (n ∷ ns) = if list_any (nat_eq n) seen then true else has_double (seen ++ n ∷ []) ns
+-- two of the numbers are one
+abbrev pub has_double : List ℕ → Bool
+has_double [] = false
+has_double (n ∷ ns) = list_any (nat_eq n) ns || has_double ns
 
 abbrev pub has_double_number : Written → Bool
-has_double_number w = has_double [] (map (λ i. i.number) (items_of w))
+has_double_number w = has_double (map (λ i. i.number) (items_of w))
 
 abbrev pub double_number : List File → Option (List ℕ)
 double_number files = first_named (λ f. has_double_number f.1) files

@@ -47,7 +47,8 @@ pub fn refuse(why: Why, group: Option<&GroupName>) -> Result<(), ServiceError>
     }
 }
 
-/// The first name that came before.
+/// The first name that came before, which is what 30 names. It is offered apart from the service for
+/// callers who have no start to give.
 pub fn double_name(
     alloc: Global,
     files: &[(GroupName, Group)],
@@ -95,8 +96,9 @@ fn double_number(
     Ok(None)
 }
 
+#[tactic(auto, using(crate::proofs::Doubles::seen_nothing))]
 fn has_double_number(alloc: Global, ingredients: &[Ingredient]) -> Result<bool, AllocError>
-    ensures { IfOk result (λ double. double ≡ has_double [] (map (λ i. i.number) ingredients.now)) }
+    ensures { IfOk result (λ double. double ≡ has_double (map (λ i. i.number) ingredients.now)) }
 {
     let mut seen: IndexSet<u32> = IndexSet::new(alloc);
     for ingredient in ingredients {

@@ -1,4 +1,4 @@
-use crate::{Service, ServiceError};
+use crate::{Service, ServiceError, double_name};
 use mh_base::{EventType, GroupName, NameError, ObjRef, Octets, Seq, Value};
 use mh_group::{
     Action, ActionName, Attribute, Class, Field, Generic, Group, Ingredient, Number, Parameter,
@@ -18,6 +18,8 @@ enum Flaw {
     Target,
     /// The source of its link is a name with an empty part.
     Source,
+    /// The effect of its link names a group by a path that ends in a slash.
+    LinkTarget,
     /// Its actions go through a variable.
     Indirect,
     /// They go through a variable of a group above the folder.
@@ -79,22 +81,22 @@ fn variable(alloc: Global, value: u32) -> Result<Ingredient, Fail> {
     })
 }
 
-/// Adds 1 to the variable 20.
-fn addition(alloc: Global) -> Result<Action, Fail> {
+/// Adds 1 to a variable.
+fn addition(alloc: Global, variable: Ref) -> Result<Action, Fail> {
     let one = Parameter::Int(Generic::Direct(1));
     Ok(Action {
         name: ActionName::Add,
-        target: Generic::Direct(Ref::Here(number(20)?)),
+        target: Generic::Direct(variable),
         parameters: Seq::from_vec(vec![in alloc; one]?),
     })
 }
 
-fn link_effect(alloc: Global) -> Result<Setting, Fail> {
-    let addition = addition(alloc)?;
+fn link_effect(alloc: Global, variable: Ref) -> Result<Setting, Fail> {
+    let addition = addition(alloc, variable)?;
     Ok(Setting::Effect(Seq::from_vec(vec![in alloc; addition]?)))
 }
 
-fn link(alloc: Global, source: &[u8]) -> Result<Ingredient, Fail> {
+fn link(alloc: Global, source: &[u8], variable: Ref) -> Result<Ingredient, Fail> {
     let setting = Setting::Ref(reference(alloc, source)?);
     let mut fields = fields(alloc, Attribute::EventSource, setting)?;
     fields.push(Field {
@@ -103,7 +105,7 @@ fn link(alloc: Global, source: &[u8]) -> Result<Ingredient, Fail> {
     })?;
     fields.push(Field {
         attribute: Attribute::LinkEffect,
-        setting: link_effect(alloc)?,
+        setting: link_effect(alloc, variable)?,
     })?;
     Ok(Ingredient {
         class: Class::Link,
@@ -121,8 +123,10 @@ fn ingredients(alloc: Global, count: u32, flaw: Flaw) -> Result<Seq<Ingredient>,
         let last = if flaw == Flaw::Double { 1 } else { count };
         items.push(variable(alloc, last)?)?;
     }
-    if flaw == Flaw::Source {
-        items.push(link(alloc, b"x//y")?)?;
+    match flaw {
+        Flaw::Source => items.push(link(alloc, b"x//y", Ref::Here(number(20)?))?)?,
+        Flaw::LinkTarget => items.push(link(alloc, b"x", reference(alloc, b"~/y/")?)?)?,
+        _ => {}
     }
     Ok(items)
 }
@@ -245,8 +249,28 @@ fn refuses_in_order(rt: HostRuntime) -> Result<(), Fail> {
 }
 
 #[test]
+fn finds_names_that_came_before(rt: HostRuntime) -> Result<(), Fail> {
+    let cases: [(&[u8], Option<u8>); 5] = [
+        (b"", None),
+        (b"abc", None),
+        (b"aa", Some(b'a')),
+        (b"abcb", Some(b'b')),
+        (b"abcba", Some(b'b')),
+    ];
+    for (letters, letter) in cases {
+        let mut files = Vec::new(rt.alloc());
+        for name in letters {
+            files.push(planned(rt.alloc(), (*name, SCENE, 0, 0, Flaw::Nothing))?)?;
+        }
+        let found = double_name(rt.alloc(), files.as_slice())?;
+        assert_eq!(rt; found.map(|name| last_letter(name)), letter, "{letters:?}");
+    }
+    Ok(())
+}
+
+#[test]
 fn looks_at_each_name(rt: HostRuntime) -> Result<(), Fail> {
-    let cases: [(&str, &[Plan], u32, u8); 4] = [
+    let cases: [(&str, &[Plan], u32, u8); 5] = [
         (
             "targets lead somewhere",
             &[
@@ -262,6 +286,15 @@ fn looks_at_each_name(rt: HostRuntime) -> Result<(), Fail> {
             &[
                 (b's', SCENE, 0, 0, Flaw::Source),
                 (b'a', APP, 0, 0, Flaw::Source),
+            ],
+            35,
+            b's',
+        ),
+        (
+            "a bad target of a link",
+            &[
+                (b'a', APP, 0, 1, Flaw::Nothing),
+                (b's', SCENE, 3, 0, Flaw::LinkTarget),
             ],
             35,
             b's',
@@ -442,7 +475,7 @@ fn shown(alloc: Global) -> Result<Group, Fail> {
     let mut items = Seq::new(alloc);
     items.push(rectangle(alloc)?)?;
     items.push(variable(alloc, 20)?)?;
-    items.push(link(alloc, b"x")?)?;
+    items.push(link(alloc, b"x", Ref::Here(number(20)?))?)?;
     group(alloc, SCENE, Seq::new(alloc), items)
 }
 
