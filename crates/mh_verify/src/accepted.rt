@@ -64,9 +64,11 @@ impl Accepted {
     }
 
     /// The service in whose reached configurations nothing is stuck.
+    #[tactic(auto, using(crate::specs::Free::acceptable))]
     pub(crate) fn of_reached(service: Service, reached: Vec<Config>) -> Accepted
         requires { AreFree service reached.items }
-        ensures { result ≡ service }
+        ensures same { result ≡ service }
+        ensures acceptable { IsAcceptable service }
     {
         Accepted {
             service,

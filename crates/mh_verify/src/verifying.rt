@@ -2,8 +2,9 @@
 //!
 //! Promise: a service is accepted only where it is acceptable, and refused only where it is not, or for
 //! want of memory; a refusal names what comes first, and hands the service back.
-ghost use Rattle.std.specs.Prelude.{◌≡◌, None, IfOk, IfErr};
+ghost use Rattle.std.specs.Prelude.{◌≡◌, None, OnOk, IfOk, IfErr};
 ghost use Rattle.std.specs.List.{flat_map};
+ghost use Rattle.mh_model.specs.Acceptable.{IsAcceptable};
 ghost use Rattle.mh_verify.specs.Least.{least_of};
 ghost use Rattle.mh_verify.specs.Order.{refusal_of, unjudged, IsTold};
 ghost use Rattle.mh_verify.specs.Reach.{AreReached};
@@ -17,6 +18,7 @@ use std::alloc::{AllocError, Global};
 /// Accepts the service, or says what comes first of what is wrong in the configurations that are reached.
 pub fn verify(alloc: Global, service: Service) -> Result<Accepted, Refusal>
     ensures same { IfOk result (λ accepted. accepted ≡ service) }
+    ensures acceptable { OnOk result (IsAcceptable service) }
     ensures back { IfErr result (λ refusal. refusal.service ≡ service) }
     ensures told { IfErr result (IsTold service) }
 {
@@ -47,6 +49,7 @@ fn decide(
     requires reached { AreReached service reached.items }
     requires first { first ≡ least_of None (flat_map (refusals_in service) reached.items) }
     ensures same { IfOk result (λ accepted. accepted ≡ service) }
+    ensures acceptable { OnOk result (IsAcceptable service) }
     ensures back { IfErr result (λ refusal. refusal.service ≡ service) }
     ensures told { IfErr result (IsTold service) }
 {

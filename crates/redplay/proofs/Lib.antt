@@ -3,3 +3,4 @@ pub mod SinkLemmas
 pub mod FrameLemmas
 pub mod StepLemmas
 pub mod PlayLemmas
+pub mod WrittenLemmas

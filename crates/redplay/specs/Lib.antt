@@ -3,4 +3,5 @@ pub mod Script
 pub mod Sink
 pub mod Frame
 pub mod Report
+pub mod Verdict
 pub mod Played

@@ -1,12 +1,12 @@
--- What a play is: files and a script are read, and then played on the service that the files make; or one
--- line says what cannot be read. One function gives both the report and how the play ended.
-use Rattle.std.specs.Prelude.{◌≡◌, ℕ, ◌==◌, if◌then◌else◌, List, [], ◌∷◌, ◌++◌, Option, Some, None, Result, Ok, Err, Vec, map, unwrap_or, codes}
+-- What is written for files and a script. They are read, or one line says what cannot be read; the verifier
+-- is asked, or not; and then the script is played on the service that the files make.
+use Rattle.std.specs.Prelude.{◌≡◌, ℕ, Bool, false, if◌then◌else◌, List, [], ◌∷◌, ◌++◌, Option, Some, None, Result, Ok, Err, Vec, map, unwrap_or, codes}
 use Rattle.std.specs.declared.alloc.Global.{Global}
 use Rattle.std.specs.Fmt.{decimal}
 use Rattle.mh_base.specs.Path.{is_path}
 use Rattle.mh_group.specs.declared.written.Written.{Written}
 use Rattle.mh_model.specs.Service.{Service}
-use Rattle.mh_service.specs.Refusals.{File, Refusal, refusal_of, for_reason, double_name}
+use Rattle.mh_service.specs.Refusals.{File, Refusal as ServiceRefusal, refusal_of, for_reason, double_name}
 use Rattle.mh_service.specs.Resolved.{resolved}
 use Rattle.mh_service.specs.Numbers.{why_number}
 use Rattle.mh_service.specs.declared.service_error.Why.TheVariants as why
@@ -20,6 +20,11 @@ use Rattle.redplay.specs.declared.status.Status.TheVariants as status
 use Rattle.redplay.specs.declared.unplayable.Unplayable.{Unplayable}
 use Rattle.redplay.specs.declared.unplayable.Unplayable.TheVariants as unplayable
 use Rattle.redplay.specs.Script.{lines, first_wrong, commands}
+use Rattle.mh_model.specs.Acceptable.{IsAcceptable}
+use Rattle.mh_verify.specs.declared.refusal.Refusal.{Refusal}
+use Rattle.mh_verify.specs.Order.{NamesFirst}
+use Rattle.redplay.specs.Sink.{appended, IsBeginning}
+use Rattle.redplay.specs.Verdict.{refusal_lines}
 use Rattle.redplay.specs.Report.{opening, script_lines, ended, status_of}
 
 infixl 10 ◌>>=◌
@@ -50,18 +55,18 @@ read_files done [] = Ok done
 read_files done (f ∷ fs) = with_file done f >>= (λ (more : List File). read_files more fs)
 
 -- why the groups make no service with this start; a text that is no path is the name of no group
-abbrev pub unstartable_for : List ℕ → List File → Refusal
+abbrev pub unstartable_for : List ℕ → List File → ServiceRefusal
 unstartable_for start groups = unwrap_or (for_reason why.DoubleName (double_name [] groups)) (why.NoStart, start)
 
-unfoldable pub refusal_for : List ℕ → List File → Option Refusal
+unfoldable pub refusal_for : List ℕ → List File → Option ServiceRefusal
 refusal_for start groups = if is_path start then refusal_of start groups else Some (unstartable_for start groups)
 
-abbrev pub refused_line : Refusal → Unplayable
-refused_line r = unplayable.Service (why_number r.0) r.1
+abbrev pub unserviceable : ServiceRefusal → Unplayable
+unserviceable r = unplayable.Service (why_number r.0) r.1
 
-abbrev pub unless_refused : {A : Type 0} → Option Refusal → A → Result A Unplayable
+abbrev pub unless_refused : {A : Type 0} → Option ServiceRefusal → A → Result A Unplayable
 unless_refused None x = Ok x
-unless_refused (Some r) x = Err (refused_line r)
+unless_refused (Some r) x = Err (unserviceable r)
 
 unfoldable pub service_of : List ℕ → List File → Result Service Unplayable
 service_of start groups = unless_refused (refusal_for start groups) (record { groups = map resolved groups; start = start })
@@ -73,11 +78,13 @@ unless_wrong (Some line) x = Err (unplayable.Script line)
 unfoldable pub commands_of : List ℕ → Result (List Command) Unplayable
 commands_of script = unless_wrong (first_wrong 1 (lines script)) (commands (lines script))
 
+unfoldable pub service_read : List ℕ → List Source → Result Service Unplayable
+service_read start files = read_files [] files >>= service_of start
+
 -- what is to be played: a service and commands; or the first thing that cannot be read
 unfoldable pub readied : List ℕ → List Source → List ℕ → Result (Service × List Command) Unplayable
 readied start files script = do
-  groups ← read_files [] files
-  service ← service_of start groups
+  service ← service_read start files
   found ← commands_of script
   Ok (service, found)
 
@@ -90,15 +97,32 @@ complaint (unplayable.Service number group) = codes "service " ++ decimal number
 complaint (unplayable.Script number) = codes "script " ++ decimal number ++ 10 ∷ []
 complaint unplayable.NoMemory = []
 
--- the report
-abbrev pub report : Result (Service × List Command) Unplayable → List ℕ
-report (Ok r) = script_lines r.1 (opening r.0)
-report (Err e) = complaint e
+-- What is written of what was read, and how it ends. The verifier is asked, unless a lenient play is wanted.
+pub data Plays (lenient : Bool) : Result (Service × List Command) Unplayable → List ℕ → Status → Type 0 where
+  play_unreadable : (e : Unplayable) → Plays lenient (Err e) (complaint e) status.Unreadable
+  play_refused : (s : Service) (cs : List Command) (r : Refusal) → lenient ≡ false → NamesFirst s r → Plays lenient (Ok (s, cs)) (refusal_lines r) status.Refused
+  play_done : (s : Service) (cs : List Command) → (lenient ≡ false → IsAcceptable s) → Plays lenient (Ok (s, cs)) (script_lines cs (opening s)) (status_of (ended cs (opening s)).state.faults)
 
--- how the play ended
-abbrev pub ending : Result (Service × List Command) Unplayable → Status
-ending (Ok r) = status_of (ended r.1 (opening r.0)).state.faults
-ending (Err e) = status.Unreadable
+-- the line on a service that is accepted
+unfoldable pub accepted_line : List ℕ
+accepted_line = codes "accepted" ++ 10 ∷ []
+
+-- What is written of a service that is checked, and how it ends.
+pub data Checks : Result Service Unplayable → List ℕ → Status → Type 0 where
+  check_unreadable : (e : Unplayable) → Checks (Err e) (complaint e) status.Unreadable
+  check_refused : (s : Service) (r : Refusal) → NamesFirst s r → Checks (Ok s) (refusal_lines r) status.Refused
+  check_accepted : (s : Service) → IsAcceptable s → Checks (Ok s) accepted_line status.Good
+
+-- the sink has taken a whole report that is meant, with this status
+pub record HasWritten (Means : List ℕ → Status → Type 0) (before after : Option (List ℕ)) (how : Status) : Type 0 where
+  pub report : List ℕ
+  pub meant : Means report how
+  pub taken : after ≡ appended before report
+
+-- the sink has taken nothing, or a beginning of a report that is meant
+pub data HasBegun (Means : List ℕ → Status → Type 0) (before after : Option (List ℕ)) : Type 0 where
+  begun_nothing : after ≡ before → HasBegun Means before after
+  begun_some : (report : List ℕ) (how : Status) → Means report how → IsBeginning before after report → HasBegun Means before after
 
 -- Answers of functions.
 

@@ -30,8 +30,10 @@ pub fn check_bytes<S: Sink>(
 {
     match read_service(alloc, files, options.start.as_slice()) {
         Ok(service) => judge(alloc, service, sink),
-        Err(Unplayable::NoMemory) => Err(PlayError::NoMemory),
-        Err(why) => complain(alloc, &why, sink),
+        Err(why) => match why {
+            Unplayable::NoMemory => Err(PlayError::NoMemory),
+            _ => complain(alloc, &why, sink),
+        },
     }
 }
 

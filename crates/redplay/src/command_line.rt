@@ -8,9 +8,19 @@ use std::convert::AsStr;
 /// The application that is started where none is named.
 const START: &str = "a";
 
-/// A service and a script to be played.
+/// What is asked for.
+#[derive(Clone, Copy, Debug, PartialEq, Eq)]
+pub enum Task {
+    /// What the verifier says of a service.
+    Check,
+    /// A script, played on a service.
+    Play,
+}
+
+/// A task, and what it is done with.
 #[derive(Drop)]
 pub struct Asked<'a> {
+    pub task: Task,
     /// The folder with the files of the service.
     pub folder: Option<&'a str>,
     /// The file with the script.
@@ -25,12 +35,13 @@ pub fn line_of<'a, S: AsStr>(alloc: Global, words: &'a [S]) -> Result<Asked<'a>,
     let matches = program(alloc)?.try_get_matches_from(words)?;
     Ok(match matches.subcommand_matches("play") {
         Some(play) => what_to_play(play),
-        None => nothing_asked(),
+        None => what_to_check(matches.subcommand_matches("check")),
     })
 }
 
 fn what_to_play<'a>(play: &ArgMatches<'a>) -> Asked<'a> {
     Asked {
+        task: Task::Play,
         folder: play.get_str("DIR"),
         script: play.get_str("script"),
         start: play.get_str("start").unwrap_or(START),
@@ -38,20 +49,29 @@ fn what_to_play<'a>(play: &ArgMatches<'a>) -> Asked<'a> {
     }
 }
 
-fn nothing_asked<'a>() -> Asked<'a> {
+fn what_to_check<'a>(check: Option<&ArgMatches<'a>>) -> Asked<'a> {
     Asked {
-        folder: None,
+        task: Task::Check,
+        folder: check.and_then(|check| check.get_str("DIR")),
         script: None,
-        start: START,
+        start: check.and_then(|check| check.get_str("start")).unwrap_or(START),
         lenient: false,
     }
 }
 
 fn program<'a>(alloc: Global) -> Result<Command<'a>, AllocError> {
     let command = Command::new(alloc, "redplay")
-        .about("Plays red-button television services")
+        .about("Checks and plays red-button television services")
         .subcommand_required(true);
-    command.subcommand(play(alloc)?)
+    command.subcommand(check(alloc)?)?.subcommand(play(alloc)?)
+}
+
+fn check<'a>(alloc: Global) -> Result<Command<'a>, AllocError> {
+    Command::new(alloc, "check")
+        .about("Says whether a service is accepted: that no key can make it name an absent object")
+        .after_help("Example:\n  redplay check examples/first/service")
+        .arg(folder(alloc))?
+        .arg(start(alloc))
 }
 
 fn play<'a>(alloc: Global) -> Result<Command<'a>, AllocError> {
@@ -86,7 +106,7 @@ fn lenient<'a>(alloc: Global) -> Arg<'a> {
     Arg::new(alloc, "lenient")
         .long("lenient")
         .action(ArgAction::SetTrue)
-        .help("Play also a service that a verifier would refuse")
+        .help("Play also a service that `check` refuses")
 }
 
 /// An option with a value.

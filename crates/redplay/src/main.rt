@@ -1,6 +1,7 @@
 //! The program: it reads a service and a script from files, plays them, and prints the report.
 #![tactic(auto)]
 
+pub mod check;
 pub mod command_line;
 #[cfg(test)]
 mod cutting_sink;
@@ -9,7 +10,9 @@ pub mod options;
 pub mod play;
 pub mod play_error;
 pub mod player;
+pub mod reading;
 pub mod report;
+pub mod saying;
 pub mod script;
 pub mod sink;
 #[cfg(test)]
@@ -20,12 +23,14 @@ mod tests;
 pub mod text;
 pub mod unplayable;
 
-use command_line::{Asked, line_of};
+use check::check_bytes;
+use command_line::{Asked, Task, line_of};
 use gather::{Ungathered, gather, read_file};
 use options::Options;
 use play::play_bytes;
 use sink::WriterSink;
 use status::Status;
+use std::alloc::{AllocError, Global};
 use std::process::ExitCode;
 use std::rt::Runtime;
 use std::{env, io};
@@ -41,7 +46,7 @@ fn main(rt: HostRuntime) -> ExitCode {
 fn run<R: Runtime + AllocGlobal>(rt: &R) -> io::Result<u8> {
     let words = env::args(rt)?.collect::<Vec<String>>(rt.alloc())?;
     match line_of(rt.alloc(), words.as_slice()) {
-        Ok(asked) => play_asked(rt, &asked),
+        Ok(asked) => do_asked(rt, &asked),
         Err(error) => {
             error.print(rt)?;
             Ok(if error.use_stderr() { 2 } else { 0 })
@@ -49,11 +54,12 @@ fn run<R: Runtime + AllocGlobal>(rt: &R) -> io::Result<u8> {
     }
 }
 
-fn play_asked<R: Runtime + AllocGlobal>(rt: &R, asked: &Asked) -> io::Result<u8> {
-    let (Some(folder), Some(script)) = (asked.folder, asked.script) else {
-        return Ok(2);
+fn do_asked<R: Runtime + AllocGlobal>(rt: &R, asked: &Asked) -> io::Result<u8> {
+    let done = match asked.task {
+        Task::Check => checked(rt, asked),
+        Task::Play => played(rt, asked),
     };
-    match played(rt, folder, script, asked) {
+    match done {
         Ok(status) => Ok(status),
         Err(Ungathered::Unreadable(name)) => {
             println!(rt; "read {name}")?;
@@ -63,18 +69,29 @@ fn play_asked<R: Runtime + AllocGlobal>(rt: &R, asked: &Asked) -> io::Result<u8>
     }
 }
 
-fn played<R: Runtime + AllocGlobal>(
-    rt: &R,
-    folder: &str,
-    script: &str,
-    asked: &Asked,
-) -> Result<u8, Ungathered> {
+fn checked<R: Runtime + AllocGlobal>(rt: &R, asked: &Asked) -> Result<u8, Ungathered> {
+    let Some(folder) = asked.folder else {
+        return Ok(Status::Unreadable.code());
+    };
+    let files = gather(rt, folder)?;
+    let options = chosen(rt.alloc(), asked)?;
+    let mut sink = WriterSink {
+        writer: io::writer(rt),
+        failures: 0,
+    };
+    match check_bytes(rt.alloc(), files.as_slice(), &options, &mut sink) {
+        Ok(status) => Ok(status.code()),
+        Err(_) => Ok(FAILED),
+    }
+}
+
+fn played<R: Runtime + AllocGlobal>(rt: &R, asked: &Asked) -> Result<u8, Ungathered> {
+    let (Some(folder), Some(script)) = (asked.folder, asked.script) else {
+        return Ok(Status::Unreadable.code());
+    };
     let files = gather(rt, folder)?;
     let script = read_file(rt, script, script)?;
-    let options = Options {
-        start: Vec::from_slice(rt.alloc(), asked.start.as_bytes())?,
-        lenient: asked.lenient,
-    };
+    let options = chosen(rt.alloc(), asked)?;
     let mut sink = WriterSink {
         writer: io::writer(rt),
         failures: 0,
@@ -84,4 +101,11 @@ fn played<R: Runtime + AllocGlobal>(
         Ok(status) => Ok(status.code()),
         Err(_) => Ok(FAILED),
     }
+}
+
+fn chosen(alloc: Global, asked: &Asked) -> Result<Options, AllocError> {
+    Ok(Options {
+        start: Vec::from_slice(alloc, asked.start.as_bytes())?,
+        lenient: asked.lenient,
+    })
 }

@@ -15,6 +15,7 @@ use crate::text::Text;
 use mh_engine::{Engine, RefusedWhy, Rest, StepError, Stepped};
 use mh_model::{Fault, FaultKind, Input, Picture};
 use mh_service::Service;
+use mh_verify::Accepted;
 use std::alloc::{AllocError, Global};
 use std::marker::Model;
 
@@ -45,6 +46,22 @@ impl Player {
     {
         let frame = Picture::black(alloc)?;
         match Engine::start_lenient(alloc, service) {
+            Ok(engine) => Ok(Player {
+                alloc,
+                engine,
+                frame,
+                frames: 0,
+            }),
+            Err(_) => Err(AllocError),
+        }
+    }
+
+    /// A player at the start of a service that the verifier accepts.
+    pub fn of_accepted(alloc: Global, accepted: Accepted) -> Result<Player, AllocError>
+        ensures { IfOk result (λ player. player ≡ opening accepted) }
+    {
+        let frame = Picture::black(alloc)?;
+        match Engine::start(alloc, accepted) {
             Ok(engine) => Ok(Player {
                 alloc,
                 engine,

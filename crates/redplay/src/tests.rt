@@ -1,6 +1,7 @@
 //! Plays from outside: what is written for a service and a script.
 use crate::options::Options;
 use crate::play::play_bytes;
+use crate::check::check_bytes;
 use crate::cutting_sink::CuttingSink;
 use crate::play_error::PlayError;
 use crate::sink::ListSink;
@@ -29,6 +30,12 @@ const ABSENT: File = (
     r#"{:Scene ("~/s" 0) :InputEventReg 3 :SceneCS 720 576 :Items (
         {:Rectangle 10 :OrigBoxSize 24 32 :OrigPosition 12 16 :OrigLineWidth 0 :OrigRefFillColour '=FF=00=00=00' }
         {:Link 11 :EventSource 0 :EventType UserInput :EventData 100 :LinkEffect ( :SetPosition (99 24 16) ) } ) }"#,
+);
+
+const WRONG_CLASS: File = (
+    "s",
+    r#"{:Scene ("~/s" 0) :OnCloseDown ( :SetPosition (0 24 16) ) :Items (
+        {:Link 11 :EventSource 12 :EventType IsRunning :LinkEffect ( :SetPosition (99 24 16) ) } ) }"#,
 );
 
 const EMPTY: File = ("a", r#"{:Application ("~/a" 0) :Items ( ) }"#);
@@ -70,6 +77,51 @@ fn options_from(alloc: Global, start: &str) -> Result<Options, Fail> {
         start: Vec::from_slice(alloc, start.as_bytes())?,
         lenient: true,
     })
+}
+
+/// Asks the verifier, and compares what was written and how it ended.
+fn check_verdict(
+    rt: &(impl Abort + AllocGlobal),
+    case: &str,
+    files: &[File],
+    wanted: (&str, u8),
+) -> Result<(), Fail> {
+    let alloc = rt.alloc();
+    let read = sources(alloc, files)?;
+    let mut options = options_from(alloc, "a")?;
+    options.lenient = false;
+    let mut sink = ListSink {
+        bytes: Vec::new(alloc),
+        failures: 0,
+    };
+    let status = check_bytes(alloc, read.as_slice(), &options, &mut sink)?;
+    let written = String::from_utf8_lossy(alloc, sink.bytes.as_slice())?;
+    assert_eq!(rt; written.as_str(), wanted.0, "{case}");
+    assert_eq!(rt; status.code(), wanted.1, "{case}");
+    Ok(())
+}
+
+/// Plays strictly, and compares what was written and how it ended.
+fn check_strict(
+    rt: &(impl Abort + AllocGlobal),
+    case: &str,
+    files: &[File],
+    wanted: (&str, u8),
+) -> Result<(), Fail> {
+    let alloc = rt.alloc();
+    let read = sources(alloc, files)?;
+    let mut options = options_from(alloc, "a")?;
+    options.lenient = false;
+    let mut sink = ListSink {
+        bytes: Vec::new(alloc),
+        failures: 0,
+    };
+    let script = MOVES.as_bytes();
+    let status = play_bytes(alloc, read.as_slice(), script, &options, &mut sink)?;
+    let written = String::from_utf8_lossy(alloc, sink.bytes.as_slice())?;
+    assert_eq!(rt; written.as_str(), wanted.0, "{case}");
+    assert_eq!(rt; status.code(), wanted.1, "{case}");
+    Ok(())
 }
 
 /// Plays from the start `a`, and compares what was written and how it ended.
@@ -264,4 +316,34 @@ fn a_failed_write_leaves_a_beginning(rt: HostRuntime) -> Result<(), Fail> {
         assert!(rt; check_cut(&rt, FRAMES.len(), most)?, "{most} bytes a write");
     }
     Ok(())
+}
+
+#[test]
+fn tells_what_the_verifier_says(rt: HostRuntime) -> Result<(), Fail> {
+    let accepted = ("accepted\n", 0);
+    check_verdict(&rt, "a red box that moves", &[APPLICATION, SCENE], accepted)?;
+    check_verdict(&rt, "an empty application", &[EMPTY], accepted)?;
+    let absent = (
+        "refused V1 s 11 1 SetPosition\nconfig a s\nobject s 99\n",
+        1,
+    );
+    let files = [APPLICATION, ABSENT];
+    check_verdict(&rt, "an absent object", &files, absent)?;
+    check_strict(&rt, "an absent object, played", &files, absent)?;
+    let class = (
+        "refused V2 s 0 1 SetPosition\nconfig a s\nobject s 0\n",
+        1,
+    );
+    let files = [APPLICATION, WRONG_CLASS];
+    check_verdict(&rt, "a box that is a scene", &files, class)?;
+    let lone = [EMPTY, WRONG_CLASS];
+    check_verdict(&rt, "a scene that is never reached", &lone, accepted)?;
+    check_verdict(&rt, "a group without an end", &[OPEN], ("file a 21 23\n", 2))?;
+    check_verdict(&rt, "no application", &[SCENE], ("service 31 a\n", 2))
+}
+
+#[test]
+fn plays_what_is_accepted(rt: HostRuntime) -> Result<(), Fail> {
+    let files = [APPLICATION, SCENE];
+    check_strict(&rt, "a red box that moves", &files, (FRAMES, 0))
 }
