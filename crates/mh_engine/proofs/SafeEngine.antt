@@ -1,14 +1,14 @@
 -- Engines whose service was accepted.
 use Rattle.std.specs.Prelude.{◌≡◌, true, false, List, [], Option, Some, None, slice_get, refl}
-use Rattle.std.proofs.Common.{ap, ◌∙◌}
+use Rattle.std.proofs.Common.{ap, sym, subst}
 use Rattle.mh_model.specs.declared.input.Input.{Input}
 use Rattle.mh_model.specs.declared.item.Item.{Item}
 use Rattle.mh_model.specs.declared.input.Move.{Move}
 use Rattle.mh_model.specs.State.{State}
 use Rattle.mh_model.specs.Step.{run}
 use Rattle.mh_model.specs.Safe.{IsSafe}
-use Rattle.mh_model.specs.Headline.{fault_at, front_fault}
-use Rattle.mh_model.proofs.SafeLemmas.{safe_front, safe_run}
+use Rattle.mh_model.specs.Headline.{fault_at, front_fault, IsFaultless}
+use Rattle.mh_model.proofs.SafeLemmas.{safe_front, safe_run, safe_faultless}
 use Rattle.mh_engine.specs.Play.{Play}
 use Rattle.mh_engine.specs.Answer.{is_faulted, judged, answer_by, answer_of}
 
@@ -28,6 +28,6 @@ KeepsSafe p = p.accepted ≡ true → IsSafe p.state
 pub kept_front : (p : Play) → KeepsSafe p → p.accepted ≡ true → front_fault p.state ≡ None
 kept_front p keeps accepted = safe_front p.state (keeps accepted)
 
--- however an engine whose service was accepted is run, no fault is noted
-pub kept_run : (p : Play) → KeepsSafe p → (ms : List Move) (s : State) → s ≡ run ms p.state → p.accepted ≡ true → s.faults ≡ []
-kept_run p keeps ms s is accepted = ap (λ (x : State). x.faults) is ∙ (safe_run ms p.state (keeps accepted)).faultless
+-- however an engine whose service was accepted is run, no item is stuck then and no fault was noted
+pub kept_run : (p : Play) → KeepsSafe p → (ms : List Move) (s : State) → s ≡ run ms p.state → p.accepted ≡ true → IsFaultless s
+kept_run p keeps ms s is accepted = subst IsFaultless (sym is) (safe_faultless (run ms p.state) (safe_run ms p.state (keeps accepted)))

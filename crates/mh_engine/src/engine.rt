@@ -235,6 +235,7 @@ pub fn run(engine: &mut Engine, moves: &[Move]) -> Result<(), RunEnd>
     ensures within { IfErr result (λ end. end.made < length moves.now) }
     ensures stopped { IfErr result (λ end. end.why ≡ StepError.Stopped → (engine.old.stopped ≡ true) × (end.made ≡ 0)) }
     ensures same { engine.new.accepted ≡ engine.old.accepted }
+    ensures never { engine.old.accepted ≡ true → front_fault engine.new.state ≡ None }
     ensures faultless { engine.old.accepted ≡ true → engine.new.state.faults ≡ [] }
     ensures full { IfErr result (λ end. end.why ≡ StepError.CountFull → are_counted (take (end.made + 1) moves.now) engine.old.state ≡ false) }
 {

@@ -22,11 +22,17 @@ returns-in-Err-clause-full c = λ h. counted-next c.args.moves.now c.loop-made.m
 pub returns-in-Err-clause-same : goal.returns-in-Err-clause-same
 returns-in-Err-clause-same c = c.make.ensures.same ∙ c.loop-made.invariant.4
 
+pub returns-in-Err-clause-never : goal.returns-in-Err-clause-never
+returns-in-Err-clause-never c = λ accepted. (kept_run c.args.engine.now (subst KeepsSafe c.engine.view_is c.engine.invariant) (take c.loop-made.made c.args.moves.now) _ (c.in-Err.ensures.kept ∙ c.loop-made.invariant.0) accepted).front
+
 pub returns-in-Err-clause-faultless : goal.returns-in-Err-clause-faultless
-returns-in-Err-clause-faultless c = kept_run c.args.engine.now (subst KeepsSafe c.engine.view_is c.engine.invariant) (take c.loop-made.made c.args.moves.now) _ (c.in-Err.ensures.kept ∙ c.loop-made.invariant.0)
+returns-in-Err-clause-faultless c = λ accepted. (kept_run c.args.engine.now (subst KeepsSafe c.engine.view_is c.engine.invariant) (take c.loop-made.made c.args.moves.now) _ (c.in-Err.ensures.kept ∙ c.loop-made.invariant.0) accepted).faults
 
 pub returns-clause-same : goal.returns-clause-same
 returns-clause-same c = c.loop-made.invariant.4
 
+pub returns-clause-never : goal.returns-clause-never
+returns-clause-never c = λ accepted. (kept_run c.args.engine.now (subst KeepsSafe c.engine.view_is c.engine.invariant) (take c.loop-made.made c.args.moves.now) _ c.loop-made.invariant.0 accepted).front
+
 pub returns-clause-faultless : goal.returns-clause-faultless
-returns-clause-faultless c = kept_run c.args.engine.now (subst KeepsSafe c.engine.view_is c.engine.invariant) (take c.loop-made.made c.args.moves.now) _ c.loop-made.invariant.0
+returns-clause-faultless c = λ accepted. (kept_run c.args.engine.now (subst KeepsSafe c.engine.view_is c.engine.invariant) (take c.loop-made.made c.args.moves.now) _ c.loop-made.invariant.0 accepted).faults
