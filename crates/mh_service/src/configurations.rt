@@ -93,7 +93,9 @@ fn itself_is(objects: &[Object], name: &GroupName, wanted: Wanted) -> bool
 fn itself_among<'a>(objects: &'a [Object], name: &GroupName) -> Option<&'a Object>
     ensures { option_copied result ≡ object_at (group_ref name.now) objects.now }
 {
-    objects.iter().find(|o| o.key.group == *name && o.key.number == 0)
+    objects
+        .iter()
+        .find(|o| o.key.group == *name && o.key.number == 0)
 }
 
 /// Each application without a scene, and then with each of these.
