@@ -137,7 +137,10 @@ fn group(alloc: Global, class: Class, plan: Plan<'_>) -> Result<Group, Fail> {
 fn service(alloc: Global, application: Plan<'_>, scene: Plan<'_>) -> Result<Service, Fail> {
     let mut files = Vec::new(alloc);
     let start = GroupName::of_path(alloc, b"a")?;
-    files.push((start.clone()?, group(alloc, Class::Application, application)?))?;
+    files.push((
+        start.clone()?,
+        group(alloc, Class::Application, application)?,
+    ))?;
     let name = GroupName::of_path(alloc, b"s")?;
     files.push((name, group(alloc, Class::Scene, scene)?))?;
     Ok(Service::of_files(alloc, files, start)?)
@@ -236,11 +239,7 @@ fn judges_a_scene(rt: HostRuntime) -> Result<(), Fail> {
         ),
         (
             "a link whose source is not there",
-            (
-                &[],
-                &[],
-                &[Thing::Link(11, (b' ', 5), &[(MOVE, b' ', 99)])],
-            ),
+            (&[], &[], &[Thing::Link(11, (b' ', 5), &[(MOVE, b' ', 99)])]),
             None,
         ),
         (
