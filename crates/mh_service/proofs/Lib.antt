@@ -1,3 +1,4 @@
 pub mod Lookups
 pub mod ServiceLemmas
 pub mod Doubles
+pub mod OnceLemmas

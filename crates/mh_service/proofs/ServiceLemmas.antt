@@ -1,5 +1,5 @@
 -- What every service is: the objects of a group begin with the group itself, and the start is an application.
-use Rattle.std.proofs.Common.{◌≡◌, ℕ, Bool, true, false, cond, ◌&&◌, ◌||◌, not, ◌==◌, List, [], ◌∷◌, ◌++◌, map, Option, Some, None, refl, ap, ◌∙◌, sym, subst}
+use Rattle.std.proofs.Common.{◌≡◌, ℕ, Bool, true, false, cond, ◌&&◌, ◌||◌, not, List, [], ◌∷◌, ◌++◌, map, Option, Some, None, refl, ap, sym, subst}
 use Rattle.std.specs.List.{list_all, list_any, find}
 use Rattle.std.specs.Option.{option_map, option_map_or, option_or}
 use Rattle.std.specs.Prelude.{unwrap_or, is_none}
@@ -15,8 +15,8 @@ use Rattle.mh_group.specs.declared.written.Written.{Written}
 use Rattle.mh_group.specs.Table.{is_group_class}
 use Rattle.mh_group.specs.Fit.{is_group, misfit_of, fields_misfit, ingredient_misfit, ingredients_misfit, items_of}
 use Rattle.mh_model.specs.declared.object.Object.{Object}
-use Rattle.mh_model.specs.Service.{Service, object_at, group_objects, group_ref}
-use Rattle.mh_model.specs.Configuration.{is_service, is_group_list, is_ingredient_of, is_group_of, is_application as is_application_class}
+use Rattle.mh_model.specs.Service.{object_at, group_ref}
+use Rattle.mh_model.specs.Configuration.{is_service, is_group_list, is_ingredient_of, is_application as is_application_class}
 use Rattle.mh_service.specs.Resolved.{objects_of, object_of, resolved}
 use Rattle.mh_service.specs.Refusals.{File, double_name, missing_start, double_number, over_limit, has_application, is_application, start_unfit, for_reason, refusal_before}
 use Rattle.mh_service.specs.Limits.{whole_room}

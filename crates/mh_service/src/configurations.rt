@@ -2,11 +2,12 @@
 //!
 //! Promise: each application comes without a scene and then with each scene of the service, in the order
 //! of the groups. Which of them are reached is left to `mh_verify`.
-ghost use Rattle.std.specs.Prelude.{◌≡◌, ◌++◌, true, false, IfOk, OnOk};
+ghost use Rattle.std.specs.Prelude.{◌≡◌, ◌++◌, true, false, None, Some, IfOk, OnOk, map};
 ghost use Rattle.mh_group.specs.Table.{is_scene};
-ghost use Rattle.mh_model.specs.Configuration.{configurations as configurations_lem, names as names_lem, with_scenes, is_group_of, is_service};
+ghost use Rattle.mh_model.specs.Configuration.{configurations as configurations_lem, names as names_lem, with_scenes, is_group_of, is_service, same_config};
 ghost use Rattle.mh_model.specs.Service.{object_at, group_ref};
-ghost use Rattle.std.specs.List.{flat_map};
+ghost use Rattle.std.specs.List.{flat_map, IsDistinct};
+ghost use Rattle.std.specs.Str.{bytes_eq};
 ghost use Rattle.std.specs.Option.{option_copied, option_map_or};
 ghost use Rattle.mh_service.specs.Wanted.{is_wanted};
 
@@ -38,11 +39,13 @@ impl Service {
     /// The configurations: each application without a scene, and then with each scene.
     pub fn configurations(&self, alloc: Global) -> Result<Vec<Config>, AllocError>
         ensures each { IfOk result (λ configs. configs.items ≡ configurations_lem self.now) }
+        ensures once { IfOk result (λ configs. IsDistinct same_config configs.items) }
         ensures service { OnOk result (is_service self.now ≡ true) }
     {
         let applications = self.names(alloc, Wanted::Applications)?;
         let scenes = self.names(alloc, Wanted::Scenes)?;
-        all_with_scenes(alloc, applications.as_slice(), scenes.as_slice())
+        let configs = all_with_scenes(alloc, applications.as_slice(), scenes.as_slice())?;
+        Ok(configs)
     }
 
     /// Whether a group of this name is a scene.
@@ -55,6 +58,7 @@ impl Service {
     /// The names of the groups that are wanted, in their order.
     fn names(&self, alloc: Global, wanted: Wanted) -> Result<Vec<GroupName>, AllocError>
         ensures each { IfOk result (λ names. names.items ≡ names_lem (is_wanted wanted) self.now) }
+        ensures once { OnOk result (IsDistinct bytes_eq (map (λ e. e.0) self.now.groups)) }
         ensures service { OnOk result (is_service self.now ≡ true) }
     {
         let mut names = Vec::new(alloc);
@@ -89,7 +93,9 @@ fn itself_is(objects: &[Object], name: &GroupName, wanted: Wanted) -> bool
 fn itself_among<'a>(objects: &'a [Object], name: &GroupName) -> Option<&'a Object>
     ensures { option_copied result ≡ object_at (group_ref name.now) objects.now }
 {
-    objects.iter().find(|o| o.key.group == *name && o.key.number == 0)
+    objects
+        .iter()
+        .find(|o| o.key.group == *name && o.key.number == 0)
 }
 
 /// Each application without a scene, and then with each of these.
@@ -115,15 +121,28 @@ fn push_with_scenes(
 ) -> Result<(), AllocError>
     ensures { OnOk result (configs.new.items ≡ configs.old.items ++ with_scenes scenes.now app.now) }
 {
-    configs.push(Config {
-        app: app.clone()?,
-        scene: None,
-    })?;
+    configs.push(alone(app)?)?;
     for scene in scenes {
-        configs.push(Config {
-            app: app.clone()?,
-            scene: Some(scene.clone()?),
-        })?;
+        configs.push(with_scene(app, scene)?)?;
     }
     Ok(())
+}
+
+/// The application with no scene.
+fn alone(app: &GroupName) -> Result<Config, AllocError>
+    ensures { IfOk result (λ config. config ≡ record { app = app.now; scene = None }) }
+{
+    Ok(Config {
+        app: app.clone()?,
+        scene: None,
+    })
+}
+
+fn with_scene(app: &GroupName, scene: &GroupName) -> Result<Config, AllocError>
+    ensures { IfOk result (λ config. config ≡ record { app = app.now; scene = Some scene.now }) }
+{
+    Ok(Config {
+        app: app.clone()?,
+        scene: Some(scene.clone()?),
+    })
 }

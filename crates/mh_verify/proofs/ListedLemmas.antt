@@ -1,7 +1,7 @@
 -- What is reached is among the configurations of the service.
-use Rattle.std.proofs.Common.{◌≡◌, ◌⊎◌, inl, inr, ℕ, Bool, true, false, cond, ◌&&◌, ◌==◌, List, [], ◌∷◌, ◌++◌, map, filter, Option, Some, None, refl, ap, sym, ◌∙◌, subst}
+use Rattle.std.proofs.Common.{◌≡◌, ◌⊎◌, inl, inr, ℕ, Bool, true, false, cond, ◌&&◌, ◌==◌, List, [], ◌∷◌, map, filter, Option, Some, None, refl, sym, subst}
 use Rattle.std.specs.Prelude.{unwrap_or}
-use Rattle.std.specs.List.{Contains, find, flat_map, list_all}
+use Rattle.std.specs.List.{Contains, find, list_all}
 use Rattle.std.specs.Option.{option_map, option_map_or}
 use Rattle.std.specs.Str.{bytes_eq}
 use Rattle.std.proofs.lemmas.Slice.Eq.{bytes_eq-Decides}
@@ -12,7 +12,7 @@ use Rattle.mh_model.specs.declared.config.Config.{Config}
 use Rattle.mh_model.specs.declared.object.Object.{Object}
 use Rattle.mh_model.specs.Service.{Service, object_at, group_ref}
 use Rattle.mh_model.specs.Stuck.{is_transition}
-use Rattle.mh_model.specs.Configuration.{is_service, is_group_of, is_group_list, is_application, names, with_scenes, configurations, starting, present}
+use Rattle.mh_model.specs.Configuration.{is_service, is_group_of, is_group_list, is_application, names, with_scenes, configurations}
 use Rattle.mh_model.specs.Active.{leads}
 use Rattle.mh_model.specs.Acceptable.{IsReached, start, led}
 use Rattle.mh_verify.proofs.ContainsLemmas.{halves, no_member, here, behind, first_or_behind, in_joined}

@@ -1,5 +1,5 @@
 -- A configuration has no refusals exactly where it is free; so what is found says what the contract says.
-use Rattle.std.proofs.Common.{◌≡◌, ◌⊎◌, inl, inr, ℕ, ◌+◌, Bool, true, false, ◌&&◌, List, [], ◌∷◌, ◌++◌, filter, Option, Some, None, refl, ap, sym, subst}
+use Rattle.std.proofs.Common.{◌≡◌, inl, inr, ℕ, ◌+◌, Bool, true, ◌&&◌, List, [], ◌∷◌, ◌++◌, filter, Option, Some, None, refl, ap, sym, subst}
 use Rattle.std.specs.List.{Contains, list_all, flat_map}
 use Rattle.std.specs.Option.{option_map, option_to_list, option_map_or}
 use Rattle.mh_base.specs.declared.obj_ref.ObjRef.{ObjRef}
@@ -8,16 +8,16 @@ use Rattle.mh_model.specs.declared.config.Config.{Config}
 use Rattle.mh_model.specs.declared.fault.Fault.{Fault}
 use Rattle.mh_model.specs.declared.object.Object.{Object}
 use Rattle.mh_model.specs.Service.{Service}
-use Rattle.mh_model.specs.Configuration.{present, is_among, starting}
-use Rattle.mh_model.specs.Active.{actions, is_active, active_actions, fault_of, leads}
-use Rattle.mh_model.specs.Acceptable.{IsReached, start, led, IsClosed, IsAcceptable, is_free, is_none, leads_into}
+use Rattle.mh_model.specs.Configuration.{present, is_among}
+use Rattle.mh_model.specs.Active.{actions, is_active, active_actions, fault_of}
+use Rattle.mh_model.specs.Acceptable.{IsReached, start, led, IsClosed, is_free, is_none, leads_into}
 use Rattle.mh_verify.specs.declared.refusal.Found.{Found}
 use Rattle.mh_verify.specs.Refusals.{found_at, wrong_from, wrong_with, refusals_in, RefusedIsNot}
-use Rattle.mh_verify.specs.Order.{IsFirst, is_before}
+use Rattle.mh_verify.specs.Order.{IsFirst}
 use Rattle.mh_verify.specs.Least.{least_of}
 use Rattle.mh_verify.specs.Free.{AreFree}
 use Rattle.mh_verify.specs.Reach.{AreReached}
-use Rattle.mh_verify.proofs.ContainsLemmas.{both, halves, all_append, all_front, all_back, no_member, here, behind, first_or_behind, in_joined, joined_from, all_of, empty_joined}
+use Rattle.mh_verify.proofs.ContainsLemmas.{all_append, all_front, all_back, no_member, first_or_behind, in_joined, joined_from, all_of, empty_joined}
 use Rattle.mh_verify.proofs.ConfigLemmas.{member_of, among_of}
 use Rattle.mh_verify.proofs.OrderLemmas.{first_of, none_of}
 

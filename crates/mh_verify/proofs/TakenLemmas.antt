@@ -1,15 +1,15 @@
 -- Taking configurations over from those that are left: by place, what is lost, and what comes.
-use Rattle.std.proofs.Common.{◌≡◌, ◌⊎◌, inl, inr, ℕ, ◌+◌, ◌<◌, ◌≤◌, suc, Bool, true, false, cond, ◌||◌, List, [], ◌∷◌, ◌++◌, length, take, drop, Option, Some, None, refl, ap, sym, ◌∙◌, subst, arith, length-append}
+use Rattle.std.proofs.Common.{◌≡◌, inl, inr, ℕ, ◌+◌, ◌<◌, suc, Bool, true, false, cond, ◌||◌, List, [], ◌∷◌, length, Option, Some, None, refl, ap, sym, ◌∙◌, subst, arith, length-append}
 use Rattle.std.specs.Prelude.{slice_index_or}
 use Rattle.std.specs.List.{Contains, find, position, position_or_len, remove}
 use Rattle.std.specs.Option.{option_to_list}
-use Rattle.mh_base.proofs.PathLemmas.{position-some, position-none}
+use Rattle.mh_base.proofs.PathLemmas.{position-some}
 use Rattle.mh_model.specs.declared.config.Config.{Config}
 use Rattle.mh_model.specs.Configuration.{same_config, is_among}
 use Rattle.mh_model.proofs.FirstLemmas.{first-position, none-position}
 use Rattle.mh_verify.specs.Reach.{taken, without, all_taken, all_without}
 use Rattle.mh_verify.proofs.ContainsLemmas.{no_member, first_or_behind}
-use Rattle.mh_verify.proofs.ConfigLemmas.{config_is, config_itself, among_append}
+use Rattle.mh_verify.proofs.ConfigLemmas.{among_append}
 
 -- By place.
 

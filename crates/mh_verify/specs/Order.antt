@@ -1,6 +1,6 @@
 -- Which refusal comes first: by name of the group, number of the object, number of the action, and kind; and
 -- then the first configuration, by name of the application and of the scene, no scene before any.
-use Rattle.std.specs.Prelude.{◌≡◌, Bool, false, List, Option, Some, None, ◌⊎◌}
+use Rattle.std.specs.Prelude.{◌≡◌, Bool, false, Some, None, ◌⊎◌}
 use Rattle.std.specs.declared.cmp.Ordering.{Ordering}
 use Rattle.std.specs.Ordering.{is_lt, nat_cmp, on, then_cmp}
 use Rattle.std.specs.Option.{option_cmp}

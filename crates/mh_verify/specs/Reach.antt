@@ -1,12 +1,12 @@
 -- How the configurations that are reached are found: those that are led to are taken from the ones that are
 -- left, each once.
-use Rattle.std.specs.Prelude.{◌≡◌, ℕ, ◌≤◌, Bool, true, ◌||◌, if◌then◌else◌, List, [], ◌∷◌, ◌++◌, length, take}
-use Rattle.std.specs.List.{find, flat_map, list_all}
+use Rattle.std.specs.Prelude.{◌≡◌, true, if◌then◌else◌, List, [], ◌∷◌, ◌++◌}
+use Rattle.std.specs.List.{find, flat_map}
 use Rattle.std.specs.Option.{option_to_list}
 use Rattle.mh_model.specs.declared.act.Act.{Act}
 use Rattle.mh_model.specs.declared.config.Config.{Config}
 use Rattle.mh_model.specs.Service.{Service}
-use Rattle.mh_model.specs.Configuration.{is_service, configurations, starting, present, is_among, same_config}
+use Rattle.mh_model.specs.Configuration.{is_service, present, is_among, same_config}
 use Rattle.mh_model.specs.Active.{active_actions, leads}
 use Rattle.mh_model.specs.Acceptable.{IsReached, IsClosed}
 

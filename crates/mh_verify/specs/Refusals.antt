@@ -1,5 +1,5 @@
 -- What is wrong with the active actions of a configuration, with the place of each.
-use Rattle.std.specs.Prelude.{◌≡◌, ℕ, ◌+◌, List, [], ◌∷◌, ◌++◌, filter}
+use Rattle.std.specs.Prelude.{ℕ, ◌+◌, List, [], ◌∷◌, ◌++◌, filter}
 use Rattle.std.specs.List.{flat_map, Contains}
 use Rattle.std.specs.Option.{option_map, option_to_list}
 use Rattle.mh_base.specs.declared.obj_ref.ObjRef.{ObjRef}

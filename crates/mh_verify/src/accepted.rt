@@ -55,8 +55,10 @@ impl Accepted {
     }
 
     /// The service, and what is known of it.
+    #[tactic(auto, using(crate::specs::Free::acceptable))]
     pub fn apart(self) -> (Service, Rest)
         ensures same { result.0 ≡ self }
+        ensures acceptable { IsAcceptable self }
         ensures free { AreFree self result.1 }
     {
         let Accepted { service, rest } = self;

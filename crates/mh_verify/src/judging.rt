@@ -76,7 +76,13 @@ fn lesser(best: Option<Found>, found: Found) -> Found
 {
     match best {
         None => found,
-        Some(best) => { if order(&found, &best).is_lt() { found } else { best } }
+        Some(best) => {
+            if order(&found, &best).is_lt() {
+                found
+            } else {
+                best
+            }
+        }
     }
 }
 

@@ -15,3 +15,6 @@ pub mod verifying;
 pub use accepted::{Accepted, Rest};
 pub use refusal::{Found, Place, Refusal, RefusalKind};
 pub use verifying::verify;
+
+#[cfg(test)]
+mod tests;

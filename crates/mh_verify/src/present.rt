@@ -182,9 +182,18 @@ pub fn actions(alloc: Global, object: &Object) -> Result<Vec<Act>, AllocError>
     ensures { IfOk result (λ acts. acts.items ≡ actions_lem object.now) }
 {
     let mut acts = Vec::new(alloc);
-    push_acts(&mut acts, effect_of(&object.properties, Attribute::OnStartUp))?;
-    push_acts(&mut acts, effect_of(&object.properties, Attribute::OnCloseDown))?;
-    push_acts(&mut acts, effect_of(&object.properties, Attribute::LinkEffect))?;
+    push_acts(
+        &mut acts,
+        effect_of(&object.properties, Attribute::OnStartUp),
+    )?;
+    push_acts(
+        &mut acts,
+        effect_of(&object.properties, Attribute::OnCloseDown),
+    )?;
+    push_acts(
+        &mut acts,
+        effect_of(&object.properties, Attribute::LinkEffect),
+    )?;
     Ok(acts)
 }
 

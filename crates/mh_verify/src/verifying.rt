@@ -29,10 +29,7 @@ pub fn verify(alloc: Global, service: Service) -> Result<Accepted, Refusal>
 }
 
 /// The configurations that are reached, and the first of what is wrong there.
-fn judge(
-    alloc: Global,
-    service: &Service,
-) -> Result<(Vec<Config>, Option<Found>), AllocError>
+fn judge(alloc: Global, service: &Service) -> Result<(Vec<Config>, Option<Found>), AllocError>
     ensures reached { IfOk result (λ judged. AreReached service.now judged.0.items) }
     ensures first { IfOk result (λ judged. judged.1 ≡ least_of None (flat_map (refusals_in service.now) judged.0.items)) }
 {
@@ -41,11 +38,7 @@ fn judge(
     Ok((reached, first))
 }
 
-fn decide(
-    service: Service,
-    reached: Vec<Config>,
-    first: Option<Found>,
-) -> Result<Accepted, Refusal>
+fn decide(service: Service, reached: Vec<Config>, first: Option<Found>) -> Result<Accepted, Refusal>
     requires reached { AreReached service reached.items }
     requires first { first ≡ least_of None (flat_map (refusals_in service) reached.items) }
     ensures same { IfOk result (λ accepted. accepted ≡ service) }

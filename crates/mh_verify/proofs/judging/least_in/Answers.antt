@@ -1,4 +1,4 @@
-use Rattle.std.proofs.Common.{List, filter, ap, ◌∙◌, sym}
+use Rattle.std.proofs.Common.{List, filter, ap, ◌∙◌}
 use Rattle.std.specs.List.{flat_map}
 use Rattle.mh_model.specs.declared.object.Object.{Object}
 use Rattle.mh_model.specs.Active.{is_active}
@@ -15,8 +15,8 @@ returns c =
     let application = c.parts.result.0.now in
     let scene = c.parts.result.1.now in
     let e =
-        ap (λ b. least_of b (flat_map (wrong_with s os here) (filter (is_active os) scene))) c.in_ok-best.ensures
-        ∙ least_parts (wrong_with s os here) (is_active os) c.args.best application scene
-        ∙ ap (λ (xs : List Object). least_of c.args.best (flat_map (wrong_with s os here) (filter (is_active os) xs))) c.parts.ensures
-        ∙ ap (λ (xs : List Object). least_of c.args.best (flat_map (wrong_with s xs here) (filter (is_active xs) xs))) c.of.ensures in
+    ap (λ b. least_of b (flat_map (wrong_with s os here) (filter (is_active os) scene))) c.in_ok-best.ensures
+    ∙ least_parts (wrong_with s os here) (is_active os) c.args.best application scene
+    ∙ ap (λ (xs : List Object). least_of c.args.best (flat_map (wrong_with s os here) (filter (is_active os) xs))) c.parts.ensures
+    ∙ ap (λ (xs : List Object). least_of c.args.best (flat_map (wrong_with s xs here) (filter (is_active xs) xs))) c.of.ensures in
     rw (← e) c.least_of_objects-2.ensures

@@ -1,4 +1,4 @@
-use Rattle.std.proofs.Common.{◌≡◌, ◌<◌, ◌∙◌, ap, length, arith}
+use Rattle.std.proofs.Common.{◌<◌, ◌∙◌, ap, length, arith}
 use Rattle.mh_verify.specs.Reach.{led_to}
 use Rattle.mh_verify.proofs.SearchLemmas.{begun, searched, fewer, found_all}
 use Rattle.mh_verify.proofs.reaching.reached.Goals as goal

@@ -1,4 +1,4 @@
-use Rattle.std.proofs.Common.{ℕ, ◌+◌, ◌-◌, length}
+use Rattle.std.proofs.Common.{◌+◌, ◌-◌, length}
 use Rattle.mh_verify.proofs.SearchLemmas.{IsSearch}
 use Rattle.mh_verify.proofs.reaching.reached.Given as goal
 
