@@ -1,3 +1,12 @@
 pub mod NumberLemmas
 pub mod LeftLemmas
 pub mod ListLemmas
+pub mod FieldLemmas
+pub mod PieceLemmas
+pub mod SignLemmas
+pub mod FoundLemmas
+pub mod FoundSettings
+pub mod FoundGroups
+pub mod GapLemmas
+pub mod TokenLemmas
+pub mod FoundLaw
