@@ -65,7 +65,7 @@ pub none_passes : {A : Type 0} (p : A → Bool) (xs : List A) → ((x : A) → H
 none_passes p [] h = refl
 none_passes p (x ∷ xs) h = rw (h x (inl refl)) (none_passes p xs (λ y g. h y (inr g)))
 
-or_false : (a b : Bool) → (a || b) ≡ false → (a ≡ false) × (b ≡ false)
+pub or_false : (a b : Bool) → (a || b) ≡ false → (a ≡ false) × (b ≡ false)
 or_false true b h = absurd cc
 or_false false b h = (refl, h)
 
@@ -78,7 +78,7 @@ passes_none p (y ∷ ys) x h (inr has) = passes_none p ys x (or_false (p y) (lis
 abbrev pub Apart : List Field → List Field → Type 0
 Apart fs gs = (f g : Field) → Has fs f → Has gs g → (attribute_number f.attribute == attribute_number g.attribute) ≡ false
 
-same_turned : (n m : ℕ) → (n == m) ≡ false → (m == n) ≡ false
+pub same_turned : (n m : ℕ) → (n == m) ≡ false → (m == n) ≡ false
 same_turned n m h = grind (arith, nat_tests)
 
 -- fields of which none has the attribute of one that came before

@@ -10,3 +10,10 @@ pub mod FoundGroups
 pub mod GapLemmas
 pub mod TokenLemmas
 pub mod FoundLaw
+pub mod WordLemmas
+pub mod ExactLemmas
+pub mod OnlyLemmas
+pub mod OnlySettings
+pub mod OrderLemmas
+pub mod OnlyGroups
+pub mod OnlyLaw
