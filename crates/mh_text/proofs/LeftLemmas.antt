@@ -69,7 +69,7 @@ lexed_at_shorter : (start : ℕ) (bs : List ℕ) (kind : TokenKind) (s : ℕ) (t
 lexed_at_shorter start [] kind s text rest e = absurd cc
 lexed_at_shorter start (b ∷ bs) kind s text rest e = cut_shorter start (b ∷ bs) (token_at (b ∷ bs)) (long_token (b ∷ bs)) (omega arith) kind s text rest e
 
-lexed_shorter : (r : Rest) (kind : TokenKind) (s : ℕ) (text : List ℕ) (rest : Rest)
+pub lexed_shorter : (r : Rest) (kind : TokenKind) (s : ℕ) (text : List ℕ) (rest : Rest)
     → lexed r ≡ token kind s text rest → length rest.bytes < length r.bytes
 unfolding lexed
 lexed_shorter r kind s text rest e =

@@ -18,6 +18,7 @@ use Rattle.mh_group.specs.declared.written.Setting.TheVariants as setting
 use Rattle.mh_group.specs.declared.written.Field.{Field}
 use Rattle.mh_group.specs.declared.written.Ingredient.{Ingredient}
 use Rattle.mh_group.specs.declared.written.Written.{Written as Group}
+use Rattle.mh_group.specs.Fit.{is_group}
 use Rattle.mh_group.specs.Table.{attribute_number}
 use Rattle.mh_group.specs.Words.{class_word, attribute_word, action_word, event_word}
 use Rattle.mh_text.specs.declared.token_kind.TokenKind.{TokenKind}
@@ -158,3 +159,11 @@ IsGroup x ws rest = (a : List Written) × (b : List Written) × (c : List Writte
 -- the bytes spell the group, and nothing else
 unfoldable pub Spells : List ℕ → Group → Type 0
 Spells bytes x = (length bytes ≤ 1048576) × (words : List Written) × AreWords false bytes words × IsGroup x words []
+
+-- the bytes spell no group that the tables allow
+abbrev pub SpellsNone : List ℕ → Type 0
+SpellsNone bytes = (x : Group) → is_group x ≡ true → Spells bytes x → ⊥
+
+-- the bytes spell no group that the tables allow but this one
+abbrev pub SpellsNoOther : List ℕ → Group → Type 0
+SpellsNoOther bytes x = (y : Group) → is_group y ≡ true → Spells bytes y → y ≡ x

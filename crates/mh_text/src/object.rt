@@ -1,10 +1,11 @@
 //! Readers of fields, ingredients and groups, and `read_group`. Which attributes a class takes and
 //! has to be written with is the word of `mh_group`'s tables.
-ghost use Rattle.std.specs.Prelude.{◌≡◌, ◌≤◌, [], false, true, nat_lt, length, IfOk};
+ghost use Rattle.std.specs.Prelude.{◌≡◌, ◌≢◌, ◌≤◌, [], false, true, nat_lt, length, IfOk, IfErr};
 ghost use Rattle.std.specs.List.{prefix_len};
 ghost use Rattle.mh_group.specs.Table.{attribute_number};
 ghost use Rattle.mh_group.specs.Fit.{has_required as has_required_lem};
 ghost use Rattle.mh_text.specs.Gives.{Gives};
+ghost use Rattle.mh_text.specs.Spelling.{Spells, SpellsNone, SpellsNoOther};
 ghost use Rattle.mh_text.specs.Lexing.{behind_gap as behind_gap_lem, begins_group as begins_group_lem};
 ghost use Rattle.mh_text.specs.Reading.{read, group as group_lem, body as body_lem, class_of as class_of_lem, identifier as identifier_lem, is_items as is_items_lem, fields as fields_lem, next_field as next_field_lem, fields_behind_items as fields_behind_items_lem, attribute_of as attribute_of_lem, has_attribute as has_attribute_lem, placed, complete as complete_lem, items as items_lem, listed, next_member, ingredient as ingredient_lem};
 
@@ -44,6 +45,9 @@ fn behind_gap(bytes: &[u8]) -> &[u8]
 #[tactic(auto, unfolding(crate::specs::Reading::read))]
 pub fn read_group(alloc: Global, bytes: &[u8]) -> Result<Group, TextError>
     ensures exact { Gives (λ x. x) result (read bytes.now) }
+    ensures found { IfOk result (Spells bytes.now) }
+    ensures one { IfOk result (SpellsNoOther bytes.now) }
+    ensures only { IfErr result (λ e. e ≢ TextError.NoMemory → SpellsNone bytes.now) }
 {
     if bytes.len() > LARGEST_FILE {
         return Err(TextError::At {

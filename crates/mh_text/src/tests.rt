@@ -18,7 +18,7 @@ const SCENE: &[u8] =
 
 #[test]
 fn reads_and_refuses(rt: HostRuntime) {
-    let cases: [(&[u8], u32, usize); 24] = [
+    let cases: [(&[u8], u32, usize); 34] = [
         (b"{:Application (\"~/a\" 0)", 21, 23),
         (b"{:Applicatoin (\"~/a\" 0) }", 22, 1),
         (b"{:Application (\"~/a", 20, 15),
@@ -63,9 +63,32 @@ fn reads_and_refuses(rt: HostRuntime) {
         (b"", 21, 0),
         (b"{:Application ('~/a' 0) }", 21, 15),
         (b"{:Application (\"~/a\" 0) :Items ( ) :Items ( ) }", 21, 35),
+        (b"{:Application(\"~/a\"0)}// no line's end", 0, 0),
+        (b"{:Application (\"~/a\" 0) } /", 20, 26),
+        (b"{:Application (\"~/a\" -0) :OnStartUp() :Items() }", 0, 0),
+        (b"{:Scene (\"~/a\" 000) :InputEventReg -007 }", 0, 0),
+        (b"{:Scene (\"~/a\" 0) :InputEventReg -5-5 }", 21, 35),
+        (b"{:Scene (\"~/a\" 0) :InputEventReg//\n5 }", 0, 0),
+        (b"{:Scene (\"~/a\" 0) :InputEventReg-5 }", 21, 32),
+        (b"{:Scene (\"~/a\" 0) :InputEventReg true5 }", 21, 33),
+        (b"{:Scene (\"~/a\" 0) :InputEventReg True }", 22, 33),
+        (b"{:Scene (\"~/a\" 0) :InputEventReg 3 \xff }", 20, 35),
     ];
     for (text, number, offset) in cases {
         assert_eq!(rt; refusal(rt.alloc(), text), (number, offset), "{text:?}");
+    }
+}
+
+/// A file that was cut off is no group, wherever it was cut; the offset lies within what is left.
+#[test]
+fn refuses_what_is_cut_off(rt: HostRuntime) {
+    for text in [START, SCENE] {
+        for end in 0..text.len() {
+            let (number, offset) = refusal(rt.alloc(), &text[..end]);
+            assert!(rt; 20 <= number && number <= 23, "cut at {end}: {number}");
+            assert!(rt; offset <= end, "cut at {end}: {offset}");
+        }
+        assert_eq!(rt; refusal(rt.alloc(), text), (0, 0));
     }
 }
 

@@ -1,0 +1,380 @@
+-- What is spelled is read: fields, ingredients and groups.
+use Rattle.std.proofs.Common.{◌≡◌, ℕ, zero, suc, ◌<◌, ◌≤◌, inl, inr, Bool, true, false, ◌&&◌, not, ◌==◌, nat_lt, if◌then◌else◌, List, [], ◌∷◌, ◌++◌, length, Option, Some, None, is_none, Result, Ok, pos, refl, ap, sym, ◌∙◌, subst, arith}
+use Rattle.std.specs.Option.{option_or}
+use Rattle.std.proofs.lemmas.Bool.{and_from}
+use Rattle.std.proofs.lemmas.Bool.Decides.{nat_tests}
+use Rattle.mh_group.specs.declared.class.Class.{Class}
+use Rattle.mh_group.specs.declared.attribute.Attribute.{Attribute}
+use Rattle.mh_group.specs.declared.attribute.Attribute.TheVariants as attribute
+use Rattle.mh_group.specs.declared.written.Setting.{Setting}
+use Rattle.mh_group.specs.declared.written.Setting.TheVariants as of_setting
+use Rattle.mh_group.specs.declared.written.Field.{Field}
+use Rattle.mh_group.specs.declared.written.Ingredient.{Ingredient}
+use Rattle.mh_group.specs.declared.written.Written.{Written as Group}
+use Rattle.mh_group.specs.declared.misfit.MisfitWhy.{MisfitWhy}
+use Rattle.mh_group.specs.Table.{attribute_number, shape_of, takes, is_group_class}
+use Rattle.mh_group.specs.Fit.{fits, is_rising, has_required, takes_each, fits_each, fields_misfit, ingredient_misfit, ingredients_misfit, misfit_of, written_items, items_of, is_group}
+use Rattle.mh_group.specs.Words.{class_word, attribute_word}
+use Rattle.mh_text.specs.declared.token_kind.TokenKind.TheVariants as kind
+use Rattle.mh_text.specs.declared.sign.Sign.{Sign}
+use Rattle.mh_text.specs.declared.sign.Sign.TheVariants as sign
+use Rattle.mh_text.specs.declared.text_error.Why.TheVariants as why
+use Rattle.mh_text.specs.Rest.{Left, Piece}
+use Rattle.mh_text.specs.Words.{Written}
+use Rattle.mh_text.specs.Signs.{sign_of}
+use Rattle.mh_text.specs.Gives.{Refusal, refused}
+use Rattle.mh_text.specs.Spelling.{IsKeyword, IsCloseBrace, IsNamed, AreSeveral, IsListOf, IsField, NoneTwice, AreFieldsOf, IsIngredient, IsBody, IsGroup, Spells}
+use Rattle.mh_text.specs.Left.{left, whole}
+use Rattle.mh_text.specs.Reading.{next, ended, is_same, is_close, opened, closed, braced, refused_at, name_of, number_of, ingredient_number_of, setting, has_attribute, attribute_of, placed, is_items_shape, is_items, next_field, fields, fields_behind_items, complete, class_of, ingredient, items, identifier, body, group, read}
+use Rattle.mh_text.proofs.SignLemmas.{class_means, attribute_means, integer_means}
+use Rattle.mh_text.proofs.FieldLemmas.{Has, Apart, has_contained, contains_had, has_left, has_right, none_passes, passes_none, same_turned}
+use Rattle.mh_text.proofs.OrderLemmas.{gathered_in, gathered_both, gathered_parts, gathered_same, free_first, apart_next, few_fields, all_had}
+use Rattle.mh_text.proofs.OnlyLemmas.{StandsAt, first, at_end, then_is, Reads, Begun, open_read, close_read, brace_read, name_is, number_is, listed_read, AllFit}
+use Rattle.mh_text.proofs.OnlySettings.{setting_read}
+
+-- the attribute of a field is not that of the items
+no_items_shape : (a : Attribute) (s : Setting) → fits (shape_of a) s ≡ true → is_items_shape (shape_of a) ≡ false
+no_items_shape attribute.Items (of_setting.Bool b) h = absurd cc
+no_items_shape attribute.Items _ h = absurd cc
+no_items_shape _ s h = refl
+
+no_items_number : (a : Attribute) (s : Setting) → fits (shape_of a) s ≡ true → (attribute_number a == attribute_number attribute.Items) ≡ false
+no_items_number attribute.Items (of_setting.Bool b) h = absurd cc
+no_items_number attribute.Items _ h = absurd cc
+no_items_number _ s h = refl
+
+attribute_is : (c : Class) (done : List Field) (a : Attribute) (start : ℕ) (text : List ℕ) → takes c a ≡ true → has_attribute done a ≡ false
+    → attribute_of c done (record { sign = sign.Attribute a; start = start; text = text }) ≡ Ok a
+unfolding attribute_of
+attribute_is c done a start text taken free =
+    let both : (takes c a && not (has_attribute done a)) ≡ true = and_from _ _ taken (ap not free) in
+    ap (λ (b : Bool). if b then Ok a else refused_at why.Syntax (record { sign = sign.Attribute a; start = start; text = text })) both
+
+-- what a field has to be
+abbrev FitsIn : Class → Field → Type 0
+FitsIn c f = (takes c f.attribute ≡ true) × (fits (shape_of f.attribute) f.setting ≡ true)
+
+-- the next field was read
+record FieldRead (c : Class) (done : List Field) (f : Field) (l : Left) (ws : List Written) : Type 0 where
+  pub head : Piece
+  pub rest : Left
+  pub is : next_field c done l ≡ Ok (Some f, head, rest)
+  pub at : StandsAt rest ws
+
+field_read : (c : Class) (done : List Field) (f : Field) (l : Left) (ws rest : List Written) → FitsIn c f → has_attribute done f.attribute ≡ false → StandsAt l ws → IsField f ws rest
+    → FieldRead c done f l rest
+unfolding next_field
+field_read c done f l ws rest fit free at (a, named, value) =
+    let s = first l ws a kind.Keyword (58 ∷ attribute_word f.attribute) (sign.Attribute f.attribute) at named (attribute_means f.attribute) in
+    let v = setting_read (shape_of f.attribute) f.setting s.rest a rest fit.1 s.at value in
+    let p : Piece = record { sign = sign.Attribute f.attribute; start = s.start; text = 58 ∷ attribute_word f.attribute } in
+    record {
+      head = p;
+      rest = v.rest;
+      is = then_is (next l) _ _ (Some f, p, v.rest) s.first
+          (then_is (attribute_of c done p) _ f.attribute (Some f, p, v.rest) (attribute_is c done f.attribute s.start (58 ∷ attribute_word f.attribute) fit.0 free)
+          (rw (no_items_shape f.attribute f.setting fit.1) (then_is (setting (shape_of f.attribute) s.rest) _ _ (Some f, p, v.rest) v.is refl)));
+      at = v.at;
+    }
+
+-- fields end at a token
+record Ended (c : Class) (done : List Field) (l : Left) (ws : List Written) (Q : Sign → Type 0) : Type 0 where
+  pub head : Piece
+  pub rest : Left
+  pub is : next_field c done l ≡ Ok (None, head, rest)
+  pub at : StandsAt rest ws
+  pub test : Q head.sign
+
+record FieldsRead (result : Result (List Field × Piece × Left) Refusal) (xs : List Field) (ws : List Written) (Q : Sign → Type 0) : Type 0 where
+  pub head : Piece
+  pub rest : Left
+  pub is : result ≡ Ok (xs, head, rest)
+  pub at : StandsAt rest ws
+  pub test : Q head.sign
+
+fields_read : (c : Class) (n : ℕ) (done fs : List Field) (l : Left) (ws end rest : List Written) (Q : Sign → Type 0) → length fs < n → Apart done fs → NoneTwice fs
+    → ((x : Field) → Has fs x → FitsIn c x) → StandsAt l ws → AreSeveral IsField fs ws end → ((m : Left) → StandsAt m end → Ended c (gathered_in fs done) m rest Q)
+    → FieldsRead (fields c n done l) (gathered_in fs done) rest Q
+unfolding fields
+fields_read c zero done fs l ws end rest Q few apart once fit at several ends = absurd (omega arith)
+fields_read c (suc n) done [] l ws end rest Q few apart once fit at several ends =
+    let e = ends l (subst (StandsAt l) several at) in
+    record { head = e.head; rest = e.rest; is = then_is (next_field c done l) _ _ (done, e.head, e.rest) e.is refl; at = e.at; test = e.test }
+fields_read c (suc n) done (f ∷ fs) l ws end rest Q few apart once fit at (a, here, behind) ends =
+    let r = field_read c done f l ws a (fit f (inl refl)) (free_first f fs done apart) at here in
+    let m = fields_read c n (placed f done) fs r.rest a end rest Q (omega arith) (apart_next f fs done apart once) once.1 (λ x h. fit x (inr h)) r.at behind ends in
+    record { head = m.head; rest = m.rest; is = then_is (next_field c done l) _ _ (gathered_in fs (placed f done), m.head, m.rest) r.is m.is; at = m.at; test = m.test }
+
+abbrev IsBrace : Sign → Type 0
+IsBrace s = s ≡ sign.CloseBrace
+
+abbrev IsItems : Sign → Type 0
+IsItems s = s ≡ sign.Attribute attribute.Items
+
+ends_brace : (c : Class) (done : List Field) (end rest : List Written) → IsCloseBrace end rest → (m : Left) → StandsAt m end → Ended c done m rest IsBrace
+unfolding next_field sign_of
+ends_brace c done end rest e m at =
+    let s = first m end rest kind.CloseBrace (125 ∷ []) sign.CloseBrace at e refl in
+    record { head = record { sign = sign.CloseBrace; start = s.start; text = 125 ∷ [] }; rest = s.rest; is = then_is (next m) _ _ (None, record { sign = sign.CloseBrace; start = s.start; text = 125 ∷ [] }, s.rest) s.first refl; at = s.at; test = refl }
+
+ends_items : (c : Class) (done : List Field) (end rest : List Written) → is_group_class c ≡ true → ((x : Field) → Has done x → FitsIn c x) → IsKeyword (attribute_word attribute.Items) end rest
+    → (m : Left) → StandsAt m end → Ended c done m rest IsItems
+unfolding next_field
+ends_items c done end rest group_class fit e m at =
+    let s = first m end rest kind.Keyword (58 ∷ attribute_word attribute.Items) (sign.Attribute attribute.Items) at e (attribute_means attribute.Items) in
+    let p : Piece = record { sign = sign.Attribute attribute.Items; start = s.start; text = 58 ∷ attribute_word attribute.Items } in
+    let free : has_attribute done attribute.Items ≡ false =
+    none_passes (λ (g : Field). attribute_number g.attribute == attribute_number attribute.Items) done (λ g h. no_items_number g.attribute g.setting (fit g h).1) in
+    record {
+      head = p;
+      rest = s.rest;
+      is = then_is (next m) _ _ (None, p, s.rest) s.first
+          (then_is (attribute_of c done p) _ attribute.Items (None, p, s.rest) (attribute_is c done attribute.Items s.start (58 ∷ attribute_word attribute.Items) group_class free) refl);
+      at = s.at;
+      test = refl;
+    }
+
+-- what an object's fields are, where nothing is wrong with them
+record AreRight (c : Class) (fs : List Field) : Type 0 where
+  pub rising : is_rising fs ≡ true
+  pub required : has_required c fs ≡ true
+  pub fit : (x : Field) → Has fs x → FitsIn c x
+
+if_none : (b : Bool) (w : MisfitWhy) (r : Option MisfitWhy) → (if not b then Some w else r) ≡ None → (b ≡ true) × (r ≡ None)
+if_none true w r e = (refl, e)
+if_none false w r e = absurd cc
+
+if_no_none : (b : Bool) (w : MisfitWhy) (r : Option MisfitWhy) → (if b then Some w else r) ≡ None → (b ≡ false) × (r ≡ None)
+if_no_none true w r e = absurd cc
+if_no_none false w r e = (refl, e)
+
+are_right : (c : Class) (fs : List Field) → fields_misfit c fs ≡ None → AreRight c fs
+are_right c fs e =
+    let a = if_none (is_rising fs) _ _ e in
+    let b = if_none (has_required c fs) _ _ a.1 in
+    let d = if_none (takes_each c fs) _ _ b.1 in
+    let f = if_none (fits_each fs) _ _ d.1 in
+    record {
+      rising = a.0;
+      required = b.0;
+      fit = λ x h. (all_had (λ f. takes c f.attribute) fs x d.0 h, all_had (λ f. fits (shape_of f.attribute) f.setting) fs x f.0 h);
+    }
+
+written_fit : (c : Class) (xs fs : List Field) → AreRight c xs → AreFieldsOf xs fs → (x : Field) → Has fs x → FitsIn c x
+written_fit c xs fs right (once, same) x h = right.fit x (has_contained xs x ((same x).0 (contains_had fs x h)))
+
+complete_is : (c : Class) (xs : List Field) (p : Piece) → has_required c xs ≡ true → complete c xs p ≡ Ok xs
+unfolding complete
+complete_is c xs p h = ap (λ (b : Bool). if b then Ok xs else refused_at why.Syntax p) h
+
+class_is : (wanted : Bool) (c : Class) (start : ℕ) (text : List ℕ) → is_group_class c ≡ wanted → class_of wanted (record { sign = sign.Class c; start = start; text = text }) ≡ Ok c
+unfolding class_of
+class_is true c start text h = ap (λ (b : Bool). if is_same b true then Ok c else refused_at why.Syntax (record { sign = sign.Class c; start = start; text = text })) h
+class_is false c start text h = ap (λ (b : Bool). if is_same b false then Ok c else refused_at why.Syntax (record { sign = sign.Class c; start = start; text = text })) h
+
+ingredient_number_is : (n start : ℕ) (text : List ℕ) → (n == 0) ≡ false → ingredient_number_of (record { sign = sign.Integer (pos n); start = start; text = text }) ≡ Ok n
+unfolding ingredient_number_of
+ingredient_number_is n start text h =
+    then_is (number_of (record { sign = sign.Integer (pos n); start = start; text = text })) _ n n (number_is start text n)
+    (ap (λ (b : Bool). if b then refused_at why.Range (record { sign = sign.Integer (pos n); start = start; text = text }) else Ok n) h)
+
+-- ingredients
+abbrev FitsIngredient : Ingredient → Type 0
+FitsIngredient x = ingredient_misfit x ≡ None
+
+ingredient_read : (l : Left) (x : Ingredient) (ws rest : List Written) → FitsIngredient x → StandsAt l ws → IsIngredient x ws rest → (b : Begun l ingredient x rest) × (is_close b.head.sign ≡ false)
+unfolding ingredient sign_of
+ingredient_read l x ws rest fit at (a, b, c, d, fs, opens, named, (text, writes, number), several, same, close) =
+    let g = if_no_none (is_group_class x.class) _ _ fit in
+    let n = if_no_none (x.number == 0) _ _ g.1 in
+    let right = are_right x.class x.fields n.1 in
+    let s = first l ws a kind.OpenBrace (123 ∷ []) sign.OpenBrace at opens refl in
+    let t = first s.rest a b kind.Keyword (58 ∷ class_word x.class) (sign.Class x.class) s.at named (class_means x.class) in
+    let u = first t.rest b c kind.Integer text (sign.Integer (pos x.number)) t.at number (integer_means text (pos x.number) writes) in
+    let few = few_fields fs same.0 in
+    let f = fields_read x.class 4096 [] fs u.rest c d rest IsBrace (omega arith) (λ y z h. absurd h) same.0 (written_fit x.class x.fields fs right same) u.at several
+    (ends_brace x.class (gathered_in fs []) d rest close) in
+    let kept : gathered_in fs [] ≡ x.fields = gathered_same x.fields fs right.rising same in (
+      record {
+        head = record { sign = sign.OpenBrace; start = s.start; text = 123 ∷ [] };
+        behind = s.rest;
+        first = s.first;
+        rest = f.rest;
+        is = then_is (next s.rest) _ _ (x, f.rest) t.first
+            (then_is (class_of false (record { sign = sign.Class x.class; start = t.start; text = 58 ∷ class_word x.class })) _ x.class (x, f.rest) (class_is false x.class t.start (58 ∷ class_word x.class) g.0)
+            (then_is (next t.rest) _ _ (x, f.rest) u.first
+            (then_is (ingredient_number_of (record { sign = sign.Integer (pos x.number); start = u.start; text = text })) _ x.number (x, f.rest) (ingredient_number_is x.number u.start text n.0)
+            (then_is (fields x.class 4096 [] u.rest) _ _ (x, f.rest) (f.is ∙ ap (λ ys. Ok (ys, f.head, f.rest)) kept)
+            (then_is (complete x.class x.fields f.head) _ x.fields (x, f.rest) (complete_is x.class x.fields f.head right.required) refl)))));
+        at = f.at;
+      },
+      refl,
+    )
+
+or_none : (o p : Option MisfitWhy) → option_or o p ≡ None → (o ≡ None) × (p ≡ None)
+or_none (Some w) p e = absurd cc
+or_none None p e = (refl, e)
+
+all_fit : (xs : List Ingredient) → ingredients_misfit xs ≡ None → AllFit ingredient IsIngredient FitsIngredient ingredient_read xs
+all_fit [] h = tt
+all_fit (x ∷ xs) h =
+    let both = or_none (ingredient_misfit x) (ingredients_misfit xs) h in
+    (both.0, all_fit xs both.1)
+
+items_read : (l : Left) (xs : List Ingredient) (ws rest : List Written) → ingredients_misfit xs ≡ None → StandsAt l ws → IsListOf IsIngredient xs ws rest → Reads (items l) xs rest
+unfolding items
+items_read l xs ws rest fit at (few, a, b, opens, several, close) =
+    let o = open_read l ws a at opens in
+    let r = listed_read ingredient IsIngredient FitsIngredient ingredient_read 4096 [] xs o.rest a b rest few (all_fit xs fit) o.at several close in
+    record { rest = r.rest; is = then_is (opened l) _ o.rest (xs, r.rest) o.is r.is; at = r.at }
+
+-- the group
+identifier_read : (l : Left) (name : List ℕ) (ws rest : List Written) → StandsAt l ws → IsNamed name 0 ws rest → Reads (identifier l) name rest
+unfolding identifier sign_of
+identifier_read l name ws rest at (a, b, c, opens, named, (text, writes, number), close) =
+    let o = open_read l ws a at opens in
+    let s = first o.rest a b kind.Text (34 ∷ (name ++ 34 ∷ [])) sign.Text o.at named refl in
+    let t = first s.rest b c kind.Integer text (sign.Integer (pos 0)) s.at number (integer_means text (pos 0) writes) in
+    let g = close_read t.rest c rest t.at close in
+    record {
+      rest = g.rest;
+      is = then_is (opened l) _ o.rest (name, g.rest) o.is
+          (then_is (next o.rest) _ _ (name, g.rest) s.first
+          (then_is (name_of (record { sign = sign.Text; start = s.start; text = 34 ∷ (name ++ 34 ∷ []) })) _ name (name, g.rest) (name_is s.start name s.word)
+          (then_is (next s.rest) _ _ (name, g.rest) t.first
+          (then_is (number_of (record { sign = sign.Integer (pos 0); start = t.start; text = text })) _ 0 (name, g.rest) (number_is t.start text 0)
+          (then_is (closed t.rest) _ g.rest (name, g.rest) g.is refl)))));
+      at = g.at;
+    }
+
+record BodyRead (c : Class) (l : Left) (xs : List Field) (its : Option (List Ingredient)) (ws : List Written) : Type 0 where
+  pub head : Piece
+  pub rest : Left
+  pub is : body c l ≡ Ok (xs, its, head, rest)
+  pub at : StandsAt rest ws
+
+brace_no_items : (s : Sign) → IsBrace s → is_items s ≡ false
+unfolding is_items
+brace_no_items s h = ap is_items h
+
+items_are : (s : Sign) → IsItems s → is_items s ≡ true
+unfolding is_items
+items_are s h = ap is_items h
+
+behind_items_read : (c : Class) (done : List Field) (l : Left) (xs : List Field) (ws : List Written) → FieldsRead (fields c 4096 done l) xs ws IsBrace → FieldsRead (fields_behind_items c done l) xs ws IsBrace
+unfolding fields_behind_items
+behind_items_read c done l xs ws f = record {
+  head = f.head;
+  rest = f.rest;
+  is = then_is (fields c 4096 done l) _ _ (xs, f.head, f.rest) f.is (ap (λ (b : Bool). if b then refused_at why.Syntax f.head else Ok (xs, f.head, f.rest)) (brace_no_items f.head.sign f.test));
+  at = f.at;
+  test = f.test;
+}
+
+-- of fields before and behind the items
+once_front : (fs gs : List Field) → NoneTwice (fs ++ gs) → NoneTwice fs × NoneTwice gs × Apart fs gs
+once_front [] gs once = (tt, once, λ x y h g. absurd h)
+once_front (f ∷ fs) gs once =
+    let rest = once_front fs gs once.1 in (
+      (
+        none_passes (λ (g : Field). attribute_number g.attribute == attribute_number f.attribute) fs
+            (λ g h. passes_none (λ (g : Field). attribute_number g.attribute == attribute_number f.attribute) (fs ++ gs) g once.0 (has_left fs gs g h)),
+        rest.0,
+      ),
+      rest.1,
+      λ x y h g. elim h [
+        | inl is ↦ subst (λ (z : Field). (attribute_number z.attribute == attribute_number y.attribute) ≡ false) is
+            (same_turned (attribute_number y.attribute) (attribute_number f.attribute)
+            (passes_none (λ (g : Field). attribute_number g.attribute == attribute_number f.attribute) (fs ++ gs) y once.0 (has_right fs gs y g)))
+        | inr later ↦ rest.2 x y later g
+      ],
+    )
+
+body_read : (c : Class) (l : Left) (xs fs : List Field) (its : Option (List Ingredient)) (ws end rest : List Written) → is_group_class c ≡ true → AreRight c xs → AreFieldsOf xs fs
+    → ingredients_misfit (written_items its) ≡ None → StandsAt l ws → IsBody its fs ws end → IsCloseBrace end rest → BodyRead c l xs its rest
+unfolding body
+body_read c l xs fs None ws end rest group_class right same fit at several close =
+    let few = few_fields fs same.0 in
+    let f = fields_read c 4096 [] fs l ws end rest IsBrace (omega arith) (λ y z h. absurd h) same.0 (written_fit c xs fs right same) at several (ends_brace c (gathered_in fs []) end rest close) in
+    let kept : gathered_in fs [] ≡ xs = gathered_same xs fs right.rising same in
+    record {
+      head = f.head;
+      rest = f.rest;
+      is = then_is (fields c 4096 [] l) _ _ (xs, None, f.head, f.rest) (f.is ∙ ap (λ ys. Ok (ys, f.head, f.rest)) kept)
+          (rw (brace_no_items f.head.sign f.test) refl);
+      at = f.at;
+    }
+body_read c l xs fs (Some its) ws end rest group_class right same fit at (front, back, a, b, d, parts, before, named, listed_items, behind) close =
+    let once = once_front front back (subst NoneTwice parts same.0) in
+    let all_fits = written_fit c xs fs right same in
+    let fit_front : (x : Field) → Has front x → FitsIn c x = λ x h. all_fits x (subst (λ l. Has l x) (sym parts) (has_left front back x h)) in
+    let fit_back : (x : Field) → Has back x → FitsIn c x = λ x h. all_fits x (subst (λ l. Has l x) (sym parts) (has_right front back x h)) in
+    let from_front : (x : Field) → Has (gathered_in front []) x → Has front x = λ x h. elim (gathered_parts front [] x h) [ inl none ↦ absurd none | inr r ↦ r ] in
+    let few_front = few_fields front once.0 in
+    let few_back = few_fields back once.1 in
+    let f = fields_read c 4096 [] front l ws a b IsItems (omega arith) (λ y z h. absurd h) once.0 fit_front at before
+    (ends_items c (gathered_in front []) a b group_class (λ x h. fit_front x (from_front x h)) named) in
+    let it = items_read f.rest its b d fit f.at listed_items in
+    let g = behind_items_read c (gathered_in front []) it.rest (gathered_in back (gathered_in front [])) rest
+    (fields_read c 4096 (gathered_in front []) back it.rest d end rest IsBrace (omega arith) (λ x y h k. once.2 x y (from_front x h) k) once.1 fit_back it.at behind
+    (ends_brace c (gathered_in back (gathered_in front [])) end rest close)) in
+    let kept : gathered_in back (gathered_in front []) ≡ xs = sym (gathered_both front back []) ∙ ap (λ l. gathered_in l []) (sym parts) ∙ gathered_same xs fs right.rising same in
+    record {
+      head = g.head;
+      rest = g.rest;
+      is = then_is (fields c 4096 [] l) _ _ (xs, Some its, g.head, g.rest) f.is
+          (rw (items_are f.head.sign f.test)
+          (then_is (items f.rest) _ _ (xs, Some its, g.head, g.rest) it.is
+          (then_is (fields_behind_items c (gathered_in front []) it.rest) _ _ (xs, Some its, g.head, g.rest) (g.is ∙ ap (λ ys. Ok (ys, g.head, g.rest)) kept) refl)));
+      at = g.at;
+    }
+
+record IsRight (g : Group) : Type 0 where
+  pub class : is_group_class g.class ≡ true
+  pub fields : AreRight g.class g.fields
+  pub items : ingredients_misfit (items_of g) ≡ None
+
+none_is : (o : Option MisfitWhy) → is_none o ≡ true → o ≡ None
+none_is None h = refl
+none_is (Some w) h = absurd cc
+
+is_right : (g : Group) → is_group g ≡ true → IsRight g
+unfolding misfit_of
+is_right g h =
+    let n = none_is (misfit_of g) h in
+    let a = if_none (is_group_class g.class) _ _ n in
+    let b = or_none (fields_misfit g.class g.fields) (ingredients_misfit (items_of g)) a.1 in
+    record { class = a.0; fields = are_right g.class g.fields b.0; items = b.1 }
+
+group_read : (l : Left) (g : Group) (ws rest : List Written) → is_group g ≡ true → StandsAt l ws → IsGroup g ws rest → Reads (group l) g rest
+unfolding group
+group_read l g ws rest fit at (a, b, c, d, fs, opens, named, identity, between, same, close) =
+    let right = is_right g fit in
+    let o = brace_read l ws a at opens in
+    let t = first o.rest a b kind.Keyword (58 ∷ class_word g.class) (sign.Class g.class) o.at named (class_means g.class) in
+    let i = identifier_read t.rest g.identifier b c t.at identity in
+    let x = body_read g.class i.rest g.fields fs g.items c d rest right.class right.fields same right.items i.at between close in
+    record {
+      rest = x.rest;
+      is = then_is (braced l) _ o.rest (g, x.rest) o.is
+          (then_is (next o.rest) _ _ (g, x.rest) t.first
+          (then_is (class_of true (record { sign = sign.Class g.class; start = t.start; text = 58 ∷ class_word g.class })) _ g.class (g, x.rest) (class_is true g.class t.start (58 ∷ class_word g.class) right.class)
+          (then_is (identifier t.rest) _ _ (g, x.rest) i.is
+          (then_is (body g.class i.rest) _ _ (g, x.rest) x.is
+          (then_is (complete g.class g.fields x.head) _ g.fields (g, x.rest) (complete_is g.class g.fields x.head right.fields.required) refl)))));
+      at = x.at;
+    }
+
+not_long : (n : ℕ) → n ≤ 1048576 → nat_lt 1048576 n ≡ false
+not_long n h = grind (arith, nat_tests)
+
+-- a text that spells a group is read as that group
+pub read_only : (bytes : List ℕ) (g : Group) → is_group g ≡ true → Spells bytes g → read bytes ≡ Ok g
+unfolding read Spells
+read_only bytes g fit (short, words, are_words, is_group_spelled) =
+    let at : StandsAt (left false (whole bytes)) words = record { wants = false; place = whole bytes; is = refl; words = are_words } in
+    let r = group_read (left false (whole bytes)) g words [] fit at is_group_spelled in
+    rw (not_long (length bytes) short)
+    (then_is (group (left false (whole bytes))) _ _ g r.is
+    (then_is (ended r.rest) _ tt g (at_end r.rest r.at)
+    (ap (λ (b : Bool). if b then Ok g else refused why.Syntax (length bytes)) fit)))
