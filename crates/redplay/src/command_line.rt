@@ -54,7 +54,9 @@ fn what_to_check<'a>(check: Option<&ArgMatches<'a>>) -> Asked<'a> {
         task: Task::Check,
         folder: check.and_then(|check| check.get_str("DIR")),
         script: None,
-        start: check.and_then(|check| check.get_str("start")).unwrap_or(START),
+        start: check
+            .and_then(|check| check.get_str("start"))
+            .unwrap_or(START),
         lenient: false,
     }
 }
@@ -82,7 +84,9 @@ fn play<'a>(alloc: Global) -> Result<Command<'a>, AllocError> {
 fn described<'a>(alloc: Global) -> Command<'a> {
     Command::new(alloc, "play")
         .about("Plays a script on a service and prints what happens and what is shown")
-        .after_help("Example:\n  redplay play examples/first/service --script examples/first/script")
+        .after_help(
+            "Example:\n  redplay play examples/first/service --script examples/first/script",
+        )
 }
 
 fn folder<'a>(alloc: Global) -> Arg<'a> {

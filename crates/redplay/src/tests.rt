@@ -1,8 +1,8 @@
 //! Plays from outside: what is written for a service and a script.
-use crate::options::Options;
-use crate::play::play_bytes;
 use crate::check::check_bytes;
 use crate::cutting_sink::CuttingSink;
+use crate::options::Options;
+use crate::play::play_bytes;
 use crate::play_error::PlayError;
 use crate::sink::ListSink;
 use mh_base::GroupName;
@@ -294,7 +294,10 @@ fn check_cut(rt: &(impl Abort + AllocGlobal), writes: usize, most: usize) -> Res
     };
     let script = MOVES.as_bytes();
     let ended = play_bytes(alloc, files.as_slice(), script, &options, &mut sink);
-    assert!(rt; FRAMES.as_bytes().starts_with(sink.bytes.as_slice()), "{writes} writes");
+    assert!(rt;
+        FRAMES.as_bytes().starts_with(sink.bytes.as_slice()),
+        "{writes} writes"
+    );
     match ended {
         Ok(_) => assert_eq!(rt; sink.bytes.len(), FRAMES.len(), "{writes} writes"),
         Err(why) => {
@@ -330,15 +333,17 @@ fn tells_what_the_verifier_says(rt: HostRuntime) -> Result<(), Fail> {
     let files = [APPLICATION, ABSENT];
     check_verdict(&rt, "an absent object", &files, absent)?;
     check_strict(&rt, "an absent object, played", &files, absent)?;
-    let class = (
-        "refused V2 s 0 1 SetPosition\nconfig a s\nobject s 0\n",
-        1,
-    );
+    let class = ("refused V2 s 0 1 SetPosition\nconfig a s\nobject s 0\n", 1);
     let files = [APPLICATION, WRONG_CLASS];
     check_verdict(&rt, "a box that is a scene", &files, class)?;
     let lone = [EMPTY, WRONG_CLASS];
     check_verdict(&rt, "a scene that is never reached", &lone, accepted)?;
-    check_verdict(&rt, "a group without an end", &[OPEN], ("file a 21 23\n", 2))?;
+    check_verdict(
+        &rt,
+        "a group without an end",
+        &[OPEN],
+        ("file a 21 23\n", 2),
+    )?;
     check_verdict(&rt, "no application", &[SCENE], ("service 31 a\n", 2))
 }
 
