@@ -6,6 +6,7 @@ use mh_group::{
 };
 use mh_service::Service;
 use std::alloc::{AllocError, Global};
+use std::process::Abort;
 use std::test::Fail;
 
 /// An action: its name, the letter of the group of its target (or a space for the same group), and the
@@ -184,75 +185,97 @@ const TO_SCENE: Plan<'static> = (&[(GO, b's', 0)], &[], &[]);
 
 const NOTHING: Plan<'static> = (&[], &[], &[]);
 
+/// Asks the verifier about an application and a scene, and compares what it says.
+fn judge(
+    rt: &(impl Abort + AllocGlobal),
+    what: &str,
+    application: Plan<'_>,
+    scene: Plan<'_>,
+    expected: Option<Said>,
+) -> Result<(), Fail> {
+    let service = service(rt.alloc(), application, scene)?;
+    let found = verdict(verify(rt.alloc(), service))?;
+    assert_eq!(rt; found, expected, "{what}");
+    Ok(())
+}
+
 #[test]
 fn judges_a_scene(rt: HostRuntime) -> Result<(), Fail> {
-    let cases: [(&str, Plan<'_>, Option<Said>); 7] = [
-        (
-            "a link that moves a rectangle",
-            (
-                &[],
-                &[],
-                &[
-                    Thing::Rectangle(10),
-                    Thing::Link(11, (b' ', 0), &[(MOVE, b' ', 10)]),
-                ],
-            ),
-            None,
-        ),
-        (
-            "a link that moves what is not there",
-            (
-                &[],
-                &[],
-                &[
-                    Thing::Rectangle(10),
-                    Thing::Link(11, (b' ', 0), &[(MOVE, b' ', 99)]),
-                ],
-            ),
-            Some((1, (b's', 11, 1), MOVE, b's', (b's', 99))),
-        ),
-        (
-            "a close-down that names what is not there, behind a start-up",
-            (
-                &[(ADD, b' ', 20)],
-                &[(SET, b' ', 21)],
-                &[Thing::Variable(20)],
-            ),
-            Some((1, (b's', 0, 2), SET, b's', (b's', 21))),
-        ),
-        (
-            "a variable is not moved",
-            (&[(MOVE, b' ', 20)], &[], &[Thing::Variable(20)]),
-            Some((2, (b's', 0, 1), MOVE, b's', (b's', 20))),
-        ),
-        (
-            "two links, the second with the lesser number",
-            (
-                &[],
-                &[],
-                &[
-                    Thing::Link(12, (b' ', 0), &[(MOVE, b' ', 98)]),
-                    Thing::Link(11, (b' ', 0), &[(GO, b' ', 0), (MOVE, b' ', 99)]),
-                ],
-            ),
-            Some((1, (b's', 11, 2), MOVE, b's', (b's', 99))),
-        ),
-        (
-            "a link whose source is not there",
-            (&[], &[], &[Thing::Link(11, (b' ', 5), &[(MOVE, b' ', 99)])]),
-            None,
-        ),
-        (
-            "a transition to an application",
-            (&[(GO, b'a', 0)], &[], &[]),
-            Some((2, (b's', 0, 1), GO, b's', (b'a', 0))),
-        ),
-    ];
-    for (what, scene, expected) in cases {
-        let service = service(rt.alloc(), TO_SCENE, scene)?;
-        let found = verdict(verify(rt.alloc(), service))?;
-        assert_eq!(rt; found, expected, "{what}");
-    }
+    let plan: Plan<'_> = (
+        &[],
+        &[],
+        &[
+            Thing::Rectangle(10),
+            Thing::Link(11, (b' ', 0), &[(MOVE, b' ', 10)]),
+        ],
+    );
+    judge(&rt, "a link that moves a rectangle", TO_SCENE, plan, None)?;
+    let plan: Plan<'_> = (
+        &[],
+        &[],
+        &[
+            Thing::Rectangle(10),
+            Thing::Link(11, (b' ', 0), &[(MOVE, b' ', 99)]),
+        ],
+    );
+    judge(
+        &rt,
+        "a link that moves what is not there",
+        TO_SCENE,
+        plan,
+        Some((1, (b's', 11, 1), MOVE, b's', (b's', 99))),
+    )?;
+    let plan: Plan<'_> = (
+        &[(ADD, b' ', 20)],
+        &[(SET, b' ', 21)],
+        &[Thing::Variable(20)],
+    );
+    judge(
+        &rt,
+        "a close-down that names what is not there, behind a start-up",
+        TO_SCENE,
+        plan,
+        Some((1, (b's', 0, 2), SET, b's', (b's', 21))),
+    )?;
+    let plan: Plan<'_> = (&[(MOVE, b' ', 20)], &[], &[Thing::Variable(20)]);
+    judge(
+        &rt,
+        "a variable is not moved",
+        TO_SCENE,
+        plan,
+        Some((2, (b's', 0, 1), MOVE, b's', (b's', 20))),
+    )?;
+    let plan: Plan<'_> = (
+        &[],
+        &[],
+        &[
+            Thing::Link(12, (b' ', 0), &[(MOVE, b' ', 98)]),
+            Thing::Link(11, (b' ', 0), &[(GO, b' ', 0), (MOVE, b' ', 99)]),
+        ],
+    );
+    judge(
+        &rt,
+        "two links, the second with the lesser number",
+        TO_SCENE,
+        plan,
+        Some((1, (b's', 11, 2), MOVE, b's', (b's', 99))),
+    )?;
+    let plan: Plan<'_> = (&[], &[], &[Thing::Link(11, (b' ', 5), &[(MOVE, b' ', 99)])]);
+    judge(
+        &rt,
+        "a link whose source is not there",
+        TO_SCENE,
+        plan,
+        None,
+    )?;
+    let plan: Plan<'_> = (&[(GO, b'a', 0)], &[], &[]);
+    judge(
+        &rt,
+        "a transition to an application",
+        TO_SCENE,
+        plan,
+        Some((2, (b's', 0, 1), GO, b's', (b'a', 0))),
+    )?;
     Ok(())
 }
 
@@ -261,46 +284,54 @@ const FULL: Plan<'static> = (&[], &[], &[Thing::Rectangle(10), Thing::Variable(2
 
 #[test]
 fn judges_an_application(rt: HostRuntime) -> Result<(), Fail> {
-    let cases: [(&str, Plan<'_>, Option<Said>); 5] = [
-        (
-            "what is in the scene is not there before",
-            (&[(GO, b's', 0), (MOVE, b's', 10)], &[], &[]),
-            Some((1, (b'a', 0, 2), MOVE, b'-', (b's', 10))),
-        ),
-        (
-            "a link of the application hears the scene alone",
-            (
-                &[(GO, b's', 0)],
-                &[],
-                &[Thing::Link(5, (b's', 0), &[(MOVE, b's', 10), (ADD, b's', 10)])],
-            ),
-            Some((2, (b'a', 5, 2), ADD, b's', (b's', 10))),
-        ),
-        (
-            "absent comes before a wrong class at one place",
-            (&[(GO, b's', 0), (ADD, b's', 10)], &[], &[]),
-            Some((1, (b'a', 0, 2), ADD, b'-', (b's', 10))),
-        ),
-        (
-            "no such scene",
-            (&[(GO, b'x', 0)], &[], &[]),
-            Some((1, (b'a', 0, 1), GO, b'-', (b'x', 0))),
-        ),
-        (
-            "an object of the application is there in each configuration",
-            (
-                &[(ADD, b' ', 30), (GO, b's', 0)],
-                &[(SET, b' ', 30)],
-                &[Thing::Variable(30)],
-            ),
-            None,
-        ),
-    ];
-    for (what, application, expected) in cases {
-        let service = service(rt.alloc(), application, FULL)?;
-        let found = verdict(verify(rt.alloc(), service))?;
-        assert_eq!(rt; found, expected, "{what}");
-    }
+    let plan: Plan<'_> = (&[(GO, b's', 0), (MOVE, b's', 10)], &[], &[]);
+    judge(
+        &rt,
+        "what is in the scene is not there before",
+        plan,
+        FULL,
+        Some((1, (b'a', 0, 2), MOVE, b'-', (b's', 10))),
+    )?;
+    let plan: Plan<'_> = (
+        &[(GO, b's', 0)],
+        &[],
+        &[Thing::Link(5, (b's', 0), &[(MOVE, b's', 10), (ADD, b's', 10)])],
+    );
+    judge(
+        &rt,
+        "a link of the application hears the scene alone",
+        plan,
+        FULL,
+        Some((2, (b'a', 5, 2), ADD, b's', (b's', 10))),
+    )?;
+    let plan: Plan<'_> = (&[(GO, b's', 0), (ADD, b's', 10)], &[], &[]);
+    judge(
+        &rt,
+        "absent comes before a wrong class at one place",
+        plan,
+        FULL,
+        Some((1, (b'a', 0, 2), ADD, b'-', (b's', 10))),
+    )?;
+    let plan: Plan<'_> = (&[(GO, b'x', 0)], &[], &[]);
+    judge(
+        &rt,
+        "no such scene",
+        plan,
+        FULL,
+        Some((1, (b'a', 0, 1), GO, b'-', (b'x', 0))),
+    )?;
+    let plan: Plan<'_> = (
+        &[(ADD, b' ', 30), (GO, b's', 0)],
+        &[(SET, b' ', 30)],
+        &[Thing::Variable(30)],
+    );
+    judge(
+        &rt,
+        "an object of the application is there in each configuration",
+        plan,
+        FULL,
+        None,
+    )?;
     Ok(())
 }
 
