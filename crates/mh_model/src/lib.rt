@@ -1,7 +1,7 @@
 //! The object machine on paper: what a service, a state, an item, a rule, a step, a run and a picture
 //! are, in `specs/`, and the few plain types that those definitions and the engine share.
 //!
-//! Verifier and engine both stand on this crate and on nothing of each other.
+//! Verifier and engine both stand on these definitions; what one proves of a service the other plays by.
 #![tactic(auto)]
 
 pub mod act;

@@ -5,6 +5,6 @@
 pub struct Options {
     /// The path of the application to start with, as it was given.
     pub start: Vec<u8>,
-    /// Whether a service is played that a verifier would refuse. All are, as nothing verifies yet.
+    /// Whether a service is played whatever the verifier would say of it.
     pub lenient: bool,
 }

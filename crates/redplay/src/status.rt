@@ -5,7 +5,7 @@ ghost use Rattle.std.specs.Prelude.{◌≡◌};
 #[derive(Clone, Copy, Debug, PartialEq, Eq)]
 pub enum Status {
     Good,
-    /// The verifier refused the service. Nothing verifies yet.
+    /// The verifier refused the service.
     Refused,
     /// A file, the service or the script could not be read.
     Unreadable,
