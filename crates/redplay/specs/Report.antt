@@ -98,3 +98,10 @@ ended (c ∷ cs) p = ended cs (played c p)
 abbrev pub status_of : List Fault → Status
 status_of [] = status.Good
 status_of (f ∷ fs) = status.Faults
+
+-- the exit status that stands for it
+abbrev pub exit_code : Status → ℕ
+exit_code status.Good = 0
+exit_code status.Refused = 1
+exit_code status.Unreadable = 2
+exit_code status.Faults = 3

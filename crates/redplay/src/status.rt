@@ -1,5 +1,6 @@
 //! `Status`: how a play ended.
 ghost use Rattle.std.specs.Prelude.{◌≡◌};
+ghost use Rattle.redplay.specs.Report.{exit_code};
 
 /// How a play ended, once its report was written whole.
 #[derive(Clone, Copy, Debug, PartialEq, Eq)]
@@ -15,7 +16,9 @@ pub enum Status {
 
 impl Status {
     /// The exit status of the program.
-    pub fn code(self) -> u8 {
+    pub fn code(self) -> u8
+        ensures { result ≡ exit_code self }
+    {
         match self {
             Status::Good => 0,
             Status::Refused => 1,
