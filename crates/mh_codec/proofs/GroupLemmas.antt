@@ -1,0 +1,440 @@
+-- Ingredients and groups: what was read is spelled so, and what is spelled so is read.
+use Rattle.std.proofs.Common.{◌≡◌, ℕ, suc, ◌+◌, ◌<◌, ◌^◌, Bool, true, false, ◌&&◌, not, ◌==◌, nat_lt, nat_le, if◌then◌else◌, List, [], ◌∷◌, ◌++◌, length, take, drop, Option, Some, None, is_none, Ok, pos, refl, ap, sym, ◌∙◌, subst, arith, append-nil, take-append-drop}
+use Rattle.std.specs.Option.{option_or}
+use Rattle.std.specs.List.{list_all}
+use Rattle.std.proofs.lemmas.Bool.Decides.{nat_tests}
+use Rattle.mh_base.specs.Path.{is_name_byte}
+use Rattle.mh_der.specs.Tags.{octet_string_tag, sequence_tag}
+use Rattle.mh_der.specs.Rest.{Rest, Element}
+use Rattle.mh_der.proofs.DigitLemmas.{AreBytes}
+use Rattle.mh_group.specs.declared.class.Class.{Class}
+use Rattle.mh_group.specs.declared.class.Class.TheVariants as class
+use Rattle.mh_group.specs.declared.attribute.Attribute.{Attribute}
+use Rattle.mh_group.specs.declared.attribute.Attribute.TheVariants as attribute
+use Rattle.mh_group.specs.declared.written.Field.{Field}
+use Rattle.mh_group.specs.declared.written.Ingredient.{Ingredient}
+use Rattle.mh_group.specs.declared.written.Written.{Written}
+use Rattle.mh_group.specs.declared.misfit.MisfitWhy.{MisfitWhy}
+use Rattle.mh_group.specs.Table.{class_number, attribute_number, takes, shape_of, is_group_class}
+use Rattle.mh_group.specs.Words.{classes}
+use Rattle.mh_group.specs.Fit.{fits, is_rising, rises_above, has_required, takes_each, fits_each, fields_misfit, ingredient_misfit, ingredients_misfit, misfit_of, written_items, items_of, is_group}
+use Rattle.mh_codec.specs.declared.codec_error.Why.TheVariants.{UnknownTag, MissingField, BadValue}
+use Rattle.mh_codec.specs.Tags.{class_with}
+use Rattle.mh_codec.specs.Spelling.{own, natural, octet_string, several, list, named, field, ingredient, items, before_items, body as body_octets, group}
+use Rattle.mh_codec.specs.Writable.{is_setting, is_number, is_list, has_settings, is_ingredient, is_writable}
+use Rattle.mh_codec.specs.Reading.{taken, ended, only, sequence_at, own_at, is_same, some_at, name_at, number_at, ingredient_number_at, fields, complete, class_at, ingredient_at, items_at, with_items, body, identifier_in, group_at, is_items_shape}
+use Rattle.mh_codec.proofs.ElementLemmas.{went, if_ok, ok_same, written, Good, same_element, same_number, find_holds, taken_found, good_found, taken_given, nothing_left, ended_given}
+use Rattle.mh_codec.proofs.ValueLemmas.{own_read, own_written, some_ok, sequence_read, sequence_written, name_read, name_written, number_read, number_written, ingredient_number_read, ingredient_number_written}
+use Rattle.mh_codec.proofs.ReferenceLemmas.{IsOne, Reads, and_true, both_true, spelled_as, integer_one, only_read, only_written}
+use Rattle.mh_codec.proofs.MemberLemmas.{list_found, list_given, list_one}
+use Rattle.mh_codec.proofs.SettingLemmas.{list_both}
+use Rattle.mh_codec.proofs.FieldLemmas.{Ends, fields_found, FitField, FitFields, fit_first, no_items_field, fields_given, to_items, below_items, few_fields}
+
+-- classes by their numbers
+
+class_numbered : (n : ℕ) (c : Class) → class_with n ≡ Some c → class_number c ≡ n
+unfolding class_with
+class_numbered n c h = same_number (class_number c) n (find_holds (λ (b : Class). class_number b == n) classes c h)
+
+class_named : (c : Class) → (class_with (class_number c) ≡ Some c) × (class_number c < 2 ^ 16)
+unfolding class_with
+class_named class.Application = (refl, omega arith)
+class_named class.Scene = (refl, omega arith)
+class_named class.Link = (refl, omega arith)
+class_named class.IntegerVar = (refl, omega arith)
+class_named class.Rectangle = (refl, omega arith)
+
+abbrev ClassRead : Bool → Element → Class → Type 0
+ClassRead wants e c = (e.tag ≡ own (class_number c)) × (is_same wants (is_group_class c) ≡ true)
+
+class_read : (wants : Bool) (e : Element) (c : Class) → class_at wants e ≡ Ok c → ClassRead wants e c
+unfolding class_at
+class_read wants e c is =
+    let n = went (own_at e) _ c is in
+    let named = went (some_at e UnknownTag (class_with n.value)) _ c n.behind in
+    let t = if_ok (is_same wants (is_group_class named.value)) (Ok named.value) UnknownTag e.offset c named.behind in
+    subst (ClassRead wants e) (ok_same t.1) (
+      own_read e n.value n.first ∙ ap own (sym (class_numbered n.value named.value (some_ok e UnknownTag (class_with n.value) named.value named.first))),
+      t.0,
+    )
+
+class_written : (wants : Bool) (e : Element) (c : Class) → e.tag ≡ own (class_number c) → is_same wants (is_group_class c) ≡ true → class_at wants e ≡ Ok c
+unfolding class_at
+class_written wants e c tag same = rw (own_written e (class_number c) tag, (class_named c).0, same) refl
+
+complete_is : (c : Class) (fs : List Field) (e : Element) (gs : List Field) → complete c fs e ≡ Ok gs → fs ≡ gs
+unfolding complete
+complete_is c fs e gs is =
+    let t = if_ok (has_required c fs) (Ok fs) MissingField e.offset gs is in
+    ok_same t.1
+
+complete_given : (c : Class) (fs : List Field) (e : Element) → has_required c fs ≡ true → complete c fs e ≡ Ok fs
+unfolding complete
+complete_given c fs e h = rw h refl
+
+-- fields alone
+
+not_group : (c : Class) → is_same false (is_group_class c) ≡ true → takes c attribute.Items ≡ true → ⊥
+not_group c h t = absurd (let s = rw t at h in cc)
+
+no_items : (c : Class) (left : Rest) (new : List Field) (i : Option Element) (rest : Rest) → is_same false (is_group_class c) ≡ true → Ends c 0 left new i rest → left.bytes ≡ several field new
+no_items c left new None rest h ends = ends
+no_items c left new (Some e) rest h (stands, met, below) = absurd (not_group c h met.takes_them)
+
+-- ingredients
+
+abbrev Spelled : Element → Ingredient → Type 0
+Spelled e i = (written e ≡ ingredient i) × (is_ingredient i ≡ true)
+
+ingredient_read : (e : Element) (i : Ingredient) → Good e → ingredient_at e ≡ Ok i → Spelled e i
+unfolding ingredient_at ingredient
+ingredient_read e i good is =
+    let c = went (class_at false e) _ i is in
+    let named = class_read false e c.value c.first in
+    let a = went (taken e.contents) _ i c.behind in
+    let f = taken_found e.contents a.value.0 a.value.1 good.bytes a.first in
+    let n = went (ingredient_number_at a.value.0) _ i a.behind in
+    let number = number_read a.value.0 n.value (good_found e.contents a.value.0 a.value.1 f) (ingredient_number_read a.value.0 n.value n.first).0 in
+    let x = went (fields c.value 64 0 [] a.value.1) _ i n.behind in
+    let r = fields_found c.value 64 0 [] a.value.1 x.value f.rest x.first in
+    let d = went (complete c.value x.value.0 e) _ i x.behind in
+    let kept : r.new ≡ d.value = sym r.all ∙ complete_is c.value x.value.0 e d.value d.first in
+    let rest : a.value.1.bytes ≡ several field d.value = no_items c.value a.value.1 r.new x.value.1 x.value.2 named.1 r.ends ∙ ap (several field) kept in
+    let inner : e.contents.bytes ≡ natural n.value ++ several field d.value =
+    f.written ∙ ap (λ (bs : List ℕ). bs ++ a.value.1.bytes) number.0 ∙ ap (λ (bs : List ℕ). natural n.value ++ bs) rest in
+    subst (Spelled e) (ok_same d.behind) (
+      spelled_as e (own (class_number c.value)) (natural n.value ++ several field d.value) named.0 inner,
+      both_true (is_number n.value) (has_settings d.value) number.1 (subst (λ (fs : List Field). has_settings fs ≡ true) kept r.good),
+    )
+
+-- what an object's fields are, where nothing is wrong with them
+record AreRight (c : Class) (fs : List Field) : Type 0 where
+  pub rising : rises_above 0 fs ≡ true
+  pub required : has_required c fs ≡ true
+  pub take : takes_each c fs ≡ true
+  pub fit : fits_each fs ≡ true
+
+if_none : (b : Bool) (w : MisfitWhy) (r : Option MisfitWhy) → (if not b then Some w else r) ≡ None → (b ≡ true) × (r ≡ None)
+if_none true w r e = (refl, e)
+if_none false w r e = absurd cc
+
+if_no_none : (b : Bool) (w : MisfitWhy) (r : Option MisfitWhy) → (if b then Some w else r) ≡ None → (b ≡ false) × (r ≡ None)
+if_no_none true w r e = absurd cc
+if_no_none false w r e = (refl, e)
+
+or_none : (o r : Option MisfitWhy) → option_or o r ≡ None → (o ≡ None) × (r ≡ None)
+or_none None r e = (refl, e)
+or_none (Some w) r e = absurd cc
+
+are_right : (c : Class) (fs : List Field) → fields_misfit c fs ≡ None → AreRight c fs
+are_right c fs e =
+    let a = if_none (is_rising fs) _ _ e in
+    let b = if_none (has_required c fs) _ _ a.1 in
+    let d = if_none (takes_each c fs) _ _ b.1 in
+    let f = if_none (fits_each fs) _ _ d.1 in
+    record { rising = a.0; required = b.0; take = d.0; fit = f.0 }
+
+none_is : (o : Option MisfitWhy) → is_none o ≡ true → o ≡ None
+none_is None h = refl
+none_is (Some w) h = absurd cc
+
+is_none_of : (o : Option MisfitWhy) → o ≡ None → is_none o ≡ true
+is_none_of o h = rw h refl
+
+-- an ingredient that the tables allow and the notation holds
+abbrev fits_ingredient : Ingredient → Bool
+fits_ingredient i = is_none (ingredient_misfit i) && is_ingredient i
+
+same_false : (b : Bool) → b ≡ false → is_same false b ≡ true
+same_false b h = rw h refl
+
+fit_fields : (c : Class) (fs : List Field) → AreRight c fs → has_settings fs ≡ true → FitFields c 0 fs
+fit_fields c fs right good = record { take = right.take; fit = right.fit; good = good; rising = right.rising }
+
+ingredient_written : (e : Element) (i : Ingredient) → e.tag.number < 2 ^ 16 → fits_ingredient i ≡ true → written e ≡ ingredient i → ingredient_at e ≡ Ok i
+unfolding ingredient_at ingredient
+ingredient_written e i small fit is =
+    let parts = and_true (is_none (ingredient_misfit i)) (is_ingredient i) fit in
+    let none = none_is (ingredient_misfit i) parts.0 in
+    let a = if_no_none (is_group_class i.class) _ _ none in
+    let b = if_no_none (i.number == 0) _ _ a.1 in
+    let right = are_right i.class i.fields b.1 in
+    let goods = and_true (is_number i.number) (has_settings i.fields) parts.1 in
+    let same = same_element e.tag (own (class_number i.class)) e.contents.bytes (natural i.number ++ several field i.fields) small (class_named i.class).1 is in
+    let one = integer_one (pos i.number) in
+    let g = taken_given e.contents one.tag one.contents (several field i.fields) one.small (same.inner ∙ ap (λ (bs : List ℕ). bs ++ several field i.fields) one.is) in
+    let number = ingredient_number_written g.found i.number (number_written g.found i.number g.small goods.0 (g.is ∙ sym one.is)) b.0 in
+    let few = few_fields 0 i.fields (omega arith) right.rising in
+    let fs = fields_given i.class 64 0 [] i.fields g.rest (fit_fields i.class i.fields right goods.1) (omega arith) g.behind in
+    rw (class_written false e i.class same.tag (same_false (is_group_class i.class) a.0), g.takes, number, fs.takes_all, complete_given i.class i.fields e right.required) refl
+
+ingredient_one : (i : Ingredient) → IsOne (ingredient i)
+unfolding ingredient
+ingredient_one i = record { tag = own (class_number i.class); contents = natural i.number ++ several field i.fields; small = (class_named i.class).1; is = refl }
+
+ingredient_reads : Reads ingredient_at ingredient is_ingredient fits_ingredient
+ingredient_reads = record {
+  found = ingredient_read;
+  given = ingredient_written;
+  one = λ i fit. ingredient_one i;
+}
+
+-- the items
+
+items_read : (e : Element) (is : List Ingredient) → Good e → e.tag ≡ own 3 → items_at e ≡ Ok is → (written e ≡ items is) × (is_list is_ingredient is ≡ true)
+unfolding items_at items
+items_read e is good tag read =
+    let a = went (only e.contents) _ is read in
+    let o = only_read e.contents a.value good.bytes a.first in
+    let s = went (sequence_at a.value) _ is a.behind in
+    let l = list_found ingredient_reads a.value s.value is o.good s.first s.behind in
+    (spelled_as e (own 3) (list ingredient is) tag (o.is ∙ l.0), l.1)
+
+items_written : (e : Element) (is : List Ingredient) → e.tag.number < 2 ^ 16 → is_list fits_ingredient is ≡ true → written e ≡ items is → items_at e ≡ Ok is
+unfolding items_at items
+items_written e is small good w =
+    let same = same_element e.tag (own 3) e.contents.bytes (list ingredient is) small (omega arith) w in
+    let one = list_one ingredient_reads is in
+    let o = only_written e.contents one.tag one.contents one.small (same.inner ∙ one.is) in
+    let l = list_given ingredient_reads o.found is o.small good (o.is ∙ sym one.is) in
+    rw (o.takes, l.0, l.1) refl
+
+-- where the items stand among the fields
+
+not_before : (n : ℕ) → nat_lt 3 n ≡ true → nat_lt n 3 ≡ false
+not_before n h = grind (arith, nat_tests)
+
+one_more : (n : ℕ) → 1 + n ≡ suc n
+one_more n = omega arith
+
+cut_is : (before after : List Field) → below_items before ≡ true → rises_above 3 after ≡ true
+    → (take (before_items (before ++ after)) (before ++ after) ≡ before) × (drop (before_items (before ++ after)) (before ++ after) ≡ after)
+cut_is [] [] below rises = (refl, refl)
+cut_is [] (f ∷ fs) below rises =
+    let parts = and_true (nat_lt 3 (attribute_number f.attribute)) (rises_above (attribute_number f.attribute) fs) rises in
+    let none = not_before (attribute_number f.attribute) parts.0 in
+    (rw none refl, rw none refl)
+cut_is (b ∷ bs) after below rises =
+    let parts = and_true (nat_lt (attribute_number b.attribute) 3) (below_items bs) below in
+    let more = cut_is bs after parts.1 rises in
+    let k = before_items (bs ++ after) in (
+      rw parts.0 (ap (λ (n : ℕ). take n (b ∷ (bs ++ after))) (one_more k) ∙ ap (λ (fs : List Field). b ∷ fs) more.0),
+      rw parts.0 (ap (λ (n : ℕ). drop n (b ∷ (bs ++ after))) (one_more k) ∙ more.1),
+    )
+
+not_items : (a : Attribute) → is_items_shape (shape_of a) ≡ false → nat_lt (attribute_number a) 3 ≡ false → nat_lt 3 (attribute_number a) ≡ true
+not_items attribute.OnStartUp h i = absurd cc
+not_items attribute.OnCloseDown h i = absurd cc
+not_items attribute.Items h i = absurd cc
+not_items _ h i = refl
+
+record Parted (c : Class) (last : ℕ) (before after : List Field) : Type 0 where
+  pub before_fit : FitFields c last before
+  pub below : below_items before ≡ true
+  pub after_fit : FitFields c 3 after
+
+abbrev PartedAt : Class → ℕ → ℕ → List Field → Type 0
+PartedAt c last k fs = Parted c last (take k fs) (drop k fs)
+
+none_fit : (c : Class) (last : ℕ) → FitFields c last []
+none_fit c last = record { take = refl; fit = refl; good = refl; rising = refl }
+
+more_fit : (c : Class) (last : ℕ) (f : Field) (fs : List Field) → FitField c last f → FitFields c (attribute_number f.attribute) fs → FitFields c last (f ∷ fs)
+more_fit c last f fs one many = record {
+  take = both_true (takes c f.attribute) (takes_each c fs) one.takes_it many.take;
+  fit = both_true (fits (shape_of f.attribute) f.setting) (fits_each fs) one.fit many.fit;
+  good = both_true (is_setting f.setting) (has_settings fs) one.good many.good;
+  rising = both_true (nat_lt last (attribute_number f.attribute)) (rises_above (attribute_number f.attribute) fs) one.behind many.rising;
+}
+
+parted_first : (c : Class) (last : ℕ) (f : Field) (fs : List Field) (b : Bool) → nat_lt (attribute_number f.attribute) 3 ≡ b → FitField c last f → FitFields c (attribute_number f.attribute) fs
+    → PartedAt c (attribute_number f.attribute) (before_items fs) fs → PartedAt c last (if b then 1 + before_items fs else 0) (f ∷ fs)
+parted_first c last f fs true h one many more =
+    subst (λ (n : ℕ). PartedAt c last n (f ∷ fs)) (sym (one_more (before_items fs))) (record {
+      before_fit = more_fit c last f (take (before_items fs) fs) one more.before_fit;
+      below = both_true (nat_lt (attribute_number f.attribute) 3) (below_items (take (before_items fs) fs)) h more.below;
+      after_fit = more.after_fit;
+    })
+parted_first c last f fs false h one many more =
+    let above = not_items f.attribute (no_items_field f one.fit) h in
+    record {
+      before_fit = none_fit c last;
+      below = refl;
+      after_fit = more_fit c 3 f fs (record { takes_it = one.takes_it; fit = one.fit; good = one.good; behind = above }) many;
+    }
+
+parted : (c : Class) (last : ℕ) (fs : List Field) → FitFields c last fs → PartedAt c last (before_items fs) fs
+parted c last [] fit = record { before_fit = fit; below = refl; after_fit = none_fit c 3 }
+parted c last (f ∷ fs) fit =
+    let parts = fit_first c last f fs fit in
+    parted_first c last f fs (nat_lt (attribute_number f.attribute) 3) refl parts.0 parts.1 (parted c (attribute_number f.attribute) fs parts.1)
+
+settings_both : (fs gs : List Field) → has_settings fs ≡ true → has_settings gs ≡ true → has_settings (fs ++ gs) ≡ true
+settings_both [] gs h i = i
+settings_both (f ∷ fs) gs h i =
+    let parts = and_true (is_setting f.setting) (has_settings fs) h in
+    both_true (is_setting f.setting) (has_settings (fs ++ gs)) parts.0 (settings_both fs gs parts.1 i)
+
+-- the fields of a group and its items
+
+abbrev BodyIs : Rest → List Field × Option (List Ingredient) → Type 0
+BodyIs left z = (left.bytes ≡ body_octets z.1 z.0) × (has_settings z.0 ≡ true) × (is_list is_ingredient (written_items z.1) ≡ true)
+
+never_again : (c : Class) (left : Rest) (new : List Field) (i : Option Element) (rest : Rest) → Ends c 3 left new i rest → left.bytes ≡ several field new
+never_again c left new None rest ends = ends
+never_again c left new (Some e) rest (stands, met, below) = absurd (let h = met.behind in cc)
+
+with_items_read : (c : Class) (left : Rest) (before : List Field) (i : Option Element) (behind : Rest) (new : List Field) (z : List Field × Option (List Ingredient)) → before ≡ new → has_settings new ≡ true
+    → Ends c 0 left new i behind → with_items c before i behind ≡ Ok z → BodyIs left z
+unfolding body_octets
+with_items_read c left before None behind new z kept good ends e =
+    subst (BodyIs left) (ok_same e) (ends ∙ ap (several field) (sym kept), subst (λ (fs : List Field). has_settings fs ≡ true) (sym kept) good, refl)
+with_items_read c left before (Some e) behind new z kept good (stands, met, below) read =
+    let is = went (items_at e) _ z read in
+    let y = went (fields c 64 3 before behind) _ z is.behind in
+    let them = items_read e is.value met.good met.tag is.first in
+    let q = fields_found c 64 3 before behind y.value met.bytes y.first in
+    let after = never_again c behind q.new y.value.1 y.value.2 q.ends in
+    let all : y.value.0 ≡ new ++ q.new = q.all ∙ ap (λ (fs : List Field). fs ++ q.new) kept in
+    let cut = cut_is new q.new below q.rising in
+    let octets : left.bytes ≡ several field new ++ (items is.value ++ several field q.new) =
+    stands ∙ ap (λ (bs : List ℕ). several field new ++ (bs ++ behind.bytes)) them.0 ∙ ap (λ (bs : List ℕ). several field new ++ (items is.value ++ bs)) after in
+    let whole : left.bytes ≡ body_octets (Some is.value) (new ++ q.new) =
+    octets ∙ ap (λ (fs : List Field). several field fs ++ (items is.value ++ several field q.new)) (sym cut.0)
+    ∙ ap (λ (fs : List Field). several field (take (before_items (new ++ q.new)) (new ++ q.new)) ++ (items is.value ++ several field fs)) (sym cut.1) in
+    subst (BodyIs left) (ok_same y.behind) (
+      whole ∙ ap (λ (fs : List Field). body_octets (Some is.value) fs) (sym all),
+      subst (λ (fs : List Field). has_settings fs ≡ true) (sym all) (settings_both new q.new good q.good),
+      them.1,
+    )
+
+body_read : (c : Class) (left : Rest) (z : List Field × Option (List Ingredient)) → AreBytes left.bytes → body c left ≡ Ok z → BodyIs left z
+unfolding body
+body_read c left z bytes e =
+    let x = went (fields c 64 0 [] left) _ z e in
+    let r = fields_found c 64 0 [] left x.value bytes x.first in
+    with_items_read c left x.value.0 x.value.1 x.value.2 r.new z r.all r.good r.ends x.behind
+
+body_written : (c : Class) (left : Rest) (fs : List Field) (its : Option (List Ingredient)) → is_group_class c ≡ true → FitFields c 0 fs → is_list fits_ingredient (written_items its) ≡ true
+    → left.bytes ≡ body_octets its fs → body c left ≡ Ok (fs, its)
+unfolding body body_octets items
+body_written c left fs None group_class fit good is =
+    let few = few_fields 0 fs (omega arith) fit.rising in
+    let g = fields_given c 64 0 [] fs left fit (omega arith) is in
+    rw g.takes_all refl
+body_written c left fs (Some is) group_class fit good stands =
+    let k = before_items fs in
+    let p = parted c 0 fs fit in
+    let few = few_fields 0 (take k fs) (omega arith) p.before_fit.rising in
+    let less = few_fields 3 (drop k fs) (omega arith) p.after_fit.rising in
+    let t = to_items c 64 0 [] (take k fs) left (list ingredient is) (several field (drop k fs)) p.before_fit (omega arith) group_class refl p.below stands in
+    let them = items_written t.found is t.small good t.is in
+    let g = fields_given c 64 3 (take k fs) (drop k fs) t.rest p.after_fit (omega arith) t.behind in
+    rw (t.takes_all, them, g.takes_all, take-append-drop k fs) refl
+
+-- groups
+
+zero_is : (n : ℕ) → (n == 0) ≡ true → n ≡ 0
+zero_is n h = same_number n 0 h
+
+abbrev Identifies : List ℕ → List ℕ → Type 0
+Identifies bs name = (bs ≡ octet_string name ++ natural 0) × (list_all is_name_byte name ≡ true)
+
+identifier_read : (left : Rest) (name : List ℕ) → AreBytes left.bytes → identifier_in left ≡ Ok name → Identifies left.bytes name
+unfolding identifier_in
+identifier_read left name bytes is =
+    let a = went (taken left) _ name is in
+    let f = taken_found left a.value.0 a.value.1 bytes a.first in
+    let m = went (name_at a.value.0) _ name a.behind in
+    let b = went (taken a.value.1) _ name m.behind in
+    let g = taken_found a.value.1 b.value.0 b.value.1 f.rest b.first in
+    let number = went (number_at b.value.0) _ name b.behind in
+    let end = went (ended b.value.1) _ name number.behind in
+    let t = if_ok (number.value == 0) (Ok m.value) BadValue b.value.0.offset name end.behind in
+    let none = nothing_left b.value.1 end.first in
+    let n = name_read a.value.0 m.value m.first in
+    let k = number_read b.value.0 number.value (good_found a.value.1 b.value.0 b.value.1 g) number.first in
+    let second : a.value.1.bytes ≡ natural 0 =
+    g.written ∙ ap (λ (bs : List ℕ). written b.value.0 ++ bs) none ∙ append-nil (written b.value.0) ∙ k.0 ∙ ap natural (zero_is number.value t.0) in
+    subst (Identifies left.bytes) (ok_same t.1) (
+      f.written ∙ ap (λ (bs : List ℕ). written a.value.0 ++ bs) second ∙ ap (λ (bs : List ℕ). bs ++ natural 0) n.0,
+      n.1,
+    )
+
+identifier_written : (left : Rest) (name : List ℕ) → list_all is_name_byte name ≡ true → left.bytes ≡ octet_string name ++ natural 0 → identifier_in left ≡ Ok name
+unfolding identifier_in octet_string
+identifier_written left name good e =
+    let one = integer_one (pos 0) in
+    let a = taken_given left octet_string_tag name (natural 0) (omega arith) e in
+    let b = taken_given a.rest one.tag one.contents [] one.small (a.behind ∙ one.is ∙ sym (append-nil _)) in
+    rw (a.takes, name_written a.found name a.small good a.is, b.takes, number_written b.found 0 b.small refl (b.is ∙ sym one.is), ended_given b.rest b.behind) refl
+
+abbrev GroupIs : Element → Written → Type 0
+GroupIs e g = (written e ≡ group g) × (is_writable g ≡ true)
+
+pub group_read : (e : Element) (g : Written) → Good e → group_at e ≡ Ok g → GroupIs e g
+unfolding group_at group named is_writable
+group_read e g good is =
+    let c = went (class_at true e) _ g is in
+    let called = class_read true e c.value c.first in
+    let a = went (taken e.contents) _ g c.behind in
+    let f = taken_found e.contents a.value.0 a.value.1 good.bytes a.first in
+    let inner = went (sequence_at a.value.0) _ g a.behind in
+    let s = sequence_read a.value.0 inner.value inner.first in
+    let name = went (identifier_in inner.value) _ g inner.behind in
+    let i = identifier_read inner.value name.value (subst (λ (r : Rest). AreBytes r.bytes) s.1 f.contents) name.first in
+    let x = went (body c.value a.value.1) _ g name.behind in
+    let b = body_read c.value a.value.1 x.value f.rest x.first in
+    let d = went (complete c.value x.value.0 e) _ g x.behind in
+    let kept : x.value.0 ≡ d.value = complete_is c.value x.value.0 e d.value d.first in
+    let identity : written a.value.0 ≡ named name.value 0 =
+    spelled_as a.value.0 sequence_tag (octet_string name.value ++ natural 0) s.0 (ap (λ (r : Rest). r.bytes) s.1 ∙ i.0) in
+    let rest : a.value.1.bytes ≡ body_octets x.value.1 d.value = b.0 ∙ ap (λ (fs : List Field). body_octets x.value.1 fs) kept in
+    let contents : e.contents.bytes ≡ named name.value 0 ++ body_octets x.value.1 d.value =
+    f.written ∙ ap (λ (bs : List ℕ). bs ++ a.value.1.bytes) identity ∙ ap (λ (bs : List ℕ). named name.value 0 ++ bs) rest in
+    subst (GroupIs e) (ok_same d.behind) (
+      spelled_as e (own (class_number c.value)) (named name.value 0 ++ body_octets x.value.1 d.value) called.0 contents,
+      both_true (list_all is_name_byte name.value) _ i.1 (both_true (has_settings d.value) _ (subst (λ (fs : List Field). has_settings fs ≡ true) kept b.1) b.2),
+    )
+
+record IsRight (g : Written) : Type 0 where
+  pub class : is_group_class g.class ≡ true
+  pub fields : AreRight g.class g.fields
+  pub items : ingredients_misfit (items_of g) ≡ None
+
+is_right : (g : Written) → is_group g ≡ true → IsRight g
+unfolding misfit_of
+is_right g h =
+    let n = none_is (misfit_of g) h in
+    let a = if_none (is_group_class g.class) _ _ n in
+    let b = or_none (fields_misfit g.class g.fields) (ingredients_misfit (items_of g)) a.1 in
+    record { class = a.0; fields = are_right g.class g.fields b.0; items = b.1 }
+
+none_misfit : (is : List Ingredient) → ingredients_misfit is ≡ None → list_all (λ i. is_none (ingredient_misfit i)) is ≡ true
+none_misfit [] h = refl
+none_misfit (i ∷ is) h =
+    let parts = or_none (ingredient_misfit i) (ingredients_misfit is) h in
+    both_true (is_none (ingredient_misfit i)) (list_all (λ i. is_none (ingredient_misfit i)) is) (is_none_of (ingredient_misfit i) parts.0) (none_misfit is parts.1)
+
+same_true : (b : Bool) → b ≡ true → is_same true b ≡ true
+same_true b h = h
+
+pub group_written : (e : Element) (g : Written) → e.tag.number < 2 ^ 16 → is_group g ≡ true → is_writable g ≡ true → written e ≡ group g → group_at e ≡ Ok g
+unfolding group_at group named is_writable
+group_written e g small fit good is =
+    let right = is_right g fit in
+    let goods = and_true (list_all is_name_byte g.identifier) _ good in
+    let rest = and_true (has_settings g.fields) (is_list is_ingredient (items_of g)) goods.1 in
+    let members = and_true (nat_le (length (items_of g)) 4096) (list_all is_ingredient (items_of g)) rest.1 in
+    let all = list_both (λ i. is_none (ingredient_misfit i)) is_ingredient (items_of g) (none_misfit (items_of g) right.items) members.1 in
+    let them = both_true (nat_le (length (items_of g)) 4096) (list_all fits_ingredient (items_of g)) members.0 all in
+    let same = same_element e.tag (own (class_number g.class)) e.contents.bytes (named g.identifier 0 ++ body_octets g.items g.fields) small (class_named g.class).1 is in
+    let a = taken_given e.contents sequence_tag (octet_string g.identifier ++ natural 0) (body_octets g.items g.fields) (omega arith) same.inner in
+    let inner = sequence_written a.found a.tag in
+    let name = identifier_written a.found.contents g.identifier goods.0 a.inner in
+    let b = body_written g.class a.rest g.fields g.items right.class (fit_fields g.class g.fields right.fields rest.0) them a.behind in
+    rw (class_written true e g.class same.tag (same_true (is_group_class g.class) right.class), a.takes, inner, name, b, complete_given g.class g.fields e right.fields.required) refl
+
+pub group_one : (g : Written) → IsOne (group g)
+unfolding group
+group_one g = record { tag = own (class_number g.class); contents = named g.identifier 0 ++ body_octets g.items g.fields; small = (class_named g.class).1; is = refl }

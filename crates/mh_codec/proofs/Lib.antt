@@ -1,0 +1,10 @@
+pub mod ListLemmas
+pub mod ElementLemmas
+pub mod ValueLemmas
+pub mod ReferenceLemmas
+pub mod MemberLemmas
+pub mod ActionLemmas
+pub mod SettingLemmas
+pub mod FieldLemmas
+pub mod GroupLemmas
+pub mod Laws

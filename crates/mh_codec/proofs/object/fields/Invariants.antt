@@ -1,0 +1,6 @@
+use Rattle.std.proofs.Common.{◌≡◌, ◌-◌}
+use Rattle.mh_codec.specs.Reading.{fields}
+use Rattle.mh_codec.proofs.object.fields.Given as goal
+
+abbrev pub invariant-loop : goal.invariant-loop
+invariant-loop l = fields l.class (64 - l.counter) l.last l.fields l.reader ≡ fields l.class 64 l.fn.last l.fn.before l.fn.reader

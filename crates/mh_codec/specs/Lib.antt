@@ -1,0 +1,6 @@
+pub mod Numbers
+pub mod Gives
+pub mod Tags
+pub mod Spelling
+pub mod Writable
+pub mod Reading

@@ -1,0 +1,106 @@
+-- The binary spelling of a group: a function from a group to its octets. Every part is an element of
+-- the distinguished encoding rules.
+use Rattle.std.specs.Prelude.{ℕ, ◌+◌, ℤ, pos, Bool, true, nat_lt, List, [], ◌∷◌, ◌++◌, take, drop, Option, Some, None}
+use Rattle.std.specs.List.{prefix_len}
+use Rattle.mh_base.specs.Event.{number_of}
+use Rattle.mh_der.specs.declared.tag.Tag.{Tag}
+use Rattle.mh_der.specs.declared.tag.TagClass.TheVariants.{Context}
+use Rattle.mh_der.specs.Tags.{boolean_tag, integer_tag, octet_string_tag, sequence_tag}
+use Rattle.mh_der.specs.Element.{element}
+use Rattle.mh_der.specs.Integer.{integer_octets, boolean_octets}
+use Rattle.mh_group.specs.declared.reference.Ref.{Ref}
+use Rattle.mh_group.specs.declared.reference.Ref.TheVariants as ref
+use Rattle.mh_group.specs.declared.reference.Generic.{Generic}
+use Rattle.mh_group.specs.declared.reference.Generic.TheVariants.{Direct, Indirect}
+use Rattle.mh_group.specs.declared.action.Action.{Action}
+use Rattle.mh_group.specs.declared.action.Typed.{Typed}
+use Rattle.mh_group.specs.declared.action.Typed.TheVariants as typed
+use Rattle.mh_group.specs.declared.action.Parameter.{Parameter}
+use Rattle.mh_group.specs.declared.action.Parameter.TheVariants as parameter
+use Rattle.mh_group.specs.declared.attribute.Attribute.TheVariants as attribute
+use Rattle.mh_group.specs.declared.written.Setting.{Setting}
+use Rattle.mh_group.specs.declared.written.Setting.TheVariants as setting
+use Rattle.mh_group.specs.declared.written.Field.{Field}
+use Rattle.mh_group.specs.declared.written.Ingredient.{Ingredient}
+use Rattle.mh_group.specs.declared.written.Written.{Written}
+use Rattle.mh_group.specs.Table.{class_number, attribute_number, action_number}
+
+-- the tag of this number that is the notation's own
+abbrev pub own : ℕ → Tag
+own n = record { class = Context; is_constructed = true; number = n }
+
+unfoldable pub integer : ℤ → List ℕ
+integer x = element integer_tag (integer_octets x)
+
+abbrev pub natural : ℕ → List ℕ
+natural n = integer (pos n)
+
+unfoldable pub boolean : Bool → List ℕ
+boolean b = element boolean_tag (boolean_octets b)
+
+unfoldable pub octet_string : List ℕ → List ℕ
+octet_string octets = element octet_string_tag octets
+
+-- elements one after the other, each spelled so
+abbrev pub several : {A : Type 0} → (A → List ℕ) → List A → List ℕ
+several spelling [] = []
+several spelling (x ∷ xs) = spelling x ++ several spelling xs
+
+unfoldable pub list : {A : Type 0} → (A → List ℕ) → List A → List ℕ
+list spelling xs = element sequence_tag (several spelling xs)
+
+-- a name and a number
+unfoldable pub named : List ℕ → ℕ → List ℕ
+named name n = element sequence_tag (octet_string name ++ natural n)
+
+abbrev pub reference : Ref → List ℕ
+reference (ref.Here n) = natural n
+reference (ref.In name n) = named name n
+
+-- a value, or behind tag 61 the reference of the variable that holds it
+unfoldable pub generic : {A : Type 0} → (A → List ℕ) → Generic A → List ℕ
+generic spelling (Direct x) = spelling x
+generic spelling (Indirect r) = element (own 61) (reference r)
+
+-- a value behind the tag of its kind
+unfoldable pub typed_value : Typed → List ℕ
+typed_value (typed.Int x) = element (own 63) (generic integer x)
+
+abbrev pub parameter_value : Parameter → List ℕ
+parameter_value (parameter.Int x) = generic integer x
+parameter_value (parameter.Typed x) = typed_value x
+
+-- an action's tags begin behind 100
+unfoldable pub action : Action → List ℕ
+action a = element (own (100 + action_number a.name)) (generic reference a.target ++ several parameter_value a.parameters)
+
+-- the value of an attribute
+unfoldable pub value : Setting → List ℕ
+value (setting.Bool b) = boolean b
+value (setting.Int x) = integer x
+value (setting.Pair x y) = integer x ++ integer y
+value (setting.Octets octets) = octet_string octets
+value (setting.Ref r) = reference r
+value (setting.Event e) = natural (number_of e)
+value (setting.Effect actions) = list action actions
+
+unfoldable pub field : Field → List ℕ
+field f = element (own (attribute_number f.attribute)) (value f.setting)
+
+unfoldable pub ingredient : Ingredient → List ℕ
+ingredient i = element (own (class_number i.class)) (natural i.number ++ several field i.fields)
+
+unfoldable pub items : List Ingredient → List ℕ
+items is = element (own (attribute_number attribute.Items)) (list ingredient is)
+
+-- how many fields have smaller numbers than the items
+abbrev pub before_items : List Field → ℕ
+before_items fields = prefix_len (λ f. nat_lt (attribute_number f.attribute) (attribute_number attribute.Items)) fields
+
+-- the fields, and the items at their place among them
+unfoldable pub body : Option (List Ingredient) → List Field → List ℕ
+body None fields = several field fields
+body (Some is) fields = several field (take (before_items fields) fields) ++ (items is ++ several field (drop (before_items fields) fields))
+
+unfoldable pub group : Written → List ℕ
+group g = element (own (class_number g.class)) (named g.identifier 0 ++ body g.items g.fields)

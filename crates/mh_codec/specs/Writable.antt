@@ -1,0 +1,75 @@
+-- Which groups have a binary spelling: those whose numbers, names and lists the notation can hold.
+use Rattle.std.specs.Prelude.{◌≡◌, ℕ, ◌^◌, ◌≤◌, ℤ, pos, negsuc, Bool, true, ◌&&◌, nat_lt, nat_le, int_le, List, length}
+use Rattle.std.specs.List.{list_all}
+use Rattle.mh_base.specs.Path.{is_name_byte}
+use Rattle.mh_group.specs.declared.reference.Ref.{Ref}
+use Rattle.mh_group.specs.declared.reference.Ref.TheVariants as ref
+use Rattle.mh_group.specs.declared.reference.Generic.{Generic}
+use Rattle.mh_group.specs.declared.reference.Generic.TheVariants.{Direct, Indirect}
+use Rattle.mh_group.specs.declared.action.Action.{Action}
+use Rattle.mh_group.specs.declared.action.Typed.TheVariants as typed
+use Rattle.mh_group.specs.declared.action.Parameter.{Parameter}
+use Rattle.mh_group.specs.declared.action.Parameter.TheVariants as parameter
+use Rattle.mh_group.specs.declared.written.Setting.{Setting}
+use Rattle.mh_group.specs.declared.written.Setting.TheVariants as setting
+use Rattle.mh_group.specs.declared.written.Field.{Field}
+use Rattle.mh_group.specs.declared.written.Ingredient.{Ingredient}
+use Rattle.mh_group.specs.declared.written.Written.{Written}
+use Rattle.mh_group.specs.Fit.{is_group, items_of}
+use Rattle.mh_codec.specs.Spelling.{group}
+
+-- an integer of 32 bits
+abbrev pub is_integer : ℤ → Bool
+is_integer x = int_le (negsuc 2147483647) x && int_le x (pos 2147483647)
+
+-- the number of an object
+abbrev pub is_number : ℕ → Bool
+is_number n = nat_lt n (2 ^ 31)
+
+abbrev pub is_reference : Ref → Bool
+is_reference (ref.Here n) = is_number n
+is_reference (ref.In name n) = list_all is_name_byte name && is_number n
+
+abbrev pub is_generic : {A : Type 0} → (A → Bool) → Generic A → Bool
+is_generic is_value (Direct x) = is_value x
+is_generic is_value (Indirect r) = is_reference r
+
+abbrev pub is_parameter : Parameter → Bool
+is_parameter (parameter.Int x) = is_generic is_integer x
+is_parameter (parameter.Typed (typed.Int x)) = is_generic is_integer x
+
+abbrev pub is_action : Action → Bool
+is_action a = is_generic is_reference a.target && list_all is_parameter a.parameters
+
+-- a list of at most so many members as a list may have
+abbrev pub is_list : {A : Type 0} → (A → Bool) → List A → Bool
+is_list is_member xs = nat_le (length xs) 4096 && list_all is_member xs
+
+abbrev pub is_setting : Setting → Bool
+is_setting (setting.Int x) = is_integer x
+is_setting (setting.Pair x y) = is_integer x && is_integer y
+is_setting (setting.Ref r) = is_reference r
+is_setting (setting.Effect actions) = is_list is_action actions
+is_setting _ = true
+
+abbrev pub has_settings : List Field → Bool
+has_settings fields = list_all (λ f. is_setting f.setting) fields
+
+abbrev pub is_ingredient : Ingredient → Bool
+is_ingredient i = is_number i.number && has_settings i.fields
+
+-- the notation can hold the group
+unfoldable pub is_writable : Written → Bool
+is_writable g = list_all is_name_byte g.identifier && (has_settings g.fields && is_list is_ingredient (items_of g))
+
+-- the octets spell the group, and nothing else
+unfoldable pub Spells : List ℕ → Written → Type 0
+Spells octets g = (octets ≡ group g) × (length octets ≤ 1048576) × (is_writable g ≡ true)
+
+-- the octets spell no group that the tables allow
+abbrev pub SpellsNone : List ℕ → Type 0
+SpellsNone octets = (g : Written) → is_group g ≡ true → Spells octets g → ⊥
+
+-- the octets spell no group that the tables allow but this one
+abbrev pub SpellsNoOther : List ℕ → Written → Type 0
+SpellsNoOther octets g = (h : Written) → is_group h ≡ true → Spells octets h → h ≡ g

@@ -1,0 +1,19 @@
+//! The binary notation: groups read from elements of the distinguished encoding rules (ITU-T X.690)
+//! and written as such. Each group has one spelling.
+//!
+//! Promise: reading gives the group that the octets spell, or refuses the first element from the left
+//! that goes wrong, and then they spell none; writing gives the spelling. What a group holds is left
+//! to `mh_group`, what an element is to `mh_der`.
+#![tactic(auto)]
+
+mod action;
+pub mod codec_error;
+mod kind;
+mod object;
+mod setting;
+#[cfg(test)]
+mod tests;
+mod value;
+
+pub use codec_error::{CodecError, Why};
+pub use object::{LARGEST_FILE, begins_group, decode_group};

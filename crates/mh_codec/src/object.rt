@@ -1,0 +1,297 @@
+//! Readers of fields, ingredients and groups, and `decode_group`. Which attributes a class takes and
+//! has to be written with is the word of `mh_group`'s tables.
+ghost use Rattle.std.specs.Prelude.{◌≡◌, ◌≢◌, ◌==◌, [], IfOk, IfErr};
+ghost use Rattle.std.specs.List.{list_any};
+ghost use Rattle.mh_group.specs.Table.{attribute_number};
+ghost use Rattle.mh_group.specs.Fit.{has_required as has_required_lem};
+ghost use Rattle.mh_codec.specs.Gives.{Gives};
+ghost use Rattle.mh_codec.specs.Writable.{Spells, SpellsNone, SpellsNoOther};
+ghost use Rattle.mh_codec.specs.Reading.{read, begins_group as begins_group_lem, group_at as group_at_lem, body as body_lem, class_at as class_at_lem, identifier_in as identifier_in_lem, fields as fields_lem, next_field as next_field_lem, attribute_at as attribute_at_lem, complete as complete_lem, items_at as items_at_lem, listed, next_member, ingredient_at as ingredient_at_lem};
+
+use crate::action::{LONGEST_LIST, full};
+use crate::kind::{attribute_with, class_with};
+use crate::setting::setting;
+use crate::value::{
+    ended, ingredient_number_at, name_at, number_at, only, own_at, refused, sequence_at, taken,
+};
+use crate::{CodecError, Why};
+use mh_base::Seq;
+use mh_der::{Element, Reader};
+use mh_group::{Attribute, Class, Field, Group, Ingredient, Shape, Written, WrittenName};
+use std::alloc::Global;
+
+/// The most bytes of a group's file.
+pub const LARGEST_FILE: usize = 1048576;
+
+/// More fields than an object can have, since their numbers rise.
+const MOST_FIELDS: usize = 64;
+
+/// The number of the attribute that holds a group's items.
+const ITEMS_NUMBER: u32 = 3;
+
+/// Whether the octets begin as a group does: with the tag of an application or of a scene.
+pub fn begins_group(octets: &[u8]) -> bool
+    ensures { result ≡ begins_group_lem octets.now }
+{
+    match octets {
+        [octet, ..] => *octet == 0xA0 || *octet == 0xA1,
+        [] => false,
+    }
+}
+
+/// The group that the octets spell, or the first element from the left that goes wrong, with the
+/// offset of its first byte.
+#[tactic(auto, unfolding(crate::specs::Reading::read))]
+pub fn decode_group(alloc: Global, octets: &[u8]) -> Result<Group, CodecError>
+    ensures exact { Gives (λ x. x) result (read octets.now) }
+    ensures found { IfOk result (Spells octets.now) }
+    ensures one { IfOk result (SpellsNoOther octets.now) }
+    ensures only { IfErr result (λ e. e ≢ CodecError.NoMemory → SpellsNone octets.now) }
+{
+    if octets.len() > LARGEST_FILE {
+        return Err(CodecError::At {
+            why: Why::Limit,
+            offset: 0,
+        });
+    }
+    let (element, behind) = taken(Reader::new(octets))?;
+    let written = group_at(alloc, &element)?;
+    ended(behind)?;
+    match Group::new(written) {
+        Ok(group) => Ok(group),
+        Err(_) => Err(CodecError::At {
+            why: Why::BadValue,
+            offset: 0,
+        }),
+    }
+}
+
+#[tactic(auto, unfolding(crate::specs::Reading::group_at))]
+fn group_at(alloc: Global, element: &Element<'_>) -> Result<Written, CodecError>
+    ensures { Gives (λ x. x) result (group_at_lem element.now) }
+{
+    let class = class_at(true, element)?;
+    let (inner, reader) = taken(element.contents())?;
+    let identifier = identifier_in(alloc, sequence_at(&inner)?)?;
+    let (fields, items) = body(alloc, class, reader)?;
+    let fields = complete(class, fields, element)?;
+    Ok(Written {
+        class,
+        identifier,
+        fields,
+        items,
+    })
+}
+
+/// The class of the element, a group's or an ingredient's.
+#[tactic(auto, unfolding(crate::specs::Reading::class_at))]
+fn class_at(wants_group: bool, element: &Element<'_>) -> Result<Class, CodecError>
+    ensures { Gives (λ x. x) result (class_at_lem wants_group element.now) }
+{
+    let number = own_at(element)?;
+    let Some(class) = class_with(number) else {
+        return Err(refused(element, Why::UnknownTag));
+    };
+    if class.is_group() == wants_group {
+        Ok(class)
+    } else {
+        Err(refused(element, Why::UnknownTag))
+    }
+}
+
+/// The group's own identifier: its name, and the number 0.
+#[tactic(auto, unfolding(crate::specs::Reading::identifier_in))]
+fn identifier_in(alloc: Global, reader: Reader<'_>) -> Result<WrittenName, CodecError>
+    ensures { Gives (λ x. x) result (identifier_in_lem reader.entry) }
+{
+    let (element, reader) = taken(reader)?;
+    let name = name_at(alloc, &element)?;
+    let (element, reader) = taken(reader)?;
+    let number = number_at(&element)?;
+    ended(reader)?;
+    if number.get() != 0 {
+        return Err(refused(&element, Why::BadValue));
+    }
+    Ok(name)
+}
+
+/// The fields of a group, and the items among them.
+#[tactic(auto, unfolding(crate::specs::Reading::body))]
+fn body(
+    alloc: Global,
+    class: Class,
+    reader: Reader<'_>,
+) -> Result<(Seq<Field>, Option<Seq<Ingredient>>), CodecError>
+    ensures { Gives (λ x. x) result (body_lem class reader.entry) }
+{
+    let (before, element, behind) = fields(alloc, class, 0, Seq::new(alloc), reader)?;
+    let Some(element) = element else {
+        return Ok((before, None));
+    };
+    let items = items_at(alloc, &element)?;
+    let (fields, _, _) = fields(alloc, class, ITEMS_NUMBER, before, behind)?;
+    Ok((fields, Some(items)))
+}
+
+/// The fields up to the end or to the element of the items, behind those that came before; the last
+/// of these had this number.
+fn fields<'a>(
+    alloc: Global,
+    class: Class,
+    last: u32,
+    before: Seq<Field>,
+    reader: Reader<'a>,
+) -> Result<(Seq<Field>, Option<Element<'a>>, Reader<'a>), CodecError>
+    ensures { Gives (λ x. x) result (fields_lem class 64 last before reader.entry) }
+{
+    let mut fields = before;
+    let mut last = last;
+    let mut reader = reader;
+    for _ in 0..MOST_FIELDS {
+        let (member, items, behind) = next_field(alloc, class, last, reader)?;
+        let Some(field) = member else {
+            return Ok((fields, items, behind));
+        };
+        last = field.attribute.number();
+        fields.push(field)?;
+        reader = behind;
+    }
+    Err(CodecError::At {
+        why: Why::Limit,
+        offset: reader.offset(),
+    })
+}
+
+/// The next field, or the element of the items, and the reader behind it; neither at the end.
+#[tactic(auto, unfolding(crate::specs::Reading::next_field))]
+fn next_field<'a>(
+    alloc: Global,
+    class: Class,
+    last: u32,
+    reader: Reader<'a>,
+) -> Result<(Option<Field>, Option<Element<'a>>, Reader<'a>), CodecError>
+    ensures { Gives (λ x. x) result (next_field_lem class last reader.entry) }
+{
+    if reader.is_empty() {
+        return Ok((None, None, reader));
+    }
+    let (element, behind) = taken(reader)?;
+    let attribute = attribute_at(class, last, &element)?;
+    if let Shape::Items = attribute.shape() {
+        return Ok((None, Some(element), behind));
+    }
+    let setting = setting(alloc, attribute.shape(), element.contents())?;
+    Ok((Some(Field { attribute, setting }), None, behind))
+}
+
+/// The attribute that the element gives, which the class takes and which comes behind the last one.
+#[tactic(auto, unfolding(crate::specs::Reading::attribute_at))]
+fn attribute_at(class: Class, last: u32, element: &Element<'_>) -> Result<Attribute, CodecError>
+    ensures { Gives (λ x. x) result (attribute_at_lem class last element.now) }
+{
+    let number = own_at(element)?;
+    let Some(attribute) = attribute_with(number) else {
+        return Err(refused(element, Why::UnknownTag));
+    };
+    if !class.takes(attribute) {
+        return Err(refused(element, Why::UnknownTag));
+    }
+    if attribute.number() <= last {
+        return Err(refused(element, Why::WrongOrder));
+    }
+    Ok(attribute)
+}
+
+/// The fields, where all are there with which the class has to be written; if not, the element is
+/// refused.
+#[tactic(auto, unfolding(crate::specs::Reading::complete))]
+fn complete(
+    class: Class,
+    fields: Seq<Field>,
+    element: &Element<'_>,
+) -> Result<Seq<Field>, CodecError>
+    ensures { Gives (λ x. x) result (complete_lem class fields element.now) }
+{
+    if has_required(class, fields.as_slice()) {
+        Ok(fields)
+    } else {
+        Err(refused(element, Why::MissingField))
+    }
+}
+
+fn has_required(class: Class, fields: &[Field]) -> bool
+    ensures { result ≡ has_required_lem class fields.now }
+{
+    class
+        .required()
+        .iter()
+        .all(|attribute| has_attribute(fields, *attribute))
+}
+
+fn has_attribute(fields: &[Field], attribute: Attribute) -> bool
+    ensures { result ≡ list_any (λ f. attribute_number f.attribute == attribute_number attribute) fields.now }
+{
+    let number = attribute.number();
+    fields
+        .iter()
+        .any(|field| field.attribute.number() == number)
+}
+
+/// The ingredients of a group, in one sequence.
+#[tactic(auto, unfolding(crate::specs::Reading::items_at))]
+fn items_at(alloc: Global, element: &Element<'_>) -> Result<Seq<Ingredient>, CodecError>
+    ensures { Gives (λ x. x) result (items_at_lem element.now) }
+{
+    let inner = only(element.contents())?;
+    ingredients(alloc, sequence_at(&inner)?)
+}
+
+/// The ingredients up to the end.
+fn ingredients(alloc: Global, reader: Reader<'_>) -> Result<Seq<Ingredient>, CodecError>
+    ensures { Gives (λ x. x) result (listed ingredient_at_lem 4096 [] reader.entry) }
+{
+    let mut ingredients = Seq::new(alloc);
+    let mut reader = reader;
+    for _ in 0..LONGEST_LIST {
+        let (member, behind) = next_ingredient(alloc, reader)?;
+        let Some(ingredient) = member else {
+            return Ok(ingredients);
+        };
+        ingredients.push(ingredient)?;
+        reader = behind;
+    }
+    full(&reader)?;
+    Ok(ingredients)
+}
+
+/// The next ingredient, and the reader behind it; none at the end.
+#[tactic(auto, unfolding(crate::specs::Reading::next_member))]
+fn next_ingredient<'a>(
+    alloc: Global,
+    reader: Reader<'a>,
+) -> Result<(Option<Ingredient>, Reader<'a>), CodecError>
+    ensures { Gives (λ x. x) result (next_member ingredient_at_lem reader.entry) }
+{
+    if reader.is_empty() {
+        return Ok((None, reader));
+    }
+    let (element, behind) = taken(reader)?;
+    let ingredient = ingredient_at(alloc, &element)?;
+    Ok((Some(ingredient), behind))
+}
+
+#[tactic(auto, unfolding(crate::specs::Reading::ingredient_at))]
+fn ingredient_at(alloc: Global, element: &Element<'_>) -> Result<Ingredient, CodecError>
+    ensures { Gives (λ x. x) result (ingredient_at_lem element.now) }
+{
+    let class = class_at(false, element)?;
+    let (inner, reader) = taken(element.contents())?;
+    let number = ingredient_number_at(&inner)?;
+    let (fields, _, _) = fields(alloc, class, 0, Seq::new(alloc), reader)?;
+    let fields = complete(class, fields, element)?;
+    Ok(Ingredient {
+        class,
+        number,
+        fields,
+    })
+}

@@ -1,0 +1,264 @@
+//! Readers of values that are one element: truth values, numbers, octets, names, references.
+ghost use Rattle.std.specs.Prelude.{◌≡◌, pos, ◌≤ℤ◌, IfOk};
+ghost use Rattle.mh_codec.specs.Gives.{Gives};
+ghost use Rattle.mh_codec.specs.Reading.{taken as taken_lem, ended as ended_lem, truth_at as truth_at_lem, integer_at as integer_at_lem, octets_at as octets_at_lem, sequence_at as sequence_at_lem, own_at as own_at_lem, natural_at as natural_at_lem, fixed_at as fixed_at_lem, number_at as number_at_lem, ingredient_number_at as ingredient_number_at_lem, name_at as name_at_lem, event_at as event_at_lem, colour_at as colour_at_lem, named_in as named_in_lem, reference_at as reference_at_lem, only as only_lem, is_indirect as is_indirect_lem, variable_at as variable_at_lem, generic_at};
+
+use crate::kind::{Kind, kind_of};
+use crate::{CodecError, Why};
+use mh_base::{EventType, Octets};
+use mh_der::{Element, Reader, bool_of, int_of};
+use mh_group::{Generic, Number, Ref, WrittenName};
+use std::alloc::Global;
+
+/// The number of the tag of a value that a variable holds.
+const INDIRECT: u16 = 61;
+
+/// The refusal of the element.
+pub(crate) fn refused(element: &Element<'_>, why: Why) -> CodecError
+    ensures { result ≡ CodecError.At why element.now.offset }
+{
+    CodecError::At {
+        why,
+        offset: element.offset(),
+    }
+}
+
+/// The next element, and the reader behind it.
+#[tactic(auto, unfolding(crate::specs::Reading::taken))]
+pub(crate) fn taken<'a>(reader: Reader<'a>) -> Result<(Element<'a>, Reader<'a>), CodecError>
+    ensures { Gives (λ x. x) result (taken_lem reader.entry) }
+{
+    Ok(reader.taken()?)
+}
+
+/// Nothing is left, which is wanted here.
+#[tactic(auto, unfolding(crate::specs::Reading::ended))]
+pub(crate) fn ended(reader: Reader<'_>) -> Result<(), CodecError>
+    ensures { Gives (λ x. x) result (ended_lem reader.entry) }
+{
+    reader.ended()?;
+    Ok(())
+}
+
+/// The one element that is left.
+#[tactic(auto, unfolding(crate::specs::Reading::only))]
+pub(crate) fn only<'a>(reader: Reader<'a>) -> Result<Element<'a>, CodecError>
+    ensures { Gives (λ x. x) result (only_lem reader.entry) }
+{
+    let (element, behind) = taken(reader)?;
+    ended(behind)?;
+    Ok(element)
+}
+
+#[tactic(auto, unfolding(crate::specs::Reading::truth_at))]
+pub(crate) fn truth_at(element: &Element<'_>) -> Result<bool, CodecError>
+    ensures { Gives (λ x. x) result (truth_at_lem element.now) }
+{
+    match kind_of(element.tag()) {
+        Kind::Boolean => Ok(bool_of(element)?),
+        _ => Err(refused(element, Why::UnknownTag)),
+    }
+}
+
+#[tactic(auto, unfolding(crate::specs::Reading::integer_at))]
+pub(crate) fn integer_at(element: &Element<'_>) -> Result<i32, CodecError>
+    ensures { Gives (λ x. x) result (integer_at_lem element.now) }
+{
+    match kind_of(element.tag()) {
+        Kind::Integer => Ok(int_of(element)?),
+        _ => Err(refused(element, Why::UnknownTag)),
+    }
+}
+
+#[tactic(auto, unfolding(crate::specs::Reading::octets_at))]
+fn octets_at<'a>(element: &Element<'a>) -> Result<&'a [u8], CodecError>
+    ensures { Gives (λ x. x.now) result (octets_at_lem element.now) }
+{
+    match kind_of(element.tag()) {
+        Kind::Octets => Ok(element.contents().bytes()),
+        _ => Err(refused(element, Why::UnknownTag)),
+    }
+}
+
+/// A reader of what is inside a sequence.
+#[tactic(auto, unfolding(crate::specs::Reading::sequence_at))]
+pub(crate) fn sequence_at<'a>(element: &Element<'a>) -> Result<Reader<'a>, CodecError>
+    ensures { Gives (λ x. x) result (sequence_at_lem element.now) }
+{
+    match kind_of(element.tag()) {
+        Kind::Sequence => Ok(element.contents()),
+        _ => Err(refused(element, Why::UnknownTag)),
+    }
+}
+
+/// The number of a tag of the notation's own.
+#[tactic(auto, unfolding(crate::specs::Reading::own_at))]
+pub(crate) fn own_at(element: &Element<'_>) -> Result<u16, CodecError>
+    ensures { Gives (λ x. x) result (own_at_lem element.now) }
+{
+    match kind_of(element.tag()) {
+        Kind::Own(number) => Ok(number),
+        _ => Err(refused(element, Why::UnknownTag)),
+    }
+}
+
+/// An integer from 0.
+#[tactic(auto, unfolding(crate::specs::Reading::natural_at))]
+pub(crate) fn natural_at(element: &Element<'_>) -> Result<i32, CodecError>
+    ensures exact { Gives (λ x. x) result (natural_at_lem element.now) }
+    ensures natural { IfOk result (λ x. pos 0 ≤ℤ x) }
+{
+    let value = integer_at(element)?;
+    if value < 0 {
+        return Err(refused(element, Why::BadValue));
+    }
+    Ok(value)
+}
+
+/// This integer and no other.
+#[tactic(auto, unfolding(crate::specs::Reading::fixed_at))]
+pub(crate) fn fixed_at(wanted: i32, element: &Element<'_>) -> Result<i32, CodecError>
+    ensures { Gives (λ x. x) result (fixed_at_lem wanted element.now) }
+{
+    let value = integer_at(element)?;
+    if value != wanted {
+        return Err(refused(element, Why::BadValue));
+    }
+    Ok(value)
+}
+
+/// The number of an object, from 0.
+#[tactic(auto, unfolding(crate::specs::Reading::number_at))]
+pub(crate) fn number_at(element: &Element<'_>) -> Result<Number, CodecError>
+    ensures { Gives (λ x. x) result (number_at_lem element.now) }
+{
+    let value = natural_at(element)?;
+    match Number::new(value.unsigned_abs()) {
+        Some(number) => Ok(number),
+        None => unreachable!(),
+    }
+}
+
+/// The number of an ingredient, from 1.
+#[tactic(auto, unfolding(crate::specs::Reading::ingredient_number_at))]
+pub(crate) fn ingredient_number_at(element: &Element<'_>) -> Result<Number, CodecError>
+    ensures { Gives (λ x. x) result (ingredient_number_at_lem element.now) }
+{
+    let number = number_at(element)?;
+    if number.get() == 0 {
+        return Err(refused(element, Why::BadValue));
+    }
+    Ok(number)
+}
+
+#[tactic(auto, unfolding(crate::specs::Reading::name_at))]
+pub(crate) fn name_at(alloc: Global, element: &Element<'_>) -> Result<WrittenName, CodecError>
+    ensures { Gives (λ x. x) result (name_at_lem element.now) }
+{
+    let bytes = Vec::from_slice(alloc, octets_at(element)?)?;
+    match WrittenName::new(bytes) {
+        Some(name) => Ok(name),
+        None => Err(refused(element, Why::BadValue)),
+    }
+}
+
+/// The type of an event, by its number.
+#[tactic(auto, unfolding(crate::specs::Reading::event_at))]
+pub(crate) fn event_at(element: &Element<'_>) -> Result<EventType, CodecError>
+    ensures { Gives (λ x. x) result (event_at_lem element.now) }
+{
+    let number = number_at(element)?;
+    match EventType::of_number(number.get()) {
+        Some(event) => Ok(event),
+        None => Err(refused(element, Why::BadValue)),
+    }
+}
+
+/// A colour: four octets.
+#[tactic(auto, unfolding(crate::specs::Reading::colour_at))]
+pub(crate) fn colour_at(alloc: Global, element: &Element<'_>) -> Result<Octets, CodecError>
+    ensures { Gives (λ x. x) result (colour_at_lem element.now) }
+{
+    let octets = octets_at(element)?;
+    if octets.len() != 4 {
+        return Err(refused(element, Why::BadValue));
+    }
+    Ok(Octets::from_slice(alloc, octets)?)
+}
+
+/// A name and a number, and nothing behind them.
+#[tactic(auto, unfolding(crate::specs::Reading::named_in))]
+fn named_in(alloc: Global, reader: Reader<'_>) -> Result<(WrittenName, Number), CodecError>
+    ensures { Gives (λ x. x) result (named_in_lem reader.entry) }
+{
+    let (element, reader) = taken(reader)?;
+    let name = name_at(alloc, &element)?;
+    let (element, reader) = taken(reader)?;
+    let number = number_at(&element)?;
+    ended(reader)?;
+    Ok((name, number))
+}
+
+#[tactic(auto, unfolding(crate::specs::Reading::reference_at))]
+pub(crate) fn reference_at(alloc: Global, element: &Element<'_>) -> Result<Ref, CodecError>
+    ensures { Gives (λ x. x) result (reference_at_lem element.now) }
+{
+    match kind_of(element.tag()) {
+        Kind::Integer => Ok(Ref::Here(number_at(element)?)),
+        Kind::Sequence => {
+            let (name, number) = named_in(alloc, element.contents())?;
+            Ok(Ref::In(name, number))
+        }
+        _ => Err(refused(element, Why::UnknownTag)),
+    }
+}
+
+/// Whether the element holds the reference of a variable.
+#[tactic(auto, unfolding(crate::specs::Reading::is_indirect))]
+fn is_indirect(element: &Element<'_>) -> bool
+    ensures { result ≡ is_indirect_lem element.now }
+{
+    match kind_of(element.tag()) {
+        Kind::Own(number) => number == INDIRECT,
+        _ => false,
+    }
+}
+
+/// The reference of the variable that holds a value.
+#[tactic(auto, unfolding(crate::specs::Reading::variable_at))]
+fn variable_at(alloc: Global, element: &Element<'_>) -> Result<Ref, CodecError>
+    ensures { Gives (λ x. x) result (variable_at_lem element.now) }
+{
+    let inner = only(element.contents())?;
+    reference_at(alloc, &inner)
+}
+
+/// A reference, written directly or held by a variable.
+#[tactic(auto, unfolding(crate::specs::Reading::generic_at))]
+pub(crate) fn generic_reference_at(
+    alloc: Global,
+    element: &Element<'_>,
+) -> Result<Generic<Ref>, CodecError>
+    ensures { Gives (λ x. x) result (generic_at reference_at_lem element.now) }
+{
+    if is_indirect(element) {
+        Ok(Generic::Indirect(variable_at(alloc, element)?))
+    } else {
+        Ok(Generic::Direct(reference_at(alloc, element)?))
+    }
+}
+
+/// An integer, written directly or held by a variable.
+#[tactic(auto, unfolding(crate::specs::Reading::generic_at))]
+pub(crate) fn generic_integer_at(
+    alloc: Global,
+    element: &Element<'_>,
+) -> Result<Generic<i32>, CodecError>
+    ensures { Gives (λ x. x) result (generic_at integer_at_lem element.now) }
+{
+    if is_indirect(element) {
+        Ok(Generic::Indirect(variable_at(alloc, element)?))
+    } else {
+        Ok(Generic::Direct(integer_at(element)?))
+    }
+}

@@ -1,0 +1,5 @@
+pub mod DigitLemmas
+pub mod TagLemmas
+pub mod LengthLemmas
+pub mod ElementLaws
+pub mod IntegerLaws
