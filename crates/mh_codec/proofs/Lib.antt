@@ -8,3 +8,4 @@ pub mod SettingLemmas
 pub mod FieldLemmas
 pub mod GroupLemmas
 pub mod Laws
+pub mod WritingLemmas

@@ -4,3 +4,4 @@ pub mod Tags
 pub mod Spelling
 pub mod Writable
 pub mod Reading
+pub mod Unwritable

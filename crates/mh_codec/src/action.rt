@@ -18,7 +18,7 @@ use std::alloc::Global;
 pub(crate) const LONGEST_LIST: usize = 4096;
 
 /// The number of the tag in front of an integer that says its kind.
-const INTEGER_KIND: u16 = 63;
+pub(crate) const INTEGER_KIND: u16 = 63;
 
 /// An effect: a sequence of actions.
 #[tactic(auto, unfolding(crate::specs::Reading::effect_at))]

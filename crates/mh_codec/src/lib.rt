@@ -14,6 +14,10 @@ mod setting;
 #[cfg(test)]
 mod tests;
 mod value;
+mod writing;
+#[cfg(test)]
+mod writing_tests;
 
 pub use codec_error::{CodecError, Why};
 pub use object::{LARGEST_FILE, begins_group, decode_group};
+pub use writing::encode_group;

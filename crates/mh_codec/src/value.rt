@@ -11,7 +11,7 @@ use mh_group::{Generic, Number, Ref, WrittenName};
 use std::alloc::Global;
 
 /// The number of the tag of a value that a variable holds.
-const INDIRECT: u16 = 61;
+pub(crate) const INDIRECT: u16 = 61;
 
 /// The refusal of the element.
 pub(crate) fn refused(element: &Element<'_>, why: Why) -> CodecError

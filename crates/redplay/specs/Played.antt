@@ -1,6 +1,6 @@
 -- What is written for files and a script. They are read, or one line says what cannot be read; the verifier
 -- is asked, or not; and then the script is played on the service that the files make.
-use Rattle.std.specs.Prelude.{◌≡◌, ℕ, Bool, false, if◌then◌else◌, List, [], ◌∷◌, ◌++◌, Option, Some, None, Result, Ok, Err, Vec, map, unwrap_or, codes}
+use Rattle.std.specs.Prelude.{◌≡◌, ℕ, Bool, false, ◌||◌, if◌then◌else◌, List, [], ◌∷◌, ◌++◌, Option, Some, None, Result, Ok, Err, Vec, map, unwrap_or, codes}
 use Rattle.std.specs.declared.alloc.Global.{Global}
 use Rattle.std.specs.Fmt.{decimal}
 use Rattle.mh_base.specs.Path.{is_path}
@@ -14,6 +14,9 @@ use Rattle.mh_text.specs.Lexing.{begins_group}
 use Rattle.mh_text.specs.Reading.{read}
 use Rattle.mh_text.specs.Numbers.{number_of}
 use Rattle.mh_text.specs.Gives.{Refusal as TextRefusal}
+use Rattle.mh_codec.specs.Reading.{read as read_octets, begins_group as begins_octets}
+use Rattle.mh_codec.specs.Numbers.{number_of as octets_number_of}
+use Rattle.mh_codec.specs.Gives.{Refusal as OctetsRefusal}
 use Rattle.redplay.specs.declared.script.Command.{Command}
 use Rattle.redplay.specs.declared.status.Status.{Status}
 use Rattle.redplay.specs.declared.status.Status.TheVariants as status
@@ -43,10 +46,22 @@ abbrev pub named : List ℕ → Result Written TextRefusal → Result Written Un
 named name (Ok group) = Ok group
 named name (Err e) = Err (unplayable.File name (number_of e.why) e.offset)
 
+abbrev pub spelled : List ℕ → Result Written OctetsRefusal → Result Written Unplayable
+spelled name (Ok group) = Ok group
+spelled name (Err e) = Err (unplayable.File name (octets_number_of e.why) e.offset)
+
+-- the bytes begin as a group does, in either notation
+abbrev pub is_group_file : List ℕ → Bool
+is_group_file bytes = begins_group bytes || begins_octets bytes
+
+-- the group that the bytes of this file write, in the notation in which they begin
+unfoldable pub group_in : List ℕ → List ℕ → Result Written Unplayable
+group_in name bytes = if begins_octets bytes then spelled name (read_octets bytes) else named name (read bytes)
+
 -- the groups with that of a file behind them; a file that does not begin as a group does is passed over
 unfoldable pub with_file : List File → Source → Result (List File) Unplayable
 with_file done f =
-    if begins_group f.1.items then named f.0 (read f.1.items) >>= (λ (group : Written). Ok (done ++ (f.0, group) ∷ []))
+    if is_group_file f.1.items then group_in f.0 f.1.items >>= (λ (group : Written). Ok (done ++ (f.0, group) ∷ []))
     else Ok done
 
 -- the groups of the files in order behind these, or the first file that cannot be read

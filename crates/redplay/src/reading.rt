@@ -6,14 +6,16 @@ ghost use Rattle.mh_service.specs.Refusals.{refusal_of};
 ghost use Rattle.mh_service.specs.Resolved.{resolved};
 ghost use Rattle.mh_service.specs.Numbers.{why_number};
 ghost use Rattle.mh_text.specs.Reading.{read};
-ghost use Rattle.redplay.specs.Played.{readied, with_file, read_files as read_files_lem, service_of as service_of_lem, service_read, commands_of, named, unless_refused, unstartable_for, unserviceable, Gives, Fails};
+ghost use Rattle.mh_codec.specs.Reading.{read as read_octets_lem};
+ghost use Rattle.redplay.specs.Played.{readied, with_file, is_group_file as is_group_file_lem, group_in, spelled, read_files as read_files_lem, service_of as service_of_lem, service_read, commands_of, named, unless_refused, unstartable_for, unserviceable, Gives, Fails};
 
 use crate::script::{Command, ScriptError, read_script};
 use crate::unplayable::Unplayable;
 use mh_base::{GroupName, NameError, Octets, Seq};
+use mh_codec::{CodecError, decode_group};
 use mh_group::Group;
 use mh_service::{Service, ServiceError, Why, double_name};
-use mh_text::{TextError, begins_group, read_group};
+use mh_text::{TextError, read_group};
 use std::alloc::{AllocError, Global};
 
 /// What is to be played: a service and commands.
@@ -69,14 +71,47 @@ fn add_file(
     ensures refused { IfErr result (λ why. Fails why (with_file groups.old.items file.now)) }
 {
     let bytes = file.1.as_slice();
-    if begins_group(bytes) {
+    if is_group_file(bytes) {
         let group = read_file(alloc, &file.0, bytes)?;
         groups.push((file.0.clone()?, group))?;
     }
     Ok(())
 }
 
+/// Whether the bytes begin as a group does, in either notation.
+fn is_group_file(bytes: &[u8]) -> bool
+    ensures { result ≡ is_group_file_lem bytes.now }
+{
+    mh_text::begins_group(bytes) || mh_codec::begins_group(bytes)
+}
+
+/// The group that the file writes, in the notation in which it begins.
+#[tactic(auto, unfolding(crate::specs::Played::group_in))]
 fn read_file(alloc: Global, name: &GroupName, bytes: &[u8]) -> Result<Group, Unplayable>
+    ensures { Gives (λ g. g) result (group_in name.now bytes.now) }
+{
+    if mh_codec::begins_group(bytes) {
+        read_octets(alloc, name, bytes)
+    } else {
+        read_text(alloc, name, bytes)
+    }
+}
+
+fn read_octets(alloc: Global, name: &GroupName, octets: &[u8]) -> Result<Group, Unplayable>
+    ensures { Gives (λ g. g) result (spelled name.now (read_octets_lem octets.now)) }
+{
+    match decode_group(alloc, octets) {
+        Ok(group) => Ok(group),
+        Err(CodecError::At { why, offset }) => Err(Unplayable::File {
+            name: name.clone()?,
+            number: why.number(),
+            offset,
+        }),
+        Err(CodecError::NoMemory) => Err(Unplayable::NoMemory),
+    }
+}
+
+fn read_text(alloc: Global, name: &GroupName, bytes: &[u8]) -> Result<Group, Unplayable>
     ensures { Gives (λ g. g) result (named name.now (read bytes.now)) }
 {
     match read_group(alloc, bytes) {

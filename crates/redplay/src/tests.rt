@@ -25,6 +25,13 @@ const SCENE: File = (
         {:Link 11 :EventSource 0 :EventType UserInput :EventData 100 :LinkEffect ( :SetPosition (10 24 16) ) } ) }"#,
 );
 
+/// The application and the scene in the binary notation.
+const APPLICATION_OCTETS: &[u8] =
+    b"\xa0\x1b\x30\x08\x04\x03\x7e\x2f\x61\x02\x01\x00\xa1\x0f\x30\x0d\xbf\x70\x0a\x30\x08\x04\x03\x7e\x2f\x73\x02\x01\x00";
+
+const SCENE_OCTETS: &[u8] =
+    b"\xa1\x63\x30\x08\x04\x03\x7e\x2f\x73\x02\x01\x00\xa3\x48\x30\x46\xa8\x20\x02\x01\x0a\xad\x06\x02\x01\x18\x02\x01\x20\xae\x06\x02\x01\x0c\x02\x01\x10\xaf\x03\x02\x01\x00\xb1\x06\x04\x04\xff\x00\x00\x00\xa2\x22\x02\x01\x0b\xa8\x03\x02\x01\x00\xa9\x03\x02\x01\x06\xaa\x03\x02\x01\x64\xab\x0e\x30\x0c\xbf\x7e\x09\x02\x01\x0a\x02\x01\x18\x02\x01\x10\xa4\x03\x02\x01\x03\xa5\x08\x02\x02\x02\xd0\x02\x02\x02\x40";
+
 const ABSENT: File = (
     "s",
     r#"{:Scene ("~/s" 0) :InputEventReg 3 :SceneCS 720 576 :Items (
@@ -162,6 +169,58 @@ fn check_from(
     assert_eq!(rt; written.as_str(), wanted.0, "{case}");
     assert_eq!(rt; status.code(), wanted.1, "{case}");
     Ok(())
+}
+
+/// Plays files that are given by their bytes.
+fn check_octets(
+    rt: &(impl Abort + AllocGlobal),
+    case: &str,
+    files: [(&str, &[u8]); 2],
+    wanted: (&str, u8),
+) -> Result<(), Fail> {
+    let alloc = rt.alloc();
+    let mut read = Vec::new(alloc);
+    for (path, bytes) in files {
+        let name = GroupName::of_path(alloc, path.as_bytes())?;
+        read.push((name, Vec::from_slice(alloc, bytes)?))?;
+    }
+    let options = options_from(alloc, "a")?;
+    let mut sink = ListSink {
+        bytes: Vec::new(alloc),
+        failures: 0,
+    };
+    let script = MOVES.as_bytes();
+    let status = play_bytes(alloc, read.as_slice(), script, &options, &mut sink)?;
+    let written = String::from_utf8_lossy(alloc, sink.bytes.as_slice())?;
+    assert_eq!(rt; written.as_str(), wanted.0, "{case}");
+    assert_eq!(rt; status.code(), wanted.1, "{case}");
+    Ok(())
+}
+
+#[test]
+fn plays_either_notation(rt: HostRuntime) -> Result<(), Fail> {
+    let (application, scene) = (APPLICATION.1.as_bytes(), SCENE.1.as_bytes());
+    let mixes: [(&str, [(&str, &[u8]); 2]); 3] = [
+        (
+            "a scene in octets",
+            [("a", application), ("s", SCENE_OCTETS)],
+        ),
+        (
+            "an application in octets",
+            [("a", APPLICATION_OCTETS), ("s", scene)],
+        ),
+        (
+            "both in octets",
+            [("a", APPLICATION_OCTETS), ("s", SCENE_OCTETS)],
+        ),
+    ];
+    for (case, files) in mixes {
+        check_octets(&rt, case, files, (FRAMES, 0))?;
+    }
+    let cut = [("a", &APPLICATION_OCTETS[..9]), ("s", scene)];
+    check_octets(&rt, "octets that were cut off", cut, ("file a 1 0\n", 2))?;
+    let behind = [("a", application), ("s", b"\xa0\x80\x00\x00".as_slice())];
+    check_octets(&rt, "an open length", behind, ("file s 4 0\n", 2))
 }
 
 #[test]
