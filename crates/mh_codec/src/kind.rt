@@ -1,4 +1,5 @@
-//! The tags of the notation and what they stand for. Nothing else looks at a tag's number.
+//! What the tags of the notation stand for: sorts of values, and classes, attributes and actions by
+//! their numbers. The two tags around values (61 and 63) are looked for where such values are read.
 ghost use Rattle.std.specs.Prelude.{◌≡◌};
 ghost use Rattle.mh_codec.specs.Tags.{kind_of as kind_of_lem, universal as universal_lem, class_with as class_with_lem, attribute_with as attribute_with_lem, action_with as action_with_lem};
 

@@ -46,6 +46,7 @@ abbrev pub named : List ℕ → Result Written TextRefusal → Result Written Un
 named name (Ok group) = Ok group
 named name (Err e) = Err (unplayable.File name (number_of e.why) e.offset)
 
+-- the same, of a file in the binary notation
 abbrev pub spelled : List ℕ → Result Written OctetsRefusal → Result Written Unplayable
 spelled name (Ok group) = Ok group
 spelled name (Err e) = Err (unplayable.File name (octets_number_of e.why) e.offset)
