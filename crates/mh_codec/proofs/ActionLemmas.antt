@@ -1,7 +1,12 @@
 -- Actions and their parameters: what was read is spelled so, and what is spelled so is read.
-use Rattle.std.proofs.Common.{◌≡◌, ℕ, ◌+◌, ◌<◌, ◌^◌, Bool, true, ◌&&◌, ◌==◌, List, [], ◌∷◌, ◌++◌, Some, Ok, refl, ap, sym, ◌∙◌, subst, arith, append-nil, append_assoc}
+use Rattle.std.proofs.Common.{◌≡◌, ℕ, ◌+◌, ◌<◌, ◌^◌, ◌⊎◌, inl, inr, Bool, true, false, ◌&&◌, ◌==◌, nat_le, if◌then◌else◌, List, [], ◌∷◌, ◌++◌, length, Some, Result, Ok, refl, ap, sym, ◌∙◌, subst, arith, pos, append-nil, append_assoc}
 use Rattle.std.specs.List.{list_all}
+use Rattle.mh_base.specs.Event.{number_of}
+use Rattle.mh_base.specs.declared.value.Kind.{Kind as ValueKind}
+use Rattle.mh_base.specs.declared.value.Kind.TheVariants as value_kind
+use Rattle.mh_der.specs.Element.{element}
 use Rattle.mh_der.specs.Rest.{Rest, Element}
+use Rattle.mh_der.specs.Reading.{is_empty}
 use Rattle.mh_der.proofs.DigitLemmas.{AreBytes}
 use Rattle.mh_group.specs.declared.action_name.ActionName.{ActionName}
 use Rattle.mh_group.specs.declared.action_name.ActionName.TheVariants as name
@@ -12,72 +17,220 @@ use Rattle.mh_group.specs.declared.action.Typed.{Typed}
 use Rattle.mh_group.specs.declared.action.Typed.TheVariants as typed
 use Rattle.mh_group.specs.declared.action.Parameter.{Parameter}
 use Rattle.mh_group.specs.declared.action.Parameter.TheVariants as parameter
-use Rattle.mh_group.specs.Table.{action_number, needs_of}
+use Rattle.mh_group.specs.Table.{action_number, needs_of, optional_of}
 use Rattle.mh_group.specs.Words.{actions}
 use Rattle.mh_group.specs.Fit.{fits_parameter, fits_parameters, fits_action}
 use Rattle.mh_codec.specs.declared.codec_error.Why.TheVariants.{UnknownTag}
-use Rattle.mh_codec.specs.Tags.{action_with}
-use Rattle.mh_codec.specs.Spelling.{own, integer, reference, generic, several, typed_value, parameter_value, action}
-use Rattle.mh_codec.specs.Writable.{is_integer, is_reference, is_generic, is_parameter, is_action}
-use Rattle.mh_codec.specs.Reading.{taken, ended, only, own_at, admitted, some_at, integer_at, reference_at, generic_at, typed_at, parameter_at, parameters, action_at}
-use Rattle.mh_codec.proofs.ElementLemmas.{went, if_ok, ok_same, written, Good, same_element, same_number, find_holds, taken_found, good_found, taken_given, nothing_left, ended_given}
-use Rattle.mh_codec.proofs.ValueLemmas.{own_read, own_written, some_ok}
-use Rattle.mh_codec.proofs.ReferenceLemmas.{IsOne, Reads, and_true, both_true, spelled_as, only_read, only_written, integer_reads, integer_plain, reference_reads, reference_plain, generic_reads}
+use Rattle.mh_codec.specs.Tags.{action_with, value_kind_with, value_kinds, value_number}
+use Rattle.mh_codec.specs.Spelling.{own, integer, boolean, octet_string, content_name, content_value, data_value, reference, generic, several, list, typed_value, parameter_value, action}
+use Rattle.mh_codec.specs.Writable.{is_integer, is_plain, is_name, is_content, is_data, is_reference, is_generic, is_list, is_typed, is_parameter, is_action}
+use Rattle.mh_codec.specs.Gives.{Refusal, ◌>>=◌}
+use Rattle.mh_codec.specs.Reading.{taken, ended, only, own_at, some_at, truth_at, integer_at, octets_at, event_at, content_name_at, content_at, data_at, reference_at, generic_at, list_at, value_at, typed_at, parameter_at, parameters, action_at}
+use Rattle.mh_codec.proofs.ElementLemmas.{went, ok_same, written, Good, same_element, same_number, find_holds, taken_found, good_found, taken_given, nothing_left, ended_given}
+use Rattle.mh_codec.proofs.ValueLemmas.{own_read, own_written, some_ok, event_read, event_written}
+use Rattle.mh_codec.proofs.ReferenceLemmas.{IsOne, Reads, and_true, both_true, spelled_as, only_read, only_written, integer_one, reference_one, reference_read, reference_written, truth_reads, truth_plain, integer_reads, integer_plain, octets_reads, octets_plain, content_name_reads, content_name_plain, content_reads, content_plain, data_reads, data_plain, reference_reads, reference_plain, generic_reads}
+use Rattle.mh_codec.proofs.MemberLemmas.{some_left, list_reads}
 
--- values with their kind
+-- values that are written directly or are held by variables
+
+truths : Reads (generic_at truth_at) (generic boolean) (is_generic is_plain) (is_generic is_plain)
+truths = generic_reads truth_reads truth_plain
 
 integers : Reads (generic_at integer_at) (generic integer) (is_generic is_integer) (is_generic is_integer)
 integers = generic_reads integer_reads integer_plain
 
+strings : Reads (generic_at octets_at) (generic octet_string) (is_generic is_plain) (is_generic is_plain)
+strings = generic_reads octets_reads octets_plain
+
 references : Reads (generic_at reference_at) (generic reference) (is_generic is_reference) (is_generic is_reference)
 references = generic_reads reference_reads reference_plain
+
+content_names : Reads (generic_at content_name_at) (generic content_name) (is_generic is_name) (is_generic is_name)
+content_names = generic_reads content_name_reads content_name_plain
+
+contents : Reads (generic_at content_at) (generic content_value) (is_generic is_content) (is_generic is_content)
+contents = generic_reads content_reads content_plain
+
+event_data : Reads (generic_at data_at) (generic data_value) (is_generic is_data) (is_generic is_data)
+event_data = generic_reads data_reads data_plain
+
+-- values with their kind
+
+abbrev kind_in : Typed → ValueKind
+kind_in (typed.Bool x) = value_kind.Bool
+kind_in (typed.Int x) = value_kind.Int
+kind_in (typed.Octets x) = value_kind.Octets
+kind_in (typed.Ref x) = value_kind.Object
+kind_in (typed.ContentRef x) = value_kind.Content
+
+abbrev inner_value : Typed → List ℕ
+inner_value (typed.Bool x) = generic boolean x
+inner_value (typed.Int x) = generic integer x
+inner_value (typed.Octets x) = generic octet_string x
+inner_value (typed.Ref x) = generic reference x
+inner_value (typed.ContentRef x) = generic content_name x
+
+typed_is : (x : Typed) → typed_value x ≡ element (own (value_number (kind_in x))) (inner_value x)
+unfolding typed_value
+typed_is (typed.Bool x) = refl
+typed_is (typed.Int x) = refl
+typed_is (typed.Octets x) = refl
+typed_is (typed.Ref x) = refl
+typed_is (typed.ContentRef x) = refl
+
+value_numbered : (n : ℕ) (k : ValueKind) → value_kind_with n ≡ Some k → value_number k ≡ n
+unfolding value_kind_with
+value_numbered n k h = same_number (value_number k) n (find_holds (λ (j : ValueKind). value_number j == n) value_kinds k h)
+
+value_named : (k : ValueKind) → (value_kind_with (value_number k) ≡ Some k) × (value_number k < 2 ^ 16)
+unfolding value_kind_with
+value_named value_kind.Bool = (refl, omega arith)
+value_named value_kind.Int = (refl, omega arith)
+value_named value_kind.Octets = (refl, omega arith)
+value_named value_kind.Object = (refl, omega arith)
+value_named value_kind.Content = (refl, omega arith)
+
+record IsValue (k : ValueKind) (e : Element) (x : Typed) : Type 0 where
+  pub kind : kind_in x ≡ k
+  pub is : written e ≡ inner_value x
+  pub good : is_typed x ≡ true
+
+value_read : (k : ValueKind) (e : Element) (x : Typed) → Good e → value_at k e ≡ Ok x → IsValue k e x
+unfolding value_at
+value_read value_kind.Bool e x good is =
+    let y = went (generic_at truth_at e) _ x is in
+    let r = truths.found e y.value good y.first in
+    subst (IsValue value_kind.Bool e) (ok_same y.behind) (record { kind = refl; is = r.0; good = r.1 })
+value_read value_kind.Int e x good is =
+    let y = went (generic_at integer_at e) _ x is in
+    let r = integers.found e y.value good y.first in
+    subst (IsValue value_kind.Int e) (ok_same y.behind) (record { kind = refl; is = r.0; good = r.1 })
+value_read value_kind.Octets e x good is =
+    let y = went (generic_at octets_at e) _ x is in
+    let r = strings.found e y.value good y.first in
+    subst (IsValue value_kind.Octets e) (ok_same y.behind) (record { kind = refl; is = r.0; good = r.1 })
+value_read value_kind.Object e x good is =
+    let y = went (generic_at reference_at e) _ x is in
+    let r = references.found e y.value good y.first in
+    subst (IsValue value_kind.Object e) (ok_same y.behind) (record { kind = refl; is = r.0; good = r.1 })
+value_read value_kind.Content e x good is =
+    let y = went (generic_at content_name_at e) _ x is in
+    let r = content_names.found e y.value good y.first in
+    subst (IsValue value_kind.Content e) (ok_same y.behind) (record { kind = refl; is = r.0; good = r.1 })
+
+value_written : (e : Element) (x : Typed) → e.tag.number < 2 ^ 16 → is_typed x ≡ true → written e ≡ inner_value x → value_at (kind_in x) e ≡ Ok x
+unfolding value_at
+value_written e (typed.Bool x) small good is = rw (truths.given e x small good is) refl
+value_written e (typed.Int x) small good is = rw (integers.given e x small good is) refl
+value_written e (typed.Octets x) small good is = rw (strings.given e x small good is) refl
+value_written e (typed.Ref x) small good is = rw (references.given e x small good is) refl
+value_written e (typed.ContentRef x) small good is = rw (content_names.given e x small good is) refl
+
+value_one : (x : Typed) → is_typed x ≡ true → IsOne (inner_value x)
+value_one (typed.Bool x) good = truths.one x good
+value_one (typed.Int x) good = integers.one x good
+value_one (typed.Octets x) good = strings.one x good
+value_one (typed.Ref x) good = references.one x good
+value_one (typed.ContentRef x) good = content_names.one x good
+
+typed_read : (e : Element) (x : Typed) → Good e → typed_at e ≡ Ok x → (written e ≡ typed_value x) × (is_typed x ≡ true)
+unfolding typed_at
+typed_read e x good is =
+    let n = went (own_at e) _ x is in
+    let k = went (some_at e UnknownTag (value_kind_with n.value)) _ x n.behind in
+    let inner = went (only e.contents) _ x k.behind in
+    let o = only_read e.contents inner.value good.bytes inner.first in
+    let r = value_read k.value inner.value x o.good inner.behind in
+    let number : value_number (kind_in x) ≡ n.value = ap value_number r.kind ∙ value_numbered n.value k.value (some_ok e UnknownTag (value_kind_with n.value) k.value k.first) in
+    let tag : e.tag ≡ own (value_number (kind_in x)) = own_read e n.value n.first ∙ ap own (sym number) in
+    (spelled_as e (own (value_number (kind_in x))) (inner_value x) tag (o.is ∙ r.is) ∙ sym (typed_is x), r.good)
+
+typed_written : (e : Element) (x : Typed) → e.tag.number < 2 ^ 16 → is_typed x ≡ true → written e ≡ typed_value x → typed_at e ≡ Ok x
+unfolding typed_at
+typed_written e x small good is =
+    let named = value_named (kind_in x) in
+    let same = same_element e.tag (own (value_number (kind_in x))) e.contents.bytes (inner_value x) small named.1 (is ∙ typed_is x) in
+    let one = value_one x good in
+    let o = only_written e.contents one.tag one.contents one.small (same.inner ∙ one.is) in
+    let inner = value_written o.found x o.small good (o.is ∙ sym one.is) in
+    rw (own_written e (value_number (kind_in x)) same.tag, named.0, o.takes, inner) refl
+
+typed_one : (x : Typed) → IsOne (typed_value x)
+typed_one x = record { tag = own (value_number (kind_in x)); contents = inner_value x; small = (value_named (kind_in x)).1; is = typed_is x }
+
+typed_reads : Reads typed_at typed_value is_typed is_typed
+typed_reads = record {
+  found = typed_read;
+  given = typed_written;
+  one = λ x good. typed_one x;
+}
+
+arguments : Reads (list_at typed_at 4096) (list typed_value) (is_list is_typed) (is_list is_typed)
+arguments = list_reads typed_reads
+
+-- parameters
 
 abbrev Spelled : Element → Parameter → Type 0
 Spelled e p = (written e ≡ parameter_value p) × (is_parameter p ≡ true)
 
-typed_read : (e : Element) (x : Typed) → Good e → typed_at e ≡ Ok x → Spelled e (parameter.Typed x)
-unfolding typed_at typed_value
-typed_read e x good is =
-    let n = went (own_at e) _ x is in
-    let k = went (admitted (n.value == 63) UnknownTag e n.value) _ x n.behind in
-    let t = if_ok (n.value == 63) (Ok n.value) UnknownTag e.offset k.value k.first in
-    let inner = went (only e.contents) _ x k.behind in
-    let y = went (generic_at integer_at inner.value) _ x inner.behind in
-    let o = only_read e.contents inner.value good.bytes inner.first in
-    let r = integers.found inner.value y.value o.good y.first in
-    let tag : e.tag ≡ own 63 = own_read e n.value n.first ∙ ap own (same_number n.value 63 t.0) in
-    subst (λ (z : Typed). Spelled e (parameter.Typed z)) (ok_same y.behind)
-    (spelled_as e (own 63) (generic integer y.value) tag (o.is ∙ r.0), r.1)
-
-typed_written : (e : Element) (x : Typed) → e.tag.number < 2 ^ 16 → is_parameter (parameter.Typed x) ≡ true → written e ≡ typed_value x → typed_at e ≡ Ok x
-unfolding typed_at typed_value
-typed_written e (typed.Int x) small good is =
-    let same = same_element e.tag (own 63) e.contents.bytes (generic integer x) small (omega arith) is in
-    let one = integers.one x good in
-    let o = only_written e.contents one.tag one.contents one.small (same.inner ∙ one.is) in
-    let inner = integers.given o.found x o.small good (o.is ∙ sym one.is) in
-    rw (own_written e 63 same.tag, o.takes, inner) refl
-
 parameter_read : (n : Need) (e : Element) (p : Parameter) → Good e → parameter_at n e ≡ Ok p → Spelled e p
 unfolding parameter_at
+parameter_read need.Bool e p good is =
+    let x = went (generic_at truth_at e) _ p is in
+    subst (Spelled e) (ok_same x.behind) (truths.found e x.value good x.first)
 parameter_read need.Int e p good is =
     let x = went (generic_at integer_at e) _ p is in
     subst (Spelled e) (ok_same x.behind) (integers.found e x.value good x.first)
+parameter_read need.Octets e p good is =
+    let x = went (generic_at octets_at e) _ p is in
+    subst (Spelled e) (ok_same x.behind) (strings.found e x.value good x.first)
+parameter_read need.Ref e p good is =
+    let x = went (generic_at reference_at e) _ p is in
+    subst (Spelled e) (ok_same x.behind) (references.found e x.value good x.first)
+parameter_read need.Content e p good is =
+    let x = went (generic_at content_at e) _ p is in
+    subst (Spelled e) (ok_same x.behind) (contents.found e x.value good x.first)
+parameter_read need.Data e p good is =
+    let x = went (generic_at data_at e) _ p is in
+    subst (Spelled e) (ok_same x.behind) (event_data.found e x.value good x.first)
+parameter_read need.Event e p good is =
+    let x = went (event_at e) _ p is in
+    subst (Spelled e) (ok_same x.behind) (event_read e x.value good x.first, refl)
+parameter_read (need.Receiver k) e p good is =
+    let x = went (reference_at e) _ p is in
+    subst (Spelled e) (ok_same x.behind) (reference_read e x.value good x.first)
 parameter_read need.Typed e p good is =
     let x = went (typed_at e) _ p is in
     subst (Spelled e) (ok_same x.behind) (typed_read e x.value good x.first)
+parameter_read need.Arguments e p good is =
+    let x = went (list_at typed_at 4096 e) _ p is in
+    subst (Spelled e) (ok_same x.behind) (arguments.found e x.value good x.first)
 
 parameter_written : (n : Need) (e : Element) (p : Parameter) → e.tag.number < 2 ^ 16 → fits_parameter n p ≡ true → is_parameter p ≡ true → written e ≡ parameter_value p → parameter_at n e ≡ Ok p
 unfolding parameter_at
+parameter_written need.Bool e (parameter.Bool x) small fits good is = rw (truths.given e x small good is) refl
 parameter_written need.Int e (parameter.Int x) small fits good is = rw (integers.given e x small good is) refl
-parameter_written need.Int e (parameter.Typed x) small fits good is = absurd cc
+parameter_written need.Octets e (parameter.Octets x) small fits good is = rw (strings.given e x small good is) refl
+parameter_written need.Ref e (parameter.Ref x) small fits good is = rw (references.given e x small good is) refl
+parameter_written need.Content e (parameter.Content x) small fits good is = rw (contents.given e x small good is) refl
+parameter_written need.Data e (parameter.Data x) small fits good is = rw (event_data.given e x small good is) refl
+parameter_written need.Event e (parameter.Event x) small fits good is = rw (event_written e x small is) refl
+parameter_written (need.Receiver k) e (parameter.Receiver r) small fits good is = rw (reference_written e r small good is) refl
 parameter_written need.Typed e (parameter.Typed x) small fits good is = rw (typed_written e x small good is) refl
-parameter_written need.Typed e (parameter.Int x) small fits good is = absurd cc
+parameter_written need.Arguments e (parameter.Arguments xs) small fits good is = rw (arguments.given e xs small good is) refl
+parameter_written _ e _ small fits good is = absurd cc
 
 parameter_one : (p : Parameter) → is_parameter p ≡ true → IsOne (parameter_value p)
-unfolding typed_value
+parameter_one (parameter.Bool x) good = truths.one x good
 parameter_one (parameter.Int x) good = integers.one x good
-parameter_one (parameter.Typed (typed.Int x)) good = record { tag = own 63; contents = generic integer x; small = omega arith; is = refl }
+parameter_one (parameter.Octets x) good = strings.one x good
+parameter_one (parameter.Ref x) good = references.one x good
+parameter_one (parameter.Content x) good = contents.one x good
+parameter_one (parameter.Data x) good = event_data.one x good
+parameter_one (parameter.Event x) good = integer_one (pos (number_of x))
+parameter_one (parameter.Receiver r) good = reference_one r
+parameter_one (parameter.Typed x) good = typed_one x
+parameter_one (parameter.Arguments xs) good = arguments.one xs good
 
 -- the parameters that were read
 record Parameters (done : List Parameter) (left : Rest) (y : List Parameter × Rest) : Type 0 where
@@ -87,15 +240,23 @@ record Parameters (done : List Parameter) (left : Rest) (y : List Parameter × R
   pub good : list_all is_parameter new ≡ true
   pub bytes : AreBytes y.1.bytes
 
-parameters_found : (ns : List Need) (done : List Parameter) (left : Rest) (y : List Parameter × Rest) → AreBytes left.bytes → parameters ns done left ≡ Ok y → Parameters done left y
-parameters_found [] done left y bytes e =
-    subst (Parameters done left) (ok_same e) (record { new = []; all = sym (append-nil done); is = refl; good = refl; bytes = bytes })
-parameters_found (n ∷ ns) done left y bytes e =
+-- a reading that may be done, and else goes on
+done_or : {A : Type 0} (b : Bool) (x y : A) (r : Result A Refusal) → (if b then Ok x else r) ≡ Ok y → ((x ≡ y) ⊎ (r ≡ Ok y))
+done_or true x y r e = inl (ok_same e)
+done_or false x y r e = inr e
+
+no_parameters : (done : List Parameter) (left : Rest) → AreBytes left.bytes → Parameters done left (done, left)
+no_parameters done left bytes = record { new = []; all = sym (append-nil done); is = refl; good = refl; bytes = bytes }
+
+more_found : (optional : ℕ) (n : Need) (ns : List Need) (done : List Parameter) (left : Rest) (y : List Parameter × Rest) → AreBytes left.bytes
+    → (taken left >>= λ a. parameter_at n a.0 >>= λ x. parameters optional ns (done ++ x ∷ []) a.1) ≡ Ok y
+    → ((p : Parameter) (rest : Rest) → AreBytes rest.bytes → parameters optional ns (done ++ p ∷ []) rest ≡ Ok y → Parameters (done ++ p ∷ []) rest y) → Parameters done left y
+more_found optional n ns done left y bytes e further =
     let a = went (taken left) _ y e in
     let f = taken_found left a.value.0 a.value.1 bytes a.first in
     let p = went (parameter_at n a.value.0) _ y a.behind in
     let r = parameter_read n a.value.0 p.value (good_found left a.value.0 a.value.1 f) p.first in
-    let more = parameters_found ns (done ++ p.value ∷ []) a.value.1 y f.rest p.behind in
+    let more = further p.value a.value.1 f.rest p.behind in
     record {
       new = p.value ∷ more.new;
       all = more.all ∙ append_assoc done (p.value ∷ []) more.new;
@@ -105,27 +266,36 @@ parameters_found (n ∷ ns) done left y bytes e =
       bytes = more.bytes;
     }
 
-record ParametersGiven (ns : List Need) (done ps : List Parameter) (left : Rest) (r : List ℕ) : Type 0 where
-  pub rest : Rest
-  pub takes : parameters ns done left ≡ Ok (done ++ ps, rest)
-  pub behind : rest.bytes ≡ r
+parameters_found : (optional : ℕ) (ns : List Need) (done : List Parameter) (left : Rest) (y : List Parameter × Rest) → AreBytes left.bytes → parameters optional ns done left ≡ Ok y → Parameters done left y
+parameters_found optional [] done left y bytes e = subst (Parameters done left) (ok_same e) (no_parameters done left bytes)
+parameters_found optional (n ∷ ns) done left y bytes e =
+    elim (done_or (is_empty left.bytes && nat_le (length (n ∷ ns)) optional) (done, left) y _ e) [
+      | inl same ↦ subst (Parameters done left) same (no_parameters done left bytes)
+      | inr goes ↦ more_found optional n ns done left y bytes goes (λ p rest b h. parameters_found optional ns (done ++ p ∷ []) rest y b h)
+    ]
 
-parameters_given : (ns : List Need) (done ps : List Parameter) (left : Rest) (r : List ℕ) → fits_parameters ns ps ≡ true → list_all is_parameter ps ≡ true
-    → left.bytes ≡ several parameter_value ps ++ r → ParametersGiven ns done ps left r
-parameters_given [] done [] left r fits good is = record { rest = left; takes = rw (append-nil done) refl; behind = is }
-parameters_given [] done (p ∷ ps) left r fits good is = absurd cc
-parameters_given (n ∷ ns) done [] left r fits good is = absurd cc
-parameters_given (n ∷ ns) done (p ∷ ps) left r fits good is =
+record ParametersGiven (optional : ℕ) (ns : List Need) (done ps : List Parameter) (left : Rest) : Type 0 where
+  pub rest : Rest
+  pub takes : parameters optional ns done left ≡ Ok (done ++ ps, rest)
+  pub behind : rest.bytes ≡ []
+
+parameters_given : (optional : ℕ) (ns : List Need) (done ps : List Parameter) (left : Rest) → fits_parameters optional ns ps ≡ true → list_all is_parameter ps ≡ true
+    → left.bytes ≡ several parameter_value ps → ParametersGiven optional ns done ps left
+parameters_given optional [] done [] left fits good is = record { rest = left; takes = rw (append-nil done) refl; behind = is }
+parameters_given optional [] done (p ∷ ps) left fits good is = absurd cc
+parameters_given optional (n ∷ ns) done [] left fits good is = record { rest = left; takes = rw (is, fits, append-nil done) refl; behind = is }
+parameters_given optional (n ∷ ns) done (p ∷ ps) left fits good is =
     let goods = and_true (is_parameter p) (list_all is_parameter ps) good in
-    let fit = and_true (fits_parameter n p) (fits_parameters ns ps) fits in
+    let fit = and_true (fits_parameter n p) (fits_parameters optional ns ps) fits in
     let one = parameter_one p goods.0 in
-    let g = taken_given left one.tag one.contents (several parameter_value ps ++ r) one.small
-    (is ∙ append_assoc (parameter_value p) (several parameter_value ps) r ∙ ap (λ (bs : List ℕ). bs ++ (several parameter_value ps ++ r)) one.is) in
+    let stands : left.bytes ≡ element one.tag one.contents ++ several parameter_value ps = is ∙ ap (λ (bs : List ℕ). bs ++ several parameter_value ps) one.is in
+    let g = taken_given left one.tag one.contents (several parameter_value ps) one.small stands in
+    let some = some_left left.bytes one.tag one.contents (several parameter_value ps) stands in
     let first = parameter_written n g.found p g.small fit.0 goods.0 (g.is ∙ sym one.is) in
-    let more = parameters_given ns (done ++ p ∷ []) ps g.rest r fit.1 goods.1 g.behind in
+    let more = parameters_given optional ns (done ++ p ∷ []) ps g.rest fit.1 goods.1 g.behind in
     record {
       rest = more.rest;
-      takes = rw (g.takes, first) (more.takes ∙ rw (append_assoc done (p ∷ []) ps) refl);
+      takes = rw (some, g.takes, first) (more.takes ∙ rw (append_assoc done (p ∷ []) ps) refl);
       behind = more.behind;
     }
 
@@ -137,10 +307,76 @@ action_numbered n a h = same_number (100 + action_number a) n (find_holds (λ (b
 
 action_named : (a : ActionName) → (action_with (100 + action_number a) ≡ Some a) × (100 + action_number a < 2 ^ 16)
 unfolding action_with
+action_named name.Run = (refl, omega arith)
+action_named name.Stop = (refl, omega arith)
+action_named name.Preload = (refl, omega arith)
+action_named name.Unload = (refl, omega arith)
+action_named name.GetAvailabilityStatus = (refl, omega arith)
+action_named name.GetRunningStatus = (refl, omega arith)
+action_named name.SendEvent = (refl, omega arith)
+action_named name.SetTimer = (refl, omega arith)
+action_named name.Launch = (refl, omega arith)
+action_named name.Quit = (refl, omega arith)
+action_named name.LockScreen = (refl, omega arith)
+action_named name.UnlockScreen = (refl, omega arith)
 action_named name.TransitionTo = (refl, omega arith)
+action_named name.SetInputRegister = (refl, omega arith)
+action_named name.Activate = (refl, omega arith)
+action_named name.Deactivate = (refl, omega arith)
 action_named name.SetVariable = (refl, omega arith)
+action_named name.TestVariable = (refl, omega arith)
 action_named name.Add = (refl, omega arith)
+action_named name.Subtract = (refl, omega arith)
+action_named name.Multiply = (refl, omega arith)
+action_named name.Divide = (refl, omega arith)
+action_named name.Modulo = (refl, omega arith)
+action_named name.Append = (refl, omega arith)
+action_named name.Call = (refl, omega arith)
+action_named name.Fork = (refl, omega arith)
 action_named name.SetPosition = (refl, omega arith)
+action_named name.GetPosition = (refl, omega arith)
+action_named name.SetBoxSize = (refl, omega arith)
+action_named name.GetBoxSize = (refl, omega arith)
+action_named name.BringToFront = (refl, omega arith)
+action_named name.SendToBack = (refl, omega arith)
+action_named name.PutBefore = (refl, omega arith)
+action_named name.PutBehind = (refl, omega arith)
+action_named name.SetFillColour = (refl, omega arith)
+action_named name.SetLineColour = (refl, omega arith)
+action_named name.SetLineWidth = (refl, omega arith)
+action_named name.Clear = (refl, omega arith)
+action_named name.DrawLine = (refl, omega arith)
+action_named name.DrawRectangle = (refl, omega arith)
+action_named name.SetData = (refl, omega arith)
+action_named name.GetTextData = (refl, omega arith)
+action_named name.SetTextColour = (refl, omega arith)
+action_named name.SetInteractionStatus = (refl, omega arith)
+action_named name.GetInteractionStatus = (refl, omega arith)
+action_named name.SetHighlightStatus = (refl, omega arith)
+action_named name.GetHighlightStatus = (refl, omega arith)
+action_named name.SetEntryPoint = (refl, omega arith)
+action_named name.GetEntryPoint = (refl, omega arith)
+action_named name.SetOverwriteMode = (refl, omega arith)
+action_named name.Select = (refl, omega arith)
+action_named name.Deselect = (refl, omega arith)
+action_named name.SetLabel = (refl, omega arith)
+action_named name.GetLabel = (refl, omega arith)
+action_named name.Move = (refl, omega arith)
+action_named name.MoveTo = (refl, omega arith)
+action_named name.GetTokenPosition = (refl, omega arith)
+action_named name.CallActionSlot = (refl, omega arith)
+action_named name.AddItem = (refl, omega arith)
+action_named name.DelItem = (refl, omega arith)
+action_named name.ScrollItems = (refl, omega arith)
+action_named name.SetFirstItem = (refl, omega arith)
+action_named name.GetFirstItem = (refl, omega arith)
+action_named name.SelectItem = (refl, omega arith)
+action_named name.DeselectItem = (refl, omega arith)
+action_named name.ToggleItem = (refl, omega arith)
+action_named name.GetItemStatus = (refl, omega arith)
+action_named name.GetListItem = (refl, omega arith)
+action_named name.GetListSize = (refl, omega arith)
+action_named name.GetCellItem = (refl, omega arith)
 
 abbrev pub fits_and_is : Action → Bool
 fits_and_is a = fits_action a && is_action a
@@ -154,8 +390,8 @@ action_read e x good is =
     let f = taken_found e.contents a.value.0 a.value.1 good.bytes a.first in
     let target = went (generic_at reference_at a.value.0) _ x a.behind in
     let t = references.found a.value.0 target.value (good_found e.contents a.value.0 a.value.1 f) target.first in
-    let given = went (parameters (needs_of called.value) [] a.value.1) _ x target.behind in
-    let p = parameters_found (needs_of called.value) [] a.value.1 given.value f.rest given.first in
+    let given = went (parameters (optional_of called.value) (needs_of called.value) [] a.value.1) _ x target.behind in
+    let p = parameters_found (optional_of called.value) (needs_of called.value) [] a.value.1 given.value f.rest given.first in
     let end = went (ended given.value.1) _ x given.behind in
     let none = nothing_left given.value.1 end.first in
     let tag : e.tag ≡ own (100 + action_number called.value) =
@@ -180,7 +416,7 @@ action_written e x small good is =
     let g = taken_given e.contents one.tag one.contents (several parameter_value x.parameters) one.small
     (same.inner ∙ ap (λ (bs : List ℕ). bs ++ several parameter_value x.parameters) one.is) in
     let target = references.given g.found x.target g.small goods.0 (g.is ∙ sym one.is) in
-    let p = parameters_given (needs_of x.name) [] x.parameters g.rest [] fit.0 goods.1 (g.behind ∙ sym (append-nil _)) in
+    let p = parameters_given (optional_of x.name) (needs_of x.name) [] x.parameters g.rest fit.0 goods.1 g.behind in
     let end = ended_given p.rest p.behind in
     rw (own_written e (100 + action_number x.name) same.tag, called.0, g.takes, target, p.takes, end) refl
 

@@ -128,6 +128,10 @@ ended_given left e = rw e refl
 pub same_number : (n m : ℕ) → (n == m) ≡ true → n ≡ m
 same_number n m h = grind (arith, nat_tests)
 
+-- the tag of this number that is the notation's own and primitive
+abbrev pub primitive : ℕ → Tag
+primitive n = record { class = class.Context; is_constructed = false; number = n }
+
 -- the tag of a kind
 abbrev pub tag_of_kind : Kind → Tag → Type 0
 tag_of_kind kind.Boolean t = t ≡ boolean_tag
@@ -135,6 +139,7 @@ tag_of_kind kind.Integer t = t ≡ integer_tag
 tag_of_kind kind.Octets t = t ≡ octet_string_tag
 tag_of_kind kind.Sequence t = t ≡ sequence_tag
 tag_of_kind (kind.Own n) t = t ≡ own n
+tag_of_kind (kind.Primitive n) t = t ≡ primitive n
 tag_of_kind kind.Other t = Unit {0}
 
 abbrev plain : ℕ → Tag
@@ -158,7 +163,7 @@ told : (c : TagClass) (b : Bool) (n : ℕ) → tag_of_kind (kind_in c b n) (reco
 told class.Universal false n = told_plain n (n == 1) (n == 2) (n == 4) refl refl refl
 told class.Universal true n = told_inner n (n == 16) refl
 told class.Context true n = refl
-told class.Context false n = tt
+told class.Context false n = refl
 told class.Application b n = tt
 told class.Private b n = tt
 

@@ -8,13 +8,14 @@ use Rattle.mh_der.specs.Reading.{is_empty}
 use Rattle.mh_der.proofs.DigitLemmas.{AreBytes}
 use Rattle.mh_der.proofs.ElementLaws.{Found}
 use Rattle.mh_group.specs.declared.class.Class.{Class}
+use Rattle.mh_group.specs.declared.class.Class.TheVariants as class
 use Rattle.mh_group.specs.declared.attribute.Attribute.{Attribute}
 use Rattle.mh_group.specs.declared.attribute.Attribute.TheVariants as attribute
 use Rattle.mh_group.specs.declared.shape.Shape.{Shape}
 use Rattle.mh_group.specs.declared.shape.Shape.TheVariants as shape
 use Rattle.mh_group.specs.declared.written.Setting.{Setting}
 use Rattle.mh_group.specs.declared.written.Field.{Field}
-use Rattle.mh_group.specs.Table.{attribute_number, shape_of, takes}
+use Rattle.mh_group.specs.Table.{attribute_number, shape_of, value_shape, is_list_group, takes}
 use Rattle.mh_group.specs.Words.{attributes}
 use Rattle.mh_group.specs.Fit.{fits, rises_above, takes_each, fits_each}
 use Rattle.mh_codec.specs.declared.codec_error.Why.TheVariants.{UnknownTag, WrongOrder}
@@ -36,7 +37,7 @@ attribute_numbered : (n : ℕ) (a : Attribute) → attribute_with n ≡ Some a �
 unfolding attribute_with
 attribute_numbered n a h = same_number (attribute_number a) n (find_holds (λ (b : Attribute). attribute_number b == n) attributes a h)
 
-pub attribute_named : (a : Attribute) → (attribute_with (attribute_number a) ≡ Some a) × (attribute_number a ≤ 17)
+pub attribute_named : (a : Attribute) → (attribute_with (attribute_number a) ≡ Some a) × (attribute_number a ≤ 38)
 unfolding attribute_with
 attribute_named attribute.OnStartUp = (refl, omega arith)
 attribute_named attribute.OnCloseDown = (refl, omega arith)
@@ -55,19 +56,53 @@ attribute_named attribute.OrigPosition = (refl, omega arith)
 attribute_named attribute.OrigLineWidth = (refl, omega arith)
 attribute_named attribute.OrigRefLineColour = (refl, omega arith)
 attribute_named attribute.OrigRefFillColour = (refl, omega arith)
+attribute_named attribute.OrigContent = (refl, omega arith)
+attribute_named attribute.TextColour = (refl, omega arith)
+attribute_named attribute.BackgroundColour = (refl, omega arith)
+attribute_named attribute.HJustification = (refl, omega arith)
+attribute_named attribute.TextWrapping = (refl, omega arith)
+attribute_named attribute.MaxLength = (refl, omega arith)
+attribute_named attribute.OrigLabel = (refl, omega arith)
+attribute_named attribute.MovementTable = (refl, omega arith)
+attribute_named attribute.TokenGroupItems = (refl, omega arith)
+attribute_named attribute.Positions = (refl, omega arith)
+attribute_named attribute.WrapAround = (refl, omega arith)
+attribute_named attribute.MultipleSelection = (refl, omega arith)
+attribute_named attribute.Name = (refl, omega arith)
+attribute_named attribute.CHook = (refl, omega arith)
+attribute_named attribute.OrigFont = (refl, omega arith)
+attribute_named attribute.FontAttributes = (refl, omega arith)
+attribute_named attribute.OrigGcPriority = (refl, omega arith)
+attribute_named attribute.ObjectInfo = (refl, omega arith)
+attribute_named attribute.StdId = (refl, omega arith)
+attribute_named attribute.StdVersion = (refl, omega arith)
+attribute_named attribute.NextScenes = (refl, omega arith)
 
 -- the items have a shape of their own
-items_shape : (a : Attribute) → is_items_shape (shape_of a) ≡ true → a ≡ attribute.Items
-items_shape attribute.Items h = refl
-items_shape _ h = absurd cc
+no_items_value : (c : Class) → is_items_shape (value_shape c) ≡ false
+no_items_value class.BooleanVar = refl
+no_items_value class.OStringVar = refl
+no_items_value class.ObjectRefVar = refl
+no_items_value class.ContentRefVar = refl
+no_items_value _ = refl
+
+no_items_members : (b : Bool) → is_items_shape (if b then shape.ListItems else shape.Members) ≡ false
+no_items_members true = refl
+no_items_members false = refl
+
+items_shape : (c : Class) (a : Attribute) → is_items_shape (shape_of c a) ≡ true → a ≡ attribute.Items
+items_shape c attribute.Items h = refl
+items_shape c attribute.OrigValue h = absurd (let none = no_items_value c in cc)
+items_shape c attribute.TokenGroupItems h = absurd (let none = no_items_members (is_list_group c) in cc)
+items_shape c _ h = absurd cc
 
 -- no field has the items' shape
 items_unfit : (s : Shape) (v : Setting) → fits s v ≡ true → is_items_shape s ≡ false
 items_unfit shape.Items _ h = absurd cc
 items_unfit _ v h = refl
 
-pub no_items_field : (f : Field) → fits (shape_of f.attribute) f.setting ≡ true → is_items_shape (shape_of f.attribute) ≡ false
-no_items_field f h = items_unfit (shape_of f.attribute) f.setting h
+pub no_items_field : (c : Class) (f : Field) → fits (shape_of c f.attribute) f.setting ≡ true → is_items_shape (shape_of c f.attribute) ≡ false
+no_items_field c f h = items_unfit (shape_of c f.attribute) f.setting h
 
 -- an attribute that was read
 record AttributeRead (c : Class) (last : ℕ) (e : Element) (a : Attribute) : Type 0 where
@@ -115,17 +150,17 @@ IsNext c last left (Some f) i rest =
 abbrev NextIs : Class → ℕ → Rest → Option Field × Option Element × Rest → Type 0
 NextIs c last left x = IsNext c last left x.0 x.1 x.2
 
-abbrev named_field : Attribute → Element × Rest → Result (Option Field × Option Element × Rest) Refusal
-named_field name a =
-    if is_items_shape (shape_of name) then Ok (None, Some a.0, a.1)
-    else (setting (shape_of name) a.0.contents >>= λ x. Ok (Some (record { attribute = name; setting = x }), None, a.1))
+abbrev named_field : Class → Attribute → Element × Rest → Result (Option Field × Option Element × Rest) Refusal
+named_field c name a =
+    if is_items_shape (shape_of c name) then Ok (None, Some a.0, a.1)
+    else (setting (shape_of c name) a.0.contents >>= λ x. Ok (Some (record { attribute = name; setting = x }), None, a.1))
 
-named_found : (c : Class) (last : ℕ) (left : Rest) (a : Element × Rest) (name : Attribute) (b : Bool) (x : Option Field × Option Element × Rest) → is_items_shape (shape_of name) ≡ b
+named_found : (c : Class) (last : ℕ) (left : Rest) (a : Element × Rest) (name : Attribute) (b : Bool) (x : Option Field × Option Element × Rest) → is_items_shape (shape_of c name) ≡ b
     → Found left a.0 a.1 → AttributeRead c last a.0 name
-    → (if b then Ok (None, Some a.0, a.1) else (setting (shape_of name) a.0.contents >>= λ x. Ok (Some (record { attribute = name; setting = x }), None, a.1))) ≡ Ok x → NextIs c last left x
+    → (if b then Ok (None, Some a.0, a.1) else (setting (shape_of c name) a.0.contents >>= λ x. Ok (Some (record { attribute = name; setting = x }), None, a.1))) ≡ Ok x → NextIs c last left x
 unfolding field
 named_found c last left a name true x h f r e =
-    let is_items = items_shape name h in
+    let is_items = items_shape c name h in
     subst (NextIs c last left) (ok_same e) (
       f.written,
       record {
@@ -137,8 +172,8 @@ named_found c last left a name true x h f r e =
       },
     )
 named_found c last left a name false x h f r e =
-    let v = went (setting (shape_of name) a.0.contents) _ x e in
-    let s = setting_found (shape_of name) a.0.contents v.value f.contents v.first in
+    let v = went (setting (shape_of c name) a.0.contents) _ x e in
+    let s = setting_found (shape_of c name) a.0.contents v.value f.contents v.first in
     subst (NextIs c last left) (ok_same v.behind) (
       f.written ∙ ap (λ (bs : List ℕ). bs ++ a.1.bytes) (spelled_as a.0 (own (attribute_number name)) (value v.value) r.tag s.0),
       f.rest,
@@ -147,13 +182,13 @@ named_found c last left a name false x h f r e =
     )
 
 next_found : (c : Class) (last : ℕ) (left : Rest) (b : Bool) (x : Option Field × Option Element × Rest) → is_empty left.bytes ≡ b → AreBytes left.bytes
-    → (if b then Ok (None, None, left) else (taken left >>= λ a. attribute_at c last a.0 >>= λ name. named_field name a)) ≡ Ok x → NextIs c last left x
+    → (if b then Ok (None, None, left) else (taken left >>= λ a. attribute_at c last a.0 >>= λ name. named_field c name a)) ≡ Ok x → NextIs c last left x
 next_found c last left true x h bytes e = subst (NextIs c last left) (ok_same e) (empty_is left.bytes h)
 next_found c last left false x h bytes e =
     let a = went (taken left) _ x e in
     let f = taken_found left a.value.0 a.value.1 bytes a.first in
     let name = went (attribute_at c last a.value.0) _ x a.behind in
-    named_found c last left a.value name.value (is_items_shape (shape_of name.value)) x refl f (attribute_read c last a.value.0 name.value name.first) name.behind
+    named_found c last left a.value name.value (is_items_shape (shape_of c name.value)) x refl f (attribute_read c last a.value.0 name.value name.first) name.behind
 
 next_field_found : (c : Class) (last : ℕ) (left : Rest) (x : Option Field × Option Element × Rest) → AreBytes left.bytes → next_field c last left ≡ Ok x → NextIs c last left x
 unfolding next_field
@@ -222,7 +257,7 @@ fields_found c (suc n) last done left y bytes e =
 
 pub record FitField (c : Class) (last : ℕ) (f : Field) : Type 0 where
   pub takes_it : takes c f.attribute ≡ true
-  pub fit : fits (shape_of f.attribute) f.setting ≡ true
+  pub fit : fits (shape_of c f.attribute) f.setting ≡ true
   pub good : is_setting f.setting ≡ true
   pub behind : nat_lt last (attribute_number f.attribute) ≡ true
 
@@ -240,20 +275,20 @@ next_given c last left f r fit is =
     let g = taken_given left (own (attribute_number f.attribute)) (value f.setting) r (small_number f.attribute) is in
     let some = some_left left.bytes (own (attribute_number f.attribute)) (value f.setting) r is in
     let name = attribute_given c last g.found f.attribute g.tag fit.takes_it fit.behind in
-    let v = setting_given (shape_of f.attribute) g.found.contents f.setting fit.fit fit.good g.inner in
-    record { rest = g.rest; takes_it = rw (some, g.takes, name, no_items_field f fit.fit, v) refl; behind = g.behind }
+    let v = setting_given (shape_of c f.attribute) g.found.contents f.setting fit.fit fit.good g.inner in
+    record { rest = g.rest; takes_it = rw (some, g.takes, name, no_items_field c f fit.fit, v) refl; behind = g.behind }
 
 -- fields that the tables allow and the notation holds
 pub record FitFields (c : Class) (last : ℕ) (fs : List Field) : Type 0 where
   pub take : takes_each c fs ≡ true
-  pub fit : fits_each fs ≡ true
+  pub fit : fits_each c fs ≡ true
   pub good : has_settings fs ≡ true
   pub rising : rises_above last fs ≡ true
 
 pub fit_first : (c : Class) (last : ℕ) (f : Field) (fs : List Field) → FitFields c last (f ∷ fs) → FitField c last f × FitFields c (attribute_number f.attribute) fs
 fit_first c last f fs h =
     let t = and_true (takes c f.attribute) (takes_each c fs) h.take in
-    let v = and_true (fits (shape_of f.attribute) f.setting) (fits_each fs) h.fit in
+    let v = and_true (fits (shape_of c f.attribute) f.setting) (fits_each c fs) h.fit in
     let g = and_true (is_setting f.setting) (has_settings fs) h.good in
     let r = and_true (nat_lt last (attribute_number f.attribute)) (rises_above (attribute_number f.attribute) fs) h.rising in (
       record { takes_it = t.0; fit = v.0; good = g.0; behind = r.0 },
@@ -326,7 +361,7 @@ above_is : (n m : ℕ) → nat_lt n m ≡ true → n < m
 above_is n m h = grind (arith, nat_tests)
 
 -- the numbers rise, so there are few fields
-pub few_fields : (last : ℕ) (fs : List Field) → last ≤ 17 → rises_above last fs ≡ true → length fs + last ≤ 17
+pub few_fields : (last : ℕ) (fs : List Field) → last ≤ 38 → rises_above last fs ≡ true → length fs + last ≤ 38
 few_fields last [] h r = omega arith
 few_fields last (f ∷ fs) h r =
     let parts = and_true (nat_lt last (attribute_number f.attribute)) (rises_above (attribute_number f.attribute) fs) r in

@@ -1,5 +1,5 @@
 -- Ingredients and groups: what was read is spelled so, and what is spelled so is read.
-use Rattle.std.proofs.Common.{◌≡◌, ℕ, suc, ◌+◌, ◌<◌, ◌^◌, Bool, true, false, ◌&&◌, not, ◌==◌, nat_lt, nat_le, if◌then◌else◌, List, [], ◌∷◌, ◌++◌, length, take, drop, Option, Some, None, is_none, Ok, pos, refl, ap, sym, ◌∙◌, subst, arith, append-nil, take-append-drop}
+use Rattle.std.proofs.Common.{◌≡◌, ℕ, suc, ◌+◌, ◌<◌, ◌^◌, Bool, true, false, ◌&&◌, not, ◌==◌, nat_lt, if◌then◌else◌, List, [], ◌∷◌, ◌++◌, take, drop, Option, Some, None, is_none, Ok, pos, refl, ap, sym, ◌∙◌, subst, arith, append-nil, take-append-drop}
 use Rattle.std.specs.Option.{option_or}
 use Rattle.std.specs.List.{list_all}
 use Rattle.std.proofs.lemmas.Bool.Decides.{nat_tests}
@@ -22,12 +22,12 @@ use Rattle.mh_codec.specs.declared.codec_error.Why.TheVariants.{UnknownTag, Miss
 use Rattle.mh_codec.specs.Tags.{class_with}
 use Rattle.mh_codec.specs.Spelling.{own, natural, octet_string, several, list, named, field, ingredient, items, before_items, body as body_octets, group}
 use Rattle.mh_codec.specs.Writable.{is_setting, is_number, is_list, has_settings, is_ingredient, is_writable}
-use Rattle.mh_codec.specs.Reading.{taken, ended, only, sequence_at, own_at, is_same, some_at, name_at, number_at, ingredient_number_at, fields, complete, class_at, ingredient_at, items_at, with_items, body, identifier_in, group_at, is_items_shape}
+use Rattle.mh_codec.specs.Reading.{taken, ended, only, sequence_at, own_at, is_same, some_at, name_at, number_at, ingredient_number_at, fields, complete, class_at, list_at, ingredient_at, items_at, with_items, body, identifier_in, group_at, is_items_shape}
 use Rattle.mh_codec.proofs.ElementLemmas.{went, if_ok, ok_same, written, Good, same_element, same_number, find_holds, taken_found, good_found, taken_given, nothing_left, ended_given}
 use Rattle.mh_codec.proofs.ValueLemmas.{own_read, own_written, some_ok, sequence_read, sequence_written, name_read, name_written, number_read, number_written, ingredient_number_read, ingredient_number_written}
 use Rattle.mh_codec.proofs.ReferenceLemmas.{IsOne, Reads, and_true, both_true, spelled_as, integer_one, only_read, only_written}
-use Rattle.mh_codec.proofs.MemberLemmas.{list_found, list_given, list_one}
-use Rattle.mh_codec.proofs.SettingLemmas.{list_both}
+use Rattle.mh_codec.proofs.MemberLemmas.{list_reads}
+use Rattle.mh_codec.proofs.RowLemmas.{list_fit}
 use Rattle.mh_codec.proofs.FieldLemmas.{Ends, fields_found, FitField, FitFields, fit_first, no_items_field, fields_given, to_items, below_items, few_fields}
 
 -- classes by their numbers
@@ -41,8 +41,20 @@ unfolding class_with
 class_named class.Application = (refl, omega arith)
 class_named class.Scene = (refl, omega arith)
 class_named class.Link = (refl, omega arith)
+class_named class.BooleanVar = (refl, omega arith)
 class_named class.IntegerVar = (refl, omega arith)
+class_named class.OStringVar = (refl, omega arith)
+class_named class.ObjectRefVar = (refl, omega arith)
+class_named class.ContentRefVar = (refl, omega arith)
 class_named class.Rectangle = (refl, omega arith)
+class_named class.Text = (refl, omega arith)
+class_named class.DynamicLineArt = (refl, omega arith)
+class_named class.ListGroup = (refl, omega arith)
+class_named class.TokenGroup = (refl, omega arith)
+class_named class.EntryField = (refl, omega arith)
+class_named class.PushButton = (refl, omega arith)
+class_named class.ResidentPrg = (refl, omega arith)
+class_named class.Stream = (refl, omega arith)
 
 abbrev ClassRead : Bool → Element → Class → Type 0
 ClassRead wants e c = (e.tag ≡ own (class_number c)) × (is_same wants (is_group_class c) ≡ true)
@@ -112,7 +124,7 @@ record AreRight (c : Class) (fs : List Field) : Type 0 where
   pub rising : rises_above 0 fs ≡ true
   pub required : has_required c fs ≡ true
   pub take : takes_each c fs ≡ true
-  pub fit : fits_each fs ≡ true
+  pub fit : fits_each c fs ≡ true
 
 if_none : (b : Bool) (w : MisfitWhy) (r : Option MisfitWhy) → (if not b then Some w else r) ≡ None → (b ≡ true) × (r ≡ None)
 if_none true w r e = (refl, e)
@@ -131,7 +143,7 @@ are_right c fs e =
     let a = if_none (is_rising fs) _ _ e in
     let b = if_none (has_required c fs) _ _ a.1 in
     let d = if_none (takes_each c fs) _ _ b.1 in
-    let f = if_none (fits_each fs) _ _ d.1 in
+    let f = if_none (fits_each c fs) _ _ d.1 in
     record { rising = a.0; required = b.0; take = d.0; fit = f.0 }
 
 none_is : (o : Option MisfitWhy) → is_none o ≡ true → o ≡ None
@@ -181,23 +193,24 @@ ingredient_reads = record {
 
 -- the items
 
+members : Reads (list_at ingredient_at 4096) (list ingredient) (is_list is_ingredient) (is_list fits_ingredient)
+members = list_reads ingredient_reads
+
 items_read : (e : Element) (is : List Ingredient) → Good e → e.tag ≡ own 3 → items_at e ≡ Ok is → (written e ≡ items is) × (is_list is_ingredient is ≡ true)
 unfolding items_at items
 items_read e is good tag read =
     let a = went (only e.contents) _ is read in
     let o = only_read e.contents a.value good.bytes a.first in
-    let s = went (sequence_at a.value) _ is a.behind in
-    let l = list_found ingredient_reads a.value s.value is o.good s.first s.behind in
+    let l = members.found a.value is o.good a.behind in
     (spelled_as e (own 3) (list ingredient is) tag (o.is ∙ l.0), l.1)
 
 items_written : (e : Element) (is : List Ingredient) → e.tag.number < 2 ^ 16 → is_list fits_ingredient is ≡ true → written e ≡ items is → items_at e ≡ Ok is
 unfolding items_at items
 items_written e is small good w =
     let same = same_element e.tag (own 3) e.contents.bytes (list ingredient is) small (omega arith) w in
-    let one = list_one ingredient_reads is in
+    let one = members.one is good in
     let o = only_written e.contents one.tag one.contents one.small (same.inner ∙ one.is) in
-    let l = list_given ingredient_reads o.found is o.small good (o.is ∙ sym one.is) in
-    rw (o.takes, l.0, l.1) refl
+    rw (o.takes, members.given o.found is o.small good (o.is ∙ sym one.is)) refl
 
 -- where the items stand among the fields
 
@@ -222,11 +235,11 @@ cut_is (b ∷ bs) after below rises =
       rw parts.0 (ap (λ (n : ℕ). drop n (b ∷ (bs ++ after))) (one_more k) ∙ more.1),
     )
 
-not_items : (a : Attribute) → is_items_shape (shape_of a) ≡ false → nat_lt (attribute_number a) 3 ≡ false → nat_lt 3 (attribute_number a) ≡ true
-not_items attribute.OnStartUp h i = absurd cc
-not_items attribute.OnCloseDown h i = absurd cc
-not_items attribute.Items h i = absurd cc
-not_items _ h i = refl
+not_items : (c : Class) (a : Attribute) → is_items_shape (shape_of c a) ≡ false → nat_lt (attribute_number a) 3 ≡ false → nat_lt 3 (attribute_number a) ≡ true
+not_items c attribute.OnStartUp h i = absurd cc
+not_items c attribute.OnCloseDown h i = absurd cc
+not_items c attribute.Items h i = absurd cc
+not_items c _ h i = refl
 
 record Parted (c : Class) (last : ℕ) (before after : List Field) : Type 0 where
   pub before_fit : FitFields c last before
@@ -242,7 +255,7 @@ none_fit c last = record { take = refl; fit = refl; good = refl; rising = refl }
 more_fit : (c : Class) (last : ℕ) (f : Field) (fs : List Field) → FitField c last f → FitFields c (attribute_number f.attribute) fs → FitFields c last (f ∷ fs)
 more_fit c last f fs one many = record {
   take = both_true (takes c f.attribute) (takes_each c fs) one.takes_it many.take;
-  fit = both_true (fits (shape_of f.attribute) f.setting) (fits_each fs) one.fit many.fit;
+  fit = both_true (fits (shape_of c f.attribute) f.setting) (fits_each c fs) one.fit many.fit;
   good = both_true (is_setting f.setting) (has_settings fs) one.good many.good;
   rising = both_true (nat_lt last (attribute_number f.attribute)) (rises_above (attribute_number f.attribute) fs) one.behind many.rising;
 }
@@ -256,7 +269,7 @@ parted_first c last f fs true h one many more =
       after_fit = more.after_fit;
     })
 parted_first c last f fs false h one many more =
-    let above = not_items f.attribute (no_items_field f one.fit) h in
+    let above = not_items c f.attribute (no_items_field c f one.fit) h in
     record {
       before_fit = none_fit c last;
       below = refl;
@@ -425,9 +438,7 @@ group_written e g small fit good is =
     let right = is_right g fit in
     let goods = and_true (list_all is_name_byte g.identifier) _ good in
     let rest = and_true (has_settings g.fields) (is_list is_ingredient (items_of g)) goods.1 in
-    let members = and_true (nat_le (length (items_of g)) 4096) (list_all is_ingredient (items_of g)) rest.1 in
-    let all = list_both (λ i. is_none (ingredient_misfit i)) is_ingredient (items_of g) (none_misfit (items_of g) right.items) members.1 in
-    let them = both_true (nat_le (length (items_of g)) 4096) (list_all fits_ingredient (items_of g)) members.0 all in
+    let them = list_fit (λ i. is_none (ingredient_misfit i)) is_ingredient (items_of g) (none_misfit (items_of g) right.items) rest.1 in
     let same = same_element e.tag (own (class_number g.class)) e.contents.bytes (named g.identifier 0 ++ body_octets g.items g.fields) small (class_named g.class).1 is in
     let a = taken_given e.contents sequence_tag (octet_string g.identifier ++ natural 0) (body_octets g.items g.fields) (omega arith) same.inner in
     let inner = sequence_written a.found a.tag in

@@ -1,9 +1,12 @@
+pub mod TagLemmas
 pub mod ListLemmas
 pub mod ElementLemmas
 pub mod ValueLemmas
 pub mod ReferenceLemmas
 pub mod MemberLemmas
 pub mod ActionLemmas
+pub mod RowLemmas
+pub mod PairLemmas
 pub mod SettingLemmas
 pub mod FieldLemmas
 pub mod GroupLemmas

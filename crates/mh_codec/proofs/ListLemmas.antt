@@ -8,7 +8,7 @@ use Rattle.mh_codec.specs.declared.codec_error.CodecError.{CodecError}
 use Rattle.mh_codec.specs.declared.codec_error.CodecError.TheVariants.{At, NoMemory}
 use Rattle.mh_codec.specs.declared.codec_error.Why.TheVariants.{Limit}
 use Rattle.mh_codec.specs.Gives.{Refusal, refused, Fails, ◌>>=◌}
-use Rattle.mh_codec.specs.Reading.{full, listed, next_member, fields, next_field}
+use Rattle.mh_codec.specs.Reading.{exhausted, listed, next_member, fields, next_field}
 
 -- a refusal stays, whatever was to follow
 pub fails_bind : {A B : Type 0} (error : CodecError) (read : Result A Refusal) (f : A → Result B Refusal) → Fails error read → Fails error (read >>= f)
@@ -35,14 +35,14 @@ module _ {A : Type 0} (member : Element → Result A Refusal) where
       rw (e, s, m, same) refl
 
   -- a list that may take no more members
-  pub listed_full : (n : ℕ) (done : List A) (left : Rest) → n ≡ 0 → full left ≡ Ok tt → listed member n done left ≡ Ok done
+  pub listed_full : (n : ℕ) (done : List A) (left : Rest) → n ≡ 0 → exhausted Limit left ≡ Ok tt → listed member n done left ≡ Ok done
   unfolding listed
   listed_full zero done left z e = rw e refl
   listed_full (suc n) done left z e = absurd (omega arith)
 
-  pub listed_full_fails : (n : ℕ) (done : List A) (left : Rest) (error : CodecError) → n ≡ 0 → Fails error (full left) → Fails error (listed member n done left)
+  pub listed_full_fails : (n : ℕ) (done : List A) (left : Rest) (error : CodecError) → n ≡ 0 → Fails error (exhausted Limit left) → Fails error (listed member n done left)
   unfolding listed
-  listed_full_fails zero done left error z h = fails_bind error (full left) _ h
+  listed_full_fails zero done left error z h = fails_bind error (exhausted Limit left) _ h
   listed_full_fails (suc n) done left error z h = absurd (omega arith)
 
 pub fields_fail : (c : Class) (n last : ℕ) (done : List Field) (left : Rest) (error : CodecError) → 0 < n → Fails error (next_field c last left) → Fails error (fields c n last done left)

@@ -9,11 +9,12 @@ use Rattle.mh_der.specs.Rest.{Rest, Element}
 use Rattle.mh_der.specs.Reading.{is_empty}
 use Rattle.mh_der.proofs.DigitLemmas.{AreBytes}
 use Rattle.mh_der.proofs.ElementLaws.{Found, element_longer}
+use Rattle.mh_codec.specs.declared.codec_error.Why.{Why}
 use Rattle.mh_codec.specs.declared.codec_error.Why.TheVariants.{Limit}
 use Rattle.mh_codec.specs.Spelling.{several, list}
 use Rattle.mh_codec.specs.Writable.{is_list}
 use Rattle.mh_codec.specs.Gives.{Refusal, ◌>>=◌}
-use Rattle.mh_codec.specs.Reading.{taken, sequence_at, full, next_member, continued, listed}
+use Rattle.mh_codec.specs.Reading.{taken, sequence_at, exhausted, next_member, continued, listed, list_at}
 use Rattle.mh_codec.proofs.ElementLemmas.{went, if_ok, ok_same, written, Good, same_element, taken_found, good_found, taken_given}
 use Rattle.mh_codec.proofs.ValueLemmas.{sequence_read, sequence_written}
 use Rattle.mh_codec.proofs.ReferenceLemmas.{IsOne, Reads, and_true, both_true, spelled_as}
@@ -27,20 +28,20 @@ pub some_left : (bs : List ℕ) (t : Tag) (c r : List ℕ) → bs ≡ element t 
 some_left [] t c r e = absurd (let n : length (element t c ++ r) ≡ 0 = ap length (sym e) in omega (arith, length-append (element t c) r, element_longer t c))
 some_left (b ∷ bs) t c r e = refl
 
-pub full_is : (left : Rest) → full left ≡ Ok tt → left.bytes ≡ []
-unfolding full
-full_is left e =
-    let t = if_ok (is_empty left.bytes) (Ok tt) Limit left.offset tt e in
+pub exhausted_is : (w : Why) (left : Rest) → exhausted w left ≡ Ok tt → left.bytes ≡ []
+unfolding exhausted
+exhausted_is w left e =
+    let t = if_ok (is_empty left.bytes) (Ok tt) w left.offset tt e in
     empty_is left.bytes t.0
 
-pub full_given : (left : Rest) → left.bytes ≡ [] → full left ≡ Ok tt
-unfolding full
-full_given left e = rw e refl
+pub exhausted_given : (w : Why) (left : Rest) → left.bytes ≡ [] → exhausted w left ≡ Ok tt
+unfolding exhausted
+exhausted_given w left e = rw e refl
 
 short_enough : (n : ℕ) → n ≤ 4096 → nat_le n 4096 ≡ true
 short_enough n h = grind (arith, nat_tests)
 
-few_enough : (n : ℕ) → nat_le n 4096 ≡ true → n ≤ 4096
+pub few_enough : (n : ℕ) → nat_le n 4096 ≡ true → n ≤ 4096
 few_enough n h = grind (arith, nat_tests)
 
 module _ {A : Type 0} {member : Element → Result A Refusal} {spelling : A → List ℕ} {is_good is_fit : A → Bool} (reads : Reads member spelling is_good is_fit) where
@@ -95,27 +96,33 @@ module _ {A : Type 0} {member : Element → Result A Refusal} {spelling : A → 
   members_found : (n : ℕ) (done : List A) (left : Rest) (xs : List A) → AreBytes left.bytes → listed member n done left ≡ Ok xs → Members n done left xs
   unfolding listed next_member
   members_found zero done left xs bytes e =
-      let end = went (full left) _ xs e in
-      members_none 0 done left xs (full_is left end.first) (ok_same end.behind)
+      let end = went (exhausted Limit left) _ xs e in
+      members_none 0 done left xs (exhausted_is Limit left end.first) (ok_same end.behind)
   members_found (suc n) done left xs bytes e =
       members_next n done left xs (is_empty left.bytes) refl bytes e (λ rest x. members_found n (done ++ x ∷ []) rest xs)
 
-  -- a whole list
-  pub list_found : (e : Element) (inner : Rest) (xs : List A) → Good e → sequence_at e ≡ Ok inner → listed member 4096 [] inner ≡ Ok xs
-      → (written e ≡ list spelling xs) × (is_list is_good xs ≡ true)
-  unfolding list
-  list_found e inner xs good is read =
-      let s = sequence_read e inner is in
-      let bytes = subst (λ (r : Rest). AreBytes r.bytes) s.1 good.bytes in
-      let m = members_found 4096 [] inner xs bytes read in
-      let all : several spelling m.new ≡ several spelling xs = ap (several spelling) (sym m.all) in (
-        spelled_as e sequence_tag (several spelling xs) s.0 (ap (λ (r : Rest). r.bytes) s.1 ∙ m.is ∙ all),
-        subst (λ (ys : List A). is_list is_good ys ≡ true) (sym m.all) (both_true _ (list_all is_good m.new) (short_enough (length m.new) m.few) m.good),
+  pub several_found : (limit : ℕ) (left : Rest) (xs : List A) → limit ≤ 4096 → AreBytes left.bytes → listed member limit [] left ≡ Ok xs
+      → (left.bytes ≡ several spelling xs) × (is_list is_good xs ≡ true)
+  several_found limit left xs few bytes read =
+      let m = members_found limit [] left xs bytes read in
+      let less = m.few in (
+        m.is ∙ ap (several spelling) (sym m.all),
+        subst (λ (ys : List A). is_list is_good ys ≡ true) (sym m.all) (both_true _ (list_all is_good m.new) (short_enough (length m.new) (omega arith)) m.good),
       )
+
+  -- a whole list
+  pub list_found : (limit : ℕ) (e : Element) (xs : List A) → limit ≤ 4096 → Good e → list_at member limit e ≡ Ok xs → (written e ≡ list spelling xs) × (is_list is_good xs ≡ true)
+  unfolding list list_at
+  list_found limit e xs few good is =
+      let inner = went (sequence_at e) _ xs is in
+      let s = sequence_read e inner.value inner.first in
+      let bytes = subst (λ (r : Rest). AreBytes r.bytes) s.1 good.bytes in
+      let m = several_found limit inner.value xs few bytes inner.behind in
+      (spelled_as e sequence_tag (several spelling xs) s.0 (ap (λ (r : Rest). r.bytes) s.1 ∙ m.0), m.1)
 
   members_given : (n : ℕ) (done xs : List A) (left : Rest) → list_all is_fit xs ≡ true → length xs ≤ n → left.bytes ≡ several spelling xs → listed member n done left ≡ Ok (done ++ xs)
   unfolding listed next_member
-  members_given zero done [] left good few is = rw (full_given left is) (ap Ok (sym (append-nil done)))
+  members_given zero done [] left good few is = rw (exhausted_given Limit left is) (ap Ok (sym (append-nil done)))
   members_given (suc n) done [] left good few is = rw is (ap Ok (sym (append-nil done)))
   members_given zero done (x ∷ xs) left good few is = absurd (omega arith)
   members_given (suc n) done (x ∷ xs) left good few is =
@@ -128,14 +135,27 @@ module _ {A : Type 0} {member : Element → Result A Refusal} {spelling : A → 
       let more = members_given n (done ++ x ∷ []) xs g.rest parts.1 (omega arith) g.behind in
       rw (some, g.takes, first, more) (ap Ok (append_assoc done (x ∷ []) xs))
 
-  pub list_given : (e : Element) (xs : List A) → e.tag.number < 2 ^ 16 → is_list is_fit xs ≡ true → written e ≡ list spelling xs
-      → (sequence_at e ≡ Ok e.contents) × (listed member 4096 [] e.contents ≡ Ok xs)
-  unfolding list
-  list_given e xs small good is =
-      let parts = and_true _ (list_all is_fit xs) good in
+  pub several_given : (limit : ℕ) (xs : List A) (left : Rest) → length xs ≤ limit → list_all is_fit xs ≡ true → left.bytes ≡ several spelling xs → listed member limit [] left ≡ Ok xs
+  several_given limit xs left few good is = members_given limit [] xs left good few is
+
+  pub list_given : (limit : ℕ) (e : Element) (xs : List A) → e.tag.number < 2 ^ 16 → length xs ≤ limit → list_all is_fit xs ≡ true → written e ≡ list spelling xs → list_at member limit e ≡ Ok xs
+  unfolding list list_at
+  list_given limit e xs small few good is =
       let same = same_element e.tag sequence_tag e.contents.bytes (several spelling xs) small (omega arith) is in
-      (sequence_written e same.tag, members_given 4096 [] xs e.contents parts.1 (few_enough (length xs) parts.0) same.inner)
+      rw (sequence_written e same.tag, several_given limit xs e.contents few good same.inner) refl
 
   pub list_one : (xs : List A) → IsOne (list spelling xs)
   unfolding list
   list_one xs = record { tag = sequence_tag; contents = several spelling xs; small = omega arith; is = refl }
+
+  list_whole : (e : Element) (xs : List A) → e.tag.number < 2 ^ 16 → is_list is_fit xs ≡ true → written e ≡ list spelling xs → list_at member 4096 e ≡ Ok xs
+  list_whole e xs small good is =
+      let parts = and_true (nat_le (length xs) 4096) (list_all is_fit xs) good in
+      list_given 4096 e xs small (few_enough (length xs) parts.0) parts.1 is
+
+  pub list_reads : Reads (list_at member 4096) (list spelling) (is_list is_good) (is_list is_fit)
+  list_reads = record {
+    found = λ e xs good is. list_found 4096 e xs (omega arith) good is;
+    given = list_whole;
+    one = λ xs good. list_one xs;
+  }

@@ -1,27 +1,31 @@
--- References and values that variables hold: what was read is spelled so, and what is spelled so is
--- read.
+-- References, values that variables hold, and readers with their spelling: what was read is spelled so,
+-- and what is spelled so is read.
 use Rattle.std.proofs.Common.{◌≡◌, ℕ, ◌<◌, ◌^◌, Bool, true, false, ◌&&◌, List, [], ◌++◌, Result, Ok, ℤ, pos, refl, ap, sym, ◌∙◌, subst, arith, append-nil}
 use Rattle.std.specs.List.{list_all}
 use Rattle.mh_base.specs.Path.{is_name_byte}
 use Rattle.mh_der.specs.declared.tag.Tag.{Tag}
-use Rattle.mh_der.specs.Tags.{integer_tag, octet_string_tag, sequence_tag}
+use Rattle.mh_der.specs.Tags.{boolean_tag, integer_tag, octet_string_tag, sequence_tag}
 use Rattle.mh_der.specs.Element.{element}
-use Rattle.mh_der.specs.Integer.{integer_octets}
+use Rattle.mh_der.specs.Integer.{integer_octets, boolean_octets}
 use Rattle.mh_der.specs.Rest.{Rest, Element}
 use Rattle.mh_der.proofs.DigitLemmas.{AreBytes}
 use Rattle.mh_group.specs.declared.reference.Ref.{Ref}
 use Rattle.mh_group.specs.declared.reference.Ref.TheVariants as ref
 use Rattle.mh_group.specs.declared.reference.Generic.{Generic}
 use Rattle.mh_group.specs.declared.reference.Generic.TheVariants.{Direct, Indirect}
+use Rattle.mh_group.specs.declared.action.Content.{Content}
+use Rattle.mh_group.specs.declared.action.Content.TheVariants as content
+use Rattle.mh_group.specs.declared.action.EventData.{EventData}
+use Rattle.mh_group.specs.declared.action.EventData.TheVariants as event_data
 use Rattle.mh_codec.specs.declared.kind.Kind.{Kind}
 use Rattle.mh_codec.specs.declared.kind.Kind.TheVariants as kind
 use Rattle.mh_codec.specs.Tags.{kind_of}
-use Rattle.mh_codec.specs.Spelling.{own, integer, natural, octet_string, named, reference, generic}
-use Rattle.mh_codec.specs.Writable.{is_integer, is_number, is_reference, is_generic}
+use Rattle.mh_codec.specs.Spelling.{own, integer, natural, boolean, octet_string, named, reference, generic, content_tag, content_name, content_value, data_value}
+use Rattle.mh_codec.specs.Writable.{is_integer, is_number, is_reference, is_generic, is_plain, is_name, is_content, is_data}
 use Rattle.mh_codec.specs.Gives.{Refusal}
-use Rattle.mh_codec.specs.Reading.{taken, ended, only, integer_at, number_at, name_at, named_in, reference_at, is_indirect, variable_at, generic_at}
+use Rattle.mh_codec.specs.Reading.{taken, ended, only, truth_at, integer_at, octets_at, number_at, name_at, content_name_at, content_at, data_at, named_in, reference_at, is_indirect, variable_at, generic_at}
 use Rattle.mh_codec.proofs.ElementLemmas.{went, ok_same, written, Good, same_element, same_number, taken_found, good_found, taken_given, nothing_left, ended_given}
-use Rattle.mh_codec.proofs.ValueLemmas.{kind_tag, integer_read, integer_written, number_read, number_written, name_read, name_written}
+use Rattle.mh_codec.proofs.ValueLemmas.{kind_tag, truth_found, truth_given, integer_read, integer_written, octets_read, octets_written, number_read, number_written, name_read, name_written, content_name_read, content_name_written, content_read, content_written, data_read, data_written}
 
 -- bytes that are one element
 pub record IsOne (bs : List ℕ) : Type 0 where
@@ -45,6 +49,61 @@ integer_reads = record {
   found = integer_read;
   given = integer_written;
   one = λ x good. integer_one x;
+}
+
+pub boolean_one : (b : Bool) → IsOne (boolean b)
+unfolding boolean
+boolean_one b = record { tag = boolean_tag; contents = boolean_octets b; small = omega arith; is = refl }
+
+pub truth_reads : Reads truth_at boolean is_plain is_plain
+truth_reads = record {
+  found = λ e x good is. (truth_found e x is, refl);
+  given = λ e x small good is. truth_given e x small is;
+  one = λ x good. boolean_one x;
+}
+
+pub octets_one : (octets : List ℕ) → IsOne (octet_string octets)
+unfolding octet_string
+octets_one octets = record { tag = octet_string_tag; contents = octets; small = omega arith; is = refl }
+
+pub octets_reads : Reads octets_at octet_string is_plain is_plain
+octets_reads = record {
+  found = λ e x good is. (octets_read e x is, refl);
+  given = λ e x small good is. octets_written e x small is;
+  one = λ x good. octets_one x;
+}
+
+pub content_name_one : (name : List ℕ) → IsOne (content_name name)
+unfolding content_name
+content_name_one name = record { tag = content_tag; contents = name; small = omega arith; is = refl }
+
+pub content_name_reads : Reads content_name_at content_name is_name is_name
+content_name_reads = record {
+  found = λ e x good is. content_name_read e x is;
+  given = content_name_written;
+  one = λ x good. content_name_one x;
+}
+
+pub content_one : (x : Content) → IsOne (content_value x)
+content_one (content.Included octets) = octets_one octets
+content_one (content.Referenced name) = content_name_one name
+
+pub content_reads : Reads content_at content_value is_content is_content
+content_reads = record {
+  found = λ e x good is. content_read e x is;
+  given = content_written;
+  one = λ x good. content_one x;
+}
+
+pub data_one : (x : EventData) → IsOne (data_value x)
+data_one (event_data.Bool b) = boolean_one b
+data_one (event_data.Int x) = integer_one x
+
+pub data_reads : Reads data_at data_value is_data is_data
+data_reads = record {
+  found = data_read;
+  given = data_written;
+  one = λ x good. data_one x;
 }
 
 pub and_true : (a b : Bool) → (a && b) ≡ true → (a ≡ true) × (b ≡ true)
@@ -199,6 +258,32 @@ reference_plain e (ref.Here n) small is = integer_plain e (pos n) small is
 reference_plain e (ref.In name n) small is =
     let same = same_element e.tag sequence_tag e.contents.bytes (octet_string name ++ natural n) small (omega arith) is in
     rw same.tag refl
+
+pub truth_plain : Plain boolean
+unfolding boolean is_indirect kind_of
+truth_plain e x small is =
+    let same = same_element e.tag boolean_tag e.contents.bytes (boolean_octets x) small (omega arith) is in
+    rw same.tag refl
+
+pub octets_plain : Plain octet_string
+unfolding octet_string is_indirect kind_of
+octets_plain e x small is =
+    let same = same_element e.tag octet_string_tag e.contents.bytes x small (omega arith) is in
+    rw same.tag refl
+
+pub content_name_plain : Plain content_name
+unfolding content_name is_indirect kind_of
+content_name_plain e x small is =
+    let same = same_element e.tag content_tag e.contents.bytes x small (omega arith) is in
+    rw same.tag refl
+
+pub content_plain : Plain content_value
+content_plain e (content.Included octets) small is = octets_plain e octets small is
+content_plain e (content.Referenced name) small is = content_name_plain e name small is
+
+pub data_plain : Plain data_value
+data_plain e (event_data.Bool b) small is = truth_plain e b small is
+data_plain e (event_data.Int x) small is = integer_plain e x small is
 
 module _ {A : Type 0} {read : Element → Result A Refusal} {spelling : A → List ℕ} {is_good is_fit : A → Bool} (reads : Reads read spelling is_good is_fit) (plain : Plain spelling) where
   generic_kind : (e : Element) (x : Generic A) (b : Bool) → is_indirect e ≡ b → Good e → generic_at read e ≡ Ok x → (written e ≡ generic spelling x) × (is_generic is_good x ≡ true)

@@ -2,7 +2,7 @@
 use Rattle.std.proofs.Common.{◌≡◌, ℕ, ◌<◌, ◌^◌, Bool, true, false, ◌==◌, List, length, Option, Some, None, Result, Ok, Err, ℤ, pos, negsuc, int_lt, unsigned_abs, refl, ap, sym, ◌∙◌, subst, arith, SFits}
 use Rattle.std.proofs.lemmas.Bool.Decides.{nat_tests}
 use Rattle.std.specs.Int.{w32}
-use Rattle.std.specs.List.{list_all}
+use Rattle.std.specs.List.{list_all, find}
 use Rattle.mh_base.specs.declared.event.EventType.{EventType}
 use Rattle.mh_base.specs.declared.event.EventType.TheVariants as event
 use Rattle.mh_base.specs.Event.{event_of as event_with, number_of, event_types}
@@ -13,16 +13,24 @@ use Rattle.mh_der.specs.Rest.{Rest, Element}
 use Rattle.mh_der.specs.declared.der_error.Why.{Why as DerWhy}
 use Rattle.mh_der.specs.Reading.{told_at, integer_of, boolean_of}
 use Rattle.mh_der.proofs.IntegerLaws.{integer_found, integer_fits, integer_given, boolean_found, boolean_given}
+use Rattle.mh_group.specs.declared.action.Content.{Content}
+use Rattle.mh_group.specs.declared.action.Content.TheVariants as content
+use Rattle.mh_group.specs.declared.action.EventData.{EventData}
+use Rattle.mh_group.specs.declared.action.EventData.TheVariants as event_data
+use Rattle.mh_group.specs.declared.justification.Justification.{Justification}
+use Rattle.mh_group.specs.declared.justification.Justification.TheVariants as justification
+use Rattle.mh_group.specs.Words.{justifications, justification_number}
+use Rattle.mh_group.specs.Fit.{is_field_length}
 use Rattle.mh_codec.specs.declared.kind.Kind.{Kind}
 use Rattle.mh_codec.specs.declared.kind.Kind.TheVariants as kind
 use Rattle.mh_codec.specs.declared.codec_error.Why.{Why}
-use Rattle.mh_codec.specs.declared.codec_error.Why.TheVariants.{BadValue}
+use Rattle.mh_codec.specs.declared.codec_error.Why.TheVariants.{UnknownTag, BadValue}
 use Rattle.mh_codec.specs.Tags.{kind_of}
-use Rattle.mh_codec.specs.Spelling.{own, integer, natural, boolean, octet_string}
-use Rattle.mh_codec.specs.Writable.{is_integer, is_number}
+use Rattle.mh_codec.specs.Spelling.{own, integer, natural, boolean, octet_string, content_tag, content_name, content_value, data_value}
+use Rattle.mh_codec.specs.Writable.{is_integer, is_number, is_name, is_content, is_data}
 use Rattle.mh_codec.specs.Gives.{der}
-use Rattle.mh_codec.specs.Reading.{some_at, truth_at, integer_at, octets_at, sequence_at, own_at, natural_at, number_at, ingredient_number_at, name_at, event_at, colour_at}
-use Rattle.mh_codec.proofs.ElementLemmas.{went, if_ok, if_not_ok, ok_same, written, Good, same_element, tag_of_kind, told_by, same_number, find_holds}
+use Rattle.mh_codec.specs.Reading.{some_at, admitted, truth_at, integer_at, octets_at, sequence_at, own_at, primitive_at, natural_at, length_at, number_at, ingredient_number_at, name_at, content_name_at, content_at, data_at, event_at, justification_at, colour_at}
+use Rattle.mh_codec.proofs.ElementLemmas.{went, if_ok, if_not_ok, ok_same, written, Good, same_element, tag_of_kind, told_by, same_number, find_holds, primitive}
 
 -- what an element's own reading told
 told_ok : {A : Type 0} (e : Element) (r : Result A DerWhy) (x : A) → der (told_at e r) ≡ Ok x → r ≡ Ok x
@@ -123,7 +131,19 @@ pub own_written : (e : Element) (n : ℕ) → e.tag ≡ own n → own_at e ≡ O
 unfolding own_at kind_of
 own_written e n tag = rw tag refl
 
--- integers from 0
+primitive_kind : (e : Element) (n : ℕ) (k : Kind) → kind_of e.tag ≡ k → primitive_at e ≡ Ok n → k ≡ kind.Primitive n
+unfolding primitive_at
+primitive_kind e n (kind.Primitive m) h is = ap kind.Primitive (ok_same (rw h at is))
+primitive_kind e n _ h is = absurd (let y = rw h at is in cc)
+
+primitive_read : (e : Element) (n : ℕ) → primitive_at e ≡ Ok n → e.tag ≡ primitive n
+primitive_read e n is = kind_tag e (kind.Primitive n) (primitive_kind e n (kind_of e.tag) refl is)
+
+primitive_written : (e : Element) (n : ℕ) → e.tag ≡ primitive n → primitive_at e ≡ Ok n
+unfolding primitive_at kind_of
+primitive_written e n tag = rw tag refl
+
+-- integers from 0, and of a range
 
 pub natural_read : (e : Element) (x : ℤ) → natural_at e ≡ Ok x → (integer_at e ≡ Ok x) × (int_lt x (pos 0) ≡ false)
 unfolding natural_at
@@ -177,7 +197,18 @@ pub ingredient_number_written : (e : Element) (n : ℕ) → number_at e ≡ Ok n
 unfolding ingredient_number_at
 ingredient_number_written e n is h = rw (is, h) refl
 
--- names, event types, colours
+pub length_read : (e : Element) (x : ℤ) → length_at e ≡ Ok x → integer_at e ≡ Ok x
+unfolding length_at
+length_read e x is =
+    let a = went (integer_at e) _ x is in
+    let t = if_ok (is_field_length a.value) (Ok a.value) BadValue e.offset x a.behind in
+    subst (λ (y : ℤ). integer_at e ≡ Ok y) (ok_same t.1) a.first
+
+pub length_written : (e : Element) (x : ℤ) → integer_at e ≡ Ok x → is_field_length x ≡ true → length_at e ≡ Ok x
+unfolding length_at
+length_written e x is h = rw (is, h) refl
+
+-- names, content, event types, colours
 
 pub name_read : (e : Element) (name : List ℕ) → name_at e ≡ Ok name → (written e ≡ octet_string name) × (list_all is_name_byte name ≡ true)
 unfolding name_at
@@ -190,6 +221,69 @@ name_read e name is =
 pub name_written : (e : Element) (name : List ℕ) → e.tag.number < 2 ^ 16 → list_all is_name_byte name ≡ true → written e ≡ octet_string name → name_at e ≡ Ok name
 unfolding name_at
 name_written e name small good is = rw (octets_written e name small is, good) refl
+
+pub content_name_read : (e : Element) (name : List ℕ) → content_name_at e ≡ Ok name → (written e ≡ content_name name) × (is_name name ≡ true)
+unfolding content_name_at content_name
+content_name_read e name is =
+    let n = went (primitive_at e) _ name is in
+    let k = went (admitted (n.value == 60) UnknownTag e n.value) _ name n.behind in
+    let same = if_ok (n.value == 60) (Ok n.value) UnknownTag e.offset k.value k.first in
+    let t = if_ok (list_all is_name_byte e.contents.bytes) (Ok e.contents.bytes) BadValue e.offset name k.behind in
+    let tag : e.tag ≡ content_tag = primitive_read e n.value n.first ∙ ap primitive (same_number n.value 60 same.0) in
+    let inner = ok_same t.1 in
+    (rw (tag, inner) refl, subst (λ (y : List ℕ). list_all is_name_byte y ≡ true) inner t.0)
+
+pub content_name_written : (e : Element) (name : List ℕ) → e.tag.number < 2 ^ 16 → is_name name ≡ true → written e ≡ content_name name → content_name_at e ≡ Ok name
+unfolding content_name_at content_name
+content_name_written e name small good is =
+    let same = same_element e.tag content_tag e.contents.bytes name small (omega arith) is in
+    rw (primitive_written e 60 same.tag, same.inner, good) refl
+
+content_kind : (e : Element) (x : Content) (k : Kind) → kind_of e.tag ≡ k → content_at e ≡ Ok x → (written e ≡ content_value x) × (is_content x ≡ true)
+unfolding content_at
+content_kind e x kind.Octets h is =
+    let o = went (octets_at e) _ x (rw h at is) in
+    subst (λ (y : Content). (written e ≡ content_value y) × (is_content y ≡ true)) (ok_same o.behind) (octets_read e o.value o.first, refl)
+content_kind e x _ h is =
+    let n = went (content_name_at e) _ x (rw h at is) in
+    subst (λ (y : Content). (written e ≡ content_value y) × (is_content y ≡ true)) (ok_same n.behind) (content_name_read e n.value n.first)
+
+pub content_read : (e : Element) (x : Content) → content_at e ≡ Ok x → (written e ≡ content_value x) × (is_content x ≡ true)
+content_read e x is = content_kind e x (kind_of e.tag) refl is
+
+pub content_written : (e : Element) (x : Content) → e.tag.number < 2 ^ 16 → is_content x ≡ true → written e ≡ content_value x → content_at e ≡ Ok x
+unfolding content_at kind_of octet_string content_name
+content_written e (content.Included octets) small good is =
+    let same = same_element e.tag octet_string_tag e.contents.bytes octets small (omega arith) is in
+    let kind_is : kind_of e.tag ≡ kind.Octets = ap kind_of same.tag in
+    rw (kind_is, octets_written e octets small is) refl
+content_written e (content.Referenced name) small good is =
+    let same = same_element e.tag content_tag e.contents.bytes name small (omega arith) is in
+    let kind_is : kind_of e.tag ≡ kind.Primitive 60 = ap kind_of same.tag in
+    rw (kind_is, content_name_written e name small good is) refl
+
+data_kind : (e : Element) (x : EventData) (k : Kind) → kind_of e.tag ≡ k → Good e → data_at e ≡ Ok x → (written e ≡ data_value x) × (is_data x ≡ true)
+unfolding data_at
+data_kind e x kind.Boolean h good is =
+    let b = went (truth_at e) _ x (rw h at is) in
+    subst (λ (y : EventData). (written e ≡ data_value y) × (is_data y ≡ true)) (ok_same b.behind) (truth_found e b.value b.first, refl)
+data_kind e x _ h good is =
+    let i = went (integer_at e) _ x (rw h at is) in
+    subst (λ (y : EventData). (written e ≡ data_value y) × (is_data y ≡ true)) (ok_same i.behind) (integer_read e i.value good i.first)
+
+pub data_read : (e : Element) (x : EventData) → Good e → data_at e ≡ Ok x → (written e ≡ data_value x) × (is_data x ≡ true)
+data_read e x good is = data_kind e x (kind_of e.tag) refl good is
+
+pub data_written : (e : Element) (x : EventData) → e.tag.number < 2 ^ 16 → is_data x ≡ true → written e ≡ data_value x → data_at e ≡ Ok x
+unfolding data_at kind_of boolean integer
+data_written e (event_data.Bool b) small good is =
+    let same = same_element e.tag boolean_tag e.contents.bytes (boolean_octets b) small (omega arith) is in
+    let kind_is : kind_of e.tag ≡ kind.Boolean = ap kind_of same.tag in
+    rw (kind_is, truth_given e b small is) refl
+data_written e (event_data.Int x) small good is =
+    let same = same_element e.tag integer_tag e.contents.bytes (integer_octets x) small (omega arith) is in
+    let kind_is : kind_of e.tag ≡ kind.Integer = ap kind_of same.tag in
+    rw (kind_is, integer_written e x small good is) refl
 
 pub some_ok : {A : Type 0} (e : Element) (w : Why) (o : Option A) (x : A) → some_at e w o ≡ Ok x → o ≡ Some x
 some_ok e w (Some y) x is = ap Some (ok_same is)
@@ -236,6 +330,22 @@ event_back event.EngineEvent = (refl, refl)
 pub event_written : (e : Element) (x : EventType) → e.tag.number < 2 ^ 16 → written e ≡ natural (number_of x) → event_at e ≡ Ok x
 unfolding event_at
 event_written e x small is = rw (number_written e (number_of x) small ((event_back x).0) is, (event_back x).1) refl
+
+justification_numbered : (n : ℕ) (x : Justification) → find (λ (j : Justification). justification_number j == n) justifications ≡ Some x → justification_number x ≡ n
+justification_numbered n x h = same_number (justification_number x) n (find_holds (λ (j : Justification). justification_number j == n) justifications x h)
+
+pub justification_read : (e : Element) (x : Justification) → Good e → justification_at e ≡ Ok x → written e ≡ natural (justification_number x)
+unfolding justification_at
+justification_read e x good is =
+    let a = went (number_at e) _ x is in
+    let some = some_ok e BadValue (find (λ j. justification_number j == a.value) justifications) x a.behind in
+    (number_read e a.value good a.first).0 ∙ ap natural (sym (justification_numbered a.value x some))
+
+pub justification_written : (e : Element) (x : Justification) → e.tag.number < 2 ^ 16 → written e ≡ natural (justification_number x) → justification_at e ≡ Ok x
+unfolding justification_at
+justification_written e justification.Start small is = rw (number_written e 1 small refl is) refl
+justification_written e justification.End small is = rw (number_written e 2 small refl is) refl
+justification_written e justification.Centre small is = rw (number_written e 3 small refl is) refl
 
 pub colour_read : (e : Element) (octets : List ℕ) → colour_at e ≡ Ok octets → (written e ≡ octet_string octets) × ((length octets == 4) ≡ true)
 unfolding colour_at

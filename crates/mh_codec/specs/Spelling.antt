@@ -1,6 +1,6 @@
 -- The binary spelling of a group: a function from a group to its octets. Every part is an element of
 -- the distinguished encoding rules.
-use Rattle.std.specs.Prelude.{ℕ, ◌+◌, ℤ, pos, Bool, true, nat_lt, List, [], ◌∷◌, ◌++◌, take, drop, Option, Some, None}
+use Rattle.std.specs.Prelude.{ℕ, ◌+◌, ℤ, pos, Bool, true, false, nat_lt, List, [], ◌∷◌, ◌++◌, take, drop, Option, Some, None}
 use Rattle.std.specs.List.{prefix_len}
 use Rattle.mh_base.specs.Event.{number_of}
 use Rattle.mh_der.specs.declared.tag.Tag.{Tag}
@@ -13,17 +13,25 @@ use Rattle.mh_group.specs.declared.reference.Ref.TheVariants as ref
 use Rattle.mh_group.specs.declared.reference.Generic.{Generic}
 use Rattle.mh_group.specs.declared.reference.Generic.TheVariants.{Direct, Indirect}
 use Rattle.mh_group.specs.declared.action.Action.{Action}
+use Rattle.mh_group.specs.declared.action.Content.{Content}
+use Rattle.mh_group.specs.declared.action.Content.TheVariants as content
+use Rattle.mh_group.specs.declared.action.EventData.{EventData}
+use Rattle.mh_group.specs.declared.action.EventData.TheVariants as event_data
 use Rattle.mh_group.specs.declared.action.Typed.{Typed}
 use Rattle.mh_group.specs.declared.action.Typed.TheVariants as typed
 use Rattle.mh_group.specs.declared.action.Parameter.{Parameter}
 use Rattle.mh_group.specs.declared.action.Parameter.TheVariants as parameter
 use Rattle.mh_group.specs.declared.attribute.Attribute.TheVariants as attribute
+use Rattle.mh_group.specs.declared.written.Member.{Member}
+use Rattle.mh_group.specs.declared.written.Position.{Position}
+use Rattle.mh_group.specs.declared.written.NextScene.{NextScene}
 use Rattle.mh_group.specs.declared.written.Setting.{Setting}
 use Rattle.mh_group.specs.declared.written.Setting.TheVariants as setting
 use Rattle.mh_group.specs.declared.written.Field.{Field}
 use Rattle.mh_group.specs.declared.written.Ingredient.{Ingredient}
 use Rattle.mh_group.specs.declared.written.Written.{Written}
 use Rattle.mh_group.specs.Table.{class_number, attribute_number, action_number}
+use Rattle.mh_group.specs.Words.{justification_number}
 
 -- the tag of this number that is the notation's own
 abbrev pub own : ℕ → Tag
@@ -62,17 +70,57 @@ unfoldable pub generic : {A : Type 0} → (A → List ℕ) → Generic A → Lis
 generic spelling (Direct x) = spelling x
 generic spelling (Indirect r) = element (own 61) (reference r)
 
+-- the tag of the name of a content file
+abbrev pub content_tag : Tag
+content_tag = record { class = Context; is_constructed = false; number = 60 }
+
+-- the name of a content file
+unfoldable pub content_name : List ℕ → List ℕ
+content_name name = element content_tag name
+
 -- a value behind the tag of its kind
 unfoldable pub typed_value : Typed → List ℕ
+typed_value (typed.Bool x) = element (own 62) (generic boolean x)
 typed_value (typed.Int x) = element (own 63) (generic integer x)
+typed_value (typed.Octets x) = element (own 64) (generic octet_string x)
+typed_value (typed.Ref x) = element (own 65) (generic reference x)
+typed_value (typed.ContentRef x) = element (own 66) (generic content_name x)
+
+-- content: in the file, or in a file of this name
+abbrev pub content_value : Content → List ℕ
+content_value (content.Included octets) = octet_string octets
+content_value (content.Referenced name) = content_name name
+
+-- the data of an event
+abbrev pub data_value : EventData → List ℕ
+data_value (event_data.Bool b) = boolean b
+data_value (event_data.Int x) = integer x
 
 abbrev pub parameter_value : Parameter → List ℕ
+parameter_value (parameter.Bool x) = generic boolean x
 parameter_value (parameter.Int x) = generic integer x
+parameter_value (parameter.Octets x) = generic octet_string x
+parameter_value (parameter.Ref x) = generic reference x
+parameter_value (parameter.Content x) = generic content_value x
+parameter_value (parameter.Data x) = generic data_value x
+parameter_value (parameter.Event e) = natural (number_of e)
+parameter_value (parameter.Receiver r) = reference r
 parameter_value (parameter.Typed x) = typed_value x
+parameter_value (parameter.Arguments xs) = list typed_value xs
 
 -- an action's tags begin behind 100
 unfoldable pub action : Action → List ℕ
 action a = element (own (100 + action_number a.name)) (generic reference a.target ++ several parameter_value a.parameters)
+
+-- a member: its object, and the effect of each slot
+unfoldable pub member : Member → List ℕ
+member m = element sequence_tag (reference m.object ++ several (list action) m.slots)
+
+unfoldable pub position : Position → List ℕ
+position p = element sequence_tag (integer p.x ++ integer p.y)
+
+unfoldable pub next_scene : NextScene → List ℕ
+next_scene s = element sequence_tag (octet_string s.name ++ integer s.weight)
 
 -- the value of an attribute
 unfoldable pub value : Setting → List ℕ
@@ -82,7 +130,13 @@ value (setting.Pair x y) = integer x ++ integer y
 value (setting.Octets octets) = octet_string octets
 value (setting.Ref r) = reference r
 value (setting.Event e) = natural (number_of e)
+value (setting.ContentRef name) = content_name name
+value (setting.Justification j) = natural (justification_number j)
 value (setting.Effect actions) = list action actions
+value (setting.MovementTable rows) = list (list integer) rows
+value (setting.Members members) = list member members
+value (setting.Positions positions) = list position positions
+value (setting.NextScenes scenes) = list next_scene scenes
 
 unfoldable pub field : Field → List ℕ
 field f = element (own (attribute_number f.attribute)) (value f.setting)

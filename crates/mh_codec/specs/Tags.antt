@@ -1,6 +1,8 @@
--- What the tags of the notation stand for, looked up.
-use Rattle.std.specs.Prelude.{ℕ, ◌+◌, ◌==◌, Bool, true, false, if◌then◌else◌, Option}
+-- What the tags of the notation stand for: their numbers, and what is looked up by a number.
+use Rattle.std.specs.Prelude.{ℕ, ◌+◌, ◌==◌, Bool, true, false, if◌then◌else◌, List, [], ◌∷◌, Option}
 use Rattle.std.specs.List.{find}
+use Rattle.mh_base.specs.declared.value.Kind.{Kind as ValueKind}
+use Rattle.mh_base.specs.declared.value.Kind.TheVariants as value
 use Rattle.mh_der.specs.declared.tag.Tag.{Tag}
 use Rattle.mh_der.specs.declared.tag.TagClass.{TagClass}
 use Rattle.mh_der.specs.declared.tag.TagClass.TheVariants.{Universal, Context}
@@ -12,6 +14,37 @@ use Rattle.mh_group.specs.Words.{classes, attributes, actions}
 use Rattle.mh_codec.specs.declared.kind.Kind.{Kind}
 use Rattle.mh_codec.specs.declared.kind.Kind.TheVariants as kind
 
+-- Numbers
+
+-- the items of a group
+abbrev pub items_number : ℕ
+items_number = 3
+
+-- the name of a content file
+abbrev pub content_name_number : ℕ
+content_name_number = 60
+
+-- a value that a variable holds
+abbrev pub variable_number : ℕ
+variable_number = 61
+
+-- a value with its kind
+abbrev pub value_number : ValueKind → ℕ
+value_number value.Bool = 62
+value_number value.Int = 63
+value_number value.Octets = 64
+value_number value.Object = 65
+value_number value.Content = 66
+
+abbrev pub value_kinds : List ValueKind
+value_kinds = value.Bool ∷ value.Int ∷ value.Octets ∷ value.Object ∷ value.Content ∷ []
+
+-- an action's tags begin behind this
+abbrev pub before_actions : ℕ
+before_actions = 100
+
+-- Tags
+
 abbrev pub universal : Bool → ℕ → Kind
 universal false n =
     if n == 1 then kind.Boolean else (if n == 2 then kind.Integer else (if n == 4 then kind.Octets else kind.Other))
@@ -20,6 +53,7 @@ universal true n = if n == 16 then kind.Sequence else kind.Other
 abbrev pub kind_in : TagClass → Bool → ℕ → Kind
 kind_in Universal constructed n = universal constructed n
 kind_in Context true n = kind.Own n
+kind_in Context false n = kind.Primitive n
 kind_in _ _ n = kind.Other
 
 -- what an element with this tag is
@@ -32,6 +66,8 @@ class_with n = find (λ c. class_number c == n) classes
 unfoldable pub attribute_with : ℕ → Option Attribute
 attribute_with n = find (λ a. attribute_number a == n) attributes
 
--- an action's tags begin behind 100
 unfoldable pub action_with : ℕ → Option ActionName
-action_with n = find (λ a. 100 + action_number a == n) actions
+action_with n = find (λ a. before_actions + action_number a == n) actions
+
+unfoldable pub value_kind_with : ℕ → Option ValueKind
+value_kind_with n = find (λ k. value_number k == n) value_kinds

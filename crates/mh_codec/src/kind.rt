@@ -1,10 +1,24 @@
 //! What the tags of the notation stand for: sorts of values, and classes, attributes and actions by
-//! their numbers. The two tags around values (61 and 63) are looked for where such values are read.
-ghost use Rattle.std.specs.Prelude.{◌≡◌};
-ghost use Rattle.mh_codec.specs.Tags.{kind_of as kind_of_lem, universal as universal_lem, class_with as class_with_lem, attribute_with as attribute_with_lem, action_with as action_with_lem};
+//! their numbers. Every number of a tag that is the notation's own is looked up here.
+ghost use Rattle.std.specs.Prelude.{◌≡◌, ◌+◌, ◌<◌};
+ghost use Rattle.mh_group.specs.Table.{class_number as class_number_lem, attribute_number as attribute_number_lem, action_number as action_number_lem};
+ghost use Rattle.mh_codec.specs.Tags.{kind_of as kind_of_lem, universal as universal_lem, class_with as class_with_lem, attribute_with as attribute_with_lem, action_with as action_with_lem, value_kind_with as value_kind_with_lem, value_number as value_number_lem, before_actions};
 
+use mh_base::Kind as ValueKind;
 use mh_der::{Tag, TagClass};
 use mh_group::{ActionName, Attribute, Class};
+
+/// The number of the attribute that holds a group's items.
+pub(crate) const ITEMS: u32 = 3;
+
+/// The number of the tag of the name of a content file.
+pub(crate) const CONTENT_NAME: u16 = 60;
+
+/// The number of the tag of a value that a variable holds.
+pub(crate) const VARIABLE: u16 = 61;
+
+/// The numbers of actions' tags begin behind this.
+const BEFORE_ACTIONS: u32 = 100;
 
 /// What an element is by its tag.
 #[derive(Clone, Copy, Debug, PartialEq, Eq)]
@@ -13,8 +27,10 @@ pub(crate) enum Kind {
     Integer,
     Octets,
     Sequence,
-    /// One of the notation's own, with its number.
+    /// One of the notation's own around elements, with its number.
     Own(u16),
+    /// One of the notation's own that is primitive, with its number.
+    Primitive(u16),
     Other,
 }
 
@@ -26,6 +42,7 @@ pub(crate) fn kind_of(tag: Tag) -> Kind
     match (tag.class, tag.is_constructed) {
         (TagClass::Universal, is_constructed) => universal(is_constructed, tag.number),
         (TagClass::Context, true) => Kind::Own(tag.number),
+        (TagClass::Context, false) => Kind::Primitive(tag.number),
         _ => Kind::Other,
     }
 }
@@ -42,73 +59,77 @@ fn universal(is_constructed: bool, number: u16) -> Kind
     }
 }
 
-const CLASSES: [Class; 5] = [
-    Class::Application,
-    Class::Scene,
-    Class::Link,
-    Class::IntegerVar,
-    Class::Rectangle,
-];
-
 /// The class whose elements have this number, if there is one.
 #[tactic(auto, unfolding(crate::specs::Tags::class_with))]
 pub(crate) fn class_with(number: u16) -> Option<Class>
     ensures { result ≡ class_with_lem number }
 {
-    let wanted = u32::from(number);
-    CLASSES
-        .iter()
-        .copied()
-        .find(|class| class.number() == wanted)
+    Class::of_number(u32::from(number))
 }
-
-const ATTRIBUTES: [Attribute; 17] = [
-    Attribute::OnStartUp,
-    Attribute::OnCloseDown,
-    Attribute::Items,
-    Attribute::InputEventReg,
-    Attribute::SceneCs,
-    Attribute::InitiallyActive,
-    Attribute::Shared,
-    Attribute::EventSource,
-    Attribute::EventType,
-    Attribute::EventData,
-    Attribute::LinkEffect,
-    Attribute::OrigValue,
-    Attribute::OrigBoxSize,
-    Attribute::OrigPosition,
-    Attribute::OrigLineWidth,
-    Attribute::OrigRefLineColour,
-    Attribute::OrigRefFillColour,
-];
 
 /// The attribute whose elements have this number, if there is one.
 #[tactic(auto, unfolding(crate::specs::Tags::attribute_with))]
 pub(crate) fn attribute_with(number: u16) -> Option<Attribute>
     ensures { result ≡ attribute_with_lem number }
 {
-    let wanted = u32::from(number);
-    ATTRIBUTES
-        .iter()
-        .copied()
-        .find(|attribute| attribute.number() == wanted)
+    Attribute::of_number(u32::from(number))
 }
 
-const ACTIONS: [ActionName; 4] = [
-    ActionName::TransitionTo,
-    ActionName::SetVariable,
-    ActionName::Add,
-    ActionName::SetPosition,
-];
-
-/// The action whose elements have this number, if there is one. They begin behind 100.
-#[tactic(auto, unfolding(crate::specs::Tags::action_with))]
+/// The action whose elements have this number, if there is one.
+#[tactic(auto, using(crate::proofs::TagLemmas::action_above, crate::proofs::TagLemmas::none_below))]
 pub(crate) fn action_with(number: u16) -> Option<ActionName>
     ensures { result ≡ action_with_lem number }
 {
-    let wanted = u32::from(number);
-    ACTIONS
+    let number = u32::from(number).checked_sub(BEFORE_ACTIONS)?;
+    ActionName::of_number(number)
+}
+
+const VALUE_KINDS: [ValueKind; 5] = [
+    ValueKind::Bool,
+    ValueKind::Int,
+    ValueKind::Octets,
+    ValueKind::Object,
+    ValueKind::Content,
+];
+
+/// The kind of value that stands behind the tag of this number, if there is one.
+#[tactic(auto, unfolding(crate::specs::Tags::value_kind_with))]
+pub(crate) fn value_kind_with(number: u16) -> Option<ValueKind>
+    ensures { result ≡ value_kind_with_lem number }
+{
+    VALUE_KINDS
         .iter()
         .copied()
-        .find(|action| 100 + action.number() == wanted)
+        .find(|kind| value_number(*kind) == number)
+}
+
+/// The number of the tag around values of this kind.
+pub(crate) fn value_number(kind: ValueKind) -> u16
+    ensures { result ≡ value_number_lem kind }
+{
+    match kind {
+        ValueKind::Bool => 62,
+        ValueKind::Int => 63,
+        ValueKind::Octets => 64,
+        ValueKind::Object => 65,
+        ValueKind::Content => 66,
+    }
+}
+
+pub(crate) fn class_number(class: Class) -> u16
+    ensures { result ≡ class_number_lem class }
+{
+    class.number() as u16
+}
+
+pub(crate) fn attribute_number(attribute: Attribute) -> u16
+    ensures { result ≡ attribute_number_lem attribute }
+{
+    attribute.number() as u16
+}
+
+pub(crate) fn action_number(action: ActionName) -> u16
+    ensures { result ≡ before_actions + action_number_lem action }
+{
+    (BEFORE_ACTIONS + action.number()) as u16
 }

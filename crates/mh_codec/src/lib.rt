@@ -9,14 +9,24 @@
 mod action;
 pub mod codec_error;
 mod kind;
+mod member;
 mod object;
+mod readable;
 mod setting;
+#[cfg(test)]
+mod shape_tests;
+#[cfg(test)]
+mod table_tests;
 #[cfg(test)]
 mod tests;
 mod value;
+mod writable;
 mod writing;
+mod writing_action;
+mod writing_member;
 #[cfg(test)]
 mod writing_tests;
+mod writing_value;
 
 pub use codec_error::{CodecError, Why};
 pub use object::{LARGEST_FILE, begins_group, decode_group};

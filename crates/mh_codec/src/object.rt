@@ -1,15 +1,12 @@
 //! Readers of fields, ingredients and groups, and `decode_group`. Which attributes a class takes and
 //! has to be written with is the word of `mh_group`'s tables.
-ghost use Rattle.std.specs.Prelude.{◌≡◌, ◌≢◌, ◌==◌, [], IfOk, IfErr};
-ghost use Rattle.std.specs.List.{list_any};
-ghost use Rattle.mh_group.specs.Table.{attribute_number};
-ghost use Rattle.mh_group.specs.Fit.{has_required as has_required_lem};
+ghost use Rattle.std.specs.Prelude.{◌≡◌, ◌≢◌, IfOk, IfErr};
 ghost use Rattle.mh_codec.specs.Gives.{Gives};
 ghost use Rattle.mh_codec.specs.Writable.{Spells, SpellsNone, SpellsNoOther};
-ghost use Rattle.mh_codec.specs.Reading.{read, begins_group as begins_group_lem, group_at as group_at_lem, body as body_lem, class_at as class_at_lem, identifier_in as identifier_in_lem, fields as fields_lem, next_field as next_field_lem, attribute_at as attribute_at_lem, complete as complete_lem, items_at as items_at_lem, listed, next_member, ingredient_at as ingredient_at_lem};
+ghost use Rattle.mh_codec.specs.Reading.{read, begins_group as begins_group_lem, group_at as group_at_lem, body as body_lem, class_at as class_at_lem, identifier_in as identifier_in_lem, fields as fields_lem, next_field as next_field_lem, attribute_at as attribute_at_lem, complete as complete_lem, items_at as items_at_lem, ingredient_at as ingredient_at_lem};
 
-use crate::action::{LONGEST_LIST, full};
-use crate::kind::{attribute_with, class_with};
+use crate::kind::{ITEMS, attribute_with, class_with};
+use crate::readable::{LONGEST_LIST, Readable, list_at};
 use crate::setting::setting;
 use crate::value::{
     ended, ingredient_number_at, name_at, number_at, only, own_at, refused, sequence_at, taken,
@@ -17,6 +14,7 @@ use crate::value::{
 use crate::{CodecError, Why};
 use mh_base::Seq;
 use mh_der::{Element, Reader};
+use mh_group::group::has_required;
 use mh_group::{Attribute, Class, Field, Group, Ingredient, Shape, Written, WrittenName};
 use std::alloc::Global;
 
@@ -25,9 +23,6 @@ pub const LARGEST_FILE: usize = 1048576;
 
 /// More fields than an object can have, since their numbers rise.
 const MOST_FIELDS: usize = 64;
-
-/// The number of the attribute that holds a group's items.
-const ITEMS_NUMBER: u32 = 3;
 
 /// Whether the octets begin as a group does: with the tag of an application or of a scene.
 pub fn begins_group(octets: &[u8]) -> bool
@@ -129,7 +124,7 @@ fn body(
         return Ok((before, None));
     };
     let items = items_at(alloc, &element)?;
-    let (fields, _, _) = fields(alloc, class, ITEMS_NUMBER, before, behind)?;
+    let (fields, _, _) = fields(alloc, class, ITEMS, before, behind)?;
     Ok((fields, Some(items)))
 }
 
@@ -177,10 +172,11 @@ fn next_field<'a>(
     }
     let (element, behind) = taken(reader)?;
     let attribute = attribute_at(class, last, &element)?;
-    if let Shape::Items = attribute.shape() {
+    let shape = class.shape(attribute);
+    if let Shape::Items = shape {
         return Ok((None, Some(element), behind));
     }
-    let setting = setting(alloc, attribute.shape(), element.contents())?;
+    let setting = setting(alloc, shape, element.contents())?;
     Ok((Some(Field { attribute, setting }), None, behind))
 }
 
@@ -219,65 +215,13 @@ fn complete(
     }
 }
 
-fn has_required(class: Class, fields: &[Field]) -> bool
-    ensures { result ≡ has_required_lem class fields.now }
-{
-    class
-        .required()
-        .iter()
-        .all(|attribute| has_attribute(fields, *attribute))
-}
-
-fn has_attribute(fields: &[Field], attribute: Attribute) -> bool
-    ensures { result ≡ list_any (λ f. attribute_number f.attribute == attribute_number attribute) fields.now }
-{
-    let number = attribute.number();
-    fields
-        .iter()
-        .any(|field| field.attribute.number() == number)
-}
-
 /// The ingredients of a group, in one sequence.
 #[tactic(auto, unfolding(crate::specs::Reading::items_at))]
 fn items_at(alloc: Global, element: &Element<'_>) -> Result<Seq<Ingredient>, CodecError>
     ensures { Gives (λ x. x) result (items_at_lem element.now) }
 {
     let inner = only(element.contents())?;
-    ingredients(alloc, sequence_at(&inner)?)
-}
-
-/// The ingredients up to the end.
-fn ingredients(alloc: Global, reader: Reader<'_>) -> Result<Seq<Ingredient>, CodecError>
-    ensures { Gives (λ x. x) result (listed ingredient_at_lem 4096 [] reader.entry) }
-{
-    let mut ingredients = Seq::new(alloc);
-    let mut reader = reader;
-    for _ in 0..LONGEST_LIST {
-        let (member, behind) = next_ingredient(alloc, reader)?;
-        let Some(ingredient) = member else {
-            return Ok(ingredients);
-        };
-        ingredients.push(ingredient)?;
-        reader = behind;
-    }
-    full(&reader)?;
-    Ok(ingredients)
-}
-
-/// The next ingredient, and the reader behind it; none at the end.
-#[tactic(auto, unfolding(crate::specs::Reading::next_member))]
-fn next_ingredient<'a>(
-    alloc: Global,
-    reader: Reader<'a>,
-) -> Result<(Option<Ingredient>, Reader<'a>), CodecError>
-    ensures { Gives (λ x. x) result (next_member ingredient_at_lem reader.entry) }
-{
-    if reader.is_empty() {
-        return Ok((None, reader));
-    }
-    let (element, behind) = taken(reader)?;
-    let ingredient = ingredient_at(alloc, &element)?;
-    Ok((Some(ingredient), behind))
+    list_at::<Ingredient>(alloc, LONGEST_LIST, &inner)
 }
 
 #[tactic(auto, unfolding(crate::specs::Reading::ingredient_at))]
@@ -294,4 +238,16 @@ fn ingredient_at(alloc: Global, element: &Element<'_>) -> Result<Ingredient, Cod
         number,
         fields,
     })
+}
+
+impl Readable for Ingredient {
+    ghost use Rattle.mh_codec.specs.Reading.{ingredient_at as reading_lem};
+
+    type Value = Ingredient;
+
+    ghost reading = { reading_lem };
+
+    fn read_at(alloc: Global, element: &Element<'_>) -> Result<Ingredient, CodecError> {
+        ingredient_at(alloc, element)
+    }
 }

@@ -1,17 +1,21 @@
 //! The reader of an attribute's value, by its shape.
 ghost use Rattle.std.specs.Prelude.{◌≡◌};
 ghost use Rattle.mh_codec.specs.Gives.{Gives};
-ghost use Rattle.mh_codec.specs.Reading.{setting as setting_lem, single as single_lem, data_at as data_at_lem, pair as pair_lem, part as part_lem, is_pair as is_pair_lem};
+ghost use Rattle.mh_codec.specs.Reading.{setting as setting_lem, single as single_lem, content_setting as content_setting_lem, data_setting as data_setting_lem, pair as pair_lem, part as part_lem, is_pair as is_pair_lem};
 
-use crate::action::effect_at;
-use crate::kind::{Kind, kind_of};
+use crate::member::ListItem;
+use crate::readable::{Readable, list_at};
 use crate::value::{
-    colour_at, ended, event_at, fixed_at, integer_at, natural_at, only, reference_at, refused,
-    taken, truth_at,
+    colour_at, content_at, data_at, ended, event_at, fixed_at, integer_at, justification_at,
+    length_at, natural_at, only, reference_at, refused, taken, truth_at,
 };
 use crate::{CodecError, Why};
+use mh_base::{Octets, Seq};
 use mh_der::{Element, Reader};
-use mh_group::{Setting, Shape};
+use mh_group::group::MOST_LIST_ITEMS;
+use mh_group::{
+    Content, Effect, EventData, Member, NextScene, Position, Setting, Shape, WrittenName,
+};
 use std::alloc::Global;
 
 /// The value of this shape, and nothing behind it.
@@ -24,7 +28,8 @@ pub(crate) fn setting(
     ensures { Gives (λ x. x) result (setting_lem shape reader.entry) }
 {
     if is_pair(shape) {
-        return pair(shape, reader);
+        let (first, second) = pair(shape, reader)?;
+        return Ok(Setting::Pair(first, second));
     }
     let element = only(reader)?;
     single(alloc, shape, &element)
@@ -41,33 +46,50 @@ fn is_pair(shape: Shape) -> bool
 fn single(alloc: Global, shape: Shape, element: &Element<'_>) -> Result<Setting, CodecError>
     ensures { Gives (λ x. x) result (single_lem shape element.now) }
 {
-    match shape {
-        Shape::Effect => Ok(Setting::Effect(effect_at(alloc, element)?)),
-        Shape::Bool => Ok(Setting::Bool(truth_at(element)?)),
-        Shape::Int => Ok(Setting::Int(integer_at(element)?)),
-        Shape::Natural => Ok(Setting::Int(natural_at(element)?)),
-        Shape::Ref => Ok(Setting::Ref(reference_at(alloc, element)?)),
-        Shape::Event => Ok(Setting::Event(event_at(element)?)),
-        Shape::Data => data_at(element),
-        Shape::Colour => Ok(Setting::Octets(colour_at(alloc, element)?)),
-        _ => Err(refused(element, Why::UnknownTag)),
+    Ok(match shape {
+        Shape::Effect => Setting::Effect(Effect::read_at(alloc, element)?),
+        Shape::Bool => Setting::Bool(truth_at(element)?),
+        Shape::Int => Setting::Int(integer_at(element)?),
+        Shape::Natural => Setting::Int(natural_at(element)?),
+        Shape::Length => Setting::Int(length_at(element)?),
+        Shape::Ref => Setting::Ref(reference_at(alloc, element)?),
+        Shape::Event => Setting::Event(event_at(element)?),
+        Shape::Data => data_setting(data_at(element)?),
+        Shape::Octets => Setting::Octets(Octets::read_at(alloc, element)?),
+        Shape::Colour => Setting::Octets(colour_at(alloc, element)?),
+        Shape::Content => content_setting(content_at(alloc, element)?),
+        Shape::ContentRef => Setting::ContentRef(WrittenName::read_at(alloc, element)?),
+        Shape::Justification => Setting::Justification(justification_at(element)?),
+        Shape::MovementTable => Setting::MovementTable(Seq::<Seq<i32>>::read_at(alloc, element)?),
+        Shape::Members => Setting::Members(Seq::<Member>::read_at(alloc, element)?),
+        Shape::ListItems => Setting::Members(list_at::<ListItem>(alloc, MOST_LIST_ITEMS, element)?),
+        Shape::Positions => Setting::Positions(Seq::<Position>::read_at(alloc, element)?),
+        Shape::NextScenes => Setting::NextScenes(Seq::<NextScene>::read_at(alloc, element)?),
+        _ => return Err(refused(element, Why::UnknownTag)),
+    })
+}
+
+fn content_setting(content: Content) -> Setting
+    ensures { result ≡ content_setting_lem content }
+{
+    match content {
+        Content::Included(octets) => Setting::Octets(octets),
+        Content::Referenced(name) => Setting::ContentRef(name),
     }
 }
 
-/// The data of an event: a truth value or an integer.
-#[tactic(auto, unfolding(crate::specs::Reading::data_at))]
-fn data_at(element: &Element<'_>) -> Result<Setting, CodecError>
-    ensures { Gives (λ x. x) result (data_at_lem element.now) }
+fn data_setting(event_data: EventData) -> Setting
+    ensures { result ≡ data_setting_lem event_data }
 {
-    match kind_of(element.tag()) {
-        Kind::Boolean => Ok(Setting::Bool(truth_at(element)?)),
-        _ => Ok(Setting::Int(integer_at(element)?)),
+    match event_data {
+        EventData::Bool(truth) => Setting::Bool(truth),
+        EventData::Int(value) => Setting::Int(value),
     }
 }
 
 /// Two integers, and nothing behind them.
 #[tactic(auto, unfolding(crate::specs::Reading::pair))]
-fn pair(shape: Shape, reader: Reader<'_>) -> Result<Setting, CodecError>
+pub(crate) fn pair(shape: Shape, reader: Reader<'_>) -> Result<(i32, i32), CodecError>
     ensures { Gives (λ x. x) result (pair_lem shape reader.entry) }
 {
     let (element, reader) = taken(reader)?;
@@ -75,7 +97,7 @@ fn pair(shape: Shape, reader: Reader<'_>) -> Result<Setting, CodecError>
     let (element, reader) = taken(reader)?;
     let second = part(shape, 576, &element)?;
     ended(reader)?;
-    Ok(Setting::Pair(first, second))
+    Ok((first, second))
 }
 
 /// One integer of a pair; the screen's has one value.

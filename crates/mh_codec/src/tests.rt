@@ -6,7 +6,7 @@ use std::alloc::{AllocError, Global};
 use std::test::Fail;
 
 /// The number and the offset of the refusal, or 0 and 0 where the octets are read.
-fn refusal(alloc: Global, octets: &[u8]) -> (u32, usize) {
+pub(crate) fn refusal(alloc: Global, octets: &[u8]) -> (u32, usize) {
     match decode_group(alloc, octets) {
         Ok(_) => (0, 0),
         Err(CodecError::At { why, offset }) => (why.number(), offset),
@@ -114,7 +114,7 @@ fn reads_and_refuses(rt: HostRuntime) {
         ),
         (
             "an unknown class",
-            b"\xa0\x13\x30\x08\x04\x03\x7e\x2f\x61\x02\x01\x00\xa3\x07\x30\x05\xa9\x03\x02\x01\x01",
+            b"\xa0\x13\x30\x08\x04\x03\x7e\x2f\x61\x02\x01\x00\xa3\x07\x30\x05\xb1\x03\x02\x01\x01",
             10,
             16,
         ),
@@ -162,7 +162,7 @@ fn reads_and_refuses(rt: HostRuntime) {
         ),
         (
             "an unknown action",
-            b"\xa0\x14\x30\x08\x04\x03\x7e\x2f\x61\x02\x01\x00\xa1\x08\x30\x06\xbf\x71\x03\x02\x01\x00",
+            b"\xa0\x15\x30\x08\x04\x03\x7e\x2f\x61\x02\x01\x00\xa1\x09\x30\x07\xbf\x81\x2a\x03\x02\x01\x00",
             10,
             16,
         ),
@@ -192,7 +192,7 @@ fn reads_and_refuses(rt: HostRuntime) {
         ),
         (
             "a value with another kind",
-            b"\xa0\x1a\x30\x08\x04\x03\x7e\x2f\x61\x02\x01\x00\xa1\x0e\x30\x0c\xbf\x74\x09\x02\x01\x01\xbf\x40\x03\x02\x01\x05",
+            b"\xa0\x1a\x30\x08\x04\x03\x7e\x2f\x61\x02\x01\x00\xa1\x0e\x30\x0c\xbf\x74\x09\x02\x01\x01\xbf\x43\x03\x02\x01\x05",
             10,
             22,
         ),

@@ -1,17 +1,15 @@
 //! Readers of values that are one element: truth values, numbers, octets, names, references.
 ghost use Rattle.std.specs.Prelude.{◌≡◌, pos, ◌≤ℤ◌, IfOk};
 ghost use Rattle.mh_codec.specs.Gives.{Gives};
-ghost use Rattle.mh_codec.specs.Reading.{taken as taken_lem, ended as ended_lem, truth_at as truth_at_lem, integer_at as integer_at_lem, octets_at as octets_at_lem, sequence_at as sequence_at_lem, own_at as own_at_lem, natural_at as natural_at_lem, fixed_at as fixed_at_lem, number_at as number_at_lem, ingredient_number_at as ingredient_number_at_lem, name_at as name_at_lem, event_at as event_at_lem, colour_at as colour_at_lem, named_in as named_in_lem, reference_at as reference_at_lem, only as only_lem, is_indirect as is_indirect_lem, variable_at as variable_at_lem, generic_at};
+ghost use Rattle.mh_codec.specs.Reading.{taken as taken_lem, ended as ended_lem, exhausted as exhausted_lem, truth_at as truth_at_lem, integer_at as integer_at_lem, octets_at as octets_at_lem, sequence_at as sequence_at_lem, own_at as own_at_lem, natural_at as natural_at_lem, fixed_at as fixed_at_lem, number_at as number_at_lem, ingredient_number_at as ingredient_number_at_lem, name_at as name_at_lem, event_at as event_at_lem, colour_at as colour_at_lem, justification_at as justification_at_lem, length_at as length_at_lem, primitive_at as primitive_at_lem, name_of as name_of_lem, content_name_at as content_name_at_lem, content_at as content_at_lem, data_at as data_at_lem, named_in as named_in_lem, reference_at as reference_at_lem, only as only_lem, is_indirect as is_indirect_lem, variable_at as variable_at_lem};
 
-use crate::kind::{Kind, kind_of};
+use crate::kind::{CONTENT_NAME, Kind, VARIABLE, kind_of};
+use crate::readable::Readable;
 use crate::{CodecError, Why};
 use mh_base::{EventType, Octets};
 use mh_der::{Element, Reader, bool_of, int_of};
-use mh_group::{Generic, Number, Ref, WrittenName};
+use mh_group::{Content, EventData, Justification, Number, Ref, WrittenName};
 use std::alloc::Global;
-
-/// The number of the tag of a value that a variable holds.
-pub(crate) const INDIRECT: u16 = 61;
 
 /// The refusal of the element.
 pub(crate) fn refused(element: &Element<'_>, why: Why) -> CodecError
@@ -38,6 +36,21 @@ pub(crate) fn ended(reader: Reader<'_>) -> Result<(), CodecError>
 {
     reader.ended()?;
     Ok(())
+}
+
+/// Nothing is left; else what is left is refused for this cause.
+#[tactic(auto, unfolding(crate::specs::Reading::exhausted))]
+pub(crate) fn exhausted(reader: &Reader<'_>, why: Why) -> Result<(), CodecError>
+    ensures { Gives (λ x. x) result (exhausted_lem why reader.now) }
+{
+    if reader.is_empty() {
+        Ok(())
+    } else {
+        Err(CodecError::At {
+            why,
+            offset: reader.offset(),
+        })
+    }
 }
 
 /// The one element that is left.
@@ -102,6 +115,17 @@ pub(crate) fn own_at(element: &Element<'_>) -> Result<u16, CodecError>
     }
 }
 
+/// The number of a tag of the notation's own that is primitive.
+#[tactic(auto, unfolding(crate::specs::Reading::primitive_at))]
+fn primitive_at(element: &Element<'_>) -> Result<u16, CodecError>
+    ensures { Gives (λ x. x) result (primitive_at_lem element.now) }
+{
+    match kind_of(element.tag()) {
+        Kind::Primitive(number) => Ok(number),
+        _ => Err(refused(element, Why::UnknownTag)),
+    }
+}
+
 /// An integer from 0.
 #[tactic(auto, unfolding(crate::specs::Reading::natural_at))]
 pub(crate) fn natural_at(element: &Element<'_>) -> Result<i32, CodecError>
@@ -113,6 +137,19 @@ pub(crate) fn natural_at(element: &Element<'_>) -> Result<i32, CodecError>
         return Err(refused(element, Why::BadValue));
     }
     Ok(value)
+}
+
+/// The length of an entry field: an integer from 1 to 255.
+#[tactic(auto, unfolding(crate::specs::Reading::length_at))]
+pub(crate) fn length_at(element: &Element<'_>) -> Result<i32, CodecError>
+    ensures { Gives (λ x. x) result (length_at_lem element.now) }
+{
+    let value = integer_at(element)?;
+    if 1 <= value && value <= 255 {
+        Ok(value)
+    } else {
+        Err(refused(element, Why::BadValue))
+    }
 }
 
 /// This integer and no other.
@@ -155,10 +192,53 @@ pub(crate) fn ingredient_number_at(element: &Element<'_>) -> Result<Number, Code
 pub(crate) fn name_at(alloc: Global, element: &Element<'_>) -> Result<WrittenName, CodecError>
     ensures { Gives (λ x. x) result (name_at_lem element.now) }
 {
-    let bytes = Vec::from_slice(alloc, octets_at(element)?)?;
-    match WrittenName::new(bytes) {
+    name_of(alloc, element, octets_at(element)?)
+}
+
+/// The name of these bytes, where a name may hold them; else the element is refused.
+fn name_of(alloc: Global, element: &Element<'_>, bytes: &[u8]) -> Result<WrittenName, CodecError>
+    ensures { Gives (λ x. x) result (name_of_lem element.now bytes.now) }
+{
+    match WrittenName::new(Vec::from_slice(alloc, bytes)?) {
         Some(name) => Ok(name),
         None => Err(refused(element, Why::BadValue)),
+    }
+}
+
+/// The name of a content file.
+#[tactic(auto, unfolding(crate::specs::Reading::content_name_at))]
+fn content_name_at(alloc: Global, element: &Element<'_>) -> Result<WrittenName, CodecError>
+    ensures { Gives (λ x. x) result (content_name_at_lem element.now) }
+{
+    let number = primitive_at(element)?;
+    if number != CONTENT_NAME {
+        return Err(refused(element, Why::UnknownTag));
+    }
+    name_of(alloc, element, element.contents().bytes())
+}
+
+/// Content: in the file, or in a file of a name.
+#[tactic(auto, unfolding(crate::specs::Reading::content_at))]
+pub(crate) fn content_at(alloc: Global, element: &Element<'_>) -> Result<Content, CodecError>
+    ensures { Gives (λ x. x) result (content_at_lem element.now) }
+{
+    match kind_of(element.tag()) {
+        Kind::Octets => {
+            let octets = Octets::from_slice(alloc, octets_at(element)?)?;
+            Ok(Content::Included(octets))
+        }
+        _ => Ok(Content::Referenced(content_name_at(alloc, element)?)),
+    }
+}
+
+/// The data of an event: a truth value or an integer.
+#[tactic(auto, unfolding(crate::specs::Reading::data_at))]
+pub(crate) fn data_at(element: &Element<'_>) -> Result<EventData, CodecError>
+    ensures { Gives (λ x. x) result (data_at_lem element.now) }
+{
+    match kind_of(element.tag()) {
+        Kind::Boolean => Ok(EventData::Bool(truth_at(element)?)),
+        _ => Ok(EventData::Int(integer_at(element)?)),
     }
 }
 
@@ -170,6 +250,18 @@ pub(crate) fn event_at(element: &Element<'_>) -> Result<EventType, CodecError>
     let number = number_at(element)?;
     match EventType::of_number(number.get()) {
         Some(event) => Ok(event),
+        None => Err(refused(element, Why::BadValue)),
+    }
+}
+
+/// A justification, by its number.
+#[tactic(auto, unfolding(crate::specs::Reading::justification_at))]
+pub(crate) fn justification_at(element: &Element<'_>) -> Result<Justification, CodecError>
+    ensures { Gives (λ x. x) result (justification_at_lem element.now) }
+{
+    let number = number_at(element)?;
+    match Justification::of_number(number.get()) {
+        Some(justification) => Ok(justification),
         None => Err(refused(element, Why::BadValue)),
     }
 }
@@ -215,50 +307,104 @@ pub(crate) fn reference_at(alloc: Global, element: &Element<'_>) -> Result<Ref, 
 
 /// Whether the element holds the reference of a variable.
 #[tactic(auto, unfolding(crate::specs::Reading::is_indirect))]
-fn is_indirect(element: &Element<'_>) -> bool
+pub(crate) fn is_indirect(element: &Element<'_>) -> bool
     ensures { result ≡ is_indirect_lem element.now }
 {
     match kind_of(element.tag()) {
-        Kind::Own(number) => number == INDIRECT,
+        Kind::Own(number) => number == VARIABLE,
         _ => false,
     }
 }
 
 /// The reference of the variable that holds a value.
 #[tactic(auto, unfolding(crate::specs::Reading::variable_at))]
-fn variable_at(alloc: Global, element: &Element<'_>) -> Result<Ref, CodecError>
+pub(crate) fn variable_at(alloc: Global, element: &Element<'_>) -> Result<Ref, CodecError>
     ensures { Gives (λ x. x) result (variable_at_lem element.now) }
 {
     let inner = only(element.contents())?;
     reference_at(alloc, &inner)
 }
 
-/// A reference, written directly or held by a variable.
-#[tactic(auto, unfolding(crate::specs::Reading::generic_at))]
-pub(crate) fn generic_reference_at(
-    alloc: Global,
-    element: &Element<'_>,
-) -> Result<Generic<Ref>, CodecError>
-    ensures { Gives (λ x. x) result (generic_at reference_at_lem element.now) }
-{
-    if is_indirect(element) {
-        Ok(Generic::Indirect(variable_at(alloc, element)?))
-    } else {
-        Ok(Generic::Direct(reference_at(alloc, element)?))
+impl Readable for bool {
+    ghost use Rattle.mh_codec.specs.Reading.{truth_at as reading_lem};
+
+    type Value = bool;
+
+    ghost reading = { reading_lem };
+
+    fn read_at(_alloc: Global, element: &Element<'_>) -> Result<bool, CodecError> {
+        truth_at(element)
     }
 }
 
-/// An integer, written directly or held by a variable.
-#[tactic(auto, unfolding(crate::specs::Reading::generic_at))]
-pub(crate) fn generic_integer_at(
-    alloc: Global,
-    element: &Element<'_>,
-) -> Result<Generic<i32>, CodecError>
-    ensures { Gives (λ x. x) result (generic_at integer_at_lem element.now) }
-{
-    if is_indirect(element) {
-        Ok(Generic::Indirect(variable_at(alloc, element)?))
-    } else {
-        Ok(Generic::Direct(integer_at(element)?))
+impl Readable for i32 {
+    ghost use Rattle.mh_codec.specs.Reading.{integer_at as reading_lem};
+
+    type Value = i32;
+
+    ghost reading = { reading_lem };
+
+    fn read_at(_alloc: Global, element: &Element<'_>) -> Result<i32, CodecError> {
+        integer_at(element)
+    }
+}
+
+impl Readable for Octets {
+    ghost use Rattle.mh_codec.specs.Reading.{octets_at as reading_lem};
+
+    type Value = Octets;
+
+    ghost reading = { reading_lem };
+
+    fn read_at(alloc: Global, element: &Element<'_>) -> Result<Octets, CodecError> {
+        Ok(Octets::from_slice(alloc, octets_at(element)?)?)
+    }
+}
+
+impl Readable for Ref {
+    ghost use Rattle.mh_codec.specs.Reading.{reference_at as reading_lem};
+
+    type Value = Ref;
+
+    ghost reading = { reading_lem };
+
+    fn read_at(alloc: Global, element: &Element<'_>) -> Result<Ref, CodecError> {
+        reference_at(alloc, element)
+    }
+}
+
+impl Readable for WrittenName {
+    ghost use Rattle.mh_codec.specs.Reading.{content_name_at as reading_lem};
+
+    type Value = WrittenName;
+
+    ghost reading = { reading_lem };
+
+    fn read_at(alloc: Global, element: &Element<'_>) -> Result<WrittenName, CodecError> {
+        content_name_at(alloc, element)
+    }
+}
+
+impl Readable for Content {
+    ghost use Rattle.mh_codec.specs.Reading.{content_at as reading_lem};
+
+    type Value = Content;
+
+    ghost reading = { reading_lem };
+
+    fn read_at(alloc: Global, element: &Element<'_>) -> Result<Content, CodecError> {
+        content_at(alloc, element)
+    }
+}
+
+impl Readable for EventData {
+    ghost use Rattle.mh_codec.specs.Reading.{data_at as reading_lem};
+
+    type Value = EventData;
+
+    ghost reading = { reading_lem };
+
+    fn read_at(_alloc: Global, element: &Element<'_>) -> Result<EventData, CodecError> {
+        data_at(element)
     }
 }

@@ -1,5 +1,5 @@
 -- Engines whose service was accepted.
-use Rattle.std.specs.Prelude.{◌≡◌, true, false, List, [], Option, Some, None, slice_get, refl}
+use Rattle.std.specs.Prelude.{◌≡◌, true, false, List, Option, Some, None, slice_get, refl}
 use Rattle.std.proofs.Common.{ap, sym, subst}
 use Rattle.mh_model.specs.declared.input.Input.{Input}
 use Rattle.mh_model.specs.declared.item.Item.{Item}

@@ -5,7 +5,7 @@ ghost use Rattle.mh_model.specs.Rules.{changed, acted as acted_lem, started as s
 ghost use Rattle.std.specs.Prelude.{◌&&◌, pos, slice_index_or};
 ghost use Rattle.mh_model.specs.Property.{held, as_int};
 
-use crate::moving::{is_visible, plain_event};
+use crate::moving::plain_event;
 use crate::reading::{int_of, place_of};
 use mh_base::{EventType, ObjRef, Value};
 use mh_group::{ActionName, Attribute};
@@ -140,7 +140,7 @@ pub fn rises(found: Option<&Object>) -> bool
     ensures { result ≡ (is_unprepared_at (option_copied found.entry) && is_visible_at (option_copied found.entry)) }
 {
     match found {
-        Some(object) => !object.running && !object.available && is_visible(object.class),
+        Some(object) => !object.running && !object.available && object.class.is_visible(),
         None => false,
     }
 }

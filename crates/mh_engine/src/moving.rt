@@ -1,29 +1,16 @@
 //! What is put when a group is entered, and when a scene is left.
 ghost use Rattle.std.specs.Prelude.{◌≡◌, ◌++◌, ◌∷◌, [], ◌&&◌, not, Some, None, IfOk, OnOk, OnErr, map, filter, reverse};
 ghost use Rattle.std.specs.Option.{option_copied};
+ghost use Rattle.mh_group.specs.Table.{is_runnable as is_runnable_lem};
 ghost use Rattle.mh_model.specs.Service.{object_at as object_at_lem, group_ref as group_ref_lem, is_in as is_in_lem};
-ghost use Rattle.mh_model.specs.Items.{acts, effect_of as effect_of_lem, plain_event as plain_event_lem, entering as entering_lem, is_runnable as is_runnable_lem, is_visible as is_visible_lem, is_initially_active as is_initially_active_lem, is_shared as is_shared_lem, runs, halts, closing as closing_lem, leaving as leaving_lem};
+ghost use Rattle.mh_model.specs.Items.{acts, effect_of as effect_of_lem, plain_event as plain_event_lem, entering as entering_lem, is_initially_active as is_initially_active_lem, is_shared as is_shared_lem, runs, halts, closing as closing_lem, leaving as leaving_lem};
 
 use crate::hearing::push_acts;
 use crate::reading::{bool_of, effect_of, object_at};
 use mh_base::{EventType, GroupName, ObjRef};
-use mh_group::{Attribute, Class};
+use mh_group::Attribute;
 use mh_model::{Event, Item, Object};
 use std::alloc::{AllocError, Global};
-
-/// Whether objects of the class can run.
-pub fn is_runnable(class: Class) -> bool
-    ensures { result ≡ is_runnable_lem class }
-{
-    matches!(class, Class::Link | Class::Rectangle)
-}
-
-/// Whether objects of the class can be shown.
-pub fn is_visible(class: Class) -> bool
-    ensures { result ≡ is_visible_lem class }
-{
-    matches!(class, Class::Rectangle)
-}
 
 /// The reference to a group itself.
 pub fn group_ref(group: &GroupName) -> Result<ObjRef, AllocError>
@@ -55,7 +42,7 @@ fn is_in(group: &GroupName, object: &Object) -> bool
 fn is_initially_active(object: &Object) -> bool
     ensures { result ≡ is_initially_active_lem object.now }
 {
-    is_runnable(object.class) && bool_of(&object.properties, Attribute::InitiallyActive, true)
+    object.class.is_runnable() && bool_of(&object.properties, Attribute::InitiallyActive, true)
 }
 
 fn is_shared(object: &Object) -> bool
@@ -115,7 +102,7 @@ fn push_scene_halts(
     ensures { OnOk result (items.new.items ≡ items.old.items ++ halts (filter (λ o. is_runnable_lem o.class) (filter (is_in_lem scene.now) (reverse objects.now)))) }
 {
     for object in objects.iter().rev() {
-        if is_in(scene, object) && is_runnable(object.class) {
+        if is_in(scene, object) && object.class.is_runnable() {
             items.push(Item::Halt(object.key.clone()?))?;
         }
     }
@@ -131,7 +118,7 @@ fn push_application_halts(
     ensures { OnOk result (items.new.items ≡ items.old.items ++ halts (filter (λ o. is_runnable_lem o.class && not (is_shared_lem o)) (filter (is_in_lem application.now) (reverse objects.now)))) }
 {
     for object in objects.iter().rev() {
-        if is_in(application, object) && is_runnable(object.class) && !is_shared(object) {
+        if is_in(application, object) && object.class.is_runnable() && !is_shared(object) {
             items.push(Item::Halt(object.key.clone()?))?;
         }
     }

@@ -5,7 +5,6 @@ ghost use Rattle.mh_model.specs.Service.{object_at as object_at_lem};
 ghost use Rattle.mh_model.specs.Painting.{painted_over};
 ghost use Rattle.mh_engine.specs.Screen.{IsOnScreen};
 
-use crate::moving::is_visible;
 use crate::reading::{colour_of, int_of, object_at, pair_of};
 use mh_base::{Area, Colour, ObjRef};
 use mh_group::Attribute;
@@ -36,7 +35,7 @@ fn painted(objects: &[Object], at: &ObjRef) -> Option<Visible>
 fn shown(object: &Object) -> Option<Visible>
     ensures { result ≡ painted_lem (Some object.now) }
 {
-    if is_visible(object.class) && object.available && object.running {
+    if object.class.is_visible() && object.available && object.running {
         Some(visible_of(object))
     } else {
         None

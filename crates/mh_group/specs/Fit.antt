@@ -1,10 +1,11 @@
 -- What the tables allow: values in their shapes and ranges, actions with their parameters, objects
 -- with the fields of their class, each once and in order.
-use Rattle.std.specs.Prelude.{ℕ, Bool, true, false, ◌&&◌, not, ◌==◌, nat_lt, List, [], ◌∷◌, length, Option, Some, None, if◌then◌else◌, is_none, ℤ, pos, int_le}
+use Rattle.std.specs.Prelude.{ℕ, Bool, true, false, ◌&&◌, not, ◌==◌, nat_lt, nat_le, List, [], ◌∷◌, length, Option, Some, None, if◌then◌else◌, is_none, ℤ, pos, int_le}
 use Rattle.std.specs.Ordering.{int_eq}
-use Rattle.std.specs.List.{list_all, list_any}
+use Rattle.std.specs.List.{list_all, list_any, prefix_len}
 use Rattle.std.specs.Option.{option_or}
 use Rattle.mh_group.specs.declared.class.Class.{Class}
+use Rattle.mh_group.specs.declared.attribute.Attribute.TheVariants as attribute
 use Rattle.mh_group.specs.declared.shape.Shape.{Shape}
 use Rattle.mh_group.specs.declared.shape.Shape.TheVariants as shape
 use Rattle.mh_group.specs.declared.shape.Need.{Need}
@@ -14,33 +15,55 @@ use Rattle.mh_group.specs.declared.action.Parameter.{Parameter}
 use Rattle.mh_group.specs.declared.action.Parameter.TheVariants as parameter
 use Rattle.mh_group.specs.declared.written.Setting.{Setting}
 use Rattle.mh_group.specs.declared.written.Setting.TheVariants as setting
+use Rattle.mh_group.specs.declared.written.Member.{Member}
 use Rattle.mh_group.specs.declared.written.Field.{Field}
 use Rattle.mh_group.specs.declared.written.Ingredient.{Ingredient}
 use Rattle.mh_group.specs.declared.written.Written.{Written}
 use Rattle.mh_group.specs.declared.misfit.MisfitWhy.{MisfitWhy}
 use Rattle.mh_group.specs.declared.misfit.MisfitWhy.TheVariants as misfit
-use Rattle.mh_group.specs.Table.{attribute_number, is_group_class, takes, shape_of, required_of, needs_of}
+use Rattle.mh_group.specs.Table.{attribute_number, is_group_class, takes, shape_of, required_of, needs_of, optional_of}
 
 -- the parameter is of the kind that is needed
 abbrev pub fits_parameter : Need → Parameter → Bool
+fits_parameter need.Bool (parameter.Bool _) = true
 fits_parameter need.Int (parameter.Int _) = true
+fits_parameter need.Octets (parameter.Octets _) = true
+fits_parameter need.Ref (parameter.Ref _) = true
+fits_parameter need.Content (parameter.Content _) = true
+fits_parameter need.Data (parameter.Data _) = true
+fits_parameter need.Event (parameter.Event _) = true
+fits_parameter (need.Receiver _) (parameter.Receiver _) = true
 fits_parameter need.Typed (parameter.Typed _) = true
+fits_parameter need.Arguments (parameter.Arguments _) = true
 fits_parameter _ _ = false
 
-abbrev pub fits_parameters : List Need → List Parameter → Bool
-fits_parameters [] [] = true
-fits_parameters (n ∷ ns) (p ∷ ps) = fits_parameter n p && fits_parameters ns ps
-fits_parameters _ _ = false
+-- each parameter is what is needed at its place; so many of the needed ones may be missing at the end
+abbrev pub fits_parameters : ℕ → List Need → List Parameter → Bool
+fits_parameters optional ns [] = nat_le (length ns) optional
+fits_parameters optional [] (p ∷ ps) = false
+fits_parameters optional (n ∷ ns) (p ∷ ps) = fits_parameter n p && fits_parameters optional ns ps
 
 -- the action is written with the parameters that it needs
 abbrev pub fits_action : Action → Bool
-fits_action a = fits_parameters (needs_of a.name) a.parameters
+fits_action a = fits_parameters (optional_of a.name) (needs_of a.name) a.parameters
 
 abbrev pub fits_effect : List Action → Bool
 fits_effect e = list_all fits_action e
 
+-- the slots of a member are right
+abbrev pub fits_member : Member → Bool
+fits_member m = list_all fits_effect m.slots
+
+-- a list group's members have no slots
+abbrev pub is_list_item : Member → Bool
+is_list_item m = length m.slots == 0
+
 abbrev pub is_natural : ℤ → Bool
 is_natural x = int_le (pos 0) x
+
+-- the length of an entry field
+abbrev pub is_field_length : ℤ → Bool
+is_field_length x = int_le (pos 1) x && int_le x (pos 255)
 
 -- the value has the shape and lies in its range
 abbrev pub fits : Shape → Setting → Bool
@@ -48,6 +71,7 @@ fits shape.Effect (setting.Effect e) = fits_effect e
 fits shape.Bool (setting.Bool _) = true
 fits shape.Int (setting.Int _) = true
 fits shape.Natural (setting.Int x) = is_natural x
+fits shape.Length (setting.Int x) = is_field_length x
 fits shape.Pair (setting.Pair _ _) = true
 fits shape.Size (setting.Pair w h) = is_natural w && is_natural h
 fits shape.Screen (setting.Pair w h) = int_eq w (pos 720) && int_eq h (pos 576)
@@ -55,7 +79,17 @@ fits shape.Ref (setting.Ref _) = true
 fits shape.Event (setting.Event _) = true
 fits shape.Data (setting.Bool _) = true
 fits shape.Data (setting.Int _) = true
+fits shape.Octets (setting.Octets _) = true
 fits shape.Colour (setting.Octets o) = length o == 4
+fits shape.Content (setting.Octets _) = true
+fits shape.Content (setting.ContentRef _) = true
+fits shape.ContentRef (setting.ContentRef _) = true
+fits shape.Justification (setting.Justification _) = true
+fits shape.MovementTable (setting.MovementTable _) = true
+fits shape.Members (setting.Members ms) = list_all fits_member ms
+fits shape.ListItems (setting.Members ms) = nat_le (length ms) 256 && list_all is_list_item ms
+fits shape.Positions (setting.Positions _) = true
+fits shape.NextScenes (setting.NextScenes _) = true
 fits _ _ = false
 
 -- the numbers of the attributes go up from above n
@@ -75,9 +109,9 @@ has_required c fs = list_all (λ a. list_any (λ f. attribute_number f.attribute
 abbrev pub takes_each : Class → List Field → Bool
 takes_each c fs = list_all (λ f. takes c f.attribute) fs
 
--- each value is right
-abbrev pub fits_each : List Field → Bool
-fits_each fs = list_all (λ f. fits (shape_of f.attribute) f.setting) fs
+-- each value is right for the class
+abbrev pub fits_each : Class → List Field → Bool
+fits_each c fs = list_all (λ f. fits (shape_of c f.attribute) f.setting) fs
 
 -- why these are no fields of an object of the class, if they are not
 abbrev pub fields_misfit : Class → List Field → Option MisfitWhy
@@ -85,7 +119,7 @@ fields_misfit c fs =
     if not (is_rising fs) then Some misfit.Order
     else (if not (has_required c fs) then Some misfit.Missing
     else (if not (takes_each c fs) then Some misfit.NotTaken
-    else (if not (fits_each fs) then Some misfit.Value else None)))
+    else (if not (fits_each c fs) then Some misfit.Value else None)))
 
 abbrev pub ingredient_misfit : Ingredient → Option MisfitWhy
 ingredient_misfit i =
@@ -104,6 +138,10 @@ written_items None = []
 
 abbrev pub items_of : Written → List Ingredient
 items_of w = written_items w.items
+
+-- how many fields at the front have smaller numbers than the items, which are written behind them
+abbrev pub before_items : List Field → ℕ
+before_items fields = prefix_len (λ f. nat_lt (attribute_number f.attribute) (attribute_number attribute.Items)) fields
 
 -- why this is no group, if it is none
 unfoldable pub misfit_of : Written → Option MisfitWhy

@@ -1,18 +1,46 @@
 //! Elementary actions and effects, as a group writes them.
-use crate::{ActionName, Generic, Ref};
-use mh_base::Seq;
+use crate::{ActionName, Generic, Ref, WrittenName};
+use mh_base::{EventType, Octets, Seq};
 
 /// A value with its kind in front.
 #[derive(Debug, Drop)]
 pub enum Typed {
+    Bool(Generic<bool>),
     Int(Generic<i32>),
+    Octets(Generic<Octets>),
+    Ref(Generic<Ref>),
+    ContentRef(Generic<WrittenName>),
+}
+
+/// The content of a visible (ISO/IEC 13522-5, Content): in the group's file, or in a file of its own.
+#[derive(Debug, Drop)]
+pub enum Content {
+    Included(Octets),
+    Referenced(WrittenName),
+}
+
+/// The data of an event that an action emits.
+#[derive(Debug, Drop)]
+pub enum EventData {
+    Bool(bool),
+    Int(i32),
 }
 
 /// A parameter of an elementary action.
 #[derive(Debug, Drop)]
 pub enum Parameter {
+    Bool(Generic<bool>),
     Int(Generic<i32>),
+    Octets(Generic<Octets>),
+    Ref(Generic<Ref>),
+    Content(Generic<Content>),
+    Data(Generic<EventData>),
+    Event(EventType),
+    /// The variable that receives an answer.
+    Receiver(Ref),
     Typed(Typed),
+    /// What a program is called with.
+    Arguments(Seq<Typed>),
 }
 
 /// An elementary action (ISO/IEC 13522-5, ElementaryAction): its name, its target and its parameters.

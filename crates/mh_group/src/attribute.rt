@@ -1,5 +1,5 @@
 //! `Attribute`: the names of what a group or an ingredient is written with.
-ghost use Rattle.std.specs.Prelude.{◌≡◌};
+ghost use Rattle.std.specs.Prelude.{◌≡◌, ◌==◌};
 ghost use Rattle.std.specs.List.{find};
 ghost use Rattle.std.specs.Str.{bytes_eq};
 ghost use Rattle.mh_group.specs.Words.{attribute_word, attributes};
@@ -25,9 +25,30 @@ pub enum Attribute {
     OrigLineWidth,
     OrigRefLineColour,
     OrigRefFillColour,
+    OrigContent,
+    TextColour,
+    BackgroundColour,
+    HJustification,
+    TextWrapping,
+    MaxLength,
+    OrigLabel,
+    MovementTable,
+    TokenGroupItems,
+    Positions,
+    WrapAround,
+    MultipleSelection,
+    Name,
+    CHook,
+    OrigFont,
+    FontAttributes,
+    OrigGcPriority,
+    ObjectInfo,
+    StdId,
+    StdVersion,
+    NextScenes,
 }
 
-const ALL: [Attribute; 17] = [
+const ALL: [Attribute; 38] = [
     Attribute::OnStartUp,
     Attribute::OnCloseDown,
     Attribute::Items,
@@ -45,6 +66,27 @@ const ALL: [Attribute; 17] = [
     Attribute::OrigLineWidth,
     Attribute::OrigRefLineColour,
     Attribute::OrigRefFillColour,
+    Attribute::OrigContent,
+    Attribute::TextColour,
+    Attribute::BackgroundColour,
+    Attribute::HJustification,
+    Attribute::TextWrapping,
+    Attribute::MaxLength,
+    Attribute::OrigLabel,
+    Attribute::MovementTable,
+    Attribute::TokenGroupItems,
+    Attribute::Positions,
+    Attribute::WrapAround,
+    Attribute::MultipleSelection,
+    Attribute::Name,
+    Attribute::CHook,
+    Attribute::OrigFont,
+    Attribute::FontAttributes,
+    Attribute::OrigGcPriority,
+    Attribute::ObjectInfo,
+    Attribute::StdId,
+    Attribute::StdVersion,
+    Attribute::NextScenes,
 ];
 
 impl Attribute {
@@ -53,6 +95,13 @@ impl Attribute {
         ensures { result ≡ find (λ x. bytes_eq (attribute_word x) word.now) attributes }
     {
         ALL.iter().copied().find(|x| x.word() == word)
+    }
+
+    /// The one with this number, if there is one.
+    pub fn of_number(number: u32) -> Option<Attribute>
+        ensures { result ≡ find (λ x. attribute_number x == number) attributes }
+    {
+        ALL.iter().copied().find(|x| x.number() == number)
     }
 
     /// Its word in the textual notation, without the colon.
@@ -78,6 +127,27 @@ impl Attribute {
             Attribute::OrigLineWidth => b"OrigLineWidth",
             Attribute::OrigRefLineColour => b"OrigRefLineColour",
             Attribute::OrigRefFillColour => b"OrigRefFillColour",
+            Attribute::OrigContent => b"OrigContent",
+            Attribute::TextColour => b"TextColour",
+            Attribute::BackgroundColour => b"BackgroundColour",
+            Attribute::HJustification => b"HJustification",
+            Attribute::TextWrapping => b"TextWrapping",
+            Attribute::MaxLength => b"MaxLength",
+            Attribute::OrigLabel => b"OrigLabel",
+            Attribute::MovementTable => b"MovementTable",
+            Attribute::TokenGroupItems => b"TokenGroupItems",
+            Attribute::Positions => b"Positions",
+            Attribute::WrapAround => b"WrapAround",
+            Attribute::MultipleSelection => b"MultipleSelection",
+            Attribute::Name => b"Name",
+            Attribute::CHook => b"CHook",
+            Attribute::OrigFont => b"OrigFont",
+            Attribute::FontAttributes => b"FontAttributes",
+            Attribute::OrigGcPriority => b"OrigGCPriority",
+            Attribute::ObjectInfo => b"ObjectInfo",
+            Attribute::StdId => b"StdID",
+            Attribute::StdVersion => b"StdVersion",
+            Attribute::NextScenes => b"NextScenes",
         }
     }
 
@@ -103,6 +173,27 @@ impl Attribute {
             Attribute::OrigLineWidth => 15,
             Attribute::OrigRefLineColour => 16,
             Attribute::OrigRefFillColour => 17,
+            Attribute::OrigContent => 18,
+            Attribute::TextColour => 19,
+            Attribute::BackgroundColour => 20,
+            Attribute::HJustification => 21,
+            Attribute::TextWrapping => 22,
+            Attribute::MaxLength => 23,
+            Attribute::OrigLabel => 24,
+            Attribute::MovementTable => 25,
+            Attribute::TokenGroupItems => 26,
+            Attribute::Positions => 27,
+            Attribute::WrapAround => 28,
+            Attribute::MultipleSelection => 29,
+            Attribute::Name => 30,
+            Attribute::CHook => 31,
+            Attribute::OrigFont => 32,
+            Attribute::FontAttributes => 33,
+            Attribute::OrigGcPriority => 34,
+            Attribute::ObjectInfo => 35,
+            Attribute::StdId => 36,
+            Attribute::StdVersion => 37,
+            Attribute::NextScenes => 38,
         }
     }
 }

@@ -7,6 +7,7 @@ pub mod action_name;
 pub mod attribute;
 pub mod class;
 pub mod group;
+pub mod justification;
 pub mod misfit;
 pub mod number;
 pub mod reference;
@@ -15,17 +16,18 @@ pub mod words;
 pub mod written;
 pub mod written_name;
 
-pub use action::{Action, Effect, Parameter, Typed};
+pub use action::{Action, Content, Effect, EventData, Parameter, Typed};
 pub use action_name::ActionName;
 pub use attribute::Attribute;
 pub use class::Class;
 pub use group::Group;
+pub use justification::Justification;
 pub use misfit::{Misfit, MisfitWhy};
 pub use number::Number;
 pub use reference::{Generic, Ref};
 pub use shape::{Need, Shape};
 pub use words::{event_of_word, event_word};
-pub use written::{Field, Ingredient, Setting, Written};
+pub use written::{Field, Ingredient, Member, NextScene, Position, Setting, Written};
 pub use written_name::WrittenName;
 
 #[cfg(test)]

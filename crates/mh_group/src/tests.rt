@@ -1,8 +1,8 @@
 use crate::{
-    Action, ActionName, Attribute, Class, Field, Generic, Group, Ingredient, MisfitWhy, Number,
-    Parameter, Ref, Setting, Typed, Written, WrittenName, event_of_word,
+    Action, ActionName, Attribute, Class, Field, Generic, Group, Ingredient, Justification, Member,
+    MisfitWhy, Need, Number, Parameter, Ref, Setting, Typed, Written, WrittenName, event_of_word,
 };
-use mh_base::{EventType, Octets, Seq};
+use mh_base::{EventType, Kind, Octets, Seq};
 use std::alloc::Global;
 use std::test::Fail;
 
@@ -16,6 +16,11 @@ enum Plain {
     Octets(u32),
     Source,
     Event,
+    /// The name of a content file.
+    Name,
+    /// So many members, each with so many empty slots.
+    Members(u32, u32),
+    Positions,
     /// An action with so many integers, and behind them so many values with their kind.
     Action(ActionName, u32, u32),
 }
@@ -56,6 +61,21 @@ fn action(alloc: Global, name: ActionName, integers: u32, typed: u32) -> Result<
     })
 }
 
+fn members(alloc: Global, count: u32, slots: u32) -> Result<Seq<Member>, Fail> {
+    let mut members = Seq::new(alloc);
+    for _ in 0..count {
+        let mut member = Member {
+            object: Ref::Here(number(1)?),
+            slots: Seq::new(alloc),
+        };
+        for _ in 0..slots {
+            member.slots.push(Seq::new(alloc))?;
+        }
+        members.push(member)?;
+    }
+    Ok(members)
+}
+
 fn setting(alloc: Global, plain: Plain) -> Result<Setting, Fail> {
     Ok(match plain {
         Plain::Bool(truth) => Setting::Bool(truth),
@@ -64,6 +84,12 @@ fn setting(alloc: Global, plain: Plain) -> Result<Setting, Fail> {
         Plain::Octets(count) => Setting::Octets(octets(alloc, count)?),
         Plain::Source => Setting::Ref(Ref::Here(number(0)?)),
         Plain::Event => Setting::Event(EventType::UserInput),
+        Plain::Name => {
+            let name = WrittenName::new(Vec::from_slice(alloc, b"~/a")?);
+            Setting::ContentRef(name.ok_or("a bad byte")?)
+        }
+        Plain::Members(count, slots) => Setting::Members(members(alloc, count, slots)?),
+        Plain::Positions => Setting::Positions(Seq::new(alloc)),
         Plain::Action(name, integers, typed) => {
             let action = action(alloc, name, integers, typed)?;
             Setting::Effect(Seq::from_vec(vec![in alloc; action]?))
@@ -126,6 +152,10 @@ const BOX: Class = Class::Rectangle;
 
 const VARIABLE: Class = Class::IntegerVar;
 
+const FIELD: Class = Class::EntryField;
+
+const LIST: Class = Class::ListGroup;
+
 const SIZE: (Attribute, Plain) = (Attribute::OrigBoxSize, Plain::Pair(0, 0));
 
 const SOURCE: (Attribute, Plain) = (Attribute::EventSource, Plain::Source);
@@ -156,6 +186,8 @@ const TYPED: (Attribute, Plain) = (
     Attribute::LinkEffect,
     Plain::Action(ActionName::SetVariable, 0, 1),
 );
+
+const PLACES: (Attribute, Plain) = (Attribute::Positions, Plain::Positions);
 
 const BARE: (Attribute, Plain) = (
     Attribute::LinkEffect,
@@ -388,6 +420,139 @@ fn takes_what_the_tables_allow(rt: HostRuntime) -> Result<(), Fail> {
 }
 
 #[test]
+fn takes_the_shapes_of_all_classes(rt: HostRuntime) -> Result<(), Fail> {
+    let misfit_value = Some(MisfitWhy::Value);
+    let cases: [Case; 16] = [
+        (
+            "a field of 255",
+            FIELD,
+            1,
+            &[SIZE, (Attribute::MaxLength, Plain::Int(255))],
+            None,
+        ),
+        (
+            "a field of 1",
+            FIELD,
+            1,
+            &[SIZE, (Attribute::MaxLength, Plain::Int(1))],
+            None,
+        ),
+        (
+            "a field of 256",
+            FIELD,
+            1,
+            &[SIZE, (Attribute::MaxLength, Plain::Int(256))],
+            misfit_value,
+        ),
+        (
+            "a field of 0",
+            FIELD,
+            1,
+            &[SIZE, (Attribute::MaxLength, Plain::Int(0))],
+            misfit_value,
+        ),
+        (
+            "a list",
+            LIST,
+            1,
+            &[(Attribute::TokenGroupItems, Plain::Members(256, 0)), PLACES],
+            None,
+        ),
+        (
+            "257 items",
+            LIST,
+            1,
+            &[(Attribute::TokenGroupItems, Plain::Members(257, 0)), PLACES],
+            misfit_value,
+        ),
+        (
+            "a slot",
+            LIST,
+            1,
+            &[(Attribute::TokenGroupItems, Plain::Members(1, 1)), PLACES],
+            misfit_value,
+        ),
+        ("no places", LIST, 1, &[], Some(MisfitWhy::Missing)),
+        (
+            "members",
+            Class::TokenGroup,
+            1,
+            &[(Attribute::TokenGroupItems, Plain::Members(257, 2))],
+            None,
+        ),
+        (
+            "octets",
+            Class::OStringVar,
+            1,
+            &[(Attribute::OrigValue, Plain::Octets(3))],
+            None,
+        ),
+        (
+            "no octets",
+            Class::OStringVar,
+            1,
+            &[(Attribute::OrigValue, Plain::Name)],
+            misfit_value,
+        ),
+        (
+            "a file",
+            Class::ContentRefVar,
+            1,
+            &[(Attribute::OrigValue, Plain::Name)],
+            None,
+        ),
+        (
+            "a reference",
+            Class::ObjectRefVar,
+            1,
+            &[(Attribute::OrigValue, Plain::Source)],
+            None,
+        ),
+        (
+            "truth",
+            Class::BooleanVar,
+            1,
+            &[(Attribute::OrigValue, Plain::Bool(true))],
+            None,
+        ),
+        (
+            "a timer off",
+            LINK,
+            1,
+            &[
+                SOURCE,
+                EVENT,
+                (
+                    Attribute::LinkEffect,
+                    Plain::Action(ActionName::SetTimer, 1, 0),
+                ),
+            ],
+            None,
+        ),
+        (
+            "no timer",
+            LINK,
+            1,
+            &[
+                SOURCE,
+                EVENT,
+                (
+                    Attribute::LinkEffect,
+                    Plain::Action(ActionName::SetTimer, 0, 0),
+                ),
+            ],
+            misfit_value,
+        ),
+    ];
+    for (what, class, number, plain, why) in cases {
+        let item = ingredient(rt.alloc(), class, number, plain)?;
+        let written = written(rt.alloc(), Class::Application, &[], item)?;
+        assert_eq!(rt; misfit(written), why, "{what}");
+    }
+    Ok(())
+}
+
+#[test]
 fn takes_groups(rt: HostRuntime) -> Result<(), Fail> {
     let cases: [Case; 6] = [
         (
@@ -482,5 +647,96 @@ fn finds_words(rt: HostRuntime) {
             event,
             "{word:?}"
         );
+    }
+}
+
+#[test]
+fn finds_numbers(rt: HostRuntime) {
+    let cases: [(u32, &[u8], &[u8], &[u8]); 6] = [
+        (0, b"Application", b"", b"Run"),
+        (1, b"Scene", b"OnStartUp", b"Stop"),
+        (16, b"Stream", b"OrigRefLineColour", b"SetVariable"),
+        (17, b"", b"OrigRefFillColour", b"TestVariable"),
+        (38, b"", b"NextScenes", b"DrawLine"),
+        (69, b"", b"", b"GetCellItem"),
+    ];
+    for (number, class, attribute, action) in cases {
+        let found = Class::of_number(number).map_or(b"".as_slice(), |x| x.word());
+        assert_eq!(rt; found, class, "{number}");
+        let found = Attribute::of_number(number).map_or(b"".as_slice(), |x| x.word());
+        assert_eq!(rt; found, attribute, "{number}");
+        let found = ActionName::of_number(number).map_or(b"".as_slice(), |x| x.word());
+        assert_eq!(rt; found, action, "{number}");
+    }
+    assert_eq!(rt; ActionName::of_number(70), None);
+}
+
+#[test]
+fn finds_justifications(rt: HostRuntime) {
+    for (word, number) in [(b"start".as_slice(), 1u32), (b"end", 2), (b"centre", 3)] {
+        let found = Justification::of_word(word);
+        assert_eq!(rt; found, Justification::of_number(number), "{word:?}");
+        assert_eq!(rt; found.map_or(0, |x| x.number()), number, "{word:?}");
+    }
+    assert_eq!(rt; Justification::of_number(0), None);
+}
+
+#[test]
+fn tells_what_actions_need(rt: HostRuntime) {
+    let cases: [(ActionName, &[Need], usize); 5] = [
+        (ActionName::Run, &[], 0),
+        (ActionName::SetTimer, &[Need::Int, Need::Int, Need::Bool], 2),
+        (
+            ActionName::SendEvent,
+            &[Need::Ref, Need::Event, Need::Data],
+            1,
+        ),
+        (
+            ActionName::GetListItem,
+            &[Need::Int, Need::Receiver(Kind::Object)],
+            0,
+        ),
+        (
+            ActionName::Fork,
+            &[Need::Receiver(Kind::Bool), Need::Arguments],
+            0,
+        ),
+    ];
+    for (name, needs, optional) in cases {
+        let word = name.word();
+        assert!(rt; name.needs() == needs, "{word:?}");
+        assert_eq!(rt; name.optional(), optional, "{word:?}");
+    }
+}
+
+#[test]
+fn tells_what_actions_emit(rt: HostRuntime) {
+    let cases: [(ActionName, Class, &[EventType]); 6] = [
+        (
+            ActionName::Run,
+            Class::Text,
+            &[
+                EventType::IsAvailable,
+                EventType::ContentAvailable,
+                EventType::IsRunning,
+            ],
+        ),
+        (ActionName::Run, Class::Link, &[]),
+        (
+            ActionName::Activate,
+            Class::Link,
+            &[EventType::IsAvailable, EventType::IsRunning],
+        ),
+        (ActionName::TestVariable, Class::Rectangle, &[]),
+        (
+            ActionName::TestVariable,
+            Class::OStringVar,
+            &[EventType::TestEvent],
+        ),
+        (ActionName::SetPosition, Class::Rectangle, &[]),
+    ];
+    for (name, class, events) in cases {
+        let word = name.word();
+        assert!(rt; name.may_emit(class) == events, "{word:?}");
     }
 }

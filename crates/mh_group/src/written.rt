@@ -1,6 +1,28 @@
 //! A group as it is written: plain values, which need not fit the tables.
-use crate::{Action, Attribute, Class, Number, Ref, WrittenName};
+use crate::{Action, Attribute, Class, Effect, Justification, Number, Ref, WrittenName};
 use mh_base::{EventType, Octets, Seq};
+
+/// A member of a token group or a list group (ISO/IEC 13522-5, TokenGroupItem): the object, and what
+/// each of its action slots does.
+#[derive(Debug, Drop)]
+pub struct Member {
+    pub object: Ref,
+    pub slots: Seq<Effect>,
+}
+
+/// Where a cell of a list group lies, in units of the screen.
+#[derive(Clone, Copy, Debug, PartialEq, Eq)]
+pub struct Position {
+    pub x: i32,
+    pub y: i32,
+}
+
+/// A scene that may come next, and how likely it is (ISO/IEC 13522-5, NextScene). It is only kept.
+#[derive(Debug, Drop)]
+pub struct NextScene {
+    pub name: WrittenName,
+    pub weight: i32,
+}
 
 /// The value with which an attribute is written.
 #[derive(Debug, Drop)]
@@ -10,8 +32,16 @@ pub enum Setting {
     Pair(i32, i32),
     Octets(Octets),
     Ref(Ref),
+    /// The name of a content file.
+    ContentRef(WrittenName),
     Event(EventType),
+    Justification(Justification),
     Effect(Seq<Action>),
+    /// The rows of a movement table.
+    MovementTable(Seq<Seq<i32>>),
+    Members(Seq<Member>),
+    Positions(Seq<Position>),
+    NextScenes(Seq<NextScene>),
 }
 
 /// One attribute with its value.

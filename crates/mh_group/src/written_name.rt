@@ -41,7 +41,8 @@ impl WrittenName {
     }
 
     pub fn as_bytes(&self) -> &[u8]
-        ensures { result.now ≡ self.now }
+        ensures same { result.now ≡ self.now }
+        ensures good { list_all is_name_byte self.now ≡ true }
     {
         self.bytes.as_slice()
     }

@@ -13,7 +13,7 @@ use Rattle.mh_group.specs.declared.attribute.Attribute.{Attribute}
 use Rattle.mh_group.specs.declared.attribute.Attribute.TheVariants as attribute
 use Rattle.mh_group.specs.declared.action_name.ActionName.{ActionName}
 use Rattle.mh_group.specs.declared.action_name.ActionName.TheVariants as action
-use Rattle.mh_group.specs.Table.{attribute_number, is_group_class, is_scene}
+use Rattle.mh_group.specs.Table.{attribute_number, is_group_class, is_scene, is_application}
 use Rattle.mh_model.specs.declared.act.Act.{Act}
 use Rattle.mh_model.specs.declared.config.Config.{Config}
 use Rattle.mh_model.specs.declared.fault.Fault.{Fault}
@@ -35,7 +35,7 @@ use Rattle.mh_model.specs.Items.{heard, leaving}
 use Rattle.mh_model.specs.Stuck.{is_transition, stuck_act, stuck}
 use Rattle.mh_model.specs.Rules.{started, halted, fits_int, set_value, added, acted, transition_rule, object_rule, rule, is_stopped_at, is_unprepared_at, run_items, is_running_at, halt_items}
 use Rattle.mh_model.specs.Step.{register_of, key_event, key_items, took, done, did, step_by, step, posted, most_steps, stepped, moved, run}
-use Rattle.mh_model.specs.Configuration.{is_application, is_group_of, is_service, scene_objects, present, is_among}
+use Rattle.mh_model.specs.Configuration.{is_group_of, is_service, scene_objects, present, is_among}
 use Rattle.mh_model.specs.Active.{active_actions, fault_of}
 use Rattle.mh_model.specs.Acceptable.{IsAcceptable, leads_into, is_none}
 use Rattle.mh_model.specs.Safe.{Shape, shape, shapes, config_of, is_there, is_fine, IsSafeItem, behind, IsSafeWork, IsSafe, is_scene_if_any}
@@ -97,7 +97,7 @@ acted-shape action.SetPosition (value.Bool b ∷ vs) o = refl
 acted-shape action.SetPosition (value.Octets b ∷ vs) o = refl
 acted-shape action.SetPosition (value.Object r ∷ vs) o = refl
 acted-shape action.SetPosition (value.Content b ∷ vs) o = refl
-acted-shape action.TransitionTo vs o = refl
+acted-shape _ vs o = refl
 
 -- What a safe state knows of its objects.
 

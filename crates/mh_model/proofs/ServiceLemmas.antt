@@ -12,11 +12,11 @@ use Rattle.std.proofs.lemmas.Slice.Eq.{bytes_eq-Decides}
 use Rattle.mh_base.specs.declared.obj_ref.ObjRef.{ObjRef}
 use Rattle.mh_group.specs.declared.class.Class.{Class}
 use Rattle.mh_group.specs.declared.class.Class.TheVariants as class
-use Rattle.mh_group.specs.Table.{is_link, is_group_class, is_scene}
+use Rattle.mh_group.specs.Table.{is_link, is_group_class, is_scene, is_application}
 use Rattle.mh_model.specs.declared.config.Config.{Config}
 use Rattle.mh_model.specs.declared.object.Object.{Object}
 use Rattle.mh_model.specs.Service.{Service, same_ref, object_at, group_ref, group_objects, is_in}
-use Rattle.mh_model.specs.Configuration.{is_application, is_group_of, is_ingredient_of, is_group_list, is_service, scene_objects, present}
+use Rattle.mh_model.specs.Configuration.{is_group_of, is_ingredient_of, is_group_list, is_service, scene_objects, present}
 use Rattle.mh_model.specs.Safe.{is_there, is_scene_if_any}
 
 -- Truth
@@ -173,11 +173,8 @@ found_group g os o h e =
     by o.class is_group
   where
     by : (k : Class) → is_group_class k ≡ true → is_link k ≡ false
-    by class.Application is = refl
-    by class.Scene is = refl
     by class.Link is = absurd cc
-    by class.IntegerVar is = refl
-    by class.Rectangle is = refl
+    by _ is = refl
 
 -- an object that is found under another number is no scene
 pub found_ingredient : (r : ObjRef) (os : List Object) (o : Object) → (r.number == 0) ≡ false → list_all is_whole os ≡ true → object_at r os ≡ Some o → is_scene o.class ≡ false
@@ -189,11 +186,8 @@ found_ingredient r os o other h e =
     by o.class no_group
   where
     by : (k : Class) → not (is_group_class k) ≡ true → is_scene k ≡ false
-    by class.Application is = refl
     by class.Scene is = absurd cc
-    by class.Link is = refl
-    by class.IntegerVar is = refl
-    by class.Rectangle is = refl
+    by _ is = refl
 
 -- an application and a scene are two groups
 apart : (v : Service) (a b : List ℕ) → is_group_of is_application v a ≡ true → is_group_of is_scene v b ≡ true → bytes_eq b a ≡ false
@@ -205,10 +199,7 @@ apart v a b app scene = by (bytes_eq b a) refl
       where
         one : (k : Class) → is_application k ≡ true → is_scene k ≡ true → ⊥
         one class.Application e f = cc
-        one class.Scene e f = cc
-        one class.Link e f = cc
-        one class.IntegerVar e f = cc
-        one class.Rectangle e f = cc
+        one _ e f = cc
 
     by : (t : Bool) → bytes_eq b a ≡ t → t ≡ false
     by true e = absurd (both_of (object_at (group_ref a) (group_objects v a)) app (subst (λ (g : List ℕ). is_group_of is_scene v g ≡ true) ((bytes_eq-Decides b a).0 e) scene))

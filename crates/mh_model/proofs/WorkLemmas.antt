@@ -12,7 +12,7 @@ use Rattle.mh_group.specs.declared.class.Class.{Class}
 use Rattle.mh_group.specs.declared.attribute.Attribute.TheVariants as attribute
 use Rattle.mh_group.specs.declared.action_name.ActionName.{ActionName}
 use Rattle.mh_group.specs.declared.action_name.ActionName.TheVariants as action
-use Rattle.mh_group.specs.Table.{is_link, is_scene, admits}
+use Rattle.mh_group.specs.Table.{is_link, is_scene, admits, is_runnable}
 use Rattle.mh_model.specs.declared.act.Act.{Act}
 use Rattle.mh_model.specs.declared.config.Config.{Config}
 use Rattle.mh_model.specs.declared.event.Event.{Event}
@@ -22,7 +22,7 @@ use Rattle.mh_model.specs.declared.item.Item.TheVariants as item
 use Rattle.mh_model.specs.declared.object.Object.{Object}
 use Rattle.mh_model.specs.Property.{held, as_effect, as_value, as_event}
 use Rattle.mh_model.specs.Service.{Service, same_ref, object_at, group_ref, group_objects, is_in}
-use Rattle.mh_model.specs.Items.{is_runnable, hears_source, hears_type, hears_data, matches, acts, heard, plain_event, is_initially_active, runs, halts, effect_of, entering, is_shared, closing, leaving}
+use Rattle.mh_model.specs.Items.{hears_source, hears_type, hears_data, matches, acts, heard, plain_event, is_initially_active, runs, halts, effect_of, entering, is_shared, closing, leaving}
 use Rattle.mh_model.specs.Stuck.{is_transition, stuck_act}
 use Rattle.mh_model.specs.Configuration.{is_group_of, present, is_among}
 use Rattle.mh_model.specs.Active.{has_source, is_active, actions, fault_of, leads}
@@ -177,9 +177,7 @@ transition_target v c a whole is h = by_number (a.target.number == 0) refl
   where
     admitted : (n : ActionName) → is_transition n ≡ true → (k : Class) → admits k n ≡ true → is_scene k ≡ true
     admitted action.TransitionTo e k f = f
-    admitted action.SetVariable e k f = absurd cc
-    admitted action.Add e k f = absurd cc
-    admitted action.SetPosition e k f = absurd cc
+    admitted _ e k f = absurd cc
 
     if_admitted : (b : Bool) (f : Fault) → is_none (if b then None else Some f) ≡ true → b ≡ true
     if_admitted true f e = refl

@@ -4,18 +4,10 @@ use Rattle.std.specs.List.{list_all, list_any, flat_map}
 use Rattle.std.specs.Option.{option_map_or}
 use Rattle.std.specs.Str.{bytes_eq}
 use Rattle.mh_group.specs.declared.class.Class.{Class}
-use Rattle.mh_group.specs.declared.class.Class.TheVariants as class
-use Rattle.mh_group.specs.Table.{is_group_class, is_scene}
+use Rattle.mh_group.specs.Table.{is_group_class, is_scene, is_application}
 use Rattle.mh_model.specs.declared.config.Config.{Config}
 use Rattle.mh_model.specs.declared.object.Object.{Object}
 use Rattle.mh_model.specs.Service.{Service, object_at, group_ref, group_objects, is_in}
-
-abbrev pub is_application : Class → Bool
-is_application class.Application = true
-is_application class.Scene = false
-is_application class.Link = false
-is_application class.IntegerVar = false
-is_application class.Rectangle = false
 
 -- the group of this name is of such a class: its object with number 0 is
 abbrev pub is_group_of : (Class → Bool) → Service → List ℕ → Bool

@@ -8,11 +8,9 @@ use Rattle.mh_base.specs.declared.value.Value.TheVariants as value
 use Rattle.mh_base.specs.declared.event.EventType.{EventType}
 use Rattle.mh_base.specs.declared.event.EventType.TheVariants as event
 use Rattle.mh_base.specs.Event.{number_of}
-use Rattle.mh_group.specs.declared.class.Class.{Class}
-use Rattle.mh_group.specs.declared.class.Class.TheVariants as class
 use Rattle.mh_group.specs.declared.attribute.Attribute.{Attribute}
 use Rattle.mh_group.specs.declared.attribute.Attribute.TheVariants as attribute
-use Rattle.mh_group.specs.Table.{is_link}
+use Rattle.mh_group.specs.Table.{is_link, is_runnable}
 use Rattle.mh_model.specs.declared.act.Act.{Act}
 use Rattle.mh_model.specs.declared.event.Event.{Event}
 use Rattle.mh_model.specs.declared.item.Item.{Item}
@@ -20,22 +18,6 @@ use Rattle.mh_model.specs.declared.item.Item.TheVariants as item
 use Rattle.mh_model.specs.declared.object.Object.{Object}
 use Rattle.mh_model.specs.Property.{held, as_bool, as_value, as_event, as_effect}
 use Rattle.mh_model.specs.Service.{same_ref, object_at, group_ref, is_in}
-
--- links and all that can be shown can run
-abbrev pub is_runnable : Class → Bool
-is_runnable class.Link = true
-is_runnable class.Rectangle = true
-is_runnable class.Application = false
-is_runnable class.Scene = false
-is_runnable class.IntegerVar = false
-
--- what can be shown has a place on the display stack
-abbrev pub is_visible : Class → Bool
-is_visible class.Rectangle = true
-is_visible class.Link = false
-is_visible class.Application = false
-is_visible class.Scene = false
-is_visible class.IntegerVar = false
 
 -- values are the same where their kinds are, too
 abbrev pub same_value : Value → Value → Bool

@@ -5,13 +5,13 @@ use Rattle.mh_base.specs.declared.colour.Colour.{Colour}
 use Rattle.mh_base.specs.declared.area.Area.{Area}
 use Rattle.mh_base.specs.declared.obj_ref.ObjRef.{ObjRef}
 use Rattle.mh_group.specs.declared.attribute.Attribute.TheVariants as attribute
+use Rattle.mh_group.specs.Table.{is_visible}
 use Rattle.mh_model.specs.declared.object.Object.{Object}
 use Rattle.mh_model.specs.declared.visible.Visible.{Visible}
 use Rattle.mh_model.specs.declared.cell.Cell.{Cell}
 use Rattle.mh_model.specs.Planes.{Planes}
 use Rattle.mh_model.specs.Property.{held, as_pair, as_int, as_colour}
 use Rattle.mh_model.specs.Service.{object_at}
-use Rattle.mh_model.specs.Items.{is_visible}
 use Rattle.mh_model.specs.State.{State}
 
 -- a plane, made number by number

@@ -9,6 +9,7 @@ use Rattle.mh_base.specs.declared.event.EventType.TheVariants as event
 use Rattle.mh_group.specs.declared.action_name.ActionName.{ActionName}
 use Rattle.mh_group.specs.declared.action_name.ActionName.TheVariants as action
 use Rattle.mh_group.specs.declared.attribute.Attribute.TheVariants as attribute
+use Rattle.mh_group.specs.Table.{is_visible}
 use Rattle.mh_model.specs.declared.act.Act.{Act}
 use Rattle.mh_model.specs.declared.item.Item.{Item}
 use Rattle.mh_model.specs.declared.item.Item.TheVariants as item
@@ -19,7 +20,7 @@ use Rattle.mh_model.specs.Property.{held, with_held, as_int}
 use Rattle.mh_model.specs.Service.{same_ref, object_at, group_objects, is_in}
 use Rattle.mh_model.specs.State.{State}
 use Rattle.mh_model.specs.Stuck.{is_transition}
-use Rattle.mh_model.specs.Items.{is_visible, plain_event, heard, entering, leaving}
+use Rattle.mh_model.specs.Items.{plain_event, heard, entering, leaving}
 
 -- the objects with the one at this reference changed
 abbrev pub changed : (Object → Object) → ObjRef → List Object → List Object
@@ -73,7 +74,7 @@ added m n o = if fits_int (m +ℤ n) then set_value (value.Int (m +ℤ n)) o els
 abbrev pub set_position : ℤ → ℤ → Object → Object
 set_position x y o = record o { properties = with_held attribute.OrigPosition (of.Pair x y) o.properties }
 
--- what the action makes of its target
+-- what the action makes of its target; an action that is not played yet changes nothing
 abbrev pub acted : ActionName → List Value → Object → Object
 acted action.SetVariable (v ∷ []) o = set_value v o
 acted action.Add (value.Int n ∷ []) o = added (as_int (pos 0) (held attribute.OrigValue o.properties)) n o

@@ -5,7 +5,7 @@ use Rattle.mh_base.specs.declared.obj_ref.ObjRef.{ObjRef}
 use Rattle.mh_base.specs.declared.value.Value.{Value}
 use Rattle.mh_group.specs.declared.class.Class.{Class}
 use Rattle.mh_group.specs.declared.attribute.Attribute.TheVariants as attribute
-use Rattle.mh_group.specs.Table.{is_scene}
+use Rattle.mh_group.specs.Table.{is_scene, is_application}
 use Rattle.mh_model.specs.declared.act.Act.{Act}
 use Rattle.mh_model.specs.declared.config.Config.{Config}
 use Rattle.mh_model.specs.declared.item.Item.{Item}
@@ -14,7 +14,7 @@ use Rattle.mh_model.specs.declared.object.Object.{Object}
 use Rattle.mh_model.specs.Property.{held, as_effect, as_value}
 use Rattle.mh_model.specs.Service.{Service, object_at, group_ref}
 use Rattle.mh_model.specs.State.{State}
-use Rattle.mh_model.specs.Configuration.{is_application, is_group_of, present, is_among}
+use Rattle.mh_model.specs.Configuration.{is_group_of, present, is_among}
 use Rattle.mh_model.specs.Active.{fault_of}
 use Rattle.mh_model.specs.Acceptable.{IsAcceptable, leads_into, is_none}
 

@@ -16,9 +16,7 @@ use Rattle.mh_model.specs.State.{State}
 
 abbrev pub is_transition : ActionName → Bool
 is_transition action.TransitionTo = true
-is_transition action.SetVariable = false
-is_transition action.Add = false
-is_transition action.SetPosition = false
+is_transition _ = false
 
 -- The class of an action's target, if it is there, where these objects are present. To a transition each
 -- group of the service is.

@@ -18,6 +18,8 @@ pub enum Held {
     Colour(Colour),
     Event(EventType),
     Effect(Effect),
+    /// A value that is kept and that nothing looks at.
+    Kept,
 }
 
 /// An attribute with its value.

@@ -2,11 +2,11 @@
 use Rattle.std.proofs.Common.{◌≡◌, ℕ, Bool, true, false, cond, ◌&&◌, List, [], ◌∷◌, ◌++◌, map, filter, Some, None, refl}
 use Rattle.std.specs.List.{IsDistinct, AllByRecursion, flat_map}
 use Rattle.std.specs.Str.{bytes_eq}
-use Rattle.mh_group.specs.Table.{is_scene}
+use Rattle.mh_group.specs.Table.{is_scene, is_application}
 use Rattle.mh_model.specs.declared.config.Config.{Config}
 use Rattle.mh_model.specs.declared.object.Object.{Object}
 use Rattle.mh_model.specs.Service.{Service}
-use Rattle.mh_model.specs.Configuration.{same_config, same_scene, with_scenes, configurations, names, is_group_of, is_application}
+use Rattle.mh_model.specs.Configuration.{same_config, same_scene, with_scenes, configurations, names, is_group_of}
 
 no_if_not : (a b : Bool) → a ≡ false → (a && b) ≡ false
 no_if_not true b h = cc

@@ -6,19 +6,17 @@ use Rattle.std.specs.Prelude.{unwrap_or, is_none}
 use Rattle.std.specs.Str.{bytes_eq}
 use Rattle.std.specs.Cmp.Lexicographic.{nat_list_eq_equiv}
 use Rattle.std.proofs.lemmas.Slice.Eq.{bytes_eq-Decides}
-use Rattle.mh_group.specs.declared.class.Class.{Class}
-use Rattle.mh_group.specs.declared.class.Class.TheVariants as class
 use Rattle.mh_group.specs.declared.misfit.MisfitWhy.{MisfitWhy}
 use Rattle.mh_group.specs.declared.misfit.MisfitWhy.TheVariants as misfit
 use Rattle.mh_group.specs.declared.written.Ingredient.{Ingredient}
 use Rattle.mh_group.specs.declared.written.Written.{Written}
-use Rattle.mh_group.specs.Table.{is_group_class}
+use Rattle.mh_group.specs.Table.{is_group_class, is_application}
 use Rattle.mh_group.specs.Fit.{is_group, misfit_of, fields_misfit, ingredient_misfit, ingredients_misfit, items_of}
 use Rattle.mh_model.specs.declared.object.Object.{Object}
 use Rattle.mh_model.specs.Service.{object_at, group_ref}
-use Rattle.mh_model.specs.Configuration.{is_service, is_group_list, is_ingredient_of, is_application as is_application_class}
+use Rattle.mh_model.specs.Configuration.{is_service, is_group_list, is_ingredient_of}
 use Rattle.mh_service.specs.Resolved.{objects_of, object_of, resolved}
-use Rattle.mh_service.specs.Refusals.{File, double_name, missing_start, double_number, over_limit, has_application, is_application, start_unfit, for_reason, refusal_before}
+use Rattle.mh_service.specs.Refusals.{File, double_name, missing_start, double_number, over_limit, has_application, start_unfit, for_reason, refusal_before}
 use Rattle.mh_service.specs.Limits.{whole_room}
 use Rattle.mh_service.specs.declared.service_error.Why.TheVariants as why
 
@@ -118,27 +116,20 @@ none_again p name seen (f ∷ fs) h k = by (bytes_eq f.0 name) refl (list_any (b
     by false e true d h ih = cc
     by false e false d h ih = ih h
 
-same_class : (c : Class) → is_application c ≡ true → is_application_class c ≡ true
-same_class class.Application h = refl
-same_class class.Scene h = h
-same_class class.Link h = h
-same_class class.IntegerVar h = h
-same_class class.Rectangle h = h
-
 -- the first entry under the name is that of the application
-start_is : (name : List ℕ) (seen : List (List ℕ)) (files : List File) → double_name seen files ≡ None → has_application name files ≡ true → option_map_or (λ o. is_application_class o.class) (object_at (group_ref name) (unwrap_or (option_map (λ e. e.1) (find (λ e. bytes_eq e.0 name) (map resolved files))) [])) false ≡ true
+start_is : (name : List ℕ) (seen : List (List ℕ)) (files : List File) → double_name seen files ≡ None → has_application name files ≡ true → option_map_or (λ o. is_application o.class) (object_at (group_ref name) (unwrap_or (option_map (λ e. e.1) (find (λ e. bytes_eq e.0 name) (map resolved files))) [])) false ≡ true
 start_is name seen [] h k = cc
 start_is name seen (f ∷ fs) h k = by (bytes_eq f.0 name) refl (list_any (bytes_eq f.0) seen) h k (λ h k. start_is name (seen ++ f.0 ∷ []) fs h k)
   where
-    first : (b : Bool) → bytes_eq f.0 name ≡ true → double_name (seen ++ f.0 ∷ []) fs ≡ None → is_application f.1.class ≡ b → (b || list_any (λ (g : File). bytes_eq g.0 name && is_application g.1.class) fs) ≡ true → is_application_class f.1.class ≡ true
-    first true e h d k = same_class f.1.class d
+    first : (b : Bool) → bytes_eq f.0 name ≡ true → double_name (seen ++ f.0 ∷ []) fs ≡ None → is_application f.1.class ≡ b → (b || list_any (λ (g : File). bytes_eq g.0 name && is_application g.1.class) fs) ≡ true → is_application f.1.class ≡ true
+    first true e h d k = d
     first false e h d k =
         let same : f.0 ≡ name = (bytes_eq-Decides f.0 name).0 e in
         let seen_name : list_any (bytes_eq name) (seen ++ f.0 ∷ []) ≡ true = any-last (bytes_eq name) seen f.0 (subst (λ (n : List ℕ). bytes_eq name n ≡ true) (sym same) (same_bytes name)) in
         let none = none_again (λ (g : File). is_application g.1.class) name (seen ++ f.0 ∷ []) fs h seen_name in
         cc
 
-    by : (b : Bool) → bytes_eq f.0 name ≡ b → (c : Bool) → cond c (Some f.0) (double_name (seen ++ f.0 ∷ []) fs) ≡ None → ((b && is_application f.1.class) || list_any (λ (g : File). bytes_eq g.0 name && is_application g.1.class) fs) ≡ true → (double_name (seen ++ f.0 ∷ []) fs ≡ None → list_any (λ (g : File). bytes_eq g.0 name && is_application g.1.class) fs ≡ true → option_map_or (λ (o : Object). is_application_class o.class) (object_at (group_ref name) (unwrap_or (option_map (λ (e : List ℕ × List Object). e.1) (find (λ (e : List ℕ × List Object). bytes_eq e.0 name) (map resolved fs))) [])) false ≡ true) → option_map_or (λ (o : Object). is_application_class o.class) (object_at (group_ref name) (unwrap_or (option_map (λ (e : List ℕ × List Object). e.1) (cond b (Some (resolved f)) (find (λ (e : List ℕ × List Object). bytes_eq e.0 name) (map resolved fs)))) [])) false ≡ true
+    by : (b : Bool) → bytes_eq f.0 name ≡ b → (c : Bool) → cond c (Some f.0) (double_name (seen ++ f.0 ∷ []) fs) ≡ None → ((b && is_application f.1.class) || list_any (λ (g : File). bytes_eq g.0 name && is_application g.1.class) fs) ≡ true → (double_name (seen ++ f.0 ∷ []) fs ≡ None → list_any (λ (g : File). bytes_eq g.0 name && is_application g.1.class) fs ≡ true → option_map_or (λ (o : Object). is_application o.class) (object_at (group_ref name) (unwrap_or (option_map (λ (e : List ℕ × List Object). e.1) (find (λ (e : List ℕ × List Object). bytes_eq e.0 name) (map resolved fs))) [])) false ≡ true) → option_map_or (λ (o : Object). is_application o.class) (object_at (group_ref name) (unwrap_or (option_map (λ (e : List ℕ × List Object). e.1) (cond b (Some (resolved f)) (find (λ (e : List ℕ × List Object). bytes_eq e.0 name) (map resolved fs)))) [])) false ≡ true
     by b e true h k ih = cc
     by true e false h k ih = rw e (first (is_application f.1.class) e h refl k)
     by false e false h k ih = ih h k

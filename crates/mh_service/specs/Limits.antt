@@ -2,6 +2,7 @@
 -- actions in all.
 use Rattle.std.specs.Prelude.{ℕ, ◌+◌, ◌-◌, Bool, ◌&&◌, nat_le, if◌then◌else◌, List, length, Option, Some, None}
 use Rattle.std.specs.List.{sum_by}
+use Rattle.mh_group.specs.declared.written.Member.{Member}
 use Rattle.mh_group.specs.declared.written.Setting.{Setting}
 use Rattle.mh_group.specs.declared.written.Setting.TheVariants as setting
 use Rattle.mh_group.specs.declared.written.Field.{Field}
@@ -10,9 +11,14 @@ use Rattle.mh_group.specs.declared.written.Written.{Written}
 use Rattle.mh_group.specs.Fit.{items_of}
 use Rattle.mh_service.specs.declared.room.Room.{Room}
 
+-- the actions of a member's slots
+abbrev pub member_actions : Member → ℕ
+member_actions m = sum_by (λ slot. length slot) m.slots
+
 -- the actions that are written as the value of one attribute
 abbrev pub setting_actions : Setting → ℕ
 setting_actions (setting.Effect acts) = length acts
+setting_actions (setting.Members members) = sum_by member_actions members
 setting_actions _ = 0
 
 abbrev pub field_actions : Field → ℕ

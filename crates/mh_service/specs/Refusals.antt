@@ -8,6 +8,8 @@ use Rattle.std.specs.Cmp.Lexicographic.{slice_cmp}
 use Rattle.std.specs.Str.{bytes_eq}
 use Rattle.mh_group.specs.declared.class.Class.{Class}
 use Rattle.mh_group.specs.declared.class.Class.TheVariants as class
+use Rattle.mh_group.specs.declared.action_name.ActionName.{ActionName}
+use Rattle.mh_group.specs.declared.action_name.ActionName.TheVariants as action
 use Rattle.mh_group.specs.declared.reference.Generic.{Generic}
 use Rattle.mh_group.specs.declared.reference.Generic.TheVariants as generic
 use Rattle.mh_group.specs.declared.action.Action.{Action}
@@ -19,7 +21,7 @@ use Rattle.mh_group.specs.declared.written.Setting.TheVariants as setting
 use Rattle.mh_group.specs.declared.written.Field.{Field}
 use Rattle.mh_group.specs.declared.written.Ingredient.{Ingredient}
 use Rattle.mh_group.specs.declared.written.Written.{Written}
-use Rattle.mh_group.specs.Table.{class_number}
+use Rattle.mh_group.specs.Table.{class_number, is_application}
 use Rattle.mh_group.specs.Fit.{items_of}
 use Rattle.mh_service.specs.declared.room.Room.{Room}
 use Rattle.mh_service.specs.declared.service_error.Why.{Why}
@@ -65,10 +67,6 @@ double_number files = first_named (λ f. has_double_number f.1) files
 
 -- 33: the start group is no application
 
-abbrev pub is_application : Class → Bool
-is_application class.Application = true
-is_application _ = false
-
 abbrev pub has_application : List ℕ → List File → Bool
 has_application name files = list_any (λ f. bytes_eq f.0 name && is_application f.1.class) files
 
@@ -84,32 +82,49 @@ over_limit r (f ∷ fs) = if has_room r f.1 then over_limit (room_behind r f.1) 
 abbrev pub bad_reference : List File → Option (List ℕ)
 bad_reference files = first_named (λ f. not (group_leads f.0 f.1)) files
 
--- 36: what is not played yet, indirect values and more than one application or scene
+-- 36: what is not played yet: classes, actions and kinds of parameters, indirect values, and more than
+-- one application or scene
+
+abbrev pub is_played_class : Class → Bool
+is_played_class class.Application = true
+is_played_class class.Scene = true
+is_played_class class.Link = true
+is_played_class class.IntegerVar = true
+is_played_class class.Rectangle = true
+is_played_class _ = false
+
+abbrev pub is_played_name : ActionName → Bool
+is_played_name action.TransitionTo = true
+is_played_name action.SetVariable = true
+is_played_name action.Add = true
+is_played_name action.SetPosition = true
+is_played_name _ = false
 
 abbrev pub is_direct : {T : Type 0} → Generic T → Bool
 is_direct (generic.Direct x) = true
 is_direct (generic.Indirect r) = false
 
-abbrev pub is_direct_parameter : Parameter → Bool
-is_direct_parameter (parameter.Int n) = is_direct n
-is_direct_parameter (parameter.Typed (typed.Int n)) = is_direct n
+abbrev pub is_played_parameter : Parameter → Bool
+is_played_parameter (parameter.Int n) = is_direct n
+is_played_parameter (parameter.Typed (typed.Int n)) = is_direct n
+is_played_parameter _ = false
 
-abbrev pub is_direct_action : Action → Bool
-is_direct_action a = is_direct a.target && list_all is_direct_parameter a.parameters
+abbrev pub is_played_action : Action → Bool
+is_played_action a = is_played_name a.name && is_direct a.target && list_all is_played_parameter a.parameters
 
-abbrev pub is_direct_setting : Setting → Bool
-is_direct_setting (setting.Effect acts) = list_all is_direct_action acts
-is_direct_setting _ = true
+abbrev pub is_played_setting : Setting → Bool
+is_played_setting (setting.Effect acts) = list_all is_played_action acts
+is_played_setting _ = true
 
-abbrev pub is_direct_field : Field → Bool
-is_direct_field f = is_direct_setting f.setting
+abbrev pub is_played_field : Field → Bool
+is_played_field f = is_played_setting f.setting
 
-abbrev pub is_direct_ingredient : Ingredient → Bool
-is_direct_ingredient i = list_all is_direct_field i.fields
+abbrev pub is_played_ingredient : Ingredient → Bool
+is_played_ingredient i = is_played_class i.class && list_all is_played_field i.fields
 
--- the group writes no indirect value
-abbrev pub is_direct_group : Written → Bool
-is_direct_group w = list_all is_direct_field w.fields && list_all is_direct_ingredient (items_of w)
+-- all that the group writes is played
+abbrev pub is_played_group : Written → Bool
+is_played_group w = list_all is_played_field w.fields && list_all is_played_ingredient (items_of w)
 
 -- names are in the order of their bytes
 abbrev pub is_before : List ℕ → List ℕ → Bool
@@ -120,7 +135,7 @@ abbrev pub is_further : List File → File → Bool
 is_further files f = list_any (λ g. class_number g.1.class == class_number f.1.class && is_before g.0 f.0) files
 
 abbrev pub is_unplayed : List File → File → Bool
-is_unplayed files f = not (is_direct_group f.1) || is_further files f
+is_unplayed files f = not (is_played_group f.1) || is_further files f
 
 -- the first in order of these names and of the one so far
 abbrev pub least_name : Option (List ℕ) → List (List ℕ) → Option (List ℕ)

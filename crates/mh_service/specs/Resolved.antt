@@ -1,10 +1,11 @@
 -- What a written group means: its objects, with every reference resolved, where all of its names lead
 -- to paths.
-use Rattle.std.specs.Prelude.{ℕ, ℤ, Bool, true, false, ◌&&◌, List, [], ◌∷◌, map, Option}
+use Rattle.std.specs.Prelude.{ℕ, Bool, true, false, ◌&&◌, List, [], ◌∷◌, map, Option, pos}
 use Rattle.std.specs.List.{list_all, find}
 use Rattle.std.specs.Option.{option_map}
 use Rattle.std.specs.Str.{bytes_eq}
 use Rattle.mh_base.specs.Path.{is_path, led_to}
+use Rattle.mh_base.specs.Event.{number_of}
 use Rattle.mh_base.specs.declared.obj_ref.ObjRef.{ObjRef}
 use Rattle.mh_base.specs.declared.value.Value.{Value}
 use Rattle.mh_base.specs.declared.value.Value.TheVariants as value
@@ -16,12 +17,19 @@ use Rattle.mh_group.specs.declared.reference.Generic.TheVariants as generic
 use Rattle.mh_group.specs.declared.action.Action.{Action}
 use Rattle.mh_group.specs.declared.action.Parameter.{Parameter}
 use Rattle.mh_group.specs.declared.action.Parameter.TheVariants as parameter
+use Rattle.mh_group.specs.declared.action.Content.{Content}
+use Rattle.mh_group.specs.declared.action.Content.TheVariants as content
+use Rattle.mh_group.specs.declared.action.EventData.{EventData}
+use Rattle.mh_group.specs.declared.action.EventData.TheVariants as event_data
+use Rattle.mh_group.specs.declared.action.Typed.{Typed}
 use Rattle.mh_group.specs.declared.action.Typed.TheVariants as typed
+use Rattle.mh_group.specs.declared.written.Member.{Member}
 use Rattle.mh_group.specs.declared.written.Setting.{Setting}
 use Rattle.mh_group.specs.declared.written.Setting.TheVariants as setting
 use Rattle.mh_group.specs.declared.written.Field.{Field}
 use Rattle.mh_group.specs.declared.written.Ingredient.{Ingredient}
 use Rattle.mh_group.specs.declared.written.Written.{Written}
+use Rattle.mh_group.specs.Words.{justification_number}
 use Rattle.mh_group.specs.Fit.{items_of}
 use Rattle.mh_model.specs.declared.act.Act.{Act}
 use Rattle.mh_model.specs.declared.object.Held.{Held}
@@ -50,21 +58,79 @@ abbrev pub target_leads : List ℕ → Generic Ref → Bool
 target_leads from (generic.Direct r) = leads from r
 target_leads from (generic.Indirect r) = leads from r
 
-abbrev pub integer_of : List ℕ → Generic ℤ → Value
-integer_of from (generic.Direct n) = value.Int n
-integer_of from (generic.Indirect r) = value.Object (ref_of from r)
+abbrev pub generic_of : {A : Type 0} → (A → Value) → List ℕ → Generic A → Value
+generic_of value_of from (generic.Direct x) = value_of x
+generic_of value_of from (generic.Indirect r) = value.Object (ref_of from r)
 
-abbrev pub integer_leads : List ℕ → Generic ℤ → Bool
-integer_leads from (generic.Direct n) = true
-integer_leads from (generic.Indirect r) = leads from r
+abbrev pub generic_leads : {A : Type 0} → (A → Bool) → List ℕ → Generic A → Bool
+generic_leads value_leads from (generic.Direct x) = value_leads x
+generic_leads value_leads from (generic.Indirect r) = leads from r
 
+-- a value without a name
+abbrev pub is_nameless : {A : Type 0} → A → Bool
+is_nameless x = true
+
+-- the name of a content file leads to a path
+abbrev pub name_leads : List ℕ → List ℕ → Bool
+name_leads from name = is_path (led_to from name)
+
+abbrev pub object_value : List ℕ → Ref → Value
+object_value from r = value.Object (ref_of from r)
+
+abbrev pub content_value : List ℕ → List ℕ → Value
+content_value from name = value.Content (led_to from name)
+
+abbrev pub typed_of : List ℕ → Typed → Value
+typed_of from (typed.Bool x) = generic_of value.Bool from x
+typed_of from (typed.Int x) = generic_of value.Int from x
+typed_of from (typed.Octets x) = generic_of value.Octets from x
+typed_of from (typed.Ref x) = generic_of (object_value from) from x
+typed_of from (typed.ContentRef x) = generic_of (content_value from) from x
+
+abbrev pub typed_leads : List ℕ → Typed → Bool
+typed_leads from (typed.Bool x) = generic_leads is_nameless from x
+typed_leads from (typed.Int x) = generic_leads is_nameless from x
+typed_leads from (typed.Octets x) = generic_leads is_nameless from x
+typed_leads from (typed.Ref x) = generic_leads (leads from) from x
+typed_leads from (typed.ContentRef x) = generic_leads (name_leads from) from x
+
+-- content: the octets of the file, or the name of another
+abbrev pub content_of : List ℕ → Content → Value
+content_of from (content.Included octets) = value.Octets octets
+content_of from (content.Referenced name) = content_value from name
+
+abbrev pub content_leads : List ℕ → Content → Bool
+content_leads from (content.Included octets) = true
+content_leads from (content.Referenced name) = name_leads from name
+
+abbrev pub data_of : EventData → Value
+data_of (event_data.Bool b) = value.Bool b
+data_of (event_data.Int x) = value.Int x
+
+-- what a call is made with stands as no octets, since calls are not played yet
 abbrev pub argument_of : List ℕ → Parameter → Value
-argument_of from (parameter.Int n) = integer_of from n
-argument_of from (parameter.Typed (typed.Int n)) = integer_of from n
+argument_of from (parameter.Bool x) = generic_of value.Bool from x
+argument_of from (parameter.Int x) = generic_of value.Int from x
+argument_of from (parameter.Octets x) = generic_of value.Octets from x
+argument_of from (parameter.Ref x) = generic_of (object_value from) from x
+argument_of from (parameter.Content x) = generic_of (content_of from) from x
+argument_of from (parameter.Data x) = generic_of data_of from x
+argument_of from (parameter.Event e) = value.Int (pos (number_of e))
+argument_of from (parameter.Receiver r) = object_value from r
+argument_of from (parameter.Typed x) = typed_of from x
+argument_of from (parameter.Arguments xs) = value.Octets []
 
 abbrev pub argument_leads : List ℕ → Parameter → Bool
-argument_leads from (parameter.Int n) = integer_leads from n
-argument_leads from (parameter.Typed (typed.Int n)) = integer_leads from n
+argument_leads from (parameter.Bool x) = generic_leads is_nameless from x
+argument_leads from (parameter.Int x) = generic_leads is_nameless from x
+argument_leads from (parameter.Octets x) = generic_leads is_nameless from x
+argument_leads from (parameter.Ref x) = generic_leads (leads from) from x
+argument_leads from (parameter.Content x) = generic_leads (content_leads from) from x
+argument_leads from (parameter.Data x) = generic_leads is_nameless from x
+argument_leads from (parameter.Event e) = true
+argument_leads from (parameter.Receiver r) = leads from r
+argument_leads from (parameter.Typed x) = typed_leads from x
+argument_leads from (parameter.Arguments xs) = list_all (typed_leads from) xs
 
 abbrev pub act_of : List ℕ → Action → Act
 act_of from a = record { name = a.name; target = target_of from a.target; arguments = map (argument_of from) a.parameters }
@@ -78,23 +144,33 @@ abbrev pub octets_held : List ℕ → Held
 octets_held (r ∷ g ∷ b ∷ t ∷ []) = held.Colour (record { red = r; green = g; blue = b; transparency = t })
 octets_held os = held.Value (value.Octets os)
 
+-- a justification is held as its number; what no rule looks at is kept
 abbrev pub held_of : List ℕ → Setting → Held
 held_of from (setting.Bool b) = held.Value (value.Bool b)
 held_of from (setting.Int n) = held.Value (value.Int n)
 held_of from (setting.Pair a b) = held.Pair a b
 held_of from (setting.Octets os) = octets_held os
-held_of from (setting.Ref r) = held.Value (value.Object (ref_of from r))
+held_of from (setting.Ref r) = held.Value (object_value from r)
+held_of from (setting.ContentRef name) = held.Value (content_value from name)
 held_of from (setting.Event e) = held.Event e
+held_of from (setting.Justification j) = held.Value (value.Int (pos (justification_number j)))
 held_of from (setting.Effect acts) = held.Effect (map (act_of from) acts)
+held_of from (setting.MovementTable rows) = held.Kept
+held_of from (setting.Members members) = held.Kept
+held_of from (setting.Positions positions) = held.Kept
+held_of from (setting.NextScenes scenes) = held.Kept
 
+-- the object and the slots of a member
+abbrev pub member_leads : List ℕ → Member → Bool
+member_leads from m = leads from m.object && list_all (λ slot. list_all (act_leads from) slot) m.slots
+
+-- the names of the scenes that may come next are only kept
 abbrev pub setting_leads : List ℕ → Setting → Bool
-setting_leads from (setting.Bool b) = true
-setting_leads from (setting.Int n) = true
-setting_leads from (setting.Pair a b) = true
-setting_leads from (setting.Octets os) = true
 setting_leads from (setting.Ref r) = leads from r
-setting_leads from (setting.Event e) = true
+setting_leads from (setting.ContentRef name) = name_leads from name
 setting_leads from (setting.Effect acts) = list_all (act_leads from) acts
+setting_leads from (setting.Members members) = list_all (member_leads from) members
+setting_leads from _ = true
 
 abbrev pub property_of : List ℕ → Field → Property
 property_of from f = record { attribute = f.attribute; held = held_of from f.setting }

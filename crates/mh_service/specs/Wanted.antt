@@ -1,8 +1,7 @@
 -- Which groups are wanted, by their class.
 use Rattle.std.specs.Prelude.{Bool}
 use Rattle.mh_group.specs.declared.class.Class.{Class}
-use Rattle.mh_group.specs.Table.{is_scene}
-use Rattle.mh_model.specs.Configuration.{is_application}
+use Rattle.mh_group.specs.Table.{is_scene, is_application}
 use Rattle.mh_service.specs.declared.configurations.Wanted.{Wanted}
 use Rattle.mh_service.specs.declared.configurations.Wanted.TheVariants as wanted
 

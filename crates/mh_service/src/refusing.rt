@@ -5,7 +5,8 @@
 ghost use Rattle.std.specs.Prelude.{◌≡◌, ◌&&◌, not, true, false, None, Some, ◌∷◌, [], map, IfOk, OnOk, IfErr};
 ghost use Rattle.std.specs.List.{list_all, list_any};
 ghost use Rattle.std.specs.Option.{option_map, option_copied};
-ghost use Rattle.mh_service.specs.Refusals.{Refuses, for_reason, double_name as double_name_lem, missing_start as missing_start_lem, double_number as double_number_lem, has_double_number as has_double_number_lem, has_double, start_unfit as start_unfit_lem, is_application as is_application_lem, has_group as has_group_lem, has_application as has_application_lem, over_limit as over_limit_lem, least_name, first_unplayed as first_unplayed_lem, is_unplayed as is_unplayed_lem, is_further as is_further_lem, is_before as is_before_lem, is_direct, is_direct_parameter as is_direct_parameter_lem, is_direct_action as is_direct_action_lem, is_direct_setting as is_direct_setting_lem, is_direct_field as is_direct_field_lem, is_direct_ingredient as is_direct_ingredient_lem, is_direct_group as is_direct_group_lem, refusal_before};
+ghost use Rattle.mh_group.specs.Table.{is_application as is_application_lem};
+ghost use Rattle.mh_service.specs.Refusals.{Refuses, for_reason, double_name as double_name_lem, missing_start as missing_start_lem, double_number as double_number_lem, has_double_number as has_double_number_lem, has_double, start_unfit as start_unfit_lem, has_group as has_group_lem, has_application as has_application_lem, over_limit as over_limit_lem, least_name, first_unplayed as first_unplayed_lem, is_unplayed as is_unplayed_lem, is_further as is_further_lem, is_before as is_before_lem, is_direct, is_played_parameter as is_played_parameter_lem, is_played_action as is_played_action_lem, is_played_setting as is_played_setting_lem, is_played_field as is_played_field_lem, is_played_ingredient as is_played_ingredient_lem, is_played_class as is_played_class_lem, is_played_name as is_played_name_lem, is_played_group as is_played_group_lem, refusal_before};
 ghost use Rattle.mh_service.specs.Limits.{whole_room};
 
 use crate::room::Room;
@@ -13,7 +14,8 @@ use crate::{ServiceError, Why};
 use indexmap::IndexSet;
 use mh_base::GroupName;
 use mh_group::{
-    Action, Class, Field, Generic, Group, Ingredient, Parameter, Setting, Typed, Written, group,
+    Action, ActionName, Class, Field, Generic, Group, Ingredient, Parameter, Setting, Typed,
+    Written, group,
 };
 use std::alloc::{AllocError, Global};
 
@@ -146,8 +148,8 @@ fn over_limit(files: &[(GroupName, Group)]) -> Option<&GroupName>
     None
 }
 
-/// The first group in order of name that is not played yet: one that writes an indirect value, and each
-/// application or scene but the first.
+/// The first group in order of name that is not played yet: one that writes a class, an action, a kind of
+/// parameter or an indirect value that is not played, and each application or scene but the first.
 pub fn first_unplayed(files: &[(GroupName, Group)]) -> Option<&GroupName>
     ensures { option_copied result ≡ first_unplayed_lem files.now }
 {
@@ -179,7 +181,7 @@ fn is_before(first: &GroupName, second: &GroupName) -> bool
 fn is_unplayed(files: &[(GroupName, Group)], file: &(GroupName, Group)) -> bool
     ensures { result ≡ is_unplayed_lem files.now file.now }
 {
-    !is_direct_group(file.1.written()) || is_further(files, file)
+    !is_played_group(file.1.written()) || is_further(files, file)
 }
 
 /// Whether a group of the same class has a name before this one.
@@ -191,60 +193,93 @@ fn is_further(files: &[(GroupName, Group)], file: &(GroupName, Group)) -> bool
         && is_before(&other.0, &file.0))
 }
 
-/// Whether the group writes no indirect value.
-fn is_direct_group(written: &Written) -> bool
-    ensures { result ≡ is_direct_group_lem written.now }
+/// Whether all that the group writes is played.
+fn is_played_group(written: &Written) -> bool
+    ensures { result ≡ is_played_group_lem written.now }
 {
-    are_direct_fields(written.fields.as_slice()) && are_direct_ingredients(group::items(written))
+    are_played_fields(written.fields.as_slice()) && are_played_ingredients(group::items(written))
 }
 
-fn are_direct_ingredients(ingredients: &[Ingredient]) -> bool
-    ensures { result ≡ list_all is_direct_ingredient_lem ingredients.now }
+fn are_played_ingredients(ingredients: &[Ingredient]) -> bool
+    ensures { result ≡ list_all is_played_ingredient_lem ingredients.now }
 {
-    ingredients.iter().all(|ingredient| are_direct_fields(ingredient.fields.as_slice()))
+    ingredients
+        .iter()
+        .all(|ingredient| is_played_ingredient(ingredient))
 }
 
-fn are_direct_fields(fields: &[Field]) -> bool
-    ensures { result ≡ list_all is_direct_field_lem fields.now }
+fn is_played_ingredient(ingredient: &Ingredient) -> bool
+    ensures { result ≡ is_played_ingredient_lem ingredient.now }
 {
-    fields.iter().all(|field| is_direct_setting(&field.setting))
+    is_played_class(ingredient.class) && are_played_fields(ingredient.fields.as_slice())
 }
 
-fn is_direct_setting(setting: &Setting) -> bool
-    ensures { result ≡ is_direct_setting_lem setting.now }
+fn is_played_class(class: Class) -> bool
+    ensures { result ≡ is_played_class_lem class }
+{
+    matches!(
+        class,
+        Class::Application | Class::Scene | Class::Link | Class::IntegerVar | Class::Rectangle
+    )
+}
+
+fn is_played_name(name: ActionName) -> bool
+    ensures { result ≡ is_played_name_lem name }
+{
+    matches!(
+        name,
+        ActionName::TransitionTo
+            | ActionName::SetVariable
+            | ActionName::Add
+            | ActionName::SetPosition
+    )
+}
+
+fn are_played_fields(fields: &[Field]) -> bool
+    ensures { result ≡ list_all is_played_field_lem fields.now }
+{
+    fields.iter().all(|field| is_played_setting(&field.setting))
+}
+
+fn is_played_setting(setting: &Setting) -> bool
+    ensures { result ≡ is_played_setting_lem setting.now }
 {
     match setting {
-        Setting::Effect(actions) => are_direct_actions(actions.as_slice()),
+        Setting::Effect(actions) => are_played_actions(actions.as_slice()),
         _ => true,
     }
 }
 
-fn are_direct_actions(actions: &[Action]) -> bool
-    ensures { result ≡ list_all is_direct_action_lem actions.now }
+fn are_played_actions(actions: &[Action]) -> bool
+    ensures { result ≡ list_all is_played_action_lem actions.now }
 {
-    actions.iter().all(|action| is_direct_action(action))
+    actions.iter().all(|action| is_played_action(action))
 }
 
-fn is_direct_action(action: &Action) -> bool
-    ensures { result ≡ is_direct_action_lem action.now }
+fn is_played_action(action: &Action) -> bool
+    ensures { result ≡ is_played_action_lem action.now }
 {
+    if !is_played_name(action.name) {
+        return false;
+    }
     matches!(action.target, Generic::Direct(_))
-        && are_direct_parameters(action.parameters.as_slice())
+        && are_played_parameters(action.parameters.as_slice())
 }
 
-fn are_direct_parameters(parameters: &[Parameter]) -> bool
-    ensures { result ≡ list_all is_direct_parameter_lem parameters.now }
+fn are_played_parameters(parameters: &[Parameter]) -> bool
+    ensures { result ≡ list_all is_played_parameter_lem parameters.now }
 {
     parameters
         .iter()
-        .all(|parameter| is_direct_parameter(parameter))
+        .all(|parameter| is_played_parameter(parameter))
 }
 
-fn is_direct_parameter(parameter: &Parameter) -> bool
-    ensures { result ≡ is_direct_parameter_lem parameter.now }
+fn is_played_parameter(parameter: &Parameter) -> bool
+    ensures { result ≡ is_played_parameter_lem parameter.now }
 {
     match parameter {
         Parameter::Int(number) => matches!(number, Generic::Direct(_)),
         Parameter::Typed(Typed::Int(number)) => matches!(number, Generic::Direct(_)),
+        _ => false,
     }
 }

@@ -2,11 +2,11 @@
 //!
 //! Promise: no count can overflow, however much a group writes. Which group is refused is left to
 //! `refusing`.
-ghost use Rattle.std.specs.Prelude.{◌≡◌, ◌≤◌, ◌-◌, SomeIff};
+ghost use Rattle.std.specs.Prelude.{◌≡◌, ◌≤◌, ◌-◌, SomeIff, length};
 ghost use Rattle.std.specs.List.{sum_by};
-ghost use Rattle.mh_service.specs.Limits.{whole_room as whole_room_lem, room_after, group_actions, object_actions, field_actions, ingredient_actions, setting_actions};
+ghost use Rattle.mh_service.specs.Limits.{whole_room as whole_room_lem, room_after, group_actions, object_actions, field_actions, ingredient_actions, member_actions, setting_actions};
 
-use mh_group::{Field, Ingredient, Setting, Written, group};
+use mh_group::{Effect, Field, Ingredient, Member, Setting, Written, group};
 
 /// The most groups of a service.
 pub const MOST_GROUPS: usize = 256;
@@ -80,16 +80,43 @@ fn behind_object(room: usize, fields: &[Field]) -> Option<usize>
 {
     let mut left = room;
     for field in fields {
-        left = left.checked_sub(actions_of(&field.setting))?;
+        left = behind_setting(left, &field.setting)?;
     }
     Some(left)
 }
 
-fn actions_of(setting: &Setting) -> usize
-    ensures { result ≡ setting_actions setting.now }
+fn behind_setting(room: usize, setting: &Setting) -> Option<usize>
+    ensures { SomeIff result (setting_actions setting.now ≤ room) (room - setting_actions setting.now) }
 {
     match setting {
-        Setting::Effect(actions) => actions.len(),
-        _ => 0,
+        Setting::Effect(actions) => room.checked_sub(actions.len()),
+        Setting::Members(members) => behind_members(room, members.as_slice()),
+        _ => Some(room),
     }
+}
+
+fn behind_members(room: usize, members: &[Member]) -> Option<usize>
+    ensures { SomeIff result (sum_by member_actions members.now ≤ room) (room - sum_by member_actions members.now) }
+{
+    let mut left = room;
+    for member in members {
+        left = behind_member(left, member)?;
+    }
+    Some(left)
+}
+
+fn behind_member(room: usize, member: &Member) -> Option<usize>
+    ensures { SomeIff result (member_actions member.now ≤ room) (room - member_actions member.now) }
+{
+    behind_slots(room, member.slots.as_slice())
+}
+
+fn behind_slots(room: usize, slots: &[Effect]) -> Option<usize>
+    ensures { SomeIff result (sum_by (λ slot. length slot) slots.now ≤ room) (room - sum_by (λ slot. length slot) slots.now) }
+{
+    let mut left = room;
+    for slot in slots {
+        left = left.checked_sub(slot.len())?;
+    }
+    Some(left)
 }

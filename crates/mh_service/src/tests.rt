@@ -1,8 +1,8 @@
 use crate::{Service, ServiceError, double_name};
 use mh_base::{EventType, GroupName, NameError, ObjRef, Octets, Seq, Value};
 use mh_group::{
-    Action, ActionName, Attribute, Class, Field, Generic, Group, Ingredient, Number, Parameter,
-    Ref, Setting, Written, WrittenName,
+    Action, ActionName, Attribute, Class, Field, Generic, Group, Ingredient, Member, Number,
+    Parameter, Ref, Setting, Written, WrittenName,
 };
 use mh_model::{Held, Object};
 use std::alloc::{AllocError, Global};
@@ -24,6 +24,14 @@ enum Flaw {
     Indirect,
     /// They go through a variable of a group above the folder.
     BadIndirect,
+    /// It has a token group, which is not played.
+    TokenGroup,
+    /// The member of its token group is an object above the folder.
+    Member,
+    /// The slot of that member has an action with a target above the folder.
+    Slot,
+    /// Its actions lock the screen, which is not played.
+    Lock,
 }
 
 /// A group: its name of one letter, its class, how many variables it has, and how many actions.
@@ -49,13 +57,18 @@ fn reference(alloc: Global, name: &[u8]) -> Result<Ref, Fail> {
 
 fn transition(alloc: Global, flaw: Flaw) -> Result<Action, Fail> {
     let target = match flaw {
-        Flaw::Target => Generic::Direct(reference(alloc, b"../x")?),
+        Flaw::Target | Flaw::Slot => Generic::Direct(reference(alloc, b"../x")?),
         Flaw::Indirect => Generic::Indirect(reference(alloc, b"~/x")?),
         Flaw::BadIndirect => Generic::Indirect(reference(alloc, b"..")?),
         _ => Generic::Direct(reference(alloc, b"x")?),
     };
+    let name = if flaw == Flaw::Lock {
+        ActionName::LockScreen
+    } else {
+        ActionName::TransitionTo
+    };
     Ok(Action {
-        name: ActionName::TransitionTo,
+        name,
         target,
         parameters: Seq::new(alloc),
     })
@@ -114,6 +127,22 @@ fn link(alloc: Global, source: &[u8], variable: Ref) -> Result<Ingredient, Fail>
     })
 }
 
+/// A token group with one member, which has one slot with one action.
+fn token_group(alloc: Global, flaw: Flaw) -> Result<Ingredient, Fail> {
+    let path: &[u8] = if flaw == Flaw::Member { b".." } else { b"x" };
+    let slot = transitions(alloc, 1, flaw)?;
+    let member = Member {
+        object: reference(alloc, path)?,
+        slots: Seq::from_vec(vec![in alloc; slot]?),
+    };
+    let members = Setting::Members(Seq::from_vec(vec![in alloc; member]?));
+    Ok(Ingredient {
+        class: Class::TokenGroup,
+        number: number(6000)?,
+        fields: fields(alloc, Attribute::TokenGroupItems, members)?,
+    })
+}
+
 fn ingredients(alloc: Global, count: u32, flaw: Flaw) -> Result<Seq<Ingredient>, Fail> {
     let mut items = Seq::new(alloc);
     for i in 1..count {
@@ -126,6 +155,7 @@ fn ingredients(alloc: Global, count: u32, flaw: Flaw) -> Result<Seq<Ingredient>,
     match flaw {
         Flaw::Source => items.push(link(alloc, b"x//y", Ref::Here(number(20)?))?)?,
         Flaw::LinkTarget => items.push(link(alloc, b"x", reference(alloc, b"~/y/")?)?)?,
+        Flaw::TokenGroup | Flaw::Member | Flaw::Slot => items.push(token_group(alloc, flaw)?)?,
         _ => {}
     }
     Ok(items)
@@ -270,7 +300,9 @@ fn finds_names_that_came_before(rt: HostRuntime) -> Result<(), Fail> {
 
 #[test]
 fn looks_at_each_name(rt: HostRuntime) -> Result<(), Fail> {
-    let cases: [(&str, &[Plan], u32, u8); 5] = [
+    let cases: [(&str, &[Plan], u32, u8); 7] = [
+        ("a bad member", &[(b'a', APP, 0, 0, Flaw::Member)], 35, b'a'),
+        ("a bad slot", &[(b'a', APP, 0, 0, Flaw::Slot)], 35, b'a'),
         (
             "targets lead somewhere",
             &[
@@ -316,7 +348,9 @@ fn looks_at_each_name(rt: HostRuntime) -> Result<(), Fail> {
 
 #[test]
 fn names_what_is_not_played(rt: HostRuntime) -> Result<(), Fail> {
-    let cases: [(&str, &[Plan], u32, u8); 4] = [
+    let cases: [(&str, &[Plan], u32, u8); 6] = [
+        ("a class", &[(b'a', APP, 0, 0, Flaw::TokenGroup)], 36, b'a'),
+        ("an action", &[(b'a', APP, 0, 1, Flaw::Lock)], 36, b'a'),
         (
             "an indirect target",
             &[
@@ -367,7 +401,13 @@ fn names_what_is_not_played(rt: HostRuntime) -> Result<(), Fail> {
 
 #[test]
 fn keeps_the_limits(rt: HostRuntime) -> Result<(), Fail> {
-    let cases: [(&str, &[Plan], u32, u8); 6] = [
+    let cases: [(&str, &[Plan], u32, u8); 7] = [
+        (
+            "65536 actions, one of them in a slot",
+            &[(b'a', APP, 0, 65535, Flaw::TokenGroup)],
+            34,
+            b'a',
+        ),
         (
             "1024 ingredients",
             &[(b'a', APP, 1024, 0, Flaw::Nothing)],

@@ -8,7 +8,9 @@ use Rattle.mh_group.specs.declared.attribute.Attribute.TheVariants as attribute
 use Rattle.mh_group.specs.declared.written.Field.{Field}
 use Rattle.mh_group.specs.declared.written.Ingredient.{Ingredient}
 use Rattle.mh_group.specs.declared.written.Written.{Written as Group}
-use Rattle.mh_group.specs.Table.{shape_of, takes, is_group_class}
+use Rattle.mh_group.specs.declared.class.Class.TheVariants as class
+use Rattle.mh_group.specs.declared.shape.Shape.TheVariants as shape
+use Rattle.mh_group.specs.Table.{value_shape, shape_of, takes, is_group_class, is_list_group}
 use Rattle.mh_group.specs.Words.{class_word, attribute_word}
 use Rattle.mh_text.specs.declared.token_kind.TokenKind.TheVariants as kind
 use Rattle.mh_text.specs.declared.sign.Sign.{Sign}
@@ -20,8 +22,8 @@ use Rattle.mh_text.specs.Spelling.{IsNamed, IsNumber, AreSeveral, IsListOf, IsFi
 use Rattle.mh_text.specs.Reading.{next, is_same, is_close_brace, is_open_brace, opened, closed, braced, refused_at, name_of, number_of, ingredient_number_of, setting, has_attribute, attribute_of, placed, is_items_shape, is_items, next_field, gathered, fields, fields_behind_items, complete, class_of, ingredient, items, identifier, body, group}
 use Rattle.mh_text.proofs.SignLemmas.{class_spelled, attribute_spelled}
 use Rattle.mh_text.proofs.PieceLemmas.{kind_of, word_of, as_word, words, IsGood, AreGood, Passes, PassesFrom, went, if_ok, if_not_ok, ok_same, went_on}
-use Rattle.mh_text.proofs.FoundLemmas.{first_word, first_integer, moved, moved_from, opened_found, closed_found, braced_found, is_open_brace_word, is_close_brace_word, name_found, number_found, listed_found}
-use Rattle.mh_text.proofs.FoundSettings.{between, setting_found}
+use Rattle.mh_text.proofs.FoundLemmas.{first_word, first_integer, moved, moved_from, opened_found, closed_found, braced_found, is_open_brace_word, is_close_brace_word, name_found, number_found, from_piece, list_found}
+use Rattle.mh_text.proofs.FoundSettings.{setting_found}
 use Rattle.mh_text.proofs.FieldLemmas.{Has, Apart, has_contained, contains_had, has_left, has_right, has_either, has_placed_parts, has_placed_new, has_placed_old, apart_first, once_first, once_both}
 
 -- the attribute that a token names
@@ -54,7 +56,7 @@ attribute_found c done p a good e = attribute_from c done p.sign p.start p.text 
 
 -- the token at which fields end
 abbrev Ends : Class → Piece → Type 0
-Ends c p = (is_close_brace p.sign ≡ true) ⊎ ((a : Attribute) × (p.sign ≡ sign.Attribute a) × (is_items_shape (shape_of a) ≡ true) × (takes c a ≡ true) × (word_of p ≡ as_word kind.Keyword (58 ∷ attribute_word a)))
+Ends c p = (is_close_brace p.sign ≡ true) ⊎ ((a : Attribute) × (p.sign ≡ sign.Attribute a) × (is_items_shape (shape_of c a) ≡ true) × (takes c a ≡ true) × (word_of p ≡ as_word kind.Keyword (58 ∷ attribute_word a)))
 
 record EndsAt (c : Class) (p : Piece) (left rest : Left) : Type 0 where
   pub ends : Ends c p
@@ -74,8 +76,8 @@ StepAt c done None p left rest = EndsAt c p left rest
 StepAt c done (Some f) p left rest = FieldAt done f left rest
 
 field_if : (c : Class) (done : List Field) (b : Bool) (a : Attribute) (q : Piece) (left behind : Left) (o : Option Field) (p : Piece) (rest : Left)
-    → is_items_shape (shape_of a) ≡ b → Names c done q a → IsGood q → words left ≡ word_of q ∷ words behind → AreGood behind.pieces → behind.wrong ≡ left.wrong
-    → if◌then◌else◌ {A = Result (Option Field × Piece × Left) Refusal} b (Ok (None, q, behind)) (setting (shape_of a) behind >>= λ x. Ok (Some (record { attribute = a; setting = x.0 }), q, x.1)) ≡ Ok (o, p, rest)
+    → is_items_shape (shape_of c a) ≡ b → Names c done q a → IsGood q → words left ≡ word_of q ∷ words behind → AreGood behind.pieces → behind.wrong ≡ left.wrong
+    → if◌then◌else◌ {A = Result (Option Field × Piece × Left) Refusal} b (Ok (None, q, behind)) (setting (shape_of c a) behind >>= λ x. Ok (Some (record { attribute = a; setting = x.0 }), q, x.1)) ≡ Ok (o, p, rest)
     → StepAt c done o p left rest
 field_if c done true a q left behind o p rest h names is_good written good wrong e =
     subst (λ (z : Option Field × Piece × Left). StepAt c done z.0 z.1 left z.2) (ok_same e) (record {
@@ -86,8 +88,8 @@ field_if c done true a q left behind o p rest h names is_good written good wrong
       wrong = wrong;
     })
 field_if c done false a q left behind o p rest h names is_good written good wrong e =
-    let x = went (setting (shape_of a) behind) (λ x. Ok (Some (record { attribute = a; setting = x.0 }), q, x.1)) (o, p, rest) e in
-    let found = setting_found (shape_of a) behind x.value.0 x.value.1 good x.first in
+    let x = went (setting (shape_of c a) behind) (λ x. Ok (Some (record { attribute = a; setting = x.0 }), q, x.1)) (o, p, rest) e in
+    let found = setting_found (shape_of c a) behind x.value.0 x.value.1 good x.first in
     subst (λ (z : Option Field × Piece × Left). StepAt c done z.0 z.1 left z.2) (ok_same x.behind) (record {
       spells = (words behind, first_word (words left) (word_of q) _ (words behind) written names.written, found.spells);
       free = names.free;
@@ -98,8 +100,8 @@ field_if c done false a q left behind o p rest h names is_good written good wron
 brace_if : (c : Class) (done : List Field) (b : Bool) (q : Piece) (left behind : Left) (o : Option Field) (p : Piece) (rest : Left)
     → is_close_brace q.sign ≡ b → IsGood q → words left ≡ word_of q ∷ words behind → AreGood behind.pieces → behind.wrong ≡ left.wrong
     → if◌then◌else◌ {A = Result (Option Field × Piece × Left) Refusal} b (Ok (None, q, behind))
-    (attribute_of c done q >>= λ name. if◌then◌else◌ {A = Result (Option Field × Piece × Left) Refusal} (is_items_shape (shape_of name)) (Ok (None, q, behind))
-    (setting (shape_of name) behind >>= λ x. Ok (Some (record { attribute = name; setting = x.0 }), q, x.1))) ≡ Ok (o, p, rest)
+    (attribute_of c done q >>= λ name. if◌then◌else◌ {A = Result (Option Field × Piece × Left) Refusal} (is_items_shape (shape_of c name)) (Ok (None, q, behind))
+    (setting (shape_of c name) behind >>= λ x. Ok (Some (record { attribute = name; setting = x.0 }), q, x.1))) ≡ Ok (o, p, rest)
     → StepAt c done o p left rest
 brace_if c done true q left behind o p rest h is_good written good wrong e =
     subst (λ (z : Option Field × Piece × Left). StepAt c done z.0 z.1 left z.2) (ok_same e) (record {
@@ -111,7 +113,7 @@ brace_if c done true q left behind o p rest h is_good written good wrong e =
     })
 brace_if c done false q left behind o p rest h is_good written good wrong e =
     let a = went (attribute_of c done q) _ (o, p, rest) e in
-    field_if c done (is_items_shape (shape_of a.value)) a.value q left behind o p rest refl (attribute_found c done q a.value is_good a.first) is_good written good wrong a.behind
+    field_if c done (is_items_shape (shape_of c a.value)) a.value q left behind o p rest refl (attribute_found c done q a.value is_good a.first) is_good written good wrong a.behind
 
 next_field_found : (c : Class) (done : List Field) (left : Left) (o : Option Field) (p : Piece) (rest : Left) → AreGood left.pieces → next_field c done left ≡ Ok (o, p, rest) → StepAt c done o p left rest
 unfolding next_field
@@ -201,8 +203,23 @@ same_false : (b : Bool) → is_same b false ≡ true → b ≡ false
 same_false true h = absurd cc
 same_false false h = refl
 
-items_taken : (a : Attribute) (c : Class) → is_items_shape (shape_of a) ≡ true → (takes c a ≡ is_group_class c) × (a ≡ attribute.Items)
+-- only the attribute of the items has their shape
+pub value_no_items : (c : Class) → is_items_shape (value_shape c) ≡ false
+value_no_items class.Application = refl
+value_no_items _ = refl
+
+pub members_no_items : (b : Bool) → is_items_shape (if b then shape.ListItems else shape.Members) ≡ false
+members_no_items true = refl
+members_no_items false = refl
+
+items_taken : (a : Attribute) (c : Class) → is_items_shape (shape_of c a) ≡ true → (takes c a ≡ is_group_class c) × (a ≡ attribute.Items)
 items_taken attribute.Items c h = (refl, refl)
+items_taken attribute.OrigValue c h =
+    let none = value_no_items c in
+    absurd cc
+items_taken attribute.TokenGroupItems c h =
+    let none = members_no_items (is_list_group c) in
+    absurd cc
 items_taken _ c h = absurd cc
 
 ends_brace : (c : Class) (p : Piece) → Ends c p → is_group_class c ≡ false → is_close_brace p.sign ≡ true
@@ -252,9 +269,9 @@ ingredient_found p left x rest is_good good e =
 items_found : (left : Left) (xs : List Ingredient) (rest : Left) → AreGood left.pieces → items left ≡ Ok (xs, rest) → Passes (IsListOf IsIngredient xs) left rest
 unfolding items
 items_found left xs rest good e =
-    let a = went (opened left) _ (xs, rest) e in
-    let opens = opened_found left a.value good a.first in
-    between IsIngredient ingredient ingredient_found xs left a.value rest opens (listed_found ingredient IsIngredient ingredient_found 4096 [] xs a.value rest opens.good a.behind)
+    let a = went_on left _ (xs, rest) good e in
+    from_piece (IsListOf IsIngredient xs) left a.rest rest a.piece a.written a.wrong
+    (list_found ingredient IsIngredient ingredient_found 4096 (omega arith) a.piece a.rest xs rest a.is_good a.good a.behind)
 
 -- the group
 is_zero : (n : ℕ) → (n == 0) ≡ true → n ≡ 0
@@ -287,33 +304,33 @@ identifier_found left name rest good e =
       wrong = closes.wrong ∙ c.wrong ∙ b.wrong ∙ opens.wrong;
     })
 
-brace_no_items : (s : Sign) → is_close_brace s ≡ true → is_items s ≡ true → ⊥
+brace_no_items : (c : Class) (s : Sign) → is_close_brace s ≡ true → is_items c s ≡ true → ⊥
 unfolding is_items
-brace_no_items sign.CloseBrace h g = cc
-brace_no_items _ h g = cc
+brace_no_items c sign.CloseBrace h g = cc
+brace_no_items c _ h g = cc
 
-items_shaped : (s : Sign) (a : Attribute) → s ≡ sign.Attribute a → is_items s ≡ is_items_shape (shape_of a)
+items_shaped : (c : Class) (s : Sign) (a : Attribute) → s ≡ sign.Attribute a → is_items c s ≡ is_items_shape (shape_of c a)
 unfolding is_items
-items_shaped s a is = ap is_items is
+items_shaped c s a is = ap (is_items c) is
 
-ends_items : (c : Class) (p : Piece) → Ends c p → is_items p.sign ≡ true → word_of p ≡ as_word kind.Keyword (58 ∷ attribute_word attribute.Items)
-ends_items c p (inl h) g = absurd (brace_no_items p.sign h g)
+ends_items : (c : Class) (p : Piece) → Ends c p → is_items c p.sign ≡ true → word_of p ≡ as_word kind.Keyword (58 ∷ attribute_word attribute.Items)
+ends_items c p (inl h) g = absurd (brace_no_items c p.sign h g)
 ends_items c p (inr (a, is, of_items, takes_it, word)) g = word ∙ ap (λ x. as_word kind.Keyword (58 ∷ attribute_word x)) (items_taken a c of_items).1
 
-ends_no_items : (c : Class) (p : Piece) → Ends c p → is_items p.sign ≡ false → is_close_brace p.sign ≡ true
+ends_no_items : (c : Class) (p : Piece) → Ends c p → is_items c p.sign ≡ false → is_close_brace p.sign ≡ true
 ends_no_items c p (inl h) g = h
 ends_no_items c p (inr (a, is, of_items, takes_it, word)) g =
-    let shaped = items_shaped p.sign a is in
+    let shaped = items_shaped c p.sign a is in
     absurd cc
 
 behind_items_is : (c : Class) (done xs : List Field) (p : Piece) (left rest : Left) → AreGood left.pieces → fields_behind_items c done left ≡ Ok (xs, p, rest)
-    → FieldsAt c done xs p left rest × (is_items p.sign ≡ false)
+    → FieldsAt c done xs p left rest × (is_items c p.sign ≡ false)
 unfolding fields_behind_items
 behind_items_is c done xs p left rest good e =
     let f = went (fields c 4096 done left) _ (xs, p, rest) e in
     let found = fields_found c 4096 done f.value.0 f.value.1 left f.value.2 good f.first in
-    let t = if_not_ok (is_items f.value.1.sign) (Ok (f.value.0, f.value.1, f.value.2)) why.Syntax f.value.1.start (xs, p, rest) f.behind in
-    subst (λ (z : List Field × Piece × Left). FieldsAt c done z.0 z.1 left z.2 × (is_items z.1.sign ≡ false)) (ok_same t.1) (found, t.0)
+    let t = if_not_ok (is_items c f.value.1.sign) (Ok (f.value.0, f.value.1, f.value.2)) why.Syntax f.value.1.start (xs, p, rest) f.behind in
+    subst (λ (z : List Field × Piece × Left). FieldsAt c done z.0 z.1 left z.2 × (is_items c z.1.sign ≡ false)) (ok_same t.1) (found, t.0)
 
 record BodyAt (xs : List Field) (its : Option (List Ingredient)) (p : Piece) (left rest : Left) : Type 0 where
   pub new : List Field
@@ -332,7 +349,7 @@ both_fields c fs xs q p left at behind rest l m =
     (λ x h. elim (m.parts x h) [ inl old ↦ has_left l.new m.new x (elim (l.parts x old) [ inl none ↦ absurd none | inr new ↦ new ]) | inr new ↦ has_right l.new m.new x new ])
     (λ x h. elim (has_either l.new m.new x h) [ inl a ↦ m.old_in x (l.new_in x a) | inr b ↦ m.new_in x b ])
 
-body_if : (c : Class) (b : Bool) (fs xs : List Field) (its : Option (List Ingredient)) (q p : Piece) (left behind rest : Left) → is_items q.sign ≡ b → FieldsAt c [] fs q left behind
+body_if : (c : Class) (b : Bool) (fs xs : List Field) (its : Option (List Ingredient)) (q p : Piece) (left behind rest : Left) → is_items c q.sign ≡ b → FieldsAt c [] fs q left behind
     → if◌then◌else◌ {A = Result (List Field × Option (List Ingredient) × Piece × Left) Refusal} b
     (items behind >>= λ y. fields_behind_items c fs y.1 >>= λ z. Ok (z.0, Some y.0, z.1, z.2)) (Ok (fs, None, q, behind)) ≡ Ok (xs, its, p, rest)
     → BodyAt xs its p left rest
@@ -376,7 +393,7 @@ body_found : (c : Class) (left : Left) (xs : List Field) (its : Option (List Ing
 unfolding body
 body_found c left xs its p rest good e =
     let f = went (fields c 4096 [] left) _ (xs, its, p, rest) e in
-    body_if c (is_items f.value.1.sign) f.value.0 xs its f.value.1 p left f.value.2 rest refl (fields_found c 4096 [] f.value.0 f.value.1 left f.value.2 good f.first) f.behind
+    body_if c (is_items c f.value.1.sign) f.value.0 xs its f.value.1 p left f.value.2 rest refl (fields_found c 4096 [] f.value.0 f.value.1 left f.value.2 good f.first) f.behind
 
 pub group_found : (left : Left) (g : Group) (rest : Left) → AreGood left.pieces → group left ≡ Ok (g, rest) → Passes (IsGroup g) left rest
 unfolding group

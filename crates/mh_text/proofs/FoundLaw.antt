@@ -1,10 +1,6 @@
 -- What was read from a text is spelled by it.
 use Rattle.std.proofs.Common.{◌≡◌, ℕ, zero, suc, ◌<◌, ◌≤◌, Bool, true, false, ◌&&◌, ◌==◌, nat_lt, if◌then◌else◌, List, [], ◌∷◌, length, map, Option, Some, None, Result, Ok, Err, ℤ, refl, ap, sym, ◌∙◌, subst, subst₂, arith}
 use Rattle.std.proofs.lemmas.Bool.Decides.{nat_tests}
-use Rattle.mh_base.specs.declared.event.EventType.{EventType}
-use Rattle.mh_group.specs.declared.class.Class.{Class}
-use Rattle.mh_group.specs.declared.attribute.Attribute.{Attribute}
-use Rattle.mh_group.specs.declared.action_name.ActionName.{ActionName}
 use Rattle.mh_group.specs.declared.written.Written.{Written as Group}
 use Rattle.mh_group.specs.Fit.{is_group}
 use Rattle.mh_text.specs.declared.token_kind.TokenKind.{TokenKind}
@@ -13,13 +9,14 @@ use Rattle.mh_text.specs.declared.sign.Sign.{Sign}
 use Rattle.mh_text.specs.declared.sign.Sign.TheVariants as sign
 use Rattle.mh_text.specs.declared.text_error.Why.{Why}
 use Rattle.mh_text.specs.declared.text_error.Why.TheVariants as why
-use Rattle.mh_text.specs.Signs.{sign_of, sign_or, or_else, name_sign, keyword_sign, word_sign, integer_sign, integer_of}
+use Rattle.mh_text.specs.Signs.{sign_of, sign_or, or_else, word_sign, integer_sign, integer_of}
 use Rattle.mh_text.specs.Rest.{Rest, Left, Piece, piece, bad_at}
 use Rattle.mh_text.specs.Left.{Lexed, finished, bad, token, lexed, meant, left_in, left, whole}
 use Rattle.mh_text.specs.Words.{AreWords, IsWord, needs_gap}
 use Rattle.mh_text.specs.Spelling.{IsGroup, Spells}
 use Rattle.mh_text.specs.Reading.{ended, group, read}
 use Rattle.mh_text.proofs.LeftLemmas.{left_is, lexed_shorter}
+use Rattle.mh_text.proofs.SignLemmas.{keyword_kind, word_kind}
 use Rattle.mh_text.proofs.PieceLemmas.{kind_of, word_of, words, AreGood, went, if_ok, if_not_ok, ok_same}
 use Rattle.mh_text.proofs.TokenLemmas.{IsCut, lexed_token, lexed_finished}
 use Rattle.mh_text.proofs.FoundGroups.{group_found}
@@ -28,40 +25,6 @@ use Rattle.mh_text.proofs.FoundGroups.{group_found}
 or_means : (w : Why) (o : Option Sign) (s : Sign) → sign_or w o ≡ Ok s → o ≡ Some s
 or_means w (Some t) s e = cc
 or_means w None s e = absurd cc
-
-named_kind : (o : Option Class) (p : Option Attribute) (q : Option ActionName) (b : Bool) (s : Sign)
-    → or_else sign.Class o (or_else sign.Attribute p (or_else sign.Action q (if b then Some sign.IntegerKind else None))) ≡ Some s → kind_of s ≡ kind.Keyword
-named_kind (Some c) p q b s e =
-    let same : s ≡ sign.Class c = cc in
-    ap kind_of same
-named_kind None (Some a) q b s e =
-    let same : s ≡ sign.Attribute a = cc in
-    ap kind_of same
-named_kind None None (Some a) b s e =
-    let same : s ≡ sign.Action a = cc in
-    ap kind_of same
-named_kind None None None true s e =
-    let same : s ≡ sign.IntegerKind = cc in
-    ap kind_of same
-named_kind None None None false s e = absurd cc
-
-keyword_kind : (text : List ℕ) (s : Sign) → keyword_sign text ≡ Some s → kind_of s ≡ kind.Keyword
-unfolding name_sign
-keyword_kind [] s e = absurd cc
-keyword_kind (b ∷ name) s e = named_kind _ _ _ _ s e
-
-word_kind : (t f : Bool) (o : Option EventType) (s : Sign)
-    → (if t then Some (sign.Truth true) else (if f then Some (sign.Truth false) else or_else sign.Event o None)) ≡ Some s → kind_of s ≡ kind.Word
-word_kind true f o s e =
-    let same : s ≡ sign.Truth true = cc in
-    ap kind_of same
-word_kind false true o s e =
-    let same : s ≡ sign.Truth false = cc in
-    ap kind_of same
-word_kind false false (Some x) s e =
-    let same : s ≡ sign.Event x = cc in
-    ap kind_of same
-word_kind false false None s e = absurd cc
 
 integer_if : (o : Option ℤ) (s : Sign) → or_else sign.Integer o None ≡ Some s → kind_of s ≡ kind.Integer
 integer_if (Some x) s e =
@@ -82,7 +45,7 @@ kind_means kind.CloseBrace text s e = ap kind_of (ok_why e)
 kind_means kind.OpenParenthesis text s e = ap kind_of (ok_why e)
 kind_means kind.CloseParenthesis text s e = ap kind_of (ok_why e)
 kind_means kind.Keyword text s e = sym (keyword_kind text s (or_means why.UnknownName _ s e))
-kind_means kind.Word text s e = sym (word_kind _ _ _ s (or_means why.UnknownName _ s e))
+kind_means kind.Word text s e = sym (word_kind text s (or_means why.UnknownName _ s e))
 kind_means kind.Integer text s e = sym (integer_kind text s (or_means why.Range _ s e))
 kind_means kind.Text text s e = ap kind_of (ok_why e)
 kind_means kind.Quoted text s e = ap kind_of (ok_why e)

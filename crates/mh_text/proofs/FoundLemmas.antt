@@ -1,12 +1,17 @@
 -- What was read is spelled so: values, from their tokens.
-use Rattle.std.proofs.Common.{◌≡◌, ℕ, zero, suc, ◌+◌, ◌*◌, ◌≤◌, ◌⊎◌, inl, inr, Bool, true, false, ◌==◌, if◌then◌else◌, List, [], ◌∷◌, ◌++◌, length, Option, Some, None, Result, Ok, ℤ, pos, negsuc, int_lt, unsigned_abs, refl, ap, sym, ◌∙◌, subst, arith, append_assoc, append-nil}
+use Rattle.std.proofs.Common.{◌≡◌, ℕ, zero, suc, ◌+◌, ◌*◌, ◌≤◌, ◌⊎◌, inl, inr, Bool, true, false, ◌==◌, if◌then◌else◌, List, [], ◌∷◌, ◌++◌, length, Option, Some, None, Result, Ok, ℤ, pos, negsuc, int_lt, unsigned_abs, codes, refl, ap, sym, ◌∙◌, subst, arith, append_assoc, append-nil}
 use Rattle.std.proofs.lemmas.Bool.Decides.{nat_tests}
 use Rattle.mh_base.specs.declared.event.EventType.{EventType}
 use Rattle.mh_group.specs.declared.reference.Ref.{Ref}
 use Rattle.mh_group.specs.declared.reference.Ref.TheVariants as ref
 use Rattle.mh_group.specs.declared.reference.Generic.{Generic}
-use Rattle.mh_group.specs.declared.reference.Generic.TheVariants.{Direct}
-use Rattle.mh_group.specs.Words.{event_word}
+use Rattle.mh_group.specs.declared.reference.Generic.TheVariants.{Direct, Indirect}
+use Rattle.mh_group.specs.declared.justification.Justification.{Justification}
+use Rattle.mh_group.specs.declared.action.Content.{Content}
+use Rattle.mh_group.specs.declared.action.Content.TheVariants as of_content
+use Rattle.mh_group.specs.declared.action.EventData.{EventData}
+use Rattle.mh_group.specs.Fit.{is_field_length}
+use Rattle.mh_group.specs.Words.{event_word, justification_word}
 use Rattle.mh_text.specs.declared.token_kind.TokenKind.TheVariants as kind
 use Rattle.mh_text.specs.declared.sign.Sign.{Sign}
 use Rattle.mh_text.specs.declared.sign.Sign.TheVariants as sign
@@ -19,9 +24,9 @@ use Rattle.mh_text.specs.Rest.{Left, Piece}
 use Rattle.mh_text.specs.Signs.{sign_of}
 use Rattle.mh_text.specs.Words.{Written, IsWord, Quotes, nothing, plain, escaped}
 use Rattle.mh_text.specs.Gives.{Refusal, ◌>>=◌}
-use Rattle.mh_text.specs.Spelling.{IsOpen, IsClose, IsOpenBrace, Writes, IsInteger, IsNumber, IsName, truth_word, IsRef, IsDirect, AreSeveral}
-use Rattle.mh_text.specs.Reading.{past, is_open, is_close, is_open_brace, is_close_brace, opened, closed, closed_list, braced, inner, refused_at, name_of, integer_of, natural_of, fixed_of, number_of, truth_of, event_of, octets_of, colour_of, named_reference, reference, generic_reference, generic_integer, next_member, continued, listed}
-use Rattle.mh_text.proofs.SignLemmas.{truth_spelled, event_spelled, integer_spelled, inner_is}
+use Rattle.mh_text.specs.Spelling.{IsOpen, IsClose, IsOpenBrace, Writes, IsInteger, IsNumber, IsName, AreOctets, truth_word, IsTruth, IsRef, IsGeneric, IsContentName, IsContent, IsData, AreSeveral, IsListOf}
+use Rattle.mh_text.specs.Reading.{next, past, is_open, is_close, is_open_brace, is_close_brace, is_indirect, is_content_ref, opened, closed, closed_list, braced, inner, refused_at, name_of, integer_of, natural_of, field_length_of, fixed_of, number_of, truth_of, event_of, justification_of, octets_of, colour_of, named_reference, reference, made, alone, truth, integer, octets, data_of, event_data, content_name, content, generic, next_member, continued, listed, list}
+use Rattle.mh_text.proofs.SignLemmas.{content_ref_spelled, indirect_ref_spelled, truth_spelled, event_spelled, justification_spelled, integer_spelled, inner_is}
 use Rattle.mh_text.proofs.PieceLemmas.{kind_of, word_of, as_word, words, IsGood, AreGood, Passes, PassesFrom, went, if_ok, if_not_ok, ok_same, went_on}
 
 -- a token that passes a test, as it was read
@@ -74,6 +79,14 @@ is_open_brace_word p good h = open_brace_word p.sign p.text h good.word
 
 pub is_close_brace_word : (p : Piece) → IsGood p → is_close_brace p.sign ≡ true → word_of p ≡ as_word kind.CloseBrace (125 ∷ [])
 is_close_brace_word p good h = close_brace_word p.sign p.text h good.word
+
+indirect_word : (s : Sign) (text : List ℕ) → is_indirect s ≡ true → IsWord (kind_of s) text → sign_of (kind_of s) text ≡ Ok s → as_word (kind_of s) text ≡ as_word kind.Keyword (58 ∷ codes "IndirectRef")
+indirect_word sign.IndirectRef text h word means = ap (λ t. as_word kind.Keyword t) (indirect_ref_spelled text word means)
+indirect_word _ text h word means = absurd cc
+
+content_ref_word : (s : Sign) (text : List ℕ) → is_content_ref s ≡ true → IsWord (kind_of s) text → sign_of (kind_of s) text ≡ Ok s → as_word (kind_of s) text ≡ as_word kind.Keyword (58 ∷ codes "ContentRef")
+content_ref_word sign.ContentRef text h word means = ap (λ t. as_word kind.Keyword t) (content_ref_spelled text word means)
+content_ref_word _ text h word means = absurd cc
 
 pub opened_found : (left rest : Left) → AreGood left.pieces → opened left ≡ Ok rest → Passes IsOpen left rest
 unfolding opened
@@ -141,6 +154,13 @@ natural_is p x e =
 pub natural_found : (p : Piece) (x : ℤ) → IsGood p → natural_of p ≡ Ok x → IsIntegerWord x (word_of p)
 natural_found p x good e = integer_found p x good (natural_is p x e).0
 
+pub field_length_found : (p : Piece) (x : ℤ) → IsGood p → field_length_of p ≡ Ok x → IsIntegerWord x (word_of p)
+unfolding field_length_of
+field_length_found p x good e =
+    let w = went (integer_of p) _ x e in
+    let t = if_ok (is_field_length w.value) (Ok w.value) why.Range p.start x w.behind in
+    integer_found p x good (w.first ∙ ap Ok (ok_same t.1))
+
 pub fixed_found : (wanted : ℤ) (p : Piece) (x : ℤ) → IsGood p → fixed_of wanted p ≡ Ok x → IsIntegerWord x (word_of p)
 unfolding fixed_of
 fixed_found wanted p x good e =
@@ -182,6 +202,17 @@ event_word_of _ start text b e means = absurd cc
 pub event_found : (p : Piece) (b : EventType) → IsGood p → event_of p ≡ Ok b → word_of p ≡ as_word kind.Word (event_word b)
 event_found p b good e = event_word_of p.sign p.start p.text b e good.means
 
+justification_word_of : (s : Sign) (start : ℕ) (text : List ℕ) (b : Justification) → justification_of (record { sign = s; start = start; text = text }) ≡ Ok b → sign_of (kind_of s) text ≡ Ok s
+    → as_word (kind_of s) text ≡ as_word kind.Word (justification_word b)
+unfolding justification_of
+justification_word_of (sign.Justification c) start text b e means =
+    let same : c ≡ b = ok_same e in
+    ap (λ t. as_word kind.Word t) (justification_spelled text c means ∙ ap justification_word same)
+justification_word_of _ start text b e means = absurd cc
+
+pub justification_found : (p : Piece) (b : Justification) → IsGood p → justification_of p ≡ Ok b → word_of p ≡ as_word kind.Word (justification_word b)
+justification_found p b good e = justification_word_of p.sign p.start p.text b e good.means
+
 -- octets
 pub quotes_unescaped : (bs os : List ℕ) → Quotes bs os → unescaped Outside bs ≡ os
 quotes_unescaped bs os nothing = refl
@@ -222,6 +253,10 @@ first_word ws w v rest e same = e ∙ ap (λ x. x ∷ rest) same
 
 pub first_integer : (x : ℤ) (ws : List Written) (w : Written) (rest : List Written) → ws ≡ w ∷ rest → IsIntegerWord x w → IsInteger x ws rest
 first_integer x ws w rest e (text, writes, same) = (text, writes, first_word ws w _ rest e same)
+
+pub first_octets : (octets : List ℕ) (w : Written) (ws : List Written) → IsOctetsWord octets w → AreOctets octets (w ∷ ws) ws
+first_octets octets w ws (inl same) = inl (ap (λ v. v ∷ ws) same)
+first_octets octets w ws (inr (within, quotes, same)) = inr (within, quotes, ap (λ v. v ∷ ws) same)
 
 -- a value with the place behind it
 pub pair_same : {A B : Type 0} {a c : A} {b d : B} → ◌≡◌ {A = Result (A × B) Refusal} (Ok (a, b)) (Ok (c, d)) → (a ≡ c) × (b ≡ d)
@@ -297,29 +332,117 @@ pub from_piece : (R : List Written → List Written → Type 0) (left behind res
     → PassesFrom R p behind rest → Passes R left rest
 from_piece R left behind rest p e wrong h = record { spells = subst (λ ws. R ws (words rest)) (sym e) h.spells; good = h.good; wrong = h.wrong ∙ wrong }
 
-pub generic_reference_found : (left : Left) (g : Generic Ref) (rest : Left) → AreGood left.pieces → generic_reference left ≡ Ok (g, rest) → Passes (IsDirect IsRef g) left rest
-unfolding generic_reference
-generic_reference_found left g rest good e =
-    let a = went_on left _ (g, rest) good e in
-    let target = went (reference a.piece a.rest) _ (g, rest) a.behind in
-    let found = reference_found a.piece a.rest target.value.0 target.value.1 a.is_good a.good target.first in
-    moved (IsDirect IsRef) left (Direct target.value.0) g target.value.1 rest target.behind
-    (from_piece (IsRef target.value.0) left a.rest target.value.1 a.piece a.written a.wrong found)
+-- what is read from a token is spelled so
+abbrev pub Finds : {A : Type 0} → (Piece → Left → Result (A × Left) Refusal) → (A → List Written → List Written → Type 0) → Type 0
+Finds {A} read Is = (p : Piece) (left : Left) (x : A) (rest : Left) → IsGood p → AreGood left.pieces → read p left ≡ Ok (x, rest) → PassesFrom (Is x) p left rest
 
-pub generic_integer_found : (left : Left) (g : Generic ℤ) (rest : Left) → AreGood left.pieces → generic_integer left ≡ Ok (g, rest) → Passes (IsDirect IsInteger g) left rest
-unfolding generic_integer
-generic_integer_found left g rest good e =
-    let a = went_on left _ (g, rest) good e in
-    let x = went (integer_of a.piece) _ (g, rest) a.behind in
-    moved (IsDirect IsInteger) left (Direct x.value) g a.rest rest x.behind (record {
-      spells = first_integer x.value (words left) _ (words a.rest) a.written (integer_found a.piece x.value a.is_good x.first);
-      good = a.good;
-      wrong = a.wrong;
+-- a value, as a part of what f makes of it
+pub made_found : {A B : Type 0} (Is : B → List Written → List Written → Type 0) (f : A → B) (read : Result (A × Left) Refusal) (p : Piece) (left : Left) (y : B) (rest : Left)
+    → ((x : A) (r : Left) → read ≡ Ok (x, r) → PassesFrom (Is (f x)) p left r) → made f read ≡ Ok (y, rest) → PassesFrom (Is y) p left rest
+made_found Is f read p left y rest one e =
+    let w = went read (λ x. Ok (f x.0, x.1)) (y, rest) e in
+    moved_from Is p left (f w.value.0) y w.value.1 rest w.behind (one w.value.0 w.value.1 w.first)
+
+-- what is read as a part is spelled as the whole
+pub made_finds : {A B : Type 0} (Is : A → List Written → List Written → Type 0) (IsWhole : B → List Written → List Written → Type 0) (f : A → B) (read : Piece → Left → Result (A × Left) Refusal)
+    → Finds read Is → ((x : A) (ws rs : List Written) → Is x ws rs → IsWhole (f x) ws rs) → Finds (λ p left. made f (read p left)) IsWhole
+made_finds Is IsWhole f read finds whole p left y rest is_good good e =
+    made_found IsWhole f (read p left) p left y rest (λ x r h.
+    let g = finds p left x r is_good good h in
+    record { spells = whole x (word_of p ∷ words left) (words r) g.spells; good = g.good; wrong = g.wrong }) e
+
+-- a value of one token
+pub alone_found : {A : Type 0} (Is : A → List Written → List Written → Type 0) (read : Result A Refusal) (p : Piece) (left : Left) (y : A) (rest : Left) → AreGood left.pieces
+    → ((x : A) → read ≡ Ok x → Is x (word_of p ∷ words left) (words left)) → alone read left ≡ Ok (y, rest) → PassesFrom (Is y) p left rest
+alone_found Is read p left y rest good one e =
+    let w = went read (λ x. Ok (x, left)) (y, rest) e in
+    moved_from Is p left w.value y left rest w.behind (record { spells = one w.value w.first; good = good; wrong = refl })
+
+pub truth_finds : Finds truth IsTruth
+truth_finds p left x rest is_good good e = alone_found IsTruth (truth_of p) p left x rest good (λ y h. ap (λ w. w ∷ words left) (truth_found p y is_good h)) e
+
+pub integer_finds : Finds integer IsInteger
+integer_finds p left x rest is_good good e = alone_found IsInteger (integer_of p) p left x rest good (λ y h. first_integer y _ (word_of p) (words left) refl (integer_found p y is_good h)) e
+
+pub octets_finds : Finds octets AreOctets
+octets_finds p left x rest is_good good e = alone_found AreOctets (octets_of p) p left x rest good (λ y h. first_octets y (word_of p) (words left) (octets_found p y is_good h)) e
+
+data_from : (s : Sign) (start : ℕ) (text : List ℕ) (x : EventData) (ws : List Written) → IsGood (record { sign = s; start = start; text = text })
+    → data_of (record { sign = s; start = start; text = text }) ≡ Ok x → IsData x (as_word (kind_of s) text ∷ ws) ws
+unfolding data_of
+data_from (sign.Truth b) start text x ws good e =
+    subst (λ y. IsData y (as_word kind.Word text ∷ ws) ws) (ok_same e) (ap (λ t. as_word kind.Word t ∷ ws) (truth_spelled text b good.means))
+data_from (sign.Integer y) start text x ws good e =
+    subst (λ y. IsData y (as_word kind.Integer text ∷ ws) ws) (ok_same e) (text, integer_spelled text y good.word good.means, refl)
+data_from _ start text x ws good e = absurd cc
+
+pub data_found : (p : Piece) (x : EventData) (ws : List Written) → IsGood p → data_of p ≡ Ok x → IsData x (word_of p ∷ ws) ws
+data_found p x ws good e = data_from p.sign p.start p.text x ws good e
+
+pub data_finds : Finds event_data IsData
+data_finds p left x rest is_good good e = alone_found IsData (data_of p) p left x rest good (λ y h. data_found p y (words left) is_good h) e
+
+-- contents
+pub content_name_found : Finds content_name IsContentName
+unfolding content_name
+content_name_found p left x rest is_good good e =
+    let t = if_ok (is_content_ref p.sign) _ why.Syntax p.start (x, rest) e in
+    let a = went (opened left) _ (x, rest) t.1 in
+    let opens = opened_found left a.value good a.first in
+    let b = went_on a.value _ (x, rest) opens.good a.behind in
+    let name = went (name_of b.piece) _ (x, rest) b.behind in
+    let close = went (closed b.rest) _ (x, rest) name.behind in
+    let closes = closed_found b.rest close.value b.good close.first in
+    moved_from IsContentName p left name.value x close.value rest close.behind (record {
+      spells = (
+        words left,
+        words a.value,
+        words b.rest,
+        first_word _ (word_of p) _ (words left) refl (content_ref_word p.sign p.text t.0 is_good.word is_good.means),
+        opens.spells,
+        first_word (words a.value) _ _ (words b.rest) b.written (name_found b.piece name.value b.is_good name.first),
+        closes.spells,
+      );
+      good = closes.good;
+      wrong = closes.wrong ∙ b.wrong ∙ opens.wrong;
     })
+
+content_if : (b : Bool) (p : Piece) (left : Left) (x : Content) (rest : Left) → IsGood p → AreGood left.pieces
+    → (if b then made of_content.Referenced (content_name p left) else made of_content.Included (octets p left)) ≡ Ok (x, rest) → PassesFrom (IsContent x) p left rest
+content_if true p left x rest is_good good e = made_finds IsContentName IsContent of_content.Referenced content_name content_name_found (λ y ws rs h. h) p left x rest is_good good e
+content_if false p left x rest is_good good e = made_finds AreOctets IsContent of_content.Included octets octets_finds (λ y ws rs h. h) p left x rest is_good good e
+
+pub content_found : Finds content IsContent
+unfolding content
+content_found p left x rest is_good good e = content_if (is_content_ref p.sign) p left x rest is_good good e
+
+-- values that a variable may hold
+module _ {A : Type 0} (value : Piece → Left → Result (A × Left) Refusal) (Is : A → List Written → List Written → Type 0) (one : Finds value Is) where
+  indirect_found : (p : Piece) (left : Left) (r : Ref) (rest : Left) → is_indirect p.sign ≡ true → IsGood p → AreGood left.pieces → (next left >>= λ a. reference a.0 a.1) ≡ Ok (r, rest)
+      → PassesFrom (IsGeneric Is (Indirect r)) p left rest
+  indirect_found p left r rest h is_good good e =
+      let a = went_on left (λ a. reference a.0 a.1) (r, rest) good e in
+      let found = from_piece (IsRef r) left a.rest rest a.piece a.written a.wrong (reference_found a.piece a.rest r rest a.is_good a.good a.behind) in
+      record {
+        spells = (words left, first_word _ (word_of p) _ (words left) refl (indirect_word p.sign p.text h is_good.word is_good.means), found.spells);
+        good = found.good;
+        wrong = found.wrong;
+      }
+
+  generic_if : (b : Bool) (p : Piece) (left : Left) (x : Generic A) (rest : Left) → is_indirect p.sign ≡ b → IsGood p → AreGood left.pieces
+      → (if b then made Indirect (next left >>= λ a. reference a.0 a.1) else made Direct (value p left)) ≡ Ok (x, rest) → PassesFrom (IsGeneric Is x) p left rest
+  generic_if true p left x rest h is_good good e =
+      made_found (IsGeneric Is) Indirect (next left >>= λ a. reference a.0 a.1) p left x rest (λ r s g. indirect_found p left r s h is_good good g) e
+  generic_if false p left x rest h is_good good e =
+      made_finds Is (IsGeneric Is) Direct value one (λ y ws rs g. g) p left x rest is_good good e
+
+  pub generic_found : Finds (generic value) (IsGeneric Is)
+  unfolding generic
+  generic_found p left x rest is_good good e = generic_if (is_indirect p.sign) p left x rest refl is_good good e
 
 -- lists
 module _ {A : Type 0} (member : Piece → Left → Result (A × Left) Refusal) (IsOne : A → List Written → List Written → Type 0)
-    (one : (p : Piece) (left : Left) (x : A) (rest : Left) → IsGood p → AreGood left.pieces → member p left ≡ Ok (x, rest) → PassesFrom (IsOne x) p left rest) where
+    (one : Finds member IsOne) where
   abbrev pub IsMember : Option A → List Written → List Written → Type 0
   IsMember None ws rest = IsClose ws rest
   IsMember (Some x) ws rest = IsOne x ws rest
@@ -391,3 +514,22 @@ module _ {A : Type 0} (member : Piece → Left → Result (A × Left) Refusal) (
   listed_found (suc n) done xs left rest good e =
       let x = went (next_member member left) _ (xs, rest) e in
       listed_on n done xs left x.value.1 rest x.value.0 (λ d b g. listed_found n d xs b rest g) (next_member_found left x.value.0 x.value.1 good x.first) x.behind
+
+  -- a list between parentheses
+  pub list_found : (most : ℕ) → most ≤ 4096 → Finds (list member most) (IsListOf IsOne)
+  unfolding list
+  list_found most few p left xs rest is_good good e =
+      let t = if_ok (is_open p.sign) _ why.Syntax p.start (xs, rest) e in
+      let l = listed_found most [] xs left rest good t.1 in
+      record {
+        spells = (
+          subst (λ ys. length ys ≤ 4096) (sym l.same) (omega (arith, l.few)),
+          words left,
+          l.end,
+          first_word _ (word_of p) _ (words left) refl (is_open_word p is_good t.0),
+          subst (λ ys. AreSeveral IsOne ys (words left) l.end) (sym l.same) l.several,
+          l.closes,
+        );
+        good = l.good;
+        wrong = l.wrong;
+      }

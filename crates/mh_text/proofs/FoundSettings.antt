@@ -1,6 +1,12 @@
 -- What was read is spelled so: parameters, actions, and the values of attributes.
-use Rattle.std.proofs.Common.{◌≡◌, ℕ, ◌≤◌, inl, inr, List, [], ◌∷◌, ◌++◌, length, Option, Some, None, Result, Ok, ℤ, pos, refl, ap, sym, ◌∙◌, subst, append_assoc, append-nil}
-use Rattle.mh_group.specs.declared.action.Action.{Action}
+use Rattle.std.proofs.Common.{◌≡◌, ℕ, ◌≤◌, Bool, true, false, ◌&&◌, nat_le, if◌then◌else◌, List, [], ◌∷◌, ◌++◌, length, Result, Ok, ℤ, pos, refl, ap, sym, ◌∙◌, subst, arith, append_assoc, append-nil}
+use Rattle.std.proofs.lemmas.Bool.{and_parts}
+use Rattle.mh_base.specs.declared.value.Kind.{Kind}
+use Rattle.mh_base.specs.declared.value.Kind.TheVariants as of_kind
+use Rattle.mh_group.specs.declared.action.Content.{Content}
+use Rattle.mh_group.specs.declared.action.Content.TheVariants as of_content
+use Rattle.mh_group.specs.declared.action.EventData.{EventData}
+use Rattle.mh_group.specs.declared.action.EventData.TheVariants as of_data
 use Rattle.mh_group.specs.declared.action.Typed.{Typed}
 use Rattle.mh_group.specs.declared.action.Typed.TheVariants as of_typed
 use Rattle.mh_group.specs.declared.action.Parameter.{Parameter}
@@ -12,80 +18,148 @@ use Rattle.mh_group.specs.declared.shape.Need.{Need}
 use Rattle.mh_group.specs.declared.shape.Need.TheVariants as need
 use Rattle.mh_group.specs.declared.written.Setting.{Setting}
 use Rattle.mh_group.specs.declared.written.Setting.TheVariants as of_setting
-use Rattle.mh_group.specs.Table.{needs_of}
+use Rattle.mh_group.specs.Table.{needs_of, optional_of}
 use Rattle.mh_group.specs.Words.{action_word}
 use Rattle.mh_text.specs.declared.token_kind.TokenKind.TheVariants as kind
 use Rattle.mh_text.specs.declared.sign.Sign.{Sign}
 use Rattle.mh_text.specs.declared.sign.Sign.TheVariants as sign
-use Rattle.mh_text.specs.declared.text_error.Why.{Why}
-use Rattle.mh_text.specs.Rest.{Left, Piece, piece}
+use Rattle.mh_text.specs.declared.text_error.Why.TheVariants as why
+use Rattle.mh_text.specs.Rest.{Left, Piece}
+use Rattle.mh_text.specs.Signs.{kind_word}
 use Rattle.mh_text.specs.Words.{Written}
 use Rattle.mh_text.specs.Gives.{Refusal, ◌>>=◌}
-use Rattle.mh_text.specs.Spelling.{IsOpen, AreOctets, IsTyped, IsParameter, AreSeveral, IsListOf, IsAction, IsSetting}
-use Rattle.mh_text.specs.Reading.{next, opened, closed, integer_of, natural_of, truth_of, event_of, colour_of, reference, generic_reference, generic_integer, typed, parameter, parameters, action_name_of, action, effect, data_of, single, part, pair, setting_at, setting}
-use Rattle.mh_text.proofs.SignLemmas.{action_spelled, kind_spelled, truth_spelled, integer_spelled}
-use Rattle.mh_text.proofs.PieceLemmas.{kind_of, word_of, as_word, words, IsGood, AreGood, Passes, PassesFrom, went, ok_same, went_on}
-use Rattle.mh_text.proofs.FoundLemmas.{IsIntegerWord, IsOctetsWord, first_word, first_integer, moved, moved_from, from_piece, opened_found, closed_found, integer_found, natural_found, fixed_found, truth_found, event_found, colour_found, reference_found, generic_reference_found, generic_integer_found, Listed, listed_found}
+use Rattle.mh_text.specs.Spelling.{IsClose, IsInteger, IsTruth, AreOctets, IsRef, IsGeneric, IsContentName, IsContent, IsData, IsTyped, IsParameter, AreSeveral, IsListOf, IsAction, IsMember, IsPosition, IsNextScene, IsSetting}
+use Rattle.mh_text.specs.Reading.{is_open, is_close, opened, closed, integer_of, natural_of, field_length_of, name_of, truth_of, event_of, justification_of, octets_of, colour_of, reference, alone, truth, integer, octets, data_of, event_data, content_name, content, generic, listed, list, value_of, typed, generic_parameter, parameter, parameters, action_name_of, action, effect, row, member, list_item, position, next_scene, content_setting, data_setting, single, part, pair, several, setting_at, setting}
+use Rattle.mh_text.proofs.SignLemmas.{action_spelled, kind_spelled}
+use Rattle.mh_text.proofs.PieceLemmas.{kind_of, word_of, as_word, words, IsGood, AreGood, Passes, PassesFrom, went, if_ok, ok_same, went_on}
+use Rattle.mh_text.proofs.FoundLemmas.{Finds, IsIntegerWord, first_word, first_integer, first_octets, moved_from, from_piece, made_found, made_finds, alone_found, is_open_word, is_close_word, opened_found, closed_found, name_found, integer_found, natural_found, field_length_found, fixed_found, truth_found, event_found, justification_found, octets_found, colour_found, data_found, reference_found, truth_finds, integer_finds, octets_finds, data_finds, content_name_found, content_found, generic_found, listed_found, list_found}
 
 -- a value with its kind in front
-typed_from : (s : Sign) (start : ℕ) (text : List ℕ) (behind : Left) (t : Typed) (rest : Left) → IsGood (record { sign = s; start = start; text = text }) → AreGood behind.pieces
-    → typed (piece (record { sign = s; start = start; text = text }) behind) ≡ Ok (t, rest) → Passes (IsTyped t) (piece (record { sign = s; start = start; text = text }) behind) rest
-unfolding typed
-typed_from sign.IntegerKind start text behind t rest is_good good e =
-    let x = went (generic_integer behind) _ (t, rest) e in
-    let found = generic_integer_found behind x.value.0 x.value.1 good x.first in
-    moved IsTyped (piece (record { sign = sign.IntegerKind; start = start; text = text }) behind) (of_typed.Int x.value.0) t x.value.1 rest x.behind (record {
-      spells = (words behind, ap (λ n. as_word kind.Keyword n ∷ words behind) (kind_spelled text is_good.word is_good.means), found.spells);
-      good = found.good;
-      wrong = found.wrong;
-    })
-typed_from _ start text behind t rest is_good good e = absurd cc
+value_found : (k : Kind) (before : Written) → before ≡ as_word kind.Keyword (58 ∷ kind_word k) → Finds (value_of k) (λ t ws rs. IsTyped t (before ∷ ws) rs)
+unfolding value_of kind_word
+value_found of_kind.Bool before is p left t rest is_good good e =
+    made_finds (IsGeneric IsTruth) (λ t ws rs. IsTyped t (before ∷ ws) rs) of_typed.Bool (generic truth) (generic_found truth IsTruth truth_finds) (λ x ws rs h. (ws, ap (λ w. w ∷ ws) is, h)) p left t rest is_good good e
+value_found of_kind.Int before is p left t rest is_good good e =
+    made_finds (IsGeneric IsInteger) (λ t ws rs. IsTyped t (before ∷ ws) rs) of_typed.Int (generic integer) (generic_found integer IsInteger integer_finds) (λ x ws rs h. (ws, ap (λ w. w ∷ ws) is, h)) p left t rest is_good good e
+value_found of_kind.Octets before is p left t rest is_good good e =
+    made_finds (IsGeneric AreOctets) (λ t ws rs. IsTyped t (before ∷ ws) rs) of_typed.Octets (generic octets) (generic_found octets AreOctets octets_finds) (λ x ws rs h. (ws, ap (λ w. w ∷ ws) is, h)) p left t rest is_good good e
+value_found of_kind.Object before is p left t rest is_good good e =
+    made_finds (IsGeneric IsRef) (λ t ws rs. IsTyped t (before ∷ ws) rs) of_typed.Ref (generic reference) (generic_found reference IsRef reference_found) (λ x ws rs h. (ws, ap (λ w. w ∷ ws) is, h)) p left t rest is_good good e
+value_found of_kind.Content before is p left t rest is_good good e =
+    made_finds (IsGeneric IsContentName) (λ t ws rs. IsTyped t (before ∷ ws) rs) of_typed.ContentRef (generic content_name) (generic_found content_name IsContentName content_name_found) (λ x ws rs h. (ws, ap (λ w. w ∷ ws) is, h)) p left t rest is_good good e
 
-typed_split : (ps : List Piece) (w : Option Why) (o : ℕ) (t : Typed) (rest : Left) → AreGood ps → typed (record { pieces = ps; wrong = w; offset = o }) ≡ Ok (t, rest)
-    → Passes (IsTyped t) (record { pieces = ps; wrong = w; offset = o }) rest
+typed_from : (s : Sign) (start : ℕ) (text : List ℕ) (left : Left) (t : Typed) (rest : Left) → IsGood (record { sign = s; start = start; text = text }) → AreGood left.pieces
+    → typed (record { sign = s; start = start; text = text }) left ≡ Ok (t, rest) → PassesFrom (IsTyped t) (record { sign = s; start = start; text = text }) left rest
 unfolding typed
-typed_split [] None o t rest good e = absurd cc
-typed_split [] (Some w) o t rest good e = absurd cc
-typed_split (p ∷ ps) w o t rest good e = typed_from p.sign p.start p.text (record { pieces = ps; wrong = w; offset = o }) t rest good.0 good.1 e
+typed_from (sign.Kind k) start text left t rest is_good good e =
+    let a = went_on left (λ a. value_of k a.0 a.1) (t, rest) good e in
+    let v = value_found k (as_word kind.Keyword text) (ap (λ n. as_word kind.Keyword n) (kind_spelled text k is_good.word is_good.means)) a.piece a.rest t rest a.is_good a.good a.behind in
+    record {
+      spells = subst (λ ws. IsTyped t (as_word kind.Keyword text ∷ ws) (words rest)) (sym a.written) v.spells;
+      good = v.good;
+      wrong = v.wrong ∙ a.wrong;
+    }
+typed_from _ start text left t rest is_good good e = absurd cc
 
-typed_found : (left : Left) (t : Typed) (rest : Left) → AreGood left.pieces → typed left ≡ Ok (t, rest) → Passes (IsTyped t) left rest
-typed_found left t rest good e = typed_split left.pieces left.wrong left.offset t rest good e
+typed_found : Finds typed IsTyped
+typed_found p left t rest is_good good e = typed_from p.sign p.start p.text left t rest is_good good e
 
 -- parameters
-parameter_found : (n : Need) (left : Left) (x : Parameter) (rest : Left) → AreGood left.pieces → parameter n left ≡ Ok (x, rest) → Passes (IsParameter x) left rest
-unfolding parameter
-parameter_found need.Int left x rest good e =
-    let y = went (generic_integer left) _ (x, rest) e in
-    let found = generic_integer_found left y.value.0 y.value.1 good y.first in
-    moved IsParameter left (of_parameter.Int y.value.0) x y.value.1 rest y.behind (record { spells = found.spells; good = found.good; wrong = found.wrong })
-parameter_found need.Typed left x rest good e =
-    let y = went (typed left) _ (x, rest) e in
-    let found = typed_found left y.value.0 y.value.1 good y.first in
-    moved IsParameter left (of_parameter.Typed y.value.0) x y.value.1 rest y.behind (record { spells = found.spells; good = found.good; wrong = found.wrong })
+generic_parameter_found : (n : Need) → Finds (generic_parameter n) IsParameter
+unfolding generic_parameter
+generic_parameter_found need.Bool p left x rest is_good good e =
+    made_finds (IsGeneric IsTruth) IsParameter of_parameter.Bool (generic truth) (generic_found truth IsTruth truth_finds) (λ y ws rs h. h) p left x rest is_good good e
+generic_parameter_found need.Int p left x rest is_good good e =
+    made_finds (IsGeneric IsInteger) IsParameter of_parameter.Int (generic integer) (generic_found integer IsInteger integer_finds) (λ y ws rs h. h) p left x rest is_good good e
+generic_parameter_found need.Octets p left x rest is_good good e =
+    made_finds (IsGeneric AreOctets) IsParameter of_parameter.Octets (generic octets) (generic_found octets AreOctets octets_finds) (λ y ws rs h. h) p left x rest is_good good e
+generic_parameter_found need.Ref p left x rest is_good good e =
+    made_finds (IsGeneric IsRef) IsParameter of_parameter.Ref (generic reference) (generic_found reference IsRef reference_found) (λ y ws rs h. h) p left x rest is_good good e
+generic_parameter_found need.Content p left x rest is_good good e =
+    made_finds (IsGeneric IsContent) IsParameter of_parameter.Content (generic content) (generic_found content IsContent content_found) (λ y ws rs h. h) p left x rest is_good good e
+generic_parameter_found need.Data p left x rest is_good good e =
+    made_finds (IsGeneric IsData) IsParameter of_parameter.Data (generic event_data) (generic_found event_data IsData data_finds) (λ y ws rs h. h) p left x rest is_good good e
+generic_parameter_found _ p left x rest is_good good e = absurd cc
 
--- parameters were read behind those that came before
+-- one word, by its token
+word_finds : (w v : Written) (ws : List Written) → w ≡ v → ◌≡◌ {A = List Written} (w ∷ ws) (v ∷ ws)
+word_finds w v ws e = ap (λ x. x ∷ ws) e
+
+parameter_found : (n : Need) → Finds (parameter n) IsParameter
+unfolding parameter
+parameter_found need.Event p left x rest is_good good e =
+    made_found IsParameter of_parameter.Event (alone (event_of p) left) p left x rest
+    (λ y r h. alone_found (λ z. IsParameter (of_parameter.Event z)) (event_of p) p left y r good (λ z g. word_finds (word_of p) _ (words left) (event_found p z is_good g)) h) e
+parameter_found (need.Receiver k) p left x rest is_good good e =
+    made_finds IsRef IsParameter of_parameter.Receiver reference reference_found (λ y ws rs h. h) p left x rest is_good good e
+parameter_found need.Typed p left x rest is_good good e =
+    made_finds IsTyped IsParameter of_parameter.Typed typed typed_found (λ y ws rs h. h) p left x rest is_good good e
+parameter_found need.Arguments p left x rest is_good good e =
+    made_finds (IsListOf IsTyped) IsParameter of_parameter.Arguments (list typed 4096) (list_found typed IsTyped typed_found 4096 (omega arith)) (λ y ws rs h. h) p left x rest is_good good e
+parameter_found need.Bool p left x rest is_good good e = generic_parameter_found need.Bool p left x rest is_good good e
+parameter_found need.Int p left x rest is_good good e = generic_parameter_found need.Int p left x rest is_good good e
+parameter_found need.Octets p left x rest is_good good e = generic_parameter_found need.Octets p left x rest is_good good e
+parameter_found need.Ref p left x rest is_good good e = generic_parameter_found need.Ref p left x rest is_good good e
+parameter_found need.Content p left x rest is_good good e = generic_parameter_found need.Content p left x rest is_good good e
+parameter_found need.Data p left x rest is_good good e = generic_parameter_found need.Data p left x rest is_good good e
+
+-- parameters were read behind those that came before, and then a closing parenthesis
 record Given (done xs : List Parameter) (left rest : Left) : Type 0 where
   new : List Parameter
   same : xs ≡ done ++ new
-  passes : Passes (AreSeveral IsParameter new) left rest
+  end : List Written
+  several : AreSeveral IsParameter new (words left) end
+  closes : IsClose end (words rest)
+  good : AreGood rest.pieces
+  wrong : rest.wrong ≡ left.wrong
 
-parameters_found : (ns : List Need) (done xs : List Parameter) (left rest : Left) → AreGood left.pieces → parameters ns done left ≡ Ok (xs, rest) → Given done xs left rest
-parameters_found [] done xs left rest good e =
-    subst (λ (z : List Parameter × Left). Given done z.0 left z.1) (ok_same e)
-    (record { new = []; same = sym (append-nil done); passes = record { spells = refl; good = good; wrong = refl } })
-parameters_found (n ∷ ns) done xs left rest good e =
-    let y = went (parameter n left) _ (xs, rest) e in
-    let found = parameter_found n left y.value.0 y.value.1 good y.first in
-    let g = parameters_found ns (done ++ y.value.0 ∷ []) xs y.value.1 rest found.good y.behind in
+no_more : (done xs : List Parameter) (left behind rest : Left) → ◌≡◌ {A = Result (List Parameter × Left) Refusal} (Ok (done, behind)) (Ok (xs, rest)) → Passes IsClose left behind → Given done xs left rest
+no_more done xs left behind rest e p =
+    subst (λ (z : List Parameter × Left). Given done z.0 left z.1) (ok_same e) (record {
+      new = [];
+      same = sym (append-nil done);
+      end = words left;
+      several = refl;
+      closes = p.spells;
+      good = p.good;
+      wrong = p.wrong;
+    })
+
+one_more : (n : Need) (done xs : List Parameter) (left behind rest : Left) (p : Piece) → words left ≡ word_of p ∷ words behind → behind.wrong ≡ left.wrong → IsGood p → AreGood behind.pieces
+    → (further : List Parameter → Left → Result (List Parameter × Left) Refusal)
+    → ((done : List Parameter) (l : Left) → AreGood l.pieces → further done l ≡ Ok (xs, rest) → Given done xs l rest)
+    → (parameter n p behind >>= λ x. further (done ++ x.0 ∷ []) x.1) ≡ Ok (xs, rest) → Given done xs left rest
+one_more n done xs left behind rest p written wrong is_good good further onward e =
+    let y = went (parameter n p behind) (λ x. further (done ++ x.0 ∷ []) x.1) (xs, rest) e in
+    let found = from_piece (IsParameter y.value.0) left behind y.value.1 p written wrong (parameter_found n p behind y.value.0 y.value.1 is_good good y.first) in
+    let g = onward (done ++ y.value.0 ∷ []) y.value.1 found.good y.behind in
     record {
       new = y.value.0 ∷ g.new;
       same = g.same ∙ append_assoc done (y.value.0 ∷ []) g.new;
-      passes = record {
-        spells = (words y.value.1, found.spells, g.passes.spells);
-        good = g.passes.good;
-        wrong = g.passes.wrong ∙ found.wrong;
-      };
+      end = g.end;
+      several = (words y.value.1, found.spells, g.several);
+      closes = g.closes;
+      good = g.good;
+      wrong = g.wrong ∙ found.wrong;
     }
+
+more_if : (b : Bool) (n : Need) (done xs : List Parameter) (left behind rest : Left) (p : Piece) → (b ≡ true → is_close p.sign ≡ true) → words left ≡ word_of p ∷ words behind → behind.wrong ≡ left.wrong → IsGood p
+    → AreGood behind.pieces → (further : List Parameter → Left → Result (List Parameter × Left) Refusal)
+    → ((done : List Parameter) (l : Left) → AreGood l.pieces → further done l ≡ Ok (xs, rest) → Given done xs l rest)
+    → if◌then◌else◌ {A = Result (List Parameter × Left) Refusal} b (Ok (done, behind)) (parameter n p behind >>= λ x. further (done ++ x.0 ∷ []) x.1) ≡ Ok (xs, rest) → Given done xs left rest
+more_if true n done xs left behind rest p h written wrong is_good good further onward e =
+    no_more done xs left behind rest e (record { spells = first_word (words left) (word_of p) _ (words behind) written (is_close_word p is_good (h refl)); good = good; wrong = wrong })
+more_if false n done xs left behind rest p h written wrong is_good good further onward e =
+    one_more n done xs left behind rest p written wrong is_good good further onward e
+
+parameters_found : (optional : ℕ) (ns : List Need) (done xs : List Parameter) (left rest : Left) → AreGood left.pieces → parameters optional ns done left ≡ Ok (xs, rest) → Given done xs left rest
+parameters_found optional [] done xs left rest good e =
+    let close = went (closed left) _ (xs, rest) e in
+    no_more done xs left close.value rest close.behind (closed_found left close.value good close.first)
+parameters_found optional (n ∷ ns) done xs left rest good e =
+    let a = went_on left _ (xs, rest) good e in
+    more_if (nat_le (length (n ∷ ns)) optional && is_close a.piece.sign) n done xs left a.rest rest a.piece (λ h. (and_parts (nat_le (length (n ∷ ns)) optional) (is_close a.piece.sign) h).1) a.written a.wrong a.is_good a.good
+    (parameters optional ns) (λ d l g h. parameters_found optional ns d xs l rest g h) a.behind
 
 -- actions
 action_name_from : (s : Sign) (start : ℕ) (text : List ℕ) (name : ActionName) → IsGood (record { sign = s; start = start; text = text })
@@ -99,71 +173,141 @@ action_name_from _ start text name good e = absurd cc
 action_name_found : (p : Piece) (name : ActionName) → IsGood p → action_name_of p ≡ Ok name → word_of p ≡ as_word kind.Keyword (58 ∷ action_word name)
 action_name_found p name good e = action_name_from p.sign p.start p.text name good e
 
-pub action_found : (p : Piece) (left : Left) (x : Action) (rest : Left) → IsGood p → AreGood left.pieces → action p left ≡ Ok (x, rest) → PassesFrom (IsAction x) p left rest
+pub action_found : Finds action IsAction
 unfolding action
 action_found p left x rest is_good good e =
     let name = went (action_name_of p) _ (x, rest) e in
     let a = went (opened left) _ (x, rest) name.behind in
     let opens = opened_found left a.value good a.first in
-    let target = went (generic_reference a.value) _ (x, rest) a.behind in
-    let targeted = generic_reference_found a.value target.value.0 target.value.1 opens.good target.first in
-    let given = went (parameters (needs_of name.value) [] target.value.1) _ (x, rest) target.behind in
-    let given_found = parameters_found (needs_of name.value) [] given.value.0 target.value.1 given.value.1 targeted.good given.first in
-    let close = went (closed given.value.1) _ (x, rest) given.behind in
-    let closes = closed_found given.value.1 close.value given_found.passes.good close.first in
-    moved_from IsAction p left (record { name = name.value; target = target.value.0; parameters = given.value.0 }) x close.value rest close.behind (record {
+    let b = went_on a.value _ (x, rest) opens.good a.behind in
+    let target = went (generic reference b.piece b.rest) _ (x, rest) b.behind in
+    let targeted = from_piece (IsGeneric IsRef target.value.0) a.value b.rest target.value.1 b.piece b.written b.wrong
+    (generic_found reference IsRef reference_found b.piece b.rest target.value.0 target.value.1 b.is_good b.good target.first) in
+    let given = went (parameters (optional_of name.value) (needs_of name.value) [] target.value.1) _ (x, rest) target.behind in
+    let g = parameters_found (optional_of name.value) (needs_of name.value) [] given.value.0 target.value.1 given.value.1 targeted.good given.first in
+    moved_from IsAction p left (record { name = name.value; target = target.value.0; parameters = given.value.0 }) x given.value.1 rest given.behind (record {
       spells = (
         words left,
         words a.value,
         words target.value.1,
-        words given.value.1,
+        g.end,
         first_word _ (word_of p) _ (words left) refl (action_name_found p name.value is_good name.first),
         opens.spells,
         targeted.spells,
-        subst (λ ps. AreSeveral IsParameter ps (words target.value.1) (words given.value.1)) (sym given_found.same) given_found.passes.spells,
+        subst (λ ps. AreSeveral IsParameter ps (words target.value.1) g.end) (sym g.same) g.several,
+        g.closes,
+      );
+      good = g.good;
+      wrong = g.wrong ∙ targeted.wrong ∙ opens.wrong;
+    })
+
+effect_found : Finds effect (IsListOf IsAction)
+effect_found p left xs rest is_good good e = list_found action IsAction action_found 4096 (omega arith) p left xs rest is_good good e
+
+row_found : Finds row (IsListOf IsInteger)
+row_found p left xs rest is_good good e = list_found integer IsInteger integer_finds 4096 (omega arith) p left xs rest is_good good e
+
+-- members, positions and scenes
+member_found : Finds member IsMember
+unfolding member
+member_found p left x rest is_good good e =
+    let t = if_ok (is_open p.sign) _ why.Syntax p.start (x, rest) e in
+    let a = went_on left _ (x, rest) good t.1 in
+    let object = went (reference a.piece a.rest) _ (x, rest) a.behind in
+    let referred = from_piece (IsRef object.value.0) left a.rest object.value.1 a.piece a.written a.wrong (reference_found a.piece a.rest object.value.0 object.value.1 a.is_good a.good object.first) in
+    let slots = went (listed effect 4096 [] object.value.1) _ (x, rest) object.behind in
+    let l = listed_found effect (IsListOf IsAction) effect_found 4096 [] slots.value.0 object.value.1 slots.value.1 referred.good slots.first in
+    moved_from IsMember p left (record { object = object.value.0; slots = slots.value.0 }) x slots.value.1 rest slots.behind (record {
+      spells = (
+        subst (λ ys. length ys ≤ 4096) (sym l.same) l.few,
+        words left,
+        words object.value.1,
+        l.end,
+        first_word _ (word_of p) _ (words left) refl (is_open_word p is_good t.0),
+        referred.spells,
+        subst (λ ys. AreSeveral (IsListOf IsAction) ys (words object.value.1) l.end) (sym l.same) l.several,
+        l.closes,
+      );
+      good = l.good;
+      wrong = l.wrong ∙ referred.wrong;
+    })
+
+list_item_found : Finds list_item IsMember
+unfolding list_item
+list_item_found p left x rest is_good good e =
+    let t = if_ok (is_open p.sign) _ why.Syntax p.start (x, rest) e in
+    let a = went_on left _ (x, rest) good t.1 in
+    let object = went (reference a.piece a.rest) _ (x, rest) a.behind in
+    let referred = from_piece (IsRef object.value.0) left a.rest object.value.1 a.piece a.written a.wrong (reference_found a.piece a.rest object.value.0 object.value.1 a.is_good a.good object.first) in
+    let close = went (closed object.value.1) _ (x, rest) object.behind in
+    let closes = closed_found object.value.1 close.value referred.good close.first in
+    moved_from IsMember p left (record { object = object.value.0; slots = [] }) x close.value rest close.behind (record {
+      spells = (
+        omega arith,
+        words left,
+        words object.value.1,
+        words object.value.1,
+        first_word _ (word_of p) _ (words left) refl (is_open_word p is_good t.0),
+        referred.spells,
+        refl,
         closes.spells,
       );
       good = closes.good;
-      wrong = closes.wrong ∙ given_found.passes.wrong ∙ targeted.wrong ∙ opens.wrong;
+      wrong = closes.wrong ∙ referred.wrong;
     })
 
--- the members of a list, between its parentheses
-pub between : {A : Type 0} (IsOne : A → List Written → List Written → Type 0) (member : Piece → Left → Result (A × Left) Refusal)
-    (one : (p : Piece) (left : Left) (x : A) (rest : Left) → IsGood p → AreGood left.pieces → member p left ≡ Ok (x, rest) → PassesFrom (IsOne x) p left rest)
-    (xs : List A) (left behind rest : Left) → Passes IsOpen left behind → Listed member IsOne one 4096 [] xs behind rest → Passes (IsListOf IsOne xs) left rest
-between IsOne member one xs left behind rest opens l = record {
-  spells = (
-    subst (λ ys. length ys ≤ 4096) (sym l.same) l.few,
-    words behind,
-    l.end,
-    opens.spells,
-    subst (λ ys. AreSeveral IsOne ys (words behind) l.end) (sym l.same) l.several,
-    l.closes,
-  );
-  good = l.good;
-  wrong = l.wrong ∙ opens.wrong;
-}
+position_found : Finds position IsPosition
+unfolding position
+position_found p left z rest is_good good e =
+    let t = if_ok (is_open p.sign) _ why.Syntax p.start (z, rest) e in
+    let a = went_on left _ (z, rest) good t.1 in
+    let x = went (integer_of a.piece) _ (z, rest) a.behind in
+    let b = went_on a.rest _ (z, rest) a.good x.behind in
+    let y = went (integer_of b.piece) _ (z, rest) b.behind in
+    let close = went (closed b.rest) _ (z, rest) y.behind in
+    let closes = closed_found b.rest close.value b.good close.first in
+    moved_from IsPosition p left (record { x = x.value; y = y.value }) z close.value rest close.behind (record {
+      spells = (
+        words left,
+        words a.rest,
+        words b.rest,
+        first_word _ (word_of p) _ (words left) refl (is_open_word p is_good t.0),
+        first_integer x.value (words left) _ (words a.rest) a.written (integer_found a.piece x.value a.is_good x.first),
+        first_integer y.value (words a.rest) _ (words b.rest) b.written (integer_found b.piece y.value b.is_good y.first),
+        closes.spells,
+      );
+      good = closes.good;
+      wrong = closes.wrong ∙ b.wrong ∙ a.wrong;
+    })
 
-effect_found : (left : Left) (xs : List Action) (rest : Left) → AreGood left.pieces → effect left ≡ Ok (xs, rest) → Passes (IsListOf IsAction xs) left rest
-unfolding effect
-effect_found left xs rest good e =
-    let a = went (opened left) _ (xs, rest) e in
-    let opens = opened_found left a.value good a.first in
-    between IsAction action action_found xs left a.value rest opens (listed_found action IsAction action_found 4096 [] xs a.value rest opens.good a.behind)
+next_scene_found : Finds next_scene IsNextScene
+unfolding next_scene
+next_scene_found p left z rest is_good good e =
+    let t = if_ok (is_open p.sign) _ why.Syntax p.start (z, rest) e in
+    let a = went_on left _ (z, rest) good t.1 in
+    let name = went (name_of a.piece) _ (z, rest) a.behind in
+    let b = went_on a.rest _ (z, rest) a.good name.behind in
+    let weight = went (integer_of b.piece) _ (z, rest) b.behind in
+    let close = went (closed b.rest) _ (z, rest) weight.behind in
+    let closes = closed_found b.rest close.value b.good close.first in
+    moved_from IsNextScene p left (record { name = name.value; weight = weight.value }) z close.value rest close.behind (record {
+      spells = (
+        words left,
+        words a.rest,
+        words b.rest,
+        first_word _ (word_of p) _ (words left) refl (is_open_word p is_good t.0),
+        first_word (words left) _ _ (words a.rest) a.written (name_found a.piece name.value a.is_good name.first),
+        first_integer weight.value (words a.rest) _ (words b.rest) b.written (integer_found b.piece weight.value b.is_good weight.first),
+        closes.spells,
+      );
+      good = closes.good;
+      wrong = closes.wrong ∙ b.wrong ∙ a.wrong;
+    })
 
 -- values of one token
-data_from : (s : Sign) (start : ℕ) (text : List ℕ) (x : Setting) (ws : List Written) → IsGood (record { sign = s; start = start; text = text })
-    → data_of (record { sign = s; start = start; text = text }) ≡ Ok x → IsSetting x (as_word (kind_of s) text ∷ ws) ws
-unfolding data_of
-data_from (sign.Truth b) start text x ws good e =
-    subst (λ y. IsSetting y (as_word kind.Word text ∷ ws) ws) (ok_same e) (ap (λ t. as_word kind.Word t ∷ ws) (truth_spelled text b good.means))
-data_from (sign.Integer y) start text x ws good e =
-    subst (λ y. IsSetting y (as_word kind.Integer text ∷ ws) ws) (ok_same e) (text, integer_spelled text y good.word good.means, refl)
-data_from _ start text x ws good e = absurd cc
-
-octets_first : (octets : List ℕ) (w : Written) (ws : List Written) → IsOctetsWord octets w → AreOctets octets (w ∷ ws) ws
-octets_first octets w ws (inl same) = inl (ap (λ v. v ∷ ws) same)
-octets_first octets w ws (inr (within, quotes, same)) = inr (within, quotes, ap (λ v. v ∷ ws) same)
+data_set : (x : EventData) (ws rest : List Written) → IsData x ws rest → IsSetting (data_setting x) ws rest
+data_set (of_data.Bool b) ws rest h = h
+data_set (of_data.Int x) ws rest h = h
 
 single_found : (s : Shape) (p : Piece) (x : Setting) (ws : List Written) → IsGood p → single s p ≡ Ok x → IsSetting x (word_of p ∷ ws) ws
 unfolding single
@@ -176,13 +320,24 @@ single_found shape.Int p x ws good e =
 single_found shape.Natural p x ws good e =
     let y = went (natural_of p) _ x e in
     subst (λ z. IsSetting z (word_of p ∷ ws) ws) (ok_same y.behind) (first_integer y.value _ (word_of p) ws refl (natural_found p y.value good y.first))
+single_found shape.Length p x ws good e =
+    let y = went (field_length_of p) _ x e in
+    subst (λ z. IsSetting z (word_of p ∷ ws) ws) (ok_same y.behind) (first_integer y.value _ (word_of p) ws refl (field_length_found p y.value good y.first))
 single_found shape.Event p x ws good e =
     let y = went (event_of p) _ x e in
     subst (λ z. IsSetting z (word_of p ∷ ws) ws) (ok_same y.behind) (ap (λ v. v ∷ ws) (event_found p y.value good y.first))
-single_found shape.Data p x ws good e = data_from p.sign p.start p.text x ws good e
+single_found shape.Data p x ws good e =
+    let y = went (data_of p) _ x e in
+    subst (λ z. IsSetting z (word_of p ∷ ws) ws) (ok_same y.behind) (data_set y.value (word_of p ∷ ws) ws (data_found p y.value ws good y.first))
+single_found shape.Octets p x ws good e =
+    let y = went (octets_of p) _ x e in
+    subst (λ z. IsSetting z (word_of p ∷ ws) ws) (ok_same y.behind) (first_octets y.value (word_of p) ws (octets_found p y.value good y.first))
 single_found shape.Colour p x ws good e =
     let y = went (colour_of p) _ x e in
-    subst (λ z. IsSetting z (word_of p ∷ ws) ws) (ok_same y.behind) (octets_first y.value (word_of p) ws (colour_found p y.value good y.first))
+    subst (λ z. IsSetting z (word_of p ∷ ws) ws) (ok_same y.behind) (first_octets y.value (word_of p) ws (colour_found p y.value good y.first))
+single_found shape.Justification p x ws good e =
+    let y = went (justification_of p) _ x e in
+    subst (λ z. IsSetting z (word_of p ∷ ws) ws) (ok_same y.behind) (ap (λ v. v ∷ ws) (justification_found p y.value good y.first))
 single_found _ p x ws good e = absurd cc
 
 part_found : (s : Shape) (screen : ℤ) (p : Piece) (x : ℤ) → IsGood p → part s screen p ≡ Ok x → IsIntegerWord x (word_of p)
@@ -207,31 +362,49 @@ pair_found s p left x rest is_good good e =
       wrong = a.wrong;
     })
 
-single_at_found : (s : Shape) (p : Piece) (left : Left) (x : Setting) (rest : Left) → IsGood p → AreGood left.pieces → ◌>>=◌ {B = Setting × Left} (single s p) (λ y. Ok (y, left)) ≡ Ok (x, rest) → PassesFrom (IsSetting x) p left rest
-single_at_found s p left x rest is_good good e =
-    let y = went (single s p) (λ y. Ok (y, left)) (x, rest) e in
-    moved_from IsSetting p left y.value x left rest y.behind (record { spells = single_found s p y.value (words left) is_good y.first; good = good; wrong = refl })
+-- content as the value of an attribute
+content_set : (x : Content) (ws rest : List Written) → IsContent x ws rest → IsSetting (content_setting x) ws rest
+content_set (of_content.Included octets) ws rest h = h
+content_set (of_content.Referenced name) ws rest h = h
 
-setting_at_found : (s : Shape) (p : Piece) (left : Left) (x : Setting) (rest : Left) → IsGood p → AreGood left.pieces → setting_at s p left ≡ Ok (x, rest) → PassesFrom (IsSetting x) p left rest
+-- values that are lists
+several_found : (s : Shape) → Finds (several s) IsSetting
+unfolding several
+several_found shape.Effect p left x rest is_good good e =
+    made_finds (IsListOf IsAction) IsSetting of_setting.Effect effect effect_found (λ y ws rs h. h) p left x rest is_good good e
+several_found shape.MovementTable p left x rest is_good good e =
+    made_finds (IsListOf (IsListOf IsInteger)) IsSetting of_setting.MovementTable (list row 4096) (list_found row (IsListOf IsInteger) row_found 4096 (omega arith)) (λ y ws rs h. h) p left x rest is_good good e
+several_found shape.Members p left x rest is_good good e =
+    made_finds (IsListOf IsMember) IsSetting of_setting.Members (list member 4096) (list_found member IsMember member_found 4096 (omega arith)) (λ y ws rs h. h) p left x rest is_good good e
+several_found shape.ListItems p left x rest is_good good e =
+    made_finds (IsListOf IsMember) IsSetting of_setting.Members (list list_item 256) (list_found list_item IsMember list_item_found 256 (omega arith)) (λ y ws rs h. h) p left x rest is_good good e
+several_found shape.Positions p left x rest is_good good e =
+    made_finds (IsListOf IsPosition) IsSetting of_setting.Positions (list position 4096) (list_found position IsPosition position_found 4096 (omega arith)) (λ y ws rs h. h) p left x rest is_good good e
+several_found shape.NextScenes p left x rest is_good good e =
+    made_finds (IsListOf IsNextScene) IsSetting of_setting.NextScenes (list next_scene 4096) (list_found next_scene IsNextScene next_scene_found 4096 (omega arith)) (λ y ws rs h. h) p left x rest is_good good e
+several_found _ p left x rest is_good good e = absurd cc
+
+setting_at_found : (s : Shape) → Finds (setting_at s) IsSetting
 unfolding setting_at
 setting_at_found shape.Ref p left x rest is_good good e =
-    let y = went (reference p left) _ (x, rest) e in
-    let found = reference_found p left y.value.0 y.value.1 is_good good y.first in
-    moved_from IsSetting p left (of_setting.Ref y.value.0) x y.value.1 rest y.behind (record { spells = found.spells; good = found.good; wrong = found.wrong })
+    made_finds IsRef IsSetting of_setting.Ref reference reference_found (λ y ws rs h. h) p left x rest is_good good e
 setting_at_found shape.Pair p left x rest is_good good e = pair_found shape.Pair p left x rest is_good good e
 setting_at_found shape.Size p left x rest is_good good e = pair_found shape.Size p left x rest is_good good e
 setting_at_found shape.Screen p left x rest is_good good e = pair_found shape.Screen p left x rest is_good good e
-setting_at_found s p left x rest is_good good e = single_at_found s p left x rest is_good good e
-
-setting_behind_found : (s : Shape) (left : Left) (x : Setting) (rest : Left) → AreGood left.pieces → (next left >>= λ a. setting_at s a.0 a.1) ≡ Ok (x, rest) → Passes (IsSetting x) left rest
-setting_behind_found s left x rest good e =
-    let a = went_on left (λ a. setting_at s a.0 a.1) (x, rest) good e in
-    from_piece (IsSetting x) left a.rest rest a.piece a.written a.wrong (setting_at_found s a.piece a.rest x rest a.is_good a.good a.behind)
+setting_at_found shape.Content p left x rest is_good good e =
+    made_finds IsContent IsSetting content_setting content content_found content_set p left x rest is_good good e
+setting_at_found shape.ContentRef p left x rest is_good good e =
+    made_finds IsContentName IsSetting of_setting.ContentRef content_name content_name_found (λ y ws rs h. h) p left x rest is_good good e
+setting_at_found shape.Effect p left x rest is_good good e = several_found shape.Effect p left x rest is_good good e
+setting_at_found shape.MovementTable p left x rest is_good good e = several_found shape.MovementTable p left x rest is_good good e
+setting_at_found shape.Members p left x rest is_good good e = several_found shape.Members p left x rest is_good good e
+setting_at_found shape.ListItems p left x rest is_good good e = several_found shape.ListItems p left x rest is_good good e
+setting_at_found shape.Positions p left x rest is_good good e = several_found shape.Positions p left x rest is_good good e
+setting_at_found shape.NextScenes p left x rest is_good good e = several_found shape.NextScenes p left x rest is_good good e
+setting_at_found s p left x rest is_good good e = alone_found IsSetting (single s p) p left x rest good (λ y h. single_found s p y (words left) is_good h) e
 
 pub setting_found : (s : Shape) (left : Left) (x : Setting) (rest : Left) → AreGood left.pieces → setting s left ≡ Ok (x, rest) → Passes (IsSetting x) left rest
 unfolding setting
-setting_found shape.Effect left x rest good e =
-    let y = went (effect left) _ (x, rest) e in
-    let found = effect_found left y.value.0 y.value.1 good y.first in
-    moved IsSetting left (of_setting.Effect y.value.0) x y.value.1 rest y.behind (record { spells = found.spells; good = found.good; wrong = found.wrong })
-setting_found s left x rest good e = setting_behind_found s left x rest good e
+setting_found s left x rest good e =
+    let a = went_on left (λ a. setting_at s a.0 a.1) (x, rest) good e in
+    from_piece (IsSetting x) left a.rest rest a.piece a.written a.wrong (setting_at_found s a.piece a.rest x rest a.is_good a.good a.behind)

@@ -17,3 +17,7 @@ pub mod OnlySettings
 pub mod OrderLemmas
 pub mod OnlyGroups
 pub mod OnlyLaw
+pub mod PrintingLemmas
+pub mod TableWords
+pub mod PrintedLemmas
+pub mod PrintedLaw

@@ -12,7 +12,7 @@ use Rattle.mh_group.specs.declared.written.Field.{Field}
 use Rattle.mh_group.specs.declared.written.Ingredient.{Ingredient}
 use Rattle.mh_group.specs.declared.written.Written.{Written as Group}
 use Rattle.mh_group.specs.declared.misfit.MisfitWhy.{MisfitWhy}
-use Rattle.mh_group.specs.Table.{attribute_number, shape_of, takes, is_group_class}
+use Rattle.mh_group.specs.Table.{attribute_number, shape_of, takes, is_group_class, is_list_group}
 use Rattle.mh_group.specs.Fit.{fits, is_rising, has_required, takes_each, fits_each, fields_misfit, ingredient_misfit, ingredients_misfit, misfit_of, written_items, items_of, is_group}
 use Rattle.mh_group.specs.Words.{class_word, attribute_word}
 use Rattle.mh_text.specs.declared.token_kind.TokenKind.TheVariants as kind
@@ -25,23 +25,26 @@ use Rattle.mh_text.specs.Signs.{sign_of}
 use Rattle.mh_text.specs.Gives.{Refusal, refused}
 use Rattle.mh_text.specs.Spelling.{IsKeyword, IsCloseBrace, IsNamed, AreSeveral, IsListOf, IsField, NoneTwice, AreFieldsOf, IsIngredient, IsBody, IsGroup, Spells}
 use Rattle.mh_text.specs.Left.{left, whole}
-use Rattle.mh_text.specs.Reading.{next, ended, is_same, is_close, opened, closed, braced, refused_at, name_of, number_of, ingredient_number_of, setting, has_attribute, attribute_of, placed, is_items_shape, is_items, next_field, fields, fields_behind_items, complete, class_of, ingredient, items, identifier, body, group, read}
+use Rattle.mh_text.specs.Reading.{next, ended, is_same, opened, closed, braced, refused_at, name_of, number_of, ingredient_number_of, setting, has_attribute, attribute_of, placed, is_items_shape, is_items, next_field, fields, fields_behind_items, complete, class_of, ingredient, items, identifier, body, group, read}
 use Rattle.mh_text.proofs.SignLemmas.{class_means, attribute_means, integer_means}
+use Rattle.mh_text.proofs.FoundGroups.{value_no_items, members_no_items}
 use Rattle.mh_text.proofs.FieldLemmas.{Has, Apart, has_contained, contains_had, has_left, has_right, none_passes, passes_none, same_turned}
 use Rattle.mh_text.proofs.OrderLemmas.{gathered_in, gathered_both, gathered_parts, gathered_same, free_first, apart_next, few_fields, all_had}
-use Rattle.mh_text.proofs.OnlyLemmas.{StandsAt, first, at_end, then_is, Reads, Begun, open_read, close_read, brace_read, name_is, number_is, listed_read, AllFit}
+use Rattle.mh_text.proofs.OnlyLemmas.{StandsAt, first, at_end, then_is, Reads, Takes, open_read, close_read, brace_read, name_is, number_is, AllFit, list_takes}
 use Rattle.mh_text.proofs.OnlySettings.{setting_read}
 
 -- the attribute of a field is not that of the items
-no_items_shape : (a : Attribute) (s : Setting) → fits (shape_of a) s ≡ true → is_items_shape (shape_of a) ≡ false
-no_items_shape attribute.Items (of_setting.Bool b) h = absurd cc
-no_items_shape attribute.Items _ h = absurd cc
-no_items_shape _ s h = refl
+no_items_shape : (c : Class) (a : Attribute) (s : Setting) → fits (shape_of c a) s ≡ true → is_items_shape (shape_of c a) ≡ false
+no_items_shape c attribute.Items (of_setting.Bool b) h = absurd cc
+no_items_shape c attribute.Items _ h = absurd cc
+no_items_shape c attribute.OrigValue s h = value_no_items c
+no_items_shape c attribute.TokenGroupItems s h = members_no_items (is_list_group c)
+no_items_shape c _ s h = refl
 
-no_items_number : (a : Attribute) (s : Setting) → fits (shape_of a) s ≡ true → (attribute_number a == attribute_number attribute.Items) ≡ false
-no_items_number attribute.Items (of_setting.Bool b) h = absurd cc
-no_items_number attribute.Items _ h = absurd cc
-no_items_number _ s h = refl
+no_items_number : (c : Class) (a : Attribute) (s : Setting) → fits (shape_of c a) s ≡ true → (attribute_number a == attribute_number attribute.Items) ≡ false
+no_items_number c attribute.Items (of_setting.Bool b) h = absurd cc
+no_items_number c attribute.Items _ h = absurd cc
+no_items_number c _ s h = refl
 
 attribute_is : (c : Class) (done : List Field) (a : Attribute) (start : ℕ) (text : List ℕ) → takes c a ≡ true → has_attribute done a ≡ false
     → attribute_of c done (record { sign = sign.Attribute a; start = start; text = text }) ≡ Ok a
@@ -52,7 +55,7 @@ attribute_is c done a start text taken free =
 
 -- what a field has to be
 abbrev FitsIn : Class → Field → Type 0
-FitsIn c f = (takes c f.attribute ≡ true) × (fits (shape_of f.attribute) f.setting ≡ true)
+FitsIn c f = (takes c f.attribute ≡ true) × (fits (shape_of c f.attribute) f.setting ≡ true)
 
 -- the next field was read
 record FieldRead (c : Class) (done : List Field) (f : Field) (l : Left) (ws : List Written) : Type 0 where
@@ -66,14 +69,14 @@ field_read : (c : Class) (done : List Field) (f : Field) (l : Left) (ws rest : L
 unfolding next_field
 field_read c done f l ws rest fit free at (a, named, value) =
     let s = first l ws a kind.Keyword (58 ∷ attribute_word f.attribute) (sign.Attribute f.attribute) at named (attribute_means f.attribute) in
-    let v = setting_read (shape_of f.attribute) f.setting s.rest a rest fit.1 s.at value in
+    let v = setting_read (shape_of c f.attribute) f.setting s.rest a rest fit.1 s.at value in
     let p : Piece = record { sign = sign.Attribute f.attribute; start = s.start; text = 58 ∷ attribute_word f.attribute } in
     record {
       head = p;
       rest = v.rest;
       is = then_is (next l) _ _ (Some f, p, v.rest) s.first
           (then_is (attribute_of c done p) _ f.attribute (Some f, p, v.rest) (attribute_is c done f.attribute s.start (58 ∷ attribute_word f.attribute) fit.0 free)
-          (rw (no_items_shape f.attribute f.setting fit.1) (then_is (setting (shape_of f.attribute) s.rest) _ _ (Some f, p, v.rest) v.is refl)));
+          (rw (no_items_shape c f.attribute f.setting fit.1) (then_is (setting (shape_of c f.attribute) s.rest) _ _ (Some f, p, v.rest) v.is refl)));
       at = v.at;
     }
 
@@ -124,7 +127,7 @@ ends_items c done end rest group_class fit e m at =
     let s = first m end rest kind.Keyword (58 ∷ attribute_word attribute.Items) (sign.Attribute attribute.Items) at e (attribute_means attribute.Items) in
     let p : Piece = record { sign = sign.Attribute attribute.Items; start = s.start; text = 58 ∷ attribute_word attribute.Items } in
     let free : has_attribute done attribute.Items ≡ false =
-    none_passes (λ (g : Field). attribute_number g.attribute == attribute_number attribute.Items) done (λ g h. no_items_number g.attribute g.setting (fit g h).1) in
+    none_passes (λ (g : Field). attribute_number g.attribute == attribute_number attribute.Items) done (λ g h. no_items_number c g.attribute g.setting (fit g h).1) in
     record {
       head = p;
       rest = s.rest;
@@ -153,11 +156,11 @@ are_right c fs e =
     let a = if_none (is_rising fs) _ _ e in
     let b = if_none (has_required c fs) _ _ a.1 in
     let d = if_none (takes_each c fs) _ _ b.1 in
-    let f = if_none (fits_each fs) _ _ d.1 in
+    let f = if_none (fits_each c fs) _ _ d.1 in
     record {
       rising = a.0;
       required = b.0;
-      fit = λ x h. (all_had (λ f. takes c f.attribute) fs x d.0 h, all_had (λ f. fits (shape_of f.attribute) f.setting) fs x f.0 h);
+      fit = λ x h. (all_had (λ f. takes c f.attribute) fs x d.0 h, all_had (λ f. fits (shape_of c f.attribute) f.setting) fs x f.0 h);
     }
 
 written_fit : (c : Class) (xs fs : List Field) → AreRight c xs → AreFieldsOf xs fs → (x : Field) → Has fs x → FitsIn c x
@@ -182,9 +185,9 @@ ingredient_number_is n start text h =
 abbrev FitsIngredient : Ingredient → Type 0
 FitsIngredient x = ingredient_misfit x ≡ None
 
-ingredient_read : (l : Left) (x : Ingredient) (ws rest : List Written) → FitsIngredient x → StandsAt l ws → IsIngredient x ws rest → (b : Begun l ingredient x rest) × (is_close b.head.sign ≡ false)
+ingredient_takes : Takes ingredient IsIngredient FitsIngredient
 unfolding ingredient sign_of
-ingredient_read l x ws rest fit at (a, b, c, d, fs, opens, named, (text, writes, number), several, same, close) =
+ingredient_takes l x ws rest fit at (a, b, c, d, fs, opens, named, (text, writes, number), several, same, close) =
     let g = if_no_none (is_group_class x.class) _ _ fit in
     let n = if_no_none (x.number == 0) _ _ g.1 in
     let right = are_right x.class x.fields n.1 in
@@ -194,28 +197,27 @@ ingredient_read l x ws rest fit at (a, b, c, d, fs, opens, named, (text, writes,
     let few = few_fields fs same.0 in
     let f = fields_read x.class 4096 [] fs u.rest c d rest IsBrace (omega arith) (λ y z h. absurd h) same.0 (written_fit x.class x.fields fs right same) u.at several
     (ends_brace x.class (gathered_in fs []) d rest close) in
-    let kept : gathered_in fs [] ≡ x.fields = gathered_same x.fields fs right.rising same in (
-      record {
-        head = record { sign = sign.OpenBrace; start = s.start; text = 123 ∷ [] };
-        behind = s.rest;
-        first = s.first;
-        rest = f.rest;
-        is = then_is (next s.rest) _ _ (x, f.rest) t.first
-            (then_is (class_of false (record { sign = sign.Class x.class; start = t.start; text = 58 ∷ class_word x.class })) _ x.class (x, f.rest) (class_is false x.class t.start (58 ∷ class_word x.class) g.0)
-            (then_is (next t.rest) _ _ (x, f.rest) u.first
-            (then_is (ingredient_number_of (record { sign = sign.Integer (pos x.number); start = u.start; text = text })) _ x.number (x, f.rest) (ingredient_number_is x.number u.start text n.0)
-            (then_is (fields x.class 4096 [] u.rest) _ _ (x, f.rest) (f.is ∙ ap (λ ys. Ok (ys, f.head, f.rest)) kept)
-            (then_is (complete x.class x.fields f.head) _ x.fields (x, f.rest) (complete_is x.class x.fields f.head right.required) refl)))));
-        at = f.at;
-      },
-      refl,
-    )
+    let kept : gathered_in fs [] ≡ x.fields = gathered_same x.fields fs right.rising same in
+    record {
+      head = record { sign = sign.OpenBrace; start = s.start; text = 123 ∷ [] };
+      behind = s.rest;
+      first = s.first;
+      rest = f.rest;
+      is = then_is (next s.rest) _ _ (x, f.rest) t.first
+          (then_is (class_of false (record { sign = sign.Class x.class; start = t.start; text = 58 ∷ class_word x.class })) _ x.class (x, f.rest) (class_is false x.class t.start (58 ∷ class_word x.class) g.0)
+          (then_is (next t.rest) _ _ (x, f.rest) u.first
+          (then_is (ingredient_number_of (record { sign = sign.Integer (pos x.number); start = u.start; text = text })) _ x.number (x, f.rest) (ingredient_number_is x.number u.start text n.0)
+          (then_is (fields x.class 4096 [] u.rest) _ _ (x, f.rest) (f.is ∙ ap (λ ys. Ok (ys, f.head, f.rest)) kept)
+          (then_is (complete x.class x.fields f.head) _ x.fields (x, f.rest) (complete_is x.class x.fields f.head right.required) refl)))));
+      at = f.at;
+      no_close = refl;
+    }
 
 or_none : (o p : Option MisfitWhy) → option_or o p ≡ None → (o ≡ None) × (p ≡ None)
 or_none (Some w) p e = absurd cc
 or_none None p e = (refl, e)
 
-all_fit : (xs : List Ingredient) → ingredients_misfit xs ≡ None → AllFit ingredient IsIngredient FitsIngredient ingredient_read xs
+all_fit : (xs : List Ingredient) → ingredients_misfit xs ≡ None → AllFit FitsIngredient xs
 all_fit [] h = tt
 all_fit (x ∷ xs) h =
     let both = or_none (ingredient_misfit x) (ingredients_misfit xs) h in
@@ -223,10 +225,9 @@ all_fit (x ∷ xs) h =
 
 items_read : (l : Left) (xs : List Ingredient) (ws rest : List Written) → ingredients_misfit xs ≡ None → StandsAt l ws → IsListOf IsIngredient xs ws rest → Reads (items l) xs rest
 unfolding items
-items_read l xs ws rest fit at (few, a, b, opens, several, close) =
-    let o = open_read l ws a at opens in
-    let r = listed_read ingredient IsIngredient FitsIngredient ingredient_read 4096 [] xs o.rest a b rest few (all_fit xs fit) o.at several close in
-    record { rest = r.rest; is = then_is (opened l) _ o.rest (xs, r.rest) o.is r.is; at = r.at }
+items_read l xs ws rest fit at h =
+    let b = list_takes ingredient IsIngredient FitsIngredient ingredient_takes 4096 l xs ws rest (λ few. few, all_fit xs fit) at h in
+    record { rest = b.rest; is = then_is (next l) _ _ (xs, b.rest) b.first b.is; at = b.at }
 
 -- the group
 identifier_read : (l : Left) (name : List ℕ) (ws rest : List Written) → StandsAt l ws → IsNamed name 0 ws rest → Reads (identifier l) name rest
@@ -253,20 +254,20 @@ record BodyRead (c : Class) (l : Left) (xs : List Field) (its : Option (List Ing
   pub is : body c l ≡ Ok (xs, its, head, rest)
   pub at : StandsAt rest ws
 
-brace_no_items : (s : Sign) → IsBrace s → is_items s ≡ false
+brace_no_items : (c : Class) (s : Sign) → IsBrace s → is_items c s ≡ false
 unfolding is_items
-brace_no_items s h = ap is_items h
+brace_no_items c s h = ap (is_items c) h
 
-items_are : (s : Sign) → IsItems s → is_items s ≡ true
+items_are : (c : Class) (s : Sign) → IsItems s → is_items c s ≡ true
 unfolding is_items
-items_are s h = ap is_items h
+items_are c s h = ap (is_items c) h
 
 behind_items_read : (c : Class) (done : List Field) (l : Left) (xs : List Field) (ws : List Written) → FieldsRead (fields c 4096 done l) xs ws IsBrace → FieldsRead (fields_behind_items c done l) xs ws IsBrace
 unfolding fields_behind_items
 behind_items_read c done l xs ws f = record {
   head = f.head;
   rest = f.rest;
-  is = then_is (fields c 4096 done l) _ _ (xs, f.head, f.rest) f.is (ap (λ (b : Bool). if b then refused_at why.Syntax f.head else Ok (xs, f.head, f.rest)) (brace_no_items f.head.sign f.test));
+  is = then_is (fields c 4096 done l) _ _ (xs, f.head, f.rest) f.is (ap (λ (b : Bool). if b then refused_at why.Syntax f.head else Ok (xs, f.head, f.rest)) (brace_no_items c f.head.sign f.test));
   at = f.at;
   test = f.test;
 }
@@ -301,7 +302,7 @@ body_read c l xs fs None ws end rest group_class right same fit at several close
       head = f.head;
       rest = f.rest;
       is = then_is (fields c 4096 [] l) _ _ (xs, None, f.head, f.rest) (f.is ∙ ap (λ ys. Ok (ys, f.head, f.rest)) kept)
-          (rw (brace_no_items f.head.sign f.test) refl);
+          (rw (brace_no_items c f.head.sign f.test) refl);
       at = f.at;
     }
 body_read c l xs fs (Some its) ws end rest group_class right same fit at (front, back, a, b, d, parts, before, named, listed_items, behind) close =
@@ -323,7 +324,7 @@ body_read c l xs fs (Some its) ws end rest group_class right same fit at (front,
       head = g.head;
       rest = g.rest;
       is = then_is (fields c 4096 [] l) _ _ (xs, Some its, g.head, g.rest) f.is
-          (rw (items_are f.head.sign f.test)
+          (rw (items_are c f.head.sign f.test)
           (then_is (items f.rest) _ _ (xs, Some its, g.head, g.rest) it.is
           (then_is (fields_behind_items c (gathered_in front []) it.rest) _ _ (xs, Some its, g.head, g.rest) (g.is ∙ ap (λ ys. Ok (ys, g.head, g.rest)) kept) refl)));
       at = g.at;

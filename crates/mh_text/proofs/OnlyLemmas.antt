@@ -1,25 +1,33 @@
 -- What is spelled is read: values, from their words.
-use Rattle.std.proofs.Common.{◌≡◌, ℕ, zero, suc, ◌≤◌, Bool, true, false, ◌&&◌, ◌==◌, if◌then◌else◌, List, [], ◌∷◌, ◌++◌, length, Some, None, Result, Ok, ℤ, pos, int_lt, nat_lt, refl, ap, sym, ◌∙◌, subst, arith, append_assoc, append-nil}
+use Rattle.std.proofs.Common.{◌≡◌, ℕ, zero, suc, ◌≤◌, Bool, true, false, ◌&&◌, ◌==◌, if◌then◌else◌, List, [], ◌∷◌, ◌++◌, length, Some, None, Result, Ok, ℤ, pos, int_lt, nat_lt, inl, inr, codes, refl, ap, sym, ◌∙◌, subst, arith, append_assoc, append-nil}
 use Rattle.std.specs.List.{list_all}
 use Rattle.std.proofs.lemmas.Bool.Decides.{nat_tests}
+use Rattle.mh_base.specs.declared.event.EventType.{EventType}
 use Rattle.mh_base.specs.Path.{is_name_byte}
-use Rattle.mh_group.specs.declared.reference.Ref.{Ref}
 use Rattle.mh_group.specs.declared.reference.Ref.TheVariants as ref
-use Rattle.mh_group.specs.declared.reference.Generic.{Generic}
 use Rattle.mh_group.specs.declared.reference.Generic.TheVariants.{Direct, Indirect}
+use Rattle.mh_group.specs.declared.justification.Justification.{Justification}
+use Rattle.mh_group.specs.declared.action.Content.TheVariants as of_content
+use Rattle.mh_group.specs.declared.action.EventData.{EventData}
+use Rattle.mh_group.specs.declared.action.EventData.TheVariants as of_data
+use Rattle.mh_group.specs.Words.{event_word, justification_word}
 use Rattle.mh_text.specs.declared.token_kind.TokenKind.{TokenKind}
 use Rattle.mh_text.specs.declared.token_kind.TokenKind.TheVariants as kind
 use Rattle.mh_text.specs.declared.sign.Sign.{Sign}
 use Rattle.mh_text.specs.declared.sign.Sign.TheVariants as sign
+use Rattle.mh_text.specs.declared.text_error.Why.TheVariants as why
+use Rattle.mh_text.specs.declared.octet_text.Escape.TheVariants.{Outside}
+use Rattle.mh_text.specs.Escapes.{unescaped}
 use Rattle.mh_text.specs.Rest.{Rest, Left, Piece, piece}
 use Rattle.mh_text.specs.Signs.{sign_of}
-use Rattle.mh_text.specs.Words.{Written, AreWords, IsWord, needs_gap}
+use Rattle.mh_text.specs.Words.{Written, AreWords, IsWord, Quotes, needs_gap}
 use Rattle.mh_text.specs.Gives.{Refusal, ◌>>=◌}
-use Rattle.mh_text.specs.Spelling.{IsOpen, IsClose, IsOpenBrace, IsInteger, IsNumber, IsName, IsRef, IsDirect, AreSeveral}
+use Rattle.mh_text.specs.Spelling.{IsOpen, IsClose, IsOpenBrace, IsInteger, IsNumber, IsName, AreOctets, truth_word, IsTruth, IsRef, IsGeneric, IsContentName, IsContent, IsData, AreSeveral, IsListOf}
 use Rattle.mh_text.specs.Left.{token, lexed, meant, left_in, left}
-use Rattle.mh_text.specs.Reading.{next, ended, is_close, opened, closed, closed_list, braced, inner, name_of, integer_of, natural_of, number_of, named_reference, reference, generic_reference, generic_integer, next_member, listed}
+use Rattle.mh_text.specs.Reading.{next, ended, refused_at, is_close, is_indirect, is_content_ref, opened, closed, closed_list, braced, inner, name_of, integer_of, natural_of, number_of, truth_of, event_of, justification_of, octets_of, colour_of, data_of, made, alone, truth, integer, octets, event_data, content_name, content, named_reference, reference, generic, next_member, listed, list}
 use Rattle.mh_text.proofs.LeftLemmas.{left_is}
-use Rattle.mh_text.proofs.SignLemmas.{integer_means, inner_is}
+use Rattle.mh_text.proofs.SignLemmas.{integer_means, truth_means, event_means, justification_means, content_ref_means, indirect_ref_means, inner_is}
+use Rattle.mh_text.proofs.FoundLemmas.{quotes_unescaped}
 use Rattle.mh_text.proofs.PieceLemmas.{as_word}
 use Rattle.mh_text.proofs.ExactLemmas.{next_word, last_word}
 
@@ -139,6 +147,134 @@ pub number_is : (start : ℕ) (text : List ℕ) (n : ℕ) → number_of (record 
 unfolding number_of
 number_is start text n = then_is (natural_of _) _ (pos n) n (natural_is start text (pos n) (from_zero n)) refl
 
+-- what a token that begins a value is not: the end of a list, or the keyword of a value that a variable holds
+abbrev pub IsPlain : Sign → Type 0
+IsPlain s = (is_close s ≡ false) × (is_indirect s ≡ false)
+
+-- what begins with a token
+pub record Begun {A : Type 0} (l : Left) (read : Piece → Left → Result (A × Left) Refusal) (x : A) (ws : List Written) : Type 0 where
+  pub head : Piece
+  pub behind : Left
+  pub first : next l ≡ Ok (head, behind)
+  pub rest : Left
+  pub is : read head behind ≡ Ok (x, rest)
+  pub at : StandsAt rest ws
+  pub no_close : is_close head.sign ≡ false
+
+-- what fits and is spelled so is read from a token
+abbrev pub Takes : {A : Type 0} → (Piece → Left → Result (A × Left) Refusal) → (A → List Written → List Written → Type 0) → (A → Type 0) → Type 0
+Takes {A} read Is Fits = (l : Left) (x : A) (ws rest : List Written) → Fits x → StandsAt l ws → Is x ws rest → Begun l read x rest
+
+-- what is spelled so is read from a token, which is not the keyword of a value that a variable holds
+abbrev pub TakesDirect : {A : Type 0} → (Piece → Left → Result (A × Left) Refusal) → (A → List Written → List Written → Type 0) → Type 0
+TakesDirect {A} read Is = (l : Left) (x : A) (ws rest : List Written) → StandsAt l ws → Is x ws rest → (b : Begun l read x rest) × (is_indirect b.head.sign ≡ false)
+
+-- all values fit
+abbrev pub Any : {A : Type 0} → A → Type 0
+Any x = Unit {0}
+
+-- what is one token
+pub record One {A : Type 0} (l : Left) (read : Piece → Result A Refusal) (x : A) (ws : List Written) : Type 0 where
+  pub head : Piece
+  pub behind : Left
+  pub first : next l ≡ Ok (head, behind)
+  pub is : read head ≡ Ok x
+  pub at : StandsAt behind ws
+  pub plain : IsPlain head.sign
+
+pub one : {A : Type 0} (read : Piece → Result A Refusal) (x : A) (l : Left) (k : TokenKind) (text : List ℕ) (s : Sign) (rest : List Written) (t : Steps l k text s rest) → IsPlain s
+    → read (record { sign = s; start = t.start; text = text }) ≡ Ok x → One l read x rest
+one read x l k text s rest t plain is = record { head = record { sign = s; start = t.start; text = text }; behind = t.rest; first = t.first; is = is; at = t.at; plain = plain }
+
+-- a part of a value, and a value alone
+pub one_made : {A B : Type 0} (f : A → B) (read : Piece → Result A Refusal) (x : A) (l : Left) (ws : List Written) → One l read x ws → One l (λ p. read p >>= λ y. Ok (f y)) (f x) ws
+one_made f read x l ws o = record { head = o.head; behind = o.behind; first = o.first; is = then_is (read o.head) _ x (f x) o.is refl; at = o.at; plain = o.plain }
+
+pub alone_taken : {A : Type 0} (read : Piece → Result A Refusal) (x : A) (l : Left) (ws : List Written) → One l read x ws → Begun l (λ p left. alone (read p) left) x ws
+alone_taken read x l ws o = record { head = o.head; behind = o.behind; first = o.first; rest = o.behind; is = then_is (read o.head) _ x (x, o.behind) o.is refl; at = o.at; no_close = o.plain.0 }
+
+alone_direct : {A : Type 0} (read : Piece → Result A Refusal) (x : A) (l : Left) (ws : List Written) → One l read x ws → (b : Begun l (λ p left. alone (read p) left) x ws) × (is_indirect b.head.sign ≡ false)
+alone_direct read x l ws o = (
+  record { head = o.head; behind = o.behind; first = o.first; rest = o.behind; is = then_is (read o.head) _ x (x, o.behind) o.is refl; at = o.at; no_close = o.plain.0 },
+  o.plain.1,
+)
+
+pub made_taken : {A B : Type 0} (f : A → B) (read : Piece → Left → Result (A × Left) Refusal) (x : A) (l : Left) (ws : List Written) → Begun l read x ws → Begun l (λ p left. made f (read p left)) (f x) ws
+made_taken f read x l ws b = record { head = b.head; behind = b.behind; first = b.first; rest = b.rest; is = then_is (read b.head b.behind) _ _ (f x, b.rest) b.is refl; at = b.at; no_close = b.no_close }
+
+-- values of one token
+pub truth_one : (b : Bool) (l : Left) (ws rest : List Written) → StandsAt l ws → IsTruth b ws rest → One l truth_of b rest
+unfolding truth_of
+truth_one b l ws rest at h = one truth_of b l kind.Word (truth_word b) (sign.Truth b) rest (first l ws rest kind.Word (truth_word b) (sign.Truth b) at h (truth_means b)) (refl, refl) refl
+
+pub event_one : (x : EventType) (l : Left) (ws rest : List Written) → StandsAt l ws → ws ≡ as_word kind.Word (event_word x) ∷ rest → One l event_of x rest
+unfolding event_of
+event_one x l ws rest at h = one event_of x l kind.Word (event_word x) (sign.Event x) rest (first l ws rest kind.Word (event_word x) (sign.Event x) at h (event_means x)) (refl, refl) refl
+
+pub justification_one : (x : Justification) (l : Left) (ws rest : List Written) → StandsAt l ws → ws ≡ as_word kind.Word (justification_word x) ∷ rest → One l justification_of x rest
+unfolding justification_of
+justification_one x l ws rest at h =
+    one justification_of x l kind.Word (justification_word x) (sign.Justification x) rest (first l ws rest kind.Word (justification_word x) (sign.Justification x) at h (justification_means x)) (refl, refl) refl
+
+-- an integer, read as one of a range
+pub number_one : (read : Piece → Result ℤ Refusal) (x : ℤ) (l : Left) (ws rest : List Written) → StandsAt l ws → IsInteger x ws rest
+    → ((start : ℕ) (text : List ℕ) → read (record { sign = sign.Integer x; start = start; text = text }) ≡ Ok x) → One l read x rest
+number_one read x l ws rest at (text, writes, e) is =
+    let t = first l ws rest kind.Integer text (sign.Integer x) at e (integer_means text x writes) in
+    one read x l kind.Integer text (sign.Integer x) rest t (refl, refl) (is t.start text)
+
+pub integer_one : (x : ℤ) (l : Left) (ws rest : List Written) → StandsAt l ws → IsInteger x ws rest → One l integer_of x rest
+integer_one x l ws rest at h = number_one integer_of x l ws rest at h (λ start text. integer_is start text x)
+
+octets_is : (start : ℕ) (octets : List ℕ) → octets_of (record { sign = sign.Text; start = start; text = 34 ∷ (octets ++ 34 ∷ []) }) ≡ Ok octets
+unfolding octets_of
+octets_is start octets = ap Ok (inner_is 34 octets)
+
+quoted_is : (start : ℕ) (within octets : List ℕ) → Quotes within octets → octets_of (record { sign = sign.Quoted; start = start; text = 39 ∷ (within ++ 39 ∷ []) }) ≡ Ok octets
+unfolding octets_of
+quoted_is start within octets quotes = ap (λ n. Ok (unescaped Outside n)) (inner_is 39 within) ∙ ap Ok (quotes_unescaped within octets quotes)
+
+pub octets_one : (octets : List ℕ) (l : Left) (ws rest : List Written) → StandsAt l ws → AreOctets octets ws rest → One l octets_of octets rest
+unfolding sign_of
+octets_one octets l ws rest at (inl e) =
+    let t = first l ws rest kind.Text (34 ∷ (octets ++ 34 ∷ [])) sign.Text at e refl in
+    one octets_of octets l kind.Text (34 ∷ (octets ++ 34 ∷ [])) sign.Text rest t (refl, refl) (octets_is t.start octets)
+octets_one octets l ws rest at (inr (within, quotes, e)) =
+    let t = first l ws rest kind.Quoted (39 ∷ (within ++ 39 ∷ [])) sign.Quoted at e refl in
+    one octets_of octets l kind.Quoted (39 ∷ (within ++ 39 ∷ [])) sign.Quoted rest t (refl, refl) (quoted_is t.start within octets quotes)
+
+pub colour_one : (octets : List ℕ) (l : Left) (ws rest : List Written) → (length octets == 4) ≡ true → StandsAt l ws → AreOctets octets ws rest → One l colour_of octets rest
+unfolding colour_of
+colour_one octets l ws rest fit at h =
+    let o = octets_one octets l ws rest at h in
+    record {
+      head = o.head;
+      behind = o.behind;
+      first = o.first;
+      is = then_is (octets_of o.head) _ octets octets o.is (ap (λ (b : Bool). if b then Ok octets else refused_at why.Range o.head) fit);
+      at = o.at;
+      plain = o.plain;
+    }
+
+pub data_one : (x : EventData) (l : Left) (ws rest : List Written) → StandsAt l ws → IsData x ws rest → One l data_of x rest
+unfolding data_of
+data_one (of_data.Bool b) l ws rest at h =
+    one data_of (of_data.Bool b) l kind.Word (truth_word b) (sign.Truth b) rest (first l ws rest kind.Word (truth_word b) (sign.Truth b) at h (truth_means b)) (refl, refl) refl
+data_one (of_data.Int x) l ws rest at (text, writes, e) =
+    one data_of (of_data.Int x) l kind.Integer text (sign.Integer x) rest (first l ws rest kind.Integer text (sign.Integer x) at e (integer_means text x writes)) (refl, refl) refl
+
+pub truth_takes : TakesDirect truth IsTruth
+truth_takes l x ws rest at h = alone_direct truth_of x l rest (truth_one x l ws rest at h)
+
+pub integer_takes : TakesDirect integer IsInteger
+integer_takes l x ws rest at h = alone_direct integer_of x l rest (integer_one x l ws rest at h)
+
+pub octets_takes : TakesDirect octets AreOctets
+octets_takes l x ws rest at h = alone_direct octets_of x l rest (octets_one x l ws rest at h)
+
+pub data_takes : TakesDirect event_data IsData
+data_takes l x ws rest at h = alone_direct data_of x l rest (data_one x l ws rest at h)
+
 -- references
 named_read : (l : Left) (name : List ℕ) (n : ℕ) (ws b c rest : List Written) → StandsAt l ws → IsName name ws b → IsNumber n b c → IsClose c rest → Reads (named_reference l) (ref.In name n) rest
 unfolding named_reference sign_of
@@ -156,68 +292,144 @@ named_read l name n ws b c rest at named (text, writes, number) close =
       at = g.at;
     }
 
--- what begins with a token
-pub record Begun {A : Type 0} (l : Left) (read : Piece → Left → Result (A × Left) Refusal) (x : A) (ws : List Written) : Type 0 where
-  pub head : Piece
-  pub behind : Left
-  pub first : next l ≡ Ok (head, behind)
-  pub rest : Left
-  pub is : read head behind ≡ Ok (x, rest)
-  pub at : StandsAt rest ws
-
-pub reference_read : (l : Left) (r : Ref) (ws rest : List Written) → StandsAt l ws → IsRef r ws rest → Begun l reference r rest
+pub reference_takes : TakesDirect reference IsRef
 unfolding reference sign_of
-reference_read l (ref.Here n) ws rest at (text, writes, e) =
-    let s = first l ws rest kind.Integer text (sign.Integer (pos n)) at e (integer_means text (pos n) writes) in
-    record {
-      head = record { sign = sign.Integer (pos n); start = s.start; text = text };
-      behind = s.rest;
-      first = s.first;
-      rest = s.rest;
-      is = then_is (number_of (record { sign = sign.Integer (pos n); start = s.start; text = text })) _ n (ref.Here n, s.rest) (number_is s.start text n) refl;
-      at = s.at;
-    }
-reference_read l (ref.In name n) ws rest at (a, b, c, opens, named, number, close) =
+reference_takes l (ref.Here n) ws rest at (text, writes, e) =
+    let s = first l ws rest kind.Integer text (sign.Integer (pos n)) at e (integer_means text (pos n) writes) in (
+      record {
+        head = record { sign = sign.Integer (pos n); start = s.start; text = text };
+        behind = s.rest;
+        first = s.first;
+        rest = s.rest;
+        is = then_is (number_of (record { sign = sign.Integer (pos n); start = s.start; text = text })) _ n (ref.Here n, s.rest) (number_is s.start text n) refl;
+        at = s.at;
+        no_close = refl;
+      },
+      refl,
+    )
+reference_takes l (ref.In name n) ws rest at (a, b, c, opens, named, number, close) =
     let s = first l ws a kind.OpenParenthesis (40 ∷ []) sign.OpenParenthesis at opens refl in
-    let r = named_read s.rest name n a b c rest s.at named number close in
-    record {
-      head = record { sign = sign.OpenParenthesis; start = s.start; text = 40 ∷ [] };
-      behind = s.rest;
-      first = s.first;
-      rest = r.rest;
-      is = r.is;
-      at = r.at;
-    }
+    let r = named_read s.rest name n a b c rest s.at named number close in (
+      record {
+        head = record { sign = sign.OpenParenthesis; start = s.start; text = 40 ∷ [] };
+        behind = s.rest;
+        first = s.first;
+        rest = r.rest;
+        is = r.is;
+        at = r.at;
+        no_close = refl;
+      },
+      refl,
+    )
 
-pub generic_reference_read : (l : Left) (g : Generic Ref) (ws rest : List Written) → StandsAt l ws → IsDirect IsRef g ws rest → Reads (generic_reference l) g rest
-unfolding generic_reference
-generic_reference_read l (Direct r) ws rest at h =
-    let b = reference_read l r ws rest at h in
-    record {
-      rest = b.rest;
-      is = then_is (next l) _ _ (Direct r, b.rest) b.first (then_is (reference b.head b.behind) _ _ (Direct r, b.rest) b.is refl);
-      at = b.at;
-    }
-generic_reference_read l (Indirect r) ws rest at h = absurd h
+-- contents
+pub content_name_takes : TakesDirect content_name IsContentName
+unfolding content_name sign_of
+content_name_takes l name ws rest at (a, b, c, keyed, opens, named, close) =
+    let k = first l ws a kind.Keyword (58 ∷ codes "ContentRef") sign.ContentRef at keyed content_ref_means in
+    let o = open_read k.rest a b k.at opens in
+    let s = first o.rest b c kind.Text (34 ∷ (name ++ 34 ∷ [])) sign.Text o.at named refl in
+    let g = close_read s.rest c rest s.at close in (
+      record {
+        head = record { sign = sign.ContentRef; start = k.start; text = 58 ∷ codes "ContentRef" };
+        behind = k.rest;
+        first = k.first;
+        rest = g.rest;
+        is = then_is (opened k.rest) _ o.rest (name, g.rest) o.is
+            (then_is (next o.rest) _ _ (name, g.rest) s.first
+            (then_is (name_of (record { sign = sign.Text; start = s.start; text = 34 ∷ (name ++ 34 ∷ []) })) _ name (name, g.rest) (name_is s.start name s.word)
+            (then_is (closed s.rest) _ g.rest (name, g.rest) g.is refl)));
+        at = g.at;
+        no_close = refl;
+      },
+      refl,
+    )
 
-pub generic_integer_read : (l : Left) (g : Generic ℤ) (ws rest : List Written) → StandsAt l ws → IsDirect IsInteger g ws rest → Reads (generic_integer l) g rest
-unfolding generic_integer
-generic_integer_read l (Direct x) ws rest at (text, writes, e) =
-    let s = first l ws rest kind.Integer text (sign.Integer x) at e (integer_means text x writes) in
+-- a name begins with its keyword, and octets do not
+begins_name : (s : Sign) (start : ℕ) (text : List ℕ) (left : Left) (name : List ℕ) (rest : Left) → content_name (record { sign = s; start = start; text = text }) left ≡ Ok (name, rest) → is_content_ref s ≡ true
+unfolding content_name
+begins_name sign.ContentRef start text left name rest e = refl
+begins_name _ start text left name rest e = absurd cc
+
+begins_octets : (s : Sign) (start : ℕ) (text octets : List ℕ) → octets_of (record { sign = s; start = start; text = text }) ≡ Ok octets → is_content_ref s ≡ false
+unfolding octets_of
+begins_octets sign.Text start text octets e = refl
+begins_octets sign.Quoted start text octets e = refl
+begins_octets _ start text octets e = absurd cc
+
+pub content_takes : TakesDirect content IsContent
+unfolding content
+content_takes l (of_content.Included bytes) ws rest at h =
+    let o = octets_one bytes l ws rest at h in (
+      record {
+        head = o.head;
+        behind = o.behind;
+        first = o.first;
+        rest = o.behind;
+        is = rw (begins_octets o.head.sign o.head.start o.head.text bytes o.is) (then_is (octets o.head o.behind) _ _ (of_content.Included bytes, o.behind) (then_is (octets_of o.head) _ bytes (bytes, o.behind) o.is refl) refl);
+        at = o.at;
+        no_close = o.plain.0;
+      },
+      o.plain.1,
+    )
+content_takes l (of_content.Referenced name) ws rest at h =
+    let b = content_name_takes l name ws rest at h in (
+      record {
+        head = b.0.head;
+        behind = b.0.behind;
+        first = b.0.first;
+        rest = b.0.rest;
+        is = rw (begins_name b.0.head.sign b.0.head.start b.0.head.text b.0.behind name b.0.rest b.0.is) (then_is (content_name b.0.head b.0.behind) _ _ (of_content.Referenced name, b.0.rest) b.0.is refl);
+        at = b.0.at;
+        no_close = b.0.no_close;
+      },
+      b.1,
+    )
+
+-- values that a variable may hold
+pub generic_takes : {A : Type 0} (value : Piece → Left → Result (A × Left) Refusal) (Is : A → List Written → List Written → Type 0) → TakesDirect value Is → Takes (generic value) (IsGeneric Is) Any
+unfolding generic
+generic_takes value Is takes_value l (Direct x) ws rest fit at h =
+    let b = takes_value l x ws rest at h in
     record {
-      rest = s.rest;
-      is = then_is (next l) _ _ (Direct x, s.rest) s.first (then_is (integer_of (record { sign = sign.Integer x; start = s.start; text = text })) _ x (Direct x, s.rest) (integer_is s.start text x) refl);
-      at = s.at;
+      head = b.0.head;
+      behind = b.0.behind;
+      first = b.0.first;
+      rest = b.0.rest;
+      is = rw b.1 (then_is (value b.0.head b.0.behind) _ _ (Direct x, b.0.rest) b.0.is refl);
+      at = b.0.at;
+      no_close = b.0.no_close;
     }
-generic_integer_read l (Indirect r) ws rest at h = absurd h
+generic_takes value Is takes_value l (Indirect r) ws rest fit at (a, keyed, referred) =
+    let k = first l ws a kind.Keyword (58 ∷ codes "IndirectRef") sign.IndirectRef at keyed indirect_ref_means in
+    let b = reference_takes k.rest r a rest k.at referred in
+    record {
+      head = record { sign = sign.IndirectRef; start = k.start; text = 58 ∷ codes "IndirectRef" };
+      behind = k.rest;
+      first = k.first;
+      rest = b.0.rest;
+      is = then_is (next k.rest >>= λ c. reference c.0 c.1) _ _ (Indirect r, b.0.rest) (then_is (next k.rest) _ _ (r, b.0.rest) b.0.first b.0.is) refl;
+      at = b.0.at;
+      no_close = refl;
+    }
 
 -- lists
-module _ {A : Type 0} (member : Piece → Left → Result (A × Left) Refusal) (IsOne : A → List Written → List Written → Type 0) (Fits : A → Type 0)
-    (one : (l : Left) (x : A) (ws rest : List Written) → Fits x → StandsAt l ws → IsOne x ws rest → (b : Begun l member x rest) × (is_close b.head.sign ≡ false)) where
-  abbrev pub AllFit : List A → Type 0
-  AllFit [] = Unit {0}
-  AllFit (x ∷ xs) = Fits x × AllFit xs
+abbrev pub AllFit : {A : Type 0} → (A → Type 0) → List A → Type 0
+AllFit Fits [] = Unit {0}
+AllFit Fits (x ∷ xs) = Fits x × AllFit Fits xs
 
+pub all_any : {A : Type 0} (xs : List A) → AllFit Any xs
+all_any [] = tt
+all_any (x ∷ xs) = (tt, all_any xs)
+
+-- no more than may be, where no list has more than 4096
+abbrev pub FitsList : {A : Type 0} → ℕ → (A → Type 0) → List A → Type 0
+FitsList most Fits xs = (length xs ≤ 4096 → length xs ≤ most) × AllFit Fits xs
+
+pub any_list : {A : Type 0} (xs : List A) → FitsList 4096 Any xs
+any_list xs = (λ few. few, all_any xs)
+
+module _ {A : Type 0} (member : Piece → Left → Result (A × Left) Refusal) (IsOne : A → List Written → List Written → Type 0) (Fits : A → Type 0) (takes_one : Takes member IsOne Fits) where
   member_more : (l : Left) (x : A) (ws : List Written) (b : Begun l member x ws) → is_close b.head.sign ≡ false → next_member member l ≡ Ok (Some x, b.rest)
   unfolding next_member
   member_more l x ws b h = then_is (next l) _ _ (Some x, b.rest) b.first (rw h (then_is (member b.head b.behind) _ _ (Some x, b.rest) b.is refl))
@@ -232,7 +444,7 @@ module _ {A : Type 0} (member : Piece → Left → Result (A × Left) Refusal) (
   renamed : {B : Type 0} (read : Result (B × Left) Refusal) (x y : B) (ws : List Written) → x ≡ y → Reads read x ws → Reads read y ws
   renamed {B} read x y ws e r = subst (λ z. Reads read z ws) e r
 
-  pub listed_read : (n : ℕ) (done xs : List A) (l : Left) (ws end rest : List Written) → length xs ≤ n → AllFit xs → StandsAt l ws → AreSeveral IsOne xs ws end → IsClose end rest
+  pub listed_read : (n : ℕ) (done xs : List A) (l : Left) (ws end rest : List Written) → length xs ≤ n → AllFit Fits xs → StandsAt l ws → AreSeveral IsOne xs ws end → IsClose end rest
       → Reads (listed member n done l) (done ++ xs) rest
   unfolding listed
   listed_read zero done [] l ws end rest few fit at several close =
@@ -243,7 +455,23 @@ module _ {A : Type 0} (member : Piece → Left → Result (A × Left) Refusal) (
       let g = member_end l end rest (subst (StandsAt l) several at) close in
       record { rest = g.rest; is = then_is (next_member member l) _ _ (done ++ [], g.rest) g.is (ap (λ ys. Ok (ys, g.rest)) (sym (append-nil done))); at = g.at }
   listed_read (suc n) done (x ∷ xs) l ws end rest few fit at (a, here, behind) close =
-      let b = one l x ws a fit.0 at here in
-      let r = listed_read n (done ++ x ∷ []) xs b.0.rest a end rest (omega arith) fit.1 b.0.at behind close in
+      let b = takes_one l x ws a fit.0 at here in
+      let r = listed_read n (done ++ x ∷ []) xs b.rest a end rest (omega arith) fit.1 b.at behind close in
       renamed (listed member (suc n) done l) ((done ++ x ∷ []) ++ xs) (done ++ x ∷ xs) rest (append_assoc done (x ∷ []) xs)
-      (record { rest = r.rest; is = then_is (next_member member l) _ _ ((done ++ x ∷ []) ++ xs, r.rest) (member_more l x a b.0 b.1) r.is; at = r.at })
+      (record { rest = r.rest; is = then_is (next_member member l) _ _ ((done ++ x ∷ []) ++ xs, r.rest) (member_more l x a b b.no_close) r.is; at = r.at })
+
+  -- a list between parentheses
+  pub list_takes : (most : ℕ) → Takes (list member most) (IsListOf IsOne) (FitsList most Fits)
+  unfolding list sign_of
+  list_takes most l xs ws rest fit at (few, a, b, opens, several, close) =
+      let s = first l ws a kind.OpenParenthesis (40 ∷ []) sign.OpenParenthesis at opens refl in
+      let r = listed_read most [] xs s.rest a b rest (fit.0 few) fit.1 s.at several close in
+      record {
+        head = record { sign = sign.OpenParenthesis; start = s.start; text = 40 ∷ [] };
+        behind = s.rest;
+        first = s.first;
+        rest = r.rest;
+        is = r.is;
+        at = r.at;
+        no_close = refl;
+      }

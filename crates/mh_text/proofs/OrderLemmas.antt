@@ -51,7 +51,7 @@ number_above : (a : Attribute) → 0 < attribute_number a
 number_above attribute.Items = omega arith
 number_above _ = omega arith
 
-number_small : (a : Attribute) → attribute_number a ≤ 17
+number_small : (a : Attribute) → attribute_number a ≤ 38
 number_small attribute.Items = omega arith
 number_small _ = omega arith
 
@@ -121,7 +121,7 @@ gathered_new (f ∷ fs) done x (inl is) = subst (Has (gathered_in fs (placed f d
 gathered_new (f ∷ fs) done x (inr h) = gathered_new fs (placed f done) x h
 
 -- no more fields than there are attributes
-rising_short : (n : ℕ) (fs : List Field) → n ≤ 17 → rises_above n fs ≡ true → length fs + n ≤ 17
+rising_short : (n : ℕ) (fs : List Field) → n ≤ 38 → rises_above n fs ≡ true → length fs + n ≤ 38
 rising_short n [] low rising = omega arith
 rising_short n (f ∷ fs) low rising =
     let parts = and_parts (nat_lt n (attribute_number f.attribute)) (rises_above (attribute_number f.attribute) fs) rising in
@@ -129,7 +129,7 @@ rising_short n (f ∷ fs) low rising =
     let rest = rising_short (attribute_number f.attribute) fs (number_small f.attribute) parts.1 in
     omega arith
 
-pub few_fields : (fs : List Field) → NoneTwice fs → length fs ≤ 17
+pub few_fields : (fs : List Field) → NoneTwice fs → length fs ≤ 38
 few_fields fs once =
     let short = rising_short 0 (gathered_in fs []) (omega arith) (gathered_rising fs [] refl (λ x y h g. absurd h) once) in
     let long = gathered_length fs [] in

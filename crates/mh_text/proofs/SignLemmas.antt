@@ -13,7 +13,11 @@ use Rattle.mh_group.specs.declared.attribute.Attribute.{Attribute}
 use Rattle.mh_group.specs.declared.attribute.Attribute.TheVariants as attribute
 use Rattle.mh_group.specs.declared.action_name.ActionName.{ActionName}
 use Rattle.mh_group.specs.declared.action_name.ActionName.TheVariants as action
-use Rattle.mh_group.specs.Words.{class_word, classes, attribute_word, attributes, action_word, actions, event_word, events}
+use Rattle.mh_base.specs.declared.value.Kind.{Kind}
+use Rattle.mh_base.specs.declared.value.Kind.TheVariants as of_kind
+use Rattle.mh_group.specs.declared.justification.Justification.{Justification}
+use Rattle.mh_group.specs.declared.justification.Justification.TheVariants as justification
+use Rattle.mh_group.specs.Words.{class_word, classes, attribute_word, attributes, action_word, actions, event_word, events, justification_word, justifications}
 use Rattle.mh_text.specs.declared.token_kind.TokenKind.TheVariants as kind
 use Rattle.mh_text.specs.declared.sign.Sign.{Sign}
 use Rattle.mh_text.specs.declared.sign.Sign.TheVariants as sign
@@ -22,53 +26,47 @@ use Rattle.mh_text.specs.declared.text_error.Why.TheVariants as why
 use Rattle.mh_text.specs.Bytes.{is_digit, number_behind, negated}
 use Rattle.mh_text.specs.Words.{IsWord}
 use Rattle.mh_text.specs.Spelling.{Writes, truth_word}
-use Rattle.mh_text.specs.Signs.{sign_of, sign_or, or_else, name_sign, word_sign, integer_of, positive, negative}
+use Rattle.mh_text.specs.Signs.{sign_of, sign_or, or_else, kinds, kind_word, mark_sign, name_sign, keyword_sign, word_sign, integer_of, positive, negative}
 use Rattle.mh_text.specs.Reading.{inner}
+use Rattle.mh_text.proofs.PieceLemmas.{kind_of}
 
--- a name that was found in a table is the name of what was found
-word_if : {X : Type 0} (word : X → List ℕ) (name : List ℕ) (b : Bool) (y x : X) (o : Option X) → bytes_eq (word y) name ≡ b → (if b then Some y else o) ≡ Some x
-    → (o ≡ Some x → word x ≡ name) → word x ≡ name
-word_if word name true y x o h e further =
-    let same : y ≡ x = cc in
-    subst (λ z. word z ≡ name) same ((bytes_eq-Decides (word y) name).0 h)
-word_if word name false y x o h e further = further e
+-- the name of a keyword is that of its meaning
+abbrev pub IsNameOf : List ℕ → Sign → Type 0
+IsNameOf name (sign.Class c) = class_word c ≡ name
+IsNameOf name (sign.Attribute a) = attribute_word a ≡ name
+IsNameOf name (sign.Action a) = action_word a ≡ name
+IsNameOf name (sign.Kind k) = kind_word k ≡ name
+IsNameOf name sign.ContentRef = codes "ContentRef" ≡ name
+IsNameOf name sign.IndirectRef = codes "IndirectRef" ≡ name
+IsNameOf name _ = ⊥
 
-word_is : {X : Type 0} (word : X → List ℕ) (name : List ℕ) (xs : List X) (x : X) → find (λ y. bytes_eq (word y) name) xs ≡ Some x → word x ≡ name
-word_is word name [] x e = absurd cc
-word_is word name (y ∷ ys) x e = word_if word name (bytes_eq (word y) name) y x _ refl e (word_is word name ys x)
+-- a word is that of its meaning
+abbrev pub IsWordOf : List ℕ → Sign → Type 0
+IsWordOf text (sign.Truth b) = truth_word b ≡ text
+IsWordOf text (sign.Event e) = event_word e ≡ text
+IsWordOf text (sign.Justification j) = justification_word j ≡ text
+IsWordOf text _ = ⊥
 
--- which table has the name of a keyword
-class_found : (c : Class) (o : Option Class) (p : Option Attribute) (q : Option ActionName) (b : Bool)
-    → or_else sign.Class o (or_else sign.Attribute p (or_else sign.Action q (if b then Some sign.IntegerKind else None))) ≡ Some (sign.Class c) → o ≡ Some c
-class_found c (Some d) p q b e = cc
-class_found c None (Some a) q b e = absurd cc
-class_found c None None (Some a) b e = absurd cc
-class_found c None None None true e = absurd cc
-class_found c None None None false e = absurd cc
+-- what was found where a test went well, or else behind it
+found_if : (Is : Sign → Type 0) (b : Bool) (t s : Sign) (other : Option Sign) → (b ≡ true → Is t) → (other ≡ Some s → Is s) → (if b then Some t else other) ≡ Some s → Is s
+found_if Is true t s other here behind e =
+    let same : t ≡ s = cc in
+    subst Is same (here refl)
+found_if Is false t s other here behind e = behind e
 
-attribute_found : (a : Attribute) (o : Option Class) (p : Option Attribute) (q : Option ActionName) (b : Bool)
-    → or_else sign.Class o (or_else sign.Attribute p (or_else sign.Action q (if b then Some sign.IntegerKind else None))) ≡ Some (sign.Attribute a) → p ≡ Some a
-attribute_found a (Some d) p q b e = absurd cc
-attribute_found a None (Some d) q b e = cc
-attribute_found a None None (Some d) b e = absurd cc
-attribute_found a None None None true e = absurd cc
-attribute_found a None None None false e = absurd cc
+-- what was found in a table, or else behind it
+found_first : {X : Type 0} (Is : Sign → Type 0) (f : X → Sign) (y : X) (b : Bool) (o : Option X) (other : Option Sign) (s : Sign)
+    → (b ≡ true → Is (f y)) → (or_else f o other ≡ Some s → Is s) → or_else f (if b then Some y else o) other ≡ Some s → Is s
+found_first Is f y true o other s here behind e =
+    let same : f y ≡ s = cc in
+    subst Is same (here refl)
+found_first Is f y false o other s here behind e = behind e
 
-action_found : (a : ActionName) (o : Option Class) (p : Option Attribute) (q : Option ActionName) (b : Bool)
-    → or_else sign.Class o (or_else sign.Attribute p (or_else sign.Action q (if b then Some sign.IntegerKind else None))) ≡ Some (sign.Action a) → q ≡ Some a
-action_found a (Some d) p q b e = absurd cc
-action_found a None (Some d) q b e = absurd cc
-action_found a None None (Some d) b e = cc
-action_found a None None None true e = absurd cc
-action_found a None None None false e = absurd cc
-
-kind_found : (o : Option Class) (p : Option Attribute) (q : Option ActionName) (b : Bool)
-    → or_else sign.Class o (or_else sign.Attribute p (or_else sign.Action q (if b then Some sign.IntegerKind else None))) ≡ Some sign.IntegerKind → b ≡ true
-kind_found (Some d) p q b e = absurd cc
-kind_found None (Some d) q b e = absurd cc
-kind_found None None (Some d) b e = absurd cc
-kind_found None None None true e = refl
-kind_found None None None false e = absurd cc
+found_in : {X : Type 0} (Is : Sign → Type 0) (f : X → Sign) (word : X → List ℕ) (name : List ℕ) (xs : List X) (other : Option Sign) (s : Sign)
+    → ((x : X) → word x ≡ name → Is (f x)) → (other ≡ Some s → Is s) → or_else f (find (λ y. bytes_eq (word y) name) xs) other ≡ Some s → Is s
+found_in Is f word name [] other s here behind e = behind e
+found_in Is f word name (y ∷ ys) other s here behind e =
+    found_first Is f y (bytes_eq (word y) name) _ other s (λ h. here y ((bytes_eq-Decides (word y) name).0 h)) (found_in Is f word name ys other s here behind) e
 
 or_gives : (w : Why) (o : Option Sign) (s : Sign) → sign_or w o ≡ Ok s → o ≡ Some s
 or_gives w (Some t) s e = cc
@@ -82,58 +80,89 @@ keyword_text text name s (first, others, e, _, _) means is =
     let here : name_sign (first ∷ others) ≡ Some s = or_gives why.UnknownName _ s (rw e at means) in
     (e ∙ ap (λ (n : List ℕ). 58 ∷ n) (sym named), rw named here)
 
+name_found : (name : List ℕ) (s : Sign) → name_sign name ≡ Some s → IsNameOf name s
+unfolding name_sign mark_sign
+name_found name s e =
+    found_in (IsNameOf name) sign.Class class_word name classes _ s (λ c h. h)
+    (found_in (IsNameOf name) sign.Attribute attribute_word name attributes _ s (λ a h. h)
+    (found_in (IsNameOf name) sign.Action action_word name actions _ s (λ a h. h)
+    (found_in (IsNameOf name) sign.Kind kind_word name kinds _ s (λ k h. h)
+    (found_if (IsNameOf name) (bytes_eq name (codes "ContentRef")) sign.ContentRef s _ (λ h. sym ((bytes_eq-Decides name (codes "ContentRef")).0 h))
+    (found_if (IsNameOf name) (bytes_eq name (codes "IndirectRef")) sign.IndirectRef s _ (λ h. sym ((bytes_eq-Decides name (codes "IndirectRef")).0 h))
+    (λ none. absurd cc)))))) e
+
+word_found : (text : List ℕ) (s : Sign) → word_sign text ≡ Some s → IsWordOf text s
+unfolding word_sign
+word_found text s e =
+    found_if (IsWordOf text) (bytes_eq text (codes "true")) (sign.Truth true) s _ (λ h. sym ((bytes_eq-Decides text (codes "true")).0 h))
+    (found_if (IsWordOf text) (bytes_eq text (codes "false")) (sign.Truth false) s _ (λ h. sym ((bytes_eq-Decides text (codes "false")).0 h))
+    (found_in (IsWordOf text) sign.Event event_word text events _ s (λ x h. h)
+    (found_in (IsWordOf text) sign.Justification justification_word text justifications _ s (λ x h. h)
+    (λ none. absurd cc)))) e
+
+-- which kinds of tokens have these meanings
+named_kind : (name : List ℕ) (s : Sign) → IsNameOf name s → kind_of s ≡ kind.Keyword
+named_kind name (sign.Class c) h = refl
+named_kind name (sign.Attribute a) h = refl
+named_kind name (sign.Action a) h = refl
+named_kind name (sign.Kind k) h = refl
+named_kind name sign.ContentRef h = refl
+named_kind name sign.IndirectRef h = refl
+named_kind name _ h = absurd h
+
+worded_kind : (text : List ℕ) (s : Sign) → IsWordOf text s → kind_of s ≡ kind.Word
+worded_kind text (sign.Truth b) h = refl
+worded_kind text (sign.Event e) h = refl
+worded_kind text (sign.Justification j) h = refl
+worded_kind text _ h = absurd h
+
+pub keyword_kind : (text : List ℕ) (s : Sign) → keyword_sign text ≡ Some s → kind_of s ≡ kind.Keyword
+keyword_kind [] s e = absurd cc
+keyword_kind (b ∷ name) s e = named_kind name s (name_found name s e)
+
+pub word_kind : (text : List ℕ) (s : Sign) → word_sign text ≡ Some s → kind_of s ≡ kind.Word
+word_kind text s e = worded_kind text s (word_found text s e)
+
+-- a keyword, by its meaning
+keyword_named : (text : List ℕ) (s : Sign) → IsWord kind.Keyword text → sign_of kind.Keyword text ≡ Ok s → (text ≡ 58 ∷ drop 1 text) × IsNameOf (drop 1 text) s
+keyword_named text s word means =
+    let k = keyword_text text (drop 1 text) s word means refl in
+    (k.0, name_found (drop 1 text) s k.1)
+
+spelled : (text word : List ℕ) → (text ≡ 58 ∷ drop 1 text) × (word ≡ drop 1 text) → text ≡ 58 ∷ word
+spelled text word h = h.0 ∙ ap (λ (n : List ℕ). 58 ∷ n) (sym h.1)
+
 pub class_spelled : (text : List ℕ) (c : Class) → IsWord kind.Keyword text → sign_of kind.Keyword text ≡ Ok (sign.Class c) → text ≡ 58 ∷ class_word c
-unfolding name_sign
-class_spelled text c word means =
-    let k = keyword_text text (drop 1 text) (sign.Class c) word means refl in
-    let found = class_found c _ _ _ _ k.1 in
-    k.0 ∙ ap (λ (n : List ℕ). 58 ∷ n) (sym (word_is class_word (drop 1 text) classes c found))
+class_spelled text c word means = spelled text (class_word c) (keyword_named text (sign.Class c) word means)
 
 pub attribute_spelled : (text : List ℕ) (a : Attribute) → IsWord kind.Keyword text → sign_of kind.Keyword text ≡ Ok (sign.Attribute a) → text ≡ 58 ∷ attribute_word a
-unfolding name_sign
-attribute_spelled text a word means =
-    let k = keyword_text text (drop 1 text) (sign.Attribute a) word means refl in
-    let found = attribute_found a _ _ _ _ k.1 in
-    k.0 ∙ ap (λ (n : List ℕ). 58 ∷ n) (sym (word_is attribute_word (drop 1 text) attributes a found))
+attribute_spelled text a word means = spelled text (attribute_word a) (keyword_named text (sign.Attribute a) word means)
 
 pub action_spelled : (text : List ℕ) (a : ActionName) → IsWord kind.Keyword text → sign_of kind.Keyword text ≡ Ok (sign.Action a) → text ≡ 58 ∷ action_word a
-unfolding name_sign
-action_spelled text a word means =
-    let k = keyword_text text (drop 1 text) (sign.Action a) word means refl in
-    let found = action_found a _ _ _ _ k.1 in
-    k.0 ∙ ap (λ (n : List ℕ). 58 ∷ n) (sym (word_is action_word (drop 1 text) actions a found))
+action_spelled text a word means = spelled text (action_word a) (keyword_named text (sign.Action a) word means)
 
-pub kind_spelled : (text : List ℕ) → IsWord kind.Keyword text → sign_of kind.Keyword text ≡ Ok sign.IntegerKind → text ≡ 58 ∷ codes "GInteger"
-unfolding name_sign
-kind_spelled text word means =
-    let k = keyword_text text (drop 1 text) sign.IntegerKind word means refl in
-    let found = kind_found _ _ _ _ k.1 in
-    k.0 ∙ ap (λ (n : List ℕ). 58 ∷ n) ((bytes_eq-Decides (drop 1 text) (codes "GInteger")).0 found)
+pub kind_spelled : (text : List ℕ) (k : Kind) → IsWord kind.Keyword text → sign_of kind.Keyword text ≡ Ok (sign.Kind k) → text ≡ 58 ∷ kind_word k
+kind_spelled text k word means = spelled text (kind_word k) (keyword_named text (sign.Kind k) word means)
 
--- which test a word passes
-truth_found : (b : Bool) (text : List ℕ) (t f : Bool) (o : Option EventType) → bytes_eq text (codes "true") ≡ t → bytes_eq text (codes "false") ≡ f
-    → (if t then Some (sign.Truth true) else (if f then Some (sign.Truth false) else or_else sign.Event o None)) ≡ Some (sign.Truth b) → text ≡ truth_word b
-truth_found true text true f o h g e = (bytes_eq-Decides text (codes "true")).0 h
-truth_found false text true f o h g e = absurd cc
-truth_found true text false true o h g e = absurd cc
-truth_found false text false true o h g e = (bytes_eq-Decides text (codes "false")).0 g
-truth_found b text false false (Some x) h g e = absurd cc
-truth_found b text false false None h g e = absurd cc
+pub content_ref_spelled : (text : List ℕ) → IsWord kind.Keyword text → sign_of kind.Keyword text ≡ Ok sign.ContentRef → text ≡ 58 ∷ codes "ContentRef"
+content_ref_spelled text word means = spelled text (codes "ContentRef") (keyword_named text sign.ContentRef word means)
 
-event_found : (x : EventType) (t f : Bool) (o : Option EventType)
-    → (if t then Some (sign.Truth true) else (if f then Some (sign.Truth false) else or_else sign.Event o None)) ≡ Some (sign.Event x) → o ≡ Some x
-event_found x true f o e = absurd cc
-event_found x false true o e = absurd cc
-event_found x false false (Some y) e = cc
-event_found x false false None e = absurd cc
+pub indirect_ref_spelled : (text : List ℕ) → IsWord kind.Keyword text → sign_of kind.Keyword text ≡ Ok sign.IndirectRef → text ≡ 58 ∷ codes "IndirectRef"
+indirect_ref_spelled text word means = spelled text (codes "IndirectRef") (keyword_named text sign.IndirectRef word means)
+
+-- a word, by its meaning
+word_means : (text : List ℕ) (s : Sign) → sign_of kind.Word text ≡ Ok s → IsWordOf text s
+unfolding sign_of
+word_means text s means = word_found text s (or_gives why.UnknownName _ s means)
 
 pub truth_spelled : (text : List ℕ) (b : Bool) → sign_of kind.Word text ≡ Ok (sign.Truth b) → text ≡ truth_word b
-unfolding sign_of word_sign
-truth_spelled text b means = truth_found b text _ _ _ refl refl (or_gives why.UnknownName _ _ means)
+truth_spelled text b means = sym (word_means text (sign.Truth b) means)
 
 pub event_spelled : (text : List ℕ) (x : EventType) → sign_of kind.Word text ≡ Ok (sign.Event x) → text ≡ event_word x
-unfolding sign_of word_sign
-event_spelled text x means = sym (word_is event_word text events x (event_found x _ _ _ (or_gives why.UnknownName _ _ means)))
+event_spelled text x means = sym (word_means text (sign.Event x) means)
+
+pub justification_spelled : (text : List ℕ) (x : Justification) → sign_of kind.Word text ≡ Ok (sign.Justification x) → text ≡ justification_word x
+justification_spelled text x means = sym (word_means text (sign.Justification x) means)
 
 -- numbers
 integer_found : (o : Option ℤ) (x : ℤ) → or_else sign.Integer o None ≡ Some (sign.Integer x) → o ≡ Some x
@@ -183,10 +212,7 @@ inner_is mark bs =
 pub class_means : (c : Class) → sign_of kind.Keyword (58 ∷ class_word c) ≡ Ok (sign.Class c)
 unfolding sign_of name_sign class_word
 class_means class.Application = refl
-class_means class.Scene = refl
-class_means class.Link = refl
-class_means class.IntegerVar = refl
-class_means class.Rectangle = refl
+class_means _ = refl
 
 pub attribute_means : (a : Attribute) → sign_of kind.Keyword (58 ∷ attribute_word a) ≡ Ok (sign.Attribute a)
 unfolding sign_of name_sign class_word attribute_word
@@ -198,9 +224,18 @@ unfolding sign_of name_sign class_word attribute_word action_word
 action_means action.TransitionTo = refl
 action_means _ = refl
 
-pub kind_means : sign_of kind.Keyword (58 ∷ codes "GInteger") ≡ Ok sign.IntegerKind
-unfolding sign_of name_sign class_word attribute_word action_word
-kind_means = refl
+pub kind_means : (k : Kind) → sign_of kind.Keyword (58 ∷ kind_word k) ≡ Ok (sign.Kind k)
+unfolding sign_of name_sign class_word attribute_word action_word kind_word
+kind_means of_kind.Bool = refl
+kind_means _ = refl
+
+pub content_ref_means : sign_of kind.Keyword (58 ∷ codes "ContentRef") ≡ Ok sign.ContentRef
+unfolding sign_of name_sign class_word attribute_word action_word kind_word mark_sign
+content_ref_means = refl
+
+pub indirect_ref_means : sign_of kind.Keyword (58 ∷ codes "IndirectRef") ≡ Ok sign.IndirectRef
+unfolding sign_of name_sign class_word attribute_word action_word kind_word mark_sign
+indirect_ref_means = refl
 
 pub truth_means : (b : Bool) → sign_of kind.Word (truth_word b) ≡ Ok (sign.Truth b)
 unfolding sign_of word_sign
@@ -211,6 +246,11 @@ pub event_means : (x : EventType) → sign_of kind.Word (event_word x) ≡ Ok (s
 unfolding sign_of word_sign event_word
 event_means event.IsAvailable = refl
 event_means _ = refl
+
+pub justification_means : (x : Justification) → sign_of kind.Word (justification_word x) ≡ Ok (sign.Justification x)
+unfolding sign_of word_sign event_word justification_word
+justification_means justification.Start = refl
+justification_means _ = refl
 
 positive_means : (n : ℕ) → n < 2147483648 → positive n ≡ Some (pos n)
 positive_means n h =

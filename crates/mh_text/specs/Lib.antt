@@ -9,3 +9,5 @@ pub mod Left
 pub mod Gives
 pub mod Escapes
 pub mod Reading
+pub mod Printed
+pub mod Laws

@@ -1,9 +1,11 @@
 -- The exact reading: the group that a text writes, or the first refusal from the left. It goes from
 -- token to token, as the reader does; what it means is said by the laws that join it to the spelling.
-use Rattle.std.specs.Prelude.{ℕ, zero, suc, ◌-◌, Bool, true, false, ◌&&◌, not, ◌==◌, nat_lt, if◌then◌else◌, List, [], ◌∷◌, ◌++◌, length, take, drop, insert, Option, Some, None, Result, Ok, ℤ, pos, int_lt, unsigned_abs}
+use Rattle.std.specs.Prelude.{ℕ, zero, suc, ◌-◌, Bool, true, false, ◌&&◌, not, ◌==◌, nat_lt, nat_le, if◌then◌else◌, List, [], ◌∷◌, ◌++◌, length, take, drop, insert, Option, Some, None, Result, Ok, ℤ, pos, int_lt, unsigned_abs}
 use Rattle.std.specs.Ordering.{int_eq}
 use Rattle.std.specs.List.{list_all, list_any, prefix_len}
 use Rattle.mh_base.specs.declared.event.EventType.{EventType}
+use Rattle.mh_base.specs.declared.value.Kind.{Kind}
+use Rattle.mh_base.specs.declared.value.Kind.TheVariants as kind
 use Rattle.mh_base.specs.Path.{is_name_byte}
 use Rattle.mh_group.specs.declared.class.Class.{Class}
 use Rattle.mh_group.specs.declared.attribute.Attribute.{Attribute}
@@ -15,19 +17,27 @@ use Rattle.mh_group.specs.declared.shape.Need.TheVariants as need
 use Rattle.mh_group.specs.declared.reference.Ref.{Ref}
 use Rattle.mh_group.specs.declared.reference.Ref.TheVariants as ref
 use Rattle.mh_group.specs.declared.reference.Generic.{Generic}
-use Rattle.mh_group.specs.declared.reference.Generic.TheVariants.{Direct}
+use Rattle.mh_group.specs.declared.reference.Generic.TheVariants.{Direct, Indirect}
+use Rattle.mh_group.specs.declared.justification.Justification.{Justification}
 use Rattle.mh_group.specs.declared.action.Action.{Action}
+use Rattle.mh_group.specs.declared.action.Content.{Content}
+use Rattle.mh_group.specs.declared.action.Content.TheVariants as of_content
+use Rattle.mh_group.specs.declared.action.EventData.{EventData}
+use Rattle.mh_group.specs.declared.action.EventData.TheVariants as of_data
 use Rattle.mh_group.specs.declared.action.Typed.{Typed}
 use Rattle.mh_group.specs.declared.action.Typed.TheVariants as of_typed
 use Rattle.mh_group.specs.declared.action.Parameter.{Parameter}
 use Rattle.mh_group.specs.declared.action.Parameter.TheVariants as of_parameter
+use Rattle.mh_group.specs.declared.written.Member.{Member}
+use Rattle.mh_group.specs.declared.written.Position.{Position}
+use Rattle.mh_group.specs.declared.written.NextScene.{NextScene}
 use Rattle.mh_group.specs.declared.written.Setting.{Setting}
 use Rattle.mh_group.specs.declared.written.Setting.TheVariants as of_setting
 use Rattle.mh_group.specs.declared.written.Field.{Field}
 use Rattle.mh_group.specs.declared.written.Ingredient.{Ingredient}
 use Rattle.mh_group.specs.declared.written.Written.{Written}
-use Rattle.mh_group.specs.Table.{attribute_number, shape_of, takes, needs_of, is_group_class}
-use Rattle.mh_group.specs.Fit.{is_group, has_required}
+use Rattle.mh_group.specs.Table.{attribute_number, shape_of, takes, needs_of, optional_of, is_group_class}
+use Rattle.mh_group.specs.Fit.{is_group, has_required, is_field_length}
 use Rattle.mh_text.specs.declared.sign.Sign.{Sign}
 use Rattle.mh_text.specs.declared.sign.Sign.TheVariants as sign
 use Rattle.mh_text.specs.declared.text_error.Why.{Why}
@@ -88,6 +98,14 @@ abbrev pub is_close : Sign → Bool
 is_close sign.CloseParenthesis = true
 is_close _ = false
 
+abbrev pub is_indirect : Sign → Bool
+is_indirect sign.IndirectRef = true
+is_indirect _ = false
+
+abbrev pub is_content_ref : Sign → Bool
+is_content_ref sign.ContentRef = true
+is_content_ref _ = false
+
 abbrev pub is_open_brace : Sign → Bool
 is_open_brace sign.OpenBrace = true
 is_open_brace _ = false
@@ -135,6 +153,10 @@ integer_of p = written p.sign
 unfoldable pub natural_of : Piece → Result ℤ Refusal
 natural_of p = integer_of p >>= λ x. if int_lt x (pos 0) then refused_at Range p else Ok x
 
+-- the length of an entry field
+unfoldable pub field_length_of : Piece → Result ℤ Refusal
+field_length_of p = integer_of p >>= λ x. if is_field_length x then Ok x else refused_at Range p
+
 -- this integer and no other
 unfoldable pub fixed_of : ℤ → Piece → Result ℤ Refusal
 fixed_of wanted p = integer_of p >>= λ x. if int_eq x wanted then Ok x else refused_at Range p
@@ -159,6 +181,13 @@ event_of p = written p.sign
   where
     written : Sign → Result EventType Refusal
     written (sign.Event e) = Ok e
+    written _ = refused_at Syntax p
+
+unfoldable pub justification_of : Piece → Result Justification Refusal
+justification_of p = written p.sign
+  where
+    written : Sign → Result Justification Refusal
+    written (sign.Justification j) = Ok j
     written _ = refused_at Syntax p
 
 unfoldable pub octets_of : Piece → Result (List ℕ) Refusal
@@ -192,17 +221,59 @@ reference p left = begun p.sign
     begun sign.OpenParenthesis = named_reference left
     begun _ = refused_at Syntax p
 
-unfoldable pub generic_reference : Left → Result (Generic Ref × Left) Refusal
-generic_reference left = do
-  a ← next left
-  target ← reference a.0 a.1
-  Ok (Direct target.0, target.1)
+-- a value, as a part of what f makes of it
+abbrev pub made : {A B : Type 0} → (A → B) → Result (A × Left) Refusal → Result (B × Left) Refusal
+made f read = read >>= λ x. Ok (f x.0, x.1)
 
-unfoldable pub generic_integer : Left → Result (Generic ℤ × Left) Refusal
-generic_integer left = do
-  a ← next left
-  x ← integer_of a.0
-  Ok (Direct x, a.1)
+-- a value of one token, and what is left behind the token
+abbrev pub alone : {A : Type 0} → Result A Refusal → Left → Result (A × Left) Refusal
+alone read left = read >>= λ x. Ok (x, left)
+
+-- Values that begin with a token, by what they are; of each, what is left behind it.
+
+abbrev pub truth : Piece → Left → Result (Bool × Left) Refusal
+truth p left = alone (truth_of p) left
+
+abbrev pub integer : Piece → Left → Result (ℤ × Left) Refusal
+integer p left = alone (integer_of p) left
+
+abbrev pub octets : Piece → Left → Result (List ℕ × Left) Refusal
+octets p left = alone (octets_of p) left
+
+-- the data of an event
+unfoldable pub data_of : Piece → Result EventData Refusal
+data_of p = written p.sign
+  where
+    written : Sign → Result EventData Refusal
+    written (sign.Truth b) = Ok (of_data.Bool b)
+    written (sign.Integer x) = Ok (of_data.Int x)
+    written _ = refused_at Syntax p
+
+abbrev pub event_data : Piece → Left → Result (EventData × Left) Refusal
+event_data p left = alone (data_of p) left
+
+-- the name of a content file, behind its keyword
+unfoldable pub content_name : Piece → Left → Result (List ℕ × Left) Refusal
+content_name p left = if is_content_ref p.sign then named else refused_at Syntax p
+  where
+    named : Result (List ℕ × Left) Refusal
+    named = do
+      a ← opened left
+      b ← next a
+      name ← name_of b.0
+      behind ← closed b.1
+      Ok (name, behind)
+
+unfoldable pub content : Piece → Left → Result (Content × Left) Refusal
+content p left =
+    if is_content_ref p.sign then made of_content.Referenced (content_name p left)
+    else made of_content.Included (octets p left)
+
+-- a value that is written directly, or the reference of the variable that holds it
+unfoldable pub generic : {A : Type 0} → (Piece → Left → Result (A × Left) Refusal) → Piece → Left → Result (Generic A × Left) Refusal
+generic value p left =
+    if is_indirect p.sign then made Indirect (next left >>= λ a. reference a.0 a.1)
+    else made Direct (value p left)
 
 -- the next member of a list, which begins with its token; none behind the closing parenthesis
 unfoldable pub next_member : {A : Type 0} → (Piece → Left → Result (A × Left) Refusal) → Left → Result (Option A × Left) Refusal
@@ -219,22 +290,50 @@ unfoldable pub listed : {A : Type 0} → (Piece → Left → Result (A × Left) 
 listed member zero done left = closed_list left >>= λ behind. Ok (done, behind)
 listed member (suc n) done left = next_member member left >>= λ x. continued (listed member n) done x.0 x.1
 
+-- the members of a list between parentheses, of which this token is the first; at most so many
+unfoldable pub list : {A : Type 0} → (Piece → Left → Result (A × Left) Refusal) → ℕ → Piece → Left → Result (List A × Left) Refusal
+list member most p left = if is_open p.sign then listed member most [] left else refused_at Syntax p
+
+-- a value behind the keyword of its kind
+unfoldable pub value_of : Kind → Piece → Left → Result (Typed × Left) Refusal
+value_of kind.Bool p left = made of_typed.Bool (generic truth p left)
+value_of kind.Int p left = made of_typed.Int (generic integer p left)
+value_of kind.Octets p left = made of_typed.Octets (generic octets p left)
+value_of kind.Object p left = made of_typed.Ref (generic reference p left)
+value_of kind.Content p left = made of_typed.ContentRef (generic content_name p left)
+
 -- a value with the keyword of its kind in front
-unfoldable pub typed : Left → Result (Typed × Left) Refusal
-typed left = next left >>= λ a. kind a.0 a.1 a.0.sign
+unfoldable pub typed : Piece → Left → Result (Typed × Left) Refusal
+typed p left = behind p.sign
   where
-    kind : Piece → Left → Sign → Result (Typed × Left) Refusal
-    kind p behind sign.IntegerKind = generic_integer behind >>= λ x. Ok (of_typed.Int x.0, x.1)
-    kind p behind _ = refused_at Syntax p
+    behind : Sign → Result (Typed × Left) Refusal
+    behind (sign.Kind k) = next left >>= λ a. value_of k a.0 a.1
+    behind _ = refused_at Syntax p
 
-unfoldable pub parameter : Need → Left → Result (Parameter × Left) Refusal
-parameter need.Int left = generic_integer left >>= λ x. Ok (of_parameter.Int x.0, x.1)
-parameter need.Typed left = typed left >>= λ x. Ok (of_parameter.Typed x.0, x.1)
+-- a parameter that a variable may hold
+unfoldable pub generic_parameter : Need → Piece → Left → Result (Parameter × Left) Refusal
+generic_parameter need.Bool p left = made of_parameter.Bool (generic truth p left)
+generic_parameter need.Int p left = made of_parameter.Int (generic integer p left)
+generic_parameter need.Octets p left = made of_parameter.Octets (generic octets p left)
+generic_parameter need.Ref p left = made of_parameter.Ref (generic reference p left)
+generic_parameter need.Content p left = made of_parameter.Content (generic content p left)
+generic_parameter need.Data p left = made of_parameter.Data (generic event_data p left)
+generic_parameter _ p left = refused_at Syntax p
 
--- the parameters that are needed, in their order
-abbrev pub parameters : List Need → List Parameter → Left → Result (List Parameter × Left) Refusal
-parameters [] done left = Ok (done, left)
-parameters (n ∷ ns) done left = parameter n left >>= λ x. parameters ns (done ++ x.0 ∷ []) x.1
+unfoldable pub parameter : Need → Piece → Left → Result (Parameter × Left) Refusal
+parameter need.Event p left = made of_parameter.Event (alone (event_of p) left)
+parameter (need.Receiver _) p left = made of_parameter.Receiver (reference p left)
+parameter need.Typed p left = made of_parameter.Typed (typed p left)
+parameter need.Arguments p left = made of_parameter.Arguments (list typed 4096 p left)
+parameter n p left = generic_parameter n p left
+
+-- The parameters that are needed, in their order, up to the closing parenthesis. So many of them may be
+-- missing at the end.
+abbrev pub parameters : ℕ → List Need → List Parameter → Left → Result (List Parameter × Left) Refusal
+parameters optional [] done left = closed left >>= λ behind. Ok (done, behind)
+parameters optional (n ∷ ns) done left = next left >>= λ a.
+    if nat_le (length (n ∷ ns)) optional && is_close a.0.sign then Ok (done, a.1)
+    else (parameter n a.0 a.1 >>= λ x. parameters optional ns (done ++ x.0 ∷ []) x.1)
 
 unfoldable pub action_name_of : Piece → Result ActionName Refusal
 action_name_of p = written p.sign
@@ -248,31 +347,86 @@ unfoldable pub action : Piece → Left → Result (Action × Left) Refusal
 action p left = do
   name ← action_name_of p
   a ← opened left
-  target ← generic_reference a
-  given ← parameters (needs_of name) [] target.1
-  behind ← closed given.1
-  Ok (record { name = name; target = target.0; parameters = given.0 }, behind)
+  b ← next a
+  target ← generic reference b.0 b.1
+  given ← parameters (optional_of name) (needs_of name) [] target.1
+  Ok (record { name = name; target = target.0; parameters = given.0 }, given.1)
 
-unfoldable pub effect : Left → Result (List Action × Left) Refusal
-effect left = opened left >>= λ a. listed action 4096 [] a
+abbrev pub effect : Piece → Left → Result (List Action × Left) Refusal
+effect p left = list action 4096 p left
 
--- the data of an event
-unfoldable pub data_of : Piece → Result Setting Refusal
-data_of p = written p.sign
+-- one row of a movement table
+abbrev pub row : Piece → Left → Result (List ℤ × Left) Refusal
+row p left = list integer 4096 p left
+
+-- a member with its slots
+unfoldable pub member : Piece → Left → Result (Member × Left) Refusal
+member p left = if is_open p.sign then described else refused_at Syntax p
   where
-    written : Sign → Result Setting Refusal
-    written (sign.Truth b) = Ok (of_setting.Bool b)
-    written (sign.Integer x) = Ok (of_setting.Int x)
-    written _ = refused_at Syntax p
+    described : Result (Member × Left) Refusal
+    described = do
+      a ← next left
+      object ← reference a.0 a.1
+      slots ← listed effect 4096 [] object.1
+      Ok (record { object = object.0; slots = slots.0 }, slots.1)
+
+-- a member of a list group, which has no slots
+unfoldable pub list_item : Piece → Left → Result (Member × Left) Refusal
+list_item p left = if is_open p.sign then described else refused_at Syntax p
+  where
+    described : Result (Member × Left) Refusal
+    described = do
+      a ← next left
+      object ← reference a.0 a.1
+      behind ← closed object.1
+      Ok (record { object = object.0; slots = [] }, behind)
+
+-- where a cell lies: two integers between parentheses
+unfoldable pub position : Piece → Left → Result (Position × Left) Refusal
+position p left = if is_open p.sign then described else refused_at Syntax p
+  where
+    described : Result (Position × Left) Refusal
+    described = do
+      a ← next left
+      x ← integer_of a.0
+      b ← next a.1
+      y ← integer_of b.0
+      behind ← closed b.1
+      Ok (record { x = x; y = y }, behind)
+
+-- a scene that may come next: a name and an integer between parentheses
+unfoldable pub next_scene : Piece → Left → Result (NextScene × Left) Refusal
+next_scene p left = if is_open p.sign then described else refused_at Syntax p
+  where
+    described : Result (NextScene × Left) Refusal
+    described = do
+      a ← next left
+      name ← name_of a.0
+      b ← next a.1
+      weight ← integer_of b.0
+      behind ← closed b.1
+      Ok (record { name = name; weight = weight }, behind)
+
+-- content, and the data of an event, as the value of an attribute
+abbrev pub content_setting : Content → Setting
+content_setting (of_content.Included octets) = of_setting.Octets octets
+content_setting (of_content.Referenced name) = of_setting.ContentRef name
+
+abbrev pub data_setting : EventData → Setting
+data_setting (of_data.Bool b) = of_setting.Bool b
+data_setting (of_data.Int x) = of_setting.Int x
 
 -- the value of a shape of one token
 unfoldable pub single : Shape → Piece → Result Setting Refusal
 single shape.Bool p = truth_of p >>= λ x. Ok (of_setting.Bool x)
 single shape.Int p = integer_of p >>= λ x. Ok (of_setting.Int x)
 single shape.Natural p = natural_of p >>= λ x. Ok (of_setting.Int x)
+single shape.Length p = field_length_of p >>= λ x. Ok (of_setting.Int x)
 single shape.Event p = event_of p >>= λ x. Ok (of_setting.Event x)
-single shape.Data p = data_of p
+single shape.Data p = data_of p >>= λ x. Ok (data_setting x)
+single shape.Octets p = octets_of p >>= λ x. Ok (of_setting.Octets x)
 single shape.Colour p = colour_of p >>= λ x. Ok (of_setting.Octets x)
+single shape.Justification p = justification_of p >>= λ x. Ok (of_setting.Justification x)
 single _ p = refused_at Syntax p
 
 -- one integer of a pair; the screen's has one value
@@ -288,16 +442,33 @@ pair s p left = do
   y ← part s (pos 576) a.0
   Ok (of_setting.Pair x y, a.1)
 
+-- the value of a shape that is a list
+unfoldable pub several : Shape → Piece → Left → Result (Setting × Left) Refusal
+several shape.Effect p left = made of_setting.Effect (effect p left)
+several shape.MovementTable p left = made of_setting.MovementTable (list row 4096 p left)
+several shape.Members p left = made of_setting.Members (list member 4096 p left)
+several shape.ListItems p left = made of_setting.Members (list list_item 256 p left)
+several shape.Positions p left = made of_setting.Positions (list position 4096 p left)
+several shape.NextScenes p left = made of_setting.NextScenes (list next_scene 4096 p left)
+several _ p left = refused_at Syntax p
+
 -- the value of this shape, which begins with this token
 unfoldable pub setting_at : Shape → Piece → Left → Result (Setting × Left) Refusal
-setting_at shape.Ref p left = reference p left >>= λ x. Ok (of_setting.Ref x.0, x.1)
+setting_at shape.Ref p left = made of_setting.Ref (reference p left)
 setting_at shape.Pair p left = pair shape.Pair p left
 setting_at shape.Size p left = pair shape.Size p left
 setting_at shape.Screen p left = pair shape.Screen p left
-setting_at s p left = single s p >>= λ x. Ok (x, left)
+setting_at shape.Content p left = made content_setting (content p left)
+setting_at shape.ContentRef p left = made of_setting.ContentRef (content_name p left)
+setting_at shape.Effect p left = several shape.Effect p left
+setting_at shape.MovementTable p left = several shape.MovementTable p left
+setting_at shape.Members p left = several shape.Members p left
+setting_at shape.ListItems p left = several shape.ListItems p left
+setting_at shape.Positions p left = several shape.Positions p left
+setting_at shape.NextScenes p left = several shape.NextScenes p left
+setting_at s p left = alone (single s p) left
 
 unfoldable pub setting : Shape → Left → Result (Setting × Left) Refusal
-setting shape.Effect left = effect left >>= λ x. Ok (of_setting.Effect x.0, x.1)
 setting s left = next left >>= λ a. setting_at s a.0 a.1
 
 abbrev pub has_attribute : List Field → Attribute → Bool
@@ -320,9 +491,9 @@ is_items_shape shape.Items = true
 is_items_shape _ = false
 
 -- the token is the keyword of a group's items
-unfoldable pub is_items : Sign → Bool
-is_items (sign.Attribute a) = is_items_shape (shape_of a)
-is_items _ = false
+unfoldable pub is_items : Class → Sign → Bool
+is_items c (sign.Attribute a) = is_items_shape (shape_of c a)
+is_items c _ = false
 
 -- the next field, with the token at which it begins; none at the closing brace or the keyword of the
 -- items
@@ -330,8 +501,8 @@ unfoldable pub next_field : Class → List Field → Left → Result (Option Fie
 next_field c done left = next left >>= λ a.
     if is_close_brace a.0.sign then Ok (None, a.0, a.1)
     else (attribute_of c done a.0 >>= λ name.
-    if is_items_shape (shape_of name) then Ok (None, a.0, a.1)
-    else (setting (shape_of name) a.1 >>= λ x. Ok (Some (record { attribute = name; setting = x.0 }), a.0, x.1)))
+    if is_items_shape (shape_of c name) then Ok (None, a.0, a.1)
+    else (setting (shape_of c name) a.1 >>= λ x. Ok (Some (record { attribute = name; setting = x.0 }), a.0, x.1)))
 
 -- fields go on behind a field, and else are done
 abbrev pub gathered : (List Field → Left → Result (List Field × Piece × Left) Refusal) → List Field → Option Field → Piece → Left → Result (List Field × Piece × Left) Refusal
@@ -346,7 +517,7 @@ fields c (suc n) done left = next_field c done left >>= λ x. gathered (fields c
 
 -- the fields behind the items, which do not come twice
 unfoldable pub fields_behind_items : Class → List Field → Left → Result (List Field × Piece × Left) Refusal
-fields_behind_items c done left = fields c 4096 done left >>= λ x. if is_items x.1.sign then refused_at Syntax x.1 else Ok (x.0, x.1, x.2)
+fields_behind_items c done left = fields c 4096 done left >>= λ x. if is_items c x.1.sign then refused_at Syntax x.1 else Ok (x.0, x.1, x.2)
 
 -- the fields, where none that the class needs is missing
 unfoldable pub complete : Class → List Field → Piece → Result (List Field) Refusal
@@ -375,7 +546,7 @@ ingredient p left = if is_open_brace p.sign then described else refused_at Synta
       Ok (record { class = class; number = number; fields = done }, x.2)
 
 unfoldable pub items : Left → Result (List Ingredient × Left) Refusal
-items left = opened left >>= λ a. listed ingredient 4096 [] a
+items left = next left >>= λ a. list ingredient 4096 a.0 a.1
 
 -- a name, and the number 0
 unfoldable pub identifier : Left → Result (List ℕ × Left) Refusal
@@ -391,7 +562,7 @@ identifier left = do
 -- what stands between a group's identifier and its closing brace
 unfoldable pub body : Class → Left → Result (List Field × Option (List Ingredient) × Piece × Left) Refusal
 body c left = fields c 4096 [] left >>= λ x.
-    if is_items x.1.sign then (do
+    if is_items c x.1.sign then (do
       y ← items x.2
       z ← fields_behind_items c x.0 y.1
       Ok (z.0, Some y.0, z.1, z.2))

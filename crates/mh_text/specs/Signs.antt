@@ -3,10 +3,13 @@ use Rattle.std.specs.Prelude.{ℕ, ◌==◌, true, false, nat_le, nat_lt, if◌t
 use Rattle.std.specs.List.{find}
 use Rattle.std.specs.Str.{bytes_eq}
 use Rattle.mh_base.specs.declared.event.EventType.{EventType}
+use Rattle.mh_base.specs.declared.value.Kind.{Kind}
+use Rattle.mh_base.specs.declared.value.Kind.TheVariants as of_kind
 use Rattle.mh_group.specs.declared.class.Class.{Class}
 use Rattle.mh_group.specs.declared.attribute.Attribute.{Attribute}
 use Rattle.mh_group.specs.declared.action_name.ActionName.{ActionName}
-use Rattle.mh_group.specs.Words.{class_word, classes, attribute_word, attributes, action_word, actions, event_word, events}
+use Rattle.mh_group.specs.declared.justification.Justification.{Justification}
+use Rattle.mh_group.specs.Words.{class_word, classes, attribute_word, attributes, action_word, actions, event_word, events, justification_word, justifications}
 use Rattle.mh_text.specs.declared.token_kind.TokenKind.{TokenKind}
 use Rattle.mh_text.specs.declared.token_kind.TokenKind.TheVariants as kind
 use Rattle.mh_text.specs.declared.sign.Sign.{Sign}
@@ -32,13 +35,37 @@ action_of_word name = find (λ x. bytes_eq (action_word x) name) actions
 abbrev pub event_of_word : List ℕ → Option EventType
 event_of_word text = find (λ x. bytes_eq (event_word x) text) events
 
+abbrev pub justification_of_word : List ℕ → Option Justification
+justification_of_word text = find (λ x. bytes_eq (justification_word x) text) justifications
+
+-- the kinds of values
+abbrev pub kinds : List Kind
+kinds = of_kind.Bool ∷ of_kind.Int ∷ of_kind.Octets ∷ of_kind.Object ∷ of_kind.Content ∷ []
+
+-- the keyword in front of a value of a kind
+unfoldable pub kind_word : Kind → List ℕ
+kind_word of_kind.Bool = codes "GBoolean"
+kind_word of_kind.Int = codes "GInteger"
+kind_word of_kind.Octets = codes "GOctetString"
+kind_word of_kind.Object = codes "GObjectRef"
+kind_word of_kind.Content = codes "GContentRef"
+
+abbrev pub kind_of_word : List ℕ → Option Kind
+kind_of_word name = find (λ x. bytes_eq (kind_word x) name) kinds
+
+-- the keywords that no table has
+unfoldable pub mark_sign : List ℕ → Option Sign
+mark_sign name =
+    if bytes_eq name (codes "ContentRef") then Some sign.ContentRef
+    else (if bytes_eq name (codes "IndirectRef") then Some sign.IndirectRef else None)
+
 -- what the name of a keyword means
 unfoldable pub name_sign : List ℕ → Option Sign
 name_sign name =
     or_else sign.Class (class_of_word name)
     (or_else sign.Attribute (attribute_of_word name)
     (or_else sign.Action (action_of_word name)
-    (if bytes_eq name (codes "GInteger") then Some sign.IntegerKind else None)))
+    (or_else sign.Kind (kind_of_word name) (mark_sign name))))
 
 -- what a keyword means, with its colon in front
 abbrev pub keyword_sign : List ℕ → Option Sign
@@ -49,7 +76,7 @@ unfoldable pub word_sign : List ℕ → Option Sign
 word_sign text =
     if bytes_eq text (codes "true") then Some (sign.Truth true)
     else (if bytes_eq text (codes "false") then Some (sign.Truth false)
-    else or_else sign.Event (event_of_word text) None)
+    else or_else sign.Event (event_of_word text) (or_else sign.Justification (justification_of_word text) None))
 
 abbrev pub positive : ℕ → Option ℤ
 positive n = if nat_lt n 2147483648 then Some (pos n) else None

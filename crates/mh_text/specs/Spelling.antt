@@ -9,10 +9,17 @@ use Rattle.mh_group.specs.declared.reference.Ref.TheVariants as ref
 use Rattle.mh_group.specs.declared.reference.Generic.{Generic}
 use Rattle.mh_group.specs.declared.reference.Generic.TheVariants.{Direct, Indirect}
 use Rattle.mh_group.specs.declared.action.Action.{Action}
+use Rattle.mh_group.specs.declared.action.Content.{Content}
+use Rattle.mh_group.specs.declared.action.Content.TheVariants as content
+use Rattle.mh_group.specs.declared.action.EventData.{EventData}
+use Rattle.mh_group.specs.declared.action.EventData.TheVariants as event_data
 use Rattle.mh_group.specs.declared.action.Typed.{Typed}
 use Rattle.mh_group.specs.declared.action.Typed.TheVariants as typed
 use Rattle.mh_group.specs.declared.action.Parameter.{Parameter}
 use Rattle.mh_group.specs.declared.action.Parameter.TheVariants as parameter
+use Rattle.mh_group.specs.declared.written.Member.{Member}
+use Rattle.mh_group.specs.declared.written.Position.{Position}
+use Rattle.mh_group.specs.declared.written.NextScene.{NextScene}
 use Rattle.mh_group.specs.declared.written.Setting.{Setting}
 use Rattle.mh_group.specs.declared.written.Setting.TheVariants as setting
 use Rattle.mh_group.specs.declared.written.Field.{Field}
@@ -20,7 +27,7 @@ use Rattle.mh_group.specs.declared.written.Ingredient.{Ingredient}
 use Rattle.mh_group.specs.declared.written.Written.{Written as Group}
 use Rattle.mh_group.specs.Fit.{is_group}
 use Rattle.mh_group.specs.Table.{attribute_number}
-use Rattle.mh_group.specs.Words.{class_word, attribute_word, action_word, event_word}
+use Rattle.mh_group.specs.Words.{class_word, attribute_word, action_word, event_word, justification_word}
 use Rattle.mh_text.specs.declared.token_kind.TokenKind.{TokenKind}
 use Rattle.mh_text.specs.declared.token_kind.TokenKind.TheVariants as kind
 use Rattle.mh_text.specs.Bytes.{number_behind, negated}
@@ -85,17 +92,36 @@ abbrev pub IsRef : Ref → List Written → List Written → Type 0
 IsRef (ref.Here n) ws rest = IsNumber n ws rest
 IsRef (ref.In name n) ws rest = IsNamed name n ws rest
 
--- a value that is written directly; held ones have no spelling yet
-abbrev pub IsDirect : {A : Type 0} → (A → List Written → List Written → Type 0) → Generic A → List Written → List Written → Type 0
-IsDirect IsValue (Direct x) ws rest = IsValue x ws rest
-IsDirect IsValue (Indirect r) ws rest = ⊥
+-- a value that is written directly, or the reference of the variable that holds it
+abbrev pub IsGeneric : {A : Type 0} → (A → List Written → List Written → Type 0) → Generic A → List Written → List Written → Type 0
+IsGeneric IsValue (Direct x) ws rest = IsValue x ws rest
+IsGeneric IsValue (Indirect r) ws rest = (a : List Written) × IsKeyword (codes "IndirectRef") ws a × IsRef r a rest
+
+-- the name of a content file
+abbrev pub IsContentName : List ℕ → List Written → List Written → Type 0
+IsContentName name ws rest = (a : List Written) × (b : List Written) × (c : List Written)
+    × IsKeyword (codes "ContentRef") ws a × IsOpen a b × IsName name b c × IsClose c rest
+
+-- a value behind the keyword of its kind
+abbrev pub IsOfKind : {A : Type 0} → List ℕ → (A → List Written → List Written → Type 0) → Generic A → List Written → List Written → Type 0
+IsOfKind name IsValue x ws rest = (a : List Written) × IsKeyword name ws a × IsGeneric IsValue x a rest
 
 abbrev pub IsTyped : Typed → List Written → List Written → Type 0
-IsTyped (typed.Int x) ws rest = (a : List Written) × IsKeyword (codes "GInteger") ws a × IsDirect IsInteger x a rest
+IsTyped (typed.Bool x) ws rest = IsOfKind (codes "GBoolean") IsTruth x ws rest
+IsTyped (typed.Int x) ws rest = IsOfKind (codes "GInteger") IsInteger x ws rest
+IsTyped (typed.Octets x) ws rest = IsOfKind (codes "GOctetString") AreOctets x ws rest
+IsTyped (typed.Ref x) ws rest = IsOfKind (codes "GObjectRef") IsRef x ws rest
+IsTyped (typed.ContentRef x) ws rest = IsOfKind (codes "GContentRef") IsContentName x ws rest
 
-abbrev pub IsParameter : Parameter → List Written → List Written → Type 0
-IsParameter (parameter.Int x) ws rest = IsDirect IsInteger x ws rest
-IsParameter (parameter.Typed t) ws rest = IsTyped t ws rest
+-- content: in the file, or in a file of this name
+abbrev pub IsContent : Content → List Written → List Written → Type 0
+IsContent (content.Included octets) ws rest = AreOctets octets ws rest
+IsContent (content.Referenced name) ws rest = IsContentName name ws rest
+
+-- the data of an event
+abbrev pub IsData : EventData → List Written → List Written → Type 0
+IsData (event_data.Bool b) ws rest = IsTruth b ws rest
+IsData (event_data.Int x) ws rest = IsInteger x ws rest
 
 -- values one after the other
 abbrev pub AreSeveral : {A : Type 0} → (A → List Written → List Written → Type 0) → List A → List Written → List Written → Type 0
@@ -107,10 +133,35 @@ abbrev pub IsListOf : {A : Type 0} → (A → List Written → List Written → 
 IsListOf IsOne xs ws rest = (length xs ≤ 4096) × (a : List Written) × (b : List Written)
     × IsOpen ws a × AreSeveral IsOne xs a b × IsClose b rest
 
+abbrev pub IsParameter : Parameter → List Written → List Written → Type 0
+IsParameter (parameter.Bool x) ws rest = IsGeneric IsTruth x ws rest
+IsParameter (parameter.Int x) ws rest = IsGeneric IsInteger x ws rest
+IsParameter (parameter.Octets x) ws rest = IsGeneric AreOctets x ws rest
+IsParameter (parameter.Ref x) ws rest = IsGeneric IsRef x ws rest
+IsParameter (parameter.Content x) ws rest = IsGeneric IsContent x ws rest
+IsParameter (parameter.Data x) ws rest = IsGeneric IsData x ws rest
+IsParameter (parameter.Event e) ws rest = IsFirst kind.Word (event_word e) ws rest
+IsParameter (parameter.Receiver r) ws rest = IsRef r ws rest
+IsParameter (parameter.Typed x) ws rest = IsTyped x ws rest
+IsParameter (parameter.Arguments xs) ws rest = IsListOf IsTyped xs ws rest
+
 abbrev pub IsAction : Action → List Written → List Written → Type 0
 IsAction x ws rest = (a : List Written) × (b : List Written) × (c : List Written) × (d : List Written)
-    × IsKeyword (action_word x.name) ws a × IsOpen a b × IsDirect IsRef x.target b c
+    × IsKeyword (action_word x.name) ws a × IsOpen a b × IsGeneric IsRef x.target b c
     × AreSeveral IsParameter x.parameters c d × IsClose d rest
+
+-- a member: its object, and the effect of each slot
+abbrev pub IsMember : Member → List Written → List Written → Type 0
+IsMember m ws rest = (length m.slots ≤ 4096) × (a : List Written) × (b : List Written) × (c : List Written)
+    × IsOpen ws a × IsRef m.object a b × AreSeveral (IsListOf IsAction) m.slots b c × IsClose c rest
+
+abbrev pub IsPosition : Position → List Written → List Written → Type 0
+IsPosition p ws rest = (a : List Written) × (b : List Written) × (c : List Written)
+    × IsOpen ws a × IsInteger p.x a b × IsInteger p.y b c × IsClose c rest
+
+abbrev pub IsNextScene : NextScene → List Written → List Written → Type 0
+IsNextScene s ws rest = (a : List Written) × (b : List Written) × (c : List Written)
+    × IsOpen ws a × IsName s.name a b × IsInteger s.weight b c × IsClose c rest
 
 -- the value of an attribute, which tells its shape
 abbrev pub IsSetting : Setting → List Written → List Written → Type 0
@@ -120,7 +171,13 @@ IsSetting (setting.Pair x y) ws rest = (a : List Written) × IsInteger x ws a ×
 IsSetting (setting.Octets octets) ws rest = AreOctets octets ws rest
 IsSetting (setting.Ref r) ws rest = IsRef r ws rest
 IsSetting (setting.Event e) ws rest = IsFirst kind.Word (event_word e) ws rest
+IsSetting (setting.ContentRef name) ws rest = IsContentName name ws rest
+IsSetting (setting.Justification j) ws rest = IsFirst kind.Word (justification_word j) ws rest
 IsSetting (setting.Effect actions) ws rest = IsListOf IsAction actions ws rest
+IsSetting (setting.MovementTable rows) ws rest = IsListOf (IsListOf IsInteger) rows ws rest
+IsSetting (setting.Members members) ws rest = IsListOf IsMember members ws rest
+IsSetting (setting.Positions positions) ws rest = IsListOf IsPosition positions ws rest
+IsSetting (setting.NextScenes scenes) ws rest = IsListOf IsNextScene scenes ws rest
 
 abbrev pub IsField : Field → List Written → List Written → Type 0
 IsField f ws rest = (a : List Written) × IsKeyword (attribute_word f.attribute) ws a × IsSetting f.setting a rest

@@ -1,61 +1,35 @@
-//! Readers of elementary actions and effects. Which parameters an action is written with is the word
-//! of `mh_group`'s table.
+//! Readers of elementary actions and their parameters. Which parameters an action is written with is the
+//! word of `mh_group`'s table.
 ghost use Rattle.std.specs.Prelude.{◌≡◌, []};
 ghost use Rattle.mh_text.specs.Gives.{Gives};
-ghost use Rattle.mh_text.specs.Reading.{effect as effect_lem, listed, next_member, action as action_lem, action_name_of as action_name_of_lem, parameters as parameters_lem, parameter as parameter_lem, typed as typed_lem};
+ghost use Rattle.mh_text.specs.Reading.{action as action_lem, action_name_of as action_name_of_lem, parameters as parameters_lem, parameter as parameter_lem, generic_parameter as generic_parameter_lem, is_close as is_close_lem, typed as typed_lem, value_of as value_of_lem};
 
+use crate::form::{Form, LONGEST_LIST, generic, list};
 use crate::place::{Piece, Place};
 use crate::sign::Sign;
-use crate::value::{generic_integer, generic_reference};
+use crate::value::{
+    AnyContent, AnyReference, ContentName, Data, Integer, OctetText, Truth, event_of, reference,
+};
 use crate::{TextError, Why};
-use mh_base::Seq;
-use mh_group::{Action, ActionName, Effect, Need, Parameter, Typed};
+use mh_base::{Kind, Seq};
+use mh_group::{Action, ActionName, Need, Parameter, Typed};
 use std::alloc::Global;
 
-/// The most members of one written list.
-pub const LONGEST_LIST: usize = 4096;
+/// An elementary action.
+pub(crate) struct ElementaryAction;
 
-/// An effect: actions between parentheses.
-#[tactic(auto, unfolding(crate::specs::Reading::effect))]
-pub(crate) fn effect<'a>(alloc: Global, place: Place<'a>) -> Result<(Effect, Place<'a>), TextError>
-    ensures { Gives (λ x. x) result (effect_lem place.entry) }
-{
-    let place = place.opened()?;
-    actions(alloc, place)
-}
+impl Form for ElementaryAction {
+    type Value = Action;
 
-/// The actions up to the closing parenthesis.
-fn actions<'a>(alloc: Global, place: Place<'a>) -> Result<(Effect, Place<'a>), TextError>
-    ensures { Gives (λ x. x) result (listed action_lem 4096 [] place.entry) }
-{
-    let mut actions = Seq::new(alloc);
-    let mut place = place;
-    for _ in 0..LONGEST_LIST {
-        let (member, behind) = next_action(alloc, place)?;
-        let Some(action) = member else {
-            return Ok((actions, behind));
-        };
-        actions.push(action)?;
-        place = behind;
+    ghost reading = { action_lem };
+
+    fn read<'a>(
+        alloc: Global,
+        piece: &Piece<'_>,
+        place: Place<'a>,
+    ) -> Result<(Action, Place<'a>), TextError> {
+        action(alloc, piece, place)
     }
-    let place = place.closed_list()?;
-    Ok((actions, place))
-}
-
-/// The next action and the place behind it; none behind the closing parenthesis.
-#[tactic(auto, unfolding(crate::specs::Reading::next_member))]
-fn next_action<'a>(
-    alloc: Global,
-    place: Place<'a>,
-) -> Result<(Option<Action>, Place<'a>), TextError>
-    ensures { Gives (λ x. x) result (next_member action_lem place.entry) }
-{
-    let (piece, place) = place.next()?;
-    if let Sign::CloseParenthesis = piece.sign() {
-        return Ok((None, place));
-    }
-    let (action, place) = action(alloc, &piece, place)?;
-    Ok((Some(action), place))
 }
 
 /// The action that begins with this token.
@@ -69,9 +43,10 @@ fn action<'a>(
 {
     let name = action_name_of(piece)?;
     let place = place.opened()?;
-    let (target, place) = generic_reference(alloc, place)?;
-    let (parameters, place) = parameters(name.needs(), Seq::new(alloc), place)?;
-    let place = place.closed()?;
+    let (piece, place) = place.next()?;
+    let (target, place) = generic::<AnyReference>(alloc, &piece, place)?;
+    let none = Seq::new(alloc);
+    let (parameters, place) = parameters(alloc, name.optional(), name.needs(), none, place)?;
     Ok((
         Action {
             name,
@@ -92,52 +67,171 @@ fn action_name_of(piece: &Piece<'_>) -> Result<ActionName, TextError>
     }
 }
 
-/// The parameters that are needed, in their order, behind those that came before.
+/// The parameters that are needed, in their order, behind those that came before, up to the closing
+/// parenthesis. So many of them may be missing at the end.
 fn parameters<'a>(
+    alloc: Global,
+    optional: usize,
     needs: &[Need],
     before: Seq<Parameter>,
     place: Place<'a>,
 ) -> Result<(Seq<Parameter>, Place<'a>), TextError>
-    ensures { Gives (λ x. x) result (parameters_lem needs.now before place.entry) }
+    ensures { Gives (λ x. x) result (parameters_lem optional needs.now before place.entry) }
 {
     match needs {
-        [] => Ok((before, place)),
+        [] => {
+            let place = place.closed()?;
+            Ok((before, place))
+        }
         [need, others @ ..] => {
-            let (parameter, place) = parameter(*need, place)?;
+            let (piece, place) = place.next()?;
+            if needs.len() <= optional && is_close(piece.sign()) {
+                return Ok((before, place));
+            }
+            let (parameter, place) = parameter(alloc, *need, &piece, place)?;
             let mut parameters = before;
             parameters.push(parameter)?;
-            self::parameters(others, parameters, place)
+            self::parameters(alloc, optional, others, parameters, place)
         }
     }
 }
 
+fn is_close(sign: Sign) -> bool
+    ensures { result ≡ is_close_lem sign }
+{
+    matches!(sign, Sign::CloseParenthesis)
+}
+
+/// The parameter that begins with this token.
 #[tactic(auto, unfolding(crate::specs::Reading::parameter))]
-fn parameter<'a>(need: Need, place: Place<'a>) -> Result<(Parameter, Place<'a>), TextError>
-    ensures { Gives (λ x. x) result (parameter_lem need place.entry) }
+fn parameter<'a>(
+    alloc: Global,
+    need: Need,
+    piece: &Piece<'_>,
+    place: Place<'a>,
+) -> Result<(Parameter, Place<'a>), TextError>
+    ensures { Gives (λ x. x) result (parameter_lem need piece.now place.entry) }
 {
     match need {
-        Need::Int => {
-            let (value, place) = generic_integer(place)?;
-            Ok((Parameter::Int(value), place))
+        Need::Event => Ok((Parameter::Event(event_of(piece)?), place)),
+        Need::Receiver(_) => {
+            let (variable, place) = reference(alloc, piece, place)?;
+            Ok((Parameter::Receiver(variable), place))
         }
         Need::Typed => {
-            let (value, place) = typed(place)?;
+            let (value, place) = typed(alloc, piece, place)?;
             Ok((Parameter::Typed(value), place))
         }
+        Need::Arguments => {
+            let (values, place) = list::<TypedValue>(alloc, LONGEST_LIST, piece, place)?;
+            Ok((Parameter::Arguments(values), place))
+        }
+        _ => generic_parameter(alloc, need, piece, place),
+    }
+}
+
+/// The parameter that begins with this token, where it may be held by a variable.
+#[tactic(auto, unfolding(crate::specs::Reading::generic_parameter))]
+fn generic_parameter<'a>(
+    alloc: Global,
+    need: Need,
+    piece: &Piece<'_>,
+    place: Place<'a>,
+) -> Result<(Parameter, Place<'a>), TextError>
+    ensures { Gives (λ x. x) result (generic_parameter_lem need piece.now place.entry) }
+{
+    match need {
+        Need::Bool => {
+            let (value, place) = generic::<Truth>(alloc, piece, place)?;
+            Ok((Parameter::Bool(value), place))
+        }
+        Need::Int => {
+            let (value, place) = generic::<Integer>(alloc, piece, place)?;
+            Ok((Parameter::Int(value), place))
+        }
+        Need::Octets => {
+            let (value, place) = generic::<OctetText>(alloc, piece, place)?;
+            Ok((Parameter::Octets(value), place))
+        }
+        Need::Ref => {
+            let (value, place) = generic::<AnyReference>(alloc, piece, place)?;
+            Ok((Parameter::Ref(value), place))
+        }
+        Need::Content => {
+            let (value, place) = generic::<AnyContent>(alloc, piece, place)?;
+            Ok((Parameter::Content(value), place))
+        }
+        Need::Data => {
+            let (value, place) = generic::<Data>(alloc, piece, place)?;
+            Ok((Parameter::Data(value), place))
+        }
+        _ => Err(piece.refused(Why::Syntax)),
     }
 }
 
 /// A value with the keyword of its kind in front.
+struct TypedValue;
+
+impl Form for TypedValue {
+    type Value = Typed;
+
+    ghost reading = { typed_lem };
+
+    fn read<'a>(
+        alloc: Global,
+        piece: &Piece<'_>,
+        place: Place<'a>,
+    ) -> Result<(Typed, Place<'a>), TextError> {
+        typed(alloc, piece, place)
+    }
+}
+
+/// The value that begins with this token, the keyword of its kind.
 #[tactic(auto, unfolding(crate::specs::Reading::typed))]
-fn typed<'a>(place: Place<'a>) -> Result<(Typed, Place<'a>), TextError>
-    ensures { Gives (λ x. x) result (typed_lem place.entry) }
+fn typed<'a>(
+    alloc: Global,
+    piece: &Piece<'_>,
+    place: Place<'a>,
+) -> Result<(Typed, Place<'a>), TextError>
+    ensures { Gives (λ x. x) result (typed_lem piece.now place.entry) }
 {
+    let Sign::Kind(kind) = piece.sign() else {
+        return Err(piece.refused(Why::Syntax));
+    };
     let (piece, place) = place.next()?;
-    match piece.sign() {
-        Sign::IntegerKind => {
-            let (value, place) = generic_integer(place)?;
+    value_of(alloc, kind, &piece, place)
+}
+
+/// The value that begins with this token, which stands behind the keyword of its kind.
+#[tactic(auto, unfolding(crate::specs::Reading::value_of))]
+fn value_of<'a>(
+    alloc: Global,
+    kind: Kind,
+    piece: &Piece<'_>,
+    place: Place<'a>,
+) -> Result<(Typed, Place<'a>), TextError>
+    ensures { Gives (λ x. x) result (value_of_lem kind piece.now place.entry) }
+{
+    match kind {
+        Kind::Bool => {
+            let (value, place) = generic::<Truth>(alloc, piece, place)?;
+            Ok((Typed::Bool(value), place))
+        }
+        Kind::Int => {
+            let (value, place) = generic::<Integer>(alloc, piece, place)?;
             Ok((Typed::Int(value), place))
         }
-        _ => Err(piece.refused(Why::Syntax)),
+        Kind::Octets => {
+            let (value, place) = generic::<OctetText>(alloc, piece, place)?;
+            Ok((Typed::Octets(value), place))
+        }
+        Kind::Object => {
+            let (value, place) = generic::<AnyReference>(alloc, piece, place)?;
+            Ok((Typed::Ref(value), place))
+        }
+        Kind::Content => {
+            let (value, place) = generic::<ContentName>(alloc, piece, place)?;
+            Ok((Typed::ContentRef(value), place))
+        }
     }
 }

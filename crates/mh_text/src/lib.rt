@@ -1,16 +1,29 @@
-//! The textual notation, read: tokens over the bytes of a file, and the group that the tokens write.
+//! The textual notation: tokens over the bytes of a file, the group that the tokens write, and the
+//! printed form of a group.
 //!
 //! Promise: reading returns on every input, with a group that the tables allow, or with the first
-//! place from the left at which the text goes wrong. What a group holds is left to `mh_group`.
+//! place from the left at which the text goes wrong; and what is printed of a group is read as that
+//! group. What a group holds is left to `mh_group`.
 #![tactic(auto)]
 
 mod effect;
+mod form;
+pub mod laws;
 mod lexing;
 pub mod object;
 mod octet_text;
 mod place;
+mod printable;
+mod printing;
+mod printing_member;
+#[cfg(test)]
+mod printing_tests;
+mod printing_value;
 mod setting;
+mod several;
 mod sign;
+#[cfg(test)]
+mod table_tests;
 #[cfg(test)]
 mod tests;
 pub mod text_error;
@@ -19,6 +32,7 @@ pub mod token_kind;
 mod value;
 
 pub use object::{LARGEST_FILE, begins_group, read_group};
+pub use printing::print_group;
 pub use text_error::{TextError, Why};
 pub use token::{Token, Tokens};
 pub use token_kind::TokenKind;

@@ -3,13 +3,12 @@
 ghost use Rattle.std.specs.Prelude.{◌≡◌, ◌≢◌, ◌≤◌, [], false, true, nat_lt, length, IfOk, IfErr};
 ghost use Rattle.std.specs.List.{prefix_len};
 ghost use Rattle.mh_group.specs.Table.{attribute_number};
-ghost use Rattle.mh_group.specs.Fit.{has_required as has_required_lem};
 ghost use Rattle.mh_text.specs.Gives.{Gives};
 ghost use Rattle.mh_text.specs.Spelling.{Spells, SpellsNone, SpellsNoOther};
 ghost use Rattle.mh_text.specs.Lexing.{behind_gap as behind_gap_lem, begins_group as begins_group_lem};
-ghost use Rattle.mh_text.specs.Reading.{read, group as group_lem, body as body_lem, class_of as class_of_lem, identifier as identifier_lem, is_items as is_items_lem, fields as fields_lem, next_field as next_field_lem, fields_behind_items as fields_behind_items_lem, attribute_of as attribute_of_lem, has_attribute as has_attribute_lem, placed, complete as complete_lem, items as items_lem, listed, next_member, ingredient as ingredient_lem};
+ghost use Rattle.mh_text.specs.Reading.{read, group as group_lem, body as body_lem, class_of as class_of_lem, identifier as identifier_lem, is_items as is_items_lem, fields as fields_lem, next_field as next_field_lem, fields_behind_items as fields_behind_items_lem, attribute_of as attribute_of_lem, has_attribute as has_attribute_lem, placed, complete as complete_lem, items as items_lem, ingredient as ingredient_lem};
 
-use crate::effect::LONGEST_LIST;
+use crate::form::{Form, LONGEST_LIST, list};
 use crate::lexing::{begins_with, gap_length};
 use crate::place::{Piece, Place};
 use crate::setting::setting;
@@ -17,6 +16,7 @@ use crate::sign::Sign;
 use crate::value::{ingredient_number_of, name_of, number_of};
 use crate::{TextError, Why};
 use mh_base::Seq;
+use mh_group::group::has_required;
 use mh_group::{Attribute, Class, Field, Group, Ingredient, Shape, Written, WrittenName};
 use std::alloc::{AllocError, Global};
 
@@ -98,7 +98,7 @@ fn body<'a>(
     ensures { Gives (λ x. x) result (body_lem class place.entry) }
 {
     let (fields, end, place) = fields(alloc, class, Seq::new(alloc), place)?;
-    if !is_items(end.sign()) {
+    if !is_items(class, end.sign()) {
         return Ok((fields, None, end, place));
     }
     let (items, place) = items(alloc, place)?;
@@ -142,11 +142,11 @@ fn identifier<'a>(alloc: Global, place: Place<'a>) -> Result<(WrittenName, Place
 
 /// Whether the token is the keyword of the group's items.
 #[tactic(auto, unfolding(crate::specs::Reading::is_items))]
-fn is_items(sign: Sign) -> bool
-    ensures { result ≡ is_items_lem sign }
+fn is_items(class: Class, sign: Sign) -> bool
+    ensures { result ≡ is_items_lem class sign }
 {
     match sign {
-        Sign::Attribute(attribute) => matches!(attribute.shape(), Shape::Items),
+        Sign::Attribute(attribute) => matches!(class.shape(attribute), Shape::Items),
         _ => false,
     }
 }
@@ -192,10 +192,11 @@ fn next_field<'a>(
         return Ok((None, piece, place));
     }
     let attribute = attribute_of(class, fields, &piece)?;
-    if let Shape::Items = attribute.shape() {
+    let shape = class.shape(attribute);
+    if let Shape::Items = shape {
         return Ok((None, piece, place));
     }
-    let (setting, place) = setting(alloc, attribute.shape(), place)?;
+    let (setting, place) = setting(alloc, shape, place)?;
     Ok((Some(Field { attribute, setting }), piece, place))
 }
 
@@ -210,7 +211,7 @@ fn fields_behind_items<'a>(
     ensures { Gives (λ x. x) result (fields_behind_items_lem class before place.entry) }
 {
     let (fields, end, place) = fields(alloc, class, before, place)?;
-    if is_items(end.sign()) {
+    if is_items(class, end.sign()) {
         return Err(end.refused(Why::Syntax));
     }
     Ok((fields, end, place))
@@ -277,59 +278,30 @@ fn complete(class: Class, fields: Seq<Field>, end: &Piece<'_>) -> Result<Seq<Fie
     }
 }
 
-fn has_required(class: Class, fields: &[Field]) -> bool
-    ensures { result ≡ has_required_lem class fields.now }
-{
-    class
-        .required()
-        .iter()
-        .all(|attribute| has_attribute(fields, *attribute))
-}
-
 /// The ingredients between parentheses.
 #[tactic(auto, unfolding(crate::specs::Reading::items))]
 fn items<'a>(alloc: Global, place: Place<'a>) -> Result<(Seq<Ingredient>, Place<'a>), TextError>
     ensures { Gives (λ x. x) result (items_lem place.entry) }
 {
-    let place = place.opened()?;
-    ingredients(alloc, place)
-}
-
-/// The ingredients up to the closing parenthesis.
-fn ingredients<'a>(
-    alloc: Global,
-    place: Place<'a>,
-) -> Result<(Seq<Ingredient>, Place<'a>), TextError>
-    ensures { Gives (λ x. x) result (listed ingredient_lem 4096 [] place.entry) }
-{
-    let mut ingredients = Seq::new(alloc);
-    let mut place = place;
-    for _ in 0..LONGEST_LIST {
-        let (member, behind) = next_ingredient(alloc, place)?;
-        let Some(ingredient) = member else {
-            return Ok((ingredients, behind));
-        };
-        ingredients.push(ingredient)?;
-        place = behind;
-    }
-    let place = place.closed_list()?;
-    Ok((ingredients, place))
-}
-
-/// The next ingredient and the place behind it; none behind the closing parenthesis.
-#[tactic(auto, unfolding(crate::specs::Reading::next_member))]
-fn next_ingredient<'a>(
-    alloc: Global,
-    place: Place<'a>,
-) -> Result<(Option<Ingredient>, Place<'a>), TextError>
-    ensures { Gives (λ x. x) result (next_member ingredient_lem place.entry) }
-{
     let (piece, place) = place.next()?;
-    if let Sign::CloseParenthesis = piece.sign() {
-        return Ok((None, place));
+    list::<AnyIngredient>(alloc, LONGEST_LIST, &piece, place)
+}
+
+/// An ingredient.
+struct AnyIngredient;
+
+impl Form for AnyIngredient {
+    type Value = Ingredient;
+
+    ghost reading = { ingredient_lem };
+
+    fn read<'a>(
+        alloc: Global,
+        piece: &Piece<'_>,
+        place: Place<'a>,
+    ) -> Result<(Ingredient, Place<'a>), TextError> {
+        ingredient(alloc, piece, place)
     }
-    let (ingredient, place) = ingredient(alloc, &piece, place)?;
-    Ok((Some(ingredient), place))
 }
 
 /// The ingredient that begins with this token.

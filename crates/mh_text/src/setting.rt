@@ -1,14 +1,16 @@
 //! The reader of an attribute's value, by its shape.
 ghost use Rattle.std.specs.Prelude.{◌≡◌};
 ghost use Rattle.mh_text.specs.Gives.{Gives};
-ghost use Rattle.mh_text.specs.Reading.{setting as setting_lem, setting_at as setting_at_lem, single as single_lem, data_of as data_of_lem, pair as pair_lem, part as part_lem};
+ghost use Rattle.mh_text.specs.Reading.{setting as setting_lem, setting_at as setting_at_lem, single as single_lem, content_setting as content_setting_lem, data_setting as data_setting_lem, pair as pair_lem, part as part_lem};
 
-use crate::effect::effect;
 use crate::place::{Piece, Place};
-use crate::sign::Sign;
-use crate::value::{colour_of, event_of, fixed_of, integer_of, natural_of, reference, truth_of};
+use crate::several::several;
+use crate::value::{
+    colour_of, content, content_name, data_of, event_of, field_length_of, fixed_of, integer_of,
+    justification_of, natural_of, octets_of, reference, truth_of,
+};
 use crate::{TextError, Why};
-use mh_group::{Setting, Shape};
+use mh_group::{Content, EventData, Setting, Shape};
 use std::alloc::Global;
 
 /// The value of this shape.
@@ -20,15 +22,11 @@ pub(crate) fn setting<'a>(
 ) -> Result<(Setting, Place<'a>), TextError>
     ensures { Gives (λ x. x) result (setting_lem shape place.entry) }
 {
-    if let Shape::Effect = shape {
-        let (effect, place) = effect(alloc, place)?;
-        return Ok((Setting::Effect(effect), place));
-    }
     let (piece, place) = place.next()?;
     setting_at(alloc, shape, &piece, place)
 }
 
-/// The value of a shape other than an effect, which begins with this token.
+/// The value of this shape, which begins with this token.
 #[tactic(auto, unfolding(crate::specs::Reading::setting_at))]
 fn setting_at<'a>(
     alloc: Global,
@@ -44,10 +42,34 @@ fn setting_at<'a>(
             Ok((Setting::Ref(reference), place))
         }
         Shape::Pair | Shape::Size | Shape::Screen => pair(shape, piece, place),
+        Shape::Content => {
+            let (content, place) = content(alloc, piece, place)?;
+            Ok((content_setting(content), place))
+        }
+        Shape::ContentRef => {
+            let (name, place) = content_name(alloc, piece, place)?;
+            Ok((Setting::ContentRef(name), place))
+        }
+        Shape::Effect
+        | Shape::MovementTable
+        | Shape::Members
+        | Shape::ListItems
+        | Shape::Positions
+        | Shape::NextScenes => several(alloc, shape, piece, place),
         _ => {
             let value = single(alloc, shape, piece)?;
             Ok((value, place))
         }
+    }
+}
+
+/// Content as the value of an attribute.
+fn content_setting(content: Content) -> Setting
+    ensures { result ≡ content_setting_lem content }
+{
+    match content {
+        Content::Included(octets) => Setting::Octets(octets),
+        Content::Referenced(name) => Setting::ContentRef(name),
     }
 }
 
@@ -60,22 +82,23 @@ fn single(alloc: Global, shape: Shape, piece: &Piece<'_>) -> Result<Setting, Tex
         Shape::Bool => Ok(Setting::Bool(truth_of(piece)?)),
         Shape::Int => Ok(Setting::Int(integer_of(piece)?)),
         Shape::Natural => Ok(Setting::Int(natural_of(piece)?)),
+        Shape::Length => Ok(Setting::Int(field_length_of(piece)?)),
         Shape::Event => Ok(Setting::Event(event_of(piece)?)),
-        Shape::Data => data_of(piece),
+        Shape::Data => Ok(data_setting(data_of(piece)?)),
+        Shape::Octets => Ok(Setting::Octets(octets_of(alloc, piece)?)),
         Shape::Colour => Ok(Setting::Octets(colour_of(alloc, piece)?)),
+        Shape::Justification => Ok(Setting::Justification(justification_of(piece)?)),
         _ => Err(piece.refused(Why::Syntax)),
     }
 }
 
-/// The data of an event: a truth value or an integer.
-#[tactic(auto, unfolding(crate::specs::Reading::data_of))]
-fn data_of(piece: &Piece<'_>) -> Result<Setting, TextError>
-    ensures { Gives (λ x. x) result (data_of_lem piece.now) }
+/// The data of an event as the value of an attribute.
+fn data_setting(value: EventData) -> Setting
+    ensures { result ≡ data_setting_lem value }
 {
-    match piece.sign() {
-        Sign::Truth(value) => Ok(Setting::Bool(value)),
-        Sign::Integer(value) => Ok(Setting::Int(value)),
-        _ => Err(piece.refused(Why::Syntax)),
+    match value {
+        EventData::Bool(value) => Setting::Bool(value),
+        EventData::Int(value) => Setting::Int(value),
     }
 }
 

@@ -1,12 +1,12 @@
 //! `Sign`: what a token means. Keywords, words and integers are looked up here, wherever they stand;
 //! what may stand where is left to the readers.
 ghost use Rattle.std.specs.Prelude.{◌≡◌, ◌≤◌, Some, None, nat_le, if◌then◌else◌, ◌+◌, ◌*◌};
-ghost use Rattle.mh_text.specs.Signs.{sign_of as sign_of_lem, keyword_sign as keyword_sign_lem, name_sign as name_sign_lem, word_sign as word_sign_lem, integer_sign as integer_sign_lem, integer_of as integer_of_lem, positive as positive_lem, negative as negative_lem};
+ghost use Rattle.mh_text.specs.Signs.{sign_of as sign_of_lem, keyword_sign as keyword_sign_lem, name_sign as name_sign_lem, kind_word as kind_word_lem, kind_of_word as kind_of_word_lem, mark_sign as mark_sign_lem, word_sign as word_sign_lem, integer_sign as integer_sign_lem, integer_of as integer_of_lem, positive as positive_lem, negative as negative_lem};
 ghost use Rattle.mh_text.specs.Bytes.{number_behind};
 
 use crate::{TokenKind, Why};
-use mh_base::EventType;
-use mh_group::{ActionName, Attribute, Class};
+use mh_base::{EventType, Kind};
+use mh_group::{ActionName, Attribute, Class, Justification};
 
 /// What a token means.
 #[derive(Clone, Copy, Debug)]
@@ -18,9 +18,14 @@ pub(crate) enum Sign {
     Class(Class),
     Attribute(Attribute),
     Action(ActionName),
-    /// The keyword in front of a value of the kind Int.
-    IntegerKind,
+    /// The keyword in front of a value of this kind.
+    Kind(Kind),
+    /// The keyword in front of the name of a content file.
+    ContentRef,
+    /// The keyword in front of the reference of a variable that holds the value.
+    IndirectRef,
     Event(EventType),
+    Justification(Justification),
     Truth(bool),
     Integer(i32),
     Text,
@@ -69,8 +74,52 @@ fn name_sign(name: &[u8]) -> Option<Sign>
     if let Some(action) = ActionName::of_word(name) {
         return Some(Sign::Action(action));
     }
-    if name == b"GInteger".as_slice() {
-        return Some(Sign::IntegerKind);
+    if let Some(kind) = kind_of_word(name) {
+        return Some(Sign::Kind(kind));
+    }
+    mark_sign(name)
+}
+
+/// The kinds of values.
+const KINDS: [Kind; 5] = [
+    Kind::Bool,
+    Kind::Int,
+    Kind::Octets,
+    Kind::Object,
+    Kind::Content,
+];
+
+/// The kind that this keyword stands in front of, if there is one.
+fn kind_of_word(name: &[u8]) -> Option<Kind>
+    ensures { result ≡ kind_of_word_lem name.now }
+{
+    KINDS.iter().copied().find(|x| kind_word(*x) == name)
+}
+
+/// The keyword in front of a value of the kind.
+#[tactic(auto, unfolding(crate::specs::Signs::kind_word))]
+pub(crate) fn kind_word(kind: Kind) -> &'static [u8]
+    ensures { result.now ≡ kind_word_lem kind }
+{
+    match kind {
+        Kind::Bool => b"GBoolean",
+        Kind::Int => b"GInteger",
+        Kind::Octets => b"GOctetString",
+        Kind::Object => b"GObjectRef",
+        Kind::Content => b"GContentRef",
+    }
+}
+
+/// What a keyword means that no table has.
+#[tactic(auto, unfolding(crate::specs::Signs::mark_sign))]
+fn mark_sign(name: &[u8]) -> Option<Sign>
+    ensures { result ≡ mark_sign_lem name.now }
+{
+    if name == b"ContentRef".as_slice() {
+        return Some(Sign::ContentRef);
+    }
+    if name == b"IndirectRef".as_slice() {
+        return Some(Sign::IndirectRef);
     }
     None
 }
@@ -85,8 +134,11 @@ fn word_sign(text: &[u8]) -> Option<Sign>
     if text == b"false".as_slice() {
         return Some(Sign::Truth(false));
     }
-    match mh_group::event_of_word(text) {
-        Some(event) => Some(Sign::Event(event)),
+    if let Some(event) = mh_group::event_of_word(text) {
+        return Some(Sign::Event(event));
+    }
+    match Justification::of_word(text) {
+        Some(justification) => Some(Sign::Justification(justification)),
         None => None,
     }
 }

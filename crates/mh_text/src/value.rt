@@ -1,15 +1,16 @@
-//! Readers of values that fit a few tokens: names, numbers, truth values, octets, references. Each
-//! takes the token at which the value begins, and the place behind that token where it reads on.
+//! Readers of values that fit a few tokens: names, numbers, truth values, octets, references, contents.
+//! Each takes the token at which the value begins, and the place behind that token where it reads on.
 ghost use Rattle.std.specs.Prelude.{◌≡◌, pos, ◌≤ℤ◌, IfOk};
 ghost use Rattle.mh_text.specs.Gives.{Gives};
-ghost use Rattle.mh_text.specs.Reading.{name_of as name_of_lem, integer_of as integer_of_lem, natural_of as natural_of_lem, fixed_of as fixed_of_lem, number_of as number_of_lem, ingredient_number_of as ingredient_number_of_lem, truth_of as truth_of_lem, event_of as event_of_lem, octets_of as octets_of_lem, colour_of as colour_of_lem, reference as reference_lem, named_reference as named_reference_lem, generic_reference as generic_reference_lem, generic_integer as generic_integer_lem};
+ghost use Rattle.mh_text.specs.Reading.{name_of as name_of_lem, integer_of as integer_of_lem, natural_of as natural_of_lem, field_length_of as field_length_of_lem, fixed_of as fixed_of_lem, number_of as number_of_lem, ingredient_number_of as ingredient_number_of_lem, truth_of as truth_of_lem, event_of as event_of_lem, justification_of as justification_of_lem, data_of as data_of_lem, octets_of as octets_of_lem, colour_of as colour_of_lem, reference as reference_lem, named_reference as named_reference_lem, truth, integer, octets, event_data, content_name as content_name_lem, content as content_lem};
 
+use crate::form::Form;
 use crate::octet_text::unescaped;
 use crate::place::{Piece, Place};
 use crate::sign::Sign;
 use crate::{TextError, Why};
 use mh_base::{EventType, Octets};
-use mh_group::{Generic, Number, Ref, WrittenName};
+use mh_group::{Content, EventData, Justification, Number, Ref, WrittenName};
 use std::alloc::Global;
 
 #[tactic(auto, unfolding(crate::specs::Reading::name_of))]
@@ -44,6 +45,18 @@ pub(crate) fn natural_of(piece: &Piece<'_>) -> Result<i32, TextError>
 {
     let value = integer_of(piece)?;
     if value < 0 {
+        return Err(piece.refused(Why::Range));
+    }
+    Ok(value)
+}
+
+/// The length of an entry field, from 1 to 255.
+#[tactic(auto, unfolding(crate::specs::Reading::field_length_of))]
+pub(crate) fn field_length_of(piece: &Piece<'_>) -> Result<i32, TextError>
+    ensures { Gives (λ x. x) result (field_length_of_lem piece.now) }
+{
+    let value = integer_of(piece)?;
+    if value < 1 || 255 < value {
         return Err(piece.refused(Why::Range));
     }
     Ok(value)
@@ -105,6 +118,28 @@ pub(crate) fn event_of(piece: &Piece<'_>) -> Result<EventType, TextError>
     }
 }
 
+#[tactic(auto, unfolding(crate::specs::Reading::justification_of))]
+pub(crate) fn justification_of(piece: &Piece<'_>) -> Result<Justification, TextError>
+    ensures { Gives (λ x. x) result (justification_of_lem piece.now) }
+{
+    match piece.sign() {
+        Sign::Justification(justification) => Ok(justification),
+        _ => Err(piece.refused(Why::Syntax)),
+    }
+}
+
+/// The data of an event: a truth value or an integer.
+#[tactic(auto, unfolding(crate::specs::Reading::data_of))]
+pub(crate) fn data_of(piece: &Piece<'_>) -> Result<EventData, TextError>
+    ensures { Gives (λ x. x) result (data_of_lem piece.now) }
+{
+    match piece.sign() {
+        Sign::Truth(value) => Ok(EventData::Bool(value)),
+        Sign::Integer(value) => Ok(EventData::Int(value)),
+        _ => Err(piece.refused(Why::Syntax)),
+    }
+}
+
 #[tactic(auto, unfolding(crate::specs::Reading::octets_of))]
 pub(crate) fn octets_of(alloc: Global, piece: &Piece<'_>) -> Result<Octets, TextError>
     ensures { Gives (λ x. x) result (octets_of_lem piece.now) }
@@ -160,25 +195,157 @@ fn named_reference<'a>(alloc: Global, place: Place<'a>) -> Result<(Ref, Place<'a
     Ok((Ref::In(name, number), place))
 }
 
-/// A reference, written directly or held by a variable.
-#[tactic(auto, unfolding(crate::specs::Reading::generic_reference))]
-pub(crate) fn generic_reference<'a>(
+/// The name of a content file, behind its keyword.
+#[tactic(auto, unfolding(crate::specs::Reading::content_name))]
+pub(crate) fn content_name<'a>(
     alloc: Global,
+    piece: &Piece<'_>,
     place: Place<'a>,
-) -> Result<(Generic<Ref>, Place<'a>), TextError>
-    ensures { Gives (λ x. x) result (generic_reference_lem place.entry) }
+) -> Result<(WrittenName, Place<'a>), TextError>
+    ensures { Gives (λ x. x) result (content_name_lem piece.now place.entry) }
 {
+    let Sign::ContentRef = piece.sign() else {
+        return Err(piece.refused(Why::Syntax));
+    };
+    let place = place.opened()?;
     let (piece, place) = place.next()?;
-    let (target, place) = reference(alloc, &piece, place)?;
-    Ok((Generic::Direct(target), place))
+    let name = name_of(alloc, &piece)?;
+    let place = place.closed()?;
+    Ok((name, place))
 }
 
-/// An integer, written directly or held by a variable.
-#[tactic(auto, unfolding(crate::specs::Reading::generic_integer))]
-pub(crate) fn generic_integer<'a>(place: Place<'a>) -> Result<(Generic<i32>, Place<'a>), TextError>
-    ensures { Gives (λ x. x) result (generic_integer_lem place.entry) }
+/// Content: octets, or the name of a content file.
+#[tactic(auto, unfolding(crate::specs::Reading::content))]
+pub(crate) fn content<'a>(
+    alloc: Global,
+    piece: &Piece<'_>,
+    place: Place<'a>,
+) -> Result<(Content, Place<'a>), TextError>
+    ensures { Gives (λ x. x) result (content_lem piece.now place.entry) }
 {
-    let (piece, place) = place.next()?;
-    let value = integer_of(&piece)?;
-    Ok((Generic::Direct(value), place))
+    if let Sign::ContentRef = piece.sign() {
+        let (name, place) = content_name(alloc, piece, place)?;
+        return Ok((Content::Referenced(name), place));
+    }
+    let octets = octets_of(alloc, piece)?;
+    Ok((Content::Included(octets), place))
+}
+
+/// A truth value.
+pub(crate) struct Truth;
+
+impl Form for Truth {
+    type Value = bool;
+
+    ghost reading = { truth };
+
+    fn read<'a>(
+        _alloc: Global,
+        piece: &Piece<'_>,
+        place: Place<'a>,
+    ) -> Result<(bool, Place<'a>), TextError> {
+        Ok((truth_of(piece)?, place))
+    }
+}
+
+/// An integer.
+pub(crate) struct Integer;
+
+impl Form for Integer {
+    type Value = i32;
+
+    ghost reading = { integer };
+
+    fn read<'a>(
+        _alloc: Global,
+        piece: &Piece<'_>,
+        place: Place<'a>,
+    ) -> Result<(i32, Place<'a>), TextError> {
+        Ok((integer_of(piece)?, place))
+    }
+}
+
+/// Octets in a string or a quoted string.
+pub(crate) struct OctetText;
+
+impl Form for OctetText {
+    type Value = Octets;
+
+    ghost reading = { octets };
+
+    fn read<'a>(
+        alloc: Global,
+        piece: &Piece<'_>,
+        place: Place<'a>,
+    ) -> Result<(Octets, Place<'a>), TextError> {
+        Ok((octets_of(alloc, piece)?, place))
+    }
+}
+
+/// The data of an event.
+pub(crate) struct Data;
+
+impl Form for Data {
+    type Value = EventData;
+
+    ghost reading = { event_data };
+
+    fn read<'a>(
+        _alloc: Global,
+        piece: &Piece<'_>,
+        place: Place<'a>,
+    ) -> Result<(EventData, Place<'a>), TextError> {
+        Ok((data_of(piece)?, place))
+    }
+}
+
+/// A reference.
+pub(crate) struct AnyReference;
+
+impl Form for AnyReference {
+    type Value = Ref;
+
+    ghost reading = { reference_lem };
+
+    fn read<'a>(
+        alloc: Global,
+        piece: &Piece<'_>,
+        place: Place<'a>,
+    ) -> Result<(Ref, Place<'a>), TextError> {
+        reference(alloc, piece, place)
+    }
+}
+
+/// The name of a content file, behind its keyword.
+pub(crate) struct ContentName;
+
+impl Form for ContentName {
+    type Value = WrittenName;
+
+    ghost reading = { content_name_lem };
+
+    fn read<'a>(
+        alloc: Global,
+        piece: &Piece<'_>,
+        place: Place<'a>,
+    ) -> Result<(WrittenName, Place<'a>), TextError> {
+        content_name(alloc, piece, place)
+    }
+}
+
+/// Content: octets, or the name of a content file.
+pub(crate) struct AnyContent;
+
+impl Form for AnyContent {
+    type Value = Content;
+
+    ghost reading = { content_lem };
+
+    fn read<'a>(
+        alloc: Global,
+        piece: &Piece<'_>,
+        place: Place<'a>,
+    ) -> Result<(Content, Place<'a>), TextError> {
+        content(alloc, piece, place)
+    }
 }

@@ -6,13 +6,13 @@ use Rattle.std.specs.Option.{option_map, option_map_or}
 use Rattle.std.specs.Str.{bytes_eq}
 use Rattle.std.proofs.lemmas.Slice.Eq.{bytes_eq-Decides}
 use Rattle.mh_group.specs.declared.class.Class.{Class}
-use Rattle.mh_group.specs.Table.{is_scene}
+use Rattle.mh_group.specs.Table.{is_scene, is_application}
 use Rattle.mh_model.specs.declared.act.Act.{Act}
 use Rattle.mh_model.specs.declared.config.Config.{Config}
 use Rattle.mh_model.specs.declared.object.Object.{Object}
 use Rattle.mh_model.specs.Service.{Service, object_at, group_ref}
 use Rattle.mh_model.specs.Stuck.{is_transition}
-use Rattle.mh_model.specs.Configuration.{is_service, is_group_of, is_group_list, is_application, names, with_scenes, configurations}
+use Rattle.mh_model.specs.Configuration.{is_service, is_group_of, is_group_list, names, with_scenes, configurations}
 use Rattle.mh_model.specs.Active.{leads}
 use Rattle.mh_model.specs.Acceptable.{IsReached, start, led}
 use Rattle.mh_verify.proofs.ContainsLemmas.{halves, no_member, here, behind, first_or_behind, in_joined}

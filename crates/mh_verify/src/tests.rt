@@ -49,10 +49,11 @@ fn reference(alloc: Global, group: u8, value: u32) -> Result<Ref, Fail> {
     Ok(Ref::In(name.ok_or("a bad byte")?, number))
 }
 
+/// The parameter 1, for the actions that are played.
 fn parameter(need: Need) -> Parameter {
     match need {
-        Need::Int => Parameter::Int(Generic::Direct(1)),
         Need::Typed => Parameter::Typed(Typed::Int(Generic::Direct(1))),
+        _ => Parameter::Int(Generic::Direct(1)),
     }
 }
 

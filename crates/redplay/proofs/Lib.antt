@@ -4,3 +4,4 @@ pub mod FrameLemmas
 pub mod StepLemmas
 pub mod PlayLemmas
 pub mod WrittenLemmas
+pub mod ConvertLemmas

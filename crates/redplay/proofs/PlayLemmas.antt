@@ -66,6 +66,9 @@ cut-last cs at start now before after new text so past total b =
     ap (λ (t : List ℕ). so.done ++ t) (append-nil text ∙ total) ∙ last cs at start now before after so past in
     subst (λ (t : List ℕ). IsBeginning before new t) whole (later_beginning before after new so.done text so.taken b [])
 
+pub left_last : (cs : List Command) (at : ℕ) (start now : Session) (before after : Option (List ℕ)) → IsPlayed cs at start now before after → length cs ≤ at → now ≡ ended cs start
+left_last cs at start now before after so past = sym (ap (λ (l : List Command). ended l now) (drop_of_length-le cs past)) ∙ so.goes_on
+
 pub status-last : (cs : List Command) (at : ℕ) (start now : Session) (before after : Option (List ℕ)) (status : Status) → IsPlayed cs at start now before after → length cs ≤ at → status ≡ status_of now.state.faults → status ≡ status_of (ended cs start).state.faults
 status-last cs at start now before after status so past is =
     is ∙ ap (λ (s : Session). status_of s.state.faults) (sym (ap (λ (l : List Command). ended l now) (drop_of_length-le cs past)) ∙ so.goes_on)

@@ -5,3 +5,4 @@ pub mod Frame
 pub mod Report
 pub mod Verdict
 pub mod Played
+pub mod Converted

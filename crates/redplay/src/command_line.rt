@@ -1,6 +1,7 @@
 //! The words of the command line: what the program is asked to do.
 //!
 //! What a wrong command line is, and the texts on it, are left to `clap`.
+use crate::convert::Notation;
 use clap::{Arg, ArgAction, ArgMatches, Command, Error};
 use std::alloc::{AllocError, Global};
 use std::convert::AsStr;
@@ -15,6 +16,8 @@ pub enum Task {
     Check,
     /// A script, played on a service.
     Play,
+    /// A group's file, in the notation that is wanted.
+    Convert(Notation),
 }
 
 /// A task, and what it is done with.
@@ -23,6 +26,8 @@ pub struct Asked<'a> {
     pub task: Task,
     /// The folder with the files of the service.
     pub folder: Option<&'a str>,
+    /// The file that is converted.
+    pub file: Option<&'a str>,
     /// The file with the script.
     pub script: Option<&'a str>,
     /// The path of the application to start with.
@@ -33,16 +38,34 @@ pub struct Asked<'a> {
 /// What the words ask for. The first word is the program's own name.
 pub fn line_of<'a, S: AsStr>(alloc: Global, words: &'a [S]) -> Result<Asked<'a>, Error> {
     let matches = program(alloc)?.try_get_matches_from(words)?;
-    Ok(match matches.subcommand_matches("play") {
-        Some(play) => what_to_play(play),
-        None => what_to_check(matches.subcommand_matches("check")),
-    })
+    if let Some(play) = matches.subcommand_matches("play") {
+        return Ok(what_to_play(play));
+    }
+    if let Some(convert) = matches.subcommand_matches("to-der") {
+        return Ok(what_to_convert(Notation::Binary, convert));
+    }
+    if let Some(convert) = matches.subcommand_matches("to-text") {
+        return Ok(what_to_convert(Notation::Textual, convert));
+    }
+    Ok(what_to_check(matches.subcommand_matches("check")))
+}
+
+fn what_to_convert<'a>(to: Notation, convert: &ArgMatches<'a>) -> Asked<'a> {
+    Asked {
+        task: Task::Convert(to),
+        folder: None,
+        file: convert.get_str("FILE"),
+        script: None,
+        start: START,
+        lenient: false,
+    }
 }
 
 fn what_to_play<'a>(play: &ArgMatches<'a>) -> Asked<'a> {
     Asked {
         task: Task::Play,
         folder: play.get_str("DIR"),
+        file: None,
         script: play.get_str("script"),
         start: play.get_str("start").unwrap_or(START),
         lenient: play.get_flag("lenient"),
@@ -53,6 +76,7 @@ fn what_to_check<'a>(check: Option<&ArgMatches<'a>>) -> Asked<'a> {
     Asked {
         task: Task::Check,
         folder: check.and_then(|check| check.get_str("DIR")),
+        file: None,
         script: None,
         start: check
             .and_then(|check| check.get_str("start"))
@@ -63,9 +87,33 @@ fn what_to_check<'a>(check: Option<&ArgMatches<'a>>) -> Asked<'a> {
 
 fn program<'a>(alloc: Global) -> Result<Command<'a>, AllocError> {
     let command = Command::new(alloc, "redplay")
-        .about("Checks and plays red-button television services")
+        .about("Checks, plays and converts red-button television services")
         .subcommand_required(true);
-    command.subcommand(check(alloc)?)?.subcommand(play(alloc)?)
+    let command = command.subcommand(check(alloc)?)?.subcommand(play(alloc)?)?;
+    command
+        .subcommand(to_der(alloc)?)?
+        .subcommand(to_text(alloc)?)
+}
+
+fn to_der<'a>(alloc: Global) -> Result<Command<'a>, AllocError> {
+    Command::new(alloc, "to-der")
+        .about("Writes the group of a file in the binary notation")
+        .after_help("Example:\n  redplay to-der examples/menu/service/a > a.der")
+        .arg(file(alloc))
+}
+
+fn to_text<'a>(alloc: Global) -> Result<Command<'a>, AllocError> {
+    Command::new(alloc, "to-text")
+        .about("Writes the group of a file in the textual notation")
+        .after_help("Example:\n  redplay to-text examples/menu/der/a")
+        .arg(file(alloc))
+}
+
+fn file<'a>(alloc: Global) -> Arg<'a> {
+    Arg::new(alloc, "FILE")
+        .required(true)
+        .action(ArgAction::Set)
+        .help("The file of the group, in either notation")
 }
 
 fn check<'a>(alloc: Global) -> Result<Command<'a>, AllocError> {

@@ -1,8 +1,12 @@
-//! The program: it reads a service and a script from files, plays them, and prints the report.
+//! The program: it reads a service from files, and checks it or plays a script on it, or it reads one
+//! group and writes it in the other notation.
 #![tactic(auto)]
 
 pub mod check;
 pub mod command_line;
+pub mod convert;
+#[cfg(test)]
+mod convert_tests;
 #[cfg(test)]
 mod cutting_sink;
 pub mod gather;
@@ -25,6 +29,7 @@ pub mod unplayable;
 
 use check::check_bytes;
 use command_line::{Asked, Task, line_of};
+use convert::{Notation, convert_bytes};
 use gather::{Ungathered, gather, read_file};
 use options::Options;
 use play::play_bytes;
@@ -58,6 +63,7 @@ fn do_asked<R: Runtime + AllocGlobal>(rt: &R, asked: &Asked) -> io::Result<u8> {
     let done = match asked.task {
         Task::Check => checked(rt, asked),
         Task::Play => played(rt, asked),
+        Task::Convert(to) => converted(rt, asked, to),
     };
     match done {
         Ok(status) => Ok(status),
@@ -98,6 +104,25 @@ fn played<R: Runtime + AllocGlobal>(rt: &R, asked: &Asked) -> Result<u8, Ungathe
     };
     let files = files.as_slice();
     match play_bytes(rt.alloc(), files, script.as_slice(), &options, &mut sink) {
+        Ok(status) => Ok(status.code()),
+        Err(_) => Ok(FAILED),
+    }
+}
+
+fn converted<R: Runtime + AllocGlobal>(
+    rt: &R,
+    asked: &Asked,
+    to: Notation,
+) -> Result<u8, Ungathered> {
+    let Some(file) = asked.file else {
+        return Ok(Status::Unreadable.code());
+    };
+    let bytes = read_file(rt, file, file)?;
+    let mut sink = WriterSink {
+        writer: io::writer(rt),
+        failures: 0,
+    };
+    match convert_bytes(rt.alloc(), file.as_bytes(), bytes.as_slice(), to, &mut sink) {
         Ok(status) => Ok(status.code()),
         Err(_) => Ok(FAILED),
     }

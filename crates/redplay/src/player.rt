@@ -158,6 +158,7 @@ impl Player {
         requires count { self.old.frames ≡ 0 }
         requires room { S.failures sink.old < 2 ^ 64 - 1 }
         ensures whole { OnOk result (S.written sink.new ≡ appended (S.written sink.old) (script_lines commands.now self.old)) }
+        ensures left { OnOk result (self.new ≡ ended commands.now self.old) }
         ensures status { IfOk result (λ status. status ≡ status_of (ended commands.now self.old).state.faults) }
         ensures cut { OnErr result (IsBeginning (S.written sink.old) (S.written sink.new) (script_lines commands.now self.old)) }
         ensures write { IsErrOf result PlayError.Write → S.failures sink.old < S.failures sink.new }

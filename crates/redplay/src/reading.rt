@@ -72,7 +72,7 @@ fn add_file(
 {
     let bytes = file.1.as_slice();
     if is_group_file(bytes) {
-        let group = read_file(alloc, &file.0, bytes)?;
+        let group = read_file(alloc, file.0.as_bytes(), bytes)?;
         groups.push((file.0.clone()?, group))?;
     }
     Ok(())
@@ -85,9 +85,10 @@ fn is_group_file(bytes: &[u8]) -> bool
     mh_text::begins_group(bytes) || mh_codec::begins_group(bytes)
 }
 
-/// The group that the file writes, in the notation in which it begins.
+/// The group that the file writes, in the notation in which it begins. A refusal calls the file by its
+/// name.
 #[tactic(auto, unfolding(crate::specs::Played::group_in))]
-fn read_file(alloc: Global, name: &GroupName, bytes: &[u8]) -> Result<Group, Unplayable>
+pub fn read_file(alloc: Global, name: &[u8], bytes: &[u8]) -> Result<Group, Unplayable>
     ensures { Gives (λ g. g) result (group_in name.now bytes.now) }
 {
     if mh_codec::begins_group(bytes) {
@@ -97,13 +98,13 @@ fn read_file(alloc: Global, name: &GroupName, bytes: &[u8]) -> Result<Group, Unp
     }
 }
 
-fn read_octets(alloc: Global, name: &GroupName, octets: &[u8]) -> Result<Group, Unplayable>
+fn read_octets(alloc: Global, name: &[u8], octets: &[u8]) -> Result<Group, Unplayable>
     ensures { Gives (λ g. g) result (spelled name.now (read_octets_lem octets.now)) }
 {
     match decode_group(alloc, octets) {
         Ok(group) => Ok(group),
         Err(CodecError::At { why, offset }) => Err(Unplayable::File {
-            name: name.clone()?,
+            name: Octets::from_slice(alloc, name)?,
             number: why.number(),
             offset,
         }),
@@ -111,13 +112,13 @@ fn read_octets(alloc: Global, name: &GroupName, octets: &[u8]) -> Result<Group, 
     }
 }
 
-fn read_text(alloc: Global, name: &GroupName, bytes: &[u8]) -> Result<Group, Unplayable>
+fn read_text(alloc: Global, name: &[u8], bytes: &[u8]) -> Result<Group, Unplayable>
     ensures { Gives (λ g. g) result (named name.now (read bytes.now)) }
 {
     match read_group(alloc, bytes) {
         Ok(group) => Ok(group),
         Err(TextError::At { why, offset }) => Err(Unplayable::File {
-            name: name.clone()?,
+            name: Octets::from_slice(alloc, name)?,
             number: why.number(),
             offset,
         }),

@@ -25,7 +25,7 @@ pub fn complaint_text(alloc: Global, why: &Unplayable) -> Result<Text, AllocErro
             offset,
         } => {
             text.put(b"file ")?;
-            text.put(name.as_bytes())?;
+            text.put(name.as_slice())?;
             put_spaced(&mut text, u64::from(*number))?;
             put_spaced(&mut text, *offset as u64)?;
         }

@@ -270,6 +270,54 @@ fn does_not_play(rt: HostRuntime) -> Result<(), Fail> {
 }
 
 #[test]
+fn reads_what_it_does_not_play_yet(rt: HostRuntime) -> Result<(), Fail> {
+    let cases: [(&str, &str); 9] = [
+        (
+            r#"{:Application ("a" 0) :Items ( {:Text 1 :OrigBoxSize 1 1 } ) }"#,
+            "service 36 a\n",
+        ),
+        (
+            r#"{:Application ("a" 0) :OnStartUp ( :Quit (0) ) }"#,
+            "service 36 a\n",
+        ),
+        (
+            r#"{:Application ("a" 0) :OnStartUp ( :Add (1 :IndirectRef 1) ) }"#,
+            "service 36 a\n",
+        ),
+        (
+            r#"{:Application ("a" 0) :OnStartUp ( :SetVariable (1 :GBoolean true) ) }"#,
+            "service 36 a\n",
+        ),
+        (
+            r#"{:Application ("a" 0) :Items ( {:ContentRefVar 1 :OrigValue :ContentRef ("..") } ) }"#,
+            "service 35 a\n",
+        ),
+        (
+            r#"{:Application ("a" 0) :OnStartUp ( :Call (1 2 ( :GObjectRef (".." 1) )) ) }"#,
+            "service 35 a\n",
+        ),
+        (
+            r#"{:Application ("a" 0) :OnStartUp ( :SetData (1 :ContentRef ("../t")) ) }"#,
+            "service 35 a\n",
+        ),
+        (
+            r#"{:Application ("a" 0) :Items ( {:TokenGroup 1 :TokenGroupItems ( ( 2 ( :Run ((".." 1)) ) ) ) } ) }"#,
+            "service 35 a\n",
+        ),
+        // names of scenes that may come next are only kept
+        (
+            r#"{:Application ("a" 0) :CHook 3 :ObjectInfo 'four' :NextScenes ( ( ".." 1 ) ) }"#,
+            "total 0\n",
+        ),
+    ];
+    for (text, line) in cases {
+        let status = if line == "total 0\n" { 0 } else { 2 };
+        check(&rt, text, &[("a", text)], "", (line, status))?;
+    }
+    Ok(())
+}
+
+#[test]
 fn refuses_an_input_too_many(rt: HostRuntime) -> Result<(), Fail> {
     let alloc = rt.alloc();
     let mut script = String::from_str(alloc, "run\n")?;

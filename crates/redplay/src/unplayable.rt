@@ -1,5 +1,5 @@
 //! Why nothing is played.
-use mh_base::{GroupName, Octets};
+use mh_base::Octets;
 use std::alloc::{AllocError, AllocFailed};
 use thiserror::Error;
 
@@ -9,7 +9,7 @@ pub enum Unplayable {
     /// A file begins as a group does, and is none: the number of the reason, and the place.
     #[error("file {name:?}: {number} at {offset}")]
     File {
-        name: GroupName,
+        name: Octets,
         number: u32,
         offset: usize,
     },

@@ -4,16 +4,16 @@ use Rattle.mh_codec.specs.Writable.{is_setting}
 use Rattle.mh_codec.proofs.WritingLemmas.{all_parts, whole_fits, whole_refused}
 use Rattle.mh_codec.proofs.writing.write_body.Goals as goal
 
-pub returns-in_err-write_fields-in-Some-clause-limit : goal.returns-in_err-write_fields-in-Some-clause-limit
-returns-in_err-write_fields-in-Some-clause-limit c =
+pub returns-in_err-write_several-in-Some-clause-limit : goal.returns-in_err-write_several-in-Some-clause-limit
+returns-in_err-write_several-in-Some-clause-limit c =
     rw (sym (all_parts (λ f. is_setting f.setting) c.before_items-count.result c.args.fields.now)) (search rules)
 
 pub returns-in_ok-write_items-in-Some-clause-settings : goal.returns-in_ok-write_items-in-Some-clause-settings
 returns-in_ok-write_items-in-Some-clause-settings c =
     rw (sym (all_parts (λ f. is_setting f.setting) c.before_items-count.result c.args.fields.now))
-    (whole_fits c.write_fields-in-Some-2.result _ _ c.in_ok-write_fields-in-Some.ensures.fits c.write_fields-in-Some-2.ensures.fits)
+    (whole_fits c.write_several-in-Some-2.result _ _ c.in_ok-write_several-in-Some.ensures.fits c.write_several-in-Some-2.ensures.fits)
 
 pub returns-in_ok-write_items-in-Some-clause-limit : goal.returns-in_ok-write_items-in-Some-clause-limit
 returns-in_ok-write_items-in-Some-clause-limit c =
     rw (sym (all_parts (λ f. is_setting f.setting) c.before_items-count.result c.args.fields.now))
-    (whole_refused c.write_fields-in-Some-2.result _ _ _ c.in_ok-write_fields-in-Some.ensures.fits c.write_fields-in-Some-2.ensures.limit)
+    (whole_refused c.write_several-in-Some-2.result _ _ _ c.in_ok-write_several-in-Some.ensures.fits c.write_several-in-Some-2.ensures.limit)

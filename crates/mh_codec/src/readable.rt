@@ -1,0 +1,108 @@
+//! Readers by type: what one element says, values that variables hold, and lists.
+ghost use Rattle.std.specs.Prelude.{[]};
+ghost use Rattle.mh_codec.specs.Gives.{Gives};
+ghost use Rattle.mh_codec.specs.Reading.{generic_at as generic_at_lem, list_at as list_at_lem, listed, next_member as next_member_lem};
+
+use crate::value::{exhausted, is_indirect, sequence_at, taken, variable_at};
+use crate::{CodecError, Why};
+use mh_base::Seq;
+use mh_der::{Element, Reader};
+use mh_group::Generic;
+use std::alloc::Global;
+
+/// The most members of one written list.
+pub(crate) const LONGEST_LIST: usize = 4096;
+
+/// What can be read from one element.
+pub(crate) trait Readable {
+    ghost use Rattle.std.specs.Prelude.{Result};
+    ghost use Rattle.mh_der.specs.Rest.{Element as ElementLem};
+    ghost use Rattle.mh_codec.specs.Gives.{Refusal};
+
+    /// What is read.
+    type Value: Drop;
+
+    ghost reading: { ElementLem → Result Self.Value Refusal };
+
+    fn read_at(alloc: Global, element: &Element<'_>) -> Result<Self::Value, CodecError>
+        ensures { Gives (λ x. x) result (reading element.now) };
+}
+
+/// A list of what can be read, in one sequence.
+impl<T: Readable> Readable for Seq<T> {
+    ghost use Rattle.mh_codec.specs.Reading.{list_at as list_at_lem};
+
+    type Value = Seq<T::Value>;
+
+    ghost reading = { list_at_lem T.reading 4096 };
+
+    fn read_at(alloc: Global, element: &Element<'_>) -> Result<Seq<T::Value>, CodecError> {
+        list_at::<T>(alloc, LONGEST_LIST, element)
+    }
+}
+
+/// A value, written directly or held by a variable.
+#[tactic(auto, unfolding(crate::specs::Reading::generic_at))]
+pub(crate) fn generic_at<T: Readable>(
+    alloc: Global,
+    element: &Element<'_>,
+) -> Result<Generic<T::Value>, CodecError>
+    ensures { Gives (λ x. x) result (generic_at_lem T.reading element.now) }
+{
+    if is_indirect(element) {
+        Ok(Generic::Indirect(variable_at(alloc, element)?))
+    } else {
+        Ok(Generic::Direct(T::read_at(alloc, element)?))
+    }
+}
+
+/// A sequence of at most so many members.
+#[tactic(auto, unfolding(crate::specs::Reading::list_at))]
+pub(crate) fn list_at<T: Readable>(
+    alloc: Global,
+    limit: usize,
+    element: &Element<'_>,
+) -> Result<Seq<T::Value>, CodecError>
+    ensures { Gives (λ x. x) result (list_at_lem T.reading limit element.now) }
+{
+    let reader = sequence_at(element)?;
+    members::<T>(alloc, limit, reader)
+}
+
+/// The members up to the end, at most so many.
+pub(crate) fn members<T: Readable>(
+    alloc: Global,
+    limit: usize,
+    reader: Reader<'_>,
+) -> Result<Seq<T::Value>, CodecError>
+    ensures { Gives (λ x. x) result (listed T.reading limit [] reader.entry) }
+{
+    let mut members = Seq::new(alloc);
+    let mut reader = reader;
+    for _ in 0..limit {
+        let (member, behind) = next_member::<T>(alloc, reader)?;
+        let Some(member) = member else {
+            return Ok(members);
+        };
+        members.push(member)?;
+        reader = behind;
+    }
+    exhausted(&reader, Why::Limit)?;
+    Ok(members)
+}
+
+/// The next member, and the reader behind it; none at the end.
+#[tactic(auto, unfolding(crate::specs::Reading::next_member))]
+fn next_member<'a, T: Readable>(
+    alloc: Global,
+    reader: Reader<'a>,
+) -> Result<(Option<T::Value>, Reader<'a>), CodecError>
+    ensures { Gives (λ x. x) result (next_member_lem T.reading reader.entry) }
+{
+    if reader.is_empty() {
+        return Ok((None, reader));
+    }
+    let (element, behind) = taken(reader)?;
+    let member = T::read_at(alloc, &element)?;
+    Ok((Some(member), behind))
+}

@@ -1,0 +1,140 @@
+//! Writers by type: each puts the octets of one value behind what a buffer holds, or refuses a value
+//! that the notation cannot hold; the buffer is then of no use. Lists, and values that variables hold,
+//! of any such type. How an element is laid out is left to `mh_der`.
+ghost use Rattle.std.specs.Prelude.{◌≡◌, ◌++◌, true, OnOk, IfErr};
+ghost use Rattle.std.specs.List.{list_all};
+ghost use Rattle.mh_der.specs.Element.{element};
+ghost use Rattle.mh_codec.specs.Spelling.{own as own_lem, several, list, generic, reference as reference_lem};
+ghost use Rattle.mh_codec.specs.Writable.{is_reference, is_generic, is_list};
+ghost use Rattle.mh_codec.specs.Unwritable.{Refuses};
+
+use crate::kind::VARIABLE;
+use crate::readable::LONGEST_LIST;
+use crate::{CodecError, Why};
+use mh_base::Seq;
+use mh_der::{SEQUENCE, Tag, TagClass, write_element};
+use mh_group::{Generic, Ref};
+use std::alloc::Global;
+
+/// The refusal of what the notation cannot hold.
+pub(crate) const PAST_LIMIT: CodecError = CodecError::At {
+    why: Why::Limit,
+    offset: 0,
+};
+
+/// What can be written.
+pub(crate) trait Writable {
+    ghost use Rattle.std.specs.Prelude.{ℕ, Bool, List};
+
+    ghost spelling: { Self → List ℕ };
+
+    ghost is_good: { Self → Bool };
+
+    fn write(&self, alloc: Global, out: &mut Vec<u8>) -> Result<(), CodecError>
+        ensures written { OnOk result (out.new.items ≡ out.old.items ++ spelling self.now) }
+        ensures fits { OnOk result (is_good self.now ≡ true) }
+        ensures limit { IfErr result (Refuses (is_good self.now)) };
+}
+
+/// A list of what can be written, in one sequence.
+impl<T: Writable> Writable for Seq<T> {
+    ghost use Rattle.mh_codec.specs.Spelling.{list};
+    ghost use Rattle.mh_codec.specs.Writable.{is_list};
+
+    ghost spelling = { list T.spelling };
+
+    ghost is_good = { is_list T.is_good };
+
+    fn write(&self, alloc: Global, out: &mut Vec<u8>) -> Result<(), CodecError> {
+        write_list(alloc, out, self.as_slice())
+    }
+}
+
+/// A value, written directly or held by a variable.
+impl<T: Writable> Writable for Generic<T> {
+    ghost use Rattle.mh_codec.specs.Spelling.{generic};
+    ghost use Rattle.mh_codec.specs.Writable.{is_generic};
+
+    ghost spelling = { generic T.spelling };
+
+    ghost is_good = { is_generic T.is_good };
+
+    fn write(&self, alloc: Global, out: &mut Vec<u8>) -> Result<(), CodecError> {
+        write_generic(alloc, out, self)
+    }
+}
+
+#[tactic(auto, unfolding(crate::specs::Spelling::generic))]
+fn write_generic<T: Writable>(
+    alloc: Global,
+    out: &mut Vec<u8>,
+    value: &Generic<T>,
+) -> Result<(), CodecError>
+    ensures written { OnOk result (out.new.items ≡ out.old.items ++ generic T.spelling value.now) }
+    ensures fits { OnOk result (is_generic T.is_good value.now ≡ true) }
+    ensures limit { IfErr result (Refuses (is_generic T.is_good value.now)) }
+{
+    match value {
+        Generic::Direct(value) => value.write(alloc, out),
+        Generic::Indirect(variable) => write_variable(alloc, out, variable),
+    }
+}
+
+/// Writes the reference of a variable that holds a value.
+fn write_variable(alloc: Global, out: &mut Vec<u8>, variable: &Ref) -> Result<(), CodecError>
+    ensures written { OnOk result (out.new.items ≡ out.old.items ++ element (own_lem 61) (reference_lem variable.now)) }
+    ensures fits { OnOk result (is_reference variable.now ≡ true) }
+    ensures limit { IfErr result (Refuses (is_reference variable.now)) }
+{
+    let mut contents = Vec::new(alloc);
+    variable.write(alloc, &mut contents)?;
+    write_element(out, own(VARIABLE), contents.as_slice())?;
+    Ok(())
+}
+
+/// Writes the members in one sequence.
+#[tactic(auto, unfolding(crate::specs::Spelling::list))]
+pub(crate) fn write_list<T: Writable>(
+    alloc: Global,
+    out: &mut Vec<u8>,
+    members: &[T],
+) -> Result<(), CodecError>
+    ensures written { OnOk result (out.new.items ≡ out.old.items ++ list T.spelling members.now) }
+    ensures fits { OnOk result (is_list T.is_good members.now ≡ true) }
+    ensures limit { IfErr result (Refuses (is_list T.is_good members.now)) }
+{
+    if members.len() > LONGEST_LIST {
+        return Err(PAST_LIMIT);
+    }
+    let mut contents = Vec::new(alloc);
+    write_several(alloc, &mut contents, members)?;
+    write_element(out, SEQUENCE, contents.as_slice())?;
+    Ok(())
+}
+
+/// Writes the members one after the other.
+pub(crate) fn write_several<T: Writable>(
+    alloc: Global,
+    out: &mut Vec<u8>,
+    members: &[T],
+) -> Result<(), CodecError>
+    ensures written { OnOk result (out.new.items ≡ out.old.items ++ several T.spelling members.now) }
+    ensures fits { OnOk result (list_all T.is_good members.now ≡ true) }
+    ensures limit { IfErr result (Refuses (list_all T.is_good members.now)) }
+{
+    for member in members {
+        member.write(alloc, out)?;
+    }
+    Ok(())
+}
+
+/// The tag of this number that is the notation's own.
+pub(crate) fn own(number: u16) -> Tag
+    ensures { result ≡ own_lem number }
+{
+    Tag {
+        class: TagClass::Context,
+        is_constructed: true,
+        number,
+    }
+}

@@ -1,0 +1,177 @@
+//! Writers of values that are one element: truth values, numbers, octets, names, references.
+ghost use Rattle.std.specs.Prelude.{◌≡◌, ◌<◌, ◌^◌, ◌++◌, true, OnOk};
+ghost use Rattle.std.specs.List.{list_all};
+ghost use Rattle.mh_base.specs.Path.{is_name_byte};
+ghost use Rattle.mh_codec.specs.Spelling.{integer, natural, octet_string, named, content_tag as content_tag_lem};
+ghost use Rattle.mh_codec.specs.Writable.{is_integer};
+
+use crate::CodecError;
+use crate::kind::CONTENT_NAME;
+use crate::writable::Writable;
+use mh_base::Octets;
+use mh_der::{OCTET_STRING, SEQUENCE, Tag, TagClass, write_bool, write_element, write_int};
+use mh_group::{Content, EventData, Ref, WrittenName};
+use std::alloc::{AllocError, Global};
+
+/// Writes a name and a number as one sequence.
+#[tactic(auto, unfolding(crate::specs::Spelling::named))]
+pub(crate) fn write_named(
+    alloc: Global,
+    out: &mut Vec<u8>,
+    name: &WrittenName,
+    number: u32,
+) -> Result<(), AllocError>
+    requires small { number < 2 ^ 31 }
+    ensures written { OnOk result (out.new.items ≡ out.old.items ++ named name.now number) }
+    ensures fits { list_all is_name_byte name.now ≡ true }
+{
+    let mut contents = Vec::new(alloc);
+    write_name(&mut contents, name)?;
+    write_natural(&mut contents, number)?;
+    write_element(out, SEQUENCE, contents.as_slice())
+}
+
+/// Writes the name of a group.
+#[tactic(auto, unfolding(crate::specs::Spelling::octet_string))]
+pub(crate) fn write_name(out: &mut Vec<u8>, name: &WrittenName) -> Result<(), AllocError>
+    ensures written { OnOk result (out.new.items ≡ out.old.items ++ octet_string name.now) }
+    ensures fits { list_all is_name_byte name.now ≡ true }
+{
+    write_element(out, OCTET_STRING, name.as_bytes())
+}
+
+/// Writes an integer from 0.
+pub(crate) fn write_natural(out: &mut Vec<u8>, number: u32) -> Result<(), AllocError>
+    requires small { number < 2 ^ 31 }
+    ensures { OnOk result (out.new.items ≡ out.old.items ++ natural number) }
+{
+    write_integer(out, number as i32)
+}
+
+#[tactic(auto, unfolding(crate::specs::Spelling::integer))]
+pub(crate) fn write_integer(out: &mut Vec<u8>, value: i32) -> Result<(), AllocError>
+    ensures written { OnOk result (out.new.items ≡ out.old.items ++ integer value) }
+    ensures fits { is_integer value ≡ true }
+{
+    write_int(out, value)
+}
+
+/// The tag of the name of a content file.
+fn content_tag() -> Tag
+    ensures { result ≡ content_tag_lem }
+{
+    Tag {
+        class: TagClass::Context,
+        is_constructed: false,
+        number: CONTENT_NAME,
+    }
+}
+
+impl Writable for bool {
+    ghost use Rattle.mh_codec.specs.Spelling.{boolean as spelling_lem};
+    ghost use Rattle.mh_codec.specs.Writable.{is_plain as is_good_lem};
+
+    ghost spelling = { spelling_lem };
+
+    ghost is_good = { is_good_lem };
+
+    #[tactic(auto, unfolding(crate::specs::Spelling::boolean))]
+    fn write(&self, _alloc: Global, out: &mut Vec<u8>) -> Result<(), CodecError> {
+        write_bool(out, *self)?;
+        Ok(())
+    }
+}
+
+impl Writable for i32 {
+    ghost use Rattle.mh_codec.specs.Spelling.{integer as spelling_lem};
+    ghost use Rattle.mh_codec.specs.Writable.{is_integer as is_good_lem};
+
+    ghost spelling = { spelling_lem };
+
+    ghost is_good = { is_good_lem };
+
+    fn write(&self, _alloc: Global, out: &mut Vec<u8>) -> Result<(), CodecError> {
+        write_integer(out, *self)?;
+        Ok(())
+    }
+}
+
+impl Writable for Octets {
+    ghost use Rattle.mh_codec.specs.Spelling.{octet_string as spelling_lem};
+    ghost use Rattle.mh_codec.specs.Writable.{is_plain as is_good_lem};
+
+    ghost spelling = { spelling_lem };
+
+    ghost is_good = { is_good_lem };
+
+    #[tactic(auto, unfolding(crate::specs::Spelling::octet_string))]
+    fn write(&self, _alloc: Global, out: &mut Vec<u8>) -> Result<(), CodecError> {
+        write_element(out, OCTET_STRING, self.as_slice())?;
+        Ok(())
+    }
+}
+
+impl Writable for Ref {
+    ghost use Rattle.mh_codec.specs.Spelling.{reference as spelling_lem};
+    ghost use Rattle.mh_codec.specs.Writable.{is_reference as is_good_lem};
+
+    ghost spelling = { spelling_lem };
+
+    ghost is_good = { is_good_lem };
+
+    fn write(&self, alloc: Global, out: &mut Vec<u8>) -> Result<(), CodecError> {
+        match self {
+            Ref::Here(number) => write_natural(out, number.get())?,
+            Ref::In(name, number) => write_named(alloc, out, name, number.get())?,
+        }
+        Ok(())
+    }
+}
+
+/// The name of a content file.
+impl Writable for WrittenName {
+    ghost use Rattle.mh_codec.specs.Spelling.{content_name as spelling_lem};
+    ghost use Rattle.mh_codec.specs.Writable.{is_name as is_good_lem};
+
+    ghost spelling = { spelling_lem };
+
+    ghost is_good = { is_good_lem };
+
+    #[tactic(auto, unfolding(crate::specs::Spelling::content_name))]
+    fn write(&self, _alloc: Global, out: &mut Vec<u8>) -> Result<(), CodecError> {
+        write_element(out, content_tag(), self.as_bytes())?;
+        Ok(())
+    }
+}
+
+impl Writable for Content {
+    ghost use Rattle.mh_codec.specs.Spelling.{content_value as spelling_lem};
+    ghost use Rattle.mh_codec.specs.Writable.{is_content as is_good_lem};
+
+    ghost spelling = { spelling_lem };
+
+    ghost is_good = { is_good_lem };
+
+    fn write(&self, alloc: Global, out: &mut Vec<u8>) -> Result<(), CodecError> {
+        match self {
+            Content::Included(octets) => octets.write(alloc, out),
+            Content::Referenced(name) => name.write(alloc, out),
+        }
+    }
+}
+
+impl Writable for EventData {
+    ghost use Rattle.mh_codec.specs.Spelling.{data_value as spelling_lem};
+    ghost use Rattle.mh_codec.specs.Writable.{is_data as is_good_lem};
+
+    ghost spelling = { spelling_lem };
+
+    ghost is_good = { is_good_lem };
+
+    fn write(&self, alloc: Global, out: &mut Vec<u8>) -> Result<(), CodecError> {
+        match self {
+            EventData::Bool(truth) => truth.write(alloc, out),
+            EventData::Int(value) => value.write(alloc, out),
+        }
+    }
+}

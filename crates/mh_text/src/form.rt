@@ -1,0 +1,105 @@
+//! `Form`: a way in which values are written, told by its reader; and what is made of any form: lists of
+//! values, and values that a variable may hold.
+ghost use Rattle.std.specs.Prelude.{◌≡◌, [], Result};
+ghost use Rattle.mh_text.specs.Rest.{Left, Piece as PieceValue};
+ghost use Rattle.mh_text.specs.Gives.{Gives, Refusal};
+ghost use Rattle.mh_text.specs.Reading.{generic as generic_lem, list as list_lem, listed, next_member};
+
+use crate::place::{Piece, Place};
+use crate::sign::Sign;
+use crate::value::reference;
+use crate::{TextError, Why};
+use mh_base::Seq;
+use mh_group::Generic;
+use std::alloc::Global;
+
+/// The most members of one written list.
+pub const LONGEST_LIST: usize = 4096;
+
+/// A way in which values are written.
+pub(crate) trait Form {
+    type Value: Drop;
+
+    /// What a token and what is left behind it are read as.
+    ghost reading: { PieceValue → Left → Result (Self.Value × Left) Refusal };
+
+    /// The value that begins with this token, and the place behind it.
+    fn read<'a>(
+        alloc: Global,
+        piece: &Piece<'_>,
+        place: Place<'a>,
+    ) -> Result<(Self::Value, Place<'a>), TextError>
+        ensures { Gives (λ x. x) result (reading piece.now place.entry) };
+}
+
+/// A value that is written directly, or the reference of the variable that holds it.
+#[tactic(auto, unfolding(crate::specs::Reading::generic))]
+pub(crate) fn generic<'a, F: Form>(
+    alloc: Global,
+    piece: &Piece<'_>,
+    place: Place<'a>,
+) -> Result<(Generic<F::Value>, Place<'a>), TextError>
+    ensures { Gives (λ x. x) result (generic_lem F.reading piece.now place.entry) }
+{
+    if let Sign::IndirectRef = piece.sign() {
+        let (piece, place) = place.next()?;
+        let (variable, place) = reference(alloc, &piece, place)?;
+        return Ok((Generic::Indirect(variable), place));
+    }
+    let (value, place) = F::read(alloc, piece, place)?;
+    Ok((Generic::Direct(value), place))
+}
+
+/// A list between parentheses, of which this token is the first. It has at most so many members.
+#[tactic(auto, unfolding(crate::specs::Reading::list))]
+pub(crate) fn list<'a, F: Form>(
+    alloc: Global,
+    most: usize,
+    piece: &Piece<'_>,
+    place: Place<'a>,
+) -> Result<(Seq<F::Value>, Place<'a>), TextError>
+    ensures { Gives (λ x. x) result (list_lem F.reading most piece.now place.entry) }
+{
+    match piece.sign() {
+        Sign::OpenParenthesis => members::<F>(alloc, most, place),
+        _ => Err(piece.refused(Why::Syntax)),
+    }
+}
+
+/// The members of a list up to its closing parenthesis, at most so many.
+pub(crate) fn members<'a, F: Form>(
+    alloc: Global,
+    most: usize,
+    place: Place<'a>,
+) -> Result<(Seq<F::Value>, Place<'a>), TextError>
+    ensures { Gives (λ x. x) result (listed F.reading most [] place.entry) }
+{
+    let mut members = Seq::new(alloc);
+    let mut place = place;
+    for _ in 0..most {
+        let (next, behind) = next_member::<F>(alloc, place)?;
+        let Some(member) = next else {
+            return Ok((members, behind));
+        };
+        members.push(member)?;
+        place = behind;
+    }
+    let place = place.closed_list()?;
+    Ok((members, place))
+}
+
+/// The next member of a list and the place behind it; none behind the closing parenthesis.
+#[tactic(auto, unfolding(crate::specs::Reading::next_member))]
+fn next_member<'a, F: Form>(
+    alloc: Global,
+    place: Place<'a>,
+) -> Result<(Option<F::Value>, Place<'a>), TextError>
+    ensures { Gives (λ x. x) result (next_member F.reading place.entry) }
+{
+    let (piece, place) = place.next()?;
+    if let Sign::CloseParenthesis = piece.sign() {
+        return Ok((None, place));
+    }
+    let (member, place) = F::read(alloc, &piece, place)?;
+    Ok((Some(member), place))
+}

@@ -1,0 +1,148 @@
+//! The printer of groups: the group itself, its ingredients and fields.
+ghost use Rattle.std.specs.Prelude.{◌≡◌, ◌≢◌, ◌++◌, ◌&&◌, true, false, IfOk, OnOk, IfErr};
+ghost use Rattle.mh_group.specs.Fit.{written_items};
+ghost use Rattle.mh_group.specs.Holdable.{is_list, has_settings, is_ingredient, is_holdable};
+ghost use Rattle.mh_text.specs.declared.text_error.Why.{Why};
+ghost use Rattle.mh_text.specs.Spelling.{Spells};
+ghost use Rattle.mh_text.specs.Printed.{items as items_lem, body as body_lem, printed, passes_limit, Refuses};
+
+use crate::TextError;
+use crate::object::LARGEST_FILE;
+use crate::printable::{PAST_LIMIT, Printable, print_list, print_several, put_keyword, put_word};
+use crate::printing_value::{put_integer, put_named, put_natural};
+use mh_base::Seq;
+use mh_group::{Attribute, Field, Group, Ingredient, Setting, Written, event_word, group};
+use std::alloc::Global;
+
+/// The printed form of the group: its words in the order of the grammar, with one space between any two
+/// and a line feed at the end; fields in the order of their numbers, and none that was not written. 24 at
+/// 0 where a list of the group, or the whole of it, is longer than a reader takes.
+#[tactic(auto, using(crate::proofs::PrintingLemmas::unheld_passes, crate::proofs::PrintingLemmas::long_passes, crate::proofs::PrintingLemmas::within_limit))]
+pub fn print_group(alloc: Global, group: &Group) -> Result<Vec<u8>, TextError>
+    ensures printed { IfOk result (λ text. text.items ≡ printed group.now) }
+    ensures within { OnOk result (passes_limit group.now ≡ false) }
+    ensures spelled { IfOk result (λ text. Spells text.items group.now) }
+    ensures limit { IfErr result (λ e. e ≢ TextError.NoMemory → (e ≡ TextError.At Why.Limit 0) × (passes_limit group.now ≡ true)) }
+{
+    let mut out = Vec::new(alloc);
+    print_written(alloc, &mut out, group.written())?;
+    if out.len() > LARGEST_FILE {
+        return Err(PAST_LIMIT);
+    }
+    Ok(out)
+}
+
+#[tactic(auto, unfolding(crate::specs::Printed::printed, mh_group::specs::Holdable::is_holdable))]
+fn print_written(alloc: Global, out: &mut Vec<u8>, group: &Written) -> Result<(), TextError>
+    ensures printed { OnOk result (out.new.items ≡ out.old.items ++ printed group.now) }
+    ensures fits { OnOk result (is_holdable group.now ≡ true) }
+    ensures limit { IfErr result (Refuses (is_holdable group.now)) }
+{
+    out.extend_from_slice(b"{")?;
+    put_keyword(out, group.class.word())?;
+    put_named(alloc, out, &group.identifier, 0)?;
+    print_body(alloc, out, &group.items, group.fields.as_slice())?;
+    out.extend_from_slice(b" }\n")?;
+    Ok(())
+}
+
+/// Prints the fields, and the items at their place among them.
+#[tactic(auto, unfolding(crate::specs::Printed::body))]
+fn print_body(
+    alloc: Global,
+    out: &mut Vec<u8>,
+    items: &Option<Seq<Ingredient>>,
+    fields: &[Field],
+) -> Result<(), TextError>
+    ensures printed { OnOk result (out.new.items ≡ out.old.items ++ body_lem items.now fields.now) }
+    ensures settings { OnOk result (has_settings fields.now ≡ true) }
+    ensures members { OnOk result (is_list is_ingredient (written_items items.now) ≡ true) }
+    ensures limit { IfErr result (Refuses (has_settings fields.now && is_list is_ingredient (written_items items.now))) }
+{
+    match items {
+        None => print_several(alloc, out, fields),
+        Some(items) => {
+            let count = group::before_items(fields);
+            print_several(alloc, out, &fields[..count])?;
+            print_items(alloc, out, items.as_slice())?;
+            print_several(alloc, out, &fields[count..])
+        }
+    }
+}
+
+#[tactic(auto, unfolding(crate::specs::Printed::items))]
+fn print_items(alloc: Global, out: &mut Vec<u8>, items: &[Ingredient]) -> Result<(), TextError>
+    ensures printed { OnOk result (out.new.items ≡ out.old.items ++ items_lem items.now) }
+    ensures fits { OnOk result (is_list is_ingredient items.now ≡ true) }
+    ensures limit { IfErr result (Refuses (is_list is_ingredient items.now)) }
+{
+    put_keyword(out, Attribute::Items.word())?;
+    print_list(alloc, out, items)
+}
+
+impl Printable for Ingredient {
+    ghost use Rattle.mh_text.specs.Printed.{ingredient as printed_lem};
+    ghost use Rattle.mh_group.specs.Holdable.{is_ingredient as is_good_lem};
+
+    ghost printed = { printed_lem };
+
+    ghost is_good = { is_good_lem };
+
+    #[tactic(auto, unfolding(crate::specs::Printed::ingredient))]
+    fn print(&self, alloc: Global, out: &mut Vec<u8>) -> Result<(), TextError> {
+        out.extend_from_slice(b" {")?;
+        put_keyword(out, self.class.word())?;
+        put_natural(alloc, out, self.number.get())?;
+        print_several(alloc, out, self.fields.as_slice())?;
+        out.extend_from_slice(b" }")?;
+        Ok(())
+    }
+}
+
+impl Printable for Field {
+    ghost use Rattle.mh_text.specs.Printed.{field as printed_lem};
+    ghost use Rattle.mh_group.specs.Holdable.{is_setting as is_good_lem};
+
+    ghost printed = { printed_lem };
+
+    ghost is_good = { λ f. is_good_lem f.setting };
+
+    #[tactic(auto, unfolding(crate::specs::Printed::field))]
+    fn print(&self, alloc: Global, out: &mut Vec<u8>) -> Result<(), TextError> {
+        put_keyword(out, self.attribute.word())?;
+        self.setting.print(alloc, out)
+    }
+}
+
+/// The value of an attribute.
+impl Printable for Setting {
+    ghost use Rattle.mh_text.specs.Printed.{value as printed_lem};
+    ghost use Rattle.mh_group.specs.Holdable.{is_setting as is_good_lem};
+
+    ghost printed = { printed_lem };
+
+    ghost is_good = { is_good_lem };
+
+    #[tactic(auto, unfolding(crate::specs::Printed::value))]
+    fn print(&self, alloc: Global, out: &mut Vec<u8>) -> Result<(), TextError> {
+        match self {
+            Setting::Bool(truth) => truth.print(alloc, out),
+            Setting::Int(value) => value.print(alloc, out),
+            Setting::Pair(first, second) => {
+                put_integer(alloc, out, *first)?;
+                put_integer(alloc, out, *second)?;
+                Ok(())
+            }
+            Setting::Octets(octets) => octets.print(alloc, out),
+            Setting::Ref(reference) => reference.print(alloc, out),
+            Setting::ContentRef(name) => name.print(alloc, out),
+            Setting::Event(event) => Ok(put_word(out, event_word(*event))?),
+            Setting::Justification(side) => Ok(put_word(out, side.word())?),
+            Setting::Effect(actions) => actions.print(alloc, out),
+            Setting::MovementTable(rows) => rows.print(alloc, out),
+            Setting::Members(members) => members.print(alloc, out),
+            Setting::Positions(positions) => positions.print(alloc, out),
+            Setting::NextScenes(scenes) => scenes.print(alloc, out),
+        }
+    }
+}

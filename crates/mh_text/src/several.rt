@@ -1,0 +1,229 @@
+//! Readers of the values that are lists: effects, rows of integers, members, positions and scenes.
+ghost use Rattle.std.specs.Prelude.{◌≡◌};
+ghost use Rattle.mh_text.specs.Gives.{Gives};
+ghost use Rattle.mh_text.specs.Reading.{several as several_lem, effect, row, member as member_lem, list_item as list_item_lem, position as position_lem, next_scene as next_scene_lem};
+
+use crate::effect::ElementaryAction;
+use crate::form::{Form, LONGEST_LIST, list, members};
+use crate::place::{Piece, Place};
+use crate::sign::Sign;
+use crate::value::{Integer, integer_of, name_of, reference};
+use crate::{TextError, Why};
+use mh_base::Seq;
+use mh_group::group::MOST_LIST_ITEMS;
+use mh_group::{Effect, Member, NextScene, Position, Setting, Shape};
+use std::alloc::Global;
+
+/// The value of a shape that is a list, which begins with this token.
+#[tactic(auto, unfolding(crate::specs::Reading::several))]
+pub(crate) fn several<'a>(
+    alloc: Global,
+    shape: Shape,
+    piece: &Piece<'_>,
+    place: Place<'a>,
+) -> Result<(Setting, Place<'a>), TextError>
+    ensures { Gives (λ x. x) result (several_lem shape piece.now place.entry) }
+{
+    match shape {
+        Shape::Effect => {
+            let (actions, place) = list::<ElementaryAction>(alloc, LONGEST_LIST, piece, place)?;
+            Ok((Setting::Effect(actions), place))
+        }
+        Shape::MovementTable => {
+            let (rows, place) = list::<Row>(alloc, LONGEST_LIST, piece, place)?;
+            Ok((Setting::MovementTable(rows), place))
+        }
+        Shape::Members => {
+            let (members, place) = list::<SlottedMember>(alloc, LONGEST_LIST, piece, place)?;
+            Ok((Setting::Members(members), place))
+        }
+        Shape::ListItems => {
+            let (items, place) = list::<ListItem>(alloc, MOST_LIST_ITEMS, piece, place)?;
+            Ok((Setting::Members(items), place))
+        }
+        Shape::Positions => {
+            let (positions, place) = list::<CellPosition>(alloc, LONGEST_LIST, piece, place)?;
+            Ok((Setting::Positions(positions), place))
+        }
+        Shape::NextScenes => {
+            let (scenes, place) = list::<Scene>(alloc, LONGEST_LIST, piece, place)?;
+            Ok((Setting::NextScenes(scenes), place))
+        }
+        _ => Err(piece.refused(Why::Syntax)),
+    }
+}
+
+/// What an action slot of a member does.
+struct Slot;
+
+impl Form for Slot {
+    type Value = Effect;
+
+    ghost reading = { effect };
+
+    fn read<'a>(
+        alloc: Global,
+        piece: &Piece<'_>,
+        place: Place<'a>,
+    ) -> Result<(Effect, Place<'a>), TextError> {
+        list::<ElementaryAction>(alloc, LONGEST_LIST, piece, place)
+    }
+}
+
+/// One row of a movement table.
+struct Row;
+
+impl Form for Row {
+    type Value = Seq<i32>;
+
+    ghost reading = { row };
+
+    fn read<'a>(
+        alloc: Global,
+        piece: &Piece<'_>,
+        place: Place<'a>,
+    ) -> Result<(Seq<i32>, Place<'a>), TextError> {
+        list::<Integer>(alloc, LONGEST_LIST, piece, place)
+    }
+}
+
+/// A member of a token group.
+struct SlottedMember;
+
+impl Form for SlottedMember {
+    type Value = Member;
+
+    ghost reading = { member_lem };
+
+    fn read<'a>(
+        alloc: Global,
+        piece: &Piece<'_>,
+        place: Place<'a>,
+    ) -> Result<(Member, Place<'a>), TextError> {
+        member(alloc, piece, place)
+    }
+}
+
+/// A member and its slots.
+#[tactic(auto, unfolding(crate::specs::Reading::member))]
+fn member<'a>(
+    alloc: Global,
+    piece: &Piece<'_>,
+    place: Place<'a>,
+) -> Result<(Member, Place<'a>), TextError>
+    ensures { Gives (λ x. x) result (member_lem piece.now place.entry) }
+{
+    let Sign::OpenParenthesis = piece.sign() else {
+        return Err(piece.refused(Why::Syntax));
+    };
+    let (piece, place) = place.next()?;
+    let (object, place) = reference(alloc, &piece, place)?;
+    let (slots, place) = members::<Slot>(alloc, LONGEST_LIST, place)?;
+    Ok((Member { object, slots }, place))
+}
+
+/// A member of a list group.
+struct ListItem;
+
+impl Form for ListItem {
+    type Value = Member;
+
+    ghost reading = { list_item_lem };
+
+    fn read<'a>(
+        alloc: Global,
+        piece: &Piece<'_>,
+        place: Place<'a>,
+    ) -> Result<(Member, Place<'a>), TextError> {
+        list_item(alloc, piece, place)
+    }
+}
+
+/// A member that has no slots.
+#[tactic(auto, unfolding(crate::specs::Reading::list_item))]
+fn list_item<'a>(
+    alloc: Global,
+    piece: &Piece<'_>,
+    place: Place<'a>,
+) -> Result<(Member, Place<'a>), TextError>
+    ensures { Gives (λ x. x) result (list_item_lem piece.now place.entry) }
+{
+    let Sign::OpenParenthesis = piece.sign() else {
+        return Err(piece.refused(Why::Syntax));
+    };
+    let (piece, place) = place.next()?;
+    let (object, place) = reference(alloc, &piece, place)?;
+    let place = place.closed()?;
+    let slots = Seq::new(alloc);
+    Ok((Member { object, slots }, place))
+}
+
+/// Where a cell of a list group lies.
+struct CellPosition;
+
+impl Form for CellPosition {
+    type Value = Position;
+
+    ghost reading = { position_lem };
+
+    fn read<'a>(
+        _alloc: Global,
+        piece: &Piece<'_>,
+        place: Place<'a>,
+    ) -> Result<(Position, Place<'a>), TextError> {
+        position(piece, place)
+    }
+}
+
+/// Two integers between parentheses.
+#[tactic(auto, unfolding(crate::specs::Reading::position))]
+fn position<'a>(piece: &Piece<'_>, place: Place<'a>) -> Result<(Position, Place<'a>), TextError>
+    ensures { Gives (λ x. x) result (position_lem piece.now place.entry) }
+{
+    let Sign::OpenParenthesis = piece.sign() else {
+        return Err(piece.refused(Why::Syntax));
+    };
+    let (piece, place) = place.next()?;
+    let x = integer_of(&piece)?;
+    let (piece, place) = place.next()?;
+    let y = integer_of(&piece)?;
+    let place = place.closed()?;
+    Ok((Position { x, y }, place))
+}
+
+/// A scene that may come next.
+struct Scene;
+
+impl Form for Scene {
+    type Value = NextScene;
+
+    ghost reading = { next_scene_lem };
+
+    fn read<'a>(
+        alloc: Global,
+        piece: &Piece<'_>,
+        place: Place<'a>,
+    ) -> Result<(NextScene, Place<'a>), TextError> {
+        next_scene(alloc, piece, place)
+    }
+}
+
+/// A name and an integer between parentheses.
+#[tactic(auto, unfolding(crate::specs::Reading::next_scene))]
+fn next_scene<'a>(
+    alloc: Global,
+    piece: &Piece<'_>,
+    place: Place<'a>,
+) -> Result<(NextScene, Place<'a>), TextError>
+    ensures { Gives (λ x. x) result (next_scene_lem piece.now place.entry) }
+{
+    let Sign::OpenParenthesis = piece.sign() else {
+        return Err(piece.refused(Why::Syntax));
+    };
+    let (piece, place) = place.next()?;
+    let name = name_of(alloc, &piece)?;
+    let (piece, place) = place.next()?;
+    let weight = integer_of(&piece)?;
+    let place = place.closed()?;
+    Ok((NextScene { name, weight }, place))
+}
