@@ -1,7 +1,7 @@
 //! `Area`.
 
 /// A box on the plane of 720 by 576 units: its upper left corner, and its size, which is not negative.
-#[derive(Clone, Copy, Debug, PartialEq, Eq)]
+#[derive(Clone, Copy, PartialEq, Eq)]
 pub struct Area {
     pub x: i32,
     pub y: i32,

@@ -2,7 +2,7 @@
 
 /// A colour in direct form (ISO/IEC 13522-5, AbsoluteColour): three parts of light and a transparency.
 /// Transparency 255 paints nothing; every other one paints opaquely.
-#[derive(Clone, Copy, Debug, PartialEq, Eq)]
+#[derive(Clone, Copy, PartialEq, Eq)]
 pub struct Colour {
     pub red: u8,
     pub green: u8,

@@ -3,7 +3,7 @@ ghost use Rattle.std.specs.Prelude.{◌≡◌, ◌↔◌, IfSome, IsSome, IsNone
 ghost use Rattle.mh_base.specs.Event.{number_of, is_sync as is_sync_lem, event_of};
 
 /// The types of events (ISO/IEC 13522-5, EventType) that the profile has.
-#[derive(Clone, Copy, Debug, PartialEq, Eq)]
+#[derive(Clone, Copy, PartialEq, Eq)]
 pub enum EventType {
     IsAvailable,
     ContentAvailable,

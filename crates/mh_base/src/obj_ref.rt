@@ -3,7 +3,7 @@ use crate::GroupName;
 
 /// A reference to an object (ISO/IEC 13522-5, ObjectReference): its group and its number there. The
 /// group itself has number 0.
-#[derive(Clone, Debug, Drop, PartialEq, Eq, Hash)]
+#[derive(Clone, Drop, PartialEq, Eq, Hash)]
 pub struct ObjRef {
     pub group: GroupName,
     pub number: u32,

@@ -5,7 +5,7 @@ use std::alloc::{AllocError, Global};
 use std::marker::Model;
 
 /// A list that grows at its end. A contract sees the list of its members.
-#[derive(Debug, Drop)]
+#[derive(Drop)]
 pub struct Seq<T> {
     vector: Vec<T>,
 }

@@ -6,7 +6,7 @@ use std::marker::Model;
 use std::rc::Rc;
 
 /// A list whose copies take no memory. A contract sees the list of its members.
-#[derive(Debug, Drop)]
+#[derive(Drop)]
 pub struct Shared<T> {
     members: Rc<Vec<T>>,
 }

@@ -2,7 +2,7 @@
 use crate::{GroupName, ObjRef, Octets};
 
 /// The kinds of values, one for each class of variables.
-#[derive(Clone, Copy, Debug, PartialEq, Eq)]
+#[derive(Clone, Copy, PartialEq, Eq)]
 pub enum Kind {
     Bool,
     Int,
@@ -12,7 +12,7 @@ pub enum Kind {
 }
 
 /// A value: of a variable, of a parameter, or the data of an event.
-#[derive(Clone, Debug, Drop, PartialEq, Eq)]
+#[derive(Clone, Drop, PartialEq, Eq)]
 pub enum Value {
     Bool(bool),
     Int(i32),

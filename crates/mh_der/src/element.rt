@@ -5,7 +5,7 @@ use crate::{Reader, Tag};
 use std::marker::Model;
 
 /// An element of a source: its tag, the offset of its first byte, and its contents.
-#[derive(Debug, Drop)]
+#[derive(Drop)]
 pub struct Element<'a> {
     tag: Tag,
     offset: usize,

@@ -11,7 +11,7 @@ use std::marker::Model;
 
 /// What is left of a source, or of an element's contents. A contract sees the bytes that are left,
 /// and how many of the source stand before them.
-#[derive(Debug, Drop)]
+#[derive(Drop)]
 pub struct Reader<'a> {
     rest: &'a [u8],
     offset: usize,

@@ -1,7 +1,7 @@
 //! `Tag`: what an element is (ITU-T X.690, 8.1.2).
 
 /// The class of a tag.
-#[derive(Clone, Copy, Debug, PartialEq, Eq)]
+#[derive(Clone, Copy, PartialEq, Eq)]
 pub enum TagClass {
     Universal,
     Application,
@@ -10,7 +10,7 @@ pub enum TagClass {
 }
 
 /// A tag: its class, whether its contents are elements, and its number.
-#[derive(Clone, Copy, Debug, PartialEq, Eq)]
+#[derive(Clone, Copy, PartialEq, Eq)]
 pub struct Tag {
     pub class: TagClass,
     pub is_constructed: bool,

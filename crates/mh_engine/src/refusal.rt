@@ -47,7 +47,7 @@ impl RefusedWhy {
 }
 
 /// An input that was not accepted. It is handed back.
-#[derive(Clone, Copy, Debug, PartialEq, Eq)]
+#[derive(Clone, Copy, PartialEq, Eq)]
 pub struct Refused {
     pub why: RefusedWhy,
     pub input: Input,
@@ -80,7 +80,7 @@ impl StepError {
 }
 
 /// A run that ended before its last move.
-#[derive(Clone, Copy, Debug, PartialEq, Eq)]
+#[derive(Clone, Copy, PartialEq, Eq)]
 pub struct RunEnd {
     /// How many moves were made.
     pub made: usize,

@@ -1,7 +1,7 @@
 //! What is left to do.
 
 /// What is left to do.
-#[derive(Clone, Copy, Debug, PartialEq, Eq)]
+#[derive(Clone, Copy, PartialEq, Eq)]
 pub enum Rest {
     /// The next step does something.
     More,

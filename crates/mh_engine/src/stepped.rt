@@ -2,7 +2,7 @@
 use mh_model::Fault;
 
 /// What one step did.
-#[derive(Debug, Drop)]
+#[derive(Drop)]
 pub enum Stepped {
     /// There is nothing to do.
     Idle,

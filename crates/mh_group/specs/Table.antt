@@ -1,6 +1,7 @@
 -- The tables of the profile: numbers, what may stand where, what an action is written with, and what it
 -- can emit.
 use Rattle.std.specs.Prelude.{ℕ, Bool, true, false, not, ◌||◌, if◌then◌else◌, List, [], ◌∷◌}
+use Rattle.mh_base.specs.Event.{event_types}
 use Rattle.mh_base.specs.declared.event.EventType.{EventType}
 use Rattle.mh_base.specs.declared.event.EventType.TheVariants as event
 use Rattle.mh_base.specs.declared.value.Kind.TheVariants as kind
@@ -530,8 +531,9 @@ optional_of action.SendEvent = 1
 optional_of action.SetTimer = 2
 optional_of _ = 0
 
--- What an action can emit of a target of a class it has a rule for: what it emits itself, and what its
--- target emits when it becomes available, runs, stops or is dropped.
+-- What an action can emit where its target is of a class that it has a rule for: what its own rule emits, and
+-- what the target emits when by that rule it becomes available, runs, stops, is dropped or is entered. What
+-- other objects emit, as those that are entered with a scene, is emitted by rules of their own.
 
 -- becoming available; with its content, if it has one
 abbrev pub prepare_events : Class → List EventType
@@ -554,6 +556,9 @@ emits action.Run c = run_events c
 emits action.Stop c = event.IsStopped ∷ []
 emits action.Preload c = prepare_events c
 emits action.Unload c = event.IsStopped ∷ event.IsDeleted ∷ []
+emits action.SendEvent c = event_types
+emits action.Launch c = event.IsRunning ∷ []
+emits action.TransitionTo c = event.IsRunning ∷ []
 emits action.Activate c = run_events c
 emits action.Deactivate c = event.IsStopped ∷ []
 emits action.TestVariable c = event.TestEvent ∷ []

@@ -1,5 +1,6 @@
 -- The words of the textual notation.
 use Rattle.std.specs.Prelude.{ℕ, List, [], ◌∷◌, codes}
+use Rattle.mh_base.specs.Event.{event_types}
 use Rattle.mh_base.specs.declared.event.EventType.{EventType}
 use Rattle.mh_base.specs.declared.event.EventType.TheVariants as event
 use Rattle.mh_group.specs.declared.class.Class.{Class}
@@ -170,7 +171,7 @@ justification_word justification.Centre = codes "centre"
 
 -- the types of events
 abbrev pub events : List EventType
-events = event.IsAvailable ∷ event.ContentAvailable ∷ event.IsDeleted ∷ event.IsRunning ∷ event.IsStopped ∷ event.UserInput ∷ event.TimerFired ∷ event.AsyncStopped ∷ event.InteractionCompleted ∷ event.TokenMovedFrom ∷ event.TokenMovedTo ∷ event.StreamEvent ∷ event.HighlightOn ∷ event.HighlightOff ∷ event.IsSelected ∷ event.IsDeselected ∷ event.TestEvent ∷ event.FirstItemPresented ∷ event.LastItemPresented ∷ event.HeadItems ∷ event.TailItems ∷ event.ItemSelected ∷ event.ItemDeselected ∷ event.EntryFieldFull ∷ event.EngineEvent ∷ []
+events = event_types
 
 unfoldable pub event_word : EventType → List ℕ
 event_word event.IsAvailable = codes "IsAvailable"

@@ -3,7 +3,7 @@ use crate::{ActionName, Generic, Ref, WrittenName};
 use mh_base::{EventType, Octets, Seq};
 
 /// A value with its kind in front.
-#[derive(Debug, Drop)]
+#[derive(Drop)]
 pub enum Typed {
     Bool(Generic<bool>),
     Int(Generic<i32>),
@@ -13,21 +13,21 @@ pub enum Typed {
 }
 
 /// The content of a visible (ISO/IEC 13522-5, Content): in the group's file, or in a file of its own.
-#[derive(Debug, Drop)]
+#[derive(Drop)]
 pub enum Content {
     Included(Octets),
     Referenced(WrittenName),
 }
 
 /// The data of an event that an action emits.
-#[derive(Debug, Drop)]
+#[derive(Drop)]
 pub enum EventData {
     Bool(bool),
     Int(i32),
 }
 
 /// A parameter of an elementary action.
-#[derive(Debug, Drop)]
+#[derive(Drop)]
 pub enum Parameter {
     Bool(Generic<bool>),
     Int(Generic<i32>),
@@ -44,7 +44,7 @@ pub enum Parameter {
 }
 
 /// An elementary action (ISO/IEC 13522-5, ElementaryAction): its name, its target and its parameters.
-#[derive(Debug, Drop)]
+#[derive(Drop)]
 pub struct Action {
     pub name: ActionName,
     pub target: Generic<Ref>,

@@ -7,7 +7,7 @@ ghost use Rattle.mh_group.specs.Table.{action_number};
 
 /// The elementary actions (ISO/IEC 13522-5, ElementaryAction) that the profile has, in the order of their
 /// numbers.
-#[derive(Clone, Copy, Debug, PartialEq, Eq)]
+#[derive(Clone, Copy, PartialEq, Eq)]
 pub enum ActionName {
     Run,
     Stop,

@@ -6,7 +6,7 @@ ghost use Rattle.mh_group.specs.Words.{attribute_word, attributes};
 ghost use Rattle.mh_group.specs.Table.{attribute_number};
 
 /// The attributes of groups and ingredients, in the order of their numbers.
-#[derive(Clone, Copy, Debug, PartialEq, Eq)]
+#[derive(Clone, Copy, PartialEq, Eq)]
 pub enum Attribute {
     OnStartUp,
     OnCloseDown,

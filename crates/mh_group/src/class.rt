@@ -6,7 +6,7 @@ ghost use Rattle.mh_group.specs.Words.{class_word, classes};
 ghost use Rattle.mh_group.specs.Table.{class_number, is_group_class, is_variable as is_variable_lem, is_visible as is_visible_lem, is_line_art as is_line_art_lem, has_content as has_content_lem, shows_text as shows_text_lem, is_interactible as is_interactible_lem, is_token_manager as is_token_manager_lem, is_presentable as is_presentable_lem, is_runnable as is_runnable_lem};
 
 /// The classes (ISO/IEC 13522-5) that the profile has, in the order of their numbers.
-#[derive(Clone, Copy, Debug, PartialEq, Eq)]
+#[derive(Clone, Copy, PartialEq, Eq)]
 pub enum Class {
     Application,
     Scene,

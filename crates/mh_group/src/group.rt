@@ -17,7 +17,7 @@ pub const MOST_LIST_ITEMS: usize = 256;
 /// A group that the tables allow: each object has the fields of its class, each once, in the order of
 /// their numbers and with values in range, and each action has its parameters. A contract sees what is
 /// written.
-#[derive(Debug, Drop)]
+#[derive(Drop)]
 pub struct Group {
     written: Written,
 }

@@ -5,7 +5,7 @@ ghost use Rattle.std.specs.Str.{bytes_eq};
 ghost use Rattle.mh_group.specs.Words.{justification_word, justifications, justification_number};
 
 /// Where the lines of a text begin (ISO/IEC 13522-5, HJustification), in the order of their numbers.
-#[derive(Clone, Copy, Debug, PartialEq, Eq)]
+#[derive(Clone, Copy, PartialEq, Eq)]
 pub enum Justification {
     Start,
     End,

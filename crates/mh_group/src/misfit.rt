@@ -23,7 +23,7 @@ pub enum MisfitWhy {
 }
 
 /// What is written, and why it is no group.
-#[derive(Debug, Drop)]
+#[derive(Drop)]
 pub struct Misfit {
     pub why: MisfitWhy,
     pub written: Written,

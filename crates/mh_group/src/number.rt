@@ -7,7 +7,7 @@ use std::marker::Model;
 pub const LARGEST_NUMBER: u32 = 2147483647;
 
 /// The number of an object in its group, from 0 to 2,147,483,647. A contract sees the number.
-#[derive(Clone, Copy, Debug, PartialEq, Eq)]
+#[derive(Clone, Copy, PartialEq, Eq)]
 pub struct Number {
     value: u32,
 }

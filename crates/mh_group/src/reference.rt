@@ -2,7 +2,7 @@
 use crate::{Number, WrittenName};
 
 /// A reference to an object (ISO/IEC 13522-5, ObjectReference).
-#[derive(Debug, Drop)]
+#[derive(Drop)]
 pub enum Ref {
     /// A number alone: an object of the group in which it is written.
     Here(Number),
@@ -12,7 +12,7 @@ pub enum Ref {
 
 /// A value that is written directly, or is held by the variable to which a reference leads
 /// (ISO/IEC 13522-5, the Generic types).
-#[derive(Debug, Drop)]
+#[derive(Drop)]
 pub enum Generic<T> {
     Direct(T),
     Indirect(Ref),

@@ -3,11 +3,12 @@
 ghost use Rattle.std.specs.Prelude.{◌≡◌};
 ghost use Rattle.mh_group.specs.Table.{shape_of, value_shape as value_shape_lem, is_list_group, takes as takes_lem, required_of, needs_of, optional_of, admits as admits_lem, emits as emits_lem, prepare_events as prepare_events_lem, run_events as run_events_lem, may_emit as may_emit_lem};
 
+use crate::words::EVENTS;
 use crate::{ActionName, Attribute, Class};
 use mh_base::{EventType, Kind};
 
 /// The shapes of the values of attributes.
-#[derive(Clone, Copy, Debug, PartialEq, Eq)]
+#[derive(Clone, Copy, PartialEq, Eq)]
 pub enum Shape {
     /// A list of ingredients.
     Items,
@@ -50,7 +51,7 @@ pub enum Shape {
 }
 
 /// The shapes of the parameters of actions.
-#[derive(Clone, Copy, Debug, PartialEq, Eq)]
+#[derive(Clone, Copy, PartialEq, Eq)]
 pub enum Need {
     Bool,
     Int,
@@ -366,9 +367,9 @@ impl ActionName {
         }
     }
 
-    /// The events that the action can emit of a target of the class: what it emits itself, and what
-    /// the target emits when it becomes available, runs, stops or is dropped. None where the action
-    /// has no rule for the class. (What SendEvent emits is written in the action.)
+    /// The events that the action can emit where its target is of the class: what its own rule emits,
+    /// and what the target emits when by that rule it becomes available, runs, stops, is dropped or is
+    /// entered. None where the action has no rule for the class.
     pub fn may_emit(self, class: Class) -> &'static [EventType]
         ensures { result.now ≡ may_emit_lem self class }
     {
@@ -387,6 +388,8 @@ impl ActionName {
             ActionName::Preload => prepare_events(class),
             ActionName::Stop | ActionName::Deactivate => &[EventType::IsStopped],
             ActionName::Unload => &[EventType::IsStopped, EventType::IsDeleted],
+            ActionName::SendEvent => &EVENTS,
+            ActionName::Launch | ActionName::TransitionTo => &[EventType::IsRunning],
             ActionName::TestVariable => &[EventType::TestEvent],
             ActionName::Fork => &[EventType::AsyncStopped],
             ActionName::SetData => &[EventType::ContentAvailable],

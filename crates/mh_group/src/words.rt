@@ -6,7 +6,8 @@ ghost use Rattle.mh_group.specs.Words.{event_word as event_word_lem, events};
 
 use mh_base::EventType;
 
-const ALL: [EventType; 25] = [
+/// All types of events, in the order of their numbers.
+pub(crate) static EVENTS: [EventType; 25] = [
     EventType::IsAvailable,
     EventType::ContentAvailable,
     EventType::IsDeleted,
@@ -38,7 +39,7 @@ const ALL: [EventType; 25] = [
 pub fn event_of_word(word: &[u8]) -> Option<EventType>
     ensures { result ≡ find (λ x. bytes_eq (event_word_lem x) word.now) events }
 {
-    ALL.iter().copied().find(|x| event_word(*x) == word)
+    EVENTS.iter().copied().find(|x| event_word(*x) == word)
 }
 
 /// The word of a type of events in the textual notation.

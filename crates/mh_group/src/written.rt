@@ -4,28 +4,28 @@ use mh_base::{EventType, Octets, Seq};
 
 /// A member of a token group or a list group (ISO/IEC 13522-5, TokenGroupItem): the object, and what
 /// each of its action slots does.
-#[derive(Debug, Drop)]
+#[derive(Drop)]
 pub struct Member {
     pub object: Ref,
     pub slots: Seq<Effect>,
 }
 
 /// Where a cell of a list group lies, in units of the screen.
-#[derive(Clone, Copy, Debug, PartialEq, Eq)]
+#[derive(Clone, Copy, PartialEq, Eq)]
 pub struct Position {
     pub x: i32,
     pub y: i32,
 }
 
 /// A scene that may come next, and how likely it is (ISO/IEC 13522-5, NextScene). It is only kept.
-#[derive(Debug, Drop)]
+#[derive(Drop)]
 pub struct NextScene {
     pub name: WrittenName,
     pub weight: i32,
 }
 
 /// The value with which an attribute is written.
-#[derive(Debug, Drop)]
+#[derive(Drop)]
 pub enum Setting {
     Bool(bool),
     Int(i32),
@@ -45,14 +45,14 @@ pub enum Setting {
 }
 
 /// One attribute with its value.
-#[derive(Debug, Drop)]
+#[derive(Drop)]
 pub struct Field {
     pub attribute: Attribute,
     pub setting: Setting,
 }
 
 /// An object of a group (ISO/IEC 13522-5, Ingredient).
-#[derive(Debug, Drop)]
+#[derive(Drop)]
 pub struct Ingredient {
     pub class: Class,
     pub number: Number,
@@ -61,7 +61,7 @@ pub struct Ingredient {
 }
 
 /// A group (ISO/IEC 13522-5, Group) as it is written.
-#[derive(Debug, Drop)]
+#[derive(Drop)]
 pub struct Written {
     pub class: Class,
     /// The name in the group's own identifier, which is only kept and printed.

@@ -10,7 +10,7 @@ use std::marker::Model;
 
 /// The name of a group or of a content file as it stands between quotation marks. Whether it leads
 /// to a path is seen when the service is made. A contract sees its bytes.
-#[derive(Debug, Drop)]
+#[derive(Drop)]
 pub struct WrittenName {
     bytes: Vec<u8>,
 }

@@ -3,7 +3,7 @@ use mh_base::{ObjRef, Shared, Value};
 use mh_group::ActionName;
 
 /// An elementary action (ISO/IEC 13522-5, ElementaryAction) whose references are resolved.
-#[derive(Clone, Debug, Drop)]
+#[derive(Clone, Drop)]
 pub struct Act {
     pub name: ActionName,
     pub target: ObjRef,

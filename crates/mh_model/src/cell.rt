@@ -2,7 +2,7 @@
 
 /// A cell of the picture: a character, its colour, and the colour behind it. Colours are red, green and
 /// blue in a number of 24 bits.
-#[derive(Clone, Copy, Debug, PartialEq, Eq)]
+#[derive(Clone, Copy, PartialEq, Eq)]
 pub struct Cell {
     pub scalar: u32,
     pub fore: u32,

@@ -3,7 +3,7 @@ use mh_base::ObjRef;
 use mh_group::ActionName;
 
 /// What is wrong with an item.
-#[derive(Clone, Copy, Debug, PartialEq, Eq)]
+#[derive(Clone, Copy, PartialEq, Eq)]
 pub enum FaultKind {
     /// An object that it names is not there.
     Absent,
@@ -14,7 +14,7 @@ pub enum FaultKind {
 }
 
 /// An item that could not be done: it is removed, and nothing else happens.
-#[derive(Clone, Debug, Drop)]
+#[derive(Clone, Drop)]
 pub struct Fault {
     pub what: FaultKind,
     pub action: ActionName,

@@ -2,13 +2,13 @@
 use crate::Key;
 
 /// What comes from outside and waits in the queue.
-#[derive(Clone, Copy, Debug, PartialEq, Eq)]
+#[derive(Clone, Copy, PartialEq, Eq)]
 pub enum Input {
     Key(Key),
 }
 
 /// One move of a run.
-#[derive(Clone, Copy, Debug, PartialEq, Eq)]
+#[derive(Clone, Copy, PartialEq, Eq)]
 pub enum Move {
     Post(Input),
     Step,

@@ -3,7 +3,7 @@ use crate::{Act, Event};
 use mh_base::{GroupName, ObjRef};
 
 /// One piece of work. The first item of the work list is one step.
-#[derive(Clone, Debug, Drop)]
+#[derive(Clone, Drop)]
 pub enum Item {
     /// An elementary action.
     Act(Act),

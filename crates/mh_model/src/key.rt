@@ -4,7 +4,7 @@ ghost use Rattle.mh_model.specs.Key.{key_number, is_digit, passes as passes_lem}
 
 /// A key of the remote control (ETSI ES 202 184, the user input registers; the numbers are the
 /// profile's own).
-#[derive(Clone, Copy, Debug, PartialEq, Eq)]
+#[derive(Clone, Copy, PartialEq, Eq)]
 pub enum Key {
     Up,
     Down,

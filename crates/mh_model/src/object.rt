@@ -11,7 +11,7 @@ use std::alloc::{AllocError, Global};
 use std::marker::Model;
 
 /// The value of an attribute of an object.
-#[derive(Clone, Debug, Drop)]
+#[derive(Clone, Drop)]
 pub enum Held {
     Value(Value),
     Pair(i32, i32),
@@ -23,14 +23,14 @@ pub enum Held {
 }
 
 /// An attribute with its value.
-#[derive(Clone, Debug, Drop)]
+#[derive(Clone, Drop)]
 pub struct Property {
     pub attribute: Attribute,
     pub held: Held,
 }
 
 /// An object: who it is, of which class, what it holds, and its two states.
-#[derive(Debug, Drop)]
+#[derive(Drop)]
 pub struct Object {
     pub key: ObjRef,
     pub class: Class,
@@ -40,7 +40,7 @@ pub struct Object {
 }
 
 /// What an object holds, under each attribute at most one value. A contract sees the list.
-#[derive(Debug, Drop)]
+#[derive(Drop)]
 pub struct Properties {
     list: Vec<Property>,
 }

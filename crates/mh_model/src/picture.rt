@@ -18,7 +18,7 @@ pub const CELLS: usize = 2160;
 
 /// A picture of 60 by 36 cells, row by row (the display of ETSI ES 202 184 has 720 by 576 units, a cell
 /// 12 by 16). A contract sees its three planes.
-#[derive(Clone, Debug, Drop)]
+#[derive(Clone, Drop)]
 pub struct Picture {
     scalars: Vec<u32>,
     fores: Vec<u32>,

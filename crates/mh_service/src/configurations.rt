@@ -18,7 +18,7 @@ use mh_model::{Config, Object};
 use std::alloc::{AllocError, Global};
 
 /// Which groups are looked for.
-#[derive(Clone, Copy, Debug)]
+#[derive(Clone, Copy)]
 pub(crate) enum Wanted {
     Applications,
     Scenes,

@@ -21,7 +21,7 @@ pub const MOST_INGREDIENTS: usize = 4096;
 pub const MOST_ACTIONS: usize = 65535;
 
 /// How many groups, ingredients and actions a service may still have.
-#[derive(Clone, Copy, Debug, PartialEq, Eq)]
+#[derive(Clone, Copy, PartialEq, Eq)]
 pub struct Room {
     pub groups: usize,
     pub ingredients: usize,

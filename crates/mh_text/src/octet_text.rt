@@ -6,7 +6,7 @@ ghost use Rattle.mh_text.specs.Escapes.{unescaped as unescaped_lem};
 use std::alloc::{AllocError, Global};
 
 /// How far a `=` with its two digits has been read.
-#[derive(Clone, Copy, Debug)]
+#[derive(Clone, Copy)]
 enum Escape {
     Outside,
     /// Behind the `=`.

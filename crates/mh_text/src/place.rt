@@ -12,7 +12,7 @@ use crate::{TextError, Token, TokenKind, Tokens, Why};
 use std::marker::Model;
 
 /// A token with its meaning.
-#[derive(Debug, Drop)]
+#[derive(Drop)]
 pub(crate) struct Piece<'a> {
     sign: Sign,
     start: usize,
@@ -57,7 +57,7 @@ impl<'a> Piece<'a> {
 
 /// Where reading stands: the tokens that are left, and whether white space has to come before a
 /// further keyword, word or integer. A contract sees the tokens that are left.
-#[derive(Debug, Drop)]
+#[derive(Drop)]
 pub(crate) struct Place<'a> {
     tokens: Tokens<'a>,
     is_tight: bool,

@@ -9,7 +9,7 @@ use mh_base::{EventType, Kind};
 use mh_group::{ActionName, Attribute, Class, Justification};
 
 /// What a token means.
-#[derive(Clone, Copy, Debug)]
+#[derive(Clone, Copy)]
 pub(crate) enum Sign {
     OpenBrace,
     CloseBrace,

@@ -7,7 +7,7 @@ use crate::{TextError, TokenKind, Why, lexing};
 use std::marker::Model;
 
 /// A token: what it is, where it begins, and its bytes.
-#[derive(Clone, Copy, Debug)]
+#[derive(Clone, Copy)]
 pub struct Token<'a> {
     pub kind: TokenKind,
     pub start: usize,
@@ -16,7 +16,7 @@ pub struct Token<'a> {
 
 /// The tokens of a text, from the first that was not taken. A contract sees the bytes that are left,
 /// and how many stand before them.
-#[derive(Debug, Drop)]
+#[derive(Drop)]
 pub struct Tokens<'a> {
     rest: &'a [u8],
     offset: usize,

@@ -1,7 +1,7 @@
 //! `TokenKind`.
 
 /// The kinds of tokens.
-#[derive(Clone, Copy, Debug, PartialEq, Eq)]
+#[derive(Clone, Copy, PartialEq, Eq)]
 pub enum TokenKind {
     OpenBrace,
     CloseBrace,

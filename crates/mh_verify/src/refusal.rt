@@ -48,7 +48,7 @@ impl RefusalKind {
 
 /// The place of an action: an object, and the number of the action there, counted from 1 through the
 /// effects of the object in their written order.
-#[derive(Clone, Debug, Drop, PartialEq, Eq)]
+#[derive(Clone, Drop, PartialEq, Eq)]
 pub struct Place {
     pub group: GroupName,
     pub object: u32,
@@ -56,7 +56,7 @@ pub struct Place {
 }
 
 /// Something wrong with an active action.
-#[derive(Debug, Drop)]
+#[derive(Drop)]
 pub struct Found {
     pub kind: RefusalKind,
     pub place: Place,

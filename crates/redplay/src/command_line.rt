@@ -10,7 +10,7 @@ use std::convert::AsStr;
 const START: &str = "a";
 
 /// What is asked for.
-#[derive(Clone, Copy, Debug, PartialEq, Eq)]
+#[derive(Clone, Copy, PartialEq, Eq)]
 pub enum Task {
     /// What the verifier says of a service.
     Check,

@@ -20,7 +20,7 @@ use mh_text::{TextError, print_group};
 use std::alloc::Global;
 
 /// The two notations of groups.
-#[derive(Clone, Copy, Debug, PartialEq, Eq)]
+#[derive(Clone, Copy, PartialEq, Eq)]
 pub enum Notation {
     /// By the distinguished encoding rules (ITU-T X.690).
     Binary,

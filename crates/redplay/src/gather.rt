@@ -7,7 +7,7 @@ use std::rt::Files;
 use std::{fs, io};
 
 /// Why the files could not be gathered.
-#[derive(Debug, Drop)]
+#[derive(Drop)]
 pub enum Ungathered {
     /// The file or folder that this names could not be read.
     Unreadable(String),
