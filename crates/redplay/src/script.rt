@@ -16,7 +16,7 @@ use thiserror::Error;
 pub const RUN_LIMIT: u32 = 1_000_000;
 
 /// One thing to do.
-#[derive(Clone, Copy, Debug, PartialEq, Eq)]
+#[derive(Clone, Copy, PartialEq, Eq)]
 pub enum Command {
     /// An input is posted.
     Post(Input),
@@ -27,7 +27,7 @@ pub enum Command {
 }
 
 /// What a line of a script says.
-#[derive(Clone, Copy, Debug, PartialEq, Eq)]
+#[derive(Clone, Copy, PartialEq, Eq)]
 pub enum Line {
     /// It is empty or a comment.
     Skipped,
