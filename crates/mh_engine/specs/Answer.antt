@@ -6,7 +6,8 @@ use Rattle.mh_model.specs.declared.item.Item.{Item}
 use Rattle.mh_model.specs.State.{State}
 use Rattle.mh_model.specs.declared.input.Move.{Move}
 use Rattle.mh_model.specs.declared.input.Move.TheVariants as move
-use Rattle.mh_model.specs.Step.{is_idle, moved, most_steps}
+use Rattle.mh_model.specs.Step.{is_idle, is_full, moved, most_steps}
+use Rattle.mh_engine.specs.Play.{Play}
 use Rattle.mh_engine.specs.declared.refusal.RefusedWhy.{RefusedWhy}
 use Rattle.mh_engine.specs.declared.refusal.RefusedWhy.TheVariants as refused
 use Rattle.mh_engine.specs.declared.refusal.StepError.{StepError}
@@ -34,6 +35,24 @@ abbrev pub is_faulted : Stepped → Bool
 is_faulted answer.Idle = false
 is_faulted answer.Did = false
 is_faulted (answer.Faulted f) = true
+
+-- Refusals, want of memory aside. An engine that has stopped refuses everything.
+
+-- why an engine makes no step, if it makes none: there is something to do, and all steps are counted
+abbrev pub step_refusal : Play → Option StepError
+step_refusal p =
+    if p.stopped then Some failed.Stopped
+    else (if is_idle p.state then None
+    else (if p.state.taken == most_steps then Some failed.CountFull else None))
+
+-- why an engine takes no input, if it takes none: as many wait as may
+abbrev pub post_refusal : Play → Option RefusedWhy
+post_refusal p = if p.stopped then Some refused.Stopped else (if is_full p.state then Some refused.QueueFull else None)
+
+-- whether an engine has stopped, after a move that could not be made: a step that was refused memory stops it
+abbrev pub stopped_after : StepError → Option Move → Bool → Bool
+stopped_after failed.NoMemory (Some move.Step) before = true
+stopped_after _ _ before = before
 
 -- what is left to do
 abbrev pub rest_of : State → Rest

@@ -1,10 +1,10 @@
 //! `Engine`: a machine that can be refused memory, and runs of it.
-ghost use Rattle.std.specs.Prelude.{◌≡◌, ◌+◌, ◌<◌, ◌^◌, true, false, None, [], length, take, IfOk, IfErr, OnOk, OnErr, IsErrOf};
+ghost use Rattle.std.specs.Prelude.{◌≡◌, ◌+◌, ◌<◌, ◌^◌, true, false, None, [], length, take, slice_get, Some, IfOk, IfErr, OnOk, OnErr, IsErrOf, IsErrAnd, MatchOption};
 ghost use Rattle.mh_model.specs.State.{begun};
 ghost use Rattle.mh_model.specs.Step.{step as step_lem, stepped, posted, is_full, is_idle, moved, run as run_lem, most_steps};
 ghost use Rattle.mh_model.specs.Headline.{front_fault};
 ghost use Rattle.mh_model.specs.Picture.{shown};
-ghost use Rattle.mh_engine.specs.Answer.{answer_of, is_faulted, rest_of, is_counted, are_counted};
+ghost use Rattle.mh_engine.specs.Answer.{answer_of, is_faulted, rest_of, is_counted, are_counted, step_refusal, post_refusal, stopped_after};
 
 use crate::machine::Machine;
 use crate::refusal::{Refused, RefusedWhy, RunEnd, StepError, Unaccepted, Unstarted};
@@ -78,6 +78,7 @@ impl Engine {
         ensures full { IfErr result (λ refused. refused.why ≡ RefusedWhy.QueueFull → (self.old.stopped ≡ false) × (is_full self.old.state ≡ true)) }
         ensures back { IfErr result (λ refused. refused.input ≡ input) }
         ensures kept { OnErr result (self.new ≡ self.old) }
+        ensures refused { MatchOption (post_refusal self.old) (IfErr result (λ refused. refused.why ≡ RefusedWhy.NoMemory)) (λ why. IsErrAnd result (λ refused. refused.why ≡ why)) }
     {
         if self.stopped {
             return refuse(RefusedWhy::Stopped, input);
@@ -103,6 +104,7 @@ impl Engine {
         ensures stopped { IsErrOf result StepError.Stopped → (self.old.stopped ≡ true) × (self.new ≡ self.old) }
         ensures full { IsErrOf result StepError.CountFull → (self.old.state.taken ≡ most_steps) × (is_idle self.old.state ≡ false) × (self.new ≡ self.old) }
         ensures no_memory { IsErrOf result StepError.NoMemory → self.new ≡ record self.old { stopped = true } }
+        ensures refused { MatchOption (step_refusal self.old) (IfErr result (λ why. (why ≡ StepError.NoMemory) × (is_idle self.old.state ≡ false))) (λ why. IsErrOf result why) }
     {
         if self.stopped {
             return Err(StepError::Stopped);
@@ -186,6 +188,7 @@ fn make(engine: &mut Engine, next: &Move) -> Result<(), StepError>
     ensures same { engine.new.accepted ≡ engine.old.accepted }
     ensures stopped { IfErr result (λ why. why ≡ StepError.Stopped → engine.old.stopped ≡ true) }
     ensures full { IfErr result (λ why. why ≡ StepError.CountFull → is_counted next.now engine.old.state ≡ false) }
+    ensures flag { IfErr result (λ why. engine.new.stopped ≡ stopped_after why (Some next.now) engine.old.stopped) }
 {
     match next {
         Move::Post(input) => post_or_pass(engine, *input),
@@ -201,6 +204,7 @@ fn step_on(engine: &mut Engine) -> Result<(), StepError>
     ensures same { engine.new.accepted ≡ engine.old.accepted }
     ensures stopped { IfErr result (λ why. why ≡ StepError.Stopped → engine.old.stopped ≡ true) }
     ensures full { IfErr result (λ why. why ≡ StepError.CountFull → is_counted Move.Step engine.old.state ≡ false) }
+    ensures flag { IfErr result (λ why. engine.new.stopped ≡ stopped_after why (Some Move.Step) engine.old.stopped) }
 {
     let _ = engine.step()?;
     Ok(())
@@ -213,6 +217,7 @@ fn post_or_pass(engine: &mut Engine, input: Input) -> Result<(), StepError>
     ensures same { engine.new.accepted ≡ engine.old.accepted }
     ensures stopped { IfErr result (λ why. why ≡ StepError.Stopped → engine.old.stopped ≡ true) }
     ensures other { IfErr result (λ why. why ≡ StepError.CountFull → ⊥) }
+    ensures flag { engine.new.stopped ≡ engine.old.stopped }
 {
     match engine.post(input) {
         Ok(()) => Ok(()),
@@ -238,6 +243,8 @@ pub fn run(engine: &mut Engine, moves: &[Move]) -> Result<(), RunEnd>
     ensures never { engine.old.accepted ≡ true → front_fault engine.new.state ≡ None }
     ensures faultless { engine.old.accepted ≡ true → engine.new.state.faults ≡ [] }
     ensures full { IfErr result (λ end. end.why ≡ StepError.CountFull → are_counted (take (end.made + 1) moves.now) engine.old.state ≡ false) }
+    ensures flag { OnOk result (engine.new.stopped ≡ engine.old.stopped) }
+    ensures flag_after { IfErr result (λ end. engine.new.stopped ≡ stopped_after end.why (slice_get moves.now end.made) engine.old.stopped) }
 {
     let _ = &engine.accepted;
     for (made, next) in moves.iter().enumerate() {

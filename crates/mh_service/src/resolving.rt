@@ -10,7 +10,7 @@ ghost use Rattle.mh_service.specs.Resolved.{ref_of, leads, target_of, target_lea
 use mh_base::{Colour, GroupName, NameError, ObjRef, Octets, Seq, Shared, Value};
 use mh_group::{
     Action, Class, Content, EventData, Field, Generic, Ingredient, Member, Parameter, Ref, Setting,
-    Typed, Written, WrittenName, group,
+    Shape, Typed, Written, WrittenName, group,
 };
 use mh_model::{Act, Effect, Held, Object, Properties, Property};
 use std::alloc::{AllocError, Global};
@@ -61,7 +61,7 @@ fn object(
     ensures good { OnOk result (list_all (field_leads from.now) fields.now ≡ true) }
     ensures bad { IsErrOf result NameError.BadName → list_all (field_leads from.now) fields.now ≡ false }
 {
-    let properties = properties(alloc, from, fields)?;
+    let properties = properties(alloc, from, class, fields)?;
     let group = from.clone()?;
     Ok(Object {
         key: ObjRef { group, number },
@@ -72,32 +72,47 @@ fn object(
     })
 }
 
-fn properties(alloc: Global, from: &GroupName, fields: &[Field]) -> Result<Properties, NameError>
-    ensures found { IfOk result (λ properties. properties ≡ map (property_of from.now) fields.now) }
+fn properties(
+    alloc: Global,
+    from: &GroupName,
+    class: Class,
+    fields: &[Field],
+) -> Result<Properties, NameError>
+    ensures found { IfOk result (λ properties. properties ≡ map (property_of from.now class) fields.now) }
     ensures good { OnOk result (list_all (field_leads from.now) fields.now ≡ true) }
     ensures bad { IsErrOf result NameError.BadName → list_all (field_leads from.now) fields.now ≡ false }
 {
     let mut properties = Seq::new(alloc);
     for field in fields {
-        properties.push(property(alloc, from, field)?)?;
+        properties.push(property(alloc, from, class, field)?)?;
     }
     Ok(Properties::of_vec(properties.into_vec()))
 }
 
-fn property(alloc: Global, from: &GroupName, field: &Field) -> Result<Property, NameError>
-    ensures found { IfOk result (λ property. property ≡ property_of from.now field.now) }
+fn property(
+    alloc: Global,
+    from: &GroupName,
+    class: Class,
+    field: &Field,
+) -> Result<Property, NameError>
+    ensures found { IfOk result (λ property. property ≡ property_of from.now class field.now) }
     ensures good { OnOk result (field_leads from.now field.now ≡ true) }
     ensures bad { IsErrOf result NameError.BadName → field_leads from.now field.now ≡ false }
 {
     Ok(Property {
         attribute: field.attribute,
-        held: held(alloc, from, &field.setting)?,
+        held: held(alloc, from, class.shape(field.attribute), &field.setting)?,
     })
 }
 
-/// The value as an object holds it.
-fn held(alloc: Global, from: &GroupName, setting: &Setting) -> Result<Held, NameError>
-    ensures found { IfOk result (λ held. held ≡ held_of from.now setting.now) }
+/// The value of this shape as an object holds it.
+fn held(
+    alloc: Global,
+    from: &GroupName,
+    shape: Shape,
+    setting: &Setting,
+) -> Result<Held, NameError>
+    ensures found { IfOk result (λ held. held ≡ held_of from.now shape setting.now) }
     ensures good { OnOk result (setting_leads from.now setting.now ≡ true) }
     ensures bad { IsErrOf result NameError.BadName → setting_leads from.now setting.now ≡ false }
 {
@@ -105,7 +120,7 @@ fn held(alloc: Global, from: &GroupName, setting: &Setting) -> Result<Held, Name
         Setting::Bool(truth) => Held::Value(Value::Bool(*truth)),
         Setting::Int(number) => Held::Value(Value::Int(*number)),
         Setting::Pair(first, second) => Held::Pair(*first, *second),
-        Setting::Octets(octets) => held_octets(octets)?,
+        Setting::Octets(octets) => held_octets(shape, octets)?,
         Setting::Ref(written) => Held::Value(object_value(alloc, from, written)?),
         Setting::ContentRef(name) => Held::Value(content_value(alloc, from, name)?),
         Setting::Event(event) => Held::Event(*event),
@@ -150,12 +165,12 @@ fn look_at_slots(
     Ok(())
 }
 
-/// Four octets are held as a colour, others as they are.
-fn held_octets(octets: &Octets) -> Result<Held, AllocError>
-    ensures { IfOk result (λ held. held ≡ octets_held octets.now) }
+/// Octets are held as a colour where the tables want one, and else as they are.
+fn held_octets(shape: Shape, octets: &Octets) -> Result<Held, AllocError>
+    ensures { IfOk result (λ held. held ≡ octets_held shape octets.now) }
 {
-    match octets.as_slice() {
-        [red, green, blue, transparency] => Ok(Held::Colour(Colour {
+    match (shape, octets.as_slice()) {
+        (Shape::Colour, [red, green, blue, transparency]) => Ok(Held::Colour(Colour {
             red: *red,
             green: *green,
             blue: *blue,
