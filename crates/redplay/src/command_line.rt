@@ -1,8 +1,8 @@
 //! The words of the command line: what the program is asked to do.
 //!
 //! What a wrong command line is, and the texts on it, are left to `clap`.
-use crate::convert::Notation;
 use clap::{Arg, ArgAction, ArgMatches, Command, Error};
+use mh_report::Notation;
 use std::alloc::{AllocError, Global};
 use std::convert::AsStr;
 

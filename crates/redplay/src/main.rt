@@ -2,39 +2,16 @@
 //! group and writes it in the other notation.
 #![tactic(auto)]
 
-pub mod check;
 pub mod command_line;
-pub mod convert;
-#[cfg(test)]
-mod convert_tests;
-#[cfg(test)]
-mod cutting_sink;
 pub mod gather;
-pub mod options;
-pub mod play;
-pub mod play_error;
-pub mod player;
-pub mod reading;
-pub mod report;
-pub mod saying;
-pub mod script;
-pub mod sink;
-#[cfg(test)]
-mod small_runs;
-pub mod status;
-#[cfg(test)]
-mod tests;
-pub mod text;
-pub mod unplayable;
 
-use check::check_bytes;
+pub use mh_report::{
+    ListSink, Notation, Options, PlayError, Sink, Status, WriterSink, check_bytes, convert_bytes,
+    play_bytes,
+};
+
 use command_line::{Asked, Task, line_of};
-use convert::{Notation, convert_bytes};
 use gather::{Ungathered, gather, read_file};
-use options::Options;
-use play::play_bytes;
-use sink::WriterSink;
-use status::Status;
 use std::alloc::{AllocError, Global};
 use std::process::ExitCode;
 use std::rt::Runtime;

@@ -1,0 +1,18 @@
+use Rattle.mh_report.specs.declared.status.Status.TheVariants as status
+use Rattle.mh_report.specs.Verdict.{refusal_lines}
+use Rattle.mh_report.specs.Played.{accepted_line, check_accepted, check_refused}
+use Rattle.mh_report.proofs.WrittenLemmas.{whole, cut, named}
+use Rattle.mh_report.proofs.check.judge.Goals as goal
+
+pub returns-in-Ok-clause-written : goal.returns-in-Ok-clause-written
+returns-in-Ok-clause-written g c = whole _ _ _ c.accept.result accepted_line status.Good (check_accepted _ c.in-Ok.ensures.acceptable) c.accept.ensures.report c.accept.ensures.status
+
+pub returns-in-Ok-clause-begun : goal.returns-in-Ok-clause-begun
+returns-in-Ok-clause-begun g c = cut _ _ _ c.accept.result accepted_line status.Good (check_accepted _ c.in-Ok.ensures.acceptable) c.accept.ensures.cut
+
+pub returns : goal.returns
+returns g c = record {
+  written = whole _ _ _ c.refuse.result (refusal_lines c.in-Err.refusal) status.Refused (check_refused _ _ (named _ _ c.in-Err.ensures.told c.in_default.not-NoMemory)) c.refuse.ensures.report c.refuse.ensures.status;
+  begun = cut _ _ _ c.refuse.result (refusal_lines c.in-Err.refusal) status.Refused (check_refused _ _ (named _ _ c.in-Err.ensures.told c.in_default.not-NoMemory)) c.refuse.ensures.cut;
+  write = c.refuse.ensures.write;
+}

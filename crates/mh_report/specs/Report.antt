@@ -1,0 +1,107 @@
+-- The report of a play: the bytes that it writes, as a function of the machine's states.
+use Rattle.std.specs.Prelude.{ℕ, ◌+◌, ◌-◌, if◌then◌else◌, List, [], ◌∷◌, ◌++◌, length, drop, suc, zero, codes}
+use Rattle.std.specs.List.{flat_map}
+use Rattle.std.specs.Fmt.{decimal}
+use Rattle.mh_group.specs.Words.{action_word}
+use Rattle.mh_model.specs.declared.fault.Fault.{Fault}
+use Rattle.mh_model.specs.declared.fault.FaultKind.{FaultKind}
+use Rattle.mh_model.specs.declared.fault.FaultKind.TheVariants as fault
+use Rattle.mh_model.specs.Planes.{Planes, blank}
+use Rattle.mh_model.specs.Picture.{shown}
+use Rattle.mh_model.specs.Service.{Service}
+use Rattle.mh_model.specs.State.{State, begun}
+use Rattle.mh_model.specs.Step.{posted, stepped, is_full}
+use Rattle.mh_engine.specs.Answer.{rest_of}
+use Rattle.mh_engine.specs.declared.rest.Rest.{Rest}
+use Rattle.mh_engine.specs.declared.rest.Rest.TheVariants as rest
+use Rattle.mh_report.specs.declared.script.Command.{Command}
+use Rattle.mh_report.specs.declared.script.Command.TheVariants as command
+use Rattle.mh_report.specs.declared.status.Status.{Status}
+use Rattle.mh_report.specs.declared.status.Status.TheVariants as status
+use Rattle.mh_report.specs.Frame.{frame_text}
+
+-- what is known between two commands: the machine's state, the frame that was shown last, and how
+-- many frames were shown
+pub record Session : Type 0 where
+  pub state : State
+  pub frame : Planes
+  pub frames : ℕ
+
+-- before the first command: the machine has begun, and the frame before the first one is black
+abbrev pub opening : Service → Session
+opening service = record { state = begun service; frame = blank; frames = 0 }
+
+-- so many steps of the machine; where it has nothing to do, a step changes nothing
+unfoldable pub advanced : ℕ → State → State
+advanced zero s = s
+advanced (suc n) s = advanced n (stepped s)
+
+-- what a command makes of the session
+abbrev pub played : Command → Session → Session
+played (command.Post i) p = record p { state = posted i p.state }
+played (command.Step n) p = record p { state = advanced n p.state }
+played command.Show p = record p { frame = shown p.state; frames = p.frames + 1 }
+
+-- The lines.
+
+abbrev pub fault_word : FaultKind → List ℕ
+fault_word fault.Absent = codes "absent"
+fault_word fault.WrongClass = codes "class"
+fault_word fault.WrongKind = codes "kind"
+
+-- a fault: what is wrong, the action, and the reference at the wrong place
+unfoldable pub fault_line : Fault → List ℕ
+fault_line f =
+    codes "fault " ++ fault_word f.what ++ codes " " ++ action_word f.action ++ codes " " ++ f.at.group ++ codes " " ++ decimal f.at.number ++ 10 ∷ []
+
+-- a post is refused where the queue is full
+unfoldable pub refused_line : List ℕ
+refused_line = codes "refused " ++ decimal 51 ++ 10 ∷ []
+
+abbrev pub post_lines : State → List ℕ
+post_lines s = if is_full s then refused_line else []
+
+abbrev pub rest_word : Rest → List ℕ
+rest_word rest.Idle = codes " idle"
+rest_word rest.More = codes " more"
+
+-- what happened up to this state since there were so many steps and so many faults: the faults since
+-- then, the steps, and whether there is more to do
+abbrev pub progress_since : ℕ → ℕ → State → List ℕ
+progress_since steps faults s =
+    flat_map fault_line (drop faults s.faults) ++ codes "did " ++ decimal (s.taken - steps) ++ rest_word (rest_of s) ++ 10 ∷ []
+
+-- what happened from one state to another
+abbrev pub progress_lines : State → State → List ℕ
+progress_lines s t = progress_since s.taken (length s.faults) t
+
+abbrev pub total_line : State → List ℕ
+total_line s = codes "total " ++ decimal s.taken ++ 10 ∷ []
+
+-- what a command prints
+abbrev pub command_lines : Command → Session → List ℕ
+command_lines (command.Post i) p = post_lines p.state
+command_lines (command.Step n) p = progress_lines p.state (advanced n p.state)
+command_lines command.Show p = frame_text (p.frames + 1) p.frame (shown p.state)
+
+-- what the commands of a script print, and the steps taken at the end
+abbrev pub script_lines : List Command → Session → List ℕ
+script_lines [] p = total_line p.state
+script_lines (c ∷ cs) p = command_lines c p ++ script_lines cs (played c p)
+
+-- the session after all commands
+abbrev pub ended : List Command → Session → Session
+ended [] p = p
+ended (c ∷ cs) p = ended cs (played c p)
+
+-- how a play ends: faults were met, or none was
+abbrev pub status_of : List Fault → Status
+status_of [] = status.Good
+status_of (f ∷ fs) = status.Faults
+
+-- the exit status that stands for it
+abbrev pub exit_code : Status → ℕ
+exit_code status.Good = 0
+exit_code status.Refused = 1
+exit_code status.Unreadable = 2
+exit_code status.Faults = 3

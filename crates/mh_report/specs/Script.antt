@@ -1,0 +1,126 @@
+-- What the bytes of a script mean: lines, each of which says one thing to do, or is skipped, or is wrong.
+use Rattle.std.specs.Prelude.{◌≡◌, ℕ, ◌+◌, ◌*◌, ◌-◌, ◌==◌, nat_le, Bool, true, false, ◌&&◌, if◌then◌else◌, List, [], ◌∷◌, length, take, drop, Option, Some, None, codes}
+use Rattle.std.specs.List.{find, filter_map, slice_split}
+use Rattle.std.specs.Option.{option_and_then}
+use Rattle.std.specs.Str.{bytes_eq}
+use Rattle.std.specs.Char.{is_ascii_digit}
+use Rattle.mh_model.specs.declared.input.Input.TheVariants as input
+use Rattle.mh_model.specs.declared.key.Key.{Key}
+use Rattle.mh_model.specs.declared.key.Key.TheVariants.{Up, Down, Left, Right, Digit0, Digit1, Digit2, Digit3, Digit4, Digit5, Digit6, Digit7, Digit8, Digit9, Select, Cancel, Red, Green, Yellow, Blue, Text}
+use Rattle.mh_report.specs.declared.script.Command.{Command}
+use Rattle.mh_report.specs.declared.script.Command.TheVariants as command
+use Rattle.mh_report.specs.declared.script.Line.{Line}
+use Rattle.mh_report.specs.declared.script.Line.TheVariants as line
+use Rattle.mh_report.specs.declared.script.ScriptError.{ScriptError}
+use Rattle.mh_report.specs.declared.script.ScriptError.TheVariants as script_error
+
+-- the lines: what stands before, between and after the line feeds
+abbrev pub lines : List ℕ → List (List ℕ)
+lines bytes = slice_split (λ b. b == 10) bytes
+
+-- the lines of what stands behind a line feed, if there is one
+abbrev pub lines_behind : Option (List ℕ) → List (List ℕ)
+lines_behind None = []
+lines_behind (Some bytes) = lines bytes
+
+-- the most steps that `run` makes
+abbrev pub run_limit : ℕ
+run_limit = 1000000
+
+-- the name of a key
+unfoldable pub key_name : Key → List ℕ
+key_name Up = codes "up"
+key_name Down = codes "down"
+key_name Left = codes "left"
+key_name Right = codes "right"
+key_name Digit0 = codes "0"
+key_name Digit1 = codes "1"
+key_name Digit2 = codes "2"
+key_name Digit3 = codes "3"
+key_name Digit4 = codes "4"
+key_name Digit5 = codes "5"
+key_name Digit6 = codes "6"
+key_name Digit7 = codes "7"
+key_name Digit8 = codes "8"
+key_name Digit9 = codes "9"
+key_name Select = codes "select"
+key_name Cancel = codes "cancel"
+key_name Red = codes "red"
+key_name Green = codes "green"
+key_name Yellow = codes "yellow"
+key_name Blue = codes "blue"
+key_name Text = codes "text"
+
+abbrev pub keys : List Key
+keys = Up ∷ Down ∷ Left ∷ Right ∷ Digit0 ∷ Digit1 ∷ Digit2 ∷ Digit3 ∷ Digit4 ∷ Digit5 ∷ Digit6 ∷ Digit7 ∷ Digit8 ∷ Digit9 ∷ Select ∷ Cancel ∷ Red ∷ Green ∷ Yellow ∷ Blue ∷ Text ∷ []
+
+-- the key with this name, if there is one
+abbrev pub key_named : List ℕ → Option Key
+key_named name = find (λ k. bytes_eq (key_name k) name) keys
+
+-- the largest number that a script may give
+abbrev pub largest : ℕ
+largest = 4294967295
+
+-- the number with one digit more, if it is a digit and the number fits
+abbrev pub with_digit : ℕ → ℕ → Option ℕ
+with_digit n d = if is_ascii_digit d && nat_le (n * 10 + (d - 48)) largest then Some (n * 10 + (d - 48)) else None
+
+-- the number that these digits write behind those that wrote the first number, if there is one
+abbrev pub read_digits : Option ℕ → List ℕ → Option ℕ
+read_digits before [] = before
+read_digits before (d ∷ ds) = read_digits (option_and_then (λ n. with_digit n d) before) ds
+
+-- the number that decimal digits write: at least one of them, with leading zeros or without
+abbrev pub number_of : List ℕ → Option ℕ
+number_of [] = None
+number_of (d ∷ ds) = read_digits (Some 0) (d ∷ ds)
+
+abbrev pub key_line : Option Key → Line
+key_line (Some k) = line.Says (command.Post (input.Key k))
+key_line None = line.Wrong
+
+abbrev pub step_line : Option ℕ → Line
+step_line (Some n) = line.Says (command.Step n)
+step_line None = line.Wrong
+
+-- the bytes begin with these
+abbrev pub begins : List ℕ → List ℕ → Bool
+begins front bytes = bytes_eq (take (length front) bytes) front
+
+-- a line that is one of `run`, `show`, `key NAME` and `step N`
+abbrev pub command_line : List ℕ → Line
+command_line l =
+    if bytes_eq l (codes "run") then line.Says (command.Step run_limit)
+    else (if bytes_eq l (codes "show") then line.Says command.Show
+    else (if begins (codes "key ") l then key_line (key_named (drop 4 l))
+    else (if begins (codes "step ") l then step_line (number_of (drop 5 l)) else line.Wrong)))
+
+-- an empty line and one that begins with `#` are skipped
+abbrev pub line_of : List ℕ → Line
+line_of [] = line.Skipped
+line_of (b ∷ bs) = if b == 35 then line.Skipped else command_line (b ∷ bs)
+
+abbrev pub said : Line → Option Command
+said (line.Says c) = Some c
+said line.Skipped = None
+said line.Wrong = None
+
+abbrev pub is_wrong : Line → Bool
+is_wrong line.Wrong = true
+is_wrong line.Skipped = false
+is_wrong (line.Says c) = false
+
+-- what the lines say, in order
+abbrev pub commands : List (List ℕ) → List Command
+commands ls = filter_map (λ l. said (line_of l)) ls
+
+-- the number of the first wrong line, if there is one, where the first line has number `n`
+abbrev pub first_wrong : ℕ → List (List ℕ) → Option ℕ
+first_wrong n [] = None
+first_wrong n (l ∷ ls) = if is_wrong (line_of l) then Some n else first_wrong (n + 1) ls
+
+-- the first wrong line of these bytes is the one that the error names
+abbrev pub IsWrongAt : List ℕ → ScriptError → Type 0
+IsWrongAt bytes (script_error.Wrong n) = first_wrong 1 (lines bytes) ≡ Some n
+IsWrongAt bytes script_error.NoMemory = Unit {0}

@@ -1,0 +1,43 @@
+-- What is printed of a refusal of the verifier: its number, the place and its action; then the configuration,
+-- and the reference that is wrong.
+use Rattle.std.specs.Prelude.{ℕ, List, [], ◌∷◌, ◌++◌, Option, Some, None, unwrap_or, codes}
+use Rattle.std.specs.Fmt.{decimal}
+use Rattle.mh_base.specs.declared.obj_ref.ObjRef.{ObjRef}
+use Rattle.mh_group.specs.declared.action_name.ActionName.{ActionName}
+use Rattle.mh_group.specs.Words.{action_word}
+use Rattle.mh_model.specs.declared.config.Config.{Config}
+use Rattle.mh_verify.specs.declared.refusal.Place.{Place}
+use Rattle.mh_verify.specs.declared.refusal.Refusal.{Refusal}
+use Rattle.mh_verify.specs.declared.refusal.RefusalKind.{RefusalKind}
+use Rattle.mh_verify.specs.declared.refusal.RefusalKind.TheVariants as kind
+use Rattle.mh_verify.specs.Kinds.{kind_number}
+
+abbrev pub place_words : Option Place → List ℕ
+place_words None = []
+place_words (Some p) = codes " " ++ p.group ++ codes " " ++ decimal p.object ++ codes " " ++ decimal p.index
+
+abbrev pub action_words : Option ActionName → List ℕ
+action_words None = codes " -"
+action_words (Some a) = codes " " ++ action_word a
+
+abbrev pub scene_word : Option (List ℕ) → List ℕ
+scene_word None = codes "-"
+scene_word (Some g) = g
+
+abbrev pub config_line : Option Config → List ℕ
+config_line None = []
+config_line (Some c) = codes "config " ++ c.app ++ codes " " ++ scene_word c.scene ++ 10 ∷ []
+
+abbrev pub object_line : Option ObjRef → List ℕ
+object_line None = []
+object_line (Some r) = codes "object " ++ r.group ++ codes " " ++ decimal r.number ++ 10 ∷ []
+
+-- the lines behind the first one; none where the verifier says only that it does not look at this yet
+abbrev pub further_lines : RefusalKind → Option Config → Option ObjRef → List ℕ
+further_lines kind.NotYet c r = []
+further_lines _ c r = config_line c ++ object_line r
+
+unfoldable pub refusal_lines : Refusal → List ℕ
+refusal_lines r =
+    codes "refused V" ++ decimal (unwrap_or (kind_number r.kind) 0) ++ place_words r.place ++ action_words r.action ++ 10 ∷ []
+    ++ further_lines r.kind r.config r.object

@@ -1,0 +1,66 @@
+//! `check_bytes`: a service as bytes, and what the verifier says of it.
+ghost use Rattle.std.specs.Prelude.{◌≡◌, ◌-◌, ◌<◌, ◌^◌, IfOk, OnOk, OnErr, IsErrOf};
+ghost use Rattle.std.specs.Io.KnownBytes.{Appends};
+ghost use Rattle.mh_report.specs.Sink.{IsBeginning};
+ghost use Rattle.mh_report.specs.Played.{service_read, accepted_line, Checks, HasWritten, HasBegun};
+
+use crate::options::Options;
+use crate::play::{complain, refuse};
+use crate::play_error::PlayError;
+use crate::reading::read_service;
+use crate::sink::{Sink, write_all};
+use crate::status::Status;
+use crate::unplayable::Unplayable;
+use mh_base::GroupName;
+use mh_service::Service;
+use mh_verify::{RefusalKind, verify};
+use std::alloc::Global;
+
+/// Says whether the verifier accepts the service of these files, or why not. After an error a beginning of
+/// that was written, or nothing.
+pub fn check_bytes<S: Sink>(
+    alloc: Global,
+    files: &[(GroupName, Vec<u8>)],
+    options: &Options,
+    sink: &mut S,
+) -> Result<Status, PlayError>
+    requires { S.failures sink.old < 2 ^ 64 - 1 }
+    ensures written { IfOk result (HasWritten (Checks (service_read options.now.start.items files.now)) (S.written sink.old) (S.written sink.new)) }
+    ensures begun { OnErr result (HasBegun (Checks (service_read options.now.start.items files.now)) (S.written sink.old) (S.written sink.new)) }
+    ensures write { IsErrOf result PlayError.Write → S.failures sink.old < S.failures sink.new }
+{
+    match read_service(alloc, files, options.start.as_slice()) {
+        Ok(service) => judge(alloc, service, sink),
+        Err(why) => match why {
+            Unplayable::NoMemory => Err(PlayError::NoMemory),
+            _ => complain(alloc, &why, sink),
+        },
+    }
+}
+
+fn judge<S: Sink>(alloc: Global, service: Service, sink: &mut S) -> Result<Status, PlayError>
+    requires { S.failures sink.old < 2 ^ 64 - 1 }
+    ensures written { IfOk result (HasWritten (Checks (Ok service)) (S.written sink.old) (S.written sink.new)) }
+    ensures begun { OnErr result (HasBegun (Checks (Ok service)) (S.written sink.old) (S.written sink.new)) }
+    ensures write { IsErrOf result PlayError.Write → S.failures sink.old < S.failures sink.new }
+{
+    match verify(alloc, service) {
+        Ok(_) => accept(sink),
+        Err(refusal) => match refusal.kind {
+            RefusalKind::NoMemory => Err(PlayError::NoMemory),
+            _ => refuse(alloc, &refusal, sink),
+        },
+    }
+}
+
+#[tactic(auto, unfolding(crate::specs::Played::accepted_line))]
+fn accept<S: Sink>(sink: &mut S) -> Result<Status, PlayError>
+    requires { S.failures sink.old < 2 ^ 64 - 1 }
+    ensures report { OnOk result (Appends (S.written sink.old) (S.written sink.new) accepted_line) }
+    ensures status { IfOk result (λ status. status ≡ Status.Good) }
+    ensures cut { OnErr result (IsBeginning (S.written sink.old) (S.written sink.new) accepted_line) }
+    ensures write { IsErrOf result PlayError.Write → S.failures sink.old < S.failures sink.new }
+{
+    write_all(sink, b"accepted\n")?;
+    Ok(Status::Good)
+}

@@ -1,0 +1,117 @@
+//! `convert_bytes`: one group's file as bytes, and the same group in the notation that is wanted.
+//!
+//! Either the file cannot be read or written: then one line says where. Or the group is written, and
+//! nothing else.
+ghost use Rattle.std.specs.Prelude.{◌≡◌, ◌-◌, ◌<◌, ◌^◌, Ok, IfOk, OnOk, OnErr, IsErrOf};
+ghost use Rattle.std.specs.Io.KnownBytes.{Appends};
+ghost use Rattle.mh_report.specs.Sink.{IsBeginning};
+ghost use Rattle.mh_report.specs.Played.{Gives, HasWritten, HasBegun};
+ghost use Rattle.mh_report.specs.Converted.{converted as converted_lem, written_in as written_in_lem, in_octets as in_octets_lem, in_text as in_text_lem, Converts};
+
+use crate::play::complain;
+use crate::play_error::PlayError;
+use crate::reading::read_file;
+use crate::sink::{Sink, write_all};
+use crate::status::Status;
+use crate::unplayable::Unplayable;
+use mh_base::Octets;
+use mh_codec::{CodecError, encode_group};
+use mh_group::Group;
+use mh_text::{TextError, print_group};
+use std::alloc::Global;
+
+/// The two notations of groups.
+#[derive(Clone, Copy, PartialEq, Eq)]
+pub enum Notation {
+    /// By the distinguished encoding rules (ITU-T X.690).
+    Binary,
+    Textual,
+}
+
+/// Writes the group of a file in the notation that is wanted, or the line on what cannot be read or
+/// written. `name` is what the line calls the file. After an error a beginning of that was written, or
+/// nothing.
+pub fn convert_bytes<S: Sink>(
+    alloc: Global,
+    name: &[u8],
+    bytes: &[u8],
+    to: Notation,
+    sink: &mut S,
+) -> Result<Status, PlayError>
+    requires { S.failures sink.old < 2 ^ 64 - 1 }
+    ensures written { IfOk result (HasWritten (Converts (converted_lem to name.now bytes.now)) (S.written sink.old) (S.written sink.new)) }
+    ensures begun { OnErr result (HasBegun (Converts (converted_lem to name.now bytes.now)) (S.written sink.old) (S.written sink.new)) }
+    ensures write { IsErrOf result PlayError.Write → S.failures sink.old < S.failures sink.new }
+{
+    match converted(alloc, name, bytes, to) {
+        Ok(group) => hand_out(group.as_slice(), sink),
+        Err(why) => match why {
+            Unplayable::NoMemory => Err(PlayError::NoMemory),
+            _ => complain(alloc, &why, sink),
+        },
+    }
+}
+
+fn hand_out<S: Sink>(bytes: &[u8], sink: &mut S) -> Result<Status, PlayError>
+    requires { S.failures sink.old < 2 ^ 64 - 1 }
+    ensures report { OnOk result (Appends (S.written sink.old) (S.written sink.new) bytes.now) }
+    ensures status { IfOk result (λ status. status ≡ Status.Good) }
+    ensures cut { OnErr result (IsBeginning (S.written sink.old) (S.written sink.new) bytes.now) }
+    ensures write { IsErrOf result PlayError.Write → S.failures sink.old < S.failures sink.new }
+{
+    write_all(sink, bytes)?;
+    Ok(Status::Good)
+}
+
+/// The group of the file, in the notation that is wanted.
+#[tactic(auto, unfolding(crate::specs::Converted::converted))]
+fn converted(alloc: Global, name: &[u8], bytes: &[u8], to: Notation) -> Result<Vec<u8>, Unplayable>
+    ensures { Gives (λ found. found.items) result (converted_lem to name.now bytes.now) }
+{
+    let group = read_file(alloc, name, bytes)?;
+    written_in(alloc, name, &group, to)
+}
+
+fn written_in(
+    alloc: Global,
+    name: &[u8],
+    group: &Group,
+    to: Notation,
+) -> Result<Vec<u8>, Unplayable>
+    ensures { Gives (λ found. found.items) result (written_in_lem to name.now group.now) }
+{
+    match to {
+        Notation::Binary => in_octets(alloc, name, group),
+        Notation::Textual => in_text(alloc, name, group),
+    }
+}
+
+#[tactic(auto, using(crate::proofs::ConvertLemmas::spelled, crate::proofs::ConvertLemmas::unspelled), unfolding(crate::specs::Converted::in_octets))]
+fn in_octets(alloc: Global, name: &[u8], group: &Group) -> Result<Vec<u8>, Unplayable>
+    ensures { Gives (λ found. found.items) result (in_octets_lem name.now group.now) }
+{
+    match encode_group(alloc, group) {
+        Ok(octets) => Ok(octets),
+        Err(CodecError::At { why, offset }) => Err(Unplayable::File {
+            name: Octets::from_slice(alloc, name)?,
+            number: why.number(),
+            offset,
+        }),
+        Err(CodecError::NoMemory) => Err(Unplayable::NoMemory),
+    }
+}
+
+#[tactic(auto, unfolding(crate::specs::Converted::in_text))]
+fn in_text(alloc: Global, name: &[u8], group: &Group) -> Result<Vec<u8>, Unplayable>
+    ensures { Gives (λ found. found.items) result (in_text_lem name.now group.now) }
+{
+    match print_group(alloc, group) {
+        Ok(text) => Ok(text),
+        Err(TextError::At { why, offset }) => Err(Unplayable::File {
+            name: Octets::from_slice(alloc, name)?,
+            number: why.number(),
+            offset,
+        }),
+        Err(TextError::NoMemory) => Err(Unplayable::NoMemory),
+    }
+}

@@ -1,0 +1,30 @@
+//! Services and groups as bytes, and what is written of them: the verdict of a check, the report of a
+//! play, a group in the other notation.
+//!
+//! Promise: where a call answers a status, the sink has taken exactly what is meant for these bytes and
+//! choices; after an error it has taken nothing, or a beginning of that. Where the bytes come from and go
+//! to is left to the program.
+#![tactic(auto)]
+
+mod check;
+mod convert;
+mod options;
+mod play;
+mod play_error;
+mod player;
+mod reading;
+mod report;
+mod saying;
+mod script;
+pub mod sink;
+mod status;
+mod text;
+mod unplayable;
+
+pub use check::check_bytes;
+pub use convert::{Notation, convert_bytes};
+pub use options::Options;
+pub use play::play_bytes;
+pub use play_error::PlayError;
+pub use sink::{ListSink, Sink, WriterSink};
+pub use status::Status;

@@ -1,0 +1,294 @@
+//! `Player`: an engine, and what was shown of it. It does the commands of a script one by one, and writes
+//! what the report says of each.
+ghost use Rattle.std.specs.Prelude.{◌≡◌, ◌-◌, ◌<◌, ◌^◌, ◌++◌, false, drop, OnOk, OnErr, IfOk, IsErrOf};
+ghost use Rattle.std.specs.List.{flat_map};
+ghost use Rattle.mh_model.specs.Step.{stepped};
+ghost use Rattle.std.specs.Io.KnownBytes.{Appends};
+ghost use Rattle.mh_report.specs.Sink.{IsBeginning};
+ghost use Rattle.mh_report.specs.Report.{advanced, played, opening, fault_word as fault_word_lem, rest_word as rest_word_lem, fault_line, progress_since, refused_line, total_line, command_lines, script_lines, ended, status_of};
+
+use crate::play_error::PlayError;
+use crate::report::frame_text;
+use crate::script::Command;
+use crate::sink::{Sink, write_all};
+use crate::status::Status;
+use crate::text::Text;
+use mh_engine::{Engine, RefusedWhy, Rest, StepError, Stepped};
+use mh_model::{Fault, FaultKind, Input, Picture};
+use mh_service::Service;
+use mh_verify::Accepted;
+use std::alloc::{AllocError, Global};
+use std::marker::Model;
+
+/// The number of a refusal because too many inputs wait.
+const QUEUE_FULL: u64 = 51;
+
+/// An engine with the frame that was shown last, and how many were shown.
+#[derive(Drop)]
+pub struct Player {
+    alloc: Global,
+    engine: Engine,
+    frame: Picture,
+    frames: u64,
+}
+
+impl Model for Player {
+    ghost use Rattle.mh_report.specs.Report.{Session};
+
+    ghost Value = { Session };
+
+    ghost view = { λ p. record { state = p.engine.state; frame = p.frame; frames = p.frames } };
+}
+
+impl Player {
+    /// A player at the start of this service. The frame before the first one is black.
+    pub fn of_service(alloc: Global, service: Service) -> Result<Player, AllocError>
+        ensures { IfOk result (λ player. player ≡ opening service) }
+    {
+        let frame = Picture::black(alloc)?;
+        match Engine::start_lenient(alloc, service) {
+            Ok(engine) => Ok(Player {
+                alloc,
+                engine,
+                frame,
+                frames: 0,
+            }),
+            Err(_) => Err(AllocError),
+        }
+    }
+
+    /// A player at the start of a service that the verifier accepts.
+    pub fn of_accepted(alloc: Global, accepted: Accepted) -> Result<Player, AllocError>
+        ensures { IfOk result (λ player. player ≡ opening accepted) }
+    {
+        let frame = Picture::black(alloc)?;
+        match Engine::start(alloc, accepted) {
+            Ok(engine) => Ok(Player {
+                alloc,
+                engine,
+                frame,
+                frames: 0,
+            }),
+            Err(_) => Err(AllocError),
+        }
+    }
+
+    /// Does a command, and writes what it prints.
+    pub fn obey<S: Sink>(&mut self, command: Command, sink: &mut S) -> Result<(), PlayError>
+        requires count { self.old.frames < 2 ^ 64 - 1 }
+        requires room { S.failures sink.old < 2 ^ 64 - 1 }
+        ensures done { OnOk result (self.new ≡ played command self.old) }
+        ensures whole { OnOk result (Appends (S.written sink.old) (S.written sink.new) (command_lines command self.old)) }
+        ensures good { OnOk result (S.failures sink.new ≡ S.failures sink.old) }
+        ensures cut { OnErr result (IsBeginning (S.written sink.old) (S.written sink.new) (command_lines command self.old)) }
+        ensures write { IsErrOf result PlayError.Write → S.failures sink.old < S.failures sink.new }
+    {
+        let text = self.told(command)?;
+        write_all(sink, text.as_slice())
+    }
+
+    /// Does a command, and answers what it prints.
+    fn told(&mut self, command: Command) -> Result<Text, AllocError>
+        requires { self.old.frames < 2 ^ 64 - 1 }
+        ensures done { OnOk result (self.new ≡ played command self.old) }
+        ensures whole { IfOk result (λ text. text ≡ command_lines command self.old) }
+    {
+        match command {
+            Command::Post(input) => self.post(input),
+            Command::Step(limit) => self.advance(limit),
+            Command::Show => self.show(),
+        }
+    }
+
+    fn post(&mut self, input: Input) -> Result<Text, AllocError>
+        ensures done { OnOk result (self.new ≡ played (Command.Post input) self.old) }
+        ensures whole { IfOk result (λ text. text ≡ command_lines (Command.Post input) self.old) }
+    {
+        match self.engine.post(input) {
+            Ok(()) => Ok(Text::new(self.alloc)),
+            Err(refused) => refusal(self.alloc, refused.why),
+        }
+    }
+
+    fn advance(&mut self, limit: u32) -> Result<Text, AllocError>
+        ensures done { OnOk result (self.new ≡ played (Command.Step limit) self.old) }
+        ensures whole { IfOk result (λ text. text ≡ command_lines (Command.Step limit) self.old) }
+    {
+        let steps = self.engine.taken();
+        let faults = self.engine.faults().len();
+        make_steps(&mut self.engine, limit)?;
+        progress(self.alloc, &self.engine, steps, faults)
+    }
+
+    fn show(&mut self) -> Result<Text, AllocError>
+        requires { self.old.frames < 2 ^ 64 - 1 }
+        ensures done { OnOk result (self.new ≡ played Command.Show self.old) }
+        ensures whole { IfOk result (λ text. text ≡ command_lines Command.Show self.old) }
+    {
+        let frame = copied(self.engine.picture())?;
+        let text = frame_text(self.alloc, self.frames + 1, &self.frame, &frame)?;
+        self.frames += 1;
+        self.frame = frame;
+        Ok(text)
+    }
+
+    /// The line at the end: the steps taken.
+    fn total(&self) -> Result<Text, AllocError>
+        ensures { IfOk result (λ text. text ≡ total_line self.now.state) }
+    {
+        let mut text = Text::new(self.alloc);
+        text.put(b"total ")?;
+        text.put_number(self.engine.taken())?;
+        text.put(b"\n")?;
+        Ok(text)
+    }
+
+    /// How the play ended.
+    fn status(&self) -> Status
+        ensures { result ≡ status_of self.now.state.faults }
+    {
+        if self.engine.faults().is_empty() {
+            Status::Good
+        } else {
+            Status::Faults
+        }
+    }
+
+    /// Does the commands in order, and tells the steps taken at the end.
+    pub fn play<S: Sink>(&mut self, commands: &[Command], sink: &mut S) -> Result<Status, PlayError>
+        requires count { self.old.frames ≡ 0 }
+        requires room { S.failures sink.old < 2 ^ 64 - 1 }
+        ensures whole { OnOk result (Appends (S.written sink.old) (S.written sink.new) (script_lines commands.now self.old)) }
+        ensures left { OnOk result (self.new ≡ ended commands.now self.old) }
+        ensures status { IfOk result (λ status. status ≡ status_of (ended commands.now self.old).state.faults) }
+        ensures cut { OnErr result (IsBeginning (S.written sink.old) (S.written sink.new) (script_lines commands.now self.old)) }
+        ensures write { IsErrOf result PlayError.Write → S.failures sink.old < S.failures sink.new }
+    {
+        for command in commands {
+            self.obey(*command, sink)?;
+        }
+        let text = self.total()?;
+        write_all(sink, text.as_slice())?;
+        Ok(self.status())
+    }
+}
+
+#[tactic(auto, unfolding(crate::specs::Report::refused_line))]
+/// The line on a refused post. An engine stops only where memory was refused.
+fn refusal(alloc: Global, why: RefusedWhy) -> Result<Text, AllocError>
+    ensures line { IfOk result (λ text. text ≡ refused_line) }
+    ensures full { OnOk result (why ≡ RefusedWhy.QueueFull) }
+{
+    match why {
+        RefusedWhy::QueueFull => {
+            let mut text = Text::new(alloc);
+            text.put(b"refused ")?;
+            text.put_number(QUEUE_FULL)?;
+            text.put(b"\n")?;
+            Ok(text)
+        }
+        RefusedWhy::Stopped => Err(AllocError),
+        RefusedWhy::NoMemory => Err(AllocError),
+    }
+}
+
+fn copied(picture: &Picture) -> Result<Picture, AllocError>
+    ensures { IfOk result (λ copy. copy ≡ picture.now) }
+{
+    picture.clone()
+}
+
+/// The lines on what happened since so many steps and faults.
+fn progress(alloc: Global, engine: &Engine, steps: u64, faults: usize) -> Result<Text, AllocError>
+    ensures { IfOk result (λ text. text ≡ progress_since steps faults engine.now.state) }
+{
+    let mut text = Text::new(alloc);
+    put_faults(&mut text, engine.faults(), faults)?;
+    text.put(b"did ")?;
+    text.put_number(engine.taken().saturating_sub(steps))?;
+    text.put(rest_word(engine.rest()))?;
+    text.put(b"\n")?;
+    Ok(text)
+}
+
+fn rest_word(rest: Rest) -> &'static [u8]
+    ensures { result.now ≡ rest_word_lem rest }
+{
+    match rest {
+        Rest::Idle => b" idle",
+        Rest::More => b" more",
+    }
+}
+
+#[tactic(auto, using(crate::proofs::StepLemmas::advanced_more, crate::proofs::StepLemmas::advanced_still))]
+/// Makes so many steps, or as many as there is something to do.
+fn make_steps(engine: &mut Engine, limit: u32) -> Result<(), AllocError>
+    ensures { OnOk result (engine.new.state ≡ advanced limit engine.old.state) }
+{
+    for made in 0..limit {
+        if !make_step(engine)? {
+            break;
+        }
+    }
+    Ok(())
+}
+
+#[tactic(auto, using(crate::proofs::StepLemmas::stepped_room, crate::proofs::StepLemmas::stepped_on_idle, crate::proofs::StepLemmas::step_on_idle, crate::proofs::StepLemmas::stepped_full))]
+/// Makes a step, and tells whether another one may change anything.
+fn make_step(engine: &mut Engine) -> Result<bool, AllocError>
+    ensures made { OnOk result (engine.new.state ≡ stepped engine.old.state) }
+    ensures over { IfOk result (λ more. more ≡ false → stepped engine.new.state ≡ engine.new.state) }
+{
+    match engine.step() {
+        Ok(Stepped::Did) => Ok(true),
+        Ok(Stepped::Faulted(_)) => Ok(true),
+        Ok(Stepped::Idle) => Ok(false),
+        Err(StepError::CountFull) => Ok(false),
+        Err(StepError::NoMemory) => Err(AllocError),
+        Err(StepError::Stopped) => Err(AllocError),
+    }
+}
+
+/// Puts a line for each fault but the first ones.
+fn put_faults(text: &mut Text, faults: &[Fault], known: usize) -> Result<(), AllocError>
+    ensures { OnOk result (text.new ≡ text.old ++ flat_map fault_line (drop known faults.now)) }
+{
+    if known < faults.len() {
+        put_all_faults(text, &faults[known..])?;
+    }
+    Ok(())
+}
+
+fn put_all_faults(text: &mut Text, faults: &[Fault]) -> Result<(), AllocError>
+    ensures { OnOk result (text.new ≡ text.old ++ flat_map fault_line faults.now) }
+{
+    for fault in faults {
+        put_fault(text, fault)?;
+    }
+    Ok(())
+}
+
+#[tactic(auto, unfolding(crate::specs::Report::fault_line))]
+fn put_fault(text: &mut Text, fault: &Fault) -> Result<(), AllocError>
+    ensures { OnOk result (text.new ≡ text.old ++ fault_line fault.now) }
+{
+    text.put(b"fault ")?;
+    text.put(fault_word(fault.what))?;
+    text.put(b" ")?;
+    text.put(fault.action.word())?;
+    text.put(b" ")?;
+    text.put(fault.at.group.as_bytes())?;
+    text.put(b" ")?;
+    text.put_number(u64::from(fault.at.number))?;
+    text.put(b"\n")
+}
+
+fn fault_word(kind: FaultKind) -> &'static [u8]
+    ensures { result.now ≡ fault_word_lem kind }
+{
+    match kind {
+        FaultKind::Absent => b"absent",
+        FaultKind::WrongClass => b"class",
+        FaultKind::WrongKind => b"kind",
+    }
+}

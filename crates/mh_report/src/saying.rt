@@ -1,0 +1,138 @@
+//! What is said of what cannot be read, and of what the verifier refuses.
+ghost use Rattle.std.specs.Prelude.{◌≡◌, ◌++◌, OnOk, IfOk, codes};
+ghost use Rattle.std.specs.Fmt.{decimal};
+ghost use Rattle.mh_report.specs.Played.{complaint};
+ghost use Rattle.mh_report.specs.Verdict.{refusal_lines, place_words, action_words, scene_word, config_line, object_line, further_lines};
+
+use crate::text::Text;
+use crate::unplayable::Unplayable;
+use mh_base::{GroupName, ObjRef};
+use mh_group::ActionName;
+use mh_model::Config;
+use mh_verify::{Place, Refusal, RefusalKind};
+use std::alloc::{AllocError, Global};
+
+/// The line on what cannot be read.
+#[tactic(auto, unfolding(crate::specs::Played::complaint))]
+pub fn complaint_text(alloc: Global, why: &Unplayable) -> Result<Text, AllocError>
+    ensures { IfOk result (λ text. text ≡ complaint why.now) }
+{
+    let mut text = Text::new(alloc);
+    match why {
+        Unplayable::File {
+            name,
+            number,
+            offset,
+        } => {
+            text.put(b"file ")?;
+            text.put(name.as_slice())?;
+            put_spaced(&mut text, u64::from(*number))?;
+            put_spaced(&mut text, *offset as u64)?;
+        }
+        Unplayable::Service { number, group } => {
+            text.put(b"service")?;
+            put_spaced(&mut text, u64::from(*number))?;
+            text.put(b" ")?;
+            text.put(group.as_slice())?;
+        }
+        Unplayable::Script(number) => {
+            text.put(b"script")?;
+            put_spaced(&mut text, *number as u64)?;
+        }
+        Unplayable::NoMemory => return Ok(text),
+    }
+    text.put(b"\n")?;
+    Ok(text)
+}
+
+/// Puts a space and a number.
+fn put_spaced(text: &mut Text, number: u64) -> Result<(), AllocError>
+    ensures { OnOk result (text.new ≡ text.old ++ codes " " ++ decimal number) }
+{
+    text.put(b" ")?;
+    text.put_number(number)
+}
+
+/// The lines on a refusal of the verifier.
+#[tactic(auto, unfolding(crate::specs::Verdict::refusal_lines))]
+pub fn refusal_text(alloc: Global, refusal: &Refusal) -> Result<Text, AllocError>
+    ensures { IfOk result (λ text. text ≡ refusal_lines refusal.now) }
+{
+    let mut text = Text::new(alloc);
+    text.put(b"refused V")?;
+    text.put_number(u64::from(refusal.kind.number().unwrap_or(0)))?;
+    put_place(&mut text, &refusal.place)?;
+    put_action(&mut text, refusal.action)?;
+    text.put(b"\n")?;
+    put_further(&mut text, refusal)?;
+    Ok(text)
+}
+
+/// Puts the lines behind the first one.
+fn put_further(text: &mut Text, refusal: &Refusal) -> Result<(), AllocError>
+    ensures { OnOk result (text.new ≡ text.old ++ further_lines refusal.now.kind refusal.now.config refusal.now.object) }
+{
+    match refusal.kind {
+        RefusalKind::NotYet => Ok(()),
+        _ => {
+            put_config(text, &refusal.config)?;
+            put_object(text, &refusal.object)
+        }
+    }
+}
+
+fn put_place(text: &mut Text, place: &Option<Place>) -> Result<(), AllocError>
+    ensures { OnOk result (text.new ≡ text.old ++ place_words place.now) }
+{
+    if let Some(place) = place {
+        text.put(b" ")?;
+        text.put(place.group.as_bytes())?;
+        put_spaced(text, u64::from(place.object))?;
+        put_spaced(text, place.index as u64)?;
+    }
+    Ok(())
+}
+
+fn put_action(text: &mut Text, action: Option<ActionName>) -> Result<(), AllocError>
+    ensures { OnOk result (text.new ≡ text.old ++ action_words action) }
+{
+    text.put(b" ")?;
+    match action {
+        Some(action) => text.put(action.word()),
+        None => text.put(b"-"),
+    }
+}
+
+fn put_config(text: &mut Text, config: &Option<Config>) -> Result<(), AllocError>
+    ensures { OnOk result (text.new ≡ text.old ++ config_line config.now) }
+{
+    if let Some(config) = config {
+        text.put(b"config ")?;
+        text.put(config.app.as_bytes())?;
+        text.put(b" ")?;
+        put_scene(text, &config.scene)?;
+        text.put(b"\n")?;
+    }
+    Ok(())
+}
+
+fn put_scene(text: &mut Text, scene: &Option<GroupName>) -> Result<(), AllocError>
+    ensures { OnOk result (text.new ≡ text.old ++ scene_word scene.now) }
+{
+    match scene {
+        Some(scene) => text.put(scene.as_bytes()),
+        None => text.put(b"-"),
+    }
+}
+
+fn put_object(text: &mut Text, object: &Option<ObjRef>) -> Result<(), AllocError>
+    ensures { OnOk result (text.new ≡ text.old ++ object_line object.now) }
+{
+    if let Some(object) = object {
+        text.put(b"object ")?;
+        text.put(object.group.as_bytes())?;
+        put_spaced(text, u64::from(object.number))?;
+        text.put(b"\n")?;
+    }
+    Ok(())
+}
