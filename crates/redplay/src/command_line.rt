@@ -6,6 +6,9 @@ use mh_report::Notation;
 use std::alloc::{AllocError, Global};
 use std::convert::AsStr;
 
+/// The version that `--version` prints.
+const VERSION: &str = "0.1.0";
+
 /// The application that is started where none is named.
 const START: &str = "a";
 
@@ -86,11 +89,23 @@ fn what_to_check<'a>(check: Option<&ArgMatches<'a>>) -> Asked<'a> {
 }
 
 fn program<'a>(alloc: Global) -> Result<Command<'a>, AllocError> {
-    let command = Command::new(alloc, "redplay")
+    with_conversions(alloc, with_services(alloc, bare(alloc))?)
+}
+
+/// The program without its subcommands.
+fn bare<'a>(alloc: Global) -> Command<'a> {
+    Command::new(alloc, "redplay")
+        .version(VERSION)
         .about("Checks, plays and converts red-button television services")
-        .subcommand_required(true);
-    let command = command.subcommand(check(alloc)?)?.subcommand(play(alloc)?)?;
-    command
+        .subcommand_required(true)
+}
+
+fn with_services<'a>(alloc: Global, program: Command<'a>) -> Result<Command<'a>, AllocError> {
+    program.subcommand(check(alloc)?)?.subcommand(play(alloc)?)
+}
+
+fn with_conversions<'a>(alloc: Global, program: Command<'a>) -> Result<Command<'a>, AllocError> {
+    program
         .subcommand(to_der(alloc)?)?
         .subcommand(to_text(alloc)?)
 }
