@@ -13,19 +13,11 @@ mod member;
 mod object;
 mod readable;
 mod setting;
-#[cfg(test)]
-mod shape_tests;
-#[cfg(test)]
-mod table_tests;
-#[cfg(test)]
-mod tests;
 mod value;
 mod writable;
 mod writing;
 mod writing_action;
 mod writing_member;
-#[cfg(test)]
-mod writing_tests;
 mod writing_value;
 
 pub use codec_error::{CodecError, Why};
