@@ -10,5 +10,5 @@ pub mod PairLemmas
 pub mod SettingLemmas
 pub mod FieldLemmas
 pub mod GroupLemmas
-pub mod Laws
+pub mod SpellingLaws
 pub mod WritingLemmas

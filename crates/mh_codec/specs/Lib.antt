@@ -5,3 +5,4 @@ pub mod Spelling
 pub mod Writable
 pub mod Reading
 pub mod Unwritable
+pub mod Laws

@@ -1,5 +1,5 @@
 //! The binary notation: groups read from elements of the distinguished encoding rules (ITU-T X.690)
-//! and written as such. Each group has one spelling.
+//! and written as such. Each group has one spelling, and no octets spell two groups.
 //!
 //! Promise: reading gives the group that the octets spell, or refuses the first element from the left
 //! that goes wrong, and then they spell none; writing gives the spelling. What a group holds is left
@@ -9,23 +9,16 @@
 mod action;
 pub mod codec_error;
 mod kind;
+pub mod laws;
 mod member;
 mod object;
 mod readable;
 mod setting;
-#[cfg(test)]
-mod shape_tests;
-#[cfg(test)]
-mod table_tests;
-#[cfg(test)]
-mod tests;
 mod value;
 mod writable;
 mod writing;
 mod writing_action;
 mod writing_member;
-#[cfg(test)]
-mod writing_tests;
 mod writing_value;
 
 pub use codec_error::{CodecError, Why};

@@ -19,6 +19,3 @@ pub use reader::Reader;
 pub use tag::{BOOLEAN, INTEGER, OCTET_STRING, SEQUENCE, Tag, TagClass};
 pub use value::{bool_of, int_of};
 pub use writing::{write_bool, write_element, write_int};
-
-#[cfg(test)]
-mod tests;

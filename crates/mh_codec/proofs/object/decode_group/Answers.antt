@@ -4,7 +4,7 @@ use Rattle.mh_codec.specs.declared.codec_error.CodecError.TheVariants.{At}
 use Rattle.mh_codec.specs.declared.codec_error.Why.TheVariants.{Limit, BadValue}
 use Rattle.mh_codec.specs.Gives.{Gives, Fails}
 use Rattle.mh_codec.specs.Reading.{read}
-use Rattle.mh_codec.proofs.Laws.{read_found, none_spelled, no_other_spelled, gives_none}
+use Rattle.mh_codec.proofs.SpellingLaws.{read_found, none_spelled, no_other_spelled, gives_none}
 use Rattle.mh_codec.proofs.object.decode_group.Goals as goal
 
 pub returns-in-Ok-clause-found : goal.returns-in-Ok-clause-found

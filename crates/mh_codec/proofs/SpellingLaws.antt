@@ -13,6 +13,7 @@ use Rattle.mh_codec.specs.Spelling.{group}
 use Rattle.mh_codec.specs.Writable.{Spells, SpellsNone, SpellsNoOther}
 use Rattle.mh_codec.specs.Gives.{Refusal, Fails, Gives}
 use Rattle.mh_codec.specs.Reading.{taken, ended, group_at, read}
+use Rattle.mh_codec.specs.Laws.{SpellsOne}
 use Rattle.mh_codec.proofs.ElementLemmas.{went, if_ok, if_not_ok, ok_same, written, taken_found, good_found, taken_given, nothing_left, ended_given}
 use Rattle.mh_codec.proofs.GroupLemmas.{group_read, group_written, group_one}
 
@@ -55,6 +56,10 @@ same_read g h r e f = cc
 
 pub no_other_spelled : (octets : List ℕ) (g : Group) → read octets ≡ Ok g → SpellsNoOther octets g
 no_other_spelled octets g e h fit spells = same_read g h (read octets) e (read_given octets h fit spells)
+
+-- no octets spell two groups
+pub spells_one : SpellsOne
+spells_one octets g h fit allowed spells tells = no_other_spelled octets h (read_given octets h allowed tells) g fit spells
 
 -- what a reader may say of octets whose reading it gives
 pub gives_none : (octets : List ℕ) (result : Result Group CodecError) → Gives (λ x. x) result (read octets) → IfErr result (λ e. e ≢ NoMemory → SpellsNone octets)
