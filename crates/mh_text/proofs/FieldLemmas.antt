@@ -3,7 +3,9 @@ use Rattle.std.proofs.Common.{◌≡◌, ℕ, zero, suc, ◌⊎◌, inl, inr, Bo
 use Rattle.std.specs.List.{list_any, prefix_len}
 use Rattle.std.proofs.lemmas.Bool.Decides.{nat_tests}
 use Rattle.mh_group.specs.declared.written.Field.{Field}
-use Rattle.mh_group.specs.Table.{attribute_number}
+use Rattle.mh_group.specs.declared.class.Class.{Class}
+use Rattle.mh_group.specs.Table.{attribute_number, shape_of, takes}
+use Rattle.mh_group.specs.Fit.{fits}
 use Rattle.mh_text.specs.Reading.{placed, has_attribute}
 use Rattle.mh_text.specs.Spelling.{NoneTwice}
 
@@ -73,6 +75,10 @@ pub passes_none : {A : Type 0} (p : A → Bool) (xs : List A) (x : A) → list_a
 passes_none p [] x h has = absurd has
 passes_none p (y ∷ ys) x h (inl is) = subst (λ z. p z ≡ false) is (or_false (p y) (list_any p ys) h).0
 passes_none p (y ∷ ys) x h (inr has) = passes_none p ys x (or_false (p y) (list_any p ys) h).1 has
+
+-- a field that the class takes, with a value of its shape
+abbrev pub FitsIn : Class → Field → Type 0
+FitsIn c f = (takes c f.attribute ≡ true) × (fits (shape_of c f.attribute) f.setting ≡ true)
 
 -- no attribute of the ones is an attribute of the others
 abbrev pub Apart : List Field → List Field → Type 0

@@ -33,7 +33,7 @@ record Names (c : Class) (done : List Field) (p : Piece) (a : Attribute) : Type 
   pub free : has_attribute done a ≡ false
   pub written : word_of p ≡ as_word kind.Keyword (58 ∷ attribute_word a)
 
-not_true : (b : Bool) → not b ≡ true → b ≡ false
+pub not_true : (b : Bool) → not b ≡ true → b ≡ false
 not_true true h = absurd cc
 not_true false h = refl
 

@@ -2,7 +2,6 @@
 use Rattle.std.proofs.Common.{◌≡◌, ℕ, zero, suc, ◌<◌, ◌≤◌, Bool, true, false, ◌&&◌, ◌==◌, nat_lt, if◌then◌else◌, List, [], ◌∷◌, length, map, Option, Some, None, Result, Ok, Err, ℤ, refl, ap, sym, ◌∙◌, subst, subst₂, arith}
 use Rattle.std.proofs.lemmas.Bool.Decides.{nat_tests}
 use Rattle.mh_group.specs.declared.written.Written.{Written as Group}
-use Rattle.mh_group.specs.Fit.{is_group}
 use Rattle.mh_text.specs.declared.token_kind.TokenKind.{TokenKind}
 use Rattle.mh_text.specs.declared.token_kind.TokenKind.TheVariants as kind
 use Rattle.mh_text.specs.declared.sign.Sign.{Sign}
@@ -17,7 +16,7 @@ use Rattle.mh_text.specs.Spelling.{IsGroup, Spells}
 use Rattle.mh_text.specs.Reading.{ended, group, read}
 use Rattle.mh_text.proofs.LeftLemmas.{left_is, lexed_shorter}
 use Rattle.mh_text.proofs.SignLemmas.{keyword_kind, word_kind}
-use Rattle.mh_text.proofs.PieceLemmas.{kind_of, word_of, words, AreGood, went, if_ok, if_not_ok, ok_same}
+use Rattle.mh_text.proofs.PieceLemmas.{kind_of, word_of, words, AreGood, went, if_not_ok, ok_same}
 use Rattle.mh_text.proofs.TokenLemmas.{IsCut, lexed_token, lexed_finished}
 use Rattle.mh_text.proofs.FoundGroups.{group_found}
 
@@ -114,12 +113,11 @@ read_found bytes g e =
     let t = if_not_ok (nat_lt 1048576 (length bytes)) _ why.Limit 0 g e in
     let x = went (group (left false (whole bytes))) _ g t.1 in
     let end = went (ended x.value.1) _ g x.behind in
-    let fit = if_ok (is_group x.value.0) (Ok x.value.0) why.Syntax (length bytes) g end.behind in
     let start = left_words (suc (length bytes)) false (whole bytes) (omega arith) in
     let found = group_found (left false (whole bytes)) x.value.0 x.value.1 start.good x.first in
     let none = ended_from x.value.1.pieces x.value.1.wrong x.value.1.offset end.first in (
       not_above (length bytes) t.0,
       words (left false (whole bytes)),
       start.worded (sym found.wrong ∙ none.1),
-      subst₂ (λ y ws. IsGroup y (words (left false (whole bytes))) ws) (ok_same fit.1) (ap (map word_of) none.0) found.spells,
+      subst₂ (λ y ws. IsGroup y (words (left false (whole bytes))) ws) (ok_same end.behind) (ap (map word_of) none.0) found.spells,
     )

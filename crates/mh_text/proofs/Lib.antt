@@ -10,6 +10,8 @@ pub mod FoundGroups
 pub mod GapLemmas
 pub mod TokenLemmas
 pub mod FoundLaw
+pub mod FitLemmas
+pub mod FitLaw
 pub mod WordLemmas
 pub mod ExactLemmas
 pub mod OnlyLemmas

@@ -22,13 +22,13 @@ use Rattle.mh_text.specs.declared.text_error.Why.TheVariants as why
 use Rattle.mh_text.specs.Rest.{Left, Piece}
 use Rattle.mh_text.specs.Words.{Written}
 use Rattle.mh_text.specs.Signs.{sign_of}
-use Rattle.mh_text.specs.Gives.{Refusal, refused}
+use Rattle.mh_text.specs.Gives.{Refusal}
 use Rattle.mh_text.specs.Spelling.{IsKeyword, IsCloseBrace, IsNamed, AreSeveral, IsListOf, IsField, NoneTwice, AreFieldsOf, IsIngredient, IsBody, IsGroup, Spells}
 use Rattle.mh_text.specs.Left.{left, whole}
 use Rattle.mh_text.specs.Reading.{next, ended, is_same, opened, closed, braced, refused_at, name_of, number_of, ingredient_number_of, setting, has_attribute, attribute_of, placed, is_items_shape, is_items, next_field, fields, fields_behind_items, complete, class_of, ingredient, items, identifier, body, group, read}
 use Rattle.mh_text.proofs.SignLemmas.{class_means, attribute_means, integer_means}
 use Rattle.mh_text.proofs.FoundGroups.{value_no_items, members_no_items}
-use Rattle.mh_text.proofs.FieldLemmas.{Has, Apart, has_contained, contains_had, has_left, has_right, none_passes, passes_none, same_turned}
+use Rattle.mh_text.proofs.FieldLemmas.{FitsIn, Has, Apart, has_contained, contains_had, has_left, has_right, none_passes, passes_none, same_turned}
 use Rattle.mh_text.proofs.OrderLemmas.{gathered_in, gathered_both, gathered_parts, gathered_same, free_first, apart_next, few_fields, all_had}
 use Rattle.mh_text.proofs.OnlyLemmas.{StandsAt, first, at_end, then_is, Reads, Takes, open_read, close_read, brace_read, name_is, number_is, AllFit, list_takes}
 use Rattle.mh_text.proofs.OnlySettings.{setting_read}
@@ -52,10 +52,6 @@ unfolding attribute_of
 attribute_is c done a start text taken free =
     let both : (takes c a && not (has_attribute done a)) ≡ true = and_from _ _ taken (ap not free) in
     ap (λ (b : Bool). if b then Ok a else refused_at why.Syntax (record { sign = sign.Attribute a; start = start; text = text })) both
-
--- what a field has to be
-abbrev FitsIn : Class → Field → Type 0
-FitsIn c f = (takes c f.attribute ≡ true) × (fits (shape_of c f.attribute) f.setting ≡ true)
 
 -- the next field was read
 record FieldRead (c : Class) (done : List Field) (f : Field) (l : Left) (ws : List Written) : Type 0 where
@@ -377,5 +373,4 @@ read_only bytes g fit (short, words, are_words, is_group_spelled) =
     let r = group_read (left false (whole bytes)) g words [] fit at is_group_spelled in
     rw (not_long (length bytes) short)
     (then_is (group (left false (whole bytes))) _ _ g r.is
-    (then_is (ended r.rest) _ tt g (at_end r.rest r.at)
-    (ap (λ (b : Bool). if b then Ok g else refused why.Syntax (length bytes)) fit)))
+    (then_is (ended r.rest) _ tt g (at_end r.rest r.at) refl))

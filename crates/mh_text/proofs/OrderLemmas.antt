@@ -61,7 +61,7 @@ above_true n m h = grind (arith, nat_tests)
 true_above : (n m : ℕ) → nat_lt n m ≡ true → n < m
 true_above n m h = grind (arith, nat_tests)
 
-rising_placed : (f : Field) (fs : List Field) → is_rising fs ≡ true → has_attribute fs f.attribute ≡ false → is_rising (placed f fs) ≡ true
+pub rising_placed : (f : Field) (fs : List Field) → is_rising fs ≡ true → has_attribute fs f.attribute ≡ false → is_rising (placed f fs) ≡ true
 rising_placed f fs rising free =
     ap is_rising (placed_put f fs) ∙ rising_put 0 f fs rising (above_true 0 _ (number_above f.attribute)) free
 
@@ -187,3 +187,7 @@ pub all_had : (p : Field → Bool) (fs : List Field) (x : Field) → list_all p 
 all_had p [] x all h = absurd h
 all_had p (f ∷ fs) x all (inl is) = subst (λ (z : Field). p z ≡ true) is (and_parts (p f) (list_all p fs) all).0
 all_had p (f ∷ fs) x all (inr h) = all_had p fs x (and_parts (p f) (list_all p fs) all).1 h
+
+pub all_from : (p : Field → Bool) (fs : List Field) → ((x : Field) → Has fs x → p x ≡ true) → list_all p fs ≡ true
+all_from p [] h = refl
+all_from p (f ∷ fs) h = and_from _ _ (h f (inl refl)) (all_from p fs (λ x has. h x (inr has)))

@@ -37,7 +37,7 @@ use Rattle.mh_group.specs.declared.written.Field.{Field}
 use Rattle.mh_group.specs.declared.written.Ingredient.{Ingredient}
 use Rattle.mh_group.specs.declared.written.Written.{Written}
 use Rattle.mh_group.specs.Table.{attribute_number, shape_of, takes, needs_of, optional_of, is_group_class}
-use Rattle.mh_group.specs.Fit.{is_group, has_required, is_field_length}
+use Rattle.mh_group.specs.Fit.{has_required, is_field_length}
 use Rattle.mh_text.specs.declared.sign.Sign.{Sign}
 use Rattle.mh_text.specs.declared.sign.Sign.TheVariants as sign
 use Rattle.mh_text.specs.declared.text_error.Why.{Why}
@@ -583,4 +583,4 @@ unfoldable pub read : List ℕ → Result Written Refusal
 read bytes = if nat_lt 1048576 (length bytes) then refused Limit 0 else (do
   x ← group (left false (whole bytes))
   end ← ended x.1
-  if is_group x.0 then Ok x.0 else refused Syntax (length bytes))
+  Ok x.0)

@@ -16,16 +16,10 @@ mod place;
 mod printable;
 mod printing;
 mod printing_member;
-#[cfg(test)]
-mod printing_tests;
 mod printing_value;
 mod setting;
 mod several;
 mod sign;
-#[cfg(test)]
-mod table_tests;
-#[cfg(test)]
-mod tests;
 pub mod text_error;
 pub mod token;
 pub mod token_kind;

@@ -59,10 +59,7 @@ pub fn read_group(alloc: Global, bytes: &[u8]) -> Result<Group, TextError>
     place.ended()?;
     match Group::new(written) {
         Ok(group) => Ok(group),
-        Err(_) => Err(TextError::At {
-            why: Why::Syntax,
-            offset: bytes.len(),
-        }),
+        Err(_) => unreachable!(),
     }
 }
 

@@ -1,22 +1,24 @@
-use Rattle.std.proofs.Common.{rules, ◌≡◌, Ok, arith, length}
+use Rattle.std.proofs.Common.{rules, ◌≡◌, true, false, Ok, arith}
 use Rattle.std.proofs.lemmas.Grind.{common_steps}
+use Rattle.mh_group.specs.Fit.{is_group}
 use Rattle.mh_text.specs.declared.text_error.TextError.TheVariants.{At}
-use Rattle.mh_text.specs.declared.text_error.Why.TheVariants.{Limit, Syntax}
+use Rattle.mh_text.specs.declared.text_error.Why.TheVariants.{Limit}
 use Rattle.mh_text.specs.Gives.{Gives, Fails}
 use Rattle.mh_text.specs.Reading.{read}
+use Rattle.mh_text.proofs.FitLaw.{group_allowed}
 use Rattle.mh_text.proofs.FoundLaw.{read_found}
 use Rattle.mh_text.proofs.OnlyLaw.{none_spelled, no_other_spelled, gives_none}
 use Rattle.mh_text.proofs.object.read_group.Goals as goal
 
-pub returns-in-Ok-clause-found : goal.returns-in-Ok-clause-found
+pub returns-clause-found : goal.returns-clause-found
 unfolding read
-returns-in-Ok-clause-found c =
+returns-clause-found c =
     let is : read c.args.bytes.now ≡ Ok c.in-Ok.group = first_of (search rules, grind (arith, common_steps)) in
     read_found c.args.bytes.now c.in-Ok.group is
 
-pub returns-in-Ok-clause-one : goal.returns-in-Ok-clause-one
+pub returns-clause-one : goal.returns-clause-one
 unfolding read
-returns-in-Ok-clause-one c =
+returns-clause-one c =
     let is : read c.args.bytes.now ≡ Ok c.in-Ok.group = first_of (search rules, grind (arith, common_steps)) in
     no_other_spelled c.args.bytes.now c.in-Ok.group is
 
@@ -38,8 +40,9 @@ returns-in_err-ended-clause-only c =
     let gives : Gives (λ x. x) c.from_residual-in_err-ended.result (read c.args.bytes.now) = first_of (search rules, grind (arith, common_steps)) in
     gives_none c.args.bytes.now c.from_residual-in_err-ended.result gives
 
-pub returns-clause-only : goal.returns-clause-only
-unfolding read
-returns-clause-only c =
-    let fails : Fails (At Syntax (length c.args.bytes.now)) (read c.args.bytes.now) = first_of (search rules, grind (arith, common_steps)) in
-    none_spelled c.args.bytes.now (At Syntax (length c.args.bytes.now)) fails
+-- a group that was read is one that the tables allow
+pub unreachable-requires : goal.unreachable-requires
+unreachable-requires c =
+    let allowed : is_group c.in_ok-written.written ≡ true = group_allowed c.new.result c.in_ok-written.written c.in_ok-written.place c.in_ok-written.ensures in
+    let refused : is_group c.in_ok-written.written ≡ false = c.in-Err.ensures.unfit in
+    cc
