@@ -77,12 +77,10 @@ fits shape.Size (setting.Pair w h) = is_natural w && is_natural h
 fits shape.Screen (setting.Pair w h) = int_eq w (pos 720) && int_eq h (pos 576)
 fits shape.Ref (setting.Ref _) = true
 fits shape.Event (setting.Event _) = true
-fits shape.Data (setting.Bool _) = true
-fits shape.Data (setting.Int _) = true
+fits shape.Data (setting.Data _) = true
 fits shape.Octets (setting.Octets _) = true
-fits shape.Colour (setting.Octets o) = length o == 4
-fits shape.Content (setting.Octets _) = true
-fits shape.Content (setting.ContentRef _) = true
+fits shape.Colour (setting.Colour _) = true
+fits shape.Content (setting.Content _) = true
 fits shape.ContentRef (setting.ContentRef _) = true
 fits shape.Justification (setting.Justification _) = true
 fits shape.MovementTable (setting.MovementTable _) = true

@@ -1,8 +1,9 @@
 -- Which groups a notation can hold: those with numbers of 32 bits, octets below 256, names of such bytes as a name
 -- may have, and with lists that are not too long. The rest of a group's shape is left to the tables.
-use Rattle.std.specs.Prelude.{ℕ, ◌^◌, ℤ, pos, negsuc, Bool, true, ◌&&◌, nat_lt, nat_le, int_le, List, length}
+use Rattle.std.specs.Prelude.{ℕ, ◌^◌, ℤ, pos, negsuc, Bool, true, ◌&&◌, nat_lt, nat_le, int_le, List, [], ◌∷◌, length}
 use Rattle.std.specs.List.{list_all}
 use Rattle.mh_base.specs.Path.{is_name_byte}
+use Rattle.mh_base.specs.declared.colour.Colour.{Colour}
 use Rattle.mh_group.specs.declared.reference.Ref.{Ref}
 use Rattle.mh_group.specs.declared.reference.Ref.TheVariants as ref
 use Rattle.mh_group.specs.declared.reference.Generic.{Generic}
@@ -49,6 +50,10 @@ is_name name = list_all is_name_byte name
 -- octets are below 256
 abbrev pub is_octets : List ℕ → Bool
 is_octets octets = list_all (λ o. nat_lt o 256) octets
+
+-- the four octets of a colour
+abbrev pub colour_octets : Colour → List ℕ
+colour_octets c = c.red ∷ c.green ∷ c.blue ∷ c.transparency ∷ []
 
 -- truth values have no limit
 abbrev pub is_plain : {A : Type 0} → A → Bool
@@ -102,9 +107,12 @@ is_setting (setting.Bool b) = true
 is_setting (setting.Int x) = is_integer x
 is_setting (setting.Pair x y) = is_integer x && is_integer y
 is_setting (setting.Octets octets) = is_octets octets
+is_setting (setting.Colour c) = is_octets (colour_octets c)
 is_setting (setting.Ref r) = is_reference r
+is_setting (setting.Content c) = is_content c
 is_setting (setting.ContentRef name) = is_name name
 is_setting (setting.Event e) = true
+is_setting (setting.Data d) = is_data d
 is_setting (setting.Justification j) = true
 is_setting (setting.Effect actions) = is_list is_action actions
 is_setting (setting.MovementTable rows) = is_list (is_list is_integer) rows

@@ -1,6 +1,8 @@
 //! A group as it is written: plain values, which need not fit the tables.
-use crate::{Action, Attribute, Class, Effect, Justification, Number, Ref, WrittenName};
-use mh_base::{EventType, Octets, Seq};
+use crate::{
+    Action, Attribute, Class, Content, Effect, EventData, Justification, Number, Ref, WrittenName,
+};
+use mh_base::{Colour, EventType, Octets, Seq};
 
 /// A member of a token group or a list group (ISO/IEC 13522-5, TokenGroupItem): the object, and what
 /// each of its action slots does.
@@ -24,17 +26,22 @@ pub struct NextScene {
     pub weight: i32,
 }
 
-/// The value with which an attribute is written.
+/// The value with which an attribute is written, one variant a kind of value.
 #[derive(Drop)]
 pub enum Setting {
     Bool(bool),
     Int(i32),
     Pair(i32, i32),
     Octets(Octets),
+    Colour(Colour),
     Ref(Ref),
+    /// Octets, or the name of a content file.
+    Content(Content),
     /// The name of a content file.
     ContentRef(WrittenName),
     Event(EventType),
+    /// The data of an event.
+    Data(EventData),
     Justification(Justification),
     Effect(Seq<Action>),
     /// The rows of a movement table.
