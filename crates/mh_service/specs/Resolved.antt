@@ -10,9 +10,6 @@ use Rattle.mh_base.specs.declared.obj_ref.ObjRef.{ObjRef}
 use Rattle.mh_base.specs.declared.value.Value.{Value}
 use Rattle.mh_base.specs.declared.value.Value.TheVariants as value
 use Rattle.mh_group.specs.declared.class.Class.{Class}
-use Rattle.mh_group.specs.declared.shape.Shape.{Shape}
-use Rattle.mh_group.specs.declared.shape.Shape.TheVariants as shape
-use Rattle.mh_group.specs.Table.{shape_of}
 use Rattle.mh_group.specs.declared.reference.Ref.{Ref}
 use Rattle.mh_group.specs.declared.reference.Ref.TheVariants as ref
 use Rattle.mh_group.specs.declared.reference.Generic.{Generic}
@@ -141,32 +138,26 @@ act_of from a = record { name = a.name; target = target_of from a.target; argume
 abbrev pub act_leads : List ℕ → Action → Bool
 act_leads from a = target_leads from a.target && list_all (argument_leads from) a.parameters
 
--- What an object holds under its attributes, by the shape that the tables give to its class and the attribute.
-
--- four octets that are a colour; no others stand where the tables want one
-abbrev pub colour_held : List ℕ → Held
-colour_held (r ∷ g ∷ b ∷ t ∷ []) = held.Colour (record { red = r; green = g; blue = b; transparency = t })
-colour_held os = held.Value (value.Octets os)
-
-abbrev pub octets_held : Shape → List ℕ → Held
-octets_held shape.Colour os = colour_held os
-octets_held _ os = held.Value (value.Octets os)
+-- What an object holds under its attributes.
 
 -- a justification is held as its number; what no rule looks at is kept
-abbrev pub held_of : List ℕ → Shape → Setting → Held
-held_of from s (setting.Bool b) = held.Value (value.Bool b)
-held_of from s (setting.Int n) = held.Value (value.Int n)
-held_of from s (setting.Pair a b) = held.Pair a b
-held_of from s (setting.Octets os) = octets_held s os
-held_of from s (setting.Ref r) = held.Value (object_value from r)
-held_of from s (setting.ContentRef name) = held.Value (content_value from name)
-held_of from s (setting.Event e) = held.Event e
-held_of from s (setting.Justification j) = held.Value (value.Int (pos (justification_number j)))
-held_of from s (setting.Effect acts) = held.Effect (map (act_of from) acts)
-held_of from s (setting.MovementTable rows) = held.Kept
-held_of from s (setting.Members members) = held.Kept
-held_of from s (setting.Positions positions) = held.Kept
-held_of from s (setting.NextScenes scenes) = held.Kept
+abbrev pub held_of : List ℕ → Setting → Held
+held_of from (setting.Bool b) = held.Value (value.Bool b)
+held_of from (setting.Int n) = held.Value (value.Int n)
+held_of from (setting.Pair a b) = held.Pair a b
+held_of from (setting.Octets os) = held.Value (value.Octets os)
+held_of from (setting.Colour c) = held.Colour c
+held_of from (setting.Ref r) = held.Value (object_value from r)
+held_of from (setting.Content c) = held.Value (content_of from c)
+held_of from (setting.ContentRef name) = held.Value (content_value from name)
+held_of from (setting.Event e) = held.Event e
+held_of from (setting.Data d) = held.Value (data_of d)
+held_of from (setting.Justification j) = held.Value (value.Int (pos (justification_number j)))
+held_of from (setting.Effect acts) = held.Effect (map (act_of from) acts)
+held_of from (setting.MovementTable rows) = held.Kept
+held_of from (setting.Members members) = held.Kept
+held_of from (setting.Positions positions) = held.Kept
+held_of from (setting.NextScenes scenes) = held.Kept
 
 -- the object and the slots of a member
 abbrev pub member_leads : List ℕ → Member → Bool
@@ -175,13 +166,14 @@ member_leads from m = leads from m.object && list_all (λ slot. list_all (act_le
 -- the names of the scenes that may come next are only kept
 abbrev pub setting_leads : List ℕ → Setting → Bool
 setting_leads from (setting.Ref r) = leads from r
+setting_leads from (setting.Content c) = content_leads from c
 setting_leads from (setting.ContentRef name) = name_leads from name
 setting_leads from (setting.Effect acts) = list_all (act_leads from) acts
 setting_leads from (setting.Members members) = list_all (member_leads from) members
 setting_leads from _ = true
 
-abbrev pub property_of : List ℕ → Class → Field → Property
-property_of from c f = record { attribute = f.attribute; held = held_of from (shape_of c f.attribute) f.setting }
+abbrev pub property_of : List ℕ → Field → Property
+property_of from f = record { attribute = f.attribute; held = held_of from f.setting }
 
 abbrev pub field_leads : List ℕ → Field → Bool
 field_leads from f = setting_leads from f.setting
@@ -189,7 +181,7 @@ field_leads from f = setting_leads from f.setting
 -- Objects. They begin neither available nor running.
 
 abbrev pub new_object : List ℕ → ℕ → Class → List Field → Object
-new_object from n c fs = record { key = record { group = from; number = n }; class = c; properties = map (property_of from c) fs; available = false; running = false }
+new_object from n c fs = record { key = record { group = from; number = n }; class = c; properties = map (property_of from) fs; available = false; running = false }
 
 abbrev pub object_of : List ℕ → Ingredient → Object
 object_of from i = new_object from i.number i.class i.fields

@@ -5,12 +5,12 @@
 ghost use Rattle.std.specs.Prelude.{◌≡◌, ◌&&◌, true, false, map, IfOk, IsErrOf, OnOk, List, ◌∷◌, []};
 ghost use Rattle.std.specs.List.{list_all};
 ghost use Rattle.mh_group.specs.Fit.{items_of};
-ghost use Rattle.mh_service.specs.Resolved.{ref_of, leads, target_of, target_leads, generic_of, generic_leads, is_nameless, name_leads, object_value as object_value_lem, content_value as content_value_lem, typed_of, typed_leads, content_of, content_leads, data_of as data_of_lem, argument_of, argument_leads, member_leads, act_of, act_leads, octets_held, held_of, setting_leads, property_of, field_leads, new_object, object_of, ingredient_leads, objects_of, group_leads};
+ghost use Rattle.mh_service.specs.Resolved.{ref_of, leads, target_of, target_leads, generic_of, generic_leads, is_nameless, name_leads, object_value as object_value_lem, content_value as content_value_lem, typed_of, typed_leads, content_of, content_leads, data_of as data_of_lem, argument_of, argument_leads, member_leads, act_of, act_leads, held_of, setting_leads, property_of, field_leads, new_object, object_of, ingredient_leads, objects_of, group_leads};
 
-use mh_base::{Colour, GroupName, NameError, ObjRef, Octets, Seq, Shared, Value};
+use mh_base::{GroupName, NameError, ObjRef, Octets, Seq, Shared, Value};
 use mh_group::{
     Action, Class, Content, EventData, Field, Generic, Ingredient, Member, Parameter, Ref, Setting,
-    Shape, Typed, Written, WrittenName, group,
+    Typed, Written, WrittenName, group,
 };
 use mh_model::{Act, Effect, Held, Object, Properties, Property};
 use std::alloc::{AllocError, Global};
@@ -61,7 +61,7 @@ fn object(
     ensures good { OnOk result (list_all (field_leads from.now) fields.now ≡ true) }
     ensures bad { IsErrOf result NameError.BadName → list_all (field_leads from.now) fields.now ≡ false }
 {
-    let properties = properties(alloc, from, class, fields)?;
+    let properties = properties(alloc, from, fields)?;
     let group = from.clone()?;
     Ok(Object {
         key: ObjRef { group, number },
@@ -72,47 +72,32 @@ fn object(
     })
 }
 
-fn properties(
-    alloc: Global,
-    from: &GroupName,
-    class: Class,
-    fields: &[Field],
-) -> Result<Properties, NameError>
-    ensures found { IfOk result (λ properties. properties ≡ map (property_of from.now class) fields.now) }
+fn properties(alloc: Global, from: &GroupName, fields: &[Field]) -> Result<Properties, NameError>
+    ensures found { IfOk result (λ properties. properties ≡ map (property_of from.now) fields.now) }
     ensures good { OnOk result (list_all (field_leads from.now) fields.now ≡ true) }
     ensures bad { IsErrOf result NameError.BadName → list_all (field_leads from.now) fields.now ≡ false }
 {
     let mut properties = Seq::new(alloc);
     for field in fields {
-        properties.push(property(alloc, from, class, field)?)?;
+        properties.push(property(alloc, from, field)?)?;
     }
     Ok(Properties::of_vec(properties.into_vec()))
 }
 
-fn property(
-    alloc: Global,
-    from: &GroupName,
-    class: Class,
-    field: &Field,
-) -> Result<Property, NameError>
-    ensures found { IfOk result (λ property. property ≡ property_of from.now class field.now) }
+fn property(alloc: Global, from: &GroupName, field: &Field) -> Result<Property, NameError>
+    ensures found { IfOk result (λ property. property ≡ property_of from.now field.now) }
     ensures good { OnOk result (field_leads from.now field.now ≡ true) }
     ensures bad { IsErrOf result NameError.BadName → field_leads from.now field.now ≡ false }
 {
     Ok(Property {
         attribute: field.attribute,
-        held: held(alloc, from, class.shape(field.attribute), &field.setting)?,
+        held: held(alloc, from, &field.setting)?,
     })
 }
 
-/// The value of this shape as an object holds it.
-fn held(
-    alloc: Global,
-    from: &GroupName,
-    shape: Shape,
-    setting: &Setting,
-) -> Result<Held, NameError>
-    ensures found { IfOk result (λ held. held ≡ held_of from.now shape setting.now) }
+/// The value as an object holds it.
+fn held(alloc: Global, from: &GroupName, setting: &Setting) -> Result<Held, NameError>
+    ensures found { IfOk result (λ held. held ≡ held_of from.now setting.now) }
     ensures good { OnOk result (setting_leads from.now setting.now ≡ true) }
     ensures bad { IsErrOf result NameError.BadName → setting_leads from.now setting.now ≡ false }
 {
@@ -120,10 +105,13 @@ fn held(
         Setting::Bool(truth) => Held::Value(Value::Bool(*truth)),
         Setting::Int(number) => Held::Value(Value::Int(*number)),
         Setting::Pair(first, second) => Held::Pair(*first, *second),
-        Setting::Octets(octets) => held_octets(shape, octets)?,
+        Setting::Octets(octets) => Held::Value(Value::Octets(octets.clone()?)),
+        Setting::Colour(colour) => Held::Colour(*colour),
         Setting::Ref(written) => Held::Value(object_value(alloc, from, written)?),
+        Setting::Content(content) => Held::Value(content_of_file(alloc, from, content)?),
         Setting::ContentRef(name) => Held::Value(content_value(alloc, from, name)?),
         Setting::Event(event) => Held::Event(*event),
+        Setting::Data(data) => Held::Value(data_of(data)),
         Setting::Justification(place) => Held::Value(Value::Int(place.number() as i32)),
         Setting::Effect(actions) => Held::Effect(effect(alloc, from, actions.as_slice())?),
         Setting::Members(members) => kept_members(alloc, from, members.as_slice())?,
@@ -163,21 +151,6 @@ fn look_at_slots(
         effect(alloc, from, slot.as_slice())?;
     }
     Ok(())
-}
-
-/// Octets are held as a colour where the tables want one, and else as they are.
-fn held_octets(shape: Shape, octets: &Octets) -> Result<Held, AllocError>
-    ensures { IfOk result (λ held. held ≡ octets_held shape octets.now) }
-{
-    match (shape, octets.as_slice()) {
-        (Shape::Colour, [red, green, blue, transparency]) => Ok(Held::Colour(Colour {
-            red: *red,
-            green: *green,
-            blue: *blue,
-            transparency: *transparency,
-        })),
-        _ => Ok(Held::Value(Value::Octets(octets.clone()?))),
-    }
 }
 
 fn effect(alloc: Global, from: &GroupName, actions: &[Action]) -> Result<Effect, NameError>

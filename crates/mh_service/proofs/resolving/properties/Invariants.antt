@@ -5,6 +5,6 @@ use Rattle.mh_service.proofs.resolving.properties.Given as goal
 
 abbrev pub invariant-loop-field : goal.invariant-loop-field
 invariant-loop-field l = record {
-  found : l.properties ++ map (property_of l.from l.class) (drop l.field-index l.fields) ≡ map (property_of l.from l.class) l.fields;
+  found : l.properties ++ map (property_of l.from) (drop l.field-index l.fields) ≡ map (property_of l.from) l.fields;
   good : list_all (field_leads l.from) (drop l.field-index l.fields) ≡ list_all (field_leads l.from) l.fields;
 }
