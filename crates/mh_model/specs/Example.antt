@@ -1,6 +1,7 @@
 -- The first example, played by the definitions alone: one application that transits to a scene with a
 -- red rectangle, which moves by one cell when the red key comes.
-use Rattle.std.specs.Prelude.{◌≡◌, ℕ, true, false, List, [], ◌∷◌, pos, replicate}
+use Rattle.std.specs.Prelude.{◌≡◌, ◌==◌, if◌then◌else◌, ℕ, Bool, true, false, List, [], ◌∷◌, pos, replicate}
+use Rattle.std.specs.List.{list_all, list_any, range_with_len}
 use Rattle.mh_base.specs.declared.value.Value.TheVariants as value
 use Rattle.mh_base.specs.declared.event.EventType.TheVariants as event
 use Rattle.mh_group.specs.declared.class.Class.TheVariants as class
@@ -18,6 +19,7 @@ use Rattle.mh_model.specs.declared.key.Key.TheVariants as key
 use Rattle.mh_model.specs.Service.{Service, group_ref}
 use Rattle.mh_model.specs.State.{State, begun}
 use Rattle.mh_model.specs.Step.{run, is_idle}
+use Rattle.mh_model.specs.declared.visible.Visible.{Visible}
 use Rattle.mh_model.specs.Picture.{visibles, back_at}
 use Rattle.std.specs.Prelude.{reverse}
 
@@ -98,18 +100,23 @@ moved_on = run (move.Post (input.Key key.Red) ∷ steps 2) settled
 abbrev pub back_of : State → ℕ → ℕ
 back_of x c = back_at (reverse (visibles x.objects x.stack)) c
 
--- it settles after 11 steps with cells (1, 1) to (2, 2) red, and 2 steps after the red key with those one to the right
+-- what is seen, the topmost first
+abbrev pub seen_in : State → List Visible
+seen_in x = reverse (visibles x.objects x.stack)
+
+-- of the 60 by 36 cells, counted row by row, exactly these are red, and all others are black
+abbrev pub shows_red : List ℕ → List Visible → Bool
+shows_red cells vs = list_all (λ c. back_at vs c == (if list_any (λ x. x == c) cells then 16711680 else 0)) (range_with_len 0 2160)
+
+-- it settles after 11 steps with the cells (1, 1) to (2, 2) red, and 2 steps after the red key with those one
+-- to the right
 pub record PlaysFirst : Type 0 where
   pub eleven : settled.taken ≡ 11
   pub idle : is_idle settled ≡ true
-  pub left : back_of settled 61 ≡ 16711680
-  pub right : back_of settled 62 ≡ 16711680
-  pub below : back_of settled 122 ≡ 16711680
-  pub beside : back_of settled 63 ≡ 0
+  pub frame : shows_red (61 ∷ 62 ∷ 121 ∷ 122 ∷ []) (seen_in settled) ≡ true
   pub two : moved_on.taken ≡ 13
   pub idle_again : is_idle moved_on ≡ true
-  pub gone : back_of moved_on 61 ≡ 0
-  pub come : back_of moved_on 63 ≡ 16711680
+  pub next_frame : shows_red (62 ∷ 63 ∷ 122 ∷ 123 ∷ []) (seen_in moved_on) ≡ true
   pub faultless : moved_on.faults ≡ []
 
 -- An application that does nothing: 2 steps.

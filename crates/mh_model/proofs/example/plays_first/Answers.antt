@@ -7,13 +7,9 @@ unfolding settled moved_on
 returns c = record {
   eleven = refl;
   idle = refl;
-  left = refl;
-  right = refl;
-  below = refl;
-  beside = refl;
+  frame = refl;
   two = refl;
   idle_again = refl;
-  gone = refl;
-  come = refl;
+  next_frame = refl;
   faultless = refl;
 }
