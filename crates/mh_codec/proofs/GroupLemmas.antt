@@ -1,8 +1,10 @@
--- Ingredients and groups: what was read is spelled so, and what is spelled so is read.
-use Rattle.std.proofs.Common.{◌≡◌, ℕ, suc, ◌+◌, ◌<◌, ◌^◌, Bool, true, false, ◌&&◌, not, ◌==◌, nat_lt, if◌then◌else◌, List, [], ◌∷◌, ◌++◌, take, drop, Option, Some, None, is_none, Ok, pos, refl, ap, sym, ◌∙◌, subst, arith, append-nil, take-append-drop}
+-- Ingredients and groups: what was read is spelled so and is what the tables allow, and what is spelled
+-- so is read.
+use Rattle.std.proofs.Common.{◌≡◌, ℕ, suc, ◌+◌, ◌<◌, ◌^◌, Bool, true, false, ◌&&◌, not, ◌==◌, nat_lt, nat_le, if◌then◌else◌, List, [], ◌∷◌, ◌++◌, length, take, drop, Option, Some, None, is_none, Ok, pos, refl, ap, sym, ◌∙◌, subst, arith, append-nil, take-append-drop}
 use Rattle.std.specs.Option.{option_or}
 use Rattle.std.specs.List.{list_all}
 use Rattle.std.proofs.lemmas.Bool.Decides.{nat_tests}
+use Rattle.std.proofs.lemmas.List.Folds.{list_all-append}
 use Rattle.mh_base.specs.Path.{is_name_byte}
 use Rattle.mh_der.specs.Tags.{octet_string_tag, sequence_tag}
 use Rattle.mh_der.specs.Rest.{Rest, Element}
@@ -28,7 +30,7 @@ use Rattle.mh_codec.proofs.ValueLemmas.{own_read, own_written, some_ok, sequence
 use Rattle.mh_codec.proofs.ReferenceLemmas.{IsOne, Reads, and_true, both_true, spelled_as, integer_one, only_read, only_written}
 use Rattle.mh_codec.proofs.MemberLemmas.{list_reads}
 use Rattle.mh_codec.proofs.RowLemmas.{list_fit}
-use Rattle.mh_codec.proofs.FieldLemmas.{Ends, fields_found, FitField, FitFields, fit_first, no_items_field, fields_given, to_items, below_items, few_fields}
+use Rattle.mh_codec.proofs.FieldLemmas.{Ends, fields_found, FitField, FitFields, none_fit, more_fit, fit_first, no_items_field, fields_given, to_items, below_items, few_fields}
 
 -- classes by their numbers
 
@@ -74,11 +76,12 @@ class_written : (wants : Bool) (e : Element) (c : Class) → e.tag ≡ own (clas
 unfolding class_at
 class_written wants e c tag same = rw (own_written e (class_number c) tag, (class_named c).0, same) refl
 
-complete_is : (c : Class) (fs : List Field) (e : Element) (gs : List Field) → complete c fs e ≡ Ok gs → fs ≡ gs
+complete_is : (c : Class) (fs : List Field) (e : Element) (gs : List Field) → complete c fs e ≡ Ok gs → (fs ≡ gs) × (has_required c gs ≡ true)
 unfolding complete
 complete_is c fs e gs is =
     let t = if_ok (has_required c fs) (Ok fs) MissingField e.offset gs is in
-    ok_same t.1
+    let same = ok_same t.1 in
+    (same, subst (λ (xs : List Field). has_required c xs ≡ true) same t.0)
 
 complete_given : (c : Class) (fs : List Field) (e : Element) → has_required c fs ≡ true → complete c fs e ≡ Ok fs
 unfolding complete
@@ -93,31 +96,7 @@ no_items : (c : Class) (left : Rest) (new : List Field) (i : Option Element) (re
 no_items c left new None rest h ends = ends
 no_items c left new (Some e) rest h (stands, met, below) = absurd (not_group c h met.takes_them)
 
--- ingredients
-
-abbrev Spelled : Element → Ingredient → Type 0
-Spelled e i = (written e ≡ ingredient i) × (is_ingredient i ≡ true)
-
-ingredient_read : (e : Element) (i : Ingredient) → Good e → ingredient_at e ≡ Ok i → Spelled e i
-unfolding ingredient_at ingredient
-ingredient_read e i good is =
-    let c = went (class_at false e) _ i is in
-    let named = class_read false e c.value c.first in
-    let a = went (taken e.contents) _ i c.behind in
-    let f = taken_found e.contents a.value.0 a.value.1 good.bytes a.first in
-    let n = went (ingredient_number_at a.value.0) _ i a.behind in
-    let number = number_read a.value.0 n.value (good_found e.contents a.value.0 a.value.1 f) (ingredient_number_read a.value.0 n.value n.first).0 in
-    let x = went (fields c.value 64 0 [] a.value.1) _ i n.behind in
-    let r = fields_found c.value 64 0 [] a.value.1 x.value f.rest x.first in
-    let d = went (complete c.value x.value.0 e) _ i x.behind in
-    let kept : r.new ≡ d.value = sym r.all ∙ complete_is c.value x.value.0 e d.value d.first in
-    let rest : a.value.1.bytes ≡ several field d.value = no_items c.value a.value.1 r.new x.value.1 x.value.2 named.1 r.ends ∙ ap (several field) kept in
-    let inner : e.contents.bytes ≡ natural n.value ++ several field d.value =
-    f.written ∙ ap (λ (bs : List ℕ). bs ++ a.value.1.bytes) number.0 ∙ ap (λ (bs : List ℕ). natural n.value ++ bs) rest in
-    subst (Spelled e) (ok_same d.behind) (
-      spelled_as e (own (class_number c.value)) (natural n.value ++ several field d.value) named.0 inner,
-      both_true (is_number n.value) (has_settings d.value) number.1 (subst (λ (fs : List Field). has_settings fs ≡ true) kept r.good),
-    )
+-- fields with nothing wrong
 
 -- what an object's fields are, where nothing is wrong with them
 record AreRight (c : Class) (fs : List Field) : Type 0 where
@@ -163,6 +142,47 @@ same_false b h = rw h refl
 fit_fields : (c : Class) (fs : List Field) → AreRight c fs → has_settings fs ≡ true → FitFields c 0 fs
 fit_fields c fs right good = record { take = right.take; fit = right.fit; good = good; rising = right.rising }
 
+-- and nothing is wrong with fields that are so
+fields_fit : (c : Class) (fs : List Field) → FitFields c 0 fs → has_required c fs ≡ true → fields_misfit c fs ≡ None
+fields_fit c fs fit required = rw (fit.rising, required, fit.take, fit.fit) refl
+
+group_or_not : (b : Bool) → is_same false b ≡ true → b ≡ false
+group_or_not true h = absurd cc
+group_or_not false h = refl
+
+ingredient_fits : (c : Class) (n : ℕ) (fs : List Field) → is_same false (is_group_class c) ≡ true → (n == 0) ≡ false → FitFields c 0 fs → has_required c fs ≡ true
+    → is_none (ingredient_misfit (record { class = c; number = n; fields = fs })) ≡ true
+ingredient_fits c n fs kind numbered fit required = rw (group_or_not (is_group_class c) kind, numbered, fields_fit c fs fit required) refl
+
+-- ingredients
+
+abbrev Spelled : Element → Ingredient → Type 0
+Spelled e i = (written e ≡ ingredient i) × (fits_ingredient i ≡ true)
+
+ingredient_read : (e : Element) (i : Ingredient) → Good e → ingredient_at e ≡ Ok i → Spelled e i
+unfolding ingredient_at ingredient
+ingredient_read e i good is =
+    let c = went (class_at false e) _ i is in
+    let named = class_read false e c.value c.first in
+    let a = went (taken e.contents) _ i c.behind in
+    let f = taken_found e.contents a.value.0 a.value.1 good.bytes a.first in
+    let n = went (ingredient_number_at a.value.0) _ i a.behind in
+    let some = ingredient_number_read a.value.0 n.value n.first in
+    let number = number_read a.value.0 n.value (good_found e.contents a.value.0 a.value.1 f) some.0 in
+    let x = went (fields c.value 64 0 [] a.value.1) _ i n.behind in
+    let r = fields_found c.value 64 0 [] a.value.1 x.value f.rest x.first in
+    let d = went (complete c.value x.value.0 e) _ i x.behind in
+    let all = complete_is c.value x.value.0 e d.value d.first in
+    let kept : r.new ≡ d.value = sym r.all ∙ all.0 in
+    let fit = subst (FitFields c.value 0) kept r.fit in
+    let rest : a.value.1.bytes ≡ several field d.value = no_items c.value a.value.1 r.new x.value.1 x.value.2 named.1 r.ends ∙ ap (several field) kept in
+    let inner : e.contents.bytes ≡ natural n.value ++ several field d.value =
+    f.written ∙ ap (λ (bs : List ℕ). bs ++ a.value.1.bytes) number.0 ∙ ap (λ (bs : List ℕ). natural n.value ++ bs) rest in
+    subst (Spelled e) (ok_same d.behind) (
+      spelled_as e (own (class_number c.value)) (natural n.value ++ several field d.value) named.0 inner,
+      both_true _ _ (ingredient_fits c.value n.value d.value named.1 some.1 fit all.1) (both_true (is_number n.value) (has_settings d.value) number.1 fit.good),
+    )
+
 ingredient_written : (e : Element) (i : Ingredient) → e.tag.number < 2 ^ 16 → fits_ingredient i ≡ true → written e ≡ ingredient i → ingredient_at e ≡ Ok i
 unfolding ingredient_at ingredient
 ingredient_written e i small fit is =
@@ -184,7 +204,7 @@ ingredient_one : (i : Ingredient) → IsOne (ingredient i)
 unfolding ingredient
 ingredient_one i = record { tag = own (class_number i.class); contents = natural i.number ++ several field i.fields; small = (class_named i.class).1; is = refl }
 
-ingredient_reads : Reads ingredient_at ingredient is_ingredient fits_ingredient
+ingredient_reads : Reads ingredient_at ingredient fits_ingredient fits_ingredient
 ingredient_reads = record {
   found = ingredient_read;
   given = ingredient_written;
@@ -193,10 +213,10 @@ ingredient_reads = record {
 
 -- the items
 
-members : Reads (list_at ingredient_at 4096) (list ingredient) (is_list is_ingredient) (is_list fits_ingredient)
+members : Reads (list_at ingredient_at 4096) (list ingredient) (is_list fits_ingredient) (is_list fits_ingredient)
 members = list_reads ingredient_reads
 
-items_read : (e : Element) (is : List Ingredient) → Good e → e.tag ≡ own 3 → items_at e ≡ Ok is → (written e ≡ items is) × (is_list is_ingredient is ≡ true)
+items_read : (e : Element) (is : List Ingredient) → Good e → e.tag ≡ own 3 → items_at e ≡ Ok is → (written e ≡ items is) × (is_list fits_ingredient is ≡ true)
 unfolding items_at items
 items_read e is good tag read =
     let a = went (only e.contents) _ is read in
@@ -249,17 +269,6 @@ record Parted (c : Class) (last : ℕ) (before after : List Field) : Type 0 wher
 abbrev PartedAt : Class → ℕ → ℕ → List Field → Type 0
 PartedAt c last k fs = Parted c last (take k fs) (drop k fs)
 
-none_fit : (c : Class) (last : ℕ) → FitFields c last []
-none_fit c last = record { take = refl; fit = refl; good = refl; rising = refl }
-
-more_fit : (c : Class) (last : ℕ) (f : Field) (fs : List Field) → FitField c last f → FitFields c (attribute_number f.attribute) fs → FitFields c last (f ∷ fs)
-more_fit c last f fs one many = record {
-  take = both_true (takes c f.attribute) (takes_each c fs) one.takes_it many.take;
-  fit = both_true (fits (shape_of c f.attribute) f.setting) (fits_each c fs) one.fit many.fit;
-  good = both_true (is_setting f.setting) (has_settings fs) one.good many.good;
-  rising = both_true (nat_lt last (attribute_number f.attribute)) (rises_above (attribute_number f.attribute) fs) one.behind many.rising;
-}
-
 parted_first : (c : Class) (last : ℕ) (f : Field) (fs : List Field) (b : Bool) → nat_lt (attribute_number f.attribute) 3 ≡ b → FitField c last f → FitFields c (attribute_number f.attribute) fs
     → PartedAt c (attribute_number f.attribute) (before_items fs) fs → PartedAt c last (if b then 1 + before_items fs else 0) (f ∷ fs)
 parted_first c last f fs true h one many more =
@@ -282,51 +291,70 @@ parted c last (f ∷ fs) fit =
     let parts = fit_first c last f fs fit in
     parted_first c last f fs (nat_lt (attribute_number f.attribute) 3) refl parts.0 parts.1 (parted c (attribute_number f.attribute) fs parts.1)
 
-settings_both : (fs gs : List Field) → has_settings fs ≡ true → has_settings gs ≡ true → has_settings (fs ++ gs) ≡ true
-settings_both [] gs h i = i
-settings_both (f ∷ fs) gs h i =
-    let parts = and_true (is_setting f.setting) (has_settings fs) h in
-    both_true (is_setting f.setting) (has_settings (fs ++ gs)) parts.0 (settings_both fs gs parts.1 i)
+rises_from : (last n : ℕ) → nat_lt last 3 ≡ true → nat_lt 3 n ≡ true → nat_lt last n ≡ true
+rises_from last n h i = grind (arith, nat_tests)
+
+-- fields behind others that are below the items
+rises_both : (last : ℕ) (before after : List Field) → nat_lt last 3 ≡ true → rises_above last before ≡ true → below_items before ≡ true → rises_above 3 after ≡ true → rises_above last (before ++ after) ≡ true
+rises_both last [] [] low rises below rest = refl
+rises_both last [] (f ∷ fs) low rises below rest =
+    let parts = and_true (nat_lt 3 (attribute_number f.attribute)) (rises_above (attribute_number f.attribute) fs) rest in
+    both_true (nat_lt last (attribute_number f.attribute)) _ (rises_from last (attribute_number f.attribute) low parts.0) parts.1
+rises_both last (b ∷ bs) after low rises below rest =
+    let parts = and_true (nat_lt last (attribute_number b.attribute)) (rises_above (attribute_number b.attribute) bs) rises in
+    let lower = and_true (nat_lt (attribute_number b.attribute) 3) (below_items bs) below in
+    both_true (nat_lt last (attribute_number b.attribute)) _ parts.0 (rises_both (attribute_number b.attribute) bs after lower.0 parts.1 lower.1 rest)
+
+all_both : (p : Field → Bool) (fs gs : List Field) → list_all p fs ≡ true → list_all p gs ≡ true → list_all p (fs ++ gs) ≡ true
+all_both p fs gs h i = rw (list_all-append p fs gs, h, i) refl
+
+both_fit : (c : Class) (before after : List Field) → FitFields c 0 before → below_items before ≡ true → FitFields c 3 after → FitFields c 0 (before ++ after)
+both_fit c before after front below behind = record {
+  take = all_both (λ f. takes c f.attribute) before after front.take behind.take;
+  fit = all_both (λ f. fits (shape_of c f.attribute) f.setting) before after front.fit behind.fit;
+  good = all_both (λ f. is_setting f.setting) before after front.good behind.good;
+  rising = rises_both 0 before after refl front.rising below behind.rising;
+}
 
 -- the fields of a group and its items
 
-abbrev BodyIs : Rest → List Field × Option (List Ingredient) → Type 0
-BodyIs left z = (left.bytes ≡ body_octets z.1 z.0) × (has_settings z.0 ≡ true) × (is_list is_ingredient (written_items z.1) ≡ true)
+abbrev BodyIs : Class → Rest → List Field × Option (List Ingredient) → Type 0
+BodyIs c left z = (left.bytes ≡ body_octets z.1 z.0) × FitFields c 0 z.0 × (is_list fits_ingredient (written_items z.1) ≡ true)
 
 never_again : (c : Class) (left : Rest) (new : List Field) (i : Option Element) (rest : Rest) → Ends c 3 left new i rest → left.bytes ≡ several field new
 never_again c left new None rest ends = ends
 never_again c left new (Some e) rest (stands, met, below) = absurd (let h = met.behind in cc)
 
-with_items_read : (c : Class) (left : Rest) (before : List Field) (i : Option Element) (behind : Rest) (new : List Field) (z : List Field × Option (List Ingredient)) → before ≡ new → has_settings new ≡ true
-    → Ends c 0 left new i behind → with_items c before i behind ≡ Ok z → BodyIs left z
+with_items_read : (c : Class) (left : Rest) (before : List Field) (i : Option Element) (behind : Rest) (new : List Field) (z : List Field × Option (List Ingredient)) → before ≡ new → FitFields c 0 new
+    → Ends c 0 left new i behind → with_items c before i behind ≡ Ok z → BodyIs c left z
 unfolding body_octets
-with_items_read c left before None behind new z kept good ends e =
-    subst (BodyIs left) (ok_same e) (ends ∙ ap (several field) (sym kept), subst (λ (fs : List Field). has_settings fs ≡ true) (sym kept) good, refl)
-with_items_read c left before (Some e) behind new z kept good (stands, met, below) read =
+with_items_read c left before None behind new z kept fit ends e =
+    subst (BodyIs c left) (ok_same e) (ends ∙ ap (several field) (sym kept), subst (FitFields c 0) (sym kept) fit, refl)
+with_items_read c left before (Some e) behind new z kept fit (stands, met, below) read =
     let is = went (items_at e) _ z read in
     let y = went (fields c 64 3 before behind) _ z is.behind in
     let them = items_read e is.value met.good met.tag is.first in
     let q = fields_found c 64 3 before behind y.value met.bytes y.first in
     let after = never_again c behind q.new y.value.1 y.value.2 q.ends in
     let all : y.value.0 ≡ new ++ q.new = q.all ∙ ap (λ (fs : List Field). fs ++ q.new) kept in
-    let cut = cut_is new q.new below q.rising in
+    let cut = cut_is new q.new below q.fit.rising in
     let octets : left.bytes ≡ several field new ++ (items is.value ++ several field q.new) =
     stands ∙ ap (λ (bs : List ℕ). several field new ++ (bs ++ behind.bytes)) them.0 ∙ ap (λ (bs : List ℕ). several field new ++ (items is.value ++ bs)) after in
     let whole : left.bytes ≡ body_octets (Some is.value) (new ++ q.new) =
     octets ∙ ap (λ (fs : List Field). several field fs ++ (items is.value ++ several field q.new)) (sym cut.0)
     ∙ ap (λ (fs : List Field). several field (take (before_items (new ++ q.new)) (new ++ q.new)) ++ (items is.value ++ several field fs)) (sym cut.1) in
-    subst (BodyIs left) (ok_same y.behind) (
+    subst (BodyIs c left) (ok_same y.behind) (
       whole ∙ ap (λ (fs : List Field). body_octets (Some is.value) fs) (sym all),
-      subst (λ (fs : List Field). has_settings fs ≡ true) (sym all) (settings_both new q.new good q.good),
+      subst (FitFields c 0) (sym all) (both_fit c new q.new fit below q.fit),
       them.1,
     )
 
-body_read : (c : Class) (left : Rest) (z : List Field × Option (List Ingredient)) → AreBytes left.bytes → body c left ≡ Ok z → BodyIs left z
+body_read : (c : Class) (left : Rest) (z : List Field × Option (List Ingredient)) → AreBytes left.bytes → body c left ≡ Ok z → BodyIs c left z
 unfolding body
 body_read c left z bytes e =
     let x = went (fields c 64 0 [] left) _ z e in
     let r = fields_found c 64 0 [] left x.value bytes x.first in
-    with_items_read c left x.value.0 x.value.1 x.value.2 r.new z r.all r.good r.ends x.behind
+    with_items_read c left x.value.0 x.value.1 x.value.2 r.new z r.all r.fit r.ends x.behind
 
 body_written : (c : Class) (left : Rest) (fs : List Field) (its : Option (List Ingredient)) → is_group_class c ≡ true → FitFields c 0 fs → is_list fits_ingredient (written_items its) ≡ true
     → left.bytes ≡ body_octets its fs → body c left ≡ Ok (fs, its)
@@ -382,8 +410,25 @@ identifier_written left name good e =
     let b = taken_given a.rest one.tag one.contents [] one.small (a.behind ∙ one.is ∙ sym (append-nil _)) in
     rw (a.takes, name_written a.found name a.small good a.is, b.takes, number_written b.found 0 b.small refl (b.is ∙ sym one.is), ended_given b.rest b.behind) refl
 
+-- what the ingredients are, where each of them fits
+record AllFit (is : List Ingredient) : Type 0 where
+  pub none_wrong : ingredients_misfit is ≡ None
+  pub good : list_all is_ingredient is ≡ true
+
+all_fit : (is : List Ingredient) → list_all fits_ingredient is ≡ true → AllFit is
+all_fit [] h = record { none_wrong = refl; good = refl }
+all_fit (i ∷ is) h =
+    let parts = and_true (fits_ingredient i) (list_all fits_ingredient is) h in
+    let one = and_true (is_none (ingredient_misfit i)) (is_ingredient i) parts.0 in
+    let more = all_fit is parts.1 in
+    record { none_wrong = rw (none_is (ingredient_misfit i) one.0, more.none_wrong) refl; good = both_true (is_ingredient i) (list_all is_ingredient is) one.1 more.good }
+
+group_fits : (g : Written) → is_group_class g.class ≡ true → fields_misfit g.class g.fields ≡ None → ingredients_misfit (items_of g) ≡ None → is_group g ≡ true
+unfolding misfit_of
+group_fits g class fields items = rw (class, fields, items) refl
+
 abbrev GroupIs : Element → Written → Type 0
-GroupIs e g = (written e ≡ group g) × (is_writable g ≡ true)
+GroupIs e g = (written e ≡ group g) × (is_writable g ≡ true) × (is_group g ≡ true)
 
 pub group_read : (e : Element) (g : Written) → Good e → group_at e ≡ Ok g → GroupIs e g
 unfolding group_at group named is_writable
@@ -399,7 +444,11 @@ group_read e g good is =
     let x = went (body c.value a.value.1) _ g name.behind in
     let b = body_read c.value a.value.1 x.value f.rest x.first in
     let d = went (complete c.value x.value.0 e) _ g x.behind in
-    let kept : x.value.0 ≡ d.value = complete_is c.value x.value.0 e d.value d.first in
+    let all = complete_is c.value x.value.0 e d.value d.first in
+    let kept : x.value.0 ≡ d.value = all.0 in
+    let fit = subst (FitFields c.value 0) kept b.1 in
+    let listed = and_true (nat_le (length (written_items x.value.1)) 4096) (list_all fits_ingredient (written_items x.value.1)) b.2 in
+    let them = all_fit (written_items x.value.1) listed.1 in
     let identity : written a.value.0 ≡ named name.value 0 =
     spelled_as a.value.0 sequence_tag (octet_string name.value ++ natural 0) s.0 (ap (λ (r : Rest). r.bytes) s.1 ∙ i.0) in
     let rest : a.value.1.bytes ≡ body_octets x.value.1 d.value = b.0 ∙ ap (λ (fs : List Field). body_octets x.value.1 fs) kept in
@@ -407,7 +456,8 @@ group_read e g good is =
     f.written ∙ ap (λ (bs : List ℕ). bs ++ a.value.1.bytes) identity ∙ ap (λ (bs : List ℕ). named name.value 0 ++ bs) rest in
     subst (GroupIs e) (ok_same d.behind) (
       spelled_as e (own (class_number c.value)) (named name.value 0 ++ body_octets x.value.1 d.value) called.0 contents,
-      both_true (list_all is_name_byte name.value) _ i.1 (both_true (has_settings d.value) _ (subst (λ (fs : List Field). has_settings fs ≡ true) kept b.1) b.2),
+      both_true (list_all is_name_byte name.value) _ i.1 (both_true (has_settings d.value) _ fit.good (both_true _ (list_all is_ingredient (written_items x.value.1)) listed.0 them.good)),
+      group_fits _ called.1 (fields_fit c.value d.value fit all.1) them.none_wrong,
     )
 
 record IsRight (g : Written) : Type 0 where

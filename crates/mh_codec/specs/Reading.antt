@@ -41,7 +41,7 @@ use Rattle.mh_group.specs.declared.written.Ingredient.{Ingredient}
 use Rattle.mh_group.specs.declared.written.Written.{Written}
 use Rattle.mh_group.specs.Table.{attribute_number, shape_of, takes, needs_of, optional_of, is_group_class}
 use Rattle.mh_group.specs.Words.{justifications, justification_number}
-use Rattle.mh_group.specs.Fit.{is_group, has_required, is_field_length}
+use Rattle.mh_group.specs.Fit.{has_required, is_field_length}
 use Rattle.mh_codec.specs.declared.kind.Kind.{Kind}
 use Rattle.mh_codec.specs.declared.kind.Kind.TheVariants as kind
 use Rattle.mh_codec.specs.declared.codec_error.Why.{Why}
@@ -411,7 +411,8 @@ abbrev pub gathered : (ℕ → List Field → Rest → Result (List Field × Opt
 gathered further done None items left = Ok (done, items, left)
 gathered further done (Some f) items left = further (attribute_number f.attribute) (done ++ f ∷ []) left
 
--- the fields up to the end or to the element of the items, of which so many more may come
+-- the fields up to the end or to the element of the items, of which so many more may come: more than
+-- there are, since their numbers rise
 unfoldable pub fields : Class → ℕ → ℕ → List Field → Rest → Result (List Field × Option Element × Rest) Refusal
 fields c zero last done left = refused Limit left.offset
 fields c (suc n) last done left = next_field c last left >>= λ x. gathered (fields c n) done x.0 x.1 x.2
@@ -474,7 +475,7 @@ read octets = if nat_lt 1048576 (length octets) then refused Limit 0 else (do
   a ← taken (whole octets)
   x ← group_at a.0
   end ← ended a.1
-  if is_group x then Ok x else refused BadValue 0)
+  Ok x)
 
 -- the octets begin as a group does
 abbrev pub begins_group : List ℕ → Bool

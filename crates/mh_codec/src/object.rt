@@ -1,6 +1,6 @@
 //! Readers of fields, ingredients and groups, and `decode_group`. Which attributes a class takes and
 //! has to be written with is the word of `mh_group`'s tables.
-ghost use Rattle.std.specs.Prelude.{◌≡◌, ◌≢◌, IfOk, IfErr};
+ghost use Rattle.std.specs.Prelude.{◌≡◌, ◌≢◌, ◌≤◌, IfOk, IfErr};
 ghost use Rattle.mh_codec.specs.Gives.{Gives};
 ghost use Rattle.mh_codec.specs.Writable.{Spells, SpellsNone, SpellsNoOther};
 ghost use Rattle.mh_codec.specs.Reading.{read, begins_group as begins_group_lem, group_at as group_at_lem, body as body_lem, class_at as class_at_lem, identifier_in as identifier_in_lem, fields as fields_lem, next_field as next_field_lem, attribute_at as attribute_at_lem, complete as complete_lem, items_at as items_at_lem, ingredient_at as ingredient_at_lem};
@@ -54,10 +54,8 @@ pub fn decode_group(alloc: Global, octets: &[u8]) -> Result<Group, CodecError>
     ended(behind)?;
     match Group::new(written) {
         Ok(group) => Ok(group),
-        Err(_) => Err(CodecError::At {
-            why: Why::BadValue,
-            offset: 0,
-        }),
+        // What is read by the tables is what they allow.
+        Err(_) => unreachable!(),
     }
 }
 
@@ -129,7 +127,7 @@ fn body(
 }
 
 /// The fields up to the end or to the element of the items, behind those that came before; the last
-/// of these had this number.
+/// of these had this number. No attribute has a larger number than 38.
 fn fields<'a>(
     alloc: Global,
     class: Class,
@@ -137,6 +135,7 @@ fn fields<'a>(
     before: Seq<Field>,
     reader: Reader<'a>,
 ) -> Result<(Seq<Field>, Option<Element<'a>>, Reader<'a>), CodecError>
+    requires { last ≤ 38 }
     ensures { Gives (λ x. x) result (fields_lem class 64 last before reader.entry) }
 {
     let mut fields = before;
@@ -151,10 +150,7 @@ fn fields<'a>(
         fields.push(field)?;
         reader = behind;
     }
-    Err(CodecError::At {
-        why: Why::Limit,
-        offset: reader.offset(),
-    })
+    unreachable!()
 }
 
 /// The next field, or the element of the items, and the reader behind it; neither at the end.
