@@ -25,9 +25,8 @@ use Rattle.mh_codec.specs.Writable.{is_setting, has_settings}
 use Rattle.mh_codec.specs.Gives.{Refusal, ◌>>=◌}
 use Rattle.mh_codec.specs.Reading.{taken, own_at, admitted, some_at, setting, is_items_shape, attribute_at, next_field, gathered, fields}
 use Rattle.mh_codec.proofs.ElementLemmas.{went, if_ok, ok_same, written, Good, same_number, find_holds, taken_found, good_found, taken_given}
-use Rattle.mh_codec.proofs.ValueLemmas.{own_read, own_written, some_ok}
+use Rattle.mh_codec.proofs.ValueLemmas.{own_numbered, own_written, some_ok}
 use Rattle.mh_codec.proofs.ReferenceLemmas.{and_true, both_true, spelled_as}
-use Rattle.mh_codec.proofs.ListLemmas.{fields_more}
 use Rattle.mh_codec.proofs.MemberLemmas.{empty_is, some_left}
 use Rattle.mh_codec.proofs.FitLemmas.{setting_fits}
 use Rattle.mh_codec.proofs.SettingLemmas.{setting_found, setting_given}
@@ -146,8 +145,8 @@ attribute_read c last e a is =
     let l = if_ok (nat_lt last (attribute_number b.value)) (Ok b.value) WrongOrder e.offset a b.behind in
     let first = ok_same t.1 in
     let second = ok_same l.1 in
-    let tag : e.tag ≡ own (attribute_number named.value) =
-    own_read e n.value n.first ∙ ap own (sym (attribute_numbered n.value named.value (some_ok e UnknownTag (attribute_with n.value) named.value named.first))) in
+    let number = attribute_numbered n.value named.value (some_ok e UnknownTag (attribute_with n.value) named.value named.first) in
+    let tag = own_numbered e n.value (attribute_number named.value) n.first number in
     record {
       tag = subst (λ (x : Attribute). e.tag ≡ own (attribute_number x)) (first ∙ second) tag;
       takes_it = subst (λ (x : Attribute). takes c x ≡ true) (first ∙ second) t.0;
@@ -334,6 +333,12 @@ fit_first c last f fs h =
 abbrev told : List Field → Option Element → Rest → Result (List Field × Option Element × Rest) Refusal
 told fs i rest = Ok (fs, i, rest)
 
+-- a field, and the fields behind it
+goes_on : (c : Class) (n last : ℕ) (done : List Field) (f : Field) (fs : List Field) (left rest : Rest) (i : Option Element) (end : Rest) → next_field c last left ≡ Ok (Some f, None, rest)
+    → fields c n (attribute_number f.attribute) (done ++ f ∷ []) rest ≡ told ((done ++ f ∷ []) ++ fs) i end → fields c (suc n) last done left ≡ told (done ++ f ∷ fs) i end
+unfolding fields
+goes_on c n last done f fs left rest i end takes more = rw (takes, more) (ap (λ (xs : List Field). told xs i end) (append_assoc done (f ∷ []) fs))
+
 -- fields up to the end
 pub record FieldsGiven (c : Class) (n last : ℕ) (done fs : List Field) (left : Rest) : Type 0 where
   pub rest : Rest
@@ -349,8 +354,7 @@ fields_given c (suc n) last done (f ∷ fs) left fit few is =
     let more = fields_given c n (attribute_number f.attribute) (done ++ f ∷ []) fs g.rest parts.1 (omega arith) g.behind in
     record {
       rest = more.rest;
-      takes_all = sym (fields_more c (suc n) n last (attribute_number f.attribute) done (done ++ f ∷ []) left g.rest (Some f) f None (omega arith) g.takes_it refl refl refl)
-          ∙ more.takes_all ∙ ap (λ (xs : List Field). told xs None more.rest) (append_assoc done (f ∷ []) fs);
+      takes_all = goes_on c n last done f fs left g.rest None more.rest g.takes_it more.takes_all;
     }
 
 -- fields up to the element of the items
@@ -386,8 +390,7 @@ to_items c (suc n) last done (f ∷ fs) left inner r fit few them low below is =
     record {
       found = more.found;
       rest = more.rest;
-      takes_all = sym (fields_more c (suc n) n last (attribute_number f.attribute) done (done ++ f ∷ []) left g.rest (Some f) f None (omega arith) g.takes_it refl refl refl)
-          ∙ more.takes_all ∙ ap (λ (xs : List Field). told xs (Some more.found) more.rest) (append_assoc done (f ∷ []) fs);
+      takes_all = goes_on c n last done f fs left g.rest (Some more.found) more.rest g.takes_it more.takes_all;
       small = more.small;
       is = more.is;
       behind = more.behind;

@@ -25,8 +25,8 @@ use Rattle.mh_codec.specs.Tags.{class_with}
 use Rattle.mh_codec.specs.Spelling.{own, natural, octet_string, several, list, named, field, ingredient, items, before_items, body as body_octets, group}
 use Rattle.mh_codec.specs.Writable.{is_setting, is_number, is_list, has_settings, is_ingredient, is_writable}
 use Rattle.mh_codec.specs.Reading.{taken, ended, only, sequence_at, own_at, is_same, some_at, name_at, number_at, ingredient_number_at, fields, complete, class_at, list_at, ingredient_at, items_at, with_items, body, identifier_in, group_at, is_items_shape}
-use Rattle.mh_codec.proofs.ElementLemmas.{went, if_ok, ok_same, written, Good, same_element, same_number, find_holds, taken_found, good_found, taken_given, nothing_left, ended_given}
-use Rattle.mh_codec.proofs.ValueLemmas.{own_read, own_written, some_ok, sequence_read, sequence_written, name_read, name_written, number_read, number_written, ingredient_number_read, ingredient_number_written}
+use Rattle.mh_codec.proofs.ElementLemmas.{went, if_ok, ok_same, ok_holds, written, in_parts, last_part, Good, same_element, same_number, find_holds, taken_found, good_found, taken_given, nothing_left, ended_given}
+use Rattle.mh_codec.proofs.ValueLemmas.{own_numbered, own_written, some_ok, sequence_read, sequence_written, name_read, name_written, number_read, number_written, ingredient_number_read, ingredient_number_written}
 use Rattle.mh_codec.proofs.ReferenceLemmas.{IsOne, Reads, and_true, both_true, spelled_as, integer_one, only_read, only_written}
 use Rattle.mh_codec.proofs.MemberLemmas.{list_reads}
 use Rattle.mh_codec.proofs.RowLemmas.{list_fit}
@@ -68,7 +68,7 @@ class_read wants e c is =
     let named = went (some_at e UnknownTag (class_with n.value)) _ c n.behind in
     let t = if_ok (is_same wants (is_group_class named.value)) (Ok named.value) UnknownTag e.offset c named.behind in
     subst (ClassRead wants e) (ok_same t.1) (
-      own_read e n.value n.first ∙ ap own (sym (class_numbered n.value named.value (some_ok e UnknownTag (class_with n.value) named.value named.first))),
+      own_numbered e n.value (class_number named.value) n.first (class_numbered n.value named.value (some_ok e UnknownTag (class_with n.value) named.value named.first)),
       t.0,
     )
 
@@ -150,11 +150,25 @@ group_or_not : (b : Bool) → is_same false b ≡ true → b ≡ false
 group_or_not true h = absurd cc
 group_or_not false h = refl
 
-ingredient_fits : (c : Class) (n : ℕ) (fs : List Field) → is_same false (is_group_class c) ≡ true → (n == 0) ≡ false → FitFields c 0 fs → has_required c fs ≡ true
-    → is_none (ingredient_misfit (record { class = c; number = n; fields = fs })) ≡ true
-ingredient_fits c n fs kind numbered fit required = rw (group_or_not (is_group_class c) kind, numbered, fields_fit c fs fit required) refl
+ingredient_fits : (c : Class) (n : ℕ) (fs : List Field) → is_same false (is_group_class c) ≡ true → (n == 0) ≡ false → is_number n ≡ true → FitFields c 0 fs → has_required c fs ≡ true
+    → fits_ingredient (record { class = c; number = n; fields = fs }) ≡ true
+ingredient_fits c n fs kind numbered small fit required = rw (group_or_not (is_group_class c) kind, numbered, fields_fit c fs fit required, small) fit.good
 
 -- ingredients
+
+-- the fields of an ingredient, and nothing behind them
+record OwnFields (c : Class) (left : Rest) (fs : List Field) : Type 0 where
+  pub is : left.bytes ≡ several field fs
+  pub fit : FitFields c 0 fs
+  pub required : has_required c fs ≡ true
+
+own_fields : (c : Class) (left : Rest) (x : List Field × Option Element × Rest) (e : Element) (fs : List Field) → is_same false (is_group_class c) ≡ true → AreBytes left.bytes → fields c 64 0 [] left ≡ Ok x
+    → complete c x.0 e ≡ Ok fs → OwnFields c left fs
+own_fields c left x e fs kind bytes read done =
+    let r = fields_found c 64 0 [] left x bytes read in
+    let all = complete_is c x.0 e fs done in
+    let kept = sym r.all ∙ all.0 in
+    record { is = no_items c left r.new x.1 x.2 kind r.ends ∙ ap (several field) kept; fit = subst (FitFields c 0) kept r.fit; required = all.1 }
 
 abbrev Spelled : Element → Ingredient → Type 0
 Spelled e i = (written e ≡ ingredient i) × (fits_ingredient i ≡ true)
@@ -170,17 +184,12 @@ ingredient_read e i good is =
     let some = ingredient_number_read a.value.0 n.value n.first in
     let number = number_read a.value.0 n.value (good_found e.contents a.value.0 a.value.1 f) some.0 in
     let x = went (fields c.value 64 0 [] a.value.1) _ i n.behind in
-    let r = fields_found c.value 64 0 [] a.value.1 x.value f.rest x.first in
     let d = went (complete c.value x.value.0 e) _ i x.behind in
-    let all = complete_is c.value x.value.0 e d.value d.first in
-    let kept : r.new ≡ d.value = sym r.all ∙ all.0 in
-    let fit = subst (FitFields c.value 0) kept r.fit in
-    let rest : a.value.1.bytes ≡ several field d.value = no_items c.value a.value.1 r.new x.value.1 x.value.2 named.1 r.ends ∙ ap (several field) kept in
-    let inner : e.contents.bytes ≡ natural n.value ++ several field d.value =
-    f.written ∙ ap (λ (bs : List ℕ). bs ++ a.value.1.bytes) number.0 ∙ ap (λ (bs : List ℕ). natural n.value ++ bs) rest in
-    subst (Spelled e) (ok_same d.behind) (
+    let b = own_fields c.value a.value.1 x.value e d.value named.1 f.rest x.first d.first in
+    let inner = in_parts e.contents.bytes (written a.value.0) a.value.1.bytes (natural n.value) (several field d.value) f.written number.0 b.is in
+    ok_holds (Spelled e) (record { class = c.value; number = n.value; fields = d.value }) i d.behind (
       spelled_as e (own (class_number c.value)) (natural n.value ++ several field d.value) named.0 inner,
-      both_true _ _ (ingredient_fits c.value n.value d.value named.1 some.1 fit all.1) (both_true (is_number n.value) (has_settings d.value) number.1 fit.good),
+      ingredient_fits c.value n.value d.value named.1 some.1 number.1 b.fit b.required,
     )
 
 ingredient_written : (e : Element) (i : Ingredient) → e.tag.number < 2 ^ 16 → fits_ingredient i ≡ true → written e ≡ ingredient i → ingredient_at e ≡ Ok i
@@ -395,10 +404,10 @@ identifier_read left name bytes is =
     let none = nothing_left b.value.1 end.first in
     let n = name_read a.value.0 m.value m.first in
     let k = number_read b.value.0 number.value (good_found a.value.1 b.value.0 b.value.1 g) number.first in
-    let second : a.value.1.bytes ≡ natural 0 =
-    g.written ∙ ap (λ (bs : List ℕ). written b.value.0 ++ bs) none ∙ append-nil (written b.value.0) ∙ k.0 ∙ ap natural (zero_is number.value t.0) in
+    let zero_number = subst (λ (n : ℕ). written b.value.0 ≡ natural n) (zero_is number.value t.0) k.0 in
+    let second = last_part a.value.1.bytes (written b.value.0) b.value.1.bytes (natural 0) g.written none zero_number in
     subst (Identifies left.bytes) (ok_same t.1) (
-      f.written ∙ ap (λ (bs : List ℕ). written a.value.0 ++ bs) second ∙ ap (λ (bs : List ℕ). bs ++ natural 0) n.0,
+      in_parts left.bytes (written a.value.0) a.value.1.bytes (octet_string m.value) (natural 0) f.written n.0 second,
       n.1,
     )
 
@@ -423,15 +432,43 @@ all_fit (i ∷ is) h =
     let more = all_fit is parts.1 in
     record { none_wrong = rw (none_is (ingredient_misfit i) one.0, more.none_wrong) refl; good = both_true (is_ingredient i) (list_all is_ingredient is) one.1 more.good }
 
-group_fits : (g : Written) → is_group_class g.class ≡ true → fields_misfit g.class g.fields ≡ None → ingredients_misfit (items_of g) ≡ None → is_group g ≡ true
+-- the fields and the items of a group, and nothing behind them
+record WholeBody (c : Class) (left : Rest) (fs : List Field) (its : Option (List Ingredient)) : Type 0 where
+  pub is : left.bytes ≡ body_octets its fs
+  pub fit : FitFields c 0 fs
+  pub required : has_required c fs ≡ true
+  pub none_wrong : ingredients_misfit (written_items its) ≡ None
+  pub good : is_list is_ingredient (written_items its) ≡ true
+
+group_fits : (c : Class) (name : List ℕ) (left : Rest) (fs : List Field) (its : Option (List Ingredient)) → is_group_class c ≡ true → WholeBody c left fs its
+    → is_group (record { class = c; identifier = name; fields = fs; items = its }) ≡ true
 unfolding misfit_of
-group_fits g class fields items = rw (class, fields, items) refl
+group_fits c name left fs its class b = rw (class, fields_fit c fs b.fit b.required, b.none_wrong) refl
+
+group_held : (c : Class) (name : List ℕ) (left : Rest) (fs : List Field) (its : Option (List Ingredient)) → list_all is_name_byte name ≡ true → WholeBody c left fs its
+    → is_writable (record { class = c; identifier = name; fields = fs; items = its }) ≡ true
+unfolding is_writable
+group_held c name left fs its named b = rw (named, b.fit.good) b.good
+
+whole_body : (c : Class) (left : Rest) (x : List Field × Option (List Ingredient)) (e : Element) (fs : List Field) → AreBytes left.bytes → body c left ≡ Ok x → complete c x.0 e ≡ Ok fs → WholeBody c left fs x.1
+whole_body c left x e fs bytes read done =
+    let b = body_read c left x bytes read in
+    let all = complete_is c x.0 e fs done in
+    let few = and_true (nat_le (length (written_items x.1)) 4096) (list_all fits_ingredient (written_items x.1)) b.2 in
+    let them = all_fit (written_items x.1) few.1 in
+    record {
+      is = b.0 ∙ ap (λ (gs : List Field). body_octets x.1 gs) all.0;
+      fit = subst (FitFields c 0) all.0 b.1;
+      required = all.1;
+      none_wrong = them.none_wrong;
+      good = both_true (nat_le (length (written_items x.1)) 4096) (list_all is_ingredient (written_items x.1)) few.0 them.good;
+    }
 
 abbrev GroupIs : Element → Written → Type 0
 GroupIs e g = (written e ≡ group g) × (is_writable g ≡ true) × (is_group g ≡ true)
 
 pub group_read : (e : Element) (g : Written) → Good e → group_at e ≡ Ok g → GroupIs e g
-unfolding group_at group named is_writable
+unfolding group_at group named
 group_read e g good is =
     let c = went (class_at true e) _ g is in
     let called = class_read true e c.value c.first in
@@ -442,22 +479,15 @@ group_read e g good is =
     let name = went (identifier_in inner.value) _ g inner.behind in
     let i = identifier_read inner.value name.value (subst (λ (r : Rest). AreBytes r.bytes) s.1 f.contents) name.first in
     let x = went (body c.value a.value.1) _ g name.behind in
-    let b = body_read c.value a.value.1 x.value f.rest x.first in
     let d = went (complete c.value x.value.0 e) _ g x.behind in
-    let all = complete_is c.value x.value.0 e d.value d.first in
-    let kept : x.value.0 ≡ d.value = all.0 in
-    let fit = subst (FitFields c.value 0) kept b.1 in
-    let listed = and_true (nat_le (length (written_items x.value.1)) 4096) (list_all fits_ingredient (written_items x.value.1)) b.2 in
-    let them = all_fit (written_items x.value.1) listed.1 in
+    let b = whole_body c.value a.value.1 x.value e d.value f.rest x.first d.first in
     let identity : written a.value.0 ≡ named name.value 0 =
     spelled_as a.value.0 sequence_tag (octet_string name.value ++ natural 0) s.0 (ap (λ (r : Rest). r.bytes) s.1 ∙ i.0) in
-    let rest : a.value.1.bytes ≡ body_octets x.value.1 d.value = b.0 ∙ ap (λ (fs : List Field). body_octets x.value.1 fs) kept in
-    let contents : e.contents.bytes ≡ named name.value 0 ++ body_octets x.value.1 d.value =
-    f.written ∙ ap (λ (bs : List ℕ). bs ++ a.value.1.bytes) identity ∙ ap (λ (bs : List ℕ). named name.value 0 ++ bs) rest in
-    subst (GroupIs e) (ok_same d.behind) (
+    let contents = in_parts e.contents.bytes (written a.value.0) a.value.1.bytes (named name.value 0) (body_octets x.value.1 d.value) f.written identity b.is in
+    ok_holds (GroupIs e) (record { class = c.value; identifier = name.value; fields = d.value; items = x.value.1 }) g d.behind (
       spelled_as e (own (class_number c.value)) (named name.value 0 ++ body_octets x.value.1 d.value) called.0 contents,
-      both_true (list_all is_name_byte name.value) _ i.1 (both_true (has_settings d.value) _ fit.good (both_true _ (list_all is_ingredient (written_items x.value.1)) listed.0 them.good)),
-      group_fits _ called.1 (fields_fit c.value d.value fit all.1) them.none_wrong,
+      group_held c.value name.value a.value.1 d.value x.value.1 i.1 b,
+      group_fits c.value name.value a.value.1 d.value x.value.1 called.1 b,
     )
 
 record IsRight (g : Written) : Type 0 where

@@ -1,6 +1,6 @@
 -- The laws that join the reading to the spelling: what is read is spelled so, and what is spelled so is
 -- read.
-use Rattle.std.proofs.Common.{◌≡◌, ◌≢◌, ℕ, ◌≤◌, true, false, nat_lt, List, [], ◌++◌, length, Result, Ok, Err, IfErr, refl, ap, sym, ◌∙◌, subst, arith, append-nil}
+use Rattle.std.proofs.Common.{◌≡◌, ◌≢◌, ℕ, ◌≤◌, true, false, nat_lt, List, [], length, Result, Ok, Err, IfErr, refl, sym, ◌∙◌, subst, arith, append-nil}
 use Rattle.std.proofs.lemmas.Bool.Decides.{nat_tests}
 use Rattle.mh_der.specs.Rest.{Rest, Element, whole}
 use Rattle.mh_der.proofs.DigitLemmas.{AreBytes}
@@ -14,7 +14,7 @@ use Rattle.mh_codec.specs.Writable.{Spells, SpellsNone, SpellsNoOther}
 use Rattle.mh_codec.specs.Gives.{Refusal, Fails, Gives}
 use Rattle.mh_codec.specs.Reading.{taken, ended, group_at, read}
 use Rattle.mh_codec.specs.Laws.{SpellsOne}
-use Rattle.mh_codec.proofs.ElementLemmas.{went, if_not_ok, ok_same, written, taken_found, good_found, taken_given, nothing_left, ended_given}
+use Rattle.mh_codec.proofs.ElementLemmas.{went, if_not_ok, ok_same, written, last_part, taken_found, good_found, taken_given, nothing_left, ended_given}
 use Rattle.mh_codec.proofs.GroupLemmas.{group_read, group_written, group_one}
 
 not_above : (n : ℕ) → nat_lt 1048576 n ≡ false → n ≤ 1048576
@@ -34,7 +34,7 @@ read_found octets g bytes is =
     let end = went (ended a.value.1) _ g x.behind in
     let none = nothing_left a.value.1 end.first in
     let r = group_read a.value.0 x.value (good_found (whole octets) a.value.0 a.value.1 f) x.first in
-    let spelled : octets ≡ group x.value = f.written ∙ ap (λ (bs : List ℕ). written a.value.0 ++ bs) none ∙ append-nil (written a.value.0) ∙ r.0 in
+    let spelled = last_part octets (written a.value.0) a.value.1.bytes (group x.value) f.written none r.0 in
     subst (Spells octets) (ok_same end.behind) (spelled, not_above (length octets) t.0, r.1)
 
 -- the group that an element spells is one that the tables allow
