@@ -1,12 +1,12 @@
 -- Ingredients and groups: what was read is spelled so and is what the tables allow, and what is spelled
 -- so is read.
-use Rattle.std.proofs.Common.{◌≡◌, ℕ, suc, ◌+◌, ◌<◌, ◌^◌, Bool, true, false, ◌&&◌, not, ◌==◌, nat_lt, nat_le, if◌then◌else◌, List, [], ◌∷◌, ◌++◌, length, take, drop, Option, Some, None, is_none, Ok, pos, refl, ap, sym, ◌∙◌, subst, arith, append-nil, take-append-drop}
+use Rattle.std.proofs.Common.{◌≡◌, ℕ, suc, ◌+◌, ◌<◌, ◌^◌, Bool, true, false, ◌&&◌, not, ◌==◌, nat_lt, nat_le, if◌then◌else◌, List, [], ◌∷◌, ◌++◌, length, take, drop, Option, Some, None, is_none, Ok, pos, refl, ap, sym, ◌∙◌, subst, arith, take-append-drop}
 use Rattle.std.specs.Option.{option_or}
 use Rattle.std.specs.List.{list_all}
 use Rattle.std.proofs.lemmas.Bool.Decides.{nat_tests}
 use Rattle.std.proofs.lemmas.List.Folds.{list_all-append}
 use Rattle.mh_base.specs.Path.{is_name_byte}
-use Rattle.mh_der.specs.Tags.{octet_string_tag, sequence_tag}
+use Rattle.mh_der.specs.Tags.{sequence_tag}
 use Rattle.mh_der.specs.Rest.{Rest, Element}
 use Rattle.mh_der.proofs.DigitLemmas.{AreBytes}
 use Rattle.mh_group.specs.declared.class.Class.{Class}
@@ -19,15 +19,15 @@ use Rattle.mh_group.specs.declared.written.Written.{Written}
 use Rattle.mh_group.specs.declared.misfit.MisfitWhy.{MisfitWhy}
 use Rattle.mh_group.specs.Table.{class_number, attribute_number, takes, shape_of, is_group_class}
 use Rattle.mh_group.specs.Words.{classes}
-use Rattle.mh_group.specs.Fit.{fits, is_rising, rises_above, has_required, takes_each, fits_each, fields_misfit, ingredient_misfit, ingredients_misfit, misfit_of, written_items, items_of, is_group}
+use Rattle.mh_group.specs.Fit.{fits, before_items, is_rising, rises_above, has_required, takes_each, fits_each, fields_misfit, ingredient_misfit, ingredients_misfit, misfit_of, written_items, items_of, is_group}
 use Rattle.mh_codec.specs.declared.codec_error.Why.TheVariants.{UnknownTag, MissingField, BadValue}
 use Rattle.mh_codec.specs.Tags.{class_with}
-use Rattle.mh_codec.specs.Spelling.{own, natural, octet_string, several, list, named, field, ingredient, items, before_items, body as body_octets, group}
+use Rattle.mh_codec.specs.Spelling.{own, natural, octet_string, several, list, named, field, ingredient, items, body as body_octets, group}
 use Rattle.mh_codec.specs.Writable.{is_setting, is_number, is_list, has_settings, is_ingredient, is_writable}
-use Rattle.mh_codec.specs.Reading.{taken, ended, only, sequence_at, own_at, is_same, some_at, name_at, number_at, ingredient_number_at, fields, complete, class_at, list_at, ingredient_at, items_at, with_items, body, identifier_in, group_at, is_items_shape}
-use Rattle.mh_codec.proofs.ElementLemmas.{went, if_ok, ok_same, ok_holds, written, in_parts, last_part, Good, same_element, same_number, find_holds, taken_found, good_found, taken_given, nothing_left, ended_given}
-use Rattle.mh_codec.proofs.ValueLemmas.{own_numbered, own_written, some_ok, sequence_read, sequence_written, name_read, name_written, number_read, number_written, ingredient_number_read, ingredient_number_written}
-use Rattle.mh_codec.proofs.ReferenceLemmas.{IsOne, Reads, and_true, both_true, spelled_as, integer_one, only_read, only_written}
+use Rattle.mh_codec.specs.Reading.{taken, only, sequence_at, own_at, is_same, some_at, named_in, ingredient_number_at, fields, complete, class_at, list_at, ingredient_at, items_at, with_items, body, identifier_in, group_at, is_items_shape}
+use Rattle.mh_codec.proofs.ElementLemmas.{went, if_ok, ok_same, ok_holds, written, in_parts, Good, same_element, same_number, find_holds, taken_found, good_found, taken_given}
+use Rattle.mh_codec.proofs.ValueLemmas.{own_numbered, own_written, some_ok, sequence_read, sequence_written, number_read, number_written, ingredient_number_read, ingredient_number_written}
+use Rattle.mh_codec.proofs.ReferenceLemmas.{IsOne, Reads, and_true, both_true, spelled_as, integer_one, only_read, only_written, Named, named_read, named_written}
 use Rattle.mh_codec.proofs.MemberLemmas.{list_reads}
 use Rattle.mh_codec.proofs.RowLemmas.{list_fit}
 use Rattle.mh_codec.proofs.FieldLemmas.{Ends, fields_found, FitField, FitFields, none_fit, more_fit, fit_first, no_items_field, fields_given, to_items, below_items, few_fields}
@@ -384,40 +384,19 @@ body_written c left fs (Some is) group_class fit good stands =
 
 -- groups
 
-zero_is : (n : ℕ) → (n == 0) ≡ true → n ≡ 0
-zero_is n h = same_number n 0 h
-
-abbrev Identifies : List ℕ → List ℕ → Type 0
-Identifies bs name = (bs ≡ octet_string name ++ natural 0) × (list_all is_name_byte name ≡ true)
-
-identifier_read : (left : Rest) (name : List ℕ) → AreBytes left.bytes → identifier_in left ≡ Ok name → Identifies left.bytes name
+identifier_read : (left : Rest) (name : List ℕ) → AreBytes left.bytes → identifier_in left ≡ Ok name → Named left.bytes name 0
 unfolding identifier_in
 identifier_read left name bytes is =
-    let a = went (taken left) _ name is in
-    let f = taken_found left a.value.0 a.value.1 bytes a.first in
-    let m = went (name_at a.value.0) _ name a.behind in
-    let b = went (taken a.value.1) _ name m.behind in
-    let g = taken_found a.value.1 b.value.0 b.value.1 f.rest b.first in
-    let number = went (number_at b.value.0) _ name b.behind in
-    let end = went (ended b.value.1) _ name number.behind in
-    let t = if_ok (number.value == 0) (Ok m.value) BadValue b.value.0.offset name end.behind in
-    let none = nothing_left b.value.1 end.first in
-    let n = name_read a.value.0 m.value m.first in
-    let k = number_read b.value.0 number.value (good_found a.value.1 b.value.0 b.value.1 g) number.first in
-    let zero_number = subst (λ (n : ℕ). written b.value.0 ≡ natural n) (zero_is number.value t.0) k.0 in
-    let second = last_part a.value.1.bytes (written b.value.0) b.value.1.bytes (natural 0) g.written none zero_number in
-    subst (Identifies left.bytes) (ok_same t.1) (
-      in_parts left.bytes (written a.value.0) a.value.1.bytes (octet_string m.value) (natural 0) f.written n.0 second,
-      n.1,
-    )
+    let x = went (named_in left) _ name is in
+    let t = if_ok (x.value.1 == 0) (Ok x.value.0) BadValue x.value.2.offset name x.behind in
+    let named = subst (λ (n : ℕ). Named left.bytes x.value.0 n) (same_number x.value.1 0 t.0) (named_read left x.value bytes x.first) in
+    subst (λ (bs : List ℕ). Named left.bytes bs 0) (ok_same t.1) named
 
 identifier_written : (left : Rest) (name : List ℕ) → list_all is_name_byte name ≡ true → left.bytes ≡ octet_string name ++ natural 0 → identifier_in left ≡ Ok name
-unfolding identifier_in octet_string
+unfolding identifier_in
 identifier_written left name good e =
-    let one = integer_one (pos 0) in
-    let a = taken_given left octet_string_tag name (natural 0) (omega arith) e in
-    let b = taken_given a.rest one.tag one.contents [] one.small (a.behind ∙ one.is ∙ sym (append-nil _)) in
-    rw (a.takes, name_written a.found name a.small good a.is, b.takes, number_written b.found 0 b.small refl (b.is ∙ sym one.is), ended_given b.rest b.behind) refl
+    let x = named_written left name 0 (both_true (list_all is_name_byte name) true good refl) e in
+    rw x.takes refl
 
 -- what the ingredients are, where each of them fits
 record AllFit (is : List Ingredient) : Type 0 where
@@ -486,7 +465,7 @@ group_read e g good is =
     let contents = in_parts e.contents.bytes (written a.value.0) a.value.1.bytes (named name.value 0) (body_octets x.value.1 d.value) f.written identity b.is in
     ok_holds (GroupIs e) (record { class = c.value; identifier = name.value; fields = d.value; items = x.value.1 }) g d.behind (
       spelled_as e (own (class_number c.value)) (named name.value 0 ++ body_octets x.value.1 d.value) called.0 contents,
-      group_held c.value name.value a.value.1 d.value x.value.1 i.1 b,
+      group_held c.value name.value a.value.1 d.value x.value.1 (and_true (list_all is_name_byte name.value) true i.1).0 b,
       group_fits c.value name.value a.value.1 d.value x.value.1 called.1 b,
     )
 

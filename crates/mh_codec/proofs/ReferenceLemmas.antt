@@ -155,10 +155,10 @@ only_written left t c small e =
 
 -- names with numbers
 
-abbrev Named : List ℕ → List ℕ → ℕ → Type 0
+abbrev pub Named : List ℕ → List ℕ → ℕ → Type 0
 Named bs name n = (bs ≡ octet_string name ++ natural n) × ((list_all is_name_byte name && is_number n) ≡ true)
 
-named_read : (left : Rest) (x : List ℕ × ℕ) → AreBytes left.bytes → named_in left ≡ Ok x → Named left.bytes x.0 x.1
+pub named_read : (left : Rest) (x : List ℕ × ℕ × Element) → AreBytes left.bytes → named_in left ≡ Ok x → Named left.bytes x.0 x.1
 unfolding named_in
 named_read left x bytes is =
     let a = went (taken left) _ x is in
@@ -172,18 +172,22 @@ named_read left x bytes is =
     let n = name_read a.value.0 name.value name.first in
     let k = number_read b.value.0 number.value (good_found a.value.1 b.value.0 b.value.1 g) number.first in
     let second = last_part a.value.1.bytes (written b.value.0) b.value.1.bytes (natural number.value) g.written none k.0 in
-    subst (λ (y : List ℕ × ℕ). Named left.bytes y.0 y.1) (ok_same end.behind) (
+    subst (λ (y : List ℕ × ℕ × Element). Named left.bytes y.0 y.1) (ok_same end.behind) (
       in_parts left.bytes (written a.value.0) a.value.1.bytes (octet_string name.value) (natural number.value) f.written n.0 second,
       both_true (list_all is_name_byte name.value) (is_number number.value) n.1 k.1,
     )
 
-named_written : (left : Rest) (name : List ℕ) (n : ℕ) → (list_all is_name_byte name && is_number n) ≡ true → left.bytes ≡ octet_string name ++ natural n → named_in left ≡ Ok (name, n)
+pub record NamedGiven (left : Rest) (name : List ℕ) (n : ℕ) : Type 0 where
+  pub number : Element
+  pub takes : named_in left ≡ Ok (name, n, number)
+
+pub named_written : (left : Rest) (name : List ℕ) (n : ℕ) → (list_all is_name_byte name && is_number n) ≡ true → left.bytes ≡ octet_string name ++ natural n → NamedGiven left name n
 unfolding named_in octet_string integer
 named_written left name n good e =
     let parts = and_true (list_all is_name_byte name) (is_number n) good in
     let a = taken_given left octet_string_tag name (natural n) (omega arith) e in
     let b = taken_given a.rest integer_tag (integer_octets (pos n)) [] (omega arith) (a.behind ∙ sym (append-nil (natural n))) in
-    rw (a.takes, name_written a.found name a.small parts.0 a.is, b.takes, number_written b.found n b.small parts.1 b.is, ended_given b.rest b.behind) refl
+    record { number = b.found; takes = rw (a.takes, name_written a.found name a.small parts.0 a.is, b.takes, number_written b.found n b.small parts.1 b.is, ended_given b.rest b.behind) refl }
 
 -- references
 
@@ -215,7 +219,8 @@ reference_written e (ref.Here n) small good is =
 reference_written e (ref.In name n) small good is =
     let same = same_element e.tag sequence_tag e.contents.bytes (octet_string name ++ natural n) small (omega arith) is in
     let kind_is : kind_of e.tag ≡ kind.Sequence = ap kind_of same.tag in
-    rw (kind_is, named_written e.contents name n good same.inner) refl
+    let inner = named_written e.contents name n good same.inner in
+    rw (kind_is, inner.takes) refl
 
 pub reference_one : (r : Ref) → IsOne (reference r)
 unfolding named

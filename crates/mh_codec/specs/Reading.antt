@@ -182,15 +182,15 @@ justification_at e = number_at e >>= λ n. some_at e BadValue (find (λ j. justi
 unfoldable pub colour_at : Element → Result (List ℕ) Refusal
 colour_at e = octets_at e >>= λ octets. if length octets == 4 then Ok octets else refused_at BadValue e
 
--- a name and a number, and nothing behind them
-unfoldable pub named_in : Rest → Result (List ℕ × ℕ) Refusal
+-- a name and a number with its element, and nothing behind them
+unfoldable pub named_in : Rest → Result (List ℕ × ℕ × Element) Refusal
 named_in left = do
   a ← taken left
   name ← name_at a.0
   b ← taken a.1
   number ← number_at b.0
   end ← ended b.1
-  Ok (name, number)
+  Ok (name, number, b.0)
 
 unfoldable pub reference_at : Element → Result Ref Refusal
 reference_at e = of_kind (kind_of e.tag)
@@ -451,13 +451,7 @@ body c left = fields c 64 0 [] left >>= λ x. with_items c x.0 x.1 x.2
 
 -- the group's own identifier: its name, and the number 0
 unfoldable pub identifier_in : Rest → Result (List ℕ) Refusal
-identifier_in left = do
-  a ← taken left
-  name ← name_at a.0
-  b ← taken a.1
-  number ← number_at b.0
-  end ← ended b.1
-  if number == 0 then Ok name else refused_at BadValue b.0
+identifier_in left = named_in left >>= λ x. if x.1 == 0 then Ok x.0 else refused_at BadValue x.2
 
 unfoldable pub group_at : Element → Result Written Refusal
 group_at e = do
