@@ -26,9 +26,9 @@ use Rattle.mh_codec.specs.Spelling.{own, integer, boolean, octet_string, content
 use Rattle.mh_codec.specs.Writable.{is_integer, is_plain, is_name, is_content, is_data, is_reference, is_generic, is_list, is_typed, is_parameter, is_action}
 use Rattle.mh_codec.specs.Gives.{Refusal, ◌>>=◌}
 use Rattle.mh_codec.specs.Reading.{taken, ended, only, own_at, some_at, truth_at, integer_at, octets_at, event_at, content_name_at, content_at, data_at, reference_at, generic_at, list_at, value_at, typed_at, parameter_at, parameters, action_at}
-use Rattle.mh_codec.proofs.ElementLemmas.{went, ok_same, written, Good, same_element, same_number, find_holds, taken_found, good_found, taken_given, nothing_left, ended_given}
-use Rattle.mh_codec.proofs.ValueLemmas.{own_read, own_written, some_ok, event_read, event_written}
-use Rattle.mh_codec.proofs.ReferenceLemmas.{IsOne, Reads, and_true, both_true, spelled_as, only_read, only_written, integer_one, reference_one, reference_read, reference_written, truth_reads, truth_plain, integer_reads, integer_plain, octets_reads, octets_plain, content_name_reads, content_name_plain, content_reads, content_plain, data_reads, data_plain, reference_reads, reference_plain, generic_reads}
+use Rattle.mh_codec.proofs.ElementLemmas.{went, ok_same, written, in_parts, last_part, Good, same_element, same_number, find_holds, taken_found, good_found, taken_given, nothing_left, ended_given}
+use Rattle.mh_codec.proofs.ValueLemmas.{own_numbered, own_written, some_ok, event_read, event_written}
+use Rattle.mh_codec.proofs.ReferenceLemmas.{IsOne, Reads, and_true, both_true, same_all, spelled_as, only_read, only_written, integer_one, reference_one, reference_read, reference_written, truth_reads, truth_plain, integer_reads, integer_plain, octets_reads, octets_plain, content_name_reads, content_name_plain, content_reads, content_plain, data_reads, data_plain, reference_reads, reference_plain, generic_reads}
 use Rattle.mh_codec.proofs.MemberLemmas.{some_left, list_reads}
 
 -- values that are written directly or are held by variables
@@ -141,8 +141,8 @@ typed_read e x good is =
     let inner = went (only e.contents) _ x k.behind in
     let o = only_read e.contents inner.value good.bytes inner.first in
     let r = value_read k.value inner.value x o.good inner.behind in
-    let number : value_number (kind_in x) ≡ n.value = ap value_number r.kind ∙ value_numbered n.value k.value (some_ok e UnknownTag (value_kind_with n.value) k.value k.first) in
-    let tag : e.tag ≡ own (value_number (kind_in x)) = own_read e n.value n.first ∙ ap own (sym number) in
+    let number = value_numbered n.value k.value (some_ok e UnknownTag (value_kind_with n.value) k.value k.first) in
+    let tag = own_numbered e n.value (value_number (kind_in x)) n.first (rw r.kind number) in
     (spelled_as e (own (value_number (kind_in x))) (inner_value x) tag (o.is ∙ r.is) ∙ sym (typed_is x), r.good)
 
 typed_written : (e : Element) (x : Typed) → e.tag.number < 2 ^ 16 → is_typed x ≡ true → written e ≡ typed_value x → typed_at e ≡ Ok x
@@ -260,7 +260,7 @@ more_found optional n ns done left y bytes e further =
     record {
       new = p.value ∷ more.new;
       all = more.all ∙ append_assoc done (p.value ∷ []) more.new;
-      is = f.written ∙ ap (λ (bs : List ℕ). bs ++ a.value.1.bytes) r.0 ∙ ap (λ (bs : List ℕ). parameter_value p.value ++ bs) more.is
+      is = in_parts left.bytes (written a.value.0) a.value.1.bytes (parameter_value p.value) (several parameter_value more.new ++ y.1.bytes) f.written r.0 more.is
           ∙ sym (append_assoc (parameter_value p.value) (several parameter_value more.new) y.1.bytes);
       good = both_true (is_parameter p.value) (list_all is_parameter more.new) r.1 more.good;
       bytes = more.bytes;
@@ -378,6 +378,9 @@ action_named name.GetListItem = (refl, omega arith)
 action_named name.GetListSize = (refl, omega arith)
 action_named name.GetCellItem = (refl, omega arith)
 
+same_several : (ps qs : List Parameter) → qs ≡ ps → several parameter_value ps ≡ several parameter_value qs
+same_several ps qs same = rw same refl
+
 abbrev pub fits_and_is : Action → Bool
 fits_and_is a = fits_action a && is_action a
 
@@ -394,15 +397,13 @@ action_read e x good is =
     let p = parameters_found (optional_of called.value) (needs_of called.value) [] a.value.1 given.value f.rest given.first in
     let end = went (ended given.value.1) _ x given.behind in
     let none = nothing_left given.value.1 end.first in
-    let tag : e.tag ≡ own (100 + action_number called.value) =
-    own_read e n.value n.first ∙ ap own (sym (action_numbered n.value called.value (some_ok e UnknownTag (action_with n.value) called.value called.first))) in
-    let rest : a.value.1.bytes ≡ several parameter_value given.value.0 =
-    p.is ∙ ap (λ (bs : List ℕ). several parameter_value p.new ++ bs) none ∙ append-nil _ ∙ ap (several parameter_value) (sym p.all) in
-    let inner : e.contents.bytes ≡ generic reference target.value ++ several parameter_value given.value.0 =
-    f.written ∙ ap (λ (bs : List ℕ). bs ++ a.value.1.bytes) t.0 ∙ ap (λ (bs : List ℕ). generic reference target.value ++ bs) rest in
+    let number = action_numbered n.value called.value (some_ok e UnknownTag (action_with n.value) called.value called.first) in
+    let tag = own_numbered e n.value (100 + action_number called.value) n.first number in
+    let rest = last_part a.value.1.bytes (several parameter_value p.new) given.value.1.bytes (several parameter_value given.value.0) p.is none (same_several p.new given.value.0 p.all) in
+    let inner = in_parts e.contents.bytes (written a.value.0) a.value.1.bytes (generic reference target.value) (several parameter_value given.value.0) f.written t.0 rest in
     subst (λ (y : Action). (written e ≡ action y) × (is_action y ≡ true)) (ok_same end.behind) (
       spelled_as e (own (100 + action_number called.value)) (generic reference target.value ++ several parameter_value given.value.0) tag inner,
-      both_true (is_generic is_reference target.value) (list_all is_parameter given.value.0) t.1 (subst (λ (ps : List Parameter). list_all is_parameter ps ≡ true) (sym p.all) p.good),
+      both_true (is_generic is_reference target.value) (list_all is_parameter given.value.0) t.1 (same_all is_parameter p.new given.value.0 p.all p.good),
     )
 
 pub action_written : (e : Element) (x : Action) → e.tag.number < 2 ^ 16 → fits_and_is x ≡ true → written e ≡ action x → action_at e ≡ Ok x

@@ -1,5 +1,5 @@
 -- Elements of the notation: what was taken stands there, and what stands there is taken.
-use Rattle.std.proofs.Common.{◌≡◌, ℕ, ◌<◌, ◌^◌, ◌⊎◌, inl, inr, Bool, true, false, ◌==◌, if◌then◌else◌, List, [], ◌∷◌, ◌++◌, Option, Some, Result, Ok, Err, refl, ap, sym, ◌∙◌, subst, arith}
+use Rattle.std.proofs.Common.{◌≡◌, ℕ, ◌<◌, ◌^◌, ◌⊎◌, inl, inr, Bool, true, false, ◌==◌, if◌then◌else◌, List, [], ◌∷◌, ◌++◌, Option, Some, Result, Ok, Err, refl, ap, sym, ◌∙◌, subst, arith, append-nil}
 use Rattle.std.specs.List.{find}
 use Rattle.std.proofs.lemmas.Bool.Decides.{nat_tests}
 use Rattle.mh_der.specs.declared.tag.Tag.{Tag}
@@ -46,9 +46,21 @@ if_not_ok false r w o y e = (refl, e)
 pub ok_same : {A : Type 0} {x y : A} → ◌≡◌ {A = Result A Refusal} (Ok x) (Ok y) → x ≡ y
 ok_same e = cc
 
+-- what holds of an answer holds of the same one
+pub ok_holds : {A : Type 0} (P : A → Type 0) (x y : A) → ◌≡◌ {A = Result A Refusal} (Ok x) (Ok y) → P x → P y
+ok_holds P x y e h = subst P (ok_same e) h
+
 -- the octets of an element
 abbrev pub written : Element → List ℕ
 written e = element e.tag e.contents.bytes
+
+-- octets in two parts, each of which is what another is
+pub in_parts : (bs front rest first more : List ℕ) → bs ≡ front ++ rest → front ≡ first → rest ≡ more → bs ≡ first ++ more
+in_parts bs front rest first more is f r = rw (is, f, r) refl
+
+-- octets in one part, behind which nothing stands
+pub last_part : (bs front rest first : List ℕ) → bs ≡ front ++ rest → rest ≡ [] → front ≡ first → bs ≡ first
+last_part bs front rest first is none f = rw (is, none, f) (append-nil first)
 
 -- an element as a source can hold it
 pub record Good (e : Element) : Type 0 where

@@ -1,5 +1,5 @@
--- Fields: what was read is spelled so, and what is spelled so is read.
-use Rattle.std.proofs.Common.{◌≡◌, ℕ, zero, suc, ◌+◌, ◌<◌, ◌≤◌, ◌^◌, Bool, true, false, ◌==◌, nat_lt, if◌then◌else◌, List, [], ◌∷◌, ◌++◌, length, Option, Some, None, Result, Ok, refl, ap, sym, ◌∙◌, subst, arith, append-nil, append_assoc}
+-- Fields: what was read is spelled so and is what the tables allow, and what is spelled so is read.
+use Rattle.std.proofs.Common.{◌≡◌, ℕ, zero, suc, ◌+◌, ◌<◌, ◌≤◌, ◌^◌, Bool, true, false, ◌==◌, nat_lt, if◌then◌else◌, List, [], ◌∷◌, ◌++◌, length, Option, Some, None, IfSome, Result, Ok, refl, ap, sym, ◌∙◌, subst, arith, append-nil, append_assoc}
 use Rattle.std.specs.List.{list_all}
 use Rattle.std.proofs.lemmas.Bool.Decides.{nat_tests}
 use Rattle.mh_der.specs.Element.{element}
@@ -25,10 +25,10 @@ use Rattle.mh_codec.specs.Writable.{is_setting, has_settings}
 use Rattle.mh_codec.specs.Gives.{Refusal, ◌>>=◌}
 use Rattle.mh_codec.specs.Reading.{taken, own_at, admitted, some_at, setting, is_items_shape, attribute_at, next_field, gathered, fields}
 use Rattle.mh_codec.proofs.ElementLemmas.{went, if_ok, ok_same, written, Good, same_number, find_holds, taken_found, good_found, taken_given}
-use Rattle.mh_codec.proofs.ValueLemmas.{own_read, own_written, some_ok}
+use Rattle.mh_codec.proofs.ValueLemmas.{own_numbered, own_written, some_ok}
 use Rattle.mh_codec.proofs.ReferenceLemmas.{and_true, both_true, spelled_as}
-use Rattle.mh_codec.proofs.ListLemmas.{fields_more}
 use Rattle.mh_codec.proofs.MemberLemmas.{empty_is, some_left}
+use Rattle.mh_codec.proofs.FitLemmas.{setting_fits}
 use Rattle.mh_codec.proofs.SettingLemmas.{setting_found, setting_given}
 
 -- attributes by their numbers
@@ -104,6 +104,31 @@ items_unfit _ v h = refl
 pub no_items_field : (c : Class) (f : Field) → fits (shape_of c f.attribute) f.setting ≡ true → is_items_shape (shape_of c f.attribute) ≡ false
 no_items_field c f h = items_unfit (shape_of c f.attribute) f.setting h
 
+-- a field that the tables allow and the notation holds, behind others
+pub record FitField (c : Class) (last : ℕ) (f : Field) : Type 0 where
+  pub takes_it : takes c f.attribute ≡ true
+  pub fit : fits (shape_of c f.attribute) f.setting ≡ true
+  pub good : is_setting f.setting ≡ true
+  pub behind : nat_lt last (attribute_number f.attribute) ≡ true
+
+-- fields that the tables allow and the notation holds
+pub record FitFields (c : Class) (last : ℕ) (fs : List Field) : Type 0 where
+  pub take : takes_each c fs ≡ true
+  pub fit : fits_each c fs ≡ true
+  pub good : has_settings fs ≡ true
+  pub rising : rises_above last fs ≡ true
+
+pub none_fit : (c : Class) (last : ℕ) → FitFields c last []
+none_fit c last = record { take = refl; fit = refl; good = refl; rising = refl }
+
+pub more_fit : (c : Class) (last : ℕ) (f : Field) (fs : List Field) → FitField c last f → FitFields c (attribute_number f.attribute) fs → FitFields c last (f ∷ fs)
+more_fit c last f fs one many = record {
+  take = both_true (takes c f.attribute) (takes_each c fs) one.takes_it many.take;
+  fit = both_true (fits (shape_of c f.attribute) f.setting) (fits_each c fs) one.fit many.fit;
+  good = both_true (is_setting f.setting) (has_settings fs) one.good many.good;
+  rising = both_true (nat_lt last (attribute_number f.attribute)) (rises_above (attribute_number f.attribute) fs) one.behind many.rising;
+}
+
 -- an attribute that was read
 record AttributeRead (c : Class) (last : ℕ) (e : Element) (a : Attribute) : Type 0 where
   pub tag : e.tag ≡ own (attribute_number a)
@@ -120,8 +145,8 @@ attribute_read c last e a is =
     let l = if_ok (nat_lt last (attribute_number b.value)) (Ok b.value) WrongOrder e.offset a b.behind in
     let first = ok_same t.1 in
     let second = ok_same l.1 in
-    let tag : e.tag ≡ own (attribute_number named.value) =
-    own_read e n.value n.first ∙ ap own (sym (attribute_numbered n.value named.value (some_ok e UnknownTag (attribute_with n.value) named.value named.first))) in
+    let number = attribute_numbered n.value named.value (some_ok e UnknownTag (attribute_with n.value) named.value named.first) in
+    let tag = own_numbered e n.value (attribute_number named.value) n.first number in
     record {
       tag = subst (λ (x : Attribute). e.tag ≡ own (attribute_number x)) (first ∙ second) tag;
       takes_it = subst (λ (x : Attribute). takes c x ≡ true) (first ∙ second) t.0;
@@ -145,7 +170,7 @@ abbrev IsNext : Class → ℕ → Rest → Option Field → Option Element → R
 IsNext c last left None None rest = left.bytes ≡ []
 IsNext c last left None (Some e) rest = (left.bytes ≡ written e ++ rest.bytes) × ItemsMet c last e rest
 IsNext c last left (Some f) i rest =
-    (left.bytes ≡ field f ++ rest.bytes) × AreBytes rest.bytes × (is_setting f.setting ≡ true) × (nat_lt last (attribute_number f.attribute) ≡ true)
+    (left.bytes ≡ field f ++ rest.bytes) × AreBytes rest.bytes × FitField c last f
 
 abbrev NextIs : Class → ℕ → Rest → Option Field × Option Element × Rest → Type 0
 NextIs c last left x = IsNext c last left x.0 x.1 x.2
@@ -177,8 +202,7 @@ named_found c last left a name false x h f r e =
     subst (NextIs c last left) (ok_same v.behind) (
       f.written ∙ ap (λ (bs : List ℕ). bs ++ a.1.bytes) (spelled_as a.0 (own (attribute_number name)) (value v.value) r.tag s.0),
       f.rest,
-      s.1,
-      r.behind,
+      record { takes_it = r.takes_it; fit = setting_fits (shape_of c name) a.0.contents v.value v.first; good = s.1; behind = r.behind },
     )
 
 next_found : (c : Class) (last : ℕ) (left : Rest) (b : Bool) (x : Option Field × Option Element × Rest) → is_empty left.bytes ≡ b → AreBytes left.bytes
@@ -194,6 +218,32 @@ next_field_found : (c : Class) (last : ℕ) (left : Rest) (x : Option Field × O
 unfolding next_field
 next_field_found c last left x bytes e = next_found c last left (is_empty left.bytes) x refl bytes e
 
+above_is : (n m : ℕ) → nat_lt n m ≡ true → n < m
+above_is n m h = grind (arith, nat_tests)
+
+-- a field has a larger number than the last one
+abbrev Above : ℕ → Option Field × Option Element × Rest → Type 0
+Above last x = IfSome x.0 (λ f. last < attribute_number f.attribute)
+
+named_above : (c : Class) (last : ℕ) (a : Element × Rest) (n : Attribute) (b : Bool) (x : Option Field × Option Element × Rest) → nat_lt last (attribute_number n) ≡ true
+    → (if b then Ok (None, Some a.0, a.1) else (setting (shape_of c n) a.0.contents >>= λ x. Ok (Some (record { attribute = n; setting = x }), None, a.1))) ≡ Ok x → Above last x
+named_above c last a n true x h e = subst (Above last) (ok_same e) tt
+named_above c last a n false x h e =
+    let v = went (setting (shape_of c n) a.0.contents) _ x e in
+    subst (Above last) (ok_same v.behind) (above_is last (attribute_number n) h)
+
+next_above : (c : Class) (last : ℕ) (left : Rest) (b : Bool) (x : Option Field × Option Element × Rest)
+    → (if b then Ok (None, None, left) else (taken left >>= λ a. attribute_at c last a.0 >>= λ name. named_field c name a)) ≡ Ok x → Above last x
+next_above c last left true x e = subst (Above last) (ok_same e) tt
+next_above c last left false x e =
+    let a = went (taken left) _ x e in
+    let name = went (attribute_at c last a.value.0) _ x a.behind in
+    named_above c last a.value name.value (is_items_shape (shape_of c name.value)) x (attribute_read c last a.value.0 name.value name.first).behind name.behind
+
+pub field_above : (c : Class) (last : ℕ) (left rest : Rest) (o : Option Field) (i : Option Element) (f : Field) → next_field c last left ≡ Ok (o, i, rest) → o ≡ Some f → last < attribute_number f.attribute
+unfolding next_field
+field_above c last left rest o i f e some = rw some at (next_above c last left (is_empty left.bytes) (o, i, rest) e)
+
 abbrev pub below_items : List Field → Bool
 below_items fs = list_all (λ f. nat_lt (attribute_number f.attribute) 3) fs
 
@@ -206,8 +256,7 @@ Ends c last left new (Some e) rest = (left.bytes ≡ several field new ++ (writt
 pub record FieldsRead (c : Class) (last : ℕ) (done : List Field) (left : Rest) (y : List Field × Option Element × Rest) : Type 0 where
   pub new : List Field
   pub all : y.0 ≡ done ++ new
-  pub good : has_settings new ≡ true
-  pub rising : rises_above last new ≡ true
+  pub fit : FitFields c last new
   pub ends : Ends c last left new y.1 y.2
 
 still_below : (last n : ℕ) → nat_lt last n ≡ true → nat_lt n 3 ≡ true → nat_lt last 3 ≡ true
@@ -232,17 +281,16 @@ fields_step : (c : Class) (n last : ℕ) (done : List Field) (left : Rest) (o : 
     → gathered (fields c n) done o i rest ≡ Ok y
     → ((m : ℕ) (more : List Field) → AreBytes rest.bytes → fields c n m more rest ≡ Ok y → FieldsRead c m more rest y) → FieldsRead c last done left y
 fields_step c n last done left None None rest y is e further =
-    subst (FieldsRead c last done left) (ok_same e) (record { new = []; all = sym (append-nil done); good = refl; rising = refl; ends = is })
+    subst (FieldsRead c last done left) (ok_same e) (record { new = []; all = sym (append-nil done); fit = none_fit c last; ends = is })
 fields_step c n last done left None (Some x) rest y is e further =
-    subst (FieldsRead c last done left) (ok_same e) (record { new = []; all = sym (append-nil done); good = refl; rising = refl; ends = (is.0, is.1, refl) })
-fields_step c n last done left (Some f) i rest y (stands, bytes, good, behind) e further =
+    subst (FieldsRead c last done left) (ok_same e) (record { new = []; all = sym (append-nil done); fit = none_fit c last; ends = (is.0, is.1, refl) })
+fields_step c n last done left (Some f) i rest y (stands, bytes, fit) e further =
     let more = further (attribute_number f.attribute) (done ++ f ∷ []) bytes e in
     record {
       new = f ∷ more.new;
       all = more.all ∙ append_assoc done (f ∷ []) more.new;
-      good = both_true (is_setting f.setting) (has_settings more.new) good more.good;
-      rising = both_true (nat_lt last (attribute_number f.attribute)) (rises_above (attribute_number f.attribute) more.new) behind more.rising;
-      ends = ends_more c last left rest f more.new y.1 y.2 stands behind more.ends;
+      fit = more_fit c last f more.new fit more.fit;
+      ends = ends_more c last left rest f more.new y.1 y.2 stands fit.behind more.ends;
     }
 
 pub fields_found : (c : Class) (n last : ℕ) (done : List Field) (left : Rest) (y : List Field × Option Element × Rest) → AreBytes left.bytes → fields c n last done left ≡ Ok y → FieldsRead c last done left y
@@ -254,12 +302,6 @@ fields_found c (suc n) last done left y bytes e =
     (λ m more b h. fields_found c n m more x.value.2 y b h)
 
 -- what is spelled is read
-
-pub record FitField (c : Class) (last : ℕ) (f : Field) : Type 0 where
-  pub takes_it : takes c f.attribute ≡ true
-  pub fit : fits (shape_of c f.attribute) f.setting ≡ true
-  pub good : is_setting f.setting ≡ true
-  pub behind : nat_lt last (attribute_number f.attribute) ≡ true
 
 record NextGiven (c : Class) (last : ℕ) (left : Rest) (f : Field) (r : List ℕ) : Type 0 where
   pub rest : Rest
@@ -278,13 +320,6 @@ next_given c last left f r fit is =
     let v = setting_given (shape_of c f.attribute) g.found.contents f.setting fit.fit fit.good g.inner in
     record { rest = g.rest; takes_it = rw (some, g.takes, name, no_items_field c f fit.fit, v) refl; behind = g.behind }
 
--- fields that the tables allow and the notation holds
-pub record FitFields (c : Class) (last : ℕ) (fs : List Field) : Type 0 where
-  pub take : takes_each c fs ≡ true
-  pub fit : fits_each c fs ≡ true
-  pub good : has_settings fs ≡ true
-  pub rising : rises_above last fs ≡ true
-
 pub fit_first : (c : Class) (last : ℕ) (f : Field) (fs : List Field) → FitFields c last (f ∷ fs) → FitField c last f × FitFields c (attribute_number f.attribute) fs
 fit_first c last f fs h =
     let t = and_true (takes c f.attribute) (takes_each c fs) h.take in
@@ -297,6 +332,12 @@ fit_first c last f fs h =
 
 abbrev told : List Field → Option Element → Rest → Result (List Field × Option Element × Rest) Refusal
 told fs i rest = Ok (fs, i, rest)
+
+-- a field, and the fields behind it
+goes_on : (c : Class) (n last : ℕ) (done : List Field) (f : Field) (fs : List Field) (left rest : Rest) (i : Option Element) (end : Rest) → next_field c last left ≡ Ok (Some f, None, rest)
+    → fields c n (attribute_number f.attribute) (done ++ f ∷ []) rest ≡ told ((done ++ f ∷ []) ++ fs) i end → fields c (suc n) last done left ≡ told (done ++ f ∷ fs) i end
+unfolding fields
+goes_on c n last done f fs left rest i end takes more = rw (takes, more) (ap (λ (xs : List Field). told xs i end) (append_assoc done (f ∷ []) fs))
 
 -- fields up to the end
 pub record FieldsGiven (c : Class) (n last : ℕ) (done fs : List Field) (left : Rest) : Type 0 where
@@ -313,8 +354,7 @@ fields_given c (suc n) last done (f ∷ fs) left fit few is =
     let more = fields_given c n (attribute_number f.attribute) (done ++ f ∷ []) fs g.rest parts.1 (omega arith) g.behind in
     record {
       rest = more.rest;
-      takes_all = sym (fields_more c (suc n) n last (attribute_number f.attribute) done (done ++ f ∷ []) left g.rest (Some f) f None (omega arith) g.takes_it refl refl refl)
-          ∙ more.takes_all ∙ ap (λ (xs : List Field). told xs None more.rest) (append_assoc done (f ∷ []) fs);
+      takes_all = goes_on c n last done f fs left g.rest None more.rest g.takes_it more.takes_all;
     }
 
 -- fields up to the element of the items
@@ -350,15 +390,11 @@ to_items c (suc n) last done (f ∷ fs) left inner r fit few them low below is =
     record {
       found = more.found;
       rest = more.rest;
-      takes_all = sym (fields_more c (suc n) n last (attribute_number f.attribute) done (done ++ f ∷ []) left g.rest (Some f) f None (omega arith) g.takes_it refl refl refl)
-          ∙ more.takes_all ∙ ap (λ (xs : List Field). told xs (Some more.found) more.rest) (append_assoc done (f ∷ []) fs);
+      takes_all = goes_on c n last done f fs left g.rest (Some more.found) more.rest g.takes_it more.takes_all;
       small = more.small;
       is = more.is;
       behind = more.behind;
     }
-
-above_is : (n m : ℕ) → nat_lt n m ≡ true → n < m
-above_is n m h = grind (arith, nat_tests)
 
 -- the numbers rise, so there are few fields
 pub few_fields : (last : ℕ) (fs : List Field) → last ≤ 38 → rises_above last fs ≡ true → length fs + last ≤ 38

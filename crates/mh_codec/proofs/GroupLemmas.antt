@@ -1,10 +1,12 @@
--- Ingredients and groups: what was read is spelled so, and what is spelled so is read.
-use Rattle.std.proofs.Common.{◌≡◌, ℕ, suc, ◌+◌, ◌<◌, ◌^◌, Bool, true, false, ◌&&◌, not, ◌==◌, nat_lt, if◌then◌else◌, List, [], ◌∷◌, ◌++◌, take, drop, Option, Some, None, is_none, Ok, pos, refl, ap, sym, ◌∙◌, subst, arith, append-nil, take-append-drop}
+-- Ingredients and groups: what was read is spelled so and is what the tables allow, and what is spelled
+-- so is read.
+use Rattle.std.proofs.Common.{◌≡◌, ℕ, suc, ◌+◌, ◌<◌, ◌^◌, Bool, true, false, ◌&&◌, not, ◌==◌, nat_lt, nat_le, if◌then◌else◌, List, [], ◌∷◌, ◌++◌, length, take, drop, Option, Some, None, is_none, Ok, pos, refl, ap, sym, ◌∙◌, subst, arith, take-append-drop}
 use Rattle.std.specs.Option.{option_or}
 use Rattle.std.specs.List.{list_all}
 use Rattle.std.proofs.lemmas.Bool.Decides.{nat_tests}
+use Rattle.std.proofs.lemmas.List.Folds.{list_all-append}
 use Rattle.mh_base.specs.Path.{is_name_byte}
-use Rattle.mh_der.specs.Tags.{octet_string_tag, sequence_tag}
+use Rattle.mh_der.specs.Tags.{sequence_tag}
 use Rattle.mh_der.specs.Rest.{Rest, Element}
 use Rattle.mh_der.proofs.DigitLemmas.{AreBytes}
 use Rattle.mh_group.specs.declared.class.Class.{Class}
@@ -17,18 +19,18 @@ use Rattle.mh_group.specs.declared.written.Written.{Written}
 use Rattle.mh_group.specs.declared.misfit.MisfitWhy.{MisfitWhy}
 use Rattle.mh_group.specs.Table.{class_number, attribute_number, takes, shape_of, is_group_class}
 use Rattle.mh_group.specs.Words.{classes}
-use Rattle.mh_group.specs.Fit.{fits, is_rising, rises_above, has_required, takes_each, fits_each, fields_misfit, ingredient_misfit, ingredients_misfit, misfit_of, written_items, items_of, is_group}
+use Rattle.mh_group.specs.Fit.{fits, before_items, is_rising, rises_above, has_required, takes_each, fits_each, fields_misfit, ingredient_misfit, ingredients_misfit, misfit_of, written_items, items_of, is_group}
 use Rattle.mh_codec.specs.declared.codec_error.Why.TheVariants.{UnknownTag, MissingField, BadValue}
 use Rattle.mh_codec.specs.Tags.{class_with}
-use Rattle.mh_codec.specs.Spelling.{own, natural, octet_string, several, list, named, field, ingredient, items, before_items, body as body_octets, group}
+use Rattle.mh_codec.specs.Spelling.{own, natural, octet_string, several, list, named, field, ingredient, items, body as body_octets, group}
 use Rattle.mh_codec.specs.Writable.{is_setting, is_number, is_list, has_settings, is_ingredient, is_writable}
-use Rattle.mh_codec.specs.Reading.{taken, ended, only, sequence_at, own_at, is_same, some_at, name_at, number_at, ingredient_number_at, fields, complete, class_at, list_at, ingredient_at, items_at, with_items, body, identifier_in, group_at, is_items_shape}
-use Rattle.mh_codec.proofs.ElementLemmas.{went, if_ok, ok_same, written, Good, same_element, same_number, find_holds, taken_found, good_found, taken_given, nothing_left, ended_given}
-use Rattle.mh_codec.proofs.ValueLemmas.{own_read, own_written, some_ok, sequence_read, sequence_written, name_read, name_written, number_read, number_written, ingredient_number_read, ingredient_number_written}
-use Rattle.mh_codec.proofs.ReferenceLemmas.{IsOne, Reads, and_true, both_true, spelled_as, integer_one, only_read, only_written}
+use Rattle.mh_codec.specs.Reading.{taken, only, sequence_at, own_at, is_same, some_at, named_in, ingredient_number_at, fields, complete, class_at, list_at, ingredient_at, items_at, with_items, body, identifier_in, group_at, is_items_shape}
+use Rattle.mh_codec.proofs.ElementLemmas.{went, if_ok, ok_same, ok_holds, written, in_parts, Good, same_element, same_number, find_holds, taken_found, good_found, taken_given}
+use Rattle.mh_codec.proofs.ValueLemmas.{own_numbered, own_written, some_ok, sequence_read, sequence_written, number_read, number_written, ingredient_number_read, ingredient_number_written}
+use Rattle.mh_codec.proofs.ReferenceLemmas.{IsOne, Reads, and_true, both_true, spelled_as, integer_one, only_read, only_written, Named, named_read, named_written}
 use Rattle.mh_codec.proofs.MemberLemmas.{list_reads}
 use Rattle.mh_codec.proofs.RowLemmas.{list_fit}
-use Rattle.mh_codec.proofs.FieldLemmas.{Ends, fields_found, FitField, FitFields, fit_first, no_items_field, fields_given, to_items, below_items, few_fields}
+use Rattle.mh_codec.proofs.FieldLemmas.{Ends, fields_found, FitField, FitFields, none_fit, more_fit, fit_first, no_items_field, fields_given, to_items, below_items, few_fields}
 
 -- classes by their numbers
 
@@ -66,7 +68,7 @@ class_read wants e c is =
     let named = went (some_at e UnknownTag (class_with n.value)) _ c n.behind in
     let t = if_ok (is_same wants (is_group_class named.value)) (Ok named.value) UnknownTag e.offset c named.behind in
     subst (ClassRead wants e) (ok_same t.1) (
-      own_read e n.value n.first ∙ ap own (sym (class_numbered n.value named.value (some_ok e UnknownTag (class_with n.value) named.value named.first))),
+      own_numbered e n.value (class_number named.value) n.first (class_numbered n.value named.value (some_ok e UnknownTag (class_with n.value) named.value named.first)),
       t.0,
     )
 
@@ -74,11 +76,12 @@ class_written : (wants : Bool) (e : Element) (c : Class) → e.tag ≡ own (clas
 unfolding class_at
 class_written wants e c tag same = rw (own_written e (class_number c) tag, (class_named c).0, same) refl
 
-complete_is : (c : Class) (fs : List Field) (e : Element) (gs : List Field) → complete c fs e ≡ Ok gs → fs ≡ gs
+complete_is : (c : Class) (fs : List Field) (e : Element) (gs : List Field) → complete c fs e ≡ Ok gs → (fs ≡ gs) × (has_required c gs ≡ true)
 unfolding complete
 complete_is c fs e gs is =
     let t = if_ok (has_required c fs) (Ok fs) MissingField e.offset gs is in
-    ok_same t.1
+    let same = ok_same t.1 in
+    (same, subst (λ (xs : List Field). has_required c xs ≡ true) same t.0)
 
 complete_given : (c : Class) (fs : List Field) (e : Element) → has_required c fs ≡ true → complete c fs e ≡ Ok fs
 unfolding complete
@@ -93,31 +96,7 @@ no_items : (c : Class) (left : Rest) (new : List Field) (i : Option Element) (re
 no_items c left new None rest h ends = ends
 no_items c left new (Some e) rest h (stands, met, below) = absurd (not_group c h met.takes_them)
 
--- ingredients
-
-abbrev Spelled : Element → Ingredient → Type 0
-Spelled e i = (written e ≡ ingredient i) × (is_ingredient i ≡ true)
-
-ingredient_read : (e : Element) (i : Ingredient) → Good e → ingredient_at e ≡ Ok i → Spelled e i
-unfolding ingredient_at ingredient
-ingredient_read e i good is =
-    let c = went (class_at false e) _ i is in
-    let named = class_read false e c.value c.first in
-    let a = went (taken e.contents) _ i c.behind in
-    let f = taken_found e.contents a.value.0 a.value.1 good.bytes a.first in
-    let n = went (ingredient_number_at a.value.0) _ i a.behind in
-    let number = number_read a.value.0 n.value (good_found e.contents a.value.0 a.value.1 f) (ingredient_number_read a.value.0 n.value n.first).0 in
-    let x = went (fields c.value 64 0 [] a.value.1) _ i n.behind in
-    let r = fields_found c.value 64 0 [] a.value.1 x.value f.rest x.first in
-    let d = went (complete c.value x.value.0 e) _ i x.behind in
-    let kept : r.new ≡ d.value = sym r.all ∙ complete_is c.value x.value.0 e d.value d.first in
-    let rest : a.value.1.bytes ≡ several field d.value = no_items c.value a.value.1 r.new x.value.1 x.value.2 named.1 r.ends ∙ ap (several field) kept in
-    let inner : e.contents.bytes ≡ natural n.value ++ several field d.value =
-    f.written ∙ ap (λ (bs : List ℕ). bs ++ a.value.1.bytes) number.0 ∙ ap (λ (bs : List ℕ). natural n.value ++ bs) rest in
-    subst (Spelled e) (ok_same d.behind) (
-      spelled_as e (own (class_number c.value)) (natural n.value ++ several field d.value) named.0 inner,
-      both_true (is_number n.value) (has_settings d.value) number.1 (subst (λ (fs : List Field). has_settings fs ≡ true) kept r.good),
-    )
+-- fields with nothing wrong
 
 -- what an object's fields are, where nothing is wrong with them
 record AreRight (c : Class) (fs : List Field) : Type 0 where
@@ -163,6 +142,56 @@ same_false b h = rw h refl
 fit_fields : (c : Class) (fs : List Field) → AreRight c fs → has_settings fs ≡ true → FitFields c 0 fs
 fit_fields c fs right good = record { take = right.take; fit = right.fit; good = good; rising = right.rising }
 
+-- and nothing is wrong with fields that are so
+fields_fit : (c : Class) (fs : List Field) → FitFields c 0 fs → has_required c fs ≡ true → fields_misfit c fs ≡ None
+fields_fit c fs fit required = rw (fit.rising, required, fit.take, fit.fit) refl
+
+group_or_not : (b : Bool) → is_same false b ≡ true → b ≡ false
+group_or_not true h = absurd cc
+group_or_not false h = refl
+
+ingredient_fits : (c : Class) (n : ℕ) (fs : List Field) → is_same false (is_group_class c) ≡ true → (n == 0) ≡ false → is_number n ≡ true → FitFields c 0 fs → has_required c fs ≡ true
+    → fits_ingredient (record { class = c; number = n; fields = fs }) ≡ true
+ingredient_fits c n fs kind numbered small fit required = rw (group_or_not (is_group_class c) kind, numbered, fields_fit c fs fit required, small) fit.good
+
+-- ingredients
+
+-- the fields of an ingredient, and nothing behind them
+record OwnFields (c : Class) (left : Rest) (fs : List Field) : Type 0 where
+  pub is : left.bytes ≡ several field fs
+  pub fit : FitFields c 0 fs
+  pub required : has_required c fs ≡ true
+
+own_fields : (c : Class) (left : Rest) (x : List Field × Option Element × Rest) (e : Element) (fs : List Field) → is_same false (is_group_class c) ≡ true → AreBytes left.bytes → fields c 64 0 [] left ≡ Ok x
+    → complete c x.0 e ≡ Ok fs → OwnFields c left fs
+own_fields c left x e fs kind bytes read done =
+    let r = fields_found c 64 0 [] left x bytes read in
+    let all = complete_is c x.0 e fs done in
+    let kept = sym r.all ∙ all.0 in
+    record { is = no_items c left r.new x.1 x.2 kind r.ends ∙ ap (several field) kept; fit = subst (FitFields c 0) kept r.fit; required = all.1 }
+
+abbrev Spelled : Element → Ingredient → Type 0
+Spelled e i = (written e ≡ ingredient i) × (fits_ingredient i ≡ true)
+
+ingredient_read : (e : Element) (i : Ingredient) → Good e → ingredient_at e ≡ Ok i → Spelled e i
+unfolding ingredient_at ingredient
+ingredient_read e i good is =
+    let c = went (class_at false e) _ i is in
+    let named = class_read false e c.value c.first in
+    let a = went (taken e.contents) _ i c.behind in
+    let f = taken_found e.contents a.value.0 a.value.1 good.bytes a.first in
+    let n = went (ingredient_number_at a.value.0) _ i a.behind in
+    let some = ingredient_number_read a.value.0 n.value n.first in
+    let number = number_read a.value.0 n.value (good_found e.contents a.value.0 a.value.1 f) some.0 in
+    let x = went (fields c.value 64 0 [] a.value.1) _ i n.behind in
+    let d = went (complete c.value x.value.0 e) _ i x.behind in
+    let b = own_fields c.value a.value.1 x.value e d.value named.1 f.rest x.first d.first in
+    let inner = in_parts e.contents.bytes (written a.value.0) a.value.1.bytes (natural n.value) (several field d.value) f.written number.0 b.is in
+    ok_holds (Spelled e) (record { class = c.value; number = n.value; fields = d.value }) i d.behind (
+      spelled_as e (own (class_number c.value)) (natural n.value ++ several field d.value) named.0 inner,
+      ingredient_fits c.value n.value d.value named.1 some.1 number.1 b.fit b.required,
+    )
+
 ingredient_written : (e : Element) (i : Ingredient) → e.tag.number < 2 ^ 16 → fits_ingredient i ≡ true → written e ≡ ingredient i → ingredient_at e ≡ Ok i
 unfolding ingredient_at ingredient
 ingredient_written e i small fit is =
@@ -184,7 +213,7 @@ ingredient_one : (i : Ingredient) → IsOne (ingredient i)
 unfolding ingredient
 ingredient_one i = record { tag = own (class_number i.class); contents = natural i.number ++ several field i.fields; small = (class_named i.class).1; is = refl }
 
-ingredient_reads : Reads ingredient_at ingredient is_ingredient fits_ingredient
+ingredient_reads : Reads ingredient_at ingredient fits_ingredient fits_ingredient
 ingredient_reads = record {
   found = ingredient_read;
   given = ingredient_written;
@@ -193,10 +222,10 @@ ingredient_reads = record {
 
 -- the items
 
-members : Reads (list_at ingredient_at 4096) (list ingredient) (is_list is_ingredient) (is_list fits_ingredient)
+members : Reads (list_at ingredient_at 4096) (list ingredient) (is_list fits_ingredient) (is_list fits_ingredient)
 members = list_reads ingredient_reads
 
-items_read : (e : Element) (is : List Ingredient) → Good e → e.tag ≡ own 3 → items_at e ≡ Ok is → (written e ≡ items is) × (is_list is_ingredient is ≡ true)
+items_read : (e : Element) (is : List Ingredient) → Good e → e.tag ≡ own 3 → items_at e ≡ Ok is → (written e ≡ items is) × (is_list fits_ingredient is ≡ true)
 unfolding items_at items
 items_read e is good tag read =
     let a = went (only e.contents) _ is read in
@@ -249,17 +278,6 @@ record Parted (c : Class) (last : ℕ) (before after : List Field) : Type 0 wher
 abbrev PartedAt : Class → ℕ → ℕ → List Field → Type 0
 PartedAt c last k fs = Parted c last (take k fs) (drop k fs)
 
-none_fit : (c : Class) (last : ℕ) → FitFields c last []
-none_fit c last = record { take = refl; fit = refl; good = refl; rising = refl }
-
-more_fit : (c : Class) (last : ℕ) (f : Field) (fs : List Field) → FitField c last f → FitFields c (attribute_number f.attribute) fs → FitFields c last (f ∷ fs)
-more_fit c last f fs one many = record {
-  take = both_true (takes c f.attribute) (takes_each c fs) one.takes_it many.take;
-  fit = both_true (fits (shape_of c f.attribute) f.setting) (fits_each c fs) one.fit many.fit;
-  good = both_true (is_setting f.setting) (has_settings fs) one.good many.good;
-  rising = both_true (nat_lt last (attribute_number f.attribute)) (rises_above (attribute_number f.attribute) fs) one.behind many.rising;
-}
-
 parted_first : (c : Class) (last : ℕ) (f : Field) (fs : List Field) (b : Bool) → nat_lt (attribute_number f.attribute) 3 ≡ b → FitField c last f → FitFields c (attribute_number f.attribute) fs
     → PartedAt c (attribute_number f.attribute) (before_items fs) fs → PartedAt c last (if b then 1 + before_items fs else 0) (f ∷ fs)
 parted_first c last f fs true h one many more =
@@ -282,51 +300,70 @@ parted c last (f ∷ fs) fit =
     let parts = fit_first c last f fs fit in
     parted_first c last f fs (nat_lt (attribute_number f.attribute) 3) refl parts.0 parts.1 (parted c (attribute_number f.attribute) fs parts.1)
 
-settings_both : (fs gs : List Field) → has_settings fs ≡ true → has_settings gs ≡ true → has_settings (fs ++ gs) ≡ true
-settings_both [] gs h i = i
-settings_both (f ∷ fs) gs h i =
-    let parts = and_true (is_setting f.setting) (has_settings fs) h in
-    both_true (is_setting f.setting) (has_settings (fs ++ gs)) parts.0 (settings_both fs gs parts.1 i)
+rises_from : (last n : ℕ) → nat_lt last 3 ≡ true → nat_lt 3 n ≡ true → nat_lt last n ≡ true
+rises_from last n h i = grind (arith, nat_tests)
+
+-- fields behind others that are below the items
+rises_both : (last : ℕ) (before after : List Field) → nat_lt last 3 ≡ true → rises_above last before ≡ true → below_items before ≡ true → rises_above 3 after ≡ true → rises_above last (before ++ after) ≡ true
+rises_both last [] [] low rises below rest = refl
+rises_both last [] (f ∷ fs) low rises below rest =
+    let parts = and_true (nat_lt 3 (attribute_number f.attribute)) (rises_above (attribute_number f.attribute) fs) rest in
+    both_true (nat_lt last (attribute_number f.attribute)) _ (rises_from last (attribute_number f.attribute) low parts.0) parts.1
+rises_both last (b ∷ bs) after low rises below rest =
+    let parts = and_true (nat_lt last (attribute_number b.attribute)) (rises_above (attribute_number b.attribute) bs) rises in
+    let lower = and_true (nat_lt (attribute_number b.attribute) 3) (below_items bs) below in
+    both_true (nat_lt last (attribute_number b.attribute)) _ parts.0 (rises_both (attribute_number b.attribute) bs after lower.0 parts.1 lower.1 rest)
+
+all_both : (p : Field → Bool) (fs gs : List Field) → list_all p fs ≡ true → list_all p gs ≡ true → list_all p (fs ++ gs) ≡ true
+all_both p fs gs h i = rw (list_all-append p fs gs, h, i) refl
+
+both_fit : (c : Class) (before after : List Field) → FitFields c 0 before → below_items before ≡ true → FitFields c 3 after → FitFields c 0 (before ++ after)
+both_fit c before after front below behind = record {
+  take = all_both (λ f. takes c f.attribute) before after front.take behind.take;
+  fit = all_both (λ f. fits (shape_of c f.attribute) f.setting) before after front.fit behind.fit;
+  good = all_both (λ f. is_setting f.setting) before after front.good behind.good;
+  rising = rises_both 0 before after refl front.rising below behind.rising;
+}
 
 -- the fields of a group and its items
 
-abbrev BodyIs : Rest → List Field × Option (List Ingredient) → Type 0
-BodyIs left z = (left.bytes ≡ body_octets z.1 z.0) × (has_settings z.0 ≡ true) × (is_list is_ingredient (written_items z.1) ≡ true)
+abbrev BodyIs : Class → Rest → List Field × Option (List Ingredient) → Type 0
+BodyIs c left z = (left.bytes ≡ body_octets z.1 z.0) × FitFields c 0 z.0 × (is_list fits_ingredient (written_items z.1) ≡ true)
 
 never_again : (c : Class) (left : Rest) (new : List Field) (i : Option Element) (rest : Rest) → Ends c 3 left new i rest → left.bytes ≡ several field new
 never_again c left new None rest ends = ends
 never_again c left new (Some e) rest (stands, met, below) = absurd (let h = met.behind in cc)
 
-with_items_read : (c : Class) (left : Rest) (before : List Field) (i : Option Element) (behind : Rest) (new : List Field) (z : List Field × Option (List Ingredient)) → before ≡ new → has_settings new ≡ true
-    → Ends c 0 left new i behind → with_items c before i behind ≡ Ok z → BodyIs left z
+with_items_read : (c : Class) (left : Rest) (before : List Field) (i : Option Element) (behind : Rest) (new : List Field) (z : List Field × Option (List Ingredient)) → before ≡ new → FitFields c 0 new
+    → Ends c 0 left new i behind → with_items c before i behind ≡ Ok z → BodyIs c left z
 unfolding body_octets
-with_items_read c left before None behind new z kept good ends e =
-    subst (BodyIs left) (ok_same e) (ends ∙ ap (several field) (sym kept), subst (λ (fs : List Field). has_settings fs ≡ true) (sym kept) good, refl)
-with_items_read c left before (Some e) behind new z kept good (stands, met, below) read =
+with_items_read c left before None behind new z kept fit ends e =
+    subst (BodyIs c left) (ok_same e) (ends ∙ ap (several field) (sym kept), subst (FitFields c 0) (sym kept) fit, refl)
+with_items_read c left before (Some e) behind new z kept fit (stands, met, below) read =
     let is = went (items_at e) _ z read in
     let y = went (fields c 64 3 before behind) _ z is.behind in
     let them = items_read e is.value met.good met.tag is.first in
     let q = fields_found c 64 3 before behind y.value met.bytes y.first in
     let after = never_again c behind q.new y.value.1 y.value.2 q.ends in
     let all : y.value.0 ≡ new ++ q.new = q.all ∙ ap (λ (fs : List Field). fs ++ q.new) kept in
-    let cut = cut_is new q.new below q.rising in
+    let cut = cut_is new q.new below q.fit.rising in
     let octets : left.bytes ≡ several field new ++ (items is.value ++ several field q.new) =
     stands ∙ ap (λ (bs : List ℕ). several field new ++ (bs ++ behind.bytes)) them.0 ∙ ap (λ (bs : List ℕ). several field new ++ (items is.value ++ bs)) after in
     let whole : left.bytes ≡ body_octets (Some is.value) (new ++ q.new) =
     octets ∙ ap (λ (fs : List Field). several field fs ++ (items is.value ++ several field q.new)) (sym cut.0)
     ∙ ap (λ (fs : List Field). several field (take (before_items (new ++ q.new)) (new ++ q.new)) ++ (items is.value ++ several field fs)) (sym cut.1) in
-    subst (BodyIs left) (ok_same y.behind) (
+    subst (BodyIs c left) (ok_same y.behind) (
       whole ∙ ap (λ (fs : List Field). body_octets (Some is.value) fs) (sym all),
-      subst (λ (fs : List Field). has_settings fs ≡ true) (sym all) (settings_both new q.new good q.good),
+      subst (FitFields c 0) (sym all) (both_fit c new q.new fit below q.fit),
       them.1,
     )
 
-body_read : (c : Class) (left : Rest) (z : List Field × Option (List Ingredient)) → AreBytes left.bytes → body c left ≡ Ok z → BodyIs left z
+body_read : (c : Class) (left : Rest) (z : List Field × Option (List Ingredient)) → AreBytes left.bytes → body c left ≡ Ok z → BodyIs c left z
 unfolding body
 body_read c left z bytes e =
     let x = went (fields c 64 0 [] left) _ z e in
     let r = fields_found c 64 0 [] left x.value bytes x.first in
-    with_items_read c left x.value.0 x.value.1 x.value.2 r.new z r.all r.good r.ends x.behind
+    with_items_read c left x.value.0 x.value.1 x.value.2 r.new z r.all r.fit r.ends x.behind
 
 body_written : (c : Class) (left : Rest) (fs : List Field) (its : Option (List Ingredient)) → is_group_class c ≡ true → FitFields c 0 fs → is_list fits_ingredient (written_items its) ≡ true
     → left.bytes ≡ body_octets its fs → body c left ≡ Ok (fs, its)
@@ -347,46 +384,70 @@ body_written c left fs (Some is) group_class fit good stands =
 
 -- groups
 
-zero_is : (n : ℕ) → (n == 0) ≡ true → n ≡ 0
-zero_is n h = same_number n 0 h
-
-abbrev Identifies : List ℕ → List ℕ → Type 0
-Identifies bs name = (bs ≡ octet_string name ++ natural 0) × (list_all is_name_byte name ≡ true)
-
-identifier_read : (left : Rest) (name : List ℕ) → AreBytes left.bytes → identifier_in left ≡ Ok name → Identifies left.bytes name
+identifier_read : (left : Rest) (name : List ℕ) → AreBytes left.bytes → identifier_in left ≡ Ok name → Named left.bytes name 0
 unfolding identifier_in
 identifier_read left name bytes is =
-    let a = went (taken left) _ name is in
-    let f = taken_found left a.value.0 a.value.1 bytes a.first in
-    let m = went (name_at a.value.0) _ name a.behind in
-    let b = went (taken a.value.1) _ name m.behind in
-    let g = taken_found a.value.1 b.value.0 b.value.1 f.rest b.first in
-    let number = went (number_at b.value.0) _ name b.behind in
-    let end = went (ended b.value.1) _ name number.behind in
-    let t = if_ok (number.value == 0) (Ok m.value) BadValue b.value.0.offset name end.behind in
-    let none = nothing_left b.value.1 end.first in
-    let n = name_read a.value.0 m.value m.first in
-    let k = number_read b.value.0 number.value (good_found a.value.1 b.value.0 b.value.1 g) number.first in
-    let second : a.value.1.bytes ≡ natural 0 =
-    g.written ∙ ap (λ (bs : List ℕ). written b.value.0 ++ bs) none ∙ append-nil (written b.value.0) ∙ k.0 ∙ ap natural (zero_is number.value t.0) in
-    subst (Identifies left.bytes) (ok_same t.1) (
-      f.written ∙ ap (λ (bs : List ℕ). written a.value.0 ++ bs) second ∙ ap (λ (bs : List ℕ). bs ++ natural 0) n.0,
-      n.1,
-    )
+    let x = went (named_in left) _ name is in
+    let t = if_ok (x.value.1 == 0) (Ok x.value.0) BadValue x.value.2.offset name x.behind in
+    let named = subst (λ (n : ℕ). Named left.bytes x.value.0 n) (same_number x.value.1 0 t.0) (named_read left x.value bytes x.first) in
+    subst (λ (bs : List ℕ). Named left.bytes bs 0) (ok_same t.1) named
 
 identifier_written : (left : Rest) (name : List ℕ) → list_all is_name_byte name ≡ true → left.bytes ≡ octet_string name ++ natural 0 → identifier_in left ≡ Ok name
-unfolding identifier_in octet_string
+unfolding identifier_in
 identifier_written left name good e =
-    let one = integer_one (pos 0) in
-    let a = taken_given left octet_string_tag name (natural 0) (omega arith) e in
-    let b = taken_given a.rest one.tag one.contents [] one.small (a.behind ∙ one.is ∙ sym (append-nil _)) in
-    rw (a.takes, name_written a.found name a.small good a.is, b.takes, number_written b.found 0 b.small refl (b.is ∙ sym one.is), ended_given b.rest b.behind) refl
+    let x = named_written left name 0 (both_true (list_all is_name_byte name) true good refl) e in
+    rw x.takes refl
+
+-- what the ingredients are, where each of them fits
+record AllFit (is : List Ingredient) : Type 0 where
+  pub none_wrong : ingredients_misfit is ≡ None
+  pub good : list_all is_ingredient is ≡ true
+
+all_fit : (is : List Ingredient) → list_all fits_ingredient is ≡ true → AllFit is
+all_fit [] h = record { none_wrong = refl; good = refl }
+all_fit (i ∷ is) h =
+    let parts = and_true (fits_ingredient i) (list_all fits_ingredient is) h in
+    let one = and_true (is_none (ingredient_misfit i)) (is_ingredient i) parts.0 in
+    let more = all_fit is parts.1 in
+    record { none_wrong = rw (none_is (ingredient_misfit i) one.0, more.none_wrong) refl; good = both_true (is_ingredient i) (list_all is_ingredient is) one.1 more.good }
+
+-- the fields and the items of a group, and nothing behind them
+record WholeBody (c : Class) (left : Rest) (fs : List Field) (its : Option (List Ingredient)) : Type 0 where
+  pub is : left.bytes ≡ body_octets its fs
+  pub fit : FitFields c 0 fs
+  pub required : has_required c fs ≡ true
+  pub none_wrong : ingredients_misfit (written_items its) ≡ None
+  pub good : is_list is_ingredient (written_items its) ≡ true
+
+group_fits : (c : Class) (name : List ℕ) (left : Rest) (fs : List Field) (its : Option (List Ingredient)) → is_group_class c ≡ true → WholeBody c left fs its
+    → is_group (record { class = c; identifier = name; fields = fs; items = its }) ≡ true
+unfolding misfit_of
+group_fits c name left fs its class b = rw (class, fields_fit c fs b.fit b.required, b.none_wrong) refl
+
+group_held : (c : Class) (name : List ℕ) (left : Rest) (fs : List Field) (its : Option (List Ingredient)) → list_all is_name_byte name ≡ true → WholeBody c left fs its
+    → is_writable (record { class = c; identifier = name; fields = fs; items = its }) ≡ true
+unfolding is_writable
+group_held c name left fs its named b = rw (named, b.fit.good) b.good
+
+whole_body : (c : Class) (left : Rest) (x : List Field × Option (List Ingredient)) (e : Element) (fs : List Field) → AreBytes left.bytes → body c left ≡ Ok x → complete c x.0 e ≡ Ok fs → WholeBody c left fs x.1
+whole_body c left x e fs bytes read done =
+    let b = body_read c left x bytes read in
+    let all = complete_is c x.0 e fs done in
+    let few = and_true (nat_le (length (written_items x.1)) 4096) (list_all fits_ingredient (written_items x.1)) b.2 in
+    let them = all_fit (written_items x.1) few.1 in
+    record {
+      is = b.0 ∙ ap (λ (gs : List Field). body_octets x.1 gs) all.0;
+      fit = subst (FitFields c 0) all.0 b.1;
+      required = all.1;
+      none_wrong = them.none_wrong;
+      good = both_true (nat_le (length (written_items x.1)) 4096) (list_all is_ingredient (written_items x.1)) few.0 them.good;
+    }
 
 abbrev GroupIs : Element → Written → Type 0
-GroupIs e g = (written e ≡ group g) × (is_writable g ≡ true)
+GroupIs e g = (written e ≡ group g) × (is_writable g ≡ true) × (is_group g ≡ true)
 
 pub group_read : (e : Element) (g : Written) → Good e → group_at e ≡ Ok g → GroupIs e g
-unfolding group_at group named is_writable
+unfolding group_at group named
 group_read e g good is =
     let c = went (class_at true e) _ g is in
     let called = class_read true e c.value c.first in
@@ -397,17 +458,15 @@ group_read e g good is =
     let name = went (identifier_in inner.value) _ g inner.behind in
     let i = identifier_read inner.value name.value (subst (λ (r : Rest). AreBytes r.bytes) s.1 f.contents) name.first in
     let x = went (body c.value a.value.1) _ g name.behind in
-    let b = body_read c.value a.value.1 x.value f.rest x.first in
     let d = went (complete c.value x.value.0 e) _ g x.behind in
-    let kept : x.value.0 ≡ d.value = complete_is c.value x.value.0 e d.value d.first in
+    let b = whole_body c.value a.value.1 x.value e d.value f.rest x.first d.first in
     let identity : written a.value.0 ≡ named name.value 0 =
     spelled_as a.value.0 sequence_tag (octet_string name.value ++ natural 0) s.0 (ap (λ (r : Rest). r.bytes) s.1 ∙ i.0) in
-    let rest : a.value.1.bytes ≡ body_octets x.value.1 d.value = b.0 ∙ ap (λ (fs : List Field). body_octets x.value.1 fs) kept in
-    let contents : e.contents.bytes ≡ named name.value 0 ++ body_octets x.value.1 d.value =
-    f.written ∙ ap (λ (bs : List ℕ). bs ++ a.value.1.bytes) identity ∙ ap (λ (bs : List ℕ). named name.value 0 ++ bs) rest in
-    subst (GroupIs e) (ok_same d.behind) (
+    let contents = in_parts e.contents.bytes (written a.value.0) a.value.1.bytes (named name.value 0) (body_octets x.value.1 d.value) f.written identity b.is in
+    ok_holds (GroupIs e) (record { class = c.value; identifier = name.value; fields = d.value; items = x.value.1 }) g d.behind (
       spelled_as e (own (class_number c.value)) (named name.value 0 ++ body_octets x.value.1 d.value) called.0 contents,
-      both_true (list_all is_name_byte name.value) _ i.1 (both_true (has_settings d.value) _ (subst (λ (fs : List Field). has_settings fs ≡ true) kept b.1) b.2),
+      group_held c.value name.value a.value.1 d.value x.value.1 (and_true (list_all is_name_byte name.value) true i.1).0 b,
+      group_fits c.value name.value a.value.1 d.value x.value.1 called.1 b,
     )
 
 record IsRight (g : Written) : Type 0 where

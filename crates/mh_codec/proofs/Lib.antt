@@ -5,6 +5,7 @@ pub mod ValueLemmas
 pub mod ReferenceLemmas
 pub mod MemberLemmas
 pub mod ActionLemmas
+pub mod FitLemmas
 pub mod RowLemmas
 pub mod PairLemmas
 pub mod SettingLemmas

@@ -7,7 +7,7 @@ use Rattle.mh_group.specs.Table.{attribute_number}
 use Rattle.mh_codec.specs.declared.codec_error.CodecError.{CodecError}
 use Rattle.mh_codec.specs.declared.codec_error.CodecError.TheVariants.{At, NoMemory}
 use Rattle.mh_codec.specs.declared.codec_error.Why.TheVariants.{Limit}
-use Rattle.mh_codec.specs.Gives.{Refusal, refused, Fails, ◌>>=◌}
+use Rattle.mh_codec.specs.Gives.{Refusal, Fails, ◌>>=◌}
 use Rattle.mh_codec.specs.Reading.{exhausted, listed, next_member, fields, next_field}
 
 -- a refusal stays, whatever was to follow
@@ -62,9 +62,3 @@ fields_more c zero k last number done more left rest o f i h e s m l = absurd (o
 fields_more c (suc n) k last number done more left rest o f i h e s m l =
     let same : k ≡ n = omega arith in
     rw (e, s, m, l, same) refl
-
--- fields that may be no more
-pub fields_over : (c : Class) (n last : ℕ) (done : List Field) (left : Rest) → n ≡ 0 → fields c n last done left ≡ refused Limit left.offset
-unfolding fields
-fields_over c zero last done left z = refl
-fields_over c (suc n) last done left z = absurd (omega arith)

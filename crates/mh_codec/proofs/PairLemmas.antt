@@ -13,7 +13,7 @@ use Rattle.mh_codec.specs.declared.codec_error.Why.TheVariants.{BadValue}
 use Rattle.mh_codec.specs.Spelling.{integer, natural, position}
 use Rattle.mh_codec.specs.Writable.{is_integer, is_position}
 use Rattle.mh_codec.specs.Reading.{taken, ended, integer_at, natural_at, fixed_at, sequence_at, position_at, part, pair}
-use Rattle.mh_codec.proofs.ElementLemmas.{went, if_ok, ok_same, written, Good, same_element, taken_found, good_found, taken_given, nothing_left, ended_given}
+use Rattle.mh_codec.proofs.ElementLemmas.{went, if_ok, ok_same, written, in_parts, last_part, Good, same_element, taken_found, good_found, taken_given, nothing_left, ended_given}
 use Rattle.mh_codec.proofs.ValueLemmas.{sequence_read, sequence_written, integer_read, integer_written, natural_read, natural_written}
 use Rattle.mh_codec.proofs.ReferenceLemmas.{IsOne, Reads, and_true, both_true, spelled_as, integer_one}
 
@@ -51,9 +51,9 @@ pair_read s left p bytes is =
     let none = nothing_left b.value.1 end.first in
     let first = part_read s (pos 720) a.value.0 x.value (good_found left a.value.0 a.value.1 f) x.first in
     let second = part_read s (pos 576) b.value.0 y.value (good_found a.value.1 b.value.0 b.value.1 g) y.first in
-    let rest : a.value.1.bytes ≡ integer y.value = g.written ∙ ap (λ (bs : List ℕ). written b.value.0 ++ bs) none ∙ append-nil (written b.value.0) ∙ second.0 in
+    let rest = last_part a.value.1.bytes (written b.value.0) b.value.1.bytes (integer y.value) g.written none second.0 in
     subst (IsPair left.bytes) (ok_same end.behind) (
-      f.written ∙ ap (λ (bs : List ℕ). bs ++ a.value.1.bytes) first.0 ∙ ap (λ (bs : List ℕ). integer x.value ++ bs) rest,
+      in_parts left.bytes (written a.value.0) a.value.1.bytes (integer x.value) (integer y.value) f.written first.0 rest,
       both_true (is_integer x.value) (is_integer y.value) first.1 second.1,
     )
 

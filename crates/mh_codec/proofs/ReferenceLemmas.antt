@@ -24,7 +24,7 @@ use Rattle.mh_codec.specs.Spelling.{own, integer, natural, boolean, octet_string
 use Rattle.mh_codec.specs.Writable.{is_integer, is_number, is_reference, is_generic, is_plain, is_name, is_content, is_data}
 use Rattle.mh_codec.specs.Gives.{Refusal}
 use Rattle.mh_codec.specs.Reading.{taken, ended, only, truth_at, integer_at, octets_at, number_at, name_at, content_name_at, content_at, data_at, named_in, reference_at, is_indirect, variable_at, generic_at}
-use Rattle.mh_codec.proofs.ElementLemmas.{went, ok_same, written, Good, same_element, same_number, taken_found, good_found, taken_given, nothing_left, ended_given}
+use Rattle.mh_codec.proofs.ElementLemmas.{went, ok_same, written, in_parts, last_part, Good, same_element, same_number, taken_found, good_found, taken_given, nothing_left, ended_given}
 use Rattle.mh_codec.proofs.ValueLemmas.{kind_tag, truth_found, truth_given, integer_read, integer_written, octets_read, octets_written, number_read, number_written, name_read, name_written, content_name_read, content_name_written, content_read, content_written, data_read, data_written}
 
 -- bytes that are one element
@@ -113,6 +113,9 @@ and_true false b h = absurd cc
 pub both_true : (a b : Bool) → a ≡ true → b ≡ true → (a && b) ≡ true
 both_true a b h i = rw (h, i) refl
 
+pub same_all : {A : Type 0} (p : A → Bool) (xs ys : List A) → ys ≡ xs → list_all p xs ≡ true → list_all p ys ≡ true
+same_all p xs ys same h = rw same h
+
 -- an element with this tag and these contents
 pub spelled_as : (e : Element) (t : Tag) (c : List ℕ) → e.tag ≡ t → e.contents.bytes ≡ c → written e ≡ element t c
 spelled_as e t c tag inner = ap (λ (u : Tag). element u e.contents.bytes) tag ∙ ap (λ (d : List ℕ). element t d) inner
@@ -131,7 +134,7 @@ only_read left e bytes is =
     let none = nothing_left a.value.1 end.first in
     let same : a.value.0 ≡ e = ok_same end.behind in
     subst (OnlyOne left) same (record {
-      is = f.written ∙ ap (λ (bs : List ℕ). written a.value.0 ++ bs) none ∙ append-nil (written a.value.0);
+      is = last_part left.bytes (written a.value.0) a.value.1.bytes (written a.value.0) f.written none refl;
       good = good_found left a.value.0 a.value.1 f;
     })
 
@@ -152,10 +155,10 @@ only_written left t c small e =
 
 -- names with numbers
 
-abbrev Named : List ℕ → List ℕ → ℕ → Type 0
+abbrev pub Named : List ℕ → List ℕ → ℕ → Type 0
 Named bs name n = (bs ≡ octet_string name ++ natural n) × ((list_all is_name_byte name && is_number n) ≡ true)
 
-named_read : (left : Rest) (x : List ℕ × ℕ) → AreBytes left.bytes → named_in left ≡ Ok x → Named left.bytes x.0 x.1
+pub named_read : (left : Rest) (x : List ℕ × ℕ × Element) → AreBytes left.bytes → named_in left ≡ Ok x → Named left.bytes x.0 x.1
 unfolding named_in
 named_read left x bytes is =
     let a = went (taken left) _ x is in
@@ -168,19 +171,23 @@ named_read left x bytes is =
     let none = nothing_left b.value.1 end.first in
     let n = name_read a.value.0 name.value name.first in
     let k = number_read b.value.0 number.value (good_found a.value.1 b.value.0 b.value.1 g) number.first in
-    let second : a.value.1.bytes ≡ natural number.value = g.written ∙ ap (λ (bs : List ℕ). written b.value.0 ++ bs) none ∙ append-nil (written b.value.0) ∙ k.0 in
-    subst (λ (y : List ℕ × ℕ). Named left.bytes y.0 y.1) (ok_same end.behind) (
-      f.written ∙ ap (λ (bs : List ℕ). written a.value.0 ++ bs) second ∙ ap (λ (bs : List ℕ). bs ++ natural number.value) n.0,
+    let second = last_part a.value.1.bytes (written b.value.0) b.value.1.bytes (natural number.value) g.written none k.0 in
+    subst (λ (y : List ℕ × ℕ × Element). Named left.bytes y.0 y.1) (ok_same end.behind) (
+      in_parts left.bytes (written a.value.0) a.value.1.bytes (octet_string name.value) (natural number.value) f.written n.0 second,
       both_true (list_all is_name_byte name.value) (is_number number.value) n.1 k.1,
     )
 
-named_written : (left : Rest) (name : List ℕ) (n : ℕ) → (list_all is_name_byte name && is_number n) ≡ true → left.bytes ≡ octet_string name ++ natural n → named_in left ≡ Ok (name, n)
+pub record NamedGiven (left : Rest) (name : List ℕ) (n : ℕ) : Type 0 where
+  pub number : Element
+  pub takes : named_in left ≡ Ok (name, n, number)
+
+pub named_written : (left : Rest) (name : List ℕ) (n : ℕ) → (list_all is_name_byte name && is_number n) ≡ true → left.bytes ≡ octet_string name ++ natural n → NamedGiven left name n
 unfolding named_in octet_string integer
 named_written left name n good e =
     let parts = and_true (list_all is_name_byte name) (is_number n) good in
     let a = taken_given left octet_string_tag name (natural n) (omega arith) e in
     let b = taken_given a.rest integer_tag (integer_octets (pos n)) [] (omega arith) (a.behind ∙ sym (append-nil (natural n))) in
-    rw (a.takes, name_written a.found name a.small parts.0 a.is, b.takes, number_written b.found n b.small parts.1 b.is, ended_given b.rest b.behind) refl
+    record { number = b.found; takes = rw (a.takes, name_written a.found name a.small parts.0 a.is, b.takes, number_written b.found n b.small parts.1 b.is, ended_given b.rest b.behind) refl }
 
 -- references
 
@@ -212,7 +219,8 @@ reference_written e (ref.Here n) small good is =
 reference_written e (ref.In name n) small good is =
     let same = same_element e.tag sequence_tag e.contents.bytes (octet_string name ++ natural n) small (omega arith) is in
     let kind_is : kind_of e.tag ≡ kind.Sequence = ap kind_of same.tag in
-    rw (kind_is, named_written e.contents name n good same.inner) refl
+    let inner = named_written e.contents name n good same.inner in
+    rw (kind_is, inner.takes) refl
 
 pub reference_one : (r : Ref) → IsOne (reference r)
 unfolding named

@@ -13,7 +13,7 @@ use Rattle.mh_codec.specs.declared.codec_error.Why.TheVariants.{UnknownTag}
 use Rattle.mh_codec.specs.Spelling.{integer, octet_string, reference, several, list, action, member, next_scene}
 use Rattle.mh_codec.specs.Writable.{is_integer, is_name, is_reference, is_list, is_action, is_member, is_next_scene}
 use Rattle.mh_codec.specs.Reading.{taken, ended, sequence_at, integer_at, name_at, reference_at, listed, effect_at, member_in, member_at, exhausted, list_item_in, list_item_at, next_scene_in, next_scene_at}
-use Rattle.mh_codec.proofs.ElementLemmas.{went, ok_same, written, Good, same_element, same_number, taken_found, good_found, taken_given, nothing_left, ended_given}
+use Rattle.mh_codec.proofs.ElementLemmas.{went, ok_same, written, in_parts, last_part, Good, same_element, same_number, taken_found, good_found, taken_given, nothing_left, ended_given}
 use Rattle.mh_codec.proofs.ValueLemmas.{integer_read, integer_written, name_read, name_written, sequence_read, sequence_written}
 use Rattle.mh_codec.proofs.ReferenceLemmas.{IsOne, Reads, and_true, both_true, spelled_as, integer_one, reference_one, reference_read, reference_written}
 use Rattle.mh_codec.proofs.MemberLemmas.{exhausted_is, exhausted_given, few_enough, several_found, several_given, list_reads}
@@ -61,7 +61,7 @@ member_found left m bytes is =
     let r = reference_read a.value.0 o.value (good_found left a.value.0 a.value.1 f) o.first in
     let s = several_found effect_reads 4096 a.value.1 slots.value (omega arith) f.rest slots.first in
     subst (IsMember left.bytes) (ok_same slots.behind) (
-      f.written ∙ ap (λ (bs : List ℕ). bs ++ a.value.1.bytes) r.0 ∙ ap (λ (bs : List ℕ). reference o.value ++ bs) s.0,
+      in_parts left.bytes (written a.value.0) a.value.1.bytes (reference o.value) (several (list action) slots.value) f.written r.0 s.0,
       both_true (is_reference o.value) (is_list (is_list is_action) slots.value) r.1 s.1,
     )
 
@@ -117,7 +117,7 @@ item_found left m bytes is =
     let r = reference_read a.value.0 o.value (good_found left a.value.0 a.value.1 f) o.first in
     let none = exhausted_is UnknownTag a.value.1 end.first in
     subst (IsMember left.bytes) (ok_same end.behind) (
-      f.written ∙ ap (λ (bs : List ℕ). bs ++ a.value.1.bytes) r.0 ∙ ap (λ (bs : List ℕ). reference o.value ++ bs) none,
+      in_parts left.bytes (written a.value.0) a.value.1.bytes (reference o.value) [] f.written r.0 none,
       both_true (is_reference o.value) true r.1 refl,
     )
 
@@ -178,9 +178,9 @@ scene_found left s bytes is =
     let none = nothing_left b.value.1 end.first in
     let n = name_read a.value.0 name.value name.first in
     let w = integer_read b.value.0 weight.value (good_found a.value.1 b.value.0 b.value.1 g) weight.first in
-    let second : a.value.1.bytes ≡ integer weight.value = g.written ∙ ap (λ (bs : List ℕ). written b.value.0 ++ bs) none ∙ append-nil (written b.value.0) ∙ w.0 in
+    let second = last_part a.value.1.bytes (written b.value.0) b.value.1.bytes (integer weight.value) g.written none w.0 in
     subst (IsScene left.bytes) (ok_same end.behind) (
-      f.written ∙ ap (λ (bs : List ℕ). written a.value.0 ++ bs) second ∙ ap (λ (bs : List ℕ). bs ++ integer weight.value) n.0,
+      in_parts left.bytes (written a.value.0) a.value.1.bytes (octet_string name.value) (integer weight.value) f.written n.0 second,
       both_true (is_name name.value) (is_integer weight.value) n.1 w.1,
     )
 

@@ -1,20 +1,20 @@
 -- The laws that join the reading to the spelling: what is read is spelled so, and what is spelled so is
 -- read.
-use Rattle.std.proofs.Common.{◌≡◌, ◌≢◌, ℕ, ◌≤◌, true, false, nat_lt, List, [], ◌++◌, length, Result, Ok, Err, IfErr, refl, ap, sym, ◌∙◌, subst, arith, append-nil}
+use Rattle.std.proofs.Common.{◌≡◌, ◌≢◌, ℕ, ◌≤◌, true, false, nat_lt, List, [], length, Result, Ok, Err, IfErr, refl, sym, ◌∙◌, subst, arith, append-nil}
 use Rattle.std.proofs.lemmas.Bool.Decides.{nat_tests}
-use Rattle.mh_der.specs.Rest.{whole}
+use Rattle.mh_der.specs.Rest.{Rest, Element, whole}
 use Rattle.mh_der.proofs.DigitLemmas.{AreBytes}
 use Rattle.mh_group.specs.declared.written.Written.{Written as Group}
 use Rattle.mh_group.specs.Fit.{is_group}
 use Rattle.mh_codec.specs.declared.codec_error.CodecError.{CodecError}
 use Rattle.mh_codec.specs.declared.codec_error.CodecError.TheVariants.{At, NoMemory}
-use Rattle.mh_codec.specs.declared.codec_error.Why.TheVariants.{Limit, BadValue}
+use Rattle.mh_codec.specs.declared.codec_error.Why.TheVariants.{Limit}
 use Rattle.mh_codec.specs.Spelling.{group}
 use Rattle.mh_codec.specs.Writable.{Spells, SpellsNone, SpellsNoOther}
 use Rattle.mh_codec.specs.Gives.{Refusal, Fails, Gives}
 use Rattle.mh_codec.specs.Reading.{taken, ended, group_at, read}
 use Rattle.mh_codec.specs.Laws.{SpellsOne}
-use Rattle.mh_codec.proofs.ElementLemmas.{went, if_ok, if_not_ok, ok_same, written, taken_found, good_found, taken_given, nothing_left, ended_given}
+use Rattle.mh_codec.proofs.ElementLemmas.{went, if_not_ok, ok_same, written, last_part, taken_found, good_found, taken_given, nothing_left, ended_given}
 use Rattle.mh_codec.proofs.GroupLemmas.{group_read, group_written, group_one}
 
 not_above : (n : ℕ) → nat_lt 1048576 n ≡ false → n ≤ 1048576
@@ -32,11 +32,16 @@ read_found octets g bytes is =
     let f = taken_found (whole octets) a.value.0 a.value.1 bytes a.first in
     let x = went (group_at a.value.0) _ g a.behind in
     let end = went (ended a.value.1) _ g x.behind in
-    let fit = if_ok (is_group x.value) (Ok x.value) BadValue 0 g end.behind in
     let none = nothing_left a.value.1 end.first in
     let r = group_read a.value.0 x.value (good_found (whole octets) a.value.0 a.value.1 f) x.first in
-    let spelled : octets ≡ group x.value = f.written ∙ ap (λ (bs : List ℕ). written a.value.0 ++ bs) none ∙ append-nil (written a.value.0) ∙ r.0 in
-    subst (Spells octets) (ok_same fit.1) (spelled, not_above (length octets) t.0, r.1)
+    let spelled = last_part octets (written a.value.0) a.value.1.bytes (group x.value) f.written none r.0 in
+    subst (Spells octets) (ok_same end.behind) (spelled, not_above (length octets) t.0, r.1)
+
+-- the group that an element spells is one that the tables allow
+pub element_fits : (octets : List ℕ) (e : Element) (behind : Rest) (g : Group) → AreBytes octets → taken (whole octets) ≡ Ok (e, behind) → group_at e ≡ Ok g → is_group g ≡ true
+element_fits octets e behind g bytes stands is =
+    let f = taken_found (whole octets) e behind bytes stands in
+    (group_read e g (good_found (whole octets) e behind f) is).2
 
 -- what is spelled so is read
 pub read_given : (octets : List ℕ) (g : Group) → is_group g ≡ true → Spells octets g → read octets ≡ Ok g
@@ -45,7 +50,7 @@ read_given octets g fit (is, short, good) =
     let one = group_one g in
     let a = taken_given (whole octets) one.tag one.contents [] one.small (is ∙ one.is ∙ sym (append-nil _)) in
     let x = group_written a.found g a.small fit good (a.is ∙ sym one.is) in
-    rw (not_long (length octets) short, a.takes, x, ended_given a.rest a.behind, fit) refl
+    rw (not_long (length octets) short, a.takes, x, ended_given a.rest a.behind) refl
 
 pub none_spelled : (octets : List ℕ) (e : CodecError) → Fails e (read octets) → e ≢ NoMemory → SpellsNone octets
 none_spelled octets (At w o) fails other g fit spells = absurd (cc (read_given octets g fit spells))

@@ -127,6 +127,9 @@ own_kind e n _ h is = absurd (let y = rw h at is in cc)
 pub own_read : (e : Element) (n : ℕ) → own_at e ≡ Ok n → e.tag ≡ own n
 own_read e n is = kind_tag e (kind.Own n) (own_kind e n (kind_of e.tag) refl is)
 
+pub own_numbered : (e : Element) (n m : ℕ) → own_at e ≡ Ok n → m ≡ n → e.tag ≡ own m
+own_numbered e n m is same = rw same (own_read e n is)
+
 pub own_written : (e : Element) (n : ℕ) → e.tag ≡ own n → own_at e ≡ Ok n
 unfolding own_at kind_of
 own_written e n tag = rw tag refl

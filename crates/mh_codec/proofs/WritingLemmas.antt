@@ -1,7 +1,7 @@
 -- What the writer rests on: lists in two parts, and groups with no spelling.
-use Rattle.std.proofs.Common.{◌≡◌, ℕ, ◌-◌, ◌<◌, Bool, true, false, ◌&&◌, List, length, take, drop, Result, Ok, Err, OnOk, IfErr, refl, ap, sym, ◌∙◌, arith}
+use Rattle.std.proofs.Common.{◌≡◌, ℕ, ◌-◌, ◌<◌, Bool, true, false, ◌&&◌, List, length, take, drop, get_or, Result, Ok, Err, OnOk, IfErr, refl, ap, sym, ◌∙◌, arith}
 use Rattle.std.specs.List.{list_all}
-use Rattle.std.proofs.lemmas.List.Folds.{list_all-append}
+use Rattle.std.proofs.lemmas.List.Folds.{list_all-append, list_all_at}
 use Rattle.std.proofs.lemmas.List.{take-append-drop, take_all, length-drop}
 use Rattle.mh_group.specs.declared.written.Written.{Written}
 use Rattle.mh_codec.specs.declared.codec_error.CodecError.{CodecError}
@@ -23,6 +23,12 @@ whole_fits (Err e) front behind f b = tt
 pub whole_refused : {X : Type 0} (r : Result X CodecError) (front behind others : Bool) → front ≡ true → IfErr r (Refuses behind) → IfErr r (Refuses ((front && behind) && others))
 whole_refused (Ok x) front behind others f b = tt
 whole_refused (Err e) front behind others f b = λ other. ((b other).0, rw (f, (b other).1) refl)
+
+-- where a member is refused, the list is
+pub member_refused : {A : Type 0} (p : A → Bool) (xs : List A) (i : ℕ) (x : A) (e : CodecError) → i < length xs → x ≡ get_or xs i x → Refuses (p x) e → Refuses (list_all p xs) e
+member_refused p xs i x e within is refuses other =
+    let bad = (refuses other).1 in
+    ((refuses other).0, list_all_at p xs i x within (rw is at bad))
 
 -- what the notation cannot hold has no spelling
 pub none_spells_unwritable : (g : Written) → is_writable g ≡ false → HasNoSpelling g

@@ -41,7 +41,7 @@ use Rattle.mh_group.specs.declared.written.Ingredient.{Ingredient}
 use Rattle.mh_group.specs.declared.written.Written.{Written}
 use Rattle.mh_group.specs.Table.{attribute_number, shape_of, takes, needs_of, optional_of, is_group_class}
 use Rattle.mh_group.specs.Words.{justifications, justification_number}
-use Rattle.mh_group.specs.Fit.{is_group, has_required, is_field_length}
+use Rattle.mh_group.specs.Fit.{has_required, is_field_length}
 use Rattle.mh_codec.specs.declared.kind.Kind.{Kind}
 use Rattle.mh_codec.specs.declared.kind.Kind.TheVariants as kind
 use Rattle.mh_codec.specs.declared.codec_error.Why.{Why}
@@ -182,15 +182,15 @@ justification_at e = number_at e >>= λ n. some_at e BadValue (find (λ j. justi
 unfoldable pub colour_at : Element → Result (List ℕ) Refusal
 colour_at e = octets_at e >>= λ octets. if length octets == 4 then Ok octets else refused_at BadValue e
 
--- a name and a number, and nothing behind them
-unfoldable pub named_in : Rest → Result (List ℕ × ℕ) Refusal
+-- a name and a number with its element, and nothing behind them
+unfoldable pub named_in : Rest → Result (List ℕ × ℕ × Element) Refusal
 named_in left = do
   a ← taken left
   name ← name_at a.0
   b ← taken a.1
   number ← number_at b.0
   end ← ended b.1
-  Ok (name, number)
+  Ok (name, number, b.0)
 
 unfoldable pub reference_at : Element → Result Ref Refusal
 reference_at e = of_kind (kind_of e.tag)
@@ -411,7 +411,8 @@ abbrev pub gathered : (ℕ → List Field → Rest → Result (List Field × Opt
 gathered further done None items left = Ok (done, items, left)
 gathered further done (Some f) items left = further (attribute_number f.attribute) (done ++ f ∷ []) left
 
--- the fields up to the end or to the element of the items, of which so many more may come
+-- the fields up to the end or to the element of the items, of which so many more may come: more than
+-- there are, since their numbers rise
 unfoldable pub fields : Class → ℕ → ℕ → List Field → Rest → Result (List Field × Option Element × Rest) Refusal
 fields c zero last done left = refused Limit left.offset
 fields c (suc n) last done left = next_field c last left >>= λ x. gathered (fields c n) done x.0 x.1 x.2
@@ -450,13 +451,7 @@ body c left = fields c 64 0 [] left >>= λ x. with_items c x.0 x.1 x.2
 
 -- the group's own identifier: its name, and the number 0
 unfoldable pub identifier_in : Rest → Result (List ℕ) Refusal
-identifier_in left = do
-  a ← taken left
-  name ← name_at a.0
-  b ← taken a.1
-  number ← number_at b.0
-  end ← ended b.1
-  if number == 0 then Ok name else refused_at BadValue b.0
+identifier_in left = named_in left >>= λ x. if x.1 == 0 then Ok x.0 else refused_at BadValue x.2
 
 unfoldable pub group_at : Element → Result Written Refusal
 group_at e = do
@@ -474,7 +469,7 @@ read octets = if nat_lt 1048576 (length octets) then refused Limit 0 else (do
   a ← taken (whole octets)
   x ← group_at a.0
   end ← ended a.1
-  if is_group x then Ok x else refused BadValue 0)
+  Ok x)
 
 -- the octets begin as a group does
 abbrev pub begins_group : List ℕ → Bool

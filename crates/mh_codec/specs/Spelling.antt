@@ -1,7 +1,6 @@
 -- The binary spelling of a group: a function from a group to its octets. Every part is an element of
 -- the distinguished encoding rules.
-use Rattle.std.specs.Prelude.{ℕ, ◌+◌, ℤ, pos, Bool, true, false, nat_lt, List, [], ◌∷◌, ◌++◌, take, drop, Option, Some, None}
-use Rattle.std.specs.List.{prefix_len}
+use Rattle.std.specs.Prelude.{ℕ, ◌+◌, ℤ, pos, Bool, true, false, List, [], ◌∷◌, ◌++◌, take, drop, Option, Some, None}
 use Rattle.mh_base.specs.Event.{number_of}
 use Rattle.mh_der.specs.declared.tag.Tag.{Tag}
 use Rattle.mh_der.specs.declared.tag.TagClass.TheVariants.{Context}
@@ -32,6 +31,7 @@ use Rattle.mh_group.specs.declared.written.Ingredient.{Ingredient}
 use Rattle.mh_group.specs.declared.written.Written.{Written}
 use Rattle.mh_group.specs.Table.{class_number, attribute_number, action_number}
 use Rattle.mh_group.specs.Words.{justification_number}
+use Rattle.mh_group.specs.Fit.{before_items}
 
 -- the tag of this number that is the notation's own
 abbrev pub own : ℕ → Tag
@@ -146,10 +146,6 @@ ingredient i = element (own (class_number i.class)) (natural i.number ++ several
 
 unfoldable pub items : List Ingredient → List ℕ
 items is = element (own (attribute_number attribute.Items)) (list ingredient is)
-
--- how many fields have smaller numbers than the items
-abbrev pub before_items : List Field → ℕ
-before_items fields = prefix_len (λ f. nat_lt (attribute_number f.attribute) (attribute_number attribute.Items)) fields
 
 -- the fields, and the items at their place among them
 unfoldable pub body : Option (List Ingredient) → List Field → List ℕ

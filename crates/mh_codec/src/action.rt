@@ -1,5 +1,6 @@
 //! Readers of elementary actions and their parameters. Which parameters an action is written with is
 //! the word of `mh_group`'s table.
+ghost use Rattle.std.specs.Prelude.{[]};
 ghost use Rattle.mh_codec.specs.Gives.{Gives};
 ghost use Rattle.mh_codec.specs.Reading.{action_at as action_at_lem, parameters as parameters_lem, parameter_at as parameter_at_lem, typed_at as typed_at_lem, value_at as value_at_lem};
 
@@ -22,8 +23,7 @@ fn action_at(alloc: Global, element: &Element<'_>) -> Result<Action, CodecError>
     };
     let (inner, reader) = taken(element.contents())?;
     let target = generic_at::<Ref>(alloc, &inner)?;
-    let before = Seq::new(alloc);
-    let (parameters, reader) = parameters(alloc, name.optional(), name.needs(), before, reader)?;
+    let (parameters, reader) = parameters(alloc, name.optional(), name.needs(), reader)?;
     ended(reader)?;
     Ok(Action {
         name,
@@ -32,28 +32,29 @@ fn action_at(alloc: Global, element: &Element<'_>) -> Result<Action, CodecError>
     })
 }
 
-/// The parameters that are needed, in their order, behind those that came before. Where nothing is
-/// left, so many of them may be missing.
+/// The parameters that are needed, in their order. Where nothing is left, so many of them may be
+/// missing.
 fn parameters<'a>(
     alloc: Global,
     optional: usize,
     needs: &[Need],
-    before: Seq<Parameter>,
     reader: Reader<'a>,
 ) -> Result<(Seq<Parameter>, Reader<'a>), CodecError>
-    ensures { Gives (λ x. x) result (parameters_lem optional needs.now before reader.entry) }
+    ensures { Gives (λ x. x) result (parameters_lem optional needs.now [] reader.entry) }
 {
-    let [need, others @ ..] = needs else {
-        return Ok((before, reader));
-    };
-    if reader.is_empty() && needs.len() <= optional {
-        return Ok((before, reader));
+    let mut parameters = Seq::new(alloc);
+    let mut reader = reader;
+    let mut needs = needs;
+    while let [need, others @ ..] = needs {
+        if reader.is_empty() && needs.len() <= optional {
+            return Ok((parameters, reader));
+        }
+        let (element, behind) = taken(reader)?;
+        parameters.push(parameter_at(alloc, *need, &element)?)?;
+        reader = behind;
+        needs = others;
     }
-    let (element, reader) = taken(reader)?;
-    let parameter = parameter_at(alloc, *need, &element)?;
-    let mut parameters = before;
-    parameters.push(parameter)?;
-    self::parameters(alloc, optional, others, parameters, reader)
+    Ok((parameters, reader))
 }
 
 #[tactic(auto, unfolding(crate::specs::Reading::parameter_at))]

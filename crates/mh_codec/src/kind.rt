@@ -21,7 +21,7 @@ pub(crate) const VARIABLE: u16 = 61;
 const BEFORE_ACTIONS: u32 = 100;
 
 /// What an element is by its tag.
-#[derive(Clone, Copy, PartialEq, Eq)]
+#[derive(Clone, Copy)]
 pub(crate) enum Kind {
     Boolean,
     Integer,

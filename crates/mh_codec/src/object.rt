@@ -1,15 +1,15 @@
 //! Readers of fields, ingredients and groups, and `decode_group`. Which attributes a class takes and
 //! has to be written with is the word of `mh_group`'s tables.
-ghost use Rattle.std.specs.Prelude.{◌≡◌, ◌≢◌, IfOk, IfErr};
+ghost use Rattle.std.specs.Prelude.{◌≡◌, ◌≢◌, ◌≤◌, IfOk, IfErr};
 ghost use Rattle.mh_codec.specs.Gives.{Gives};
 ghost use Rattle.mh_codec.specs.Writable.{Spells, SpellsNone, SpellsNoOther};
-ghost use Rattle.mh_codec.specs.Reading.{read, begins_group as begins_group_lem, group_at as group_at_lem, body as body_lem, class_at as class_at_lem, identifier_in as identifier_in_lem, fields as fields_lem, next_field as next_field_lem, attribute_at as attribute_at_lem, complete as complete_lem, items_at as items_at_lem, ingredient_at as ingredient_at_lem};
+ghost use Rattle.mh_codec.specs.Reading.{read, begins_group as begins_group_lem, group_at as group_at_lem, body as body_lem, class_at as class_at_lem, identifier_in as identifier_in_lem, fields as fields_lem, next_field as next_field_lem, attribute_at as attribute_at_lem, complete as complete_lem, items_at as items_at_lem, ingredient_at as ingredient_at_lem, is_items_shape as is_items_shape_lem};
 
 use crate::kind::{ITEMS, attribute_with, class_with};
 use crate::readable::{LONGEST_LIST, Readable, list_at};
 use crate::setting::setting;
 use crate::value::{
-    ended, ingredient_number_at, name_at, number_at, only, own_at, refused, sequence_at, taken,
+    ended, ingredient_number_at, named_in, only, own_at, refused, sequence_at, taken,
 };
 use crate::{CodecError, Why};
 use mh_base::Seq;
@@ -54,10 +54,8 @@ pub fn decode_group(alloc: Global, octets: &[u8]) -> Result<Group, CodecError>
     ended(behind)?;
     match Group::new(written) {
         Ok(group) => Ok(group),
-        Err(_) => Err(CodecError::At {
-            why: Why::BadValue,
-            offset: 0,
-        }),
+        // What is read by the tables is what they allow.
+        Err(_) => unreachable!(),
     }
 }
 
@@ -99,11 +97,7 @@ fn class_at(wants_group: bool, element: &Element<'_>) -> Result<Class, CodecErro
 fn identifier_in(alloc: Global, reader: Reader<'_>) -> Result<WrittenName, CodecError>
     ensures { Gives (λ x. x) result (identifier_in_lem reader.entry) }
 {
-    let (element, reader) = taken(reader)?;
-    let name = name_at(alloc, &element)?;
-    let (element, reader) = taken(reader)?;
-    let number = number_at(&element)?;
-    ended(reader)?;
+    let (name, number, element) = named_in(alloc, reader)?;
     if number.get() != 0 {
         return Err(refused(&element, Why::BadValue));
     }
@@ -129,7 +123,7 @@ fn body(
 }
 
 /// The fields up to the end or to the element of the items, behind those that came before; the last
-/// of these had this number.
+/// of these had this number. No attribute has a larger number than 38.
 fn fields<'a>(
     alloc: Global,
     class: Class,
@@ -137,6 +131,7 @@ fn fields<'a>(
     before: Seq<Field>,
     reader: Reader<'a>,
 ) -> Result<(Seq<Field>, Option<Element<'a>>, Reader<'a>), CodecError>
+    requires { last ≤ 38 }
     ensures { Gives (λ x. x) result (fields_lem class 64 last before reader.entry) }
 {
     let mut fields = before;
@@ -151,10 +146,7 @@ fn fields<'a>(
         fields.push(field)?;
         reader = behind;
     }
-    Err(CodecError::At {
-        why: Why::Limit,
-        offset: reader.offset(),
-    })
+    unreachable!()
 }
 
 /// The next field, or the element of the items, and the reader behind it; neither at the end.
@@ -173,11 +165,18 @@ fn next_field<'a>(
     let (element, behind) = taken(reader)?;
     let attribute = attribute_at(class, last, &element)?;
     let shape = class.shape(attribute);
-    if let Shape::Items = shape {
+    if is_items_shape(shape) {
         return Ok((None, Some(element), behind));
     }
     let setting = setting(alloc, shape, element.contents())?;
     Ok((Some(Field { attribute, setting }), None, behind))
+}
+
+/// Whether the shape is that of a group's items.
+fn is_items_shape(shape: Shape) -> bool
+    ensures { result ≡ is_items_shape_lem shape }
+{
+    matches!(shape, Shape::Items)
 }
 
 /// The attribute that the element gives, which the class takes and which comes behind the last one.

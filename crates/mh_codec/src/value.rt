@@ -278,9 +278,12 @@ pub(crate) fn colour_at(alloc: Global, element: &Element<'_>) -> Result<Octets, 
     Ok(Octets::from_slice(alloc, octets)?)
 }
 
-/// A name and a number, and nothing behind them.
+/// A name and a number with its element, and nothing behind them.
 #[tactic(auto, unfolding(crate::specs::Reading::named_in))]
-fn named_in(alloc: Global, reader: Reader<'_>) -> Result<(WrittenName, Number), CodecError>
+pub(crate) fn named_in<'a>(
+    alloc: Global,
+    reader: Reader<'a>,
+) -> Result<(WrittenName, Number, Element<'a>), CodecError>
     ensures { Gives (λ x. x) result (named_in_lem reader.entry) }
 {
     let (element, reader) = taken(reader)?;
@@ -288,7 +291,7 @@ fn named_in(alloc: Global, reader: Reader<'_>) -> Result<(WrittenName, Number), 
     let (element, reader) = taken(reader)?;
     let number = number_at(&element)?;
     ended(reader)?;
-    Ok((name, number))
+    Ok((name, number, element))
 }
 
 #[tactic(auto, unfolding(crate::specs::Reading::reference_at))]
@@ -298,7 +301,7 @@ pub(crate) fn reference_at(alloc: Global, element: &Element<'_>) -> Result<Ref, 
     match kind_of(element.tag()) {
         Kind::Integer => Ok(Ref::Here(number_at(element)?)),
         Kind::Sequence => {
-            let (name, number) = named_in(alloc, element.contents())?;
+            let (name, number, _) = named_in(alloc, element.contents())?;
             Ok(Ref::In(name, number))
         }
         _ => Err(refused(element, Why::UnknownTag)),

@@ -1,19 +1,20 @@
 //! The writer of groups: fields, ingredients, and the group itself. How an element is laid out is left
 //! to `mh_der`.
-ghost use Rattle.std.specs.Prelude.{◌≡◌, ◌≢◌, ◌≤◌, ◌++◌, ◌&&◌, true, length, OnOk, IfOk, IfErr};
+ghost use Rattle.std.specs.Prelude.{◌≡◌, ◌≢◌, ◌++◌, ◌&&◌, true, OnOk, IfOk, IfErr};
 ghost use Rattle.mh_group.specs.Fit.{written_items};
-ghost use Rattle.mh_codec.specs.Spelling.{items as items_lem, before_items as before_items_lem, body, group as group_lem};
+ghost use Rattle.mh_codec.specs.Spelling.{items as items_lem, body, group as group_lem};
 ghost use Rattle.mh_codec.specs.Writable.{is_list, has_settings, is_ingredient, is_writable, Spells};
 ghost use Rattle.mh_codec.specs.declared.codec_error.Why.{Why};
 ghost use Rattle.mh_codec.specs.Unwritable.{Refuses, HasNoSpelling};
 
 use crate::CodecError;
-use crate::kind::{ITEMS, attribute_number, class_number};
+use crate::kind::{attribute_number, class_number};
 use crate::object::LARGEST_FILE;
 use crate::writable::{PAST_LIMIT, Writable, own, write_list, write_several};
 use crate::writing_value::{write_integer, write_named, write_natural};
 use mh_base::Seq;
 use mh_der::write_element;
+use mh_group::group::before_items;
 use mh_group::{Attribute, Field, Group, Ingredient, Setting, Written};
 use std::alloc::Global;
 
@@ -66,19 +67,6 @@ fn write_body(
             write_several(alloc, out, &fields[count..])
         }
     }
-}
-
-/// How many fields have smaller numbers than the items.
-fn before_items(fields: &[Field]) -> usize
-    ensures exact { result ≡ before_items_lem fields.now }
-    ensures within { result ≤ length fields.now }
-{
-    // A local, since the proof of the closure does not go through with a constant.
-    let limit = ITEMS;
-    fields
-        .iter()
-        .take_while(|field| field.attribute.number() < limit)
-        .count()
 }
 
 #[tactic(auto, unfolding(crate::specs::Spelling::items))]

@@ -1,3 +1,4 @@
 pub mod ChangedLemmas
 pub mod RunLemmas
 pub mod SafeEngine
+pub mod UnseenLemmas

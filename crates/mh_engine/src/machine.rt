@@ -16,7 +16,7 @@ use crate::acting::{act, halt, halt_items, rises, run_items, start};
 use crate::hearing::heard;
 use crate::keys::input_items;
 use crate::moving::{entering, leaving};
-use crate::painting::paint;
+use crate::painting::{is_seen, paint, repaint};
 use crate::reading::object_at;
 use crate::refusal::Unstarted;
 use crate::stepped::Stepped;
@@ -130,14 +130,16 @@ impl Machine {
         ensures kept { OnErr result (self.new ≡ self.old) }
     {
         let found = object_at(self.objects.as_slice(), at);
+        let is_seen = is_seen(found);
         let items = halt_items(self.alloc, at, found)?;
         put_for_first(&mut self.work, items)?;
         halt(&mut self.objects, at);
         self.taken += 1;
-        paint(
+        repaint(
             &mut self.picture,
             self.objects.as_slice(),
             self.stack.as_slice(),
+            is_seen,
         );
         Ok(())
     }
@@ -261,13 +263,15 @@ impl Machine {
         ensures done { OnOk result (self.new ≡ done (Item.Act action.now) self.old) }
         ensures kept { OnErr result (self.new ≡ self.old) }
     {
+        let is_seen = is_seen(object_at(self.objects.as_slice(), &action.target));
         act(&mut self.objects, action)?;
         let _ = self.work.pop_front();
         self.taken += 1;
-        paint(
+        repaint(
             &mut self.picture,
             self.objects.as_slice(),
             self.stack.as_slice(),
+            is_seen,
         );
         Ok(())
     }

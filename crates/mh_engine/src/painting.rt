@@ -1,5 +1,7 @@
 //! The picture: each visible painted from the bottom of the display stack up.
-ghost use Rattle.std.specs.Prelude.{◌≡◌, ◌<◌, ◌≤ℤ◌, Some, None, pos};
+ghost use Rattle.std.specs.Prelude.{◌≡◌, ◌<◌, ◌≤ℤ◌, Some, None, false, pos};
+ghost use Rattle.std.specs.Option.{option_copied};
+ghost use Rattle.mh_model.specs.Rules.{is_visible_at};
 ghost use Rattle.mh_model.specs.Picture.{picture as picture_lem, paint_of as paint_of_lem, within as within_lem, covers as covers_lem, is_edge as is_edge_lem, covers_beside as covers_beside_lem, covers_above_and_below as covers_above_and_below_lem, visible_of as visible_of_lem, ground_of as ground_of_lem, painted as painted_lem, x_of as x_of_lem, y_of as y_of_lem};
 ghost use Rattle.mh_model.specs.Service.{object_at as object_at_lem};
 ghost use Rattle.mh_model.specs.Painting.{painted_over};
@@ -19,6 +21,26 @@ pub fn paint(picture: &mut Picture, objects: &[Object], stack: &[ObjRef])
         if let Some(visible) = painted(objects, at) {
             paint_over(picture, &visible);
         }
+    }
+}
+
+/// Paints the objects on this display stack again, where one that can be seen has changed.
+pub fn repaint(picture: &mut Picture, objects: &[Object], stack: &[ObjRef], is_seen: bool)
+    requires { is_seen ≡ false → picture.old ≡ picture_lem objects.now stack.now }
+    ensures { picture.new ≡ picture_lem objects.now stack.now }
+{
+    if is_seen {
+        paint(picture, objects, stack);
+    }
+}
+
+/// Whether the object can be seen when it runs.
+pub fn is_seen(found: Option<&Object>) -> bool
+    ensures { result ≡ is_visible_at (option_copied found.entry) }
+{
+    match found {
+        Some(object) => object.class.is_visible(),
+        None => false,
     }
 }
 

@@ -74,7 +74,7 @@ added-shape m n o =
       | false ↦ refl
     ]
 
-acted-shape : (n : ActionName) (vs : List Value) (o : Object) → shape (acted n vs o) ≡ shape o
+pub acted-shape : (n : ActionName) (vs : List Value) (o : Object) → shape (acted n vs o) ≡ shape o
 acted-shape action.SetVariable [] o = refl
 acted-shape action.SetVariable (x ∷ []) o = put-shape attribute.OrigValue (of.Value x) o refl refl refl refl
 acted-shape action.SetVariable (x ∷ y ∷ vs) o = refl

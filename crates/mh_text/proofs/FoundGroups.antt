@@ -1,5 +1,5 @@
 -- What was read is spelled so: fields, ingredients and groups.
-use Rattle.std.proofs.Common.{◌≡◌, ℕ, zero, suc, ◌⊎◌, inl, inr, Bool, true, false, ◌&&◌, not, ◌==◌, if◌then◌else◌, List, [], ◌∷◌, ◌++◌, Option, Some, None, Result, Ok, pos, refl, ap, ◌∙◌, subst, arith}
+use Rattle.std.proofs.Common.{◌≡◌, ℕ, zero, suc, ◌⊎◌, inl, inr, Bool, true, false, ◌&&◌, not, ◌==◌, if◌then◌else◌, List, [], ◌∷◌, ◌++◌, Option, Some, None, Result, Ok, pos, refl, ap, sym, ◌∙◌, subst, arith}
 use Rattle.std.proofs.lemmas.Bool.{and_parts}
 use Rattle.std.proofs.lemmas.Bool.Decides.{nat_tests}
 use Rattle.mh_group.specs.declared.class.Class.{Class}
@@ -21,7 +21,7 @@ use Rattle.mh_text.specs.Gives.{Refusal, ◌>>=◌}
 use Rattle.mh_text.specs.Spelling.{IsNamed, IsNumber, AreSeveral, IsListOf, IsField, NoneTwice, AreFieldsOf, IsIngredient, IsBody, IsGroup}
 use Rattle.mh_text.specs.Reading.{next, is_same, is_close_brace, is_open_brace, opened, closed, braced, refused_at, name_of, number_of, ingredient_number_of, setting, has_attribute, attribute_of, placed, is_items_shape, is_items, next_field, gathered, fields, fields_behind_items, complete, class_of, ingredient, items, identifier, body, group}
 use Rattle.mh_text.proofs.SignLemmas.{class_spelled, attribute_spelled}
-use Rattle.mh_text.proofs.PieceLemmas.{kind_of, word_of, as_word, words, IsGood, AreGood, Passes, PassesFrom, went, if_ok, if_not_ok, ok_same, went_on}
+use Rattle.mh_text.proofs.PieceLemmas.{kind_of, word_of, as_word, words, IsGood, AreGood, Passes, PassesFrom, turned, onward, went, if_ok, if_not_ok, ok_same, went_on}
 use Rattle.mh_text.proofs.FoundLemmas.{first_word, first_integer, moved, moved_from, opened_found, closed_found, braced_found, is_open_brace_word, is_close_brace_word, name_found, number_found, from_piece, list_found}
 use Rattle.mh_text.proofs.FoundSettings.{setting_found}
 use Rattle.mh_text.proofs.FieldLemmas.{Has, Apart, has_contained, contains_had, has_left, has_right, has_either, has_placed_parts, has_placed_new, has_placed_old, apart_first, once_first, once_both}
@@ -182,9 +182,9 @@ are_fields : (xs new : List Field) → NoneTwice new → ((x : Field) → Has xs
 are_fields xs new once parts new_in =
     (once, λ f. (λ h. contains_had xs f (new_in f (has_contained new f h)), λ h. contains_had new f (parts f (has_contained xs f h))))
 
-complete_is : (c : Class) (done xs : List Field) (p : Piece) → complete c done p ≡ Ok xs → done ≡ xs
+complete_is : (c : Class) (done xs : List Field) (p : Piece) → complete c done p ≡ Ok xs → xs ≡ done
 unfolding complete
-complete_is c done xs p e = ok_same (if_ok _ (Ok done) why.Syntax p.start xs e).1
+complete_is c done xs p e = sym (ok_same (if_ok _ (Ok done) why.Syntax p.start xs e).1)
 
 -- classes
 class_from : (wanted : Bool) (s : Sign) (start : ℕ) (text : List ℕ) (c : Class) → IsGood (record { sign = s; start = start; text = text })
@@ -247,7 +247,7 @@ ingredient_found p left x rest is_good good e =
     let f = went (fields class.value 4096 [] b.rest) _ (x, rest) number.behind in
     let fs = fields_found class.value 4096 [] f.value.0 f.value.1 b.rest f.value.2 b.good f.first in
     let done = went (complete class.value f.value.0 f.value.1) _ (x, rest) f.behind in
-    let same : f.value.0 ≡ done.value = complete_is class.value f.value.0 done.value f.value.1 done.first in
+    let same : done.value ≡ f.value.0 = complete_is class.value f.value.0 done.value f.value.1 done.first in
     moved_from IsIngredient p left (record { class = class.value; number = number.value; fields = done.value }) x f.value.2 rest done.behind (record {
       spells = (
         words left,
@@ -259,11 +259,11 @@ ingredient_found p left x rest is_good good e =
         first_word (words left) _ _ (words a.rest) a.written classed.0,
         first_integer (pos number.value) (words a.rest) _ (words b.rest) b.written (number_found b.piece number.value b.is_good (ingredient_number_found b.piece number.value number.first)),
         fs.several,
-        subst (λ xs. AreFieldsOf xs fs.new) same (are_fields f.value.0 fs.new fs.once (λ y h. elim (fs.parts y h) [ inl l ↦ absurd l | inr r ↦ r ]) fs.new_in),
+        turned (λ xs. AreFieldsOf xs fs.new) done.value f.value.0 same (are_fields f.value.0 fs.new fs.once (λ y h. elim (fs.parts y h) [ inl l ↦ absurd l | inr r ↦ r ]) fs.new_in),
         first_word _ (word_of f.value.1) _ (words f.value.2) refl (is_close_brace_word f.value.1 fs.is_good (ends_brace class.value f.value.1 fs.ends (same_false _ classed.1))),
       );
       good = fs.good;
-      wrong = fs.wrong ∙ b.wrong ∙ a.wrong;
+      wrong = onward left a.rest f.value.2 a.wrong (onward a.rest b.rest f.value.2 b.wrong fs.wrong);
     })
 
 items_found : (left : Left) (xs : List Ingredient) (rest : Left) → AreGood left.pieces → items left ≡ Ok (xs, rest) → Passes (IsListOf IsIngredient xs) left rest
@@ -274,7 +274,7 @@ items_found left xs rest good e =
     (list_found ingredient IsIngredient ingredient_found 4096 (omega arith) a.piece a.rest xs rest a.is_good a.good a.behind)
 
 -- the group
-is_zero : (n : ℕ) → (n == 0) ≡ true → n ≡ 0
+is_zero : (n : ℕ) → (n == 0) ≡ true → 0 ≡ n
 is_zero n h = grind (arith, nat_tests)
 
 identifier_found : (left : Left) (name : List ℕ) (rest : Left) → AreGood left.pieces → identifier left ≡ Ok (name, rest) → Passes (IsNamed name 0) left rest
@@ -289,7 +289,7 @@ identifier_found left name rest good e =
     let close = went (if◌then◌else◌ (number.value == 0) (closed c.rest) (refused_at why.Range c.piece)) _ (name, rest) number.behind in
     let t = if_ok (number.value == 0) (closed c.rest) why.Range c.piece.start close.value close.first in
     let closes = closed_found c.rest close.value c.good t.1 in
-    let none : number.value ≡ 0 = is_zero number.value t.0 in
+    let none : 0 ≡ number.value = is_zero number.value t.0 in
     moved (λ n ws rs. IsNamed n 0 ws rs) left named.value name close.value rest close.behind (record {
       spells = (
         words o.value,
@@ -297,11 +297,11 @@ identifier_found left name rest good e =
         words c.rest,
         opens.spells,
         first_word (words o.value) _ _ (words b.rest) b.written (name_found b.piece named.value b.is_good named.first),
-        subst (λ n. IsNumber n (words b.rest) (words c.rest)) none (first_integer (pos number.value) (words b.rest) _ (words c.rest) c.written (number_found c.piece number.value c.is_good number.first)),
+        turned (λ n. IsNumber n (words b.rest) (words c.rest)) 0 number.value none (first_integer (pos number.value) (words b.rest) _ (words c.rest) c.written (number_found c.piece number.value c.is_good number.first)),
         closes.spells,
       );
       good = closes.good;
-      wrong = closes.wrong ∙ c.wrong ∙ b.wrong ∙ opens.wrong;
+      wrong = onward left o.value close.value opens.wrong (onward o.value b.rest close.value b.wrong (onward b.rest c.rest close.value c.wrong closes.wrong));
     })
 
 brace_no_items : (c : Class) (s : Sign) → is_close_brace s ≡ true → is_items c s ≡ true → ⊥
@@ -376,7 +376,7 @@ body_if c true fs xs its q p left behind rest h l e =
       ends = ends_no_items c z.value.1 m.0.ends m.1;
       is_good = m.0.is_good;
       good = m.0.good;
-      wrong = m.0.wrong ∙ listed_items.wrong ∙ l.wrong;
+      wrong = onward left behind z.value.2 l.wrong (onward behind y.value.1 z.value.2 listed_items.wrong m.0.wrong);
     })
 body_if c false fs xs its q p left behind rest h l e =
     subst (λ (v : List Field × Option (List Ingredient) × Piece × Left). BodyAt v.0 v.1 v.2 left v.3) (ok_same e) (record {
@@ -408,7 +408,7 @@ group_found left g rest good e =
     let x = went (body class.value identity.value.1) _ (g, rest) identity.behind in
     let f = body_found class.value identity.value.1 x.value.0 x.value.1 x.value.2 x.value.3 identified.good x.first in
     let done = went (complete class.value x.value.0 x.value.2) _ (g, rest) x.behind in
-    let same : x.value.0 ≡ done.value = complete_is class.value x.value.0 done.value x.value.2 done.first in
+    let same : done.value ≡ x.value.0 = complete_is class.value x.value.0 done.value x.value.2 done.first in
     moved IsGroup left (record { class = class.value; identifier = identity.value.0; fields = done.value; items = x.value.1 }) g x.value.3 rest done.behind (record {
       spells = (
         words o.value,
@@ -420,9 +420,9 @@ group_found left g rest good e =
         first_word (words o.value) _ _ (words b.rest) b.written classed.0,
         identified.spells,
         f.spells,
-        subst (λ xs. AreFieldsOf xs f.new) same f.same,
+        turned (λ xs. AreFieldsOf xs f.new) done.value x.value.0 same f.same,
         first_word _ (word_of x.value.2) _ (words x.value.3) refl (is_close_brace_word x.value.2 f.is_good f.ends),
       );
       good = f.good;
-      wrong = f.wrong ∙ identified.wrong ∙ b.wrong ∙ opens.wrong;
+      wrong = onward left o.value x.value.3 opens.wrong (onward o.value b.rest x.value.3 b.wrong (onward b.rest identity.value.1 x.value.3 identified.wrong f.wrong));
     })

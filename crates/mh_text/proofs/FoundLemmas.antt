@@ -27,7 +27,7 @@ use Rattle.mh_text.specs.Gives.{Refusal, ◌>>=◌}
 use Rattle.mh_text.specs.Spelling.{IsOpen, IsClose, IsOpenBrace, Writes, IsInteger, IsNumber, IsName, AreOctets, truth_word, IsTruth, IsRef, IsGeneric, IsContentName, IsContent, IsData, AreSeveral, IsListOf}
 use Rattle.mh_text.specs.Reading.{next, past, is_open, is_close, is_open_brace, is_close_brace, is_indirect, is_content_ref, opened, closed, closed_list, braced, inner, refused_at, name_of, integer_of, natural_of, field_length_of, fixed_of, number_of, truth_of, event_of, justification_of, octets_of, colour_of, named_reference, reference, made, alone, truth, integer, octets, data_of, event_data, content_name, content, generic, next_member, continued, listed, list}
 use Rattle.mh_text.proofs.SignLemmas.{content_ref_spelled, indirect_ref_spelled, truth_spelled, event_spelled, justification_spelled, integer_spelled, inner_is}
-use Rattle.mh_text.proofs.PieceLemmas.{kind_of, word_of, as_word, words, IsGood, AreGood, Passes, PassesFrom, went, if_ok, if_not_ok, ok_same, went_on}
+use Rattle.mh_text.proofs.PieceLemmas.{kind_of, word_of, as_word, words, IsGood, AreGood, Passes, PassesFrom, turned, onward, went, if_ok, if_not_ok, ok_same, went_on}
 
 -- a token that passes a test, as it was read
 record Passed (test : Sign → Bool) (left rest : Left) : Type 0 where
@@ -296,7 +296,7 @@ named_reference_found left r rest good e =
         closes.spells,
       );
       good = closes.good;
-      wrong = closes.wrong ∙ b.wrong ∙ a.wrong;
+      wrong = onward left a.rest close.value a.wrong (onward a.rest b.rest close.value b.wrong closes.wrong);
     })
 
 behind_open : (r : Ref) (ws a rest : List Written) → IsOpen ws a → IsBehindOpen r a rest → IsRef r ws rest
@@ -404,7 +404,7 @@ content_name_found p left x rest is_good good e =
         closes.spells,
       );
       good = closes.good;
-      wrong = closes.wrong ∙ b.wrong ∙ opens.wrong;
+      wrong = onward left a.value close.value opens.wrong (onward a.value b.rest close.value b.wrong closes.wrong);
     })
 
 content_if : (b : Bool) (p : Piece) (left : Left) (x : Content) (rest : Left) → IsGood p → AreGood left.pieces
@@ -523,11 +523,11 @@ module _ {A : Type 0} (member : Piece → Left → Result (A × Left) Refusal) (
       let l = listed_found most [] xs left rest good t.1 in
       record {
         spells = (
-          subst (λ ys. length ys ≤ 4096) (sym l.same) (omega (arith, l.few)),
+          turned (λ ys. length ys ≤ 4096) xs l.new l.same (omega (arith, l.few)),
           words left,
           l.end,
           first_word _ (word_of p) _ (words left) refl (is_open_word p is_good t.0),
-          subst (λ ys. AreSeveral IsOne ys (words left) l.end) (sym l.same) l.several,
+          turned (λ ys. AreSeveral IsOne ys (words left) l.end) xs l.new l.same l.several,
           l.closes,
         );
         good = l.good;

@@ -31,7 +31,7 @@ use Rattle.mh_text.specs.Gives.{Refusal, ◌>>=◌}
 use Rattle.mh_text.specs.Spelling.{IsClose, IsInteger, IsTruth, AreOctets, IsRef, IsGeneric, IsContentName, IsContent, IsData, IsTyped, IsParameter, AreSeveral, IsListOf, IsAction, IsMember, IsPosition, IsNextScene, IsSetting}
 use Rattle.mh_text.specs.Reading.{is_open, is_close, opened, closed, integer_of, natural_of, field_length_of, name_of, truth_of, event_of, justification_of, octets_of, colour_of, reference, alone, truth, integer, octets, data_of, event_data, content_name, content, generic, listed, list, value_of, typed, generic_parameter, parameter, parameters, action_name_of, action, effect, row, member, list_item, position, next_scene, content_setting, data_setting, single, part, pair, several, setting_at, setting}
 use Rattle.mh_text.proofs.SignLemmas.{action_spelled, kind_spelled}
-use Rattle.mh_text.proofs.PieceLemmas.{kind_of, word_of, as_word, words, IsGood, AreGood, Passes, PassesFrom, went, if_ok, ok_same, went_on}
+use Rattle.mh_text.proofs.PieceLemmas.{kind_of, word_of, as_word, words, IsGood, AreGood, Passes, PassesFrom, turned, onward, went, if_ok, ok_same, went_on}
 use Rattle.mh_text.proofs.FoundLemmas.{Finds, IsIntegerWord, first_word, first_integer, first_octets, moved_from, from_piece, made_found, made_finds, alone_found, is_open_word, is_close_word, opened_found, closed_found, name_found, integer_found, natural_found, field_length_found, fixed_found, truth_found, event_found, justification_found, octets_found, colour_found, data_found, reference_found, truth_finds, integer_finds, octets_finds, data_finds, content_name_found, content_found, generic_found, listed_found, list_found}
 
 -- a value with its kind in front
@@ -55,7 +55,7 @@ typed_from (sign.Kind k) start text left t rest is_good good e =
     let a = went_on left (λ a. value_of k a.0 a.1) (t, rest) good e in
     let v = value_found k (as_word kind.Keyword text) (ap (λ n. as_word kind.Keyword n) (kind_spelled text k is_good.word is_good.means)) a.piece a.rest t rest a.is_good a.good a.behind in
     record {
-      spells = subst (λ ws. IsTyped t (as_word kind.Keyword text ∷ ws) (words rest)) (sym a.written) v.spells;
+      spells = turned (λ ws. IsTyped t (as_word kind.Keyword text ∷ ws) (words rest)) (words left) (word_of a.piece ∷ words a.rest) a.written v.spells;
       good = v.good;
       wrong = v.wrong ∙ a.wrong;
     }
@@ -194,11 +194,11 @@ action_found p left x rest is_good good e =
         first_word _ (word_of p) _ (words left) refl (action_name_found p name.value is_good name.first),
         opens.spells,
         targeted.spells,
-        subst (λ ps. AreSeveral IsParameter ps (words target.value.1) g.end) (sym g.same) g.several,
+        turned (λ ps. AreSeveral IsParameter ps (words target.value.1) g.end) given.value.0 g.new g.same g.several,
         g.closes,
       );
       good = g.good;
-      wrong = g.wrong ∙ targeted.wrong ∙ opens.wrong;
+      wrong = onward left a.value given.value.1 opens.wrong (onward a.value target.value.1 given.value.1 targeted.wrong g.wrong);
     })
 
 effect_found : Finds effect (IsListOf IsAction)
@@ -219,17 +219,17 @@ member_found p left x rest is_good good e =
     let l = listed_found effect (IsListOf IsAction) effect_found 4096 [] slots.value.0 object.value.1 slots.value.1 referred.good slots.first in
     moved_from IsMember p left (record { object = object.value.0; slots = slots.value.0 }) x slots.value.1 rest slots.behind (record {
       spells = (
-        subst (λ ys. length ys ≤ 4096) (sym l.same) l.few,
+        turned (λ ys. length ys ≤ 4096) slots.value.0 l.new l.same l.few,
         words left,
         words object.value.1,
         l.end,
         first_word _ (word_of p) _ (words left) refl (is_open_word p is_good t.0),
         referred.spells,
-        subst (λ ys. AreSeveral (IsListOf IsAction) ys (words object.value.1) l.end) (sym l.same) l.several,
+        turned (λ ys. AreSeveral (IsListOf IsAction) ys (words object.value.1) l.end) slots.value.0 l.new l.same l.several,
         l.closes,
       );
       good = l.good;
-      wrong = l.wrong ∙ referred.wrong;
+      wrong = onward left object.value.1 slots.value.1 referred.wrong l.wrong;
     })
 
 list_item_found : Finds list_item IsMember
@@ -253,7 +253,7 @@ list_item_found p left x rest is_good good e =
         closes.spells,
       );
       good = closes.good;
-      wrong = closes.wrong ∙ referred.wrong;
+      wrong = onward left object.value.1 close.value referred.wrong closes.wrong;
     })
 
 position_found : Finds position IsPosition
@@ -277,7 +277,7 @@ position_found p left z rest is_good good e =
         closes.spells,
       );
       good = closes.good;
-      wrong = closes.wrong ∙ b.wrong ∙ a.wrong;
+      wrong = onward left a.rest close.value a.wrong (onward a.rest b.rest close.value b.wrong closes.wrong);
     })
 
 next_scene_found : Finds next_scene IsNextScene
@@ -301,7 +301,7 @@ next_scene_found p left z rest is_good good e =
         closes.spells,
       );
       good = closes.good;
-      wrong = closes.wrong ∙ b.wrong ∙ a.wrong;
+      wrong = onward left a.rest close.value a.wrong (onward a.rest b.rest close.value b.wrong closes.wrong);
     })
 
 -- values of one token

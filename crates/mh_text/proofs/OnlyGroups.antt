@@ -104,6 +104,10 @@ fields_read c (suc n) done (f ∷ fs) l ws end rest Q few apart once fit at (a, 
     let m = fields_read c n (placed f done) fs r.rest a end rest Q (omega arith) (apart_next f fs done apart once) once.1 (λ x h. fit x (inr h)) r.at behind ends in
     record { head = m.head; rest = m.rest; is = then_is (next_field c done l) _ _ (gathered_in fs (placed f done), m.head, m.rest) r.is m.is; at = m.at; test = m.test }
 
+-- fields that were read are known by another name
+fields_named : (result : Result (List Field × Piece × Left) Refusal) (xs ys : List Field) (head : Piece) (rest : Left) → result ≡ Ok (xs, head, rest) → xs ≡ ys → result ≡ Ok (ys, head, rest)
+fields_named result xs ys head rest is same = is ∙ ap (λ zs. Ok (zs, head, rest)) same
+
 abbrev IsBrace : Sign → Type 0
 IsBrace s = s ≡ sign.CloseBrace
 
@@ -203,7 +207,7 @@ ingredient_takes l x ws rest fit at (a, b, c, d, fs, opens, named, (text, writes
           (then_is (class_of false (record { sign = sign.Class x.class; start = t.start; text = 58 ∷ class_word x.class })) _ x.class (x, f.rest) (class_is false x.class t.start (58 ∷ class_word x.class) g.0)
           (then_is (next t.rest) _ _ (x, f.rest) u.first
           (then_is (ingredient_number_of (record { sign = sign.Integer (pos x.number); start = u.start; text = text })) _ x.number (x, f.rest) (ingredient_number_is x.number u.start text n.0)
-          (then_is (fields x.class 4096 [] u.rest) _ _ (x, f.rest) (f.is ∙ ap (λ ys. Ok (ys, f.head, f.rest)) kept)
+          (then_is (fields x.class 4096 [] u.rest) _ (x.fields, f.head, f.rest) (x, f.rest) (fields_named (fields x.class 4096 [] u.rest) (gathered_in fs []) x.fields f.head f.rest f.is kept)
           (then_is (complete x.class x.fields f.head) _ x.fields (x, f.rest) (complete_is x.class x.fields f.head right.required) refl)))));
       at = f.at;
       no_close = refl;
@@ -297,7 +301,7 @@ body_read c l xs fs None ws end rest group_class right same fit at several close
     record {
       head = f.head;
       rest = f.rest;
-      is = then_is (fields c 4096 [] l) _ _ (xs, None, f.head, f.rest) (f.is ∙ ap (λ ys. Ok (ys, f.head, f.rest)) kept)
+      is = then_is (fields c 4096 [] l) _ (xs, f.head, f.rest) (xs, None, f.head, f.rest) (fields_named (fields c 4096 [] l) (gathered_in fs []) xs f.head f.rest f.is kept)
           (rw (brace_no_items c f.head.sign f.test) refl);
       at = f.at;
     }
@@ -319,10 +323,11 @@ body_read c l xs fs (Some its) ws end rest group_class right same fit at (front,
     record {
       head = g.head;
       rest = g.rest;
-      is = then_is (fields c 4096 [] l) _ _ (xs, Some its, g.head, g.rest) f.is
+      is = then_is (fields c 4096 [] l) _ (gathered_in front [], f.head, f.rest) (xs, Some its, g.head, g.rest) f.is
           (rw (items_are c f.head.sign f.test)
-          (then_is (items f.rest) _ _ (xs, Some its, g.head, g.rest) it.is
-          (then_is (fields_behind_items c (gathered_in front []) it.rest) _ _ (xs, Some its, g.head, g.rest) (g.is ∙ ap (λ ys. Ok (ys, g.head, g.rest)) kept) refl)));
+          (then_is (items f.rest) _ (its, it.rest) (xs, Some its, g.head, g.rest) it.is
+          (then_is (fields_behind_items c (gathered_in front []) it.rest) _ (xs, g.head, g.rest) (xs, Some its, g.head, g.rest)
+          (fields_named (fields_behind_items c (gathered_in front []) it.rest) (gathered_in back (gathered_in front [])) xs g.head g.rest g.is kept) (refl {a = Ok (xs, Some its, g.head, g.rest)}))));
       at = g.at;
     }
 
@@ -357,7 +362,7 @@ group_read l g ws rest fit at (a, b, c, d, fs, opens, named, identity, between, 
           (then_is (next o.rest) _ _ (g, x.rest) t.first
           (then_is (class_of true (record { sign = sign.Class g.class; start = t.start; text = 58 ∷ class_word g.class })) _ g.class (g, x.rest) (class_is true g.class t.start (58 ∷ class_word g.class) right.class)
           (then_is (identifier t.rest) _ _ (g, x.rest) i.is
-          (then_is (body g.class i.rest) _ _ (g, x.rest) x.is
+          (then_is (body g.class i.rest) _ (g.fields, g.items, x.head, x.rest) (g, x.rest) x.is
           (then_is (complete g.class g.fields x.head) _ g.fields (g, x.rest) (complete_is g.class g.fields x.head right.fields.required) refl)))));
       at = x.at;
     }

@@ -1,5 +1,5 @@
 -- Tokens with their meaning as words, and what it says of a reading that it went well.
-use Rattle.std.proofs.Common.{◌≡◌, ℕ, Bool, true, false, if◌then◌else◌, List, [], ◌∷◌, map, Option, Some, None, Result, Ok, Err, refl, ap, sym, subst}
+use Rattle.std.proofs.Common.{◌≡◌, ℕ, Bool, true, false, if◌then◌else◌, List, [], ◌∷◌, map, Option, Some, None, Result, Ok, Err, refl, ap, sym, ◌∙◌, subst}
 use Rattle.mh_text.specs.declared.token_kind.TokenKind.{TokenKind}
 use Rattle.mh_text.specs.declared.token_kind.TokenKind.TheVariants as kind
 use Rattle.mh_text.specs.declared.sign.Sign.{Sign}
@@ -48,11 +48,19 @@ abbrev pub AreGood : List Piece → Type 0
 AreGood [] = Unit {0}
 AreGood (p ∷ ps) = IsGood p × AreGood ps
 
+-- what holds of one value holds of its equal; the values are written out where they are long
+pub turned : {A : Type 0} (Is : A → Type 0) (x y : A) → x ≡ y → Is y → Is x
+turned Is x y e h = subst Is (sym e) h
+
 -- reading went on from one place to another, and passed over words of which R holds
 pub record Passes (R : List Written → List Written → Type 0) (left rest : Left) : Type 0 where
   pub spells : R (words left) (words rest)
   pub good : AreGood rest.pieces
   pub wrong : rest.wrong ≡ left.wrong
+
+-- what is wrong further on stays so from one place to the next
+pub onward : (left middle rest : Left) → middle.wrong ≡ left.wrong → rest.wrong ≡ middle.wrong → rest.wrong ≡ left.wrong
+onward left middle rest first then_on = then_on ∙ first
 
 -- a reading that went well
 pub record Went {A B : Type 0} (read : Result A Refusal) (f : A → Result B Refusal) (y : B) : Type 0 where

@@ -2,7 +2,7 @@
 //! word of `mh_group`'s table.
 ghost use Rattle.std.specs.Prelude.{◌≡◌, []};
 ghost use Rattle.mh_text.specs.Gives.{Gives};
-ghost use Rattle.mh_text.specs.Reading.{action as action_lem, action_name_of as action_name_of_lem, parameters as parameters_lem, parameter as parameter_lem, generic_parameter as generic_parameter_lem, is_close as is_close_lem, typed as typed_lem, value_of as value_of_lem};
+ghost use Rattle.mh_text.specs.Reading.{action as action_lem, action_name_of as action_name_of_lem, parameters as parameters_lem, parameter as parameter_lem, generic_parameter as generic_parameter_lem, typed as typed_lem, value_of as value_of_lem};
 
 use crate::form::{Form, LONGEST_LIST, generic, list};
 use crate::place::{Piece, Place};
@@ -85,7 +85,7 @@ fn parameters<'a>(
         }
         [need, others @ ..] => {
             let (piece, place) = place.next()?;
-            if needs.len() <= optional && is_close(piece.sign()) {
+            if needs.len() <= optional && piece.sign().is_close() {
                 return Ok((before, place));
             }
             let (parameter, place) = parameter(alloc, *need, &piece, place)?;
@@ -94,12 +94,6 @@ fn parameters<'a>(
             self::parameters(alloc, optional, others, parameters, place)
         }
     }
-}
-
-fn is_close(sign: Sign) -> bool
-    ensures { result ≡ is_close_lem sign }
-{
-    matches!(sign, Sign::CloseParenthesis)
 }
 
 /// The parameter that begins with this token.

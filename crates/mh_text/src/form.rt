@@ -6,7 +6,6 @@ ghost use Rattle.mh_text.specs.Gives.{Gives, Refusal};
 ghost use Rattle.mh_text.specs.Reading.{generic as generic_lem, list as list_lem, listed, next_member};
 
 use crate::place::{Piece, Place};
-use crate::sign::Sign;
 use crate::value::reference;
 use crate::{TextError, Why};
 use mh_base::Seq;
@@ -41,7 +40,7 @@ pub(crate) fn generic<'a, F: Form>(
 ) -> Result<(Generic<F::Value>, Place<'a>), TextError>
     ensures { Gives (λ x. x) result (generic_lem F.reading piece.now place.entry) }
 {
-    if let Sign::IndirectRef = piece.sign() {
+    if piece.sign().is_indirect() {
         let (piece, place) = place.next()?;
         let (variable, place) = reference(alloc, &piece, place)?;
         return Ok((Generic::Indirect(variable), place));
@@ -60,9 +59,10 @@ pub(crate) fn list<'a, F: Form>(
 ) -> Result<(Seq<F::Value>, Place<'a>), TextError>
     ensures { Gives (λ x. x) result (list_lem F.reading most piece.now place.entry) }
 {
-    match piece.sign() {
-        Sign::OpenParenthesis => members::<F>(alloc, most, place),
-        _ => Err(piece.refused(Why::Syntax)),
+    if piece.sign().is_open() {
+        members::<F>(alloc, most, place)
+    } else {
+        Err(piece.refused(Why::Syntax))
     }
 }
 
@@ -97,7 +97,7 @@ fn next_member<'a, F: Form>(
     ensures { Gives (λ x. x) result (next_member F.reading place.entry) }
 {
     let (piece, place) = place.next()?;
-    if let Sign::CloseParenthesis = piece.sign() {
+    if piece.sign().is_close() {
         return Ok((None, place));
     }
     let (member, place) = F::read(alloc, &piece, place)?;

@@ -6,7 +6,7 @@ ghost use Rattle.mh_group.specs.Table.{attribute_number};
 ghost use Rattle.mh_text.specs.Gives.{Gives};
 ghost use Rattle.mh_text.specs.Spelling.{Spells, SpellsNone, SpellsNoOther};
 ghost use Rattle.mh_text.specs.Lexing.{behind_gap as behind_gap_lem, begins_group as begins_group_lem};
-ghost use Rattle.mh_text.specs.Reading.{read, group as group_lem, body as body_lem, class_of as class_of_lem, identifier as identifier_lem, is_items as is_items_lem, fields as fields_lem, next_field as next_field_lem, fields_behind_items as fields_behind_items_lem, attribute_of as attribute_of_lem, has_attribute as has_attribute_lem, placed, complete as complete_lem, items as items_lem, ingredient as ingredient_lem};
+ghost use Rattle.mh_text.specs.Reading.{read, group as group_lem, body as body_lem, class_of as class_of_lem, identifier as identifier_lem, is_items as is_items_lem, is_items_shape as is_items_shape_lem, fields as fields_lem, next_field as next_field_lem, fields_behind_items as fields_behind_items_lem, attribute_of as attribute_of_lem, has_attribute as has_attribute_lem, placed, complete as complete_lem, items as items_lem, ingredient as ingredient_lem};
 
 use crate::form::{Form, LONGEST_LIST, list};
 use crate::lexing::{begins_with, gap_length};
@@ -143,9 +143,15 @@ fn is_items(class: Class, sign: Sign) -> bool
     ensures { result ≡ is_items_lem class sign }
 {
     match sign {
-        Sign::Attribute(attribute) => matches!(class.shape(attribute), Shape::Items),
+        Sign::Attribute(attribute) => is_items_shape(class.shape(attribute)),
         _ => false,
     }
+}
+
+fn is_items_shape(shape: Shape) -> bool
+    ensures { result ≡ is_items_shape_lem shape }
+{
+    matches!(shape, Shape::Items)
 }
 
 /// The fields up to the closing brace or the keyword of the items, put in order among those that came
@@ -185,12 +191,12 @@ fn next_field<'a>(
     ensures { Gives (λ x. x) result (next_field_lem class fields.now place.entry) }
 {
     let (piece, place) = place.next()?;
-    if let Sign::CloseBrace = piece.sign() {
+    if piece.sign().is_close_brace() {
         return Ok((None, piece, place));
     }
     let attribute = attribute_of(class, fields, &piece)?;
     let shape = class.shape(attribute);
-    if let Shape::Items = shape {
+    if is_items_shape(shape) {
         return Ok((None, piece, place));
     }
     let (setting, place) = setting(alloc, shape, place)?;
@@ -310,9 +316,9 @@ fn ingredient<'a>(
 ) -> Result<(Ingredient, Place<'a>), TextError>
     ensures { Gives (λ x. x) result (ingredient_lem piece.now place.entry) }
 {
-    let Sign::OpenBrace = piece.sign() else {
+    if !piece.sign().is_open_brace() {
         return Err(piece.refused(Why::Syntax));
-    };
+    }
     let (piece, place) = place.next()?;
     let class = class_of(false, &piece)?;
     let (piece, place) = place.next()?;

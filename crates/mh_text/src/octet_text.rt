@@ -23,12 +23,12 @@ pub(crate) fn unescaped(alloc: Global, inner: &[u8]) -> Result<Vec<u8>, AllocErr
     let mut octets = Vec::new(alloc);
     let mut escape = Escape::Outside;
     for byte in inner {
-        match (escape, *byte) {
-            (Escape::Outside, b'=') => escape = Escape::Begun,
-            (Escape::Outside, plain) => octets.push(plain)?,
-            (Escape::Begun, high) => escape = Escape::Half(hexadecimal_value(high)),
-            (Escape::Half(high), low) => {
-                octets.push(high * 16 + hexadecimal_value(low))?;
+        match escape {
+            Escape::Outside if *byte == b'=' => escape = Escape::Begun,
+            Escape::Outside => octets.push(*byte)?,
+            Escape::Begun => escape = Escape::Half(hexadecimal_value(*byte)),
+            Escape::Half(high) => {
+                octets.push(high * 16 + hexadecimal_value(*byte))?;
                 escape = Escape::Outside;
             }
         }

@@ -118,9 +118,10 @@ impl<'a> Place<'a> {
         ensures { Gives (λ x. x) result (opened self.entry) }
     {
         let (piece, place) = self.next()?;
-        match piece.sign {
-            Sign::OpenParenthesis => Ok(place),
-            _ => Err(piece.refused(Why::Syntax)),
+        if piece.sign.is_open() {
+            Ok(place)
+        } else {
+            Err(piece.refused(Why::Syntax))
         }
     }
 
@@ -130,9 +131,10 @@ impl<'a> Place<'a> {
         ensures { Gives (λ x. x) result (closed self.entry) }
     {
         let (piece, place) = self.next()?;
-        match piece.sign {
-            Sign::CloseParenthesis => Ok(place),
-            _ => Err(piece.refused(Why::Syntax)),
+        if piece.sign.is_close() {
+            Ok(place)
+        } else {
+            Err(piece.refused(Why::Syntax))
         }
     }
 
@@ -142,9 +144,10 @@ impl<'a> Place<'a> {
         ensures { Gives (λ x. x) result (closed_list self.entry) }
     {
         let (piece, place) = self.next()?;
-        match piece.sign {
-            Sign::CloseParenthesis => Ok(place),
-            _ => Err(piece.refused(Why::Limit)),
+        if piece.sign.is_close() {
+            Ok(place)
+        } else {
+            Err(piece.refused(Why::Limit))
         }
     }
 
@@ -154,9 +157,10 @@ impl<'a> Place<'a> {
         ensures { Gives (λ x. x) result (braced self.entry) }
     {
         let (piece, place) = self.next()?;
-        match piece.sign {
-            Sign::OpenBrace => Ok(place),
-            _ => Err(piece.refused(Why::Syntax)),
+        if piece.sign.is_open_brace() {
+            Ok(place)
+        } else {
+            Err(piece.refused(Why::Syntax))
         }
     }
 

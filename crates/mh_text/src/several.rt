@@ -6,7 +6,6 @@ ghost use Rattle.mh_text.specs.Reading.{several as several_lem, effect, row, mem
 use crate::effect::ElementaryAction;
 use crate::form::{Form, LONGEST_LIST, list, members};
 use crate::place::{Piece, Place};
-use crate::sign::Sign;
 use crate::value::{Integer, integer_of, name_of, reference};
 use crate::{TextError, Why};
 use mh_base::Seq;
@@ -113,9 +112,9 @@ fn member<'a>(
 ) -> Result<(Member, Place<'a>), TextError>
     ensures { Gives (λ x. x) result (member_lem piece.now place.entry) }
 {
-    let Sign::OpenParenthesis = piece.sign() else {
+    if !piece.sign().is_open() {
         return Err(piece.refused(Why::Syntax));
-    };
+    }
     let (piece, place) = place.next()?;
     let (object, place) = reference(alloc, &piece, place)?;
     let (slots, place) = members::<Slot>(alloc, LONGEST_LIST, place)?;
@@ -148,9 +147,9 @@ fn list_item<'a>(
 ) -> Result<(Member, Place<'a>), TextError>
     ensures { Gives (λ x. x) result (list_item_lem piece.now place.entry) }
 {
-    let Sign::OpenParenthesis = piece.sign() else {
+    if !piece.sign().is_open() {
         return Err(piece.refused(Why::Syntax));
-    };
+    }
     let (piece, place) = place.next()?;
     let (object, place) = reference(alloc, &piece, place)?;
     let place = place.closed()?;
@@ -180,9 +179,9 @@ impl Form for CellPosition {
 fn position<'a>(piece: &Piece<'_>, place: Place<'a>) -> Result<(Position, Place<'a>), TextError>
     ensures { Gives (λ x. x) result (position_lem piece.now place.entry) }
 {
-    let Sign::OpenParenthesis = piece.sign() else {
+    if !piece.sign().is_open() {
         return Err(piece.refused(Why::Syntax));
-    };
+    }
     let (piece, place) = place.next()?;
     let x = integer_of(&piece)?;
     let (piece, place) = place.next()?;
@@ -217,9 +216,9 @@ fn next_scene<'a>(
 ) -> Result<(NextScene, Place<'a>), TextError>
     ensures { Gives (λ x. x) result (next_scene_lem piece.now place.entry) }
 {
-    let Sign::OpenParenthesis = piece.sign() else {
+    if !piece.sign().is_open() {
         return Err(piece.refused(Why::Syntax));
-    };
+    }
     let (piece, place) = place.next()?;
     let name = name_of(alloc, &piece)?;
     let (piece, place) = place.next()?;

@@ -3,6 +3,7 @@
 ghost use Rattle.std.specs.Prelude.{◌≡◌, ◌≤◌, Some, None, nat_le, if◌then◌else◌, ◌+◌, ◌*◌};
 ghost use Rattle.mh_text.specs.Signs.{sign_of as sign_of_lem, keyword_sign as keyword_sign_lem, name_sign as name_sign_lem, kind_word as kind_word_lem, kind_of_word as kind_of_word_lem, mark_sign as mark_sign_lem, word_sign as word_sign_lem, integer_sign as integer_sign_lem, integer_of as integer_of_lem, positive as positive_lem, negative as negative_lem};
 ghost use Rattle.mh_text.specs.Bytes.{number_behind};
+ghost use Rattle.mh_text.specs.Reading.{is_open as is_open_lem, is_close as is_close_lem, is_open_brace as is_open_brace_lem, is_close_brace as is_close_brace_lem, is_indirect as is_indirect_lem, is_content_ref as is_content_ref_lem};
 
 use crate::{TokenKind, Why};
 use mh_base::{EventType, Kind};
@@ -30,6 +31,44 @@ pub(crate) enum Sign {
     Integer(i32),
     Text,
     Quoted,
+}
+
+impl Sign {
+    pub(crate) fn is_open(self) -> bool
+        ensures { result ≡ is_open_lem self }
+    {
+        matches!(self, Sign::OpenParenthesis)
+    }
+
+    pub(crate) fn is_close(self) -> bool
+        ensures { result ≡ is_close_lem self }
+    {
+        matches!(self, Sign::CloseParenthesis)
+    }
+
+    pub(crate) fn is_open_brace(self) -> bool
+        ensures { result ≡ is_open_brace_lem self }
+    {
+        matches!(self, Sign::OpenBrace)
+    }
+
+    pub(crate) fn is_close_brace(self) -> bool
+        ensures { result ≡ is_close_brace_lem self }
+    {
+        matches!(self, Sign::CloseBrace)
+    }
+
+    pub(crate) fn is_indirect(self) -> bool
+        ensures { result ≡ is_indirect_lem self }
+    {
+        matches!(self, Sign::IndirectRef)
+    }
+
+    pub(crate) fn is_content_ref(self) -> bool
+        ensures { result ≡ is_content_ref_lem self }
+    {
+        matches!(self, Sign::ContentRef)
+    }
 }
 
 /// What the token means: 22 where no table has its name, 23 where its number has more than 32 bits.

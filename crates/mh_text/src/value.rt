@@ -204,9 +204,9 @@ pub(crate) fn content_name<'a>(
 ) -> Result<(WrittenName, Place<'a>), TextError>
     ensures { Gives (λ x. x) result (content_name_lem piece.now place.entry) }
 {
-    let Sign::ContentRef = piece.sign() else {
+    if !piece.sign().is_content_ref() {
         return Err(piece.refused(Why::Syntax));
-    };
+    }
     let place = place.opened()?;
     let (piece, place) = place.next()?;
     let name = name_of(alloc, &piece)?;
@@ -223,7 +223,7 @@ pub(crate) fn content<'a>(
 ) -> Result<(Content, Place<'a>), TextError>
     ensures { Gives (λ x. x) result (content_lem piece.now place.entry) }
 {
-    if let Sign::ContentRef = piece.sign() {
+    if piece.sign().is_content_ref() {
         let (name, place) = content_name(alloc, piece, place)?;
         return Ok((Content::Referenced(name), place));
     }

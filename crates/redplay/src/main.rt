@@ -5,13 +5,12 @@
 pub mod command_line;
 pub mod gather;
 
+use command_line::{Asked, Task, line_of};
+use gather::{Ungathered, gather, read_file};
 pub use mh_report::{
     ListSink, Notation, Options, PlayError, Sink, Status, WriterSink, check_bytes, convert_bytes,
     play_bytes,
 };
-
-use command_line::{Asked, Task, line_of};
-use gather::{Ungathered, gather, read_file};
 use std::alloc::{AllocError, Global};
 use std::process::ExitCode;
 use std::rt::Runtime;

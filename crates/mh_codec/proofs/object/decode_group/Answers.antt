@@ -1,21 +1,21 @@
 use Rattle.std.proofs.Common.{rules, ◌≡◌, Ok, arith}
 use Rattle.std.proofs.lemmas.Grind.{common_steps}
 use Rattle.mh_codec.specs.declared.codec_error.CodecError.TheVariants.{At}
-use Rattle.mh_codec.specs.declared.codec_error.Why.TheVariants.{Limit, BadValue}
+use Rattle.mh_codec.specs.declared.codec_error.Why.TheVariants.{Limit}
 use Rattle.mh_codec.specs.Gives.{Gives, Fails}
 use Rattle.mh_codec.specs.Reading.{read}
-use Rattle.mh_codec.proofs.SpellingLaws.{read_found, none_spelled, no_other_spelled, gives_none}
+use Rattle.mh_codec.proofs.SpellingLaws.{element_fits, read_found, none_spelled, no_other_spelled, gives_none}
 use Rattle.mh_codec.proofs.object.decode_group.Goals as goal
 
-pub returns-in-Ok-clause-found : goal.returns-in-Ok-clause-found
+pub returns-clause-found : goal.returns-clause-found
 unfolding read
-returns-in-Ok-clause-found c =
+returns-clause-found c =
     let is : read c.args.octets.now ≡ Ok c.in-Ok.group = first_of (search rules, grind (arith, common_steps)) in
     read_found c.args.octets.now c.in-Ok.group (λ k. (c.type_inv.octets k).fits) is
 
-pub returns-in-Ok-clause-one : goal.returns-in-Ok-clause-one
+pub returns-clause-one : goal.returns-clause-one
 unfolding read
-returns-in-Ok-clause-one c =
+returns-clause-one c =
     let is : read c.args.octets.now ≡ Ok c.in-Ok.group = first_of (search rules, grind (arith, common_steps)) in
     no_other_spelled c.args.octets.now c.in-Ok.group is
 
@@ -43,8 +43,9 @@ returns-in_err-ended-clause-only c =
     let gives : Gives (λ x. x) c.from_residual-in_err-ended.result (read c.args.octets.now) = first_of (search rules, grind (arith, common_steps)) in
     gives_none c.args.octets.now c.from_residual-in_err-ended.result gives
 
-pub returns-clause-only : goal.returns-clause-only
-unfolding read
-returns-clause-only c =
-    let fails : Fails (At BadValue 0) (read c.args.octets.now) = first_of (search rules, grind (arith, common_steps)) in
-    none_spelled c.args.octets.now (At BadValue 0) fails
+pub unreachable-requires : goal.unreachable-requires
+unreachable-requires c =
+    let stands = rw c.new.ensures at c.in_ok-element.ensures in
+    let fit = element_fits c.args.octets.now c.in_ok-element.element c.in_ok-element.behind c.in_ok-written.written (λ k. (c.type_inv.octets k).fits) stands c.in_ok-written.ensures in
+    let unfit = c.in-Err.ensures.unfit in
+    cc
