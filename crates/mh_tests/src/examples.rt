@@ -2,18 +2,17 @@
 use crate::playing::File;
 
 /// Goes to the scene `s`.
-pub const APPLICATION: File = (
-    "a",
-    br#"{:Application ("~/a" 0) :OnStartUp ( :TransitionTo (("~/s" 0)) ) }"#,
-);
+pub const APPLICATION_TEXT: &[u8] =
+    br#"{:Application ("~/a" 0) :OnStartUp ( :TransitionTo (("~/s" 0)) ) }"#;
+
+pub const APPLICATION: File = ("a", APPLICATION_TEXT);
 
 /// A red rectangle that a key moves.
-pub const SCENE: File = (
-    "s",
-    b"{:Scene (\"~/s\" 0) :InputEventReg 3 :SceneCS 720 576 :Items ( \
+pub const SCENE_TEXT: &[u8] = b"{:Scene (\"~/s\" 0) :InputEventReg 3 :SceneCS 720 576 :Items ( \
     {:Rectangle 10 :OrigBoxSize 24 32 :OrigPosition 12 16 :OrigLineWidth 0 :OrigRefFillColour '=FF=00=00=00' } \
-    {:Link 11 :EventSource 0 :EventType UserInput :EventData 100 :LinkEffect ( :SetPosition (10 24 16) ) } ) }",
-);
+    {:Link 11 :EventSource 0 :EventType UserInput :EventData 100 :LinkEffect ( :SetPosition (10 24 16) ) } ) }";
+
+pub const SCENE: File = ("s", SCENE_TEXT);
 
 /// A key moves what is not there.
 pub const ABSENT: File = (

@@ -8,6 +8,8 @@
 #[cfg(test)]
 mod base;
 #[cfg(test)]
+mod building;
+#[cfg(test)]
 mod codec;
 #[cfg(test)]
 mod codec_forms;
@@ -18,12 +20,26 @@ mod der_values;
 #[cfg(test)]
 mod examples;
 #[cfg(test)]
+mod group;
+#[cfg(test)]
+mod limits;
+#[cfg(test)]
+mod notations;
+#[cfg(test)]
 mod octets;
+#[cfg(test)]
+mod plain;
 #[cfg(test)]
 mod playing;
 #[cfg(test)]
 mod rows;
 #[cfg(test)]
+mod tables;
+#[cfg(test)]
 mod text;
 #[cfg(test)]
 mod text_forms;
+#[cfg(test)]
+mod whole;
+#[cfg(test)]
+mod words;

@@ -1,5 +1,5 @@
 //! The textual notation: where reading goes wrong, what begins a group, and the tokens.
-use crate::examples::{APPLICATION, SCENE};
+use crate::examples::{APPLICATION_TEXT, SCENE_TEXT};
 use mh_text::{TextError, TokenKind, Tokens, begins_group, read_group};
 use std::alloc::Global;
 
@@ -87,7 +87,7 @@ fn reads_and_refuses(rt: HostRuntime) {
 /// A file that was cut off is no group, wherever it was cut; the offset lies within what is left.
 #[test]
 fn refuses_what_is_cut_off(rt: HostRuntime) {
-    for text in [APPLICATION.1, SCENE.1] {
+    for text in [APPLICATION_TEXT, SCENE_TEXT] {
         for end in 0..text.len() {
             let (number, offset) = refusal(rt.alloc(), &text[..end]);
             assert!(rt;
