@@ -4,6 +4,7 @@ use mh_group::{
     Action, ActionName, Attribute, Class, Effect, Field, Generic, Group, Ingredient, Member,
     Number, Ref, Setting, Written, WrittenName,
 };
+use mh_text::read_group;
 use std::alloc::Global;
 
 pub fn written_name(alloc: Global, bytes: &[u8]) -> Option<WrittenName> {
@@ -79,5 +80,39 @@ pub fn token_group(alloc: Global, count: u32, slots: u32) -> Option<Group> {
         fields: Seq::new(alloc),
         items: Some(Seq::from_vec(vec![in alloc; item].ok()?)),
     };
+    Group::new(written).ok()
+}
+
+fn variable(alloc: Global, number: u32) -> Option<Ingredient> {
+    Some(Ingredient {
+        class: Class::IntegerVar,
+        number: Number::new(number)?,
+        fields: one_field(alloc, Attribute::OrigValue, Setting::Int(0))?,
+    })
+}
+
+/// The group of the text with so many variables more, from the number 1 on; and which, if there are
+/// such, does so many actions at its start, and nothing else.
+pub fn grown(alloc: Global, text: &[u8], variables: u32, actions: usize) -> Option<Group> {
+    let Written {
+        class,
+        identifier,
+        fields,
+        items,
+    } = read_group(alloc, text).ok()?.into_written();
+    let mut items = items.unwrap_or(Seq::new(alloc));
+    for before in 0..variables {
+        items.push(variable(alloc, before.saturating_add(1))?).ok()?;
+    }
+    let mut written = Written {
+        class,
+        identifier,
+        fields,
+        items: Some(items),
+    };
+    if actions > 0 {
+        let effect = Setting::Effect(transitions(alloc, actions, b"x")?);
+        written.fields = one_field(alloc, Attribute::OnStartUp, effect)?;
+    }
     Group::new(written).ok()
 }

@@ -33,7 +33,7 @@ pub const OUTSIDE: File = (
 pub const OPEN: File = ("a", br#"{:Application ("~/a" 0)"#);
 
 /// Shows the rectangle before and behind the key.
-pub const MOVES: &str = "run\nshow\nkey red\nrun\nshow\n";
+pub const MOVES: &[u8] = b"run\nshow\nkey red\nrun\nshow\n";
 
 /// What `MOVES` writes.
 pub const FRAMES: &[u8] = b"did 11 idle\n\

@@ -5,7 +5,6 @@ use crate::octets::{APPLICATION, ITEMS, LIST, NUMBER, SCENE, START_UP, Shell, re
 use crate::text_forms;
 use mh_codec::{CodecError, LARGEST_FILE, Why, encode_group};
 use mh_group::Group;
-use mh_report::{ListSink, Notation, PlayError, Status, convert_bytes};
 use std::alloc::{AllocError, Global};
 
 /// Lists in an ingredient of the textual notation: how many members there may be, what stands before
@@ -233,49 +232,4 @@ fn reads_short_files(rt: HostRuntime) {
     let alloc = rt.alloc();
     assert!(rt; refusal_of_octets(alloc, LARGEST_FILE + 1, b"\x00", &[]) == (13, 0));
     assert!(rt; refusal_of_octets(alloc, LARGEST_FILE, b"\x00", &[]) == (10, 0));
-}
-
-/// A text whose octets are more than a file may hold: rows of zeros, two bytes each in the text and
-/// three in octets.
-fn many_numbers(alloc: Global) -> Result<Vec<u8>, AllocError> {
-    let row = repeated(alloc, b"(", b"0 ", 4000, b")")?;
-    let front = br#"{:Scene ("~/s" 0) :Items ( {:TokenGroup 1 :MovementTable ("#;
-    repeated(alloc, front, row.as_slice(), 100, b") } ) }")
-}
-
-/// Octets whose text is more than a file may hold: 400,000 octets that are printed by three bytes each.
-fn many_octets(alloc: Global) -> Result<Vec<u8>, AllocError> {
-    let front = b"\xa0\x83\x06\x1a\x95\x30\x08\x04\x03~/a\x02\x01\x00\
-        \xbf\x23\x83\x06\x1a\x85\x04\x83\x06\x1a\x80";
-    repeated(alloc, front, b"\x00", 400_000, b"")
-}
-
-/// What a conversion of the bytes as a file `a` writes.
-fn is_told(alloc: Global, bytes: &[u8], to: Notation, line: &[u8]) -> Result<bool, PlayError> {
-    let mut sink = ListSink {
-        bytes: Vec::new(alloc),
-        failures: 0,
-    };
-    let status = convert_bytes(alloc, b"a", bytes, to, &mut sink)?;
-    Ok(status == Status::Unreadable && sink.bytes.as_slice() == line)
-}
-
-fn are_too_long(alloc: Global) -> Result<bool, PlayError> {
-    let text = many_numbers(alloc)?;
-    let octets = many_octets(alloc)?;
-    let is_text = is_told(alloc, text.as_slice(), Notation::Binary, b"file a 13 0\n")?;
-    Ok(
-        is_text
-            && is_told(
-                alloc,
-                octets.as_slice(),
-                Notation::Textual,
-                b"file a 24 0\n",
-            )?,
-    )
-}
-
-#[test]
-fn converts_short_files(rt: HostRuntime) {
-    assert!(rt; are_too_long(rt.alloc()) == Ok(true));
 }

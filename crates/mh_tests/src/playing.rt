@@ -1,11 +1,11 @@
 //! What is written of small services: checks, plays and conversions, each answered by its bytes.
-ghost use Rattle.std.specs.Prelude.{◌-◌, ◌<◌, ◌^◌};
+ghost use Rattle.std.specs.Prelude.{◌≡◌, ◌-◌, ◌<◌, ◌^◌};
 
 use mh_base::GroupName;
 use mh_report::{
     ListSink, Notation, Options, PlayError, Sink, Status, check_bytes, convert_bytes, play_bytes,
 };
-use std::alloc::Global;
+use std::alloc::{AllocError, Global};
 
 /// A file: its path and what it holds.
 pub type File = (&'static str, &'static [u8]);
@@ -15,9 +15,9 @@ pub type File = (&'static str, &'static [u8]);
 pub enum Task {
     Check,
     /// Plays a script where the verifier accepts the service.
-    Play(&'static str),
+    Play(&'static [u8]),
     /// Plays a script whatever the verifier would say.
-    PlayLeniently(&'static str),
+    PlayLeniently(&'static [u8]),
     /// Converts the one file.
     Convert(Notation),
 }
@@ -40,18 +40,18 @@ fn sources(alloc: Global, files: &[File]) -> Result<Vec<(GroupName, Vec<u8>)>, P
     Ok(sources)
 }
 
-/// Plays from this start, into the sink.
+/// Plays into the sink.
 pub fn play<S: Sink>(
     alloc: Global,
     files: &[File],
-    script: &str,
+    script: &[u8],
     options: &Options,
     sink: &mut S,
 ) -> Result<Status, PlayError>
     requires { S.failures sink.old < 2 ^ 64 - 1 }
 {
     let files = sources(alloc, files)?;
-    play_bytes(alloc, files.as_slice(), script.as_bytes(), options, sink)
+    play_bytes(alloc, files.as_slice(), script, options, sink)
 }
 
 /// The choices of a play that starts with this application.
@@ -87,22 +87,38 @@ fn do_task(
     }
 }
 
-/// What is written, with a last line that tells the exit status.
-pub fn outcome(alloc: Global, task: Task, files: &[File]) -> Result<Vec<u8>, PlayError> {
-    let mut sink = ListSink {
+/// Puts a last line behind what was written, which tells the exit status.
+pub fn ended(alloc: Global, sink: ListSink, status: Status) -> Result<Vec<u8>, AllocError> {
+    let mut bytes = sink.bytes;
+    let line = format!(in alloc; "exit {}\n", status.code())?;
+    bytes.extend_from_slice(line.as_bytes())?;
+    Ok(bytes)
+}
+
+pub fn empty_sink(alloc: Global) -> ListSink
+    ensures { result.failures ≡ 0 }
+{
+    ListSink {
         bytes: Vec::new(alloc),
         failures: 0,
-    };
+    }
+}
+
+pub fn outcome(alloc: Global, task: Task, files: &[File]) -> Result<Vec<u8>, PlayError> {
+    let mut sink = empty_sink(alloc);
     let status = do_task(alloc, task, files, &mut sink)?;
-    let line = format!(in alloc; "exit {}\n", status.code())?;
-    sink.bytes.extend_from_slice(line.as_bytes())?;
-    Ok(sink.bytes)
+    Ok(ended(alloc, sink, status)?)
+}
+
+/// Whether these bytes are written.
+pub fn are(written: Result<Vec<u8>, PlayError>, wanted: &[u8]) -> bool {
+    match written {
+        Ok(written) => written.as_slice() == wanted,
+        Err(_) => false,
+    }
 }
 
 pub fn holds(alloc: Global, case: &Case) -> bool {
     let (_, task, files, wanted) = case;
-    match outcome(alloc, *task, *files) {
-        Ok(written) => written.as_slice() == *wanted,
-        Err(_) => false,
-    }
+    are(outcome(alloc, *task, *files), *wanted)
 }
