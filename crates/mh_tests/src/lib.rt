@@ -1,0 +1,63 @@
+//! Tests of the libraries through their public calls, with a file of cases for each library.
+//!
+//! What a contract says is proved where it stands. Here is what no contract says: that the
+//! definitions mean what they should, by values that were worked out by hand, by worked examples and by
+//! octets of another program.
+#![tactic(auto)]
+
+#[cfg(test)]
+mod base;
+#[cfg(test)]
+mod building;
+#[cfg(test)]
+mod codec;
+#[cfg(test)]
+mod codec_forms;
+#[cfg(test)]
+mod conversions;
+#[cfg(test)]
+mod cutting_sink;
+#[cfg(test)]
+mod der;
+#[cfg(test)]
+mod der_values;
+#[cfg(test)]
+mod engine;
+#[cfg(test)]
+mod examples;
+#[cfg(test)]
+mod group;
+#[cfg(test)]
+mod limits;
+#[cfg(test)]
+mod notations;
+#[cfg(test)]
+mod objects;
+#[cfg(test)]
+mod octets;
+#[cfg(test)]
+mod plain;
+#[cfg(test)]
+mod playing;
+#[cfg(test)]
+mod report;
+#[cfg(test)]
+mod rows;
+#[cfg(test)]
+mod runs;
+#[cfg(test)]
+mod service;
+#[cfg(test)]
+mod sinks;
+#[cfg(test)]
+mod tables;
+#[cfg(test)]
+mod text;
+#[cfg(test)]
+mod text_forms;
+#[cfg(test)]
+mod verify;
+#[cfg(test)]
+mod whole;
+#[cfg(test)]
+mod words;
