@@ -26,6 +26,3 @@ pub use octets::Octets;
 pub use seq::Seq;
 pub use shared::Shared;
 pub use value::{Kind, Value};
-
-#[cfg(test)]
-mod tests;

@@ -29,6 +29,3 @@ pub use shape::{Need, Shape};
 pub use words::{event_of_word, event_word};
 pub use written::{Field, Ingredient, Member, NextScene, Position, Setting, Written};
 pub use written_name::WrittenName;
-
-#[cfg(test)]
-mod tests;

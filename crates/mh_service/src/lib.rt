@@ -15,6 +15,3 @@ pub mod service_error;
 pub use refusing::double_name;
 pub use service::Service;
 pub use service_error::{ServiceError, Why};
-
-#[cfg(test)]
-mod tests;

@@ -15,6 +15,3 @@ pub mod verifying;
 pub use accepted::{Accepted, Rest};
 pub use refusal::{Found, Place, Refusal, RefusalKind};
 pub use verifying::verify;
-
-#[cfg(test)]
-mod tests;
