@@ -62,11 +62,13 @@ const DATA: Attribute = Attribute::EventData;
 
 const MEMBERS: Attribute = Attribute::TokenGroupItems;
 
+const CONTENT: Attribute = Attribute::OrigContent;
+
 const LINE: Attribute = Attribute::OrigRefLineColour;
 
 const FILL: Attribute = Attribute::OrigRefFillColour;
 
-static INGREDIENTS: [(Class, &[Case]); 10] = [
+static INGREDIENTS: [(Class, &[Case]); 11] = [
     (Class::Scene, &[(Some(MisfitWhy::NotAnIngredient), &[])]),
     (
         Class::Rectangle,
@@ -94,12 +96,9 @@ static INGREDIENTS: [(Class, &[Case]); 10] = [
             ),
             (FITS, &[SIZE, (Attribute::OrigLineWidth, Plain::Int(0))]),
             (VALUE, &[SIZE, (Attribute::OrigLineWidth, Plain::Int(-1))]),
-            (
-                FITS,
-                &[SIZE, (LINE, Plain::Octets(4)), (FILL, Plain::Octets(4))],
-            ),
-            (VALUE, &[SIZE, (LINE, Plain::Octets(3))]),
-            (VALUE, &[SIZE, (FILL, Plain::Octets(5))]),
+            (FITS, &[SIZE, (LINE, Plain::Colour), (FILL, Plain::Colour)]),
+            (VALUE, &[SIZE, (LINE, Plain::Octets(4))]),
+            (VALUE, &[SIZE, (FILL, Plain::Included(4))]),
         ],
     ),
     (
@@ -114,8 +113,9 @@ static INGREDIENTS: [(Class, &[Case]); 10] = [
         Class::Link,
         &[
             (FITS, &[SOURCE, EVENT, NOTHING]),
-            (FITS, &[SOURCE, EVENT, (DATA, Plain::Int(1)), NOTHING]),
-            (FITS, &[SOURCE, EVENT, (DATA, Plain::Bool(true)), NOTHING]),
+            (FITS, &[SOURCE, EVENT, (DATA, Plain::Number(1)), NOTHING]),
+            (FITS, &[SOURCE, EVENT, (DATA, Plain::Truth(true)), NOTHING]),
+            (VALUE, &[SOURCE, EVENT, (DATA, Plain::Int(1)), NOTHING]),
             (VALUE, &[SOURCE, EVENT, (DATA, Plain::Octets(1)), NOTHING]),
             (MISSING, &[EVENT, NOTHING]),
             (MISSING, &[SOURCE, NOTHING]),
@@ -145,8 +145,19 @@ static INGREDIENTS: [(Class, &[Case]); 10] = [
         &[(FITS, &[(MEMBERS, Plain::Members(257, 2))])],
     ),
     (
+        Class::Text,
+        &[
+            (FITS, &[SIZE, (CONTENT, Plain::Included(0))]),
+            (FITS, &[SIZE, (CONTENT, Plain::Referenced)]),
+            (VALUE, &[SIZE, (CONTENT, Plain::Octets(4))]),
+            (VALUE, &[SIZE, (CONTENT, Plain::Name)]),
+        ],
+    ),
+    (
         Class::OStringVar,
         &[
+            (FITS, &[(Attribute::OrigValue, Plain::Octets(4))]),
+            (VALUE, &[(Attribute::OrigValue, Plain::Colour)]),
             (FITS, &[(Attribute::OrigValue, Plain::Octets(3))]),
             (VALUE, &[(Attribute::OrigValue, Plain::Name)]),
         ],

@@ -1,9 +1,9 @@
 //! Written objects, whatever the tables say of them.
 use crate::building::{members, written_name};
-use mh_base::{EventType, Octets, Seq};
+use mh_base::{Colour, EventType, Octets, Seq};
 use mh_group::{
-    Action, ActionName, Attribute, Class, Field, Generic, Ingredient, Number, Parameter, Ref,
-    Setting, Typed, Written,
+    Action, ActionName, Attribute, Class, Content, EventData, Field, Generic, Ingredient, Number,
+    Parameter, Ref, Setting, Typed, Written,
 };
 use std::alloc::Global;
 
@@ -15,6 +15,14 @@ pub enum Plain {
     Pair(i32, i32),
     /// So many octets.
     Octets(usize),
+    /// Black.
+    Colour,
+    /// The data of an event.
+    Truth(bool),
+    Number(i32),
+    /// So many octets as content, and the name of a content file as such.
+    Included(usize),
+    Referenced,
     Source,
     Event,
     /// The name of a content file.
@@ -47,15 +55,29 @@ fn effect(alloc: Global, name: ActionName, integers: u32, typed: u32) -> Option<
     Some(Setting::Effect(Seq::from_vec(vec![in alloc; action].ok()?)))
 }
 
+const BLACK: Colour = Colour {
+    red: 0,
+    green: 0,
+    blue: 0,
+    transparency: 0,
+};
+
+fn octets(alloc: Global, count: usize) -> Option<Octets> {
+    let octets = vec![in alloc; 0u8; count].ok()?;
+    Octets::from_vec(alloc, octets).ok()
+}
+
 fn setting(alloc: Global, plain: Plain) -> Option<Setting> {
     Some(match plain {
         Plain::Bool(truth) => Setting::Bool(truth),
         Plain::Int(value) => Setting::Int(value),
         Plain::Pair(first, second) => Setting::Pair(first, second),
-        Plain::Octets(count) => {
-            let octets = vec![in alloc; 0u8; count].ok()?;
-            Setting::Octets(Octets::from_vec(alloc, octets).ok()?)
-        }
+        Plain::Octets(count) => Setting::Octets(octets(alloc, count)?),
+        Plain::Colour => Setting::Colour(BLACK),
+        Plain::Truth(truth) => Setting::Data(EventData::Bool(truth)),
+        Plain::Number(value) => Setting::Data(EventData::Int(value)),
+        Plain::Included(count) => Setting::Content(Content::Included(octets(alloc, count)?)),
+        Plain::Referenced => { Setting::Content(Content::Referenced(written_name(alloc, b"~/a")?)) }
         Plain::Source => Setting::Ref(Ref::Here(Number::new(0)?)),
         Plain::Event => Setting::Event(EventType::UserInput),
         Plain::Name => Setting::ContentRef(written_name(alloc, b"~/a")?),
