@@ -20,10 +20,10 @@ use Rattle.mh_group.specs.declared.action.Parameter.TheVariants as parameter
 use Rattle.mh_group.specs.Table.{action_number, needs_of, optional_of}
 use Rattle.mh_group.specs.Words.{actions}
 use Rattle.mh_group.specs.Fit.{fits_parameter, fits_parameters, fits_action}
+use Rattle.mh_group.specs.Holdable.{is_integer, is_plain, is_name, is_octets, is_content, is_data, is_reference, is_generic, is_list, is_typed, is_parameter, is_action}
 use Rattle.mh_codec.specs.declared.codec_error.Why.TheVariants.{UnknownTag}
 use Rattle.mh_codec.specs.Tags.{action_with, value_kind_with, value_kinds, value_number}
 use Rattle.mh_codec.specs.Spelling.{own, integer, boolean, octet_string, content_name, content_value, data_value, reference, generic, several, list, typed_value, parameter_value, action}
-use Rattle.mh_codec.specs.Writable.{is_integer, is_plain, is_name, is_content, is_data, is_reference, is_generic, is_list, is_typed, is_parameter, is_action}
 use Rattle.mh_codec.specs.Gives.{Refusal, ◌>>=◌}
 use Rattle.mh_codec.specs.Reading.{taken, ended, only, own_at, some_at, truth_at, integer_at, octets_at, event_at, content_name_at, content_at, data_at, reference_at, generic_at, list_at, value_at, typed_at, parameter_at, parameters, action_at}
 use Rattle.mh_codec.proofs.ElementLemmas.{went, ok_same, written, in_parts, last_part, Good, same_element, same_number, find_holds, taken_found, good_found, taken_given, nothing_left, ended_given}
@@ -39,7 +39,7 @@ truths = generic_reads truth_reads truth_plain
 integers : Reads (generic_at integer_at) (generic integer) (is_generic is_integer) (is_generic is_integer)
 integers = generic_reads integer_reads integer_plain
 
-strings : Reads (generic_at octets_at) (generic octet_string) (is_generic is_plain) (is_generic is_plain)
+strings : Reads (generic_at octets_at) (generic octet_string) (is_generic is_octets) (is_generic is_octets)
 strings = generic_reads octets_reads octets_plain
 
 references : Reads (generic_at reference_at) (generic reference) (is_generic is_reference) (is_generic is_reference)

@@ -1,5 +1,5 @@
 -- Elements of the notation: what was taken stands there, and what stands there is taken.
-use Rattle.std.proofs.Common.{◌≡◌, ℕ, ◌<◌, ◌^◌, ◌⊎◌, inl, inr, Bool, true, false, ◌==◌, if◌then◌else◌, List, [], ◌∷◌, ◌++◌, Option, Some, Result, Ok, Err, refl, ap, sym, ◌∙◌, subst, arith, append-nil}
+use Rattle.std.proofs.Common.{◌≡◌, ℕ, suc, ◌<◌, ◌^◌, ◌⊎◌, inl, inr, Bool, true, false, ◌==◌, nat_lt, if◌then◌else◌, List, [], ◌∷◌, ◌++◌, Option, Some, Result, Ok, Err, refl, ap, sym, ◌∙◌, subst, arith, append-nil}
 use Rattle.std.specs.List.{find}
 use Rattle.std.proofs.lemmas.Bool.Decides.{nat_tests}
 use Rattle.mh_der.specs.declared.tag.Tag.{Tag}
@@ -12,6 +12,7 @@ use Rattle.mh_der.specs.Rest.{Rest, Element}
 use Rattle.mh_der.specs.Reading.{next, ended as der_ended}
 use Rattle.mh_der.proofs.DigitLemmas.{AreBytes}
 use Rattle.mh_der.proofs.ElementLaws.{Found, element_found, element_given}
+use Rattle.mh_group.specs.Holdable.{is_octets}
 use Rattle.mh_codec.specs.declared.kind.Kind.{Kind}
 use Rattle.mh_codec.specs.declared.kind.Kind.TheVariants as kind
 use Rattle.mh_codec.specs.declared.codec_error.Why.{Why}
@@ -61,6 +62,14 @@ in_parts bs front rest first more is f r = rw (is, f, r) refl
 -- octets in one part, behind which nothing stands
 pub last_part : (bs front rest first : List ℕ) → bs ≡ front ++ rest → rest ≡ [] → front ≡ first → bs ≡ first
 last_part bs front rest first is none f = rw (is, none, f) (append-nil first)
+
+-- bytes are octets
+pub bytes_are_octets : (bs : List ℕ) → AreBytes bs → is_octets bs ≡ true
+bytes_are_octets [] h = refl
+bytes_are_octets (b ∷ bs) h =
+    let small : b < 256 = h 0 in
+    let first : nat_lt b 256 ≡ true = grind (arith, nat_tests) in
+    rw first (bytes_are_octets bs (λ k. h (suc k)))
 
 -- an element as a source can hold it
 pub record Good (e : Element) : Type 0 where

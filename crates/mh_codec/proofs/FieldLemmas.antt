@@ -18,10 +18,10 @@ use Rattle.mh_group.specs.declared.written.Field.{Field}
 use Rattle.mh_group.specs.Table.{attribute_number, shape_of, value_shape, is_list_group, takes}
 use Rattle.mh_group.specs.Words.{attributes}
 use Rattle.mh_group.specs.Fit.{fits, rises_above, takes_each, fits_each}
+use Rattle.mh_group.specs.Holdable.{is_setting, has_settings}
 use Rattle.mh_codec.specs.declared.codec_error.Why.TheVariants.{UnknownTag, WrongOrder}
 use Rattle.mh_codec.specs.Tags.{attribute_with}
 use Rattle.mh_codec.specs.Spelling.{own, several, value, field}
-use Rattle.mh_codec.specs.Writable.{is_setting, has_settings}
 use Rattle.mh_codec.specs.Gives.{Refusal, ◌>>=◌}
 use Rattle.mh_codec.specs.Reading.{taken, own_at, admitted, some_at, setting, is_items_shape, attribute_at, next_field, gathered, fields}
 use Rattle.mh_codec.proofs.ElementLemmas.{went, if_ok, ok_same, written, Good, same_number, find_holds, taken_found, good_found, taken_given}

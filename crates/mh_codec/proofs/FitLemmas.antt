@@ -12,10 +12,6 @@ use Rattle.mh_group.specs.declared.shape.Shape.TheVariants as shape
 use Rattle.mh_group.specs.declared.shape.Need.{Need}
 use Rattle.mh_group.specs.declared.shape.Need.TheVariants as need
 use Rattle.mh_group.specs.declared.action.Action.{Action}
-use Rattle.mh_group.specs.declared.action.Content.{Content}
-use Rattle.mh_group.specs.declared.action.Content.TheVariants as of_content
-use Rattle.mh_group.specs.declared.action.EventData.{EventData}
-use Rattle.mh_group.specs.declared.action.EventData.TheVariants as of_data
 use Rattle.mh_group.specs.declared.action.Parameter.{Parameter}
 use Rattle.mh_group.specs.declared.action.Parameter.TheVariants as of_parameter
 use Rattle.mh_group.specs.declared.written.Member.{Member}
@@ -26,9 +22,9 @@ use Rattle.mh_group.specs.Fit.{fits, fits_parameter, fits_parameters, fits_actio
 use Rattle.mh_codec.specs.declared.codec_error.Why.TheVariants.{UnknownTag, Limit, BadValue}
 use Rattle.mh_codec.specs.Tags.{action_with}
 use Rattle.mh_codec.specs.Gives.{Refusal, ◌>>=◌}
-use Rattle.mh_codec.specs.Reading.{taken, ended, only, own_at, some_at, sequence_at, truth_at, integer_at, octets_at, natural_at, length_at, fixed_at, event_at, justification_at, colour_at, reference_at, content_name_at, content_at, data_at, content_setting, data_setting, generic_at, exhausted, next_member, continued, listed, list_at, typed_at, parameter_at, parameters, action_at, effect_at, row_at, member_in, member_at, list_item_in, list_item_at, position_at, next_scene_at, part, pair, single, setting}
+use Rattle.mh_codec.specs.Reading.{taken, ended, only, own_at, some_at, sequence_at, truth_at, integer_at, octets_at, natural_at, length_at, fixed_at, event_at, justification_at, colour_at, reference_at, content_name_at, content_at, data_at, generic_at, exhausted, next_member, continued, listed, list_at, typed_at, parameter_at, parameters, action_at, effect_at, row_at, member_in, member_at, list_item_in, list_item_at, position_at, next_scene_at, part, pair, single, setting}
 use Rattle.mh_codec.proofs.ElementLemmas.{went, if_ok, ok_same}
-use Rattle.mh_codec.proofs.ValueLemmas.{natural_read, colour_read}
+use Rattle.mh_codec.proofs.ValueLemmas.{natural_read}
 use Rattle.mh_codec.proofs.ReferenceLemmas.{and_true, both_true}
 use Rattle.mh_codec.proofs.PairLemmas.{fits_part}
 
@@ -202,14 +198,6 @@ length_fits e x is =
     let t = if_ok (is_field_length a.value) (Ok a.value) BadValue e.offset x a.behind in
     subst (λ (y : ℤ). is_field_length y ≡ true) (ok_same t.1) t.0
 
-content_fits : (x : Content) → fits shape.Content (content_setting x) ≡ true
-content_fits (of_content.Included octets) = refl
-content_fits (of_content.Referenced name) = refl
-
-data_fits : (x : EventData) → fits shape.Data (data_setting x) ≡ true
-data_fits (of_data.Bool b) = refl
-data_fits (of_data.Int x) = refl
-
 single_fits : (s : Shape) (e : Element) (v : Setting) → single s e ≡ Ok v → fits s v ≡ true
 unfolding single
 single_fits shape.Effect e v is = made_fits (fits shape.Effect) (effect_at e) of_setting.Effect v is (effect_fits e)
@@ -219,10 +207,10 @@ single_fits shape.Natural e v is = made_fits (fits shape.Natural) (natural_at e)
 single_fits shape.Length e v is = made_fits (fits shape.Length) (length_at e) of_setting.Int v is (length_fits e)
 single_fits shape.Ref e v is = made_fits (fits shape.Ref) (reference_at e) of_setting.Ref v is (λ x h. refl)
 single_fits shape.Event e v is = made_fits (fits shape.Event) (event_at e) of_setting.Event v is (λ x h. refl)
-single_fits shape.Data e v is = made_fits (fits shape.Data) (data_at e) data_setting v is (λ x h. data_fits x)
+single_fits shape.Data e v is = made_fits (fits shape.Data) (data_at e) of_setting.Data v is (λ x h. refl)
 single_fits shape.Octets e v is = made_fits (fits shape.Octets) (octets_at e) of_setting.Octets v is (λ x h. refl)
-single_fits shape.Colour e v is = made_fits (fits shape.Colour) (colour_at e) of_setting.Octets v is (λ x h. (colour_read e x h).1)
-single_fits shape.Content e v is = made_fits (fits shape.Content) (content_at e) content_setting v is (λ x h. content_fits x)
+single_fits shape.Colour e v is = made_fits (fits shape.Colour) (colour_at e) of_setting.Colour v is (λ x h. refl)
+single_fits shape.Content e v is = made_fits (fits shape.Content) (content_at e) of_setting.Content v is (λ x h. refl)
 single_fits shape.ContentRef e v is = made_fits (fits shape.ContentRef) (content_name_at e) of_setting.ContentRef v is (λ x h. refl)
 single_fits shape.Justification e v is = made_fits (fits shape.Justification) (justification_at e) of_setting.Justification v is (λ x h. refl)
 single_fits shape.MovementTable e v is = made_fits (fits shape.MovementTable) (list_at row_at 4096 e) of_setting.MovementTable v is (λ x h. refl)

@@ -20,10 +20,10 @@ use Rattle.mh_group.specs.declared.misfit.MisfitWhy.{MisfitWhy}
 use Rattle.mh_group.specs.Table.{class_number, attribute_number, takes, shape_of, is_group_class}
 use Rattle.mh_group.specs.Words.{classes}
 use Rattle.mh_group.specs.Fit.{fits, before_items, is_rising, rises_above, has_required, takes_each, fits_each, fields_misfit, ingredient_misfit, ingredients_misfit, misfit_of, written_items, items_of, is_group}
+use Rattle.mh_group.specs.Holdable.{is_setting, is_number, is_list, has_settings, is_ingredient, is_holdable}
 use Rattle.mh_codec.specs.declared.codec_error.Why.TheVariants.{UnknownTag, MissingField, BadValue}
 use Rattle.mh_codec.specs.Tags.{class_with}
 use Rattle.mh_codec.specs.Spelling.{own, natural, octet_string, several, list, named, field, ingredient, items, body as body_octets, group}
-use Rattle.mh_codec.specs.Writable.{is_setting, is_number, is_list, has_settings, is_ingredient, is_writable}
 use Rattle.mh_codec.specs.Reading.{taken, only, sequence_at, own_at, is_same, some_at, named_in, ingredient_number_at, fields, complete, class_at, list_at, ingredient_at, items_at, with_items, body, identifier_in, group_at, is_items_shape}
 use Rattle.mh_codec.proofs.ElementLemmas.{went, if_ok, ok_same, ok_holds, written, in_parts, Good, same_element, same_number, find_holds, taken_found, good_found, taken_given}
 use Rattle.mh_codec.proofs.ValueLemmas.{own_numbered, own_written, some_ok, sequence_read, sequence_written, number_read, number_written, ingredient_number_read, ingredient_number_written}
@@ -425,8 +425,8 @@ unfolding misfit_of
 group_fits c name left fs its class b = rw (class, fields_fit c fs b.fit b.required, b.none_wrong) refl
 
 group_held : (c : Class) (name : List ℕ) (left : Rest) (fs : List Field) (its : Option (List Ingredient)) → list_all is_name_byte name ≡ true → WholeBody c left fs its
-    → is_writable (record { class = c; identifier = name; fields = fs; items = its }) ≡ true
-unfolding is_writable
+    → is_holdable (record { class = c; identifier = name; fields = fs; items = its }) ≡ true
+unfolding is_holdable
 group_held c name left fs its named b = rw (named, b.fit.good) b.good
 
 whole_body : (c : Class) (left : Rest) (x : List Field × Option (List Ingredient)) (e : Element) (fs : List Field) → AreBytes left.bytes → body c left ≡ Ok x → complete c x.0 e ≡ Ok fs → WholeBody c left fs x.1
@@ -444,7 +444,7 @@ whole_body c left x e fs bytes read done =
     }
 
 abbrev GroupIs : Element → Written → Type 0
-GroupIs e g = (written e ≡ group g) × (is_writable g ≡ true) × (is_group g ≡ true)
+GroupIs e g = (written e ≡ group g) × (is_holdable g ≡ true) × (is_group g ≡ true)
 
 pub group_read : (e : Element) (g : Written) → Good e → group_at e ≡ Ok g → GroupIs e g
 unfolding group_at group named
@@ -491,8 +491,8 @@ none_misfit (i ∷ is) h =
 same_true : (b : Bool) → b ≡ true → is_same true b ≡ true
 same_true b h = h
 
-pub group_written : (e : Element) (g : Written) → e.tag.number < 2 ^ 16 → is_group g ≡ true → is_writable g ≡ true → written e ≡ group g → group_at e ≡ Ok g
-unfolding group_at group named is_writable
+pub group_written : (e : Element) (g : Written) → e.tag.number < 2 ^ 16 → is_group g ≡ true → is_holdable g ≡ true → written e ≡ group g → group_at e ≡ Ok g
+unfolding group_at group named is_holdable
 group_written e g small fit good is =
     let right = is_right g fit in
     let goods = and_true (list_all is_name_byte g.identifier) _ good in

@@ -9,10 +9,10 @@ use Rattle.mh_der.specs.Rest.{Rest, Element}
 use Rattle.mh_der.specs.Reading.{is_empty}
 use Rattle.mh_der.proofs.DigitLemmas.{AreBytes}
 use Rattle.mh_der.proofs.ElementLaws.{Found, element_longer}
+use Rattle.mh_group.specs.Holdable.{is_list}
 use Rattle.mh_codec.specs.declared.codec_error.Why.{Why}
 use Rattle.mh_codec.specs.declared.codec_error.Why.TheVariants.{Limit}
 use Rattle.mh_codec.specs.Spelling.{several, list}
-use Rattle.mh_codec.specs.Writable.{is_list}
 use Rattle.mh_codec.specs.Gives.{Refusal, ◌>>=◌}
 use Rattle.mh_codec.specs.Reading.{taken, sequence_at, exhausted, next_member, continued, listed, list_at}
 use Rattle.mh_codec.proofs.ElementLemmas.{went, if_ok, ok_same, written, Good, same_element, taken_found, good_found, taken_given}

@@ -9,9 +9,9 @@ use Rattle.mh_group.specs.declared.shape.Shape.{Shape}
 use Rattle.mh_group.specs.declared.shape.Shape.TheVariants as shape
 use Rattle.mh_group.specs.declared.written.Position.{Position}
 use Rattle.mh_group.specs.Fit.{is_natural}
+use Rattle.mh_group.specs.Holdable.{is_integer, is_position}
 use Rattle.mh_codec.specs.declared.codec_error.Why.TheVariants.{BadValue}
 use Rattle.mh_codec.specs.Spelling.{integer, natural, position}
-use Rattle.mh_codec.specs.Writable.{is_integer, is_position}
 use Rattle.mh_codec.specs.Reading.{taken, ended, integer_at, natural_at, fixed_at, sequence_at, position_at, part, pair}
 use Rattle.mh_codec.proofs.ElementLemmas.{went, if_ok, ok_same, written, in_parts, last_part, Good, same_element, taken_found, good_found, taken_given, nothing_left, ended_given}
 use Rattle.mh_codec.proofs.ValueLemmas.{sequence_read, sequence_written, integer_read, integer_written, natural_read, natural_written}

@@ -17,15 +17,15 @@ use Rattle.mh_group.specs.declared.action.Content.{Content}
 use Rattle.mh_group.specs.declared.action.Content.TheVariants as content
 use Rattle.mh_group.specs.declared.action.EventData.{EventData}
 use Rattle.mh_group.specs.declared.action.EventData.TheVariants as event_data
+use Rattle.mh_group.specs.Holdable.{is_integer, is_number, is_reference, is_generic, is_plain, is_name, is_octets, is_content, is_data}
 use Rattle.mh_codec.specs.declared.kind.Kind.{Kind}
 use Rattle.mh_codec.specs.declared.kind.Kind.TheVariants as kind
 use Rattle.mh_codec.specs.Tags.{kind_of}
 use Rattle.mh_codec.specs.Spelling.{own, integer, natural, boolean, octet_string, named, reference, generic, content_tag, content_name, content_value, data_value}
-use Rattle.mh_codec.specs.Writable.{is_integer, is_number, is_reference, is_generic, is_plain, is_name, is_content, is_data}
 use Rattle.mh_codec.specs.Gives.{Refusal}
 use Rattle.mh_codec.specs.Reading.{taken, ended, only, truth_at, integer_at, octets_at, number_at, name_at, content_name_at, content_at, data_at, named_in, reference_at, is_indirect, variable_at, generic_at}
 use Rattle.mh_codec.proofs.ElementLemmas.{went, ok_same, written, in_parts, last_part, Good, same_element, same_number, taken_found, good_found, taken_given, nothing_left, ended_given}
-use Rattle.mh_codec.proofs.ValueLemmas.{kind_tag, truth_found, truth_given, integer_read, integer_written, octets_read, octets_written, number_read, number_written, name_read, name_written, content_name_read, content_name_written, content_read, content_written, data_read, data_written}
+use Rattle.mh_codec.proofs.ValueLemmas.{kind_tag, truth_found, truth_given, integer_read, integer_written, octets_read, octets_are, octets_written, number_read, number_written, name_read, name_written, content_name_read, content_name_written, content_read, content_written, data_read, data_written}
 
 -- bytes that are one element
 pub record IsOne (bs : List ℕ) : Type 0 where
@@ -66,9 +66,9 @@ pub octets_one : (octets : List ℕ) → IsOne (octet_string octets)
 unfolding octet_string
 octets_one octets = record { tag = octet_string_tag; contents = octets; small = omega arith; is = refl }
 
-pub octets_reads : Reads octets_at octet_string is_plain is_plain
+pub octets_reads : Reads octets_at octet_string is_octets is_octets
 octets_reads = record {
-  found = λ e x good is. (octets_read e x is, refl);
+  found = λ e x good is. (octets_read e x is, octets_are e x good is);
   given = λ e x small good is. octets_written e x small is;
   one = λ x good. octets_one x;
 }
@@ -90,7 +90,7 @@ content_one (content.Referenced name) = content_name_one name
 
 pub content_reads : Reads content_at content_value is_content is_content
 content_reads = record {
-  found = λ e x good is. content_read e x is;
+  found = content_read;
   given = content_written;
   one = λ x good. content_one x;
 }

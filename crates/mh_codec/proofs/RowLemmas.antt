@@ -9,9 +9,9 @@ use Rattle.mh_group.specs.declared.action.Action.{Action}
 use Rattle.mh_group.specs.declared.written.Member.{Member}
 use Rattle.mh_group.specs.declared.written.NextScene.{NextScene}
 use Rattle.mh_group.specs.Fit.{fits_action, fits_effect, fits_member, is_list_item}
+use Rattle.mh_group.specs.Holdable.{is_integer, is_name, is_reference, is_list, is_action, is_member, is_next_scene}
 use Rattle.mh_codec.specs.declared.codec_error.Why.TheVariants.{UnknownTag}
 use Rattle.mh_codec.specs.Spelling.{integer, octet_string, reference, several, list, action, member, next_scene}
-use Rattle.mh_codec.specs.Writable.{is_integer, is_name, is_reference, is_list, is_action, is_member, is_next_scene}
 use Rattle.mh_codec.specs.Reading.{taken, ended, sequence_at, integer_at, name_at, reference_at, listed, effect_at, member_in, member_at, exhausted, list_item_in, list_item_at, next_scene_in, next_scene_at}
 use Rattle.mh_codec.proofs.ElementLemmas.{went, ok_same, written, in_parts, last_part, Good, same_element, same_number, taken_found, good_found, taken_given, nothing_left, ended_given}
 use Rattle.mh_codec.proofs.ValueLemmas.{integer_read, integer_written, name_read, name_written, sequence_read, sequence_written}

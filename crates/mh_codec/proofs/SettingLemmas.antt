@@ -7,22 +7,18 @@ use Rattle.mh_der.specs.Rest.{Rest, Element}
 use Rattle.mh_der.proofs.DigitLemmas.{AreBytes}
 use Rattle.mh_group.specs.declared.shape.Shape.{Shape}
 use Rattle.mh_group.specs.declared.shape.Shape.TheVariants as shape
-use Rattle.mh_group.specs.declared.action.Content.{Content}
-use Rattle.mh_group.specs.declared.action.Content.TheVariants as content
-use Rattle.mh_group.specs.declared.action.EventData.{EventData}
-use Rattle.mh_group.specs.declared.action.EventData.TheVariants as event_data
 use Rattle.mh_group.specs.declared.written.Member.{Member}
 use Rattle.mh_group.specs.declared.written.Setting.{Setting}
 use Rattle.mh_group.specs.declared.written.Setting.TheVariants as of_setting
 use Rattle.mh_group.specs.Words.{justification_number}
 use Rattle.mh_group.specs.Fit.{fits, fits_action, fits_member, is_list_item}
-use Rattle.mh_codec.specs.Spelling.{integer, list, member, position, next_scene, content_value, data_value, value}
-use Rattle.mh_codec.specs.Writable.{is_integer, is_action, is_list, is_member, is_position, is_next_scene, is_content, is_data, is_setting}
+use Rattle.mh_group.specs.Holdable.{colour_octets, is_integer, is_action, is_list, is_member, is_position, is_next_scene, is_setting}
+use Rattle.mh_codec.specs.Spelling.{integer, list, member, position, next_scene, value}
 use Rattle.mh_codec.specs.Gives.{◌>>=◌}
-use Rattle.mh_codec.specs.Reading.{only, truth_at, integer_at, octets_at, natural_at, length_at, event_at, justification_at, colour_at, reference_at, content_name_at, content_at, data_at, content_setting, data_setting, list_at, effect_at, row_at, member_at, list_item_at, position_at, next_scene_at, single, pair, setting}
+use Rattle.mh_codec.specs.Reading.{only, truth_at, integer_at, octets_at, natural_at, length_at, event_at, justification_at, colour_at, reference_at, content_name_at, content_at, data_at, list_at, effect_at, row_at, member_at, list_item_at, position_at, next_scene_at, single, pair, setting}
 use Rattle.mh_codec.proofs.ElementLemmas.{went, ok_same, written, Good}
 use Rattle.mh_codec.proofs.ValueLemmas.{truth_found, truth_given, integer_read, integer_written, natural_read, length_read, length_written, event_read, event_written, justification_read, justification_written, colour_read, colour_written}
-use Rattle.mh_codec.proofs.ReferenceLemmas.{IsOne, Reads, and_true, boolean_one, integer_one, octets_one, content_name_one, reference_one, reference_read, reference_written, integer_reads, octets_reads, content_name_reads, content_reads, data_reads, only_read, only_written}
+use Rattle.mh_codec.proofs.ReferenceLemmas.{IsOne, Reads, and_true, boolean_one, integer_one, octets_one, content_name_one, content_one, data_one, reference_one, reference_read, reference_written, integer_reads, octets_reads, content_name_reads, content_reads, data_reads, only_read, only_written}
 use Rattle.mh_codec.proofs.MemberLemmas.{list_found, list_given, list_one, list_reads}
 use Rattle.mh_codec.proofs.PairLemmas.{fits_part, pair_read, pair_given, natural_given, position_reads}
 use Rattle.mh_codec.proofs.RowLemmas.{list_both, list_fit, effect_reads, member_reads, item_reads, scene_reads, fits_and_is_member}
@@ -35,16 +31,6 @@ unfolding value
 pair_setting s left v bytes is =
     let p = went (pair s left) _ v is in
     subst (λ (w : Setting). (left.bytes ≡ value w) × (is_setting w ≡ true)) (ok_same p.behind) (pair_read s left p.value bytes p.first)
-
-content_spelled : (e : Element) (x : Content) → (written e ≡ content_value x) × (is_content x ≡ true) → Spelled e (content_setting x)
-unfolding value
-content_spelled e (content.Included octets) h = h
-content_spelled e (content.Referenced name) h = h
-
-data_spelled : (e : Element) (x : EventData) → (written e ≡ data_value x) × (is_data x ≡ true) → Spelled e (data_setting x)
-unfolding value
-data_spelled e (event_data.Bool b) h = h
-data_spelled e (event_data.Int x) h = h
 
 -- lists
 
@@ -96,13 +82,13 @@ single_read shape.Length e v good is =
     subst (Spelled e) (ok_same x.behind) (integer_read e x.value good (length_read e x.value x.first))
 single_read shape.Data e v good is =
     let x = went (data_at e) _ v is in
-    subst (Spelled e) (ok_same x.behind) (data_spelled e x.value (data_reads.found e x.value good x.first))
+    subst (Spelled e) (ok_same x.behind) (data_reads.found e x.value good x.first)
 single_read shape.Octets e v good is =
     let x = went (octets_at e) _ v is in
     subst (Spelled e) (ok_same x.behind) (octets_reads.found e x.value good x.first)
 single_read shape.Content e v good is =
     let x = went (content_at e) _ v is in
-    subst (Spelled e) (ok_same x.behind) (content_spelled e x.value (content_reads.found e x.value good x.first))
+    subst (Spelled e) (ok_same x.behind) (content_reads.found e x.value good x.first)
 single_read shape.ContentRef e v good is =
     let x = went (content_name_at e) _ v is in
     subst (Spelled e) (ok_same x.behind) (content_name_reads.found e x.value good x.first)
@@ -126,7 +112,7 @@ single_read shape.NextScenes e v good is =
     subst (Spelled e) (ok_same x.behind) (scenes.found e x.value good x.first)
 single_read shape.Colour e v good is =
     let x = went (colour_at e) _ v is in
-    subst (Spelled e) (ok_same x.behind) ((colour_read e x.value x.first).0, refl)
+    subst (Spelled e) (ok_same x.behind) (colour_read e x.value good x.first)
 single_read _ e v good is = absurd cc
 
 alone_read : (s : Shape) (left : Rest) (v : Setting) → AreBytes left.bytes → (only left >>= λ e. single s e) ≡ Ok v → (left.bytes ≡ value v) × (is_setting v ≡ true)
@@ -167,12 +153,10 @@ setting_given shape.Size left (of_setting.Pair x y) fit good is = pair_one shape
 setting_given shape.Screen left (of_setting.Pair x y) fit good is = pair_one shape.Screen left x y fit good is
 setting_given shape.Ref left (of_setting.Ref r) fit good is = alone_given shape.Ref left (of_setting.Ref r) (reference_one r) (λ e small w. rw (reference_written e r small good w) refl) is
 setting_given shape.Event left (of_setting.Event x) fit good is = alone_given shape.Event left (of_setting.Event x) (integer_one (pos (number_of x))) (λ e small w. rw (event_written e x small w) refl) is
-setting_given shape.Data left (of_setting.Bool b) fit good is = alone_given shape.Data left (of_setting.Bool b) (boolean_one b) (λ e small w. rw (data_reads.given e (event_data.Bool b) small refl w) refl) is
-setting_given shape.Data left (of_setting.Int x) fit good is = alone_given shape.Data left (of_setting.Int x) (integer_one x) (λ e small w. rw (data_reads.given e (event_data.Int x) small good w) refl) is
-setting_given shape.Octets left (of_setting.Octets octets) fit good is = alone_given shape.Octets left (of_setting.Octets octets) (octets_one octets) (λ e small w. rw (octets_reads.given e octets small refl w) refl) is
-setting_given shape.Colour left (of_setting.Octets octets) fit good is = alone_given shape.Colour left (of_setting.Octets octets) (octets_one octets) (λ e small w. rw (colour_written e octets small fit w) refl) is
-setting_given shape.Content left (of_setting.Octets octets) fit good is = alone_given shape.Content left (of_setting.Octets octets) (octets_one octets) (λ e small w. rw (content_reads.given e (content.Included octets) small refl w) refl) is
-setting_given shape.Content left (of_setting.ContentRef name) fit good is = alone_given shape.Content left (of_setting.ContentRef name) (content_name_one name) (λ e small w. rw (content_reads.given e (content.Referenced name) small good w) refl) is
+setting_given shape.Data left (of_setting.Data x) fit good is = alone_given shape.Data left (of_setting.Data x) (data_one x) (λ e small w. rw (data_reads.given e x small good w) refl) is
+setting_given shape.Octets left (of_setting.Octets octets) fit good is = alone_given shape.Octets left (of_setting.Octets octets) (octets_one octets) (λ e small w. rw (octets_reads.given e octets small good w) refl) is
+setting_given shape.Colour left (of_setting.Colour c) fit good is = alone_given shape.Colour left (of_setting.Colour c) (octets_one (colour_octets c)) (λ e small w. rw (colour_written e c small w) refl) is
+setting_given shape.Content left (of_setting.Content x) fit good is = alone_given shape.Content left (of_setting.Content x) (content_one x) (λ e small w. rw (content_reads.given e x small good w) refl) is
 setting_given shape.ContentRef left (of_setting.ContentRef name) fit good is = alone_given shape.ContentRef left (of_setting.ContentRef name) (content_name_one name) (λ e small w. rw (content_name_reads.given e name small good w) refl) is
 setting_given shape.Justification left (of_setting.Justification j) fit good is = alone_given shape.Justification left (of_setting.Justification j) (integer_one (pos (justification_number j))) (λ e small w. rw (justification_written e j small w) refl) is
 setting_given shape.MovementTable left (of_setting.MovementTable xs) fit good is = alone_given shape.MovementTable left (of_setting.MovementTable xs) (rows.one xs good) (λ e small w. rw (rows.given e xs small good w) refl) is

@@ -1,8 +1,9 @@
 -- Values of one element: what was read is spelled so, and what is spelled so is read.
-use Rattle.std.proofs.Common.{◌≡◌, ℕ, ◌<◌, ◌^◌, Bool, true, false, ◌==◌, List, length, Option, Some, None, Result, Ok, Err, ℤ, pos, negsuc, int_lt, unsigned_abs, refl, ap, sym, ◌∙◌, subst, arith, SFits}
+use Rattle.std.proofs.Common.{◌≡◌, ℕ, ◌<◌, ◌^◌, Bool, true, false, ◌==◌, List, [], ◌∷◌, Option, Some, None, Result, Ok, Err, ℤ, pos, negsuc, int_lt, unsigned_abs, refl, ap, sym, ◌∙◌, subst, arith, SFits}
 use Rattle.std.proofs.lemmas.Bool.Decides.{nat_tests}
 use Rattle.std.specs.Int.{w32}
 use Rattle.std.specs.List.{list_all, find}
+use Rattle.mh_base.specs.declared.colour.Colour.{Colour}
 use Rattle.mh_base.specs.declared.event.EventType.{EventType}
 use Rattle.mh_base.specs.declared.event.EventType.TheVariants as event
 use Rattle.mh_base.specs.Event.{event_of as event_with, number_of, event_types}
@@ -21,16 +22,16 @@ use Rattle.mh_group.specs.declared.justification.Justification.{Justification}
 use Rattle.mh_group.specs.declared.justification.Justification.TheVariants as justification
 use Rattle.mh_group.specs.Words.{justifications, justification_number}
 use Rattle.mh_group.specs.Fit.{is_field_length}
+use Rattle.mh_group.specs.Holdable.{is_integer, is_number, is_name, is_octets, colour_octets, is_content, is_data}
 use Rattle.mh_codec.specs.declared.kind.Kind.{Kind}
 use Rattle.mh_codec.specs.declared.kind.Kind.TheVariants as kind
 use Rattle.mh_codec.specs.declared.codec_error.Why.{Why}
 use Rattle.mh_codec.specs.declared.codec_error.Why.TheVariants.{UnknownTag, BadValue}
 use Rattle.mh_codec.specs.Tags.{kind_of}
-use Rattle.mh_codec.specs.Spelling.{own, integer, natural, boolean, octet_string, content_tag, content_name, content_value, data_value}
-use Rattle.mh_codec.specs.Writable.{is_integer, is_number, is_name, is_content, is_data}
+use Rattle.mh_codec.specs.Spelling.{own, integer, natural, boolean, octet_string, content_tag, content_name, content_value, data_value, colour_value}
 use Rattle.mh_codec.specs.Gives.{der}
-use Rattle.mh_codec.specs.Reading.{some_at, admitted, truth_at, integer_at, octets_at, sequence_at, own_at, primitive_at, natural_at, length_at, number_at, ingredient_number_at, name_at, content_name_at, content_at, data_at, event_at, justification_at, colour_at}
-use Rattle.mh_codec.proofs.ElementLemmas.{went, if_ok, if_not_ok, ok_same, written, Good, same_element, tag_of_kind, told_by, same_number, find_holds, primitive}
+use Rattle.mh_codec.specs.Reading.{some_at, admitted, truth_at, integer_at, octets_at, sequence_at, own_at, primitive_at, natural_at, length_at, number_at, ingredient_number_at, name_at, content_name_at, content_at, data_at, event_at, justification_at, colour_of, colour_at}
+use Rattle.mh_codec.proofs.ElementLemmas.{went, if_ok, if_not_ok, ok_same, written, bytes_are_octets, Good, same_element, tag_of_kind, told_by, same_number, find_holds, primitive}
 
 -- what an element's own reading told
 told_ok : {A : Type 0} (e : Element) (r : Result A DerWhy) (x : A) → der (told_at e r) ≡ Ok x → r ≡ Ok x
@@ -98,6 +99,12 @@ octets_read e octets is =
     let k = octets_kind e octets (kind_of e.tag) refl is in
     let tag = kind_tag e kind.Octets k.0 in
     rw (tag, k.1) refl
+
+-- what a source can hold are octets
+pub octets_are : (e : Element) (octets : List ℕ) → Good e → octets_at e ≡ Ok octets → is_octets octets ≡ true
+octets_are e octets good is =
+    let k = octets_kind e octets (kind_of e.tag) refl is in
+    subst (λ (y : List ℕ). is_octets y ≡ true) k.1 (bytes_are_octets e.contents.bytes good.bytes)
 
 pub octets_written : (e : Element) (octets : List ℕ) → e.tag.number < 2 ^ 16 → written e ≡ octet_string octets → octets_at e ≡ Ok octets
 unfolding octet_string octets_at kind_of
@@ -242,17 +249,17 @@ content_name_written e name small good is =
     let same = same_element e.tag content_tag e.contents.bytes name small (omega arith) is in
     rw (primitive_written e 60 same.tag, same.inner, good) refl
 
-content_kind : (e : Element) (x : Content) (k : Kind) → kind_of e.tag ≡ k → content_at e ≡ Ok x → (written e ≡ content_value x) × (is_content x ≡ true)
+content_kind : (e : Element) (x : Content) (k : Kind) → kind_of e.tag ≡ k → Good e → content_at e ≡ Ok x → (written e ≡ content_value x) × (is_content x ≡ true)
 unfolding content_at
-content_kind e x kind.Octets h is =
+content_kind e x kind.Octets h good is =
     let o = went (octets_at e) _ x (rw h at is) in
-    subst (λ (y : Content). (written e ≡ content_value y) × (is_content y ≡ true)) (ok_same o.behind) (octets_read e o.value o.first, refl)
-content_kind e x _ h is =
+    subst (λ (y : Content). (written e ≡ content_value y) × (is_content y ≡ true)) (ok_same o.behind) (octets_read e o.value o.first, octets_are e o.value good o.first)
+content_kind e x _ h good is =
     let n = went (content_name_at e) _ x (rw h at is) in
     subst (λ (y : Content). (written e ≡ content_value y) × (is_content y ≡ true)) (ok_same n.behind) (content_name_read e n.value n.first)
 
-pub content_read : (e : Element) (x : Content) → content_at e ≡ Ok x → (written e ≡ content_value x) × (is_content x ≡ true)
-content_read e x is = content_kind e x (kind_of e.tag) refl is
+pub content_read : (e : Element) (x : Content) → Good e → content_at e ≡ Ok x → (written e ≡ content_value x) × (is_content x ≡ true)
+content_read e x good is = content_kind e x (kind_of e.tag) refl good is
 
 pub content_written : (e : Element) (x : Content) → e.tag.number < 2 ^ 16 → is_content x ≡ true → written e ≡ content_value x → content_at e ≡ Ok x
 unfolding content_at kind_of octet_string content_name
@@ -350,14 +357,25 @@ justification_written e justification.Start small is = rw (number_written e 1 sm
 justification_written e justification.End small is = rw (number_written e 2 small refl is) refl
 justification_written e justification.Centre small is = rw (number_written e 3 small refl is) refl
 
-pub colour_read : (e : Element) (octets : List ℕ) → colour_at e ≡ Ok octets → (written e ≡ octet_string octets) × ((length octets == 4) ≡ true)
-unfolding colour_at
-colour_read e octets is =
-    let a = went (octets_at e) _ octets is in
-    let t = if_ok (length a.value == 4) (Ok a.value) BadValue e.offset octets a.behind in
-    let same = ok_same t.1 in
-    (octets_read e octets (subst (λ (y : List ℕ). octets_at e ≡ Ok y) same a.first), subst (λ (y : List ℕ). (length y == 4) ≡ true) same t.0)
+some_same : {A : Type 0} {x y : A} → Some x ≡ Some y → x ≡ y
+some_same h = cc
 
-pub colour_written : (e : Element) (octets : List ℕ) → e.tag.number < 2 ^ 16 → (length octets == 4) ≡ true → written e ≡ octet_string octets → colour_at e ≡ Ok octets
+colour_parts : (octets : List ℕ) (c : Colour) → colour_of octets ≡ Some c → octets ≡ colour_octets c
+colour_parts (red ∷ green ∷ blue ∷ transparency ∷ []) c is = ap colour_octets (some_same is)
+colour_parts [] c is = absurd cc
+colour_parts (a ∷ []) c is = absurd cc
+colour_parts (a ∷ b ∷ []) c is = absurd cc
+colour_parts (a ∷ b ∷ d ∷ []) c is = absurd cc
+colour_parts (a ∷ b ∷ d ∷ e ∷ f ∷ more) c is = absurd cc
+
+pub colour_read : (e : Element) (c : Colour) → Good e → colour_at e ≡ Ok c → (written e ≡ colour_value c) × (is_octets (colour_octets c) ≡ true)
 unfolding colour_at
-colour_written e octets small four is = rw (octets_written e octets small is, four) refl
+colour_read e c good is =
+    let a = went (octets_at e) _ c is in
+    let same = colour_parts a.value c (some_ok e BadValue (colour_of a.value) c a.behind) in
+    let octets = subst (λ (y : List ℕ). octets_at e ≡ Ok y) same a.first in
+    (octets_read e (colour_octets c) octets, octets_are e (colour_octets c) good octets)
+
+pub colour_written : (e : Element) (c : Colour) → e.tag.number < 2 ^ 16 → written e ≡ colour_value c → colour_at e ≡ Ok c
+unfolding colour_at
+colour_written e c small is = rw (octets_written e (colour_octets c) small is) refl

@@ -4,9 +4,10 @@ use Rattle.std.specs.List.{list_all}
 use Rattle.std.proofs.lemmas.List.Folds.{list_all-append, list_all_at}
 use Rattle.std.proofs.lemmas.List.{take-append-drop, take_all, length-drop}
 use Rattle.mh_group.specs.declared.written.Written.{Written}
+use Rattle.mh_group.specs.Holdable.{is_holdable}
 use Rattle.mh_codec.specs.declared.codec_error.CodecError.{CodecError}
 use Rattle.mh_codec.specs.Spelling.{group}
-use Rattle.mh_codec.specs.Writable.{is_writable, Spells}
+use Rattle.mh_codec.specs.Writable.{Spells}
 use Rattle.mh_codec.specs.Unwritable.{Refuses, HasNoSpelling}
 
 -- a test of all members is one of a slice up to a place and of that from there on
@@ -31,7 +32,7 @@ member_refused p xs i x e within is refuses other =
     ((refuses other).0, list_all_at p xs i x within (rw is at bad))
 
 -- what the notation cannot hold has no spelling
-pub none_spells_unwritable : (g : Written) → is_writable g ≡ false → HasNoSpelling g
+pub none_spells_unwritable : (g : Written) → is_holdable g ≡ false → HasNoSpelling g
 unfolding Spells
 none_spells_unwritable g bad octets s = cc
 

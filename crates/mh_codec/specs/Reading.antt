@@ -4,6 +4,7 @@
 use Rattle.std.specs.Prelude.{ℕ, zero, suc, Bool, true, false, ◌||◌, ◌&&◌, not, ◌==◌, nat_lt, nat_le, if◌then◌else◌, List, [], ◌∷◌, ◌++◌, length, Option, Some, None, Result, Ok, ℤ, pos, int_lt, unsigned_abs}
 use Rattle.std.specs.Ordering.{int_eq}
 use Rattle.std.specs.List.{list_all, find}
+use Rattle.mh_base.specs.declared.colour.Colour.{Colour}
 use Rattle.mh_base.specs.declared.event.EventType.{EventType}
 use Rattle.mh_base.specs.Event.{event_of as event_with}
 use Rattle.mh_base.specs.declared.value.Kind.{Kind as ValueKind}
@@ -178,9 +179,13 @@ event_at e = number_at e >>= λ n. some_at e BadValue (event_with n)
 unfoldable pub justification_at : Element → Result Justification Refusal
 justification_at e = number_at e >>= λ n. some_at e BadValue (find (λ j. justification_number j == n) justifications)
 
--- a colour has four octets
-unfoldable pub colour_at : Element → Result (List ℕ) Refusal
-colour_at e = octets_at e >>= λ octets. if length octets == 4 then Ok octets else refused_at BadValue e
+-- the colour of four octets
+abbrev pub colour_of : List ℕ → Option Colour
+colour_of (red ∷ green ∷ blue ∷ transparency ∷ []) = Some (record { red = red; green = green; blue = blue; transparency = transparency })
+colour_of _ = None
+
+unfoldable pub colour_at : Element → Result Colour Refusal
+colour_at e = octets_at e >>= λ octets. some_at e BadValue (colour_of octets)
 
 -- a name and a number with its element, and nothing behind them
 unfoldable pub named_in : Rest → Result (List ℕ × ℕ × Element) Refusal
@@ -346,14 +351,6 @@ next_scene_in left = do
 unfoldable pub next_scene_at : Element → Result NextScene Refusal
 next_scene_at e = sequence_at e >>= λ left. next_scene_in left
 
-abbrev pub content_setting : Content → Setting
-content_setting (of_content.Included x) = of_setting.Octets x
-content_setting (of_content.Referenced x) = of_setting.ContentRef x
-
-abbrev pub data_setting : EventData → Setting
-data_setting (of_data.Bool x) = of_setting.Bool x
-data_setting (of_data.Int x) = of_setting.Int x
-
 -- the value of a shape of one element
 unfoldable pub single : Shape → Element → Result Setting Refusal
 single shape.Effect e = effect_at e >>= λ x. Ok (of_setting.Effect x)
@@ -363,10 +360,10 @@ single shape.Natural e = natural_at e >>= λ x. Ok (of_setting.Int x)
 single shape.Length e = length_at e >>= λ x. Ok (of_setting.Int x)
 single shape.Ref e = reference_at e >>= λ x. Ok (of_setting.Ref x)
 single shape.Event e = event_at e >>= λ x. Ok (of_setting.Event x)
-single shape.Data e = data_at e >>= λ x. Ok (data_setting x)
+single shape.Data e = data_at e >>= λ x. Ok (of_setting.Data x)
 single shape.Octets e = octets_at e >>= λ x. Ok (of_setting.Octets x)
-single shape.Colour e = colour_at e >>= λ x. Ok (of_setting.Octets x)
-single shape.Content e = content_at e >>= λ x. Ok (content_setting x)
+single shape.Colour e = colour_at e >>= λ x. Ok (of_setting.Colour x)
+single shape.Content e = content_at e >>= λ x. Ok (of_setting.Content x)
 single shape.ContentRef e = content_name_at e >>= λ x. Ok (of_setting.ContentRef x)
 single shape.Justification e = justification_at e >>= λ x. Ok (of_setting.Justification x)
 single shape.MovementTable e = list_at row_at 4096 e >>= λ x. Ok (of_setting.MovementTable x)

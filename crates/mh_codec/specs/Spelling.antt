@@ -1,6 +1,7 @@
 -- The binary spelling of a group: a function from a group to its octets. Every part is an element of
 -- the distinguished encoding rules.
 use Rattle.std.specs.Prelude.{ℕ, ◌+◌, ℤ, pos, Bool, true, false, List, [], ◌∷◌, ◌++◌, take, drop, Option, Some, None}
+use Rattle.mh_base.specs.declared.colour.Colour.{Colour}
 use Rattle.mh_base.specs.Event.{number_of}
 use Rattle.mh_der.specs.declared.tag.Tag.{Tag}
 use Rattle.mh_der.specs.declared.tag.TagClass.TheVariants.{Context}
@@ -32,6 +33,7 @@ use Rattle.mh_group.specs.declared.written.Written.{Written}
 use Rattle.mh_group.specs.Table.{class_number, attribute_number, action_number}
 use Rattle.mh_group.specs.Words.{justification_number}
 use Rattle.mh_group.specs.Fit.{before_items}
+use Rattle.mh_group.specs.Holdable.{colour_octets}
 
 -- the tag of this number that is the notation's own
 abbrev pub own : ℕ → Tag
@@ -96,6 +98,10 @@ abbrev pub data_value : EventData → List ℕ
 data_value (event_data.Bool b) = boolean b
 data_value (event_data.Int x) = integer x
 
+-- a colour: its four octets
+abbrev pub colour_value : Colour → List ℕ
+colour_value c = octet_string (colour_octets c)
+
 abbrev pub parameter_value : Parameter → List ℕ
 parameter_value (parameter.Bool x) = generic boolean x
 parameter_value (parameter.Int x) = generic integer x
@@ -128,9 +134,12 @@ value (setting.Bool b) = boolean b
 value (setting.Int x) = integer x
 value (setting.Pair x y) = integer x ++ integer y
 value (setting.Octets octets) = octet_string octets
+value (setting.Colour c) = colour_value c
 value (setting.Ref r) = reference r
-value (setting.Event e) = natural (number_of e)
+value (setting.Content c) = content_value c
 value (setting.ContentRef name) = content_name name
+value (setting.Event e) = natural (number_of e)
+value (setting.Data d) = data_value d
 value (setting.Justification j) = natural (justification_number j)
 value (setting.Effect actions) = list action actions
 value (setting.MovementTable rows) = list (list integer) rows

@@ -1,7 +1,7 @@
 //! The reader of an attribute's value, by its shape.
 ghost use Rattle.std.specs.Prelude.{◌≡◌};
 ghost use Rattle.mh_codec.specs.Gives.{Gives};
-ghost use Rattle.mh_codec.specs.Reading.{setting as setting_lem, single as single_lem, content_setting as content_setting_lem, data_setting as data_setting_lem, pair as pair_lem, part as part_lem, is_pair as is_pair_lem};
+ghost use Rattle.mh_codec.specs.Reading.{setting as setting_lem, single as single_lem, pair as pair_lem, part as part_lem, is_pair as is_pair_lem};
 
 use crate::member::ListItem;
 use crate::readable::{Readable, list_at};
@@ -13,9 +13,7 @@ use crate::{CodecError, Why};
 use mh_base::{Octets, Seq};
 use mh_der::{Element, Reader};
 use mh_group::group::MOST_LIST_ITEMS;
-use mh_group::{
-    Content, Effect, EventData, Member, NextScene, Position, Setting, Shape, WrittenName,
-};
+use mh_group::{Effect, Member, NextScene, Position, Setting, Shape, WrittenName};
 use std::alloc::Global;
 
 /// The value of this shape, and nothing behind it.
@@ -54,10 +52,10 @@ fn single(alloc: Global, shape: Shape, element: &Element<'_>) -> Result<Setting,
         Shape::Length => Setting::Int(length_at(element)?),
         Shape::Ref => Setting::Ref(reference_at(alloc, element)?),
         Shape::Event => Setting::Event(event_at(element)?),
-        Shape::Data => data_setting(data_at(element)?),
+        Shape::Data => Setting::Data(data_at(element)?),
         Shape::Octets => Setting::Octets(Octets::read_at(alloc, element)?),
-        Shape::Colour => Setting::Octets(colour_at(alloc, element)?),
-        Shape::Content => content_setting(content_at(alloc, element)?),
+        Shape::Colour => Setting::Colour(colour_at(element)?),
+        Shape::Content => Setting::Content(content_at(alloc, element)?),
         Shape::ContentRef => Setting::ContentRef(WrittenName::read_at(alloc, element)?),
         Shape::Justification => Setting::Justification(justification_at(element)?),
         Shape::MovementTable => Setting::MovementTable(Seq::<Seq<i32>>::read_at(alloc, element)?),
@@ -67,24 +65,6 @@ fn single(alloc: Global, shape: Shape, element: &Element<'_>) -> Result<Setting,
         Shape::NextScenes => Setting::NextScenes(Seq::<NextScene>::read_at(alloc, element)?),
         _ => return Err(refused(element, Why::UnknownTag)),
     })
-}
-
-fn content_setting(content: Content) -> Setting
-    ensures { result ≡ content_setting_lem content }
-{
-    match content {
-        Content::Included(octets) => Setting::Octets(octets),
-        Content::Referenced(name) => Setting::ContentRef(name),
-    }
-}
-
-fn data_setting(event_data: EventData) -> Setting
-    ensures { result ≡ data_setting_lem event_data }
-{
-    match event_data {
-        EventData::Bool(truth) => Setting::Bool(truth),
-        EventData::Int(value) => Setting::Int(value),
-    }
 }
 
 /// Two integers, and nothing behind them.

@@ -6,7 +6,7 @@ ghost use Rattle.mh_codec.specs.Reading.{taken as taken_lem, ended as ended_lem,
 use crate::kind::{CONTENT_NAME, Kind, VARIABLE, kind_of};
 use crate::readable::Readable;
 use crate::{CodecError, Why};
-use mh_base::{EventType, Octets};
+use mh_base::{Colour, EventType, Octets};
 use mh_der::{Element, Reader, bool_of, int_of};
 use mh_group::{Content, EventData, Justification, Number, Ref, WrittenName};
 use std::alloc::Global;
@@ -268,14 +268,18 @@ pub(crate) fn justification_at(element: &Element<'_>) -> Result<Justification, C
 
 /// A colour: four octets.
 #[tactic(auto, unfolding(crate::specs::Reading::colour_at))]
-pub(crate) fn colour_at(alloc: Global, element: &Element<'_>) -> Result<Octets, CodecError>
+pub(crate) fn colour_at(element: &Element<'_>) -> Result<Colour, CodecError>
     ensures { Gives (λ x. x) result (colour_at_lem element.now) }
 {
-    let octets = octets_at(element)?;
-    if octets.len() != 4 {
-        return Err(refused(element, Why::BadValue));
+    match octets_at(element)? {
+        [red, green, blue, transparency] => Ok(Colour {
+            red: *red,
+            green: *green,
+            blue: *blue,
+            transparency: *transparency,
+        }),
+        _ => Err(refused(element, Why::BadValue)),
     }
-    Ok(Octets::from_slice(alloc, octets)?)
 }
 
 /// A name and a number with its element, and nothing behind them.

@@ -4,8 +4,8 @@
 ghost use Rattle.std.specs.Prelude.{◌≡◌, ◌++◌, true, OnOk, IfErr};
 ghost use Rattle.std.specs.List.{list_all};
 ghost use Rattle.mh_der.specs.Element.{element};
+ghost use Rattle.mh_group.specs.Holdable.{is_reference, is_generic, is_list};
 ghost use Rattle.mh_codec.specs.Spelling.{own as own_lem, several, list, generic, reference as reference_lem};
-ghost use Rattle.mh_codec.specs.Writable.{is_reference, is_generic, is_list};
 ghost use Rattle.mh_codec.specs.Unwritable.{Refuses};
 
 use crate::kind::VARIABLE;
@@ -39,7 +39,7 @@ pub(crate) trait Writable {
 /// A list of what can be written, in one sequence.
 impl<T: Writable> Writable for Seq<T> {
     ghost use Rattle.mh_codec.specs.Spelling.{list};
-    ghost use Rattle.mh_codec.specs.Writable.{is_list};
+    ghost use Rattle.mh_group.specs.Holdable.{is_list};
 
     ghost spelling = { list T.spelling };
 
@@ -53,7 +53,7 @@ impl<T: Writable> Writable for Seq<T> {
 /// A value, written directly or held by a variable.
 impl<T: Writable> Writable for Generic<T> {
     ghost use Rattle.mh_codec.specs.Spelling.{generic};
-    ghost use Rattle.mh_codec.specs.Writable.{is_generic};
+    ghost use Rattle.mh_group.specs.Holdable.{is_generic};
 
     ghost spelling = { generic T.spelling };
 

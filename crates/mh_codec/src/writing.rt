@@ -2,8 +2,9 @@
 //! to `mh_der`.
 ghost use Rattle.std.specs.Prelude.{◌≡◌, ◌≢◌, ◌++◌, ◌&&◌, true, OnOk, IfOk, IfErr};
 ghost use Rattle.mh_group.specs.Fit.{written_items};
+ghost use Rattle.mh_group.specs.Holdable.{is_list, has_settings, is_ingredient, is_holdable};
 ghost use Rattle.mh_codec.specs.Spelling.{items as items_lem, body, group as group_lem};
-ghost use Rattle.mh_codec.specs.Writable.{is_list, has_settings, is_ingredient, is_writable, Spells};
+ghost use Rattle.mh_codec.specs.Writable.{Spells};
 ghost use Rattle.mh_codec.specs.declared.codec_error.Why.{Why};
 ghost use Rattle.mh_codec.specs.Unwritable.{Refuses, HasNoSpelling};
 
@@ -32,11 +33,11 @@ pub fn encode_group(alloc: Global, group: &Group) -> Result<Vec<u8>, CodecError>
     Ok(octets)
 }
 
-#[tactic(auto, unfolding(crate::specs::Spelling::group, crate::specs::Writable::is_writable))]
+#[tactic(auto, unfolding(crate::specs::Spelling::group, mh_group::specs::Holdable::is_holdable))]
 fn write_group(alloc: Global, out: &mut Vec<u8>, group: &Written) -> Result<(), CodecError>
     ensures written { OnOk result (out.new.items ≡ out.old.items ++ group_lem group.now) }
-    ensures fits { OnOk result (is_writable group.now ≡ true) }
-    ensures limit { IfErr result (Refuses (is_writable group.now)) }
+    ensures fits { OnOk result (is_holdable group.now ≡ true) }
+    ensures limit { IfErr result (Refuses (is_holdable group.now)) }
 {
     let mut contents = Vec::new(alloc);
     write_named(alloc, &mut contents, &group.identifier, 0)?;
@@ -87,7 +88,7 @@ fn write_items(alloc: Global, out: &mut Vec<u8>, items: &[Ingredient]) -> Result
 
 impl Writable for Ingredient {
     ghost use Rattle.mh_codec.specs.Spelling.{ingredient as spelling_lem};
-    ghost use Rattle.mh_codec.specs.Writable.{is_ingredient as is_good_lem};
+    ghost use Rattle.mh_group.specs.Holdable.{is_ingredient as is_good_lem};
 
     ghost spelling = { spelling_lem };
 
@@ -105,7 +106,7 @@ impl Writable for Ingredient {
 
 impl Writable for Field {
     ghost use Rattle.mh_codec.specs.Spelling.{field as spelling_lem};
-    ghost use Rattle.mh_codec.specs.Writable.{is_setting as is_good_lem};
+    ghost use Rattle.mh_group.specs.Holdable.{is_setting as is_good_lem};
 
     ghost spelling = { spelling_lem };
 
@@ -127,7 +128,7 @@ impl Writable for Field {
 /// The value of an attribute.
 impl Writable for Setting {
     ghost use Rattle.mh_codec.specs.Spelling.{value as spelling_lem};
-    ghost use Rattle.mh_codec.specs.Writable.{is_setting as is_good_lem};
+    ghost use Rattle.mh_group.specs.Holdable.{is_setting as is_good_lem};
 
     ghost spelling = { spelling_lem };
 
@@ -144,9 +145,12 @@ impl Writable for Setting {
                 Ok(())
             }
             Setting::Octets(octets) => octets.write(alloc, out),
+            Setting::Colour(colour) => colour.write(alloc, out),
             Setting::Ref(reference) => reference.write(alloc, out),
+            Setting::Content(content) => content.write(alloc, out),
             Setting::ContentRef(name) => name.write(alloc, out),
             Setting::Event(event) => Ok(write_natural(out, event.number())?),
+            Setting::Data(event_data) => event_data.write(alloc, out),
             Setting::Justification(side) => Ok(write_natural(out, side.number())?),
             Setting::Effect(actions) => actions.write(alloc, out),
             Setting::MovementTable(rows) => rows.write(alloc, out),

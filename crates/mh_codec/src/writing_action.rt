@@ -11,7 +11,7 @@ use std::alloc::Global;
 /// A value behind the tag of its kind.
 impl Writable for Typed {
     ghost use Rattle.mh_codec.specs.Spelling.{typed_value as spelling_lem};
-    ghost use Rattle.mh_codec.specs.Writable.{is_typed as is_good_lem};
+    ghost use Rattle.mh_group.specs.Holdable.{is_typed as is_good_lem};
 
     ghost spelling = { spelling_lem };
 
@@ -49,7 +49,7 @@ impl Writable for Typed {
 
 impl Writable for Parameter {
     ghost use Rattle.mh_codec.specs.Spelling.{parameter_value as spelling_lem};
-    ghost use Rattle.mh_codec.specs.Writable.{is_parameter as is_good_lem};
+    ghost use Rattle.mh_group.specs.Holdable.{is_parameter as is_good_lem};
 
     ghost spelling = { spelling_lem };
 
@@ -73,7 +73,7 @@ impl Writable for Parameter {
 
 impl Writable for Action {
     ghost use Rattle.mh_codec.specs.Spelling.{action as spelling_lem};
-    ghost use Rattle.mh_codec.specs.Writable.{is_action as is_good_lem};
+    ghost use Rattle.mh_group.specs.Holdable.{is_action as is_good_lem};
 
     ghost spelling = { spelling_lem };
 

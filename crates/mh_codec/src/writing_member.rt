@@ -10,7 +10,7 @@ use std::alloc::Global;
 
 impl Writable for Member {
     ghost use Rattle.mh_codec.specs.Spelling.{member as spelling_lem};
-    ghost use Rattle.mh_codec.specs.Writable.{is_member as is_good_lem};
+    ghost use Rattle.mh_group.specs.Holdable.{is_member as is_good_lem};
 
     ghost spelling = { spelling_lem };
 
@@ -31,7 +31,7 @@ impl Writable for Member {
 
 impl Writable for Position {
     ghost use Rattle.mh_codec.specs.Spelling.{position as spelling_lem};
-    ghost use Rattle.mh_codec.specs.Writable.{is_position as is_good_lem};
+    ghost use Rattle.mh_group.specs.Holdable.{is_position as is_good_lem};
 
     ghost spelling = { spelling_lem };
 
@@ -49,7 +49,7 @@ impl Writable for Position {
 
 impl Writable for NextScene {
     ghost use Rattle.mh_codec.specs.Spelling.{next_scene as spelling_lem};
-    ghost use Rattle.mh_codec.specs.Writable.{is_next_scene as is_good_lem};
+    ghost use Rattle.mh_group.specs.Holdable.{is_next_scene as is_good_lem};
 
     ghost spelling = { spelling_lem };
 

@@ -2,13 +2,13 @@
 ghost use Rattle.std.specs.Prelude.{◌≡◌, ◌<◌, ◌^◌, ◌++◌, true, OnOk};
 ghost use Rattle.std.specs.List.{list_all};
 ghost use Rattle.mh_base.specs.Path.{is_name_byte};
+ghost use Rattle.mh_group.specs.Holdable.{is_integer, is_octets};
 ghost use Rattle.mh_codec.specs.Spelling.{integer, natural, octet_string, named, content_tag as content_tag_lem};
-ghost use Rattle.mh_codec.specs.Writable.{is_integer};
 
 use crate::CodecError;
 use crate::kind::CONTENT_NAME;
 use crate::writable::Writable;
-use mh_base::Octets;
+use mh_base::{Colour, Octets};
 use mh_der::{OCTET_STRING, SEQUENCE, Tag, TagClass, write_bool, write_element, write_int};
 use mh_group::{Content, EventData, Ref, WrittenName};
 use std::alloc::{AllocError, Global};
@@ -40,6 +40,15 @@ pub(crate) fn write_name(out: &mut Vec<u8>, name: &WrittenName) -> Result<(), Al
     write_element(out, OCTET_STRING, name.as_bytes())
 }
 
+/// Writes an octet string.
+#[tactic(auto, using(crate::proofs::ElementLemmas::bytes_are_octets), unfolding(crate::specs::Spelling::octet_string))]
+fn write_octets(out: &mut Vec<u8>, octets: &[u8]) -> Result<(), AllocError>
+    ensures written { OnOk result (out.new.items ≡ out.old.items ++ octet_string octets.now) }
+    ensures fits { OnOk result (is_octets octets.now ≡ true) }
+{
+    write_element(out, OCTET_STRING, octets)
+}
+
 /// Writes an integer from 0.
 pub(crate) fn write_natural(out: &mut Vec<u8>, number: u32) -> Result<(), AllocError>
     requires small { number < 2 ^ 31 }
@@ -69,7 +78,7 @@ fn content_tag() -> Tag
 
 impl Writable for bool {
     ghost use Rattle.mh_codec.specs.Spelling.{boolean as spelling_lem};
-    ghost use Rattle.mh_codec.specs.Writable.{is_plain as is_good_lem};
+    ghost use Rattle.mh_group.specs.Holdable.{is_plain as is_good_lem};
 
     ghost spelling = { spelling_lem };
 
@@ -84,7 +93,7 @@ impl Writable for bool {
 
 impl Writable for i32 {
     ghost use Rattle.mh_codec.specs.Spelling.{integer as spelling_lem};
-    ghost use Rattle.mh_codec.specs.Writable.{is_integer as is_good_lem};
+    ghost use Rattle.mh_group.specs.Holdable.{is_integer as is_good_lem};
 
     ghost spelling = { spelling_lem };
 
@@ -98,22 +107,36 @@ impl Writable for i32 {
 
 impl Writable for Octets {
     ghost use Rattle.mh_codec.specs.Spelling.{octet_string as spelling_lem};
-    ghost use Rattle.mh_codec.specs.Writable.{is_plain as is_good_lem};
+    ghost use Rattle.mh_group.specs.Holdable.{is_octets as is_good_lem};
 
     ghost spelling = { spelling_lem };
 
     ghost is_good = { is_good_lem };
 
-    #[tactic(auto, unfolding(crate::specs::Spelling::octet_string))]
     fn write(&self, _alloc: Global, out: &mut Vec<u8>) -> Result<(), CodecError> {
-        write_element(out, OCTET_STRING, self.as_slice())?;
+        write_octets(out, self.as_slice())?;
+        Ok(())
+    }
+}
+
+impl Writable for Colour {
+    ghost use Rattle.mh_codec.specs.Spelling.{colour_value as spelling_lem};
+    ghost use Rattle.mh_group.specs.Holdable.{is_octets as is_octets_lem, colour_octets};
+
+    ghost spelling = { spelling_lem };
+
+    ghost is_good = { λ c. is_octets_lem (colour_octets c) };
+
+    fn write(&self, _alloc: Global, out: &mut Vec<u8>) -> Result<(), CodecError> {
+        let octets = [self.red, self.green, self.blue, self.transparency];
+        write_octets(out, &octets)?;
         Ok(())
     }
 }
 
 impl Writable for Ref {
     ghost use Rattle.mh_codec.specs.Spelling.{reference as spelling_lem};
-    ghost use Rattle.mh_codec.specs.Writable.{is_reference as is_good_lem};
+    ghost use Rattle.mh_group.specs.Holdable.{is_reference as is_good_lem};
 
     ghost spelling = { spelling_lem };
 
@@ -131,7 +154,7 @@ impl Writable for Ref {
 /// The name of a content file.
 impl Writable for WrittenName {
     ghost use Rattle.mh_codec.specs.Spelling.{content_name as spelling_lem};
-    ghost use Rattle.mh_codec.specs.Writable.{is_name as is_good_lem};
+    ghost use Rattle.mh_group.specs.Holdable.{is_name as is_good_lem};
 
     ghost spelling = { spelling_lem };
 
@@ -146,7 +169,7 @@ impl Writable for WrittenName {
 
 impl Writable for Content {
     ghost use Rattle.mh_codec.specs.Spelling.{content_value as spelling_lem};
-    ghost use Rattle.mh_codec.specs.Writable.{is_content as is_good_lem};
+    ghost use Rattle.mh_group.specs.Holdable.{is_content as is_good_lem};
 
     ghost spelling = { spelling_lem };
 
@@ -162,7 +185,7 @@ impl Writable for Content {
 
 impl Writable for EventData {
     ghost use Rattle.mh_codec.specs.Spelling.{data_value as spelling_lem};
-    ghost use Rattle.mh_codec.specs.Writable.{is_data as is_good_lem};
+    ghost use Rattle.mh_group.specs.Holdable.{is_data as is_good_lem};
 
     ghost spelling = { spelling_lem };
 
