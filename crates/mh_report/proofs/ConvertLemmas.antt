@@ -4,7 +4,8 @@ use Rattle.std.proofs.lemmas.Bool.{and_parts}
 use Rattle.std.proofs.lemmas.Bool.Decides.{nat_tests}
 use Rattle.mh_group.specs.declared.written.Written.{Written}
 use Rattle.mh_codec.specs.Spelling.{group}
-use Rattle.mh_codec.specs.Writable.{is_writable, Spells}
+use Rattle.mh_group.specs.Holdable.{is_holdable}
+use Rattle.mh_codec.specs.Writable.{Spells}
 use Rattle.mh_codec.specs.Unwritable.{HasNoSpelling}
 use Rattle.mh_report.specs.Converted.{has_spelling, in_octets, Converts, convert_done}
 use Rattle.std.specs.Io.KnownBytes.{Appends}
@@ -33,12 +34,12 @@ spelled name octets g s =
 
 pub unspelled : (name : List ℕ) (g : Written) → HasNoSpelling g → in_octets name g ≡ Err (unplayable.File name 13 0)
 unfolding in_octets has_spelling Spells
-unspelled name g none = by (is_writable g && nat_le (length (group g)) 1048576) refl
+unspelled name g none = by (is_holdable g && nat_le (length (group g)) 1048576) refl
   where
-    by : (t : Bool) → (is_writable g && nat_le (length (group g)) 1048576) ≡ t → (if t then Ok (group g) else Err (unplayable.File name 13 0)) ≡ Err (unplayable.File name 13 0)
+    by : (t : Bool) → (is_holdable g && nat_le (length (group g)) 1048576) ≡ t → (if t then Ok (group g) else Err (unplayable.File name 13 0)) ≡ Err (unplayable.File name 13 0)
     by false e = refl
     by true e =
-        let parts = and_parts (is_writable g) (nat_le (length (group g)) 1048576) e in
+        let parts = and_parts (is_holdable g) (nat_le (length (group g)) 1048576) e in
         absurd (none (group g) (refl, within (length (group g)) parts.1, parts.0))
 
 -- what is handed out is what is meant

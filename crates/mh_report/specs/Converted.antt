@@ -3,7 +3,7 @@
 use Rattle.std.specs.Prelude.{ℕ, Bool, ◌&&◌, nat_le, if◌then◌else◌, List, length, Result, Ok, Err}
 use Rattle.mh_group.specs.declared.written.Written.{Written}
 use Rattle.mh_codec.specs.Spelling.{group}
-use Rattle.mh_codec.specs.Writable.{is_writable}
+use Rattle.mh_group.specs.Holdable.{is_holdable}
 use Rattle.mh_codec.specs.Numbers.{number_of as octets_number_of}
 use Rattle.mh_codec.specs.declared.codec_error.Why.TheVariants as octets_why
 use Rattle.mh_text.specs.Printed.{printed, passes_limit}
@@ -19,7 +19,7 @@ use Rattle.mh_report.specs.Played.{◌>>=◌, group_in, complaint}
 
 -- the binary notation can spell the group in a file
 unfoldable pub has_spelling : Written → Bool
-has_spelling g = is_writable g && nat_le (length (group g)) 1048576
+has_spelling g = is_holdable g && nat_le (length (group g)) 1048576
 
 -- the octets of the group in the binary notation
 unfoldable pub in_octets : List ℕ → Written → Result (List ℕ) Unplayable
