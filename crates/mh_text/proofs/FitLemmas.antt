@@ -5,10 +5,6 @@ use Rattle.std.specs.List.{list_all}
 use Rattle.std.proofs.lemmas.Bool.{and_parts, and_from}
 use Rattle.std.proofs.lemmas.Bool.Decides.{nat_tests}
 use Rattle.std.proofs.lemmas.List.Folds.{list_all-append}
-use Rattle.mh_group.specs.declared.action.Content.{Content}
-use Rattle.mh_group.specs.declared.action.Content.TheVariants as of_content
-use Rattle.mh_group.specs.declared.action.EventData.{EventData}
-use Rattle.mh_group.specs.declared.action.EventData.TheVariants as of_data
 use Rattle.mh_group.specs.declared.action.Parameter.{Parameter}
 use Rattle.mh_group.specs.declared.action.Parameter.TheVariants as of_parameter
 use Rattle.mh_group.specs.declared.shape.Shape.{Shape}
@@ -20,7 +16,7 @@ use Rattle.mh_group.specs.Table.{needs_of, optional_of}
 use Rattle.mh_group.specs.Fit.{fits_parameter, fits_parameters, fits_action, fits_effect, fits_member, is_list_item, is_natural, is_field_length, fits}
 use Rattle.mh_text.specs.Rest.{Left, Piece}
 use Rattle.mh_text.specs.Gives.{Refusal, ◌>>=◌}
-use Rattle.mh_text.specs.Reading.{next, is_open, is_close, opened, closed, closed_list, integer_of, natural_of, field_length_of, fixed_of, truth_of, event_of, justification_of, octets_of, colour_of, data_of, made, alone, truth, integer, octets, event_data, content_name, content, reference, generic, next_member, continued, listed, list, typed, generic_parameter, parameter, parameters, action_name_of, action, effect, row, member, list_item, position, next_scene, content_setting, data_setting, single, part, pair, several, setting_at, setting}
+use Rattle.mh_text.specs.Reading.{next, is_open, is_close, opened, closed, closed_list, integer_of, natural_of, field_length_of, fixed_of, truth_of, event_of, justification_of, octets_of, colour_of, data_of, made, alone, truth, integer, octets, event_data, content_name, content, reference, generic, next_member, continued, listed, list, typed, generic_parameter, parameter, parameters, action_name_of, action, effect, row, member, list_item, position, next_scene, single, part, pair, several, setting_at, setting}
 
 -- what a reading gives, where it gives something, is so
 abbrev pub Only : {A : Type 0} → (A → Type 0) → Result A Refusal → Type 0
@@ -61,7 +57,7 @@ made_from was good f (Err e) fit h = tt
 at_most : (n most : ℕ) → n ≤ most → nat_le n most ≡ true
 at_most n most h = grind (arith, nat_tests)
 
--- integers and colours in their ranges
+-- integers in their ranges
 not_below : (x : ℤ) → int_lt x (pos 0) ≡ false → is_natural x ≡ true
 not_below (pos n) h = at_most 0 n (omega arith)
 not_below (negsuc n) h = absurd cc
@@ -77,10 +73,6 @@ field_length_fits p = after _ (integer_of p) _ (λ x. either _ (is_field_length 
 fixed_fits : (wanted : ℤ) (p : Piece) → Only (λ x. int_eq x wanted ≡ true) (fixed_of wanted p)
 unfolding fixed_of
 fixed_fits wanted p = after _ (integer_of p) _ (λ x. either _ (int_eq x wanted) _ _ (λ h. h) (λ h. tt))
-
-colour_fits : (p : Piece) → Only (λ o. (length o == 4) ≡ true) (colour_of p)
-unfolding colour_of
-colour_fits p = after _ (octets_of p) _ (λ o. either _ (length o == 4) _ _ (λ h. h) (λ h. tt))
 
 -- lists
 module _ {A : Type 0} (member : Piece → Left → Result (A × Left) Refusal) (good : A → Bool) (one : (p : Piece) (left : Left) → Fit good (member p left)) where
@@ -187,14 +179,6 @@ list_item_fits p left = either _ (is_open p.sign) _ _
     (λ h. tt)
 
 -- the values of attributes
-data_set : (x : EventData) → fits shape.Data (data_setting x) ≡ true
-data_set (of_data.Bool b) = refl
-data_set (of_data.Int x) = refl
-
-content_set : (x : Content) → fits shape.Content (content_setting x) ≡ true
-content_set (of_content.Included octets) = refl
-content_set (of_content.Referenced name) = refl
-
 single_fits : (s : Shape) (p : Piece) → Only (λ x. fits s x ≡ true) (single s p)
 unfolding single
 single_fits shape.Bool p = after _ (truth_of p) _ (λ x. refl)
@@ -202,9 +186,9 @@ single_fits shape.Int p = after _ (integer_of p) _ (λ x. refl)
 single_fits shape.Natural p = knowing _ _ (natural_of p) _ (natural_fits p) (λ x h. h)
 single_fits shape.Length p = knowing _ _ (field_length_of p) _ (field_length_fits p) (λ x h. h)
 single_fits shape.Event p = after _ (event_of p) _ (λ x. refl)
-single_fits shape.Data p = after _ (data_of p) _ (λ x. data_set x)
+single_fits shape.Data p = after _ (data_of p) _ (λ x. refl)
 single_fits shape.Octets p = after _ (octets_of p) _ (λ x. refl)
-single_fits shape.Colour p = knowing _ _ (colour_of p) _ (colour_fits p) (λ x h. h)
+single_fits shape.Colour p = after _ (colour_of p) _ (λ x. refl)
 single_fits shape.Justification p = after _ (justification_of p) _ (λ x. refl)
 single_fits _ p = tt
 
@@ -237,7 +221,7 @@ setting_at_fits shape.Ref p left = made_fits (fits shape.Ref) of_setting.Ref (re
 setting_at_fits shape.Pair p left = pair_fits p left
 setting_at_fits shape.Size p left = size_fits p left
 setting_at_fits shape.Screen p left = screen_fits p left
-setting_at_fits shape.Content p left = made_fits (fits shape.Content) content_setting (content p left) content_set
+setting_at_fits shape.Content p left = made_fits (fits shape.Content) of_setting.Content (content p left) (λ x. refl)
 setting_at_fits shape.ContentRef p left = made_fits (fits shape.ContentRef) of_setting.ContentRef (content_name p left) (λ x. refl)
 setting_at_fits shape.Effect p left = several_fits shape.Effect p left
 setting_at_fits shape.MovementTable p left = several_fits shape.MovementTable p left

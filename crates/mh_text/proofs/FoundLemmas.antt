@@ -1,6 +1,7 @@
 -- What was read is spelled so: values, from their tokens.
 use Rattle.std.proofs.Common.{◌≡◌, ℕ, zero, suc, ◌+◌, ◌*◌, ◌≤◌, ◌⊎◌, inl, inr, Bool, true, false, ◌==◌, if◌then◌else◌, List, [], ◌∷◌, ◌++◌, length, Option, Some, None, Result, Ok, ℤ, pos, negsuc, int_lt, unsigned_abs, codes, refl, ap, sym, ◌∙◌, subst, arith, append_assoc, append-nil}
 use Rattle.std.proofs.lemmas.Bool.Decides.{nat_tests}
+use Rattle.mh_base.specs.declared.colour.Colour.{Colour}
 use Rattle.mh_base.specs.declared.event.EventType.{EventType}
 use Rattle.mh_group.specs.declared.reference.Ref.{Ref}
 use Rattle.mh_group.specs.declared.reference.Ref.TheVariants as ref
@@ -11,6 +12,7 @@ use Rattle.mh_group.specs.declared.action.Content.{Content}
 use Rattle.mh_group.specs.declared.action.Content.TheVariants as of_content
 use Rattle.mh_group.specs.declared.action.EventData.{EventData}
 use Rattle.mh_group.specs.Fit.{is_field_length}
+use Rattle.mh_group.specs.Holdable.{colour_octets}
 use Rattle.mh_group.specs.Words.{event_word, justification_word}
 use Rattle.mh_text.specs.declared.token_kind.TokenKind.TheVariants as kind
 use Rattle.mh_text.specs.declared.sign.Sign.{Sign}
@@ -25,7 +27,7 @@ use Rattle.mh_text.specs.Signs.{sign_of}
 use Rattle.mh_text.specs.Words.{Written, IsWord, Quotes, nothing, plain, escaped}
 use Rattle.mh_text.specs.Gives.{Refusal, ◌>>=◌}
 use Rattle.mh_text.specs.Spelling.{IsOpen, IsClose, IsOpenBrace, Writes, IsInteger, IsNumber, IsName, AreOctets, truth_word, IsTruth, IsRef, IsGeneric, IsContentName, IsContent, IsData, AreSeveral, IsListOf}
-use Rattle.mh_text.specs.Reading.{next, past, is_open, is_close, is_open_brace, is_close_brace, is_indirect, is_content_ref, opened, closed, closed_list, braced, inner, refused_at, name_of, integer_of, natural_of, field_length_of, fixed_of, number_of, truth_of, event_of, justification_of, octets_of, colour_of, named_reference, reference, made, alone, truth, integer, octets, data_of, event_data, content_name, content, generic, next_member, continued, listed, list}
+use Rattle.mh_text.specs.Reading.{next, past, is_open, is_close, is_open_brace, is_close_brace, is_indirect, is_content_ref, opened, closed, closed_list, braced, inner, refused_at, name_of, integer_of, natural_of, field_length_of, fixed_of, number_of, truth_of, event_of, justification_of, octets_of, colour_in, colour_of, named_reference, reference, made, alone, truth, integer, octets, data_of, event_data, content_name, content, generic, next_member, continued, listed, list}
 use Rattle.mh_text.proofs.SignLemmas.{content_ref_spelled, indirect_ref_spelled, truth_spelled, event_spelled, justification_spelled, integer_spelled, inner_is}
 use Rattle.mh_text.proofs.PieceLemmas.{kind_of, word_of, as_word, words, IsGood, AreGood, Passes, PassesFrom, turned, onward, went, if_ok, if_not_ok, ok_same, went_on}
 
@@ -240,12 +242,15 @@ octets_word _ start text octets e word = absurd cc
 pub octets_found : (p : Piece) (octets : List ℕ) → IsGood p → octets_of p ≡ Ok octets → IsOctetsWord octets (word_of p)
 octets_found p octets good e = octets_word p.sign p.start p.text octets e good.word
 
-pub colour_found : (p : Piece) (octets : List ℕ) → IsGood p → colour_of p ≡ Ok octets → IsOctetsWord octets (word_of p)
+four_octets : (p : Piece) (octets : List ℕ) (c : Colour) → colour_in p octets ≡ Ok c → octets ≡ colour_octets c
+four_octets p (red ∷ green ∷ blue ∷ transparency ∷ []) c e = ap colour_octets (ok_same e)
+four_octets p _ c e = absurd cc
+
+pub colour_found : (p : Piece) (c : Colour) → IsGood p → colour_of p ≡ Ok c → IsOctetsWord (colour_octets c) (word_of p)
 unfolding colour_of
-colour_found p octets good e =
-    let w = went (octets_of p) _ octets e in
-    let t = if_ok _ (Ok w.value) why.Range p.start octets w.behind in
-    octets_found p octets good (w.first ∙ ap Ok (ok_same t.1))
+colour_found p c good e =
+    let w = went (octets_of p) (colour_in p) c e in
+    octets_found p (colour_octets c) good (w.first ∙ ap Ok (four_octets p w.value c w.behind))
 
 -- the first word, by its token
 pub first_word : (ws : List Written) (w v : Written) (rest : List Written) → ws ≡ w ∷ rest → w ≡ v → ws ≡ v ∷ rest

@@ -3,10 +3,6 @@ use Rattle.std.proofs.Common.{◌≡◌, ℕ, ◌≤◌, Bool, true, false, ◌&
 use Rattle.std.proofs.lemmas.Bool.{and_parts}
 use Rattle.mh_base.specs.declared.value.Kind.{Kind}
 use Rattle.mh_base.specs.declared.value.Kind.TheVariants as of_kind
-use Rattle.mh_group.specs.declared.action.Content.{Content}
-use Rattle.mh_group.specs.declared.action.Content.TheVariants as of_content
-use Rattle.mh_group.specs.declared.action.EventData.{EventData}
-use Rattle.mh_group.specs.declared.action.EventData.TheVariants as of_data
 use Rattle.mh_group.specs.declared.action.Typed.{Typed}
 use Rattle.mh_group.specs.declared.action.Typed.TheVariants as of_typed
 use Rattle.mh_group.specs.declared.action.Parameter.{Parameter}
@@ -19,6 +15,7 @@ use Rattle.mh_group.specs.declared.shape.Need.TheVariants as need
 use Rattle.mh_group.specs.declared.written.Setting.{Setting}
 use Rattle.mh_group.specs.declared.written.Setting.TheVariants as of_setting
 use Rattle.mh_group.specs.Table.{needs_of, optional_of}
+use Rattle.mh_group.specs.Holdable.{colour_octets}
 use Rattle.mh_group.specs.Words.{action_word}
 use Rattle.mh_text.specs.declared.token_kind.TokenKind.TheVariants as kind
 use Rattle.mh_text.specs.declared.sign.Sign.{Sign}
@@ -29,7 +26,7 @@ use Rattle.mh_text.specs.Signs.{kind_word}
 use Rattle.mh_text.specs.Words.{Written}
 use Rattle.mh_text.specs.Gives.{Refusal, ◌>>=◌}
 use Rattle.mh_text.specs.Spelling.{IsClose, IsInteger, IsTruth, AreOctets, IsRef, IsGeneric, IsContentName, IsContent, IsData, IsTyped, IsParameter, AreSeveral, IsListOf, IsAction, IsMember, IsPosition, IsNextScene, IsSetting}
-use Rattle.mh_text.specs.Reading.{is_open, is_close, opened, closed, integer_of, natural_of, field_length_of, name_of, truth_of, event_of, justification_of, octets_of, colour_of, reference, alone, truth, integer, octets, data_of, event_data, content_name, content, generic, listed, list, value_of, typed, generic_parameter, parameter, parameters, action_name_of, action, effect, row, member, list_item, position, next_scene, content_setting, data_setting, single, part, pair, several, setting_at, setting}
+use Rattle.mh_text.specs.Reading.{is_open, is_close, opened, closed, integer_of, natural_of, field_length_of, name_of, truth_of, event_of, justification_of, octets_of, colour_of, reference, alone, truth, integer, octets, data_of, event_data, content_name, content, generic, listed, list, value_of, typed, generic_parameter, parameter, parameters, action_name_of, action, effect, row, member, list_item, position, next_scene, single, part, pair, several, setting_at, setting}
 use Rattle.mh_text.proofs.SignLemmas.{action_spelled, kind_spelled}
 use Rattle.mh_text.proofs.PieceLemmas.{kind_of, word_of, as_word, words, IsGood, AreGood, Passes, PassesFrom, turned, onward, went, if_ok, ok_same, went_on}
 use Rattle.mh_text.proofs.FoundLemmas.{Finds, IsIntegerWord, first_word, first_integer, first_octets, moved_from, from_piece, made_found, made_finds, alone_found, is_open_word, is_close_word, opened_found, closed_found, name_found, integer_found, natural_found, field_length_found, fixed_found, truth_found, event_found, justification_found, octets_found, colour_found, data_found, reference_found, truth_finds, integer_finds, octets_finds, data_finds, content_name_found, content_found, generic_found, listed_found, list_found}
@@ -305,10 +302,6 @@ next_scene_found p left z rest is_good good e =
     })
 
 -- values of one token
-data_set : (x : EventData) (ws rest : List Written) → IsData x ws rest → IsSetting (data_setting x) ws rest
-data_set (of_data.Bool b) ws rest h = h
-data_set (of_data.Int x) ws rest h = h
-
 single_found : (s : Shape) (p : Piece) (x : Setting) (ws : List Written) → IsGood p → single s p ≡ Ok x → IsSetting x (word_of p ∷ ws) ws
 unfolding single
 single_found shape.Bool p x ws good e =
@@ -328,13 +321,13 @@ single_found shape.Event p x ws good e =
     subst (λ z. IsSetting z (word_of p ∷ ws) ws) (ok_same y.behind) (ap (λ v. v ∷ ws) (event_found p y.value good y.first))
 single_found shape.Data p x ws good e =
     let y = went (data_of p) _ x e in
-    subst (λ z. IsSetting z (word_of p ∷ ws) ws) (ok_same y.behind) (data_set y.value (word_of p ∷ ws) ws (data_found p y.value ws good y.first))
+    subst (λ z. IsSetting z (word_of p ∷ ws) ws) (ok_same y.behind) (data_found p y.value ws good y.first)
 single_found shape.Octets p x ws good e =
     let y = went (octets_of p) _ x e in
     subst (λ z. IsSetting z (word_of p ∷ ws) ws) (ok_same y.behind) (first_octets y.value (word_of p) ws (octets_found p y.value good y.first))
 single_found shape.Colour p x ws good e =
     let y = went (colour_of p) _ x e in
-    subst (λ z. IsSetting z (word_of p ∷ ws) ws) (ok_same y.behind) (first_octets y.value (word_of p) ws (colour_found p y.value good y.first))
+    subst (λ z. IsSetting z (word_of p ∷ ws) ws) (ok_same y.behind) (first_octets (colour_octets y.value) (word_of p) ws (colour_found p y.value good y.first))
 single_found shape.Justification p x ws good e =
     let y = went (justification_of p) _ x e in
     subst (λ z. IsSetting z (word_of p ∷ ws) ws) (ok_same y.behind) (ap (λ v. v ∷ ws) (justification_found p y.value good y.first))
@@ -362,11 +355,6 @@ pair_found s p left x rest is_good good e =
       wrong = a.wrong;
     })
 
--- content as the value of an attribute
-content_set : (x : Content) (ws rest : List Written) → IsContent x ws rest → IsSetting (content_setting x) ws rest
-content_set (of_content.Included octets) ws rest h = h
-content_set (of_content.Referenced name) ws rest h = h
-
 -- values that are lists
 several_found : (s : Shape) → Finds (several s) IsSetting
 unfolding several
@@ -392,7 +380,7 @@ setting_at_found shape.Pair p left x rest is_good good e = pair_found shape.Pair
 setting_at_found shape.Size p left x rest is_good good e = pair_found shape.Size p left x rest is_good good e
 setting_at_found shape.Screen p left x rest is_good good e = pair_found shape.Screen p left x rest is_good good e
 setting_at_found shape.Content p left x rest is_good good e =
-    made_finds IsContent IsSetting content_setting content content_found content_set p left x rest is_good good e
+    made_finds IsContent IsSetting of_setting.Content content content_found (λ y ws rs h. h) p left x rest is_good good e
 setting_at_found shape.ContentRef p left x rest is_good good e =
     made_finds IsContentName IsSetting of_setting.ContentRef content_name content_name_found (λ y ws rs h. h) p left x rest is_good good e
 setting_at_found shape.Effect p left x rest is_good good e = several_found shape.Effect p left x rest is_good good e

@@ -2,6 +2,7 @@
 use Rattle.std.proofs.Common.{◌≡◌, ℕ, zero, suc, ◌≤◌, Bool, true, false, ◌&&◌, ◌==◌, if◌then◌else◌, List, [], ◌∷◌, ◌++◌, length, Some, None, Result, Ok, ℤ, pos, int_lt, nat_lt, inl, inr, codes, refl, ap, sym, ◌∙◌, subst, arith, append_assoc, append-nil}
 use Rattle.std.specs.List.{list_all}
 use Rattle.std.proofs.lemmas.Bool.Decides.{nat_tests}
+use Rattle.mh_base.specs.declared.colour.Colour.{Colour}
 use Rattle.mh_base.specs.declared.event.EventType.{EventType}
 use Rattle.mh_base.specs.Path.{is_name_byte}
 use Rattle.mh_group.specs.declared.reference.Ref.TheVariants as ref
@@ -10,6 +11,7 @@ use Rattle.mh_group.specs.declared.justification.Justification.{Justification}
 use Rattle.mh_group.specs.declared.action.Content.TheVariants as of_content
 use Rattle.mh_group.specs.declared.action.EventData.{EventData}
 use Rattle.mh_group.specs.declared.action.EventData.TheVariants as of_data
+use Rattle.mh_group.specs.Holdable.{colour_octets}
 use Rattle.mh_group.specs.Words.{event_word, justification_word}
 use Rattle.mh_text.specs.declared.token_kind.TokenKind.{TokenKind}
 use Rattle.mh_text.specs.declared.token_kind.TokenKind.TheVariants as kind
@@ -22,9 +24,9 @@ use Rattle.mh_text.specs.Rest.{Rest, Left, Piece, piece}
 use Rattle.mh_text.specs.Signs.{sign_of}
 use Rattle.mh_text.specs.Words.{Written, AreWords, IsWord, Quotes, needs_gap}
 use Rattle.mh_text.specs.Gives.{Refusal, ◌>>=◌}
-use Rattle.mh_text.specs.Spelling.{IsOpen, IsClose, IsOpenBrace, IsInteger, IsNumber, IsName, AreOctets, truth_word, IsTruth, IsRef, IsGeneric, IsContentName, IsContent, IsData, AreSeveral, IsListOf}
+use Rattle.mh_text.specs.Spelling.{IsOpen, IsClose, IsOpenBrace, IsInteger, IsNumber, IsName, AreOctets, IsColour, truth_word, IsTruth, IsRef, IsGeneric, IsContentName, IsContent, IsData, AreSeveral, IsListOf}
 use Rattle.mh_text.specs.Left.{token, lexed, meant, left_in, left}
-use Rattle.mh_text.specs.Reading.{next, ended, refused_at, is_close, is_indirect, is_content_ref, opened, closed, closed_list, braced, inner, name_of, integer_of, natural_of, number_of, truth_of, event_of, justification_of, octets_of, colour_of, data_of, made, alone, truth, integer, octets, event_data, content_name, content, named_reference, reference, generic, next_member, listed, list}
+use Rattle.mh_text.specs.Reading.{next, ended, refused_at, is_close, is_indirect, is_content_ref, opened, closed, closed_list, braced, inner, name_of, integer_of, natural_of, number_of, truth_of, event_of, justification_of, octets_of, colour_in, colour_of, data_of, made, alone, truth, integer, octets, event_data, content_name, content, named_reference, reference, generic, next_member, listed, list}
 use Rattle.mh_text.proofs.LeftLemmas.{left_is}
 use Rattle.mh_text.proofs.SignLemmas.{integer_means, truth_means, event_means, justification_means, content_ref_means, indirect_ref_means, inner_is}
 use Rattle.mh_text.proofs.FoundLemmas.{quotes_unescaped}
@@ -243,15 +245,15 @@ octets_one octets l ws rest at (inr (within, quotes, e)) =
     let t = first l ws rest kind.Quoted (39 ∷ (within ++ 39 ∷ [])) sign.Quoted at e refl in
     one octets_of octets l kind.Quoted (39 ∷ (within ++ 39 ∷ [])) sign.Quoted rest t (refl, refl) (quoted_is t.start within octets quotes)
 
-pub colour_one : (octets : List ℕ) (l : Left) (ws rest : List Written) → (length octets == 4) ≡ true → StandsAt l ws → AreOctets octets ws rest → One l colour_of octets rest
+pub colour_one : (c : Colour) (l : Left) (ws rest : List Written) → StandsAt l ws → IsColour c ws rest → One l colour_of c rest
 unfolding colour_of
-colour_one octets l ws rest fit at h =
-    let o = octets_one octets l ws rest at h in
+colour_one c l ws rest at h =
+    let o = octets_one (colour_octets c) l ws rest at h in
     record {
       head = o.head;
       behind = o.behind;
       first = o.first;
-      is = then_is (octets_of o.head) _ octets octets o.is (ap (λ (b : Bool). if b then Ok octets else refused_at why.Range o.head) fit);
+      is = then_is (octets_of o.head) (colour_in o.head) (colour_octets c) c o.is refl;
       at = o.at;
       plain = o.plain;
     }

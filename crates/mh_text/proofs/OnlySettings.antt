@@ -6,8 +6,6 @@ use Rattle.std.proofs.lemmas.Bool.Decides.{nat_tests}
 use Rattle.mh_base.specs.declared.value.Kind.{Kind}
 use Rattle.mh_base.specs.declared.value.Kind.TheVariants as of_kind
 use Rattle.mh_group.specs.declared.action.Action.{Action}
-use Rattle.mh_group.specs.declared.action.Content.TheVariants as of_content
-use Rattle.mh_group.specs.declared.action.EventData.TheVariants as of_data
 use Rattle.mh_group.specs.declared.action.Typed.{Typed}
 use Rattle.mh_group.specs.declared.action.Typed.TheVariants as of_typed
 use Rattle.mh_group.specs.declared.action.Parameter.{Parameter}
@@ -30,7 +28,7 @@ use Rattle.mh_text.specs.Signs.{sign_of, kind_word}
 use Rattle.mh_text.specs.Words.{Written}
 use Rattle.mh_text.specs.Gives.{◌>>=◌}
 use Rattle.mh_text.specs.Spelling.{IsClose, IsKeyword, IsInteger, IsTruth, AreOctets, IsRef, IsContentName, IsContent, IsData, IsTyped, IsParameter, AreSeveral, IsListOf, IsAction, IsMember, IsPosition, IsNextScene, IsSetting}
-use Rattle.mh_text.specs.Reading.{next, is_close, opened, closed, refused_at, name_of, integer_of, natural_of, field_length_of, fixed_of, truth_of, event_of, justification_of, octets_of, colour_of, data_of, reference, alone, truth, integer, octets, event_data, content_name, content, generic, listed, list, value_of, typed, generic_parameter, parameter, parameters, action_name_of, action, effect, row, member, list_item, position, next_scene, content_setting, data_setting, single, part, pair, several, setting_at, setting}
+use Rattle.mh_text.specs.Reading.{next, is_close, opened, closed, refused_at, name_of, integer_of, natural_of, field_length_of, fixed_of, truth_of, event_of, justification_of, octets_of, colour_of, data_of, reference, alone, truth, integer, octets, event_data, content_name, content, generic, listed, list, value_of, typed, generic_parameter, parameter, parameters, action_name_of, action, effect, row, member, list_item, position, next_scene, single, part, pair, several, setting_at, setting}
 use Rattle.mh_text.proofs.SignLemmas.{action_means, kind_means}
 use Rattle.mh_text.proofs.OnlyLemmas.{StandsAt, first, then_is, Reads, Begun, Takes, Any, number_one, one_made, alone_taken, made_taken, truth_one, event_one, justification_one, integer_one, octets_one, colour_one, data_one, open_read, close_read, name_is, integer_is, natural_is, truth_takes, integer_takes, octets_takes, data_takes, reference_takes, content_name_takes, content_takes, generic_takes, AllFit, any_list, listed_read, list_takes}
 
@@ -291,16 +289,13 @@ setting_takes shape.Screen l (of_setting.Pair x y) ws rest fit at h =
 setting_takes shape.Ref l (of_setting.Ref r) ws rest fit at h = made_taken of_setting.Ref reference r l rest (reference_takes l r ws rest at h).0
 setting_takes shape.Event l (of_setting.Event x) ws rest fit at h =
     alone_taken (λ p. event_of p >>= λ y. Ok (of_setting.Event y)) (of_setting.Event x) l rest (one_made of_setting.Event event_of x l rest (event_one x l ws rest at h))
-setting_takes shape.Data l (of_setting.Bool b) ws rest fit at h =
-    alone_taken (λ p. data_of p >>= λ y. Ok (data_setting y)) (of_setting.Bool b) l rest (one_made data_setting data_of (of_data.Bool b) l rest (data_one (of_data.Bool b) l ws rest at h))
-setting_takes shape.Data l (of_setting.Int x) ws rest fit at h =
-    alone_taken (λ p. data_of p >>= λ y. Ok (data_setting y)) (of_setting.Int x) l rest (one_made data_setting data_of (of_data.Int x) l rest (data_one (of_data.Int x) l ws rest at h))
+setting_takes shape.Data l (of_setting.Data x) ws rest fit at h =
+    alone_taken (λ p. data_of p >>= λ y. Ok (of_setting.Data y)) (of_setting.Data x) l rest (one_made of_setting.Data data_of x l rest (data_one x l ws rest at h))
 setting_takes shape.Octets l (of_setting.Octets o) ws rest fit at h =
     alone_taken (λ p. octets_of p >>= λ y. Ok (of_setting.Octets y)) (of_setting.Octets o) l rest (one_made of_setting.Octets octets_of o l rest (octets_one o l ws rest at h))
-setting_takes shape.Colour l (of_setting.Octets o) ws rest fit at h =
-    alone_taken (λ p. colour_of p >>= λ y. Ok (of_setting.Octets y)) (of_setting.Octets o) l rest (one_made of_setting.Octets colour_of o l rest (colour_one o l ws rest fit at h))
-setting_takes shape.Content l (of_setting.Octets o) ws rest fit at h = made_taken content_setting content (of_content.Included o) l rest (content_takes l (of_content.Included o) ws rest at h).0
-setting_takes shape.Content l (of_setting.ContentRef n) ws rest fit at h = made_taken content_setting content (of_content.Referenced n) l rest (content_takes l (of_content.Referenced n) ws rest at h).0
+setting_takes shape.Colour l (of_setting.Colour c) ws rest fit at h =
+    alone_taken (λ p. colour_of p >>= λ y. Ok (of_setting.Colour y)) (of_setting.Colour c) l rest (one_made of_setting.Colour colour_of c l rest (colour_one c l ws rest at h))
+setting_takes shape.Content l (of_setting.Content x) ws rest fit at h = made_taken of_setting.Content content x l rest (content_takes l x ws rest at h).0
 setting_takes shape.ContentRef l (of_setting.ContentRef n) ws rest fit at h = made_taken of_setting.ContentRef content_name n l rest (content_name_takes l n ws rest at h).0
 setting_takes shape.Justification l (of_setting.Justification j) ws rest fit at h =
     alone_taken (λ p. justification_of p >>= λ y. Ok (of_setting.Justification y)) (of_setting.Justification j) l rest (one_made of_setting.Justification justification_of j l rest (justification_one j l ws rest at h))

@@ -26,7 +26,7 @@ use Rattle.mh_group.specs.declared.written.Written.{Written as Group}
 use Rattle.mh_group.specs.Table.{attribute_number, is_group_class}
 use Rattle.mh_group.specs.Words.{class_word, attribute_word, action_word, event_word, justification_word}
 use Rattle.mh_group.specs.Fit.{rises_above, is_rising, before_items, is_group, misfit_of, fields_misfit, ingredient_misfit, ingredients_misfit, items_of, written_items}
-use Rattle.mh_group.specs.Holdable.{is_plain, is_integer, is_number, is_name, is_octets, is_reference, is_generic, is_typed, is_content, is_data, is_parameter, is_action, is_list, is_member, is_position, is_next_scene, is_setting, has_settings, is_ingredient, is_holdable}
+use Rattle.mh_group.specs.Holdable.{colour_octets, is_plain, is_integer, is_number, is_name, is_octets, is_reference, is_generic, is_typed, is_content, is_data, is_parameter, is_action, is_list, is_member, is_position, is_next_scene, is_setting, has_settings, is_ingredient, is_holdable}
 use Rattle.mh_text.specs.declared.token_kind.TokenKind.TheVariants as kind
 use Rattle.mh_text.specs.Words.{Written}
 use Rattle.mh_text.specs.Words.IsGap.{blank, nothing as no_gap}
@@ -91,9 +91,12 @@ setting_prints (of_setting.Bool b) h = truth_prints b refl
 setting_prints (of_setting.Int x) h = integer_prints x h
 setting_prints (of_setting.Pair x y) h = let parts = and_parts (is_integer x) (is_integer y) h in two (integer x) (integer y) (integer_prints x parts.0) (integer_prints y parts.1)
 setting_prints (of_setting.Octets bs) h = octets_print bs h
+setting_prints (of_setting.Colour c) h = octets_print (colour_octets c) h
 setting_prints (of_setting.Ref r) h = reference_prints r h
+setting_prints (of_setting.Content x) h = content_prints x h
 setting_prints (of_setting.ContentRef bs) h = content_name_prints bs h
 setting_prints (of_setting.Event e) h = letters_print (event_word e) (event_letters e)
+setting_prints (of_setting.Data x) h = data_prints x h
 setting_prints (of_setting.Justification j) h = letters_print (justification_word j) (justification_letters j)
 setting_prints (of_setting.Effect xs) h = effect_prints xs h
 setting_prints (of_setting.MovementTable rows) h = list_prints (IsListOf IsInteger) (list integer) (is_list is_integer) row_prints rows h

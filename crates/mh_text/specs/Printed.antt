@@ -3,6 +3,7 @@
 use Rattle.std.specs.Prelude.{◌≡◌, ◌≢◌, ℕ, ◌+◌, ◌/◌, ◌%◌, ℤ, pos, Bool, false, ◌&&◌, ◌||◌, not, ◌==◌, nat_lt, if◌then◌else◌, List, [], ◌∷◌, ◌++◌, length, take, drop, Option, Some, None, codes}
 use Rattle.std.specs.List.{flat_map}
 use Rattle.std.specs.Fmt.{signed_decimal}
+use Rattle.mh_base.specs.declared.colour.Colour.{Colour}
 use Rattle.mh_group.specs.declared.attribute.Attribute.TheVariants as attribute
 use Rattle.mh_group.specs.declared.reference.Ref.{Ref}
 use Rattle.mh_group.specs.declared.reference.Ref.TheVariants as ref
@@ -26,7 +27,7 @@ use Rattle.mh_group.specs.declared.written.Field.{Field}
 use Rattle.mh_group.specs.declared.written.Ingredient.{Ingredient}
 use Rattle.mh_group.specs.declared.written.Written.{Written}
 use Rattle.mh_group.specs.Fit.{before_items}
-use Rattle.mh_group.specs.Holdable.{is_holdable}
+use Rattle.mh_group.specs.Holdable.{colour_octets, is_holdable}
 use Rattle.mh_group.specs.Words.{class_word, attribute_word, action_word, event_word, justification_word}
 use Rattle.mh_text.specs.declared.text_error.TextError.{TextError}
 use Rattle.mh_text.specs.declared.text_error.TextError.TheVariants.{At, NoMemory}
@@ -77,6 +78,10 @@ quoted b = if is_quoted_byte b && not (b == 61) then b ∷ [] else 61 ∷ hexade
 -- octets, as a quoted string
 unfoldable pub octets : List ℕ → List ℕ
 octets bytes = 32 ∷ 39 ∷ (flat_map quoted bytes ++ 39 ∷ [])
+
+-- a colour, as its four octets
+abbrev pub colour : Colour → List ℕ
+colour c = octets (colour_octets c)
 
 -- a list between parentheses
 unfoldable pub list : {A : Type 0} → (A → List ℕ) → List A → List ℕ
@@ -160,9 +165,12 @@ value (of_setting.Bool b) = truth b
 value (of_setting.Int x) = integer x
 value (of_setting.Pair x y) = integer x ++ integer y
 value (of_setting.Octets bytes) = octets bytes
+value (of_setting.Colour c) = colour c
 value (of_setting.Ref r) = reference r
+value (of_setting.Content x) = content_value x
 value (of_setting.ContentRef bytes) = content_name bytes
 value (of_setting.Event e) = word (event_word e)
+value (of_setting.Data x) = data_value x
 value (of_setting.Justification j) = word (justification_word j)
 value (of_setting.Effect actions) = list action actions
 value (of_setting.MovementTable rows) = list (list integer) rows

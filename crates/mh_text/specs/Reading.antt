@@ -3,6 +3,7 @@
 use Rattle.std.specs.Prelude.{ℕ, zero, suc, ◌-◌, Bool, true, false, ◌&&◌, not, ◌==◌, nat_lt, nat_le, if◌then◌else◌, List, [], ◌∷◌, ◌++◌, length, take, drop, insert, Option, Some, None, Result, Ok, ℤ, pos, int_lt, unsigned_abs}
 use Rattle.std.specs.Ordering.{int_eq}
 use Rattle.std.specs.List.{list_all, list_any, prefix_len}
+use Rattle.mh_base.specs.declared.colour.Colour.{Colour}
 use Rattle.mh_base.specs.declared.event.EventType.{EventType}
 use Rattle.mh_base.specs.declared.value.Kind.{Kind}
 use Rattle.mh_base.specs.declared.value.Kind.TheVariants as kind
@@ -198,9 +199,13 @@ octets_of p = written p.sign
     written sign.Quoted = Ok (unescaped Outside (inner p.text))
     written _ = refused_at Syntax p
 
--- a colour has four octets
-unfoldable pub colour_of : Piece → Result (List ℕ) Refusal
-colour_of p = octets_of p >>= λ octets. if length octets == 4 then Ok octets else refused_at Range p
+-- the colour of these octets; it has four
+abbrev pub colour_in : Piece → List ℕ → Result Colour Refusal
+colour_in p (red ∷ green ∷ blue ∷ transparency ∷ []) = Ok (record { red = red; green = green; blue = blue; transparency = transparency })
+colour_in p _ = refused_at Range p
+
+unfoldable pub colour_of : Piece → Result Colour Refusal
+colour_of p = octets_of p >>= λ octets. colour_in p octets
 
 -- what stands behind the opening parenthesis of a reference with a name
 unfoldable pub named_reference : Left → Result (Ref × Left) Refusal
@@ -407,15 +412,6 @@ next_scene p left = if is_open p.sign then described else refused_at Syntax p
       behind ← closed b.1
       Ok (record { name = name; weight = weight }, behind)
 
--- content, and the data of an event, as the value of an attribute
-abbrev pub content_setting : Content → Setting
-content_setting (of_content.Included octets) = of_setting.Octets octets
-content_setting (of_content.Referenced name) = of_setting.ContentRef name
-
-abbrev pub data_setting : EventData → Setting
-data_setting (of_data.Bool b) = of_setting.Bool b
-data_setting (of_data.Int x) = of_setting.Int x
-
 -- the value of a shape of one token
 unfoldable pub single : Shape → Piece → Result Setting Refusal
 single shape.Bool p = truth_of p >>= λ x. Ok (of_setting.Bool x)
@@ -423,9 +419,9 @@ single shape.Int p = integer_of p >>= λ x. Ok (of_setting.Int x)
 single shape.Natural p = natural_of p >>= λ x. Ok (of_setting.Int x)
 single shape.Length p = field_length_of p >>= λ x. Ok (of_setting.Int x)
 single shape.Event p = event_of p >>= λ x. Ok (of_setting.Event x)
-single shape.Data p = data_of p >>= λ x. Ok (data_setting x)
+single shape.Data p = data_of p >>= λ x. Ok (of_setting.Data x)
 single shape.Octets p = octets_of p >>= λ x. Ok (of_setting.Octets x)
-single shape.Colour p = colour_of p >>= λ x. Ok (of_setting.Octets x)
+single shape.Colour p = colour_of p >>= λ x. Ok (of_setting.Colour x)
 single shape.Justification p = justification_of p >>= λ x. Ok (of_setting.Justification x)
 single _ p = refused_at Syntax p
 
@@ -458,7 +454,7 @@ setting_at shape.Ref p left = made of_setting.Ref (reference p left)
 setting_at shape.Pair p left = pair shape.Pair p left
 setting_at shape.Size p left = pair shape.Size p left
 setting_at shape.Screen p left = pair shape.Screen p left
-setting_at shape.Content p left = made content_setting (content p left)
+setting_at shape.Content p left = made of_setting.Content (content p left)
 setting_at shape.ContentRef p left = made of_setting.ContentRef (content_name p left)
 setting_at shape.Effect p left = several shape.Effect p left
 setting_at shape.MovementTable p left = several shape.MovementTable p left

@@ -3,6 +3,7 @@
 -- their numbers. It is said apart from the reader.
 use Rattle.std.specs.Prelude.{◌≡◌, ℕ, ◌<◌, ◌≤◌, ◌^◌, ◌⊎◌, ◌↔◌, Bool, true, false, ◌==◌, List, [], ◌∷◌, ◌++◌, length, Option, Some, None, ℤ, pos, Contains, codes}
 use Rattle.std.specs.List.{list_any}
+use Rattle.mh_base.specs.declared.colour.Colour.{Colour}
 use Rattle.mh_group.specs.declared.attribute.Attribute.TheVariants as attribute
 use Rattle.mh_group.specs.declared.reference.Ref.{Ref}
 use Rattle.mh_group.specs.declared.reference.Ref.TheVariants as ref
@@ -26,6 +27,7 @@ use Rattle.mh_group.specs.declared.written.Field.{Field}
 use Rattle.mh_group.specs.declared.written.Ingredient.{Ingredient}
 use Rattle.mh_group.specs.declared.written.Written.{Written as Group}
 use Rattle.mh_group.specs.Fit.{is_group}
+use Rattle.mh_group.specs.Holdable.{colour_octets}
 use Rattle.mh_group.specs.Table.{attribute_number}
 use Rattle.mh_group.specs.Words.{class_word, attribute_word, action_word, event_word, justification_word}
 use Rattle.mh_text.specs.declared.token_kind.TokenKind.{TokenKind}
@@ -75,6 +77,10 @@ abbrev pub AreOctets : List ℕ → List Written → List Written → Type 0
 AreOctets octets ws rest =
     IsFirst kind.Text (34 ∷ (octets ++ 34 ∷ [])) ws rest
     ⊎ ((inner : List ℕ) × Quotes inner octets × IsFirst kind.Quoted (39 ∷ (inner ++ 39 ∷ [])) ws rest)
+
+-- a colour: its four octets
+abbrev pub IsColour : Colour → List Written → List Written → Type 0
+IsColour c ws rest = AreOctets (colour_octets c) ws rest
 
 abbrev pub truth_word : Bool → List ℕ
 truth_word true = codes "true"
@@ -169,8 +175,11 @@ IsSetting (setting.Bool b) ws rest = IsTruth b ws rest
 IsSetting (setting.Int x) ws rest = IsInteger x ws rest
 IsSetting (setting.Pair x y) ws rest = (a : List Written) × IsInteger x ws a × IsInteger y a rest
 IsSetting (setting.Octets octets) ws rest = AreOctets octets ws rest
+IsSetting (setting.Colour c) ws rest = IsColour c ws rest
 IsSetting (setting.Ref r) ws rest = IsRef r ws rest
+IsSetting (setting.Content x) ws rest = IsContent x ws rest
 IsSetting (setting.Event e) ws rest = IsFirst kind.Word (event_word e) ws rest
+IsSetting (setting.Data x) ws rest = IsData x ws rest
 IsSetting (setting.ContentRef name) ws rest = IsContentName name ws rest
 IsSetting (setting.Justification j) ws rest = IsFirst kind.Word (justification_word j) ws rest
 IsSetting (setting.Effect actions) ws rest = IsListOf IsAction actions ws rest

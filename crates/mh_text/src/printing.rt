@@ -134,9 +134,12 @@ impl Printable for Setting {
                 Ok(())
             }
             Setting::Octets(octets) => octets.print(alloc, out),
+            Setting::Colour(colour) => colour.print(alloc, out),
             Setting::Ref(reference) => reference.print(alloc, out),
+            Setting::Content(content) => content.print(alloc, out),
             Setting::ContentRef(name) => name.print(alloc, out),
             Setting::Event(event) => Ok(put_word(out, event_word(*event))?),
+            Setting::Data(value) => value.print(alloc, out),
             Setting::Justification(side) => Ok(put_word(out, side.word())?),
             Setting::Effect(actions) => actions.print(alloc, out),
             Setting::MovementTable(rows) => rows.print(alloc, out),

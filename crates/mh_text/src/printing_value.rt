@@ -6,7 +6,7 @@ ghost use Rattle.mh_text.specs.Printed.{integer, natural, name as name_lem, name
 
 use crate::TextError;
 use crate::printable::{Printable, put_closing, put_keyword, put_opening, put_word};
-use mh_base::Octets;
+use mh_base::{Colour, Octets};
 use mh_group::{Content, EventData, Ref, WrittenName};
 use std::alloc::{AllocError, Global};
 
@@ -49,6 +49,21 @@ impl Printable for Octets {
 
     fn print(&self, _alloc: Global, out: &mut Vec<u8>) -> Result<(), TextError> {
         put_octets(out, self.as_slice())?;
+        Ok(())
+    }
+}
+
+/// A colour, as its four octets.
+impl Printable for Colour {
+    ghost use Rattle.mh_text.specs.Printed.{colour as printed_lem};
+    ghost use Rattle.mh_group.specs.Holdable.{is_octets, colour_octets};
+
+    ghost printed = { printed_lem };
+
+    ghost is_good = { λ c. is_octets (colour_octets c) };
+
+    fn print(&self, _alloc: Global, out: &mut Vec<u8>) -> Result<(), TextError> {
+        put_octets(out, &[self.red, self.green, self.blue, self.transparency])?;
         Ok(())
     }
 }

@@ -1,7 +1,6 @@
 //! The reader of an attribute's value, by its shape.
-ghost use Rattle.std.specs.Prelude.{◌≡◌};
 ghost use Rattle.mh_text.specs.Gives.{Gives};
-ghost use Rattle.mh_text.specs.Reading.{setting as setting_lem, setting_at as setting_at_lem, single as single_lem, content_setting as content_setting_lem, data_setting as data_setting_lem, pair as pair_lem, part as part_lem};
+ghost use Rattle.mh_text.specs.Reading.{setting as setting_lem, setting_at as setting_at_lem, single as single_lem, pair as pair_lem, part as part_lem};
 
 use crate::place::{Piece, Place};
 use crate::several::several;
@@ -10,7 +9,7 @@ use crate::value::{
     justification_of, natural_of, octets_of, reference, truth_of,
 };
 use crate::{TextError, Why};
-use mh_group::{Content, EventData, Setting, Shape};
+use mh_group::{Setting, Shape};
 use std::alloc::Global;
 
 /// The value of this shape.
@@ -44,7 +43,7 @@ fn setting_at<'a>(
         Shape::Pair | Shape::Size | Shape::Screen => pair(shape, piece, place),
         Shape::Content => {
             let (content, place) = content(alloc, piece, place)?;
-            Ok((content_setting(content), place))
+            Ok((Setting::Content(content), place))
         }
         Shape::ContentRef => {
             let (name, place) = content_name(alloc, piece, place)?;
@@ -63,16 +62,6 @@ fn setting_at<'a>(
     }
 }
 
-/// Content as the value of an attribute.
-fn content_setting(content: Content) -> Setting
-    ensures { result ≡ content_setting_lem content }
-{
-    match content {
-        Content::Included(octets) => Setting::Octets(octets),
-        Content::Referenced(name) => Setting::ContentRef(name),
-    }
-}
-
 /// The value of a shape of one token.
 #[tactic(auto, unfolding(crate::specs::Reading::single))]
 fn single(alloc: Global, shape: Shape, piece: &Piece<'_>) -> Result<Setting, TextError>
@@ -84,21 +73,11 @@ fn single(alloc: Global, shape: Shape, piece: &Piece<'_>) -> Result<Setting, Tex
         Shape::Natural => Ok(Setting::Int(natural_of(piece)?)),
         Shape::Length => Ok(Setting::Int(field_length_of(piece)?)),
         Shape::Event => Ok(Setting::Event(event_of(piece)?)),
-        Shape::Data => Ok(data_setting(data_of(piece)?)),
+        Shape::Data => Ok(Setting::Data(data_of(piece)?)),
         Shape::Octets => Ok(Setting::Octets(octets_of(alloc, piece)?)),
-        Shape::Colour => Ok(Setting::Octets(colour_of(alloc, piece)?)),
+        Shape::Colour => Ok(Setting::Colour(colour_of(alloc, piece)?)),
         Shape::Justification => Ok(Setting::Justification(justification_of(piece)?)),
         _ => Err(piece.refused(Why::Syntax)),
-    }
-}
-
-/// The data of an event as the value of an attribute.
-fn data_setting(value: EventData) -> Setting
-    ensures { result ≡ data_setting_lem value }
-{
-    match value {
-        EventData::Bool(value) => Setting::Bool(value),
-        EventData::Int(value) => Setting::Int(value),
     }
 }
 

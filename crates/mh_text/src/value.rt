@@ -9,7 +9,7 @@ use crate::octet_text::unescaped;
 use crate::place::{Piece, Place};
 use crate::sign::Sign;
 use crate::{TextError, Why};
-use mh_base::{EventType, Octets};
+use mh_base::{Colour, EventType, Octets};
 use mh_group::{Content, EventData, Justification, Number, Ref, WrittenName};
 use std::alloc::Global;
 
@@ -153,14 +153,19 @@ pub(crate) fn octets_of(alloc: Global, piece: &Piece<'_>) -> Result<Octets, Text
 
 /// A colour: four octets.
 #[tactic(auto, unfolding(crate::specs::Reading::colour_of))]
-pub(crate) fn colour_of(alloc: Global, piece: &Piece<'_>) -> Result<Octets, TextError>
+pub(crate) fn colour_of(alloc: Global, piece: &Piece<'_>) -> Result<Colour, TextError>
     ensures { Gives (λ x. x) result (colour_of_lem piece.now) }
 {
     let octets = octets_of(alloc, piece)?;
-    if octets.as_slice().len() != 4 {
+    let [red, green, blue, transparency] = octets.as_slice() else {
         return Err(piece.refused(Why::Range));
-    }
-    Ok(octets)
+    };
+    Ok(Colour {
+        red: *red,
+        green: *green,
+        blue: *blue,
+        transparency: *transparency,
+    })
 }
 
 /// A reference that begins with this token.
