@@ -1,12 +1,12 @@
 -- What the writer rests on: lists in two parts, and groups with no spelling.
-use Rattle.std.proofs.Common.{◌≡◌, ℕ, ◌-◌, ◌<◌, Bool, true, false, ◌&&◌, List, length, take, drop, get_or, Result, Ok, Err, OnOk, IfErr, refl, ap, sym, ◌∙◌, arith}
+use Rattle.std.proofs.Common.{◌≡◌, ℕ, ◌+◌, ◌-◌, ◌<◌, Bool, true, false, ◌&&◌, List, ◌++◌, length, take, drop, get_or, Result, Ok, Err, OnOk, IfErr, refl, ap, sym, ◌∙◌, arith, append_assoc}
 use Rattle.std.specs.List.{list_all}
 use Rattle.std.proofs.lemmas.List.Folds.{list_all-append, list_all_at}
-use Rattle.std.proofs.lemmas.List.{take-append-drop, take_all, length-drop}
+use Rattle.std.proofs.lemmas.List.{take-append-drop, take_all, length-drop, at_drop_more}
 use Rattle.mh_group.specs.declared.written.Written.{Written}
 use Rattle.mh_group.specs.Holdable.{is_holdable}
 use Rattle.mh_codec.specs.declared.codec_error.CodecError.{CodecError}
-use Rattle.mh_codec.specs.Spelling.{group}
+use Rattle.mh_codec.specs.Spelling.{several, group}
 use Rattle.mh_codec.specs.Writable.{Spells}
 use Rattle.mh_codec.specs.Unwritable.{Refuses, HasNoSpelling}
 
@@ -24,6 +24,19 @@ whole_fits (Err e) front behind f b = tt
 pub whole_refused : {X : Type 0} (r : Result X CodecError) (front behind others : Bool) → front ≡ true → IfErr r (Refuses behind) → IfErr r (Refuses ((front && behind) && others))
 whole_refused (Ok x) front behind others f b = tt
 whole_refused (Err e) front behind others f b = λ other. ((b other).0, rw (f, (b other).1) refl)
+
+-- one more member
+
+pub more_written : {A : Type 0} (spelling : A → List ℕ) (out new : List ℕ) (xs : List A) (i : ℕ) (x : A) → i < length xs → x ≡ get_or xs i x → new ≡ out ++ spelling x
+    → new ++ several spelling (drop (i + 1) xs) ≡ out ++ several spelling (drop i xs)
+more_written spelling out new xs i x within is e =
+    let next : several spelling (drop i xs) ≡ spelling x ++ several spelling (drop (i + 1) xs) = at_drop_more (several spelling) xs i x within ∙ ap (λ y. spelling y ++ several spelling (drop (i + 1) xs)) (sym is) in
+    rw (e, next) (append_assoc out (spelling x) (several spelling (drop (i + 1) xs)))
+
+pub more_fits : {A : Type 0} (p : A → Bool) (xs : List A) (i : ℕ) (x : A) → i < length xs → x ≡ get_or xs i x → p x ≡ true → list_all p (drop (i + 1) xs) ≡ list_all p (drop i xs)
+more_fits p xs i x within is fit =
+    let next : list_all p (drop i xs) ≡ (p x && list_all p (drop (i + 1) xs)) = at_drop_more (list_all p) xs i x within ∙ ap (λ y. p y && list_all p (drop (i + 1) xs)) (sym is) in
+    rw (next, fit) refl
 
 -- where a member is refused, the list is
 pub member_refused : {A : Type 0} (p : A → Bool) (xs : List A) (i : ℕ) (x : A) (e : CodecError) → i < length xs → x ≡ get_or xs i x → Refuses (p x) e → Refuses (list_all p xs) e
