@@ -1,3 +1,4 @@
 pub mod Screen
 pub mod Answer
 pub mod Play
+pub mod Rows

@@ -1,15 +1,17 @@
 //! The picture: each visible painted from the bottom of the display stack up.
-ghost use Rattle.std.specs.Prelude.{◌≡◌, ◌<◌, ◌≤ℤ◌, Some, None, false, pos};
+ghost use Rattle.std.specs.Prelude.{◌≡◌, ◌<◌, ◌≤ℤ◌, ◌+◌, ◌*◌, Some, None, false, pos};
 ghost use Rattle.std.specs.Option.{option_copied};
 ghost use Rattle.mh_model.specs.Rules.{is_visible_at};
 ghost use Rattle.mh_model.specs.Picture.{picture as picture_lem, paint_of as paint_of_lem, within as within_lem, covers as covers_lem, is_edge as is_edge_lem, covers_beside as covers_beside_lem, covers_above_and_below as covers_above_and_below_lem, visible_of as visible_of_lem, ground_of as ground_of_lem, painted as painted_lem, x_of as x_of_lem, y_of as y_of_lem};
 ghost use Rattle.mh_model.specs.Service.{object_at as object_at_lem};
 ghost use Rattle.mh_model.specs.Painting.{painted_over};
 ghost use Rattle.mh_engine.specs.Screen.{IsOnScreen};
+ghost use Rattle.mh_engine.specs.Rows.{IsPaintedBetween};
 
 use crate::reading::{colour_of, int_of, object_at, pair_of};
 use mh_base::{Area, Colour, ObjRef};
 use mh_group::Attribute;
+use mh_model::picture::ROWS;
 use mh_model::{Object, Picture, Visible};
 
 /// Paints the objects on this display stack.
@@ -113,11 +115,42 @@ fn paint_of(colour: Colour) -> Option<u32>
 fn paint_over(picture: &mut Picture, visible: &Visible)
     ensures { picture.new ≡ painted_over visible.now picture.old }
 {
-    for at in 0..picture.cells() {
+    let _ = picture.cells();
+    for row in 0..ROWS {
+        paint_row(picture, visible, row);
+    }
+}
+
+/// Paints one row of a visible. A row that its box does not reach is passed over.
+fn paint_row(picture: &mut Picture, visible: &Visible, row: usize)
+    requires { row < 36 }
+    ensures { IsPaintedBetween visible.now picture.old picture.new (60 * row) (60 * row + 60) }
+{
+    let _ = picture.cells();
+    if covers_row(&visible.area, top_of(row)) {
+        paint_cells(picture, visible, row);
+    }
+}
+
+/// Paints those cells of a row that the visible gives a colour.
+fn paint_cells(picture: &mut Picture, visible: &Visible, row: usize)
+    requires { row < 36 }
+    ensures { IsPaintedBetween visible.now picture.old picture.new (60 * row) (60 * row + 60) }
+{
+    let _ = picture.cells();
+    for at in 60 * row..60 * row + 60 {
         if let Some(back) = ground_of(visible, at) {
             picture.set_back(at, back);
         }
     }
+}
+
+/// The unit in the upper edge of a row.
+fn top_of(row: usize) -> i64
+    requires { row < 36 }
+    ensures { result ≡ pos (16 * row) }
+{
+    (16 * row) as i64
 }
 
 /// The colour that a visible puts behind a cell, if it puts one there.
