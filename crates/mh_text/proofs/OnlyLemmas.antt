@@ -17,7 +17,6 @@ use Rattle.mh_text.specs.declared.token_kind.TokenKind.{TokenKind}
 use Rattle.mh_text.specs.declared.token_kind.TokenKind.TheVariants as kind
 use Rattle.mh_text.specs.declared.sign.Sign.{Sign}
 use Rattle.mh_text.specs.declared.sign.Sign.TheVariants as sign
-use Rattle.mh_text.specs.declared.text_error.Why.TheVariants as why
 use Rattle.mh_text.specs.declared.octet_text.Escape.TheVariants.{Outside}
 use Rattle.mh_text.specs.Escapes.{unescaped}
 use Rattle.mh_text.specs.Rest.{Rest, Left, Piece, piece}
@@ -26,7 +25,7 @@ use Rattle.mh_text.specs.Words.{Written, AreWords, IsWord, Quotes, needs_gap}
 use Rattle.mh_text.specs.Gives.{Refusal, ◌>>=◌}
 use Rattle.mh_text.specs.Spelling.{IsOpen, IsClose, IsOpenBrace, IsInteger, IsNumber, IsName, AreOctets, IsColour, truth_word, IsTruth, IsRef, IsGeneric, IsContentName, IsContent, IsData, AreSeveral, IsListOf}
 use Rattle.mh_text.specs.Left.{token, lexed, meant, left_in, left}
-use Rattle.mh_text.specs.Reading.{next, ended, refused_at, is_close, is_indirect, is_content_ref, opened, closed, closed_list, braced, inner, name_of, integer_of, natural_of, number_of, truth_of, event_of, justification_of, octets_of, colour_in, colour_of, data_of, made, alone, truth, integer, octets, event_data, content_name, content, named_reference, reference, generic, next_member, listed, list}
+use Rattle.mh_text.specs.Reading.{next, ended, is_close, is_indirect, is_content_ref, opened, closed, closed_list, braced, inner, name_of, integer_of, natural_of, number_of, truth_of, event_of, justification_of, octets_of, colour_in, colour_of, data_of, made, alone, truth, integer, octets, event_data, content_name, content, named_reference, reference, generic, next_member, listed, list}
 use Rattle.mh_text.proofs.LeftLemmas.{left_is}
 use Rattle.mh_text.proofs.SignLemmas.{integer_means, truth_means, event_means, justification_means, content_ref_means, indirect_ref_means, inner_is}
 use Rattle.mh_text.proofs.FoundLemmas.{quotes_unescaped}

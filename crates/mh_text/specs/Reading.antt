@@ -199,7 +199,7 @@ octets_of p = written p.sign
     written sign.Quoted = Ok (unescaped Outside (inner p.text))
     written _ = refused_at Syntax p
 
--- the colour of these octets; it has four
+-- the colour that these four octets are; any other number of octets is refused
 abbrev pub colour_in : Piece → List ℕ → Result Colour Refusal
 colour_in p (red ∷ green ∷ blue ∷ transparency ∷ []) = Ok (record { red = red; green = green; blue = blue; transparency = transparency })
 colour_in p _ = refused_at Range p
