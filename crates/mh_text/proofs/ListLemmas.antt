@@ -1,13 +1,16 @@
 -- Lists of members up to a closing parenthesis, and fields up to a closing brace, one at a time.
-use Rattle.std.proofs.Common.{◌≡◌, ℕ, zero, suc, ◌+◌, ◌<◌, List, [], ◌∷◌, ◌++◌, Option, Some, None, Result, Ok, refl, ap, arith}
+use Rattle.std.proofs.Common.{◌≡◌, ℕ, zero, suc, ◌+◌, ◌-◌, ◌<◌, Bool, true, false, ◌&&◌, nat_le, if◌then◌else◌, List, [], ◌∷◌, ◌++◌, length, get_or, drop, Option, Some, None, Result, Ok, refl, ap, sym, ◌∙◌, subst, arith, length-drop}
+use Rattle.std.proofs.Math.Seq.{drop-cons}
 use Rattle.mh_group.specs.declared.class.Class.{Class}
+use Rattle.mh_group.specs.declared.shape.Need.{Need}
+use Rattle.mh_group.specs.declared.action.Parameter.{Parameter}
 use Rattle.mh_group.specs.declared.written.Field.{Field}
 use Rattle.mh_text.specs.declared.text_error.TextError.{TextError}
 use Rattle.mh_text.specs.declared.text_error.TextError.TheVariants.{At, NoMemory}
 use Rattle.mh_text.specs.declared.text_error.Why.TheVariants.{Limit}
 use Rattle.mh_text.specs.Rest.{Left, Piece}
 use Rattle.mh_text.specs.Gives.{Refusal, refused, Fails, ◌>>=◌}
-use Rattle.mh_text.specs.Reading.{next, closed_list, listed, next_member, fields, next_field, placed}
+use Rattle.mh_text.specs.Reading.{next, is_close, parameter, parameters, closed_list, listed, next_member, fields, next_field, placed}
 
 -- a refusal stays, whatever was to follow
 pub fails_bind : {A B : Type 0} (error : TextError) (read : Result A Refusal) (f : A → Result B Refusal) → Fails error read → Fails error (read >>= f)
@@ -72,3 +75,38 @@ pub fields_over_fail : (c : Class) (n : ℕ) (done : List Field) (left : Left) (
 unfolding fields
 fields_over_fail c zero done left error z h = fails_bind error (next left) _ h
 fields_over_fail c (suc n) done left error z h = absurd (omega arith)
+
+-- The parameters that are needed from a place on. That place has one.
+pub at_place : {A : Type 0} (xs : List A) (i : ℕ) (d : A) → i < length xs → drop i xs ≡ get_or xs i d ∷ drop (i + 1) xs
+at_place xs i d below =
+    let next : i + 1 ≡ suc i = omega arith in
+    drop-cons xs i d below ∙ ap (λ (n : ℕ). get_or xs i d ∷ drop n xs) (sym next)
+
+module _ (optional : ℕ) (needs : List Need) (i : ℕ) (d : Need) (done : List Parameter) (left : Left) (below : i < length needs) where
+  abbrev may_end : Piece → Bool
+  may_end p = nat_le (length needs - i) optional && is_close p.sign
+
+  -- what is read there, as the reader sees it
+  step : parameters optional (drop i needs) done left
+      ≡ (next left >>= λ a. if may_end a.0 then Ok (done, a.1) else (parameter (get_or needs i d) a.0 a.1 >>= λ x. parameters optional (drop (i + 1) needs) (done ++ x.0 ∷ []) x.1))
+  step =
+      let here = at_place needs i d below in
+      let long : length (get_or needs i d ∷ drop (i + 1) needs) ≡ length needs - i = ap length (sym here) ∙ length-drop i needs in
+      ap (λ ns. parameters optional ns done left) here
+      ∙ ap (λ (m : ℕ). next left >>= λ a. if nat_le m optional && is_close a.0.sign then Ok (done, a.1)
+      else (parameter (get_or needs i d) a.0 a.1 >>= λ x. parameters optional (drop (i + 1) needs) (done ++ x.0 ∷ []) x.1)) long
+
+  pub parameters_fail : (error : TextError) → Fails error (next left) → Fails error (parameters optional (drop i needs) done left)
+  parameters_fail error h = subst (Fails error) (sym step) (fails_bind error (next left) _ h)
+
+  pub parameters_done : (p : Piece) (rest : Left) → next left ≡ Ok (p, rest) → true ≡ may_end p → parameters optional (drop i needs) done left ≡ Ok (done, rest)
+  parameters_done p rest e h = step ∙ rw (e, sym h) refl
+
+  pub parameter_fails : (error : TextError) (p : Piece) (rest : Left) → next left ≡ Ok (p, rest) → false ≡ may_end p → Fails error (parameter (get_or needs i d) p rest)
+      → Fails error (parameters optional (drop i needs) done left)
+  parameter_fails error p rest e h fails = subst (Fails error) (sym step) (rw (e, sym h) (fails_bind error (parameter (get_or needs i d) p rest) _ fails))
+
+  pub parameters_more : (p : Piece) (rest behind : Left) (x : Parameter) (more : List Parameter) → next left ≡ Ok (p, rest) → false ≡ may_end p
+      → parameter (get_or needs i d) p rest ≡ Ok (x, behind) → more ≡ done ++ x ∷ []
+      → parameters optional (drop (i + 1) needs) more behind ≡ parameters optional (drop i needs) done left
+  parameters_more p rest behind x more e h f m = sym (step ∙ rw (e, sym h, f, m) refl)

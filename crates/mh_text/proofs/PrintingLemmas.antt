@@ -1,7 +1,6 @@
 -- What the printer rests on: lists in two parts, octets, and groups that pass a limit.
 use Rattle.std.proofs.Common.{◌≡◌, ℕ, suc, ◌+◌, ◌-◌, ◌<◌, ◌≤◌, Bool, true, false, ◌&&◌, ◌||◌, not, nat_lt, List, [], ◌∷◌, ◌++◌, length, get_or, take, drop, Result, Ok, Err, OnOk, IfErr, refl, ap, sym, ◌∙◌, arith, append_assoc, append-nil}
 use Rattle.std.specs.List.{list_all, flat_map}
-use Rattle.std.proofs.Math.Seq.{drop-cons}
 use Rattle.std.proofs.lemmas.Bool.Decides.{nat_tests}
 use Rattle.std.proofs.lemmas.List.Folds.{list_all-append}
 use Rattle.std.proofs.lemmas.List.{take-append-drop, take_all, drop_all, length-drop}
@@ -9,6 +8,7 @@ use Rattle.mh_group.specs.declared.written.Written.{Written}
 use Rattle.mh_group.specs.Holdable.{is_octets, is_holdable}
 use Rattle.mh_text.specs.declared.text_error.TextError.{TextError}
 use Rattle.mh_text.specs.Printed.{printed, passes_limit, Refuses}
+use Rattle.mh_text.proofs.ListLemmas.{at_place}
 
 -- a test of all members is one of a slice up to a place and of that from there on
 pub all_parts : {A : Type 0} (p : A → Bool) (n : ℕ) (xs : List A) → (list_all p (take n xs) && list_all p (take (length xs - n) (drop n xs))) ≡ list_all p xs
@@ -26,21 +26,16 @@ whole_refused (Ok x) front behind others f b = tt
 whole_refused (Err e) front behind others f b = λ other. ((b other).0, rw (f, (b other).1) refl)
 
 -- one more of the members was printed
-member_at : {A : Type 0} (xs : List A) (i : ℕ) (d : A) → i < length xs → drop i xs ≡ get_or xs i d ∷ drop (i + 1) xs
-member_at xs i d below =
-    let next : i + 1 ≡ suc i = omega arith in
-    drop-cons xs i d below ∙ ap (λ (n : ℕ). get_or xs i d ∷ drop n xs) (sym next)
-
 pub one_printed : {A : Type 0} (f : A → List ℕ) (xs : List A) (i : ℕ) (x d : A) (before after all : List ℕ) → i < length xs → x ≡ get_or xs i d → after ≡ before ++ f x
     → before ++ flat_map f (drop i xs) ≡ all → after ++ flat_map f (drop (i + 1) xs) ≡ all
 one_printed f xs i x d before after all below is printed rest =
-    let left : drop i xs ≡ x ∷ drop (i + 1) xs = member_at xs i d below ∙ ap (λ y. y ∷ drop (i + 1) xs) (sym is) in
+    let left : drop i xs ≡ x ∷ drop (i + 1) xs = at_place xs i d below ∙ ap (λ y. y ∷ drop (i + 1) xs) (sym is) in
     ap (λ l. l ++ flat_map f (drop (i + 1) xs)) printed ∙ append_assoc before (f x) (flat_map f (drop (i + 1) xs))
     ∙ ap (λ l. before ++ flat_map f l) (sym left) ∙ rest
 
 pub one_passed : {A : Type 0} (p : A → Bool) (xs : List A) (i : ℕ) (x d : A) (all : Bool) → i < length xs → x ≡ get_or xs i d → p x ≡ true → list_all p (drop i xs) ≡ all → list_all p (drop (i + 1) xs) ≡ all
 one_passed p xs i x d all below is passed rest =
-    let left : drop i xs ≡ x ∷ drop (i + 1) xs = member_at xs i d below ∙ ap (λ y. y ∷ drop (i + 1) xs) (sym is) in
+    let left : drop i xs ≡ x ∷ drop (i + 1) xs = at_place xs i d below ∙ ap (λ y. y ∷ drop (i + 1) xs) (sym is) in
     sym (ap (λ b. b && list_all p (drop (i + 1) xs)) passed) ∙ ap (λ l. list_all p l) (sym left) ∙ rest
 
 -- no more members are left

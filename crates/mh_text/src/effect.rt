@@ -1,8 +1,8 @@
 //! Readers of elementary actions and their parameters. Which parameters an action is written with is the
 //! word of `mh_group`'s table.
-ghost use Rattle.std.specs.Prelude.{◌≡◌, []};
+ghost use Rattle.std.specs.Prelude.{◌≡◌, ◌&&◌, [], nat_le};
 ghost use Rattle.mh_text.specs.Gives.{Gives};
-ghost use Rattle.mh_text.specs.Reading.{action as action_lem, action_name_of as action_name_of_lem, parameters as parameters_lem, parameter as parameter_lem, generic_parameter as generic_parameter_lem, typed as typed_lem, value_of as value_of_lem};
+ghost use Rattle.mh_text.specs.Reading.{is_close, action, action_name_of as action_name_of_lem, parameters as parameters_lem, parameter as parameter_lem, generic_parameter as generic_parameter_lem, typed as typed_lem, value_of as value_of_lem};
 
 use crate::form::{Form, LONGEST_LIST, generic, list};
 use crate::place::{Piece, Place};
@@ -21,40 +21,28 @@ pub(crate) struct ElementaryAction;
 impl Form for ElementaryAction {
     type Value = Action;
 
-    ghost reading = { action_lem };
+    ghost reading = { action };
 
+    #[tactic(auto, unfolding(crate::specs::Reading::action))]
     fn read<'a>(
         alloc: Global,
         piece: &Piece<'_>,
         place: Place<'a>,
     ) -> Result<(Action, Place<'a>), TextError> {
-        action(alloc, piece, place)
+        let name = action_name_of(piece)?;
+        let place = place.opened()?;
+        let (piece, place) = place.next()?;
+        let (target, place) = generic::<AnyReference>(alloc, &piece, place)?;
+        let (parameters, place) = parameters(alloc, name.optional(), name.needs(), place)?;
+        Ok((
+            Action {
+                name,
+                target,
+                parameters,
+            },
+            place,
+        ))
     }
-}
-
-/// The action that begins with this token.
-#[tactic(auto, unfolding(crate::specs::Reading::action))]
-fn action<'a>(
-    alloc: Global,
-    piece: &Piece<'_>,
-    place: Place<'a>,
-) -> Result<(Action, Place<'a>), TextError>
-    ensures { Gives (λ x. x) result (action_lem piece.now place.entry) }
-{
-    let name = action_name_of(piece)?;
-    let place = place.opened()?;
-    let (piece, place) = place.next()?;
-    let (target, place) = generic::<AnyReference>(alloc, &piece, place)?;
-    let none = Seq::new(alloc);
-    let (parameters, place) = parameters(alloc, name.optional(), name.needs(), none, place)?;
-    Ok((
-        Action {
-            name,
-            target,
-            parameters,
-        },
-        place,
-    ))
 }
 
 #[tactic(auto, unfolding(crate::specs::Reading::action_name_of))]
@@ -67,33 +55,36 @@ fn action_name_of(piece: &Piece<'_>) -> Result<ActionName, TextError>
     }
 }
 
-/// The parameters that are needed, in their order, behind those that came before, up to the closing
-/// parenthesis. So many of them may be missing at the end.
+/// The parameters that are needed, in their order, up to the closing parenthesis. So many of them may be
+/// missing at the end.
 fn parameters<'a>(
     alloc: Global,
     optional: usize,
     needs: &[Need],
-    before: Seq<Parameter>,
     place: Place<'a>,
 ) -> Result<(Seq<Parameter>, Place<'a>), TextError>
-    ensures { Gives (λ x. x) result (parameters_lem optional needs.now before place.entry) }
+    ensures { Gives (λ x. x) result (parameters_lem optional needs.now [] place.entry) }
 {
-    match needs {
-        [] => {
-            let place = place.closed()?;
-            Ok((before, place))
+    let mut parameters = Seq::new(alloc);
+    let mut place = place;
+    for (at, need) in needs.iter().enumerate() {
+        let (piece, behind) = place.next()?;
+        if may_end(needs.len() - at, optional, piece.sign()) {
+            return Ok((parameters, behind));
         }
-        [need, others @ ..] => {
-            let (piece, place) = place.next()?;
-            if needs.len() <= optional && piece.sign().is_close() {
-                return Ok((before, place));
-            }
-            let (parameter, place) = parameter(alloc, *need, &piece, place)?;
-            let mut parameters = before;
-            parameters.push(parameter)?;
-            self::parameters(alloc, optional, others, parameters, place)
-        }
+        let (parameter, behind) = parameter(alloc, *need, &piece, behind)?;
+        parameters.push(parameter)?;
+        place = behind;
     }
+    let place = place.closed()?;
+    Ok((parameters, place))
+}
+
+/// Whether the token ends parameters of which so many are missing, and so many may be.
+fn may_end(missing: usize, optional: usize, sign: Sign) -> bool
+    ensures { result ≡ (nat_le missing optional && is_close sign) }
+{
+    missing <= optional && sign.is_close()
 }
 
 /// The parameter that begins with this token.

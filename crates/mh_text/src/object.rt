@@ -6,7 +6,7 @@ ghost use Rattle.mh_group.specs.Table.{attribute_number};
 ghost use Rattle.mh_text.specs.Gives.{Gives};
 ghost use Rattle.mh_text.specs.Spelling.{Spells, SpellsNone, SpellsNoOther};
 ghost use Rattle.mh_text.specs.Lexing.{behind_gap as behind_gap_lem, begins_group as begins_group_lem};
-ghost use Rattle.mh_text.specs.Reading.{read, group as group_lem, body as body_lem, class_of as class_of_lem, identifier as identifier_lem, is_items as is_items_lem, is_items_shape as is_items_shape_lem, fields as fields_lem, next_field as next_field_lem, fields_behind_items as fields_behind_items_lem, attribute_of as attribute_of_lem, has_attribute as has_attribute_lem, placed, complete as complete_lem, items as items_lem, ingredient as ingredient_lem};
+ghost use Rattle.mh_text.specs.Reading.{read, group as group_lem, body as body_lem, class_of as class_of_lem, identifier as identifier_lem, is_items as is_items_lem, is_items_shape as is_items_shape_lem, fields as fields_lem, next_field as next_field_lem, fields_behind_items as fields_behind_items_lem, attribute_of as attribute_of_lem, has_attribute as has_attribute_lem, placed, complete as complete_lem, items as items_lem, ingredient};
 
 use crate::form::{Form, LONGEST_LIST, list};
 use crate::lexing::{begins_with, gap_length};
@@ -296,41 +296,30 @@ struct AnyIngredient;
 impl Form for AnyIngredient {
     type Value = Ingredient;
 
-    ghost reading = { ingredient_lem };
+    ghost reading = { ingredient };
 
+    #[tactic(auto, unfolding(crate::specs::Reading::ingredient))]
     fn read<'a>(
         alloc: Global,
         piece: &Piece<'_>,
         place: Place<'a>,
     ) -> Result<(Ingredient, Place<'a>), TextError> {
-        ingredient(alloc, piece, place)
+        if !piece.sign().is_open_brace() {
+            return Err(piece.refused(Why::Syntax));
+        }
+        let (piece, place) = place.next()?;
+        let class = class_of(false, &piece)?;
+        let (piece, place) = place.next()?;
+        let number = ingredient_number_of(&piece)?;
+        let (fields, end, place) = fields(alloc, class, Seq::new(alloc), place)?;
+        let fields = complete(class, fields, &end)?;
+        Ok((
+            Ingredient {
+                class,
+                number,
+                fields,
+            },
+            place,
+        ))
     }
-}
-
-/// The ingredient that begins with this token.
-#[tactic(auto, unfolding(crate::specs::Reading::ingredient))]
-fn ingredient<'a>(
-    alloc: Global,
-    piece: &Piece<'_>,
-    place: Place<'a>,
-) -> Result<(Ingredient, Place<'a>), TextError>
-    ensures { Gives (λ x. x) result (ingredient_lem piece.now place.entry) }
-{
-    if !piece.sign().is_open_brace() {
-        return Err(piece.refused(Why::Syntax));
-    }
-    let (piece, place) = place.next()?;
-    let class = class_of(false, &piece)?;
-    let (piece, place) = place.next()?;
-    let number = ingredient_number_of(&piece)?;
-    let (fields, end, place) = fields(alloc, class, Seq::new(alloc), place)?;
-    let fields = complete(class, fields, &end)?;
-    Ok((
-        Ingredient {
-            class,
-            number,
-            fields,
-        },
-        place,
-    ))
 }

@@ -1,7 +1,7 @@
 //! Readers of the values that are lists: effects, rows of integers, members, positions and scenes.
 ghost use Rattle.std.specs.Prelude.{◌≡◌};
 ghost use Rattle.mh_text.specs.Gives.{Gives};
-ghost use Rattle.mh_text.specs.Reading.{several as several_lem, effect, row, member as member_lem, list_item as list_item_lem, position as position_lem, next_scene as next_scene_lem};
+ghost use Rattle.mh_text.specs.Reading.{several as several_lem, effect, row, member, list_item, position, next_scene};
 
 use crate::effect::ElementaryAction;
 use crate::form::{Form, LONGEST_LIST, list, members};
@@ -86,143 +86,103 @@ impl Form for Row {
     }
 }
 
-/// A member of a token group.
+/// A member of a token group and its slots.
 struct SlottedMember;
 
 impl Form for SlottedMember {
     type Value = Member;
 
-    ghost reading = { member_lem };
+    ghost reading = { member };
 
+    #[tactic(auto, unfolding(crate::specs::Reading::member))]
     fn read<'a>(
         alloc: Global,
         piece: &Piece<'_>,
         place: Place<'a>,
     ) -> Result<(Member, Place<'a>), TextError> {
-        member(alloc, piece, place)
+        if !piece.sign().is_open() {
+            return Err(piece.refused(Why::Syntax));
+        }
+        let (piece, place) = place.next()?;
+        let (object, place) = reference(alloc, &piece, place)?;
+        let (slots, place) = members::<Slot>(alloc, LONGEST_LIST, place)?;
+        Ok((Member { object, slots }, place))
     }
 }
 
-/// A member and its slots.
-#[tactic(auto, unfolding(crate::specs::Reading::member))]
-fn member<'a>(
-    alloc: Global,
-    piece: &Piece<'_>,
-    place: Place<'a>,
-) -> Result<(Member, Place<'a>), TextError>
-    ensures { Gives (λ x. x) result (member_lem piece.now place.entry) }
-{
-    if !piece.sign().is_open() {
-        return Err(piece.refused(Why::Syntax));
-    }
-    let (piece, place) = place.next()?;
-    let (object, place) = reference(alloc, &piece, place)?;
-    let (slots, place) = members::<Slot>(alloc, LONGEST_LIST, place)?;
-    Ok((Member { object, slots }, place))
-}
-
-/// A member of a list group.
+/// A member of a list group, which has no slots.
 struct ListItem;
 
 impl Form for ListItem {
     type Value = Member;
 
-    ghost reading = { list_item_lem };
+    ghost reading = { list_item };
 
+    #[tactic(auto, unfolding(crate::specs::Reading::list_item))]
     fn read<'a>(
         alloc: Global,
         piece: &Piece<'_>,
         place: Place<'a>,
     ) -> Result<(Member, Place<'a>), TextError> {
-        list_item(alloc, piece, place)
+        if !piece.sign().is_open() {
+            return Err(piece.refused(Why::Syntax));
+        }
+        let (piece, place) = place.next()?;
+        let (object, place) = reference(alloc, &piece, place)?;
+        let place = place.closed()?;
+        let slots = Seq::new(alloc);
+        Ok((Member { object, slots }, place))
     }
 }
 
-/// A member that has no slots.
-#[tactic(auto, unfolding(crate::specs::Reading::list_item))]
-fn list_item<'a>(
-    alloc: Global,
-    piece: &Piece<'_>,
-    place: Place<'a>,
-) -> Result<(Member, Place<'a>), TextError>
-    ensures { Gives (λ x. x) result (list_item_lem piece.now place.entry) }
-{
-    if !piece.sign().is_open() {
-        return Err(piece.refused(Why::Syntax));
-    }
-    let (piece, place) = place.next()?;
-    let (object, place) = reference(alloc, &piece, place)?;
-    let place = place.closed()?;
-    let slots = Seq::new(alloc);
-    Ok((Member { object, slots }, place))
-}
-
-/// Where a cell of a list group lies.
+/// Where a cell of a list group lies: two integers between parentheses.
 struct CellPosition;
 
 impl Form for CellPosition {
     type Value = Position;
 
-    ghost reading = { position_lem };
+    ghost reading = { position };
 
+    #[tactic(auto, unfolding(crate::specs::Reading::position))]
     fn read<'a>(
         _alloc: Global,
         piece: &Piece<'_>,
         place: Place<'a>,
     ) -> Result<(Position, Place<'a>), TextError> {
-        position(piece, place)
+        if !piece.sign().is_open() {
+            return Err(piece.refused(Why::Syntax));
+        }
+        let (piece, place) = place.next()?;
+        let x = integer_of(&piece)?;
+        let (piece, place) = place.next()?;
+        let y = integer_of(&piece)?;
+        let place = place.closed()?;
+        Ok((Position { x, y }, place))
     }
 }
 
-/// Two integers between parentheses.
-#[tactic(auto, unfolding(crate::specs::Reading::position))]
-fn position<'a>(piece: &Piece<'_>, place: Place<'a>) -> Result<(Position, Place<'a>), TextError>
-    ensures { Gives (λ x. x) result (position_lem piece.now place.entry) }
-{
-    if !piece.sign().is_open() {
-        return Err(piece.refused(Why::Syntax));
-    }
-    let (piece, place) = place.next()?;
-    let x = integer_of(&piece)?;
-    let (piece, place) = place.next()?;
-    let y = integer_of(&piece)?;
-    let place = place.closed()?;
-    Ok((Position { x, y }, place))
-}
-
-/// A scene that may come next.
+/// A scene that may come next: a name and an integer between parentheses.
 struct Scene;
 
 impl Form for Scene {
     type Value = NextScene;
 
-    ghost reading = { next_scene_lem };
+    ghost reading = { next_scene };
 
+    #[tactic(auto, unfolding(crate::specs::Reading::next_scene))]
     fn read<'a>(
         alloc: Global,
         piece: &Piece<'_>,
         place: Place<'a>,
     ) -> Result<(NextScene, Place<'a>), TextError> {
-        next_scene(alloc, piece, place)
+        if !piece.sign().is_open() {
+            return Err(piece.refused(Why::Syntax));
+        }
+        let (piece, place) = place.next()?;
+        let name = name_of(alloc, &piece)?;
+        let (piece, place) = place.next()?;
+        let weight = integer_of(&piece)?;
+        let place = place.closed()?;
+        Ok((NextScene { name, weight }, place))
     }
-}
-
-/// A name and an integer between parentheses.
-#[tactic(auto, unfolding(crate::specs::Reading::next_scene))]
-fn next_scene<'a>(
-    alloc: Global,
-    piece: &Piece<'_>,
-    place: Place<'a>,
-) -> Result<(NextScene, Place<'a>), TextError>
-    ensures { Gives (λ x. x) result (next_scene_lem piece.now place.entry) }
-{
-    if !piece.sign().is_open() {
-        return Err(piece.refused(Why::Syntax));
-    }
-    let (piece, place) = place.next()?;
-    let name = name_of(alloc, &piece)?;
-    let (piece, place) = place.next()?;
-    let weight = integer_of(&piece)?;
-    let place = place.closed()?;
-    Ok((NextScene { name, weight }, place))
 }
