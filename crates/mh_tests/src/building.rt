@@ -7,6 +7,11 @@ use mh_group::{
 use mh_text::read_group;
 use std::alloc::Global;
 
+/// The group, where the tables allow it.
+fn made(written: Written) -> Option<Group> {
+    Group::new(written).ok()
+}
+
 pub fn written_name(alloc: Global, bytes: &[u8]) -> Option<WrittenName> {
     WrittenName::new(Vec::from_slice(alloc, bytes).ok()?)
 }
@@ -45,7 +50,7 @@ pub fn application(alloc: Global, letters: usize, actions: usize) -> Option<Grou
         fields: one_field(alloc, Attribute::OnStartUp, effect)?,
         items: None,
     };
-    Group::new(written).ok()
+    made(written)
 }
 
 /// So many members, each with so many empty slots.
@@ -80,7 +85,7 @@ pub fn token_group(alloc: Global, count: u32, slots: u32) -> Option<Group> {
         fields: Seq::new(alloc),
         items: Some(Seq::from_vec(vec![in alloc; item].ok()?)),
     };
-    Group::new(written).ok()
+    made(written)
 }
 
 fn variable(alloc: Global, number: u32) -> Option<Ingredient> {
@@ -114,5 +119,5 @@ pub fn grown(alloc: Global, text: &[u8], variables: u32, actions: usize) -> Opti
         let effect = Setting::Effect(transitions(alloc, actions, b"x")?);
         written.fields = one_field(alloc, Attribute::OnStartUp, effect)?;
     }
-    Group::new(written).ok()
+    made(written)
 }

@@ -1,6 +1,6 @@
 //! What the tables allow: which written objects make a group, and why others do not.
 use crate::plain::{Plain, Plainly, ingredient, written};
-use mh_group::{ActionName, Attribute, Class, Group, Ingredient, MisfitWhy};
+use mh_group::{ActionName, Attribute, Class, Group, Ingredient, MisfitWhy, Written};
 use std::alloc::Global;
 
 /// Why fields do not make an object, if they do not.
@@ -265,13 +265,18 @@ fn takes_groups(rt: HostRuntime) {
     }
 }
 
-/// The class and the number of ingredients that are handed back of what is no group.
+/// What is handed back of what is no group.
+fn back(written: Written) -> Option<Written> {
+    match Group::new(written) {
+        Ok(_) => None,
+        Err(misfit) => Some(misfit.written),
+    }
+}
+
+/// The class and the number of ingredients that are handed back.
 fn handed_back(alloc: Global) -> Option<(Class, usize)> {
     let item = ingredient(alloc, Class::Rectangle, 7, &[])?;
-    let back = match Group::new(written(alloc, Class::Scene, &[], item)?) {
-        Ok(_) => return None,
-        Err(misfit) => misfit.written,
-    };
+    let back = back(written(alloc, Class::Scene, &[], item)?)?;
     Some((back.class, back.items.as_ref()?.len()))
 }
 

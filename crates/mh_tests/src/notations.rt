@@ -2,7 +2,7 @@
 //! hand and octets of another program.
 use crate::examples::{APPLICATION_TEXT, SCENE_TEXT};
 use crate::octets::octets;
-use crate::whole::{SHAPES, SHAPES_OCTETS, WORDS, WORDS_OCTETS, WORDS_PRINTED};
+use crate::whole::{SHAPES, SHAPES_OCTETS};
 use mh_codec::{decode_group, encode_group};
 use mh_report::{ListSink, Notation, Status, convert_bytes};
 use mh_text::{print_group, read_group};
@@ -16,7 +16,7 @@ const SCENE_PRINTED: &str =
     :InputEventReg 3 :SceneCS 720 576 }";
 
 /// Texts as they are printed, without the line feed at their end, and the octets of the same groups.
-static PAIRS: [(&str, &str); 15] = [
+static PAIRS: [(&str, &str); 14] = [
     (
         r#"{ :Application ( "~/a" 0 ) }"#,
         "a00a 3008 04037e2f61 020100",
@@ -83,11 +83,10 @@ static PAIRS: [(&str, &str); 15] = [
             020103",
     ),
     (SHAPES, SHAPES_OCTETS),
-    (WORDS_PRINTED, WORDS_OCTETS),
 ];
 
 /// Texts, and how they are printed.
-static WRITTEN: [(&[u8], &str); 12] = [
+static WRITTEN: [(&[u8], &str); 11] = [
     (
         br#"{:Scene ("~/s" 0) :InputEventReg 3 :Items ( {:IntegerVar 1 :OrigValue 128 } ) }"#,
         r#"{ :Scene ( "~/s" 0 ) :Items ( { :IntegerVar 1 :OrigValue 128 } ) :InputEventReg 3 }"#,
@@ -129,7 +128,6 @@ static WRITTEN: [(&[u8], &str); 12] = [
         r#"{ :Application ( "~/a" 0 ) :OnStartUp ( :TransitionTo ( ( "~/s" 0 ) ) ) }"#,
     ),
     (SCENE_TEXT, SCENE_PRINTED),
-    (WORDS, WORDS_PRINTED),
 ];
 
 /// The text of the group that the octets spell.

@@ -1,7 +1,7 @@
 //! Services: names that come twice, many groups, and what objects hold.
 use crate::playing::File;
 use crate::service::{APP, SCENE, last_letter, refusal};
-use mh_base::{GroupName, ObjRef, Value};
+use mh_base::{GroupName, ObjRef, Seq, Value};
 use mh_group::{Attribute, Group};
 use mh_model::{Held, Object};
 use mh_service::{Service, double_name, resolving};
@@ -118,7 +118,7 @@ fn finds_objects(rt: HostRuntime) {
     }
 }
 
-/// The path of the group of the link's source.
+/// The path of the group of the source of a link.
 fn source(link: &Object) -> Option<&[u8]> {
     match link.properties.get(Attribute::EventSource) {
         Some(Held::Value(Value::Object(source))) => Some(source.group.as_bytes()),
@@ -126,17 +126,7 @@ fn source(link: &Object) -> Option<&[u8]> {
     }
 }
 
-/// The octets of a colour.
-fn colour(rectangle: &Object) -> Option<[u8; 4]> {
-    match rectangle.properties.get(Attribute::OrigRefFillColour) {
-        Some(Held::Colour(colour)) => {
-            Some([colour.red, colour.green, colour.blue, colour.transparency])
-        }
-        _ => None,
-    }
-}
-
-/// The number of the target of the first action of the link.
+/// The number of the target of the first action of a link.
 fn target(link: &Object) -> Option<u32> {
     match link.properties.get(Attribute::LinkEffect) {
         Some(Held::Effect(effect)) => effect.as_slice().first().map(|act| act.target.number),
@@ -144,39 +134,77 @@ fn target(link: &Object) -> Option<u32> {
     }
 }
 
-fn holds_what_is_written(alloc: Global) -> Option<bool> {
+fn is_the_link(object: &Object) -> bool {
+    match source(object) {
+        Some(path) => path == b"d/x".as_slice() && target(object) == Some(20),
+        None => false,
+    }
+}
+
+/// Whether the colour is that of the rectangle.
+fn is_filled(object: &Object) -> bool {
+    match object.properties.get(Attribute::OrigRefFillColour) {
+        Some(Held::Colour(colour)) => {
+            [colour.red, colour.green, colour.blue, colour.transparency] == [255, 1, 2, 3]
+        }
+        _ => false,
+    }
+}
+
+/// Whether the value is octets, though there are four as of a colour.
+fn has_octets(object: &Object) -> bool {
+    match object.properties.get(Attribute::OrigValue) {
+        Some(Held::Value(Value::Octets(octets))) => octets.as_slice() == b"abcd".as_slice(),
+        _ => false,
+    }
+}
+
+fn holds_link(service: &Service, at: &ObjRef) -> bool {
+    match service.find(at) {
+        Some(object) => is_the_link(object),
+        None => false,
+    }
+}
+
+fn holds_rectangle(service: &Service, at: &ObjRef) -> bool {
+    match service.find(at) {
+        Some(object) => is_filled(object),
+        None => false,
+    }
+}
+
+fn holds_both(alloc: Global) -> Option<bool> {
+    let link = at(alloc, b"d/s", 5000)?;
+    let rectangle = at(alloc, b"d/s", 10)?;
     let service = service_of(alloc, &SMALL)?;
-    let link = service.find(&at(alloc, b"d/s", 5000)?)?;
-    let is_link = source(link)? == b"d/x".as_slice() && target(link)? == 20;
-    let rectangle = service.find(&at(alloc, b"d/s", 10)?)?;
-    Some(is_link && colour(rectangle)? == [255, 1, 2, 3])
+    Some(holds_link(&service, &link) && holds_rectangle(&service, &rectangle))
 }
 
 #[test]
 fn objects_hold_what_is_written(rt: HostRuntime) {
-    assert!(rt; holds_what_is_written(rt.alloc()) == Some(true));
+    assert!(rt; holds_both(rt.alloc()) == Some(true));
 }
 
 /// A variable whose value is as long as a colour.
 const OCTETS: &[u8] = br#"{:Scene ("~/s" 0) :Items ( {:OStringVar 1 :OrigValue "abcd"} ) }"#;
 
-fn holds_octets(alloc: Global) -> Option<bool> {
-    let name = GroupName::of_path(alloc, b"s").ok()?;
-    let group = read_group(alloc, OCTETS).ok()?;
-    let objects = resolving::objects(alloc, &name, group.written()).ok()?;
-    match objects
-        .as_slice()
-        .last()?
-        .properties
-        .get(Attribute::OrigValue)
-    {
-        Some(Held::Value(Value::Octets(octets))) => Some(octets.as_slice() == b"abcd".as_slice()),
-        _ => None,
+fn holds_octets(objects: &[Object]) -> bool {
+    match objects {
+        [_, variable] => has_octets(variable),
+        _ => false,
     }
+}
+
+fn resolved(alloc: Global, text: &[u8]) -> Option<Seq<Object>> {
+    let (name, group) = file(alloc, b"s", text)?;
+    resolving::objects(alloc, &name, group.written()).ok()
 }
 
 /// Octets are a colour where the tables want one, and nowhere else.
 #[test]
 fn variables_hold_octets(rt: HostRuntime) {
-    assert!(rt; holds_octets(rt.alloc()) == Some(true));
+    match resolved(rt.alloc(), OCTETS) {
+        Some(objects) => assert!(rt; holds_octets(objects.as_slice())),
+        None => assert!(rt; false, "no objects"),
+    }
 }

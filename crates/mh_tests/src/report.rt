@@ -258,20 +258,20 @@ fn knows_all_keys(rt: HostRuntime) {
 }
 
 /// With which application a play starts, its files, and what is said.
-static STARTS: [(&str, [File; 2], &[u8]); 6] = [
-    ("b", [SCENE, EMPTY], b"service 31 b\nexit 2\n"),
-    ("s", [SCENE, EMPTY], b"service 33 s\nexit 2\n"),
-    ("", [SCENE, EMPTY], b"service 31 \nexit 2\n"),
-    ("../a", [SCENE, EMPTY], b"service 31 ../a\nexit 2\n"),
-    ("../a", [EMPTY, EMPTY], b"service 30 a\nexit 2\n"),
-    ("b", [EMPTY, EMPTY], b"service 30 a\nexit 2\n"),
+static STARTS: [(&str, &[File], &[u8]); 6] = [
+    ("b", &[SCENE, EMPTY], b"service 31 b\nexit 2\n"),
+    ("s", &[SCENE, EMPTY], b"service 33 s\nexit 2\n"),
+    ("", &[SCENE, EMPTY], b"service 31 \nexit 2\n"),
+    ("../a", &[SCENE, EMPTY], b"service 31 ../a\nexit 2\n"),
+    ("../a", &[EMPTY, EMPTY], b"service 30 a\nexit 2\n"),
+    ("b", &[EMPTY, EMPTY], b"service 30 a\nexit 2\n"),
 ];
 
 #[test]
 fn starts_where_it_is_told(rt: HostRuntime) {
     for (start, files, wanted) in &STARTS {
         assert!(rt;
-            are(played(rt.alloc(), files, *start, b"run"), *wanted),
+            are(played(rt.alloc(), *files, *start, b"run"), *wanted),
             "{start}"
         );
     }

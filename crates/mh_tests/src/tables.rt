@@ -2,8 +2,9 @@
 //! each action: written as text by the tables, with other values in each round, and carried through both
 //! notations.
 use crate::notations::difference;
+use crate::whole::WORDS;
 use mh_codec::encode_group;
-use mh_group::{ActionName, Attribute, Class, Need, Shape};
+use mh_group::{ActionName, Attribute, Class, Need, Setting, Shape, Written};
 use mh_text::{print_group, read_group};
 use std::alloc::{AllocError, Global};
 
@@ -125,7 +126,7 @@ fn put_members(text: &mut Vec<u8>, round: usize, slots: u32) -> Result<(), Alloc
         put_effect(text, round)?;
     }
     put(text, b") (")?;
-    put(text, reference(round + 1))?;
+    put(text, reference(1 - round % 2))?;
     put(text, b") )")
 }
 
@@ -211,12 +212,16 @@ fn scene(alloc: Global, round: usize) -> Result<Vec<u8>, AllocError> {
     Ok(text)
 }
 
-/// What goes wrong with the round's scene on its way through both notations, or nothing.
-fn difference_of_round(alloc: Global, round: usize) -> Option<&'static str> {
-    let group = read_group(alloc, scene(alloc, round).ok()?.as_slice()).ok()?;
+/// What goes wrong with the text's group on its way through both notations, or nothing.
+fn difference_of(alloc: Global, text: &[u8]) -> Option<&'static str> {
+    let group = read_group(alloc, text).ok()?;
     let text = print_group(alloc, &group).ok()?;
     let octets = encode_group(alloc, &group).ok()?;
     Some(difference(alloc, text.as_slice(), octets.as_slice()))
+}
+
+fn difference_of_round(alloc: Global, round: usize) -> Option<&'static str> {
+    difference_of(alloc, scene(alloc, round).ok()?.as_slice())
 }
 
 #[test]
@@ -225,4 +230,25 @@ fn whole_tables(rt: HostRuntime) {
         let difference = difference_of_round(rt.alloc(), round).unwrap_or("no group");
         assert!(rt; difference.is_empty(), "{difference} in round {round}");
     }
+}
+
+/// How many ingredients there are, and how many actions the first of them does.
+fn counts(written: &Written) -> Option<(usize, usize)> {
+    let items = written.items.as_ref()?;
+    let link = items.as_slice().first()?;
+    match &link.fields.as_slice().last()?.setting {
+        Setting::Effect(actions) => Some((items.len(), actions.len())),
+        _ => None,
+    }
+}
+
+fn counts_of(alloc: Global, text: &[u8]) -> Option<(usize, usize)> {
+    counts(read_group(alloc, text).ok()?.written())
+}
+
+#[test]
+fn all_words_of_the_tables(rt: HostRuntime) {
+    assert!(rt; counts_of(rt.alloc(), WORDS) == Some((15, 70)));
+    let difference = difference_of(rt.alloc(), WORDS).unwrap_or("no group");
+    assert!(rt; difference.is_empty(), "{difference}");
 }

@@ -2,7 +2,8 @@
 use crate::examples::APPLICATION;
 use crate::objects::service_of;
 use crate::playing::{Case, File, Task, holds};
-use mh_verify::{RefusalKind, verify};
+use mh_service::Service;
+use mh_verify::{Accepted, RefusalKind, verify};
 use std::alloc::Global;
 
 static SCENES: [Case; 8] = [
@@ -197,27 +198,38 @@ fn judges(rt: HostRuntime) {
     }
 }
 
-/// Whether an accepted service is taken apart and put together again.
-fn comes_together(alloc: Global) -> Option<bool> {
-    let accepted = verify(alloc, service_of(alloc, &[APPLICATION, FULL])?).ok()?;
-    let (service, rest) = accepted.apart();
-    let joined = rest.join(service);
-    Some(joined.service().start().as_bytes() == b"a".as_slice())
+fn starts_with_a(service: &Service) -> bool {
+    service.start().as_bytes() == b"a".as_slice()
 }
 
-/// Whether a service that is refused is handed back.
-fn hands_back(alloc: Global) -> Option<bool> {
-    match verify(alloc, service_of(alloc, &[APPLICATION, WRONG])?) {
-        Ok(_) => None,
+/// Whether an accepted service is taken apart and put together again.
+fn comes_together(accepted: Accepted) -> bool {
+    let (service, rest) = accepted.apart();
+    starts_with_a(rest.join(service).service())
+}
+
+fn is_accepted(alloc: Global, service: Service) -> bool {
+    match verify(alloc, service) {
+        Ok(accepted) => comes_together(accepted),
+        Err(_) => false,
+    }
+}
+
+/// Whether the service is refused and handed back.
+fn is_refused(alloc: Global, service: Service) -> bool {
+    match verify(alloc, service) {
+        Ok(_) => false,
         Err(refusal) => {
-            let is_start = refusal.service.start().as_bytes() == b"a".as_slice();
-            Some(refusal.kind == RefusalKind::AbsentObject && is_start)
+            refusal.kind == RefusalKind::AbsentObject && starts_with_a(&refusal.service)
         }
     }
 }
 
 #[test]
 fn keeps_the_service(rt: HostRuntime) {
-    assert!(rt; comes_together(rt.alloc()) == Some(true));
-    assert!(rt; hands_back(rt.alloc()) == Some(true));
+    let alloc = rt.alloc();
+    let good = service_of(alloc, &[APPLICATION, FULL]);
+    assert!(rt; good.map_or(false, |service| is_accepted(alloc, service)));
+    let wrong = service_of(alloc, &[APPLICATION, WRONG]);
+    assert!(rt; wrong.map_or(false, |service| is_refused(alloc, service)));
 }

@@ -1,5 +1,4 @@
-//! Groups with each attribute and each action of the tables, in both notations. The octets were written
-//! by another program.
+//! Scenes with each attribute and each action of the tables.
 
 /// A scene with an ingredient of each class, as it is printed. Its values are of every shape.
 pub const SHAPES: &str =
@@ -47,6 +46,7 @@ pub const SHAPES: &str =
     :ResidentPrg 15 :Name 'GSL' } { :Stream 16 :InitiallyActive true } ) :InputEventReg 4 :SceneCS \
     720 576 }";
 
+/// `SHAPES`, by another program.
 pub const SHAPES_OCTETS: &str = "
 a18205f4 3008 04037e2f73 020100 a18203cf 308203cb bf6403 020100 bf6503 020100 bf6603 020100 bf6703
 020100 bf6806 020100 020101 bf6906 020100 020101 bf6a13 020100 3008 04037e2f78 020103 020106
@@ -176,81 +176,3 @@ pub const WORDS: &[u8] =
 {:ResidentPrg 14 :InitiallyActive true :Shared false :Name "n"}
 {:Stream 15 :InitiallyActive true :Shared false }
 ) }"#;
-
-/// `WORDS` as it is printed.
-pub const WORDS_PRINTED: &str =
-    "{ :Scene ( \"~/a\" 0 ) :OnStartUp ( ) :OnCloseDown ( ) :Items ( { :Link 1 :InitiallyActive \
-    true :Shared false :EventSource 1 :EventType UserInput :EventData 5 :LinkEffect ( :Run ( 1 ) \
-    :Stop ( 1 ) :Preload ( 1 ) :Unload ( 1 ) :GetAvailabilityStatus ( 1 3 ) :GetRunningStatus ( 1 \
-    3 ) :SendEvent ( 1 2 UserInput true ) :SetTimer ( 1 5 5 true ) :Launch ( 1 ) :Quit ( 1 ) \
-    :LockScreen ( 1 ) :UnlockScreen ( 1 ) :TransitionTo ( 1 ) :SetInputRegister ( 1 5 ) :Activate \
-    ( 1 ) :Deactivate ( 1 ) :SetVariable ( 1 :GInteger 5 ) :TestVariable ( 1 5 :GInteger 5 ) :Add \
-    ( 1 5 ) :Subtract ( 1 5 ) :Multiply ( 1 5 ) :Divide ( 1 5 ) :Modulo ( 1 5 ) :Append ( 1 'ab' ) \
-    :Call ( 1 3 ( :GInteger 5 ) ) :Fork ( 1 3 ( :GInteger 5 ) ) :SetPosition ( 1 5 5 ) \
-    :GetPosition ( 1 3 3 ) :SetBoxSize ( 1 5 5 ) :GetBoxSize ( 1 3 3 ) :BringToFront ( 1 ) \
-    :SendToBack ( 1 ) :PutBefore ( 1 2 ) :PutBehind ( 1 2 ) :SetFillColour ( 1 'ab' ) \
-    :SetLineColour ( 1 'ab' ) :SetLineWidth ( 1 5 ) :Clear ( 1 ) :DrawLine ( 1 5 5 5 5 ) \
-    :DrawRectangle ( 1 5 5 5 5 ) :SetData ( 1 'ab' ) :GetTextData ( 1 3 ) :SetTextColour ( 1 'ab' \
-    ) :SetInteractionStatus ( 1 true ) :GetInteractionStatus ( 1 3 ) :SetHighlightStatus ( 1 true \
-    ) :GetHighlightStatus ( 1 3 ) :SetEntryPoint ( 1 5 ) :GetEntryPoint ( 1 3 ) :SetOverwriteMode \
-    ( 1 true ) :Select ( 1 ) :Deselect ( 1 ) :SetLabel ( 1 'ab' ) :GetLabel ( 1 3 ) :Move ( 1 5 ) \
-    :MoveTo ( 1 5 ) :GetTokenPosition ( 1 3 ) :CallActionSlot ( 1 5 ) :AddItem ( 1 5 2 ) :DelItem \
-    ( 1 2 ) :ScrollItems ( 1 5 ) :SetFirstItem ( 1 5 ) :GetFirstItem ( 1 3 ) :SelectItem ( 1 5 ) \
-    :DeselectItem ( 1 5 ) :ToggleItem ( 1 5 ) :GetItemStatus ( 1 5 3 ) :GetListItem ( 1 5 3 ) \
-    :GetListSize ( 1 3 ) :GetCellItem ( 1 5 3 ) ) } { :BooleanVar 2 :InitiallyActive true :Shared \
-    false :OrigValue true } { :IntegerVar 3 :InitiallyActive true :Shared false :OrigValue 1 } { \
-    :OStringVar 4 :InitiallyActive true :Shared false :OrigValue 'a' } { :ObjectRefVar 5 \
-    :InitiallyActive true :Shared false :OrigValue 1 } { :ContentRefVar 6 :InitiallyActive true \
-    :Shared false :OrigValue :ContentRef ( \"~/t\" ) } { :Rectangle 7 :InitiallyActive true \
-    :Shared false :OrigBoxSize 1 1 :OrigPosition 2 2 :OrigLineWidth 1 :OrigRefLineColour 'abcd' \
-    :OrigRefFillColour 'abcd' } { :DynamicLineArt 8 :InitiallyActive true :Shared false \
-    :OrigBoxSize 1 1 :OrigPosition 2 2 :OrigLineWidth 1 :OrigRefLineColour 'abcd' \
-    :OrigRefFillColour 'abcd' } { :Text 9 :InitiallyActive true :Shared false :OrigBoxSize 1 1 \
-    :OrigPosition 2 2 :OrigContent 'c' :TextColour 'abcd' :BackgroundColour 'abcd' :HJustification \
-    start :TextWrapping true } { :EntryField 10 :InitiallyActive true :Shared false :OrigBoxSize 1 \
-    1 :OrigPosition 2 2 :OrigContent 'c' :TextColour 'abcd' :BackgroundColour 'abcd' \
-    :HJustification start :TextWrapping true :MaxLength 9 } { :PushButton 11 :InitiallyActive true \
-    :Shared false :OrigBoxSize 1 1 :OrigPosition 2 2 :TextColour 'abcd' :BackgroundColour 'abcd' \
-    :HJustification start :TextWrapping true :OrigLabel 'l' } { :ListGroup 12 :InitiallyActive \
-    true :Shared false :MovementTable ( ( 1 ) ) :TokenGroupItems ( ( 1 ) ) :Positions ( ( 1 2 ) ) \
-    :WrapAround true :MultipleSelection false } { :TokenGroup 13 :InitiallyActive true :Shared \
-    false :MovementTable ( ( 1 ) ) :TokenGroupItems ( ( 1 ( ) ) ) } { :ResidentPrg 14 \
-    :InitiallyActive true :Shared false :Name 'n' } { :Stream 15 :InitiallyActive true :Shared \
-    false } ) :InputEventReg 3 :SceneCS 720 576 :CHook 1 :OrigFont 'f' :FontAttributes 'a' \
-    :OrigGCPriority 2 :ObjectInfo 'o' :StdID 's' :StdVersion 3 :NextScenes ( ( \"~/s\" 1 ) ) }";
-
-pub const WORDS_OCTETS: &str = "
-a182055a 3008 04037e2f61 020100 a102 3000 a202 3000 a38204fc 308204f8 a28202e9 020101 a603 0101ff
-a703 010100 a803 020101 a903 020106 aa03 020105 ab8202c9 308202c5 bf6403 020101 bf6503 020101
-bf6603 020101 bf6703 020101 bf6806 020101 020103 bf6906 020101 020103 bf6a0c 020101 020102 020106
-0101ff bf6b0c 020101 020105 020105 0101ff bf6c03 020101 bf6d03 020101 bf6e03 020101 bf6f03 020101
-bf7003 020101 bf7106 020101 020105 bf7203 020101 bf7303 020101 bf7409 020101 bf3f03 020105 bf750c
-020101 020105 bf3f03 020105 bf7606 020101 020105 bf7706 020101 020105 bf7806 020101 020105 bf7906
-020101 020105 bf7a06 020101 020105 bf7b07 020101 04026162 bf7c0e 020101 020103 3006 bf3f03 020105
-bf7d0e 020101 020103 3006 bf3f03 020105 bf7e09 020101 020105 020105 bf7f09 020101 020103 020103
-bf810009 020101 020105 020105 bf810109 020101 020103 020103 bf810203 020101 bf810303 020101
-bf810406 020101 020102 bf810506 020101 020102 bf810607 020101 04026162 bf810707 020101 04026162
-bf810806 020101 020105 bf810903 020101 bf810a0f 020101 020105 020105 020105 020105 bf810b0f 020101
-020105 020105 020105 020105 bf810c07 020101 04026162 bf810d06 020101 020103 bf810e07 020101
-04026162 bf810f06 020101 0101ff bf811006 020101 020103 bf811106 020101 0101ff bf811206 020101
-020103 bf811306 020101 020105 bf811406 020101 020103 bf811506 020101 0101ff bf811603 020101
-bf811703 020101 bf811807 020101 04026162 bf811906 020101 020103 bf811a06 020101 020105 bf811b06
-020101 020105 bf811c06 020101 020103 bf811d06 020101 020105 bf811e09 020101 020105 020102 bf811f06
-020101 020102 bf812006 020101 020105 bf812106 020101 020105 bf812206 020101 020103 bf812306 020101
-020105 bf812406 020101 020105 bf812506 020101 020105 bf812609 020101 020105 020103 bf812709 020101
-020105 020103 bf812806 020101 020103 bf812909 020101 020105 020103 a312 020102 a603 0101ff a703
-010100 ac03 0101ff a412 020103 a603 0101ff a703 010100 ac03 020101 a512 020104 a603 0101ff a703
-010100 ac03 040161 a612 020105 a603 0101ff a703 010100 ac03 020101 a715 020106 a603 0101ff a703
-010100 ac06 9f3c037e2f74 a832 020107 a603 0101ff a703 010100 ad06 020101 020101 ae06 020102 020102
-af03 020101 b006 040461626364 b106 040461626364 aa32 020108 a603 0101ff a703 010100 ad06 020101
-020101 ae06 020102 020102 af03 020101 b006 040461626364 b106 040461626364 a93c 020109 a603 0101ff
-a703 010100 ad06 020101 020101 ae06 020102 020102 b203 040163 b306 040461626364 b406 040461626364
-b503 020101 b603 0101ff ad41 02010a a603 0101ff a703 010100 ad06 020101 020101 ae06 020102 020102
-b203 040163 b306 040461626364 b406 040461626364 b503 020101 b603 0101ff b703 020109 ae3c 02010b
-a603 0101ff a703 010100 ad06 020101 020101 ae06 020102 020102 b306 040461626364 b406 040461626364
-b503 020101 b603 0101ff b803 04016c ab35 02010c a603 0101ff a703 010100 b907 3005 3003 020101 ba07
-3005 3003 020101 bb0a 3008 3006 020101 020102 bc03 0101ff bd03 010100 ac21 02010d a603 0101ff a703
-010100 b907 3005 3003 020101 ba09 3007 3005 020101 3000 af12 02010e a603 0101ff a703 010100 be03
-04016e b00d 02010f a603 0101ff a703 010100 a403 020103 a508 020202d0 02020240 bf1f03 020101 bf2003
-040166 bf2103 040161 bf2203 020102 bf2303 04016f bf2403 040173 bf2503 020103 bf260c 300a 3008
-04037e2f73 020101";
