@@ -204,11 +204,11 @@ same_false true h = absurd cc
 same_false false h = refl
 
 -- only the attribute of the items has their shape
-pub value_no_items : (c : Class) → is_items_shape (value_shape c) ≡ false
+value_no_items : (c : Class) → is_items_shape (value_shape c) ≡ false
 value_no_items class.Application = refl
 value_no_items _ = refl
 
-pub members_no_items : (b : Bool) → is_items_shape (if b then shape.ListItems else shape.Members) ≡ false
+members_no_items : (b : Bool) → is_items_shape (if b then shape.ListItems else shape.Members) ≡ false
 members_no_items true = refl
 members_no_items false = refl
 

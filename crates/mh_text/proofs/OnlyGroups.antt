@@ -6,13 +6,15 @@ use Rattle.std.proofs.lemmas.Bool.Decides.{nat_tests}
 use Rattle.mh_group.specs.declared.class.Class.{Class}
 use Rattle.mh_group.specs.declared.attribute.Attribute.{Attribute}
 use Rattle.mh_group.specs.declared.attribute.Attribute.TheVariants as attribute
+use Rattle.mh_group.specs.declared.shape.Shape.{Shape}
+use Rattle.mh_group.specs.declared.shape.Shape.TheVariants as shape
 use Rattle.mh_group.specs.declared.written.Setting.{Setting}
 use Rattle.mh_group.specs.declared.written.Setting.TheVariants as of_setting
 use Rattle.mh_group.specs.declared.written.Field.{Field}
 use Rattle.mh_group.specs.declared.written.Ingredient.{Ingredient}
 use Rattle.mh_group.specs.declared.written.Written.{Written as Group}
 use Rattle.mh_group.specs.declared.misfit.MisfitWhy.{MisfitWhy}
-use Rattle.mh_group.specs.Table.{attribute_number, shape_of, takes, is_group_class, is_list_group}
+use Rattle.mh_group.specs.Table.{attribute_number, shape_of, takes, is_group_class}
 use Rattle.mh_group.specs.Fit.{fits, is_rising, has_required, takes_each, fits_each, fields_misfit, ingredient_misfit, ingredients_misfit, misfit_of, written_items, items_of, is_group}
 use Rattle.mh_group.specs.Words.{class_word, attribute_word}
 use Rattle.mh_text.specs.declared.token_kind.TokenKind.TheVariants as kind
@@ -27,24 +29,28 @@ use Rattle.mh_text.specs.Spelling.{IsKeyword, IsCloseBrace, IsNamed, AreSeveral,
 use Rattle.mh_text.specs.Left.{left, whole}
 use Rattle.mh_text.specs.Reading.{next, ended, is_same, opened, closed, braced, refused_at, name_of, number_of, ingredient_number_of, setting, has_attribute, attribute_of, placed, is_items_shape, is_items, next_field, fields, fields_behind_items, complete, class_of, ingredient, items, identifier, body, group, read}
 use Rattle.mh_text.proofs.SignLemmas.{class_means, attribute_means, integer_means}
-use Rattle.mh_text.proofs.FoundGroups.{value_no_items, members_no_items}
 use Rattle.mh_text.proofs.FieldLemmas.{FitsIn, Has, Apart, has_contained, contains_had, has_left, has_right, none_passes, passes_none, same_turned}
 use Rattle.mh_text.proofs.OrderLemmas.{gathered_in, gathered_both, gathered_parts, gathered_same, free_first, apart_next, few_fields, all_had}
 use Rattle.mh_text.proofs.OnlyLemmas.{StandsAt, first, at_end, then_is, Reads, Takes, open_read, close_read, brace_read, name_is, number_is, AllFit, list_takes}
 use Rattle.mh_text.proofs.OnlySettings.{setting_read}
 
 -- the attribute of a field is not that of the items
-no_items_shape : (c : Class) (a : Attribute) (s : Setting) → fits (shape_of c a) s ≡ true → is_items_shape (shape_of c a) ≡ false
-no_items_shape c attribute.Items (of_setting.Bool b) h = absurd cc
-no_items_shape c attribute.Items _ h = absurd cc
-no_items_shape c attribute.OrigValue s h = value_no_items c
-no_items_shape c attribute.TokenGroupItems s h = members_no_items (is_list_group c)
-no_items_shape c _ s h = refl
+no_value_fits : (s : Setting) → fits shape.Items s ≡ false
+no_value_fits (of_setting.Bool b) = refl
+no_value_fits _ = refl
+
+no_items_shape : (form : Shape) (s : Setting) → fits form s ≡ true → is_items_shape form ≡ false
+no_items_shape shape.Items s h =
+    let none = no_value_fits s in
+    absurd cc
+no_items_shape _ s h = refl
+
+other_number : (c : Class) (a : Attribute) → is_items_shape (shape_of c a) ≡ false → (attribute_number a == attribute_number attribute.Items) ≡ false
+other_number c attribute.Items h = absurd cc
+other_number c _ h = refl
 
 no_items_number : (c : Class) (a : Attribute) (s : Setting) → fits (shape_of c a) s ≡ true → (attribute_number a == attribute_number attribute.Items) ≡ false
-no_items_number c attribute.Items (of_setting.Bool b) h = absurd cc
-no_items_number c attribute.Items _ h = absurd cc
-no_items_number c _ s h = refl
+no_items_number c a s h = other_number c a (no_items_shape (shape_of c a) s h)
 
 attribute_is : (c : Class) (done : List Field) (a : Attribute) (start : ℕ) (text : List ℕ) → takes c a ≡ true → has_attribute done a ≡ false
     → attribute_of c done (record { sign = sign.Attribute a; start = start; text = text }) ≡ Ok a
@@ -72,7 +78,7 @@ field_read c done f l ws rest fit free at (a, named, value) =
       rest = v.rest;
       is = then_is (next l) _ _ (Some f, p, v.rest) s.first
           (then_is (attribute_of c done p) _ f.attribute (Some f, p, v.rest) (attribute_is c done f.attribute s.start (58 ∷ attribute_word f.attribute) fit.0 free)
-          (rw (no_items_shape c f.attribute f.setting fit.1) (then_is (setting (shape_of c f.attribute) s.rest) _ _ (Some f, p, v.rest) v.is refl)));
+          (rw (no_items_shape (shape_of c f.attribute) f.setting fit.1) (then_is (setting (shape_of c f.attribute) s.rest) _ _ (Some f, p, v.rest) v.is refl)));
       at = v.at;
     }
 
@@ -194,8 +200,7 @@ ingredient_takes l x ws rest fit at (a, b, c, d, fs, opens, named, (text, writes
     let s = first l ws a kind.OpenBrace (123 ∷ []) sign.OpenBrace at opens refl in
     let t = first s.rest a b kind.Keyword (58 ∷ class_word x.class) (sign.Class x.class) s.at named (class_means x.class) in
     let u = first t.rest b c kind.Integer text (sign.Integer (pos x.number)) t.at number (integer_means text (pos x.number) writes) in
-    let few = few_fields fs same.0 in
-    let f = fields_read x.class 4096 [] fs u.rest c d rest IsBrace (omega arith) (λ y z h. absurd h) same.0 (written_fit x.class x.fields fs right same) u.at several
+    let f = fields_read x.class 4096 [] fs u.rest c d rest IsBrace (few_fields fs same.0) (λ y z h. absurd h) same.0 (written_fit x.class x.fields fs right same) u.at several
     (ends_brace x.class (gathered_in fs []) d rest close) in
     let kept : gathered_in fs [] ≡ x.fields = gathered_same x.fields fs right.rising same in
     record {
@@ -295,8 +300,7 @@ body_read : (c : Class) (l : Left) (xs fs : List Field) (its : Option (List Ingr
     → ingredients_misfit (written_items its) ≡ None → StandsAt l ws → IsBody its fs ws end → IsCloseBrace end rest → BodyRead c l xs its rest
 unfolding body
 body_read c l xs fs None ws end rest group_class right same fit at several close =
-    let few = few_fields fs same.0 in
-    let f = fields_read c 4096 [] fs l ws end rest IsBrace (omega arith) (λ y z h. absurd h) same.0 (written_fit c xs fs right same) at several (ends_brace c (gathered_in fs []) end rest close) in
+    let f = fields_read c 4096 [] fs l ws end rest IsBrace (few_fields fs same.0) (λ y z h. absurd h) same.0 (written_fit c xs fs right same) at several (ends_brace c (gathered_in fs []) end rest close) in
     let kept : gathered_in fs [] ≡ xs = gathered_same xs fs right.rising same in
     record {
       head = f.head;
@@ -311,13 +315,11 @@ body_read c l xs fs (Some its) ws end rest group_class right same fit at (front,
     let fit_front : (x : Field) → Has front x → FitsIn c x = λ x h. all_fits x (subst (λ l. Has l x) (sym parts) (has_left front back x h)) in
     let fit_back : (x : Field) → Has back x → FitsIn c x = λ x h. all_fits x (subst (λ l. Has l x) (sym parts) (has_right front back x h)) in
     let from_front : (x : Field) → Has (gathered_in front []) x → Has front x = λ x h. elim (gathered_parts front [] x h) [ inl none ↦ absurd none | inr r ↦ r ] in
-    let few_front = few_fields front once.0 in
-    let few_back = few_fields back once.1 in
-    let f = fields_read c 4096 [] front l ws a b IsItems (omega arith) (λ y z h. absurd h) once.0 fit_front at before
+    let f = fields_read c 4096 [] front l ws a b IsItems (few_fields front once.0) (λ y z h. absurd h) once.0 fit_front at before
     (ends_items c (gathered_in front []) a b group_class (λ x h. fit_front x (from_front x h)) named) in
     let it = items_read f.rest its b d fit f.at listed_items in
     let g = behind_items_read c (gathered_in front []) it.rest (gathered_in back (gathered_in front [])) rest
-    (fields_read c 4096 (gathered_in front []) back it.rest d end rest IsBrace (omega arith) (λ x y h k. once.2 x y (from_front x h) k) once.1 fit_back it.at behind
+    (fields_read c 4096 (gathered_in front []) back it.rest d end rest IsBrace (few_fields back once.1) (λ x y h k. once.2 x y (from_front x h) k) once.1 fit_back it.at behind
     (ends_brace c (gathered_in back (gathered_in front [])) end rest close)) in
     let kept : gathered_in back (gathered_in front []) ≡ xs = sym (gathered_both front back []) ∙ ap (λ l. gathered_in l []) (sym parts) ∙ gathered_same xs fs right.rising same in
     record {

@@ -120,7 +120,7 @@ gathered_new [] done x h = absurd h
 gathered_new (f ∷ fs) done x (inl is) = subst (Has (gathered_in fs (placed f done))) is (gathered_old fs (placed f done) f (has_placed_new f done))
 gathered_new (f ∷ fs) done x (inr h) = gathered_new fs (placed f done) x h
 
--- no more fields than there are attributes
+-- no more fields than there are attributes, which are fewer than a reader takes
 rising_short : (n : ℕ) (fs : List Field) → n ≤ 38 → rises_above n fs ≡ true → length fs + n ≤ 38
 rising_short n [] low rising = omega arith
 rising_short n (f ∷ fs) low rising =
@@ -129,7 +129,7 @@ rising_short n (f ∷ fs) low rising =
     let rest = rising_short (attribute_number f.attribute) fs (number_small f.attribute) parts.1 in
     omega arith
 
-pub few_fields : (fs : List Field) → NoneTwice fs → length fs ≤ 38
+pub few_fields : (fs : List Field) → NoneTwice fs → length fs < 4096
 few_fields fs once =
     let short = rising_short 0 (gathered_in fs []) (omega arith) (gathered_rising fs [] refl (λ x y h g. absurd h) once) in
     let long = gathered_length fs [] in
