@@ -1,2 +1,5 @@
 pub mod Path
 pub mod Event
+pub mod Kinds
+pub mod Limits
+pub mod Reading

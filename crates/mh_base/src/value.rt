@@ -11,6 +11,15 @@ pub enum Kind {
     Content,
 }
 
+/// All kinds of values.
+pub const KINDS: [Kind; 5] = [
+    Kind::Bool,
+    Kind::Int,
+    Kind::Octets,
+    Kind::Object,
+    Kind::Content,
+];
+
 /// A value: of a variable, of a parameter, or the data of an event.
 #[derive(Clone, Drop, PartialEq, Eq)]
 pub enum Value {

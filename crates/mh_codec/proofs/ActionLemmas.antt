@@ -4,8 +4,12 @@ use Rattle.std.specs.List.{list_all}
 use Rattle.mh_base.specs.Event.{number_of}
 use Rattle.mh_base.specs.declared.value.Kind.{Kind as ValueKind}
 use Rattle.mh_base.specs.declared.value.Kind.TheVariants as value_kind
+use Rattle.mh_base.specs.Reading.{Rest, ◌>>=◌}
+use Rattle.mh_base.specs.Limits.{longest_list}
+use Rattle.mh_base.specs.Kinds.{kinds}
+use Rattle.mh_base.proofs.ReadingLemmas.{went, ok_same}
 use Rattle.mh_der.specs.Element.{element}
-use Rattle.mh_der.specs.Rest.{Rest, Element}
+use Rattle.mh_der.specs.Rest.{Element}
 use Rattle.mh_der.specs.Reading.{is_empty}
 use Rattle.mh_der.proofs.DigitLemmas.{AreBytes}
 use Rattle.mh_group.specs.declared.action_name.ActionName.{ActionName}
@@ -17,16 +21,16 @@ use Rattle.mh_group.specs.declared.action.Typed.{Typed}
 use Rattle.mh_group.specs.declared.action.Typed.TheVariants as typed
 use Rattle.mh_group.specs.declared.action.Parameter.{Parameter}
 use Rattle.mh_group.specs.declared.action.Parameter.TheVariants as parameter
-use Rattle.mh_group.specs.Table.{action_number, needs_of, optional_of}
 use Rattle.mh_group.specs.Words.{actions}
 use Rattle.mh_group.specs.Fit.{fits_parameter, fits_parameters, fits_action}
 use Rattle.mh_group.specs.Holdable.{is_integer, is_plain, is_name, is_octets, is_content, is_data, is_reference, is_generic, is_list, is_typed, is_parameter, is_action}
+use Rattle.mh_group.specs.Table.{action_number, needs_of, optional_of}
 use Rattle.mh_codec.specs.declared.codec_error.Why.TheVariants.{UnknownTag}
-use Rattle.mh_codec.specs.Tags.{action_with, value_kind_with, value_kinds, value_number}
+use Rattle.mh_codec.specs.Tags.{action_with, value_kind_with, value_number}
 use Rattle.mh_codec.specs.Spelling.{own, integer, boolean, octet_string, content_name, content_value, data_value, reference, generic, several, list, typed_value, parameter_value, action}
-use Rattle.mh_codec.specs.Gives.{Refusal, ◌>>=◌}
+use Rattle.mh_codec.specs.Gives.{Refusal}
 use Rattle.mh_codec.specs.Reading.{taken, ended, only, own_at, some_at, truth_at, integer_at, octets_at, event_at, content_name_at, content_at, data_at, reference_at, generic_at, list_at, value_at, typed_at, parameter_at, parameters, action_at}
-use Rattle.mh_codec.proofs.ElementLemmas.{went, ok_same, written, in_parts, last_part, Good, same_element, same_number, find_holds, taken_found, good_found, taken_given, nothing_left, ended_given}
+use Rattle.mh_codec.proofs.ElementLemmas.{written, in_parts, last_part, Good, same_element, same_number, find_holds, taken_found, good_found, taken_given, nothing_left, ended_given}
 use Rattle.mh_codec.proofs.ValueLemmas.{own_numbered, own_written, some_ok, event_read, event_written}
 use Rattle.mh_codec.proofs.ReferenceLemmas.{IsOne, Reads, and_true, both_true, same_all, spelled_as, only_read, only_written, integer_one, reference_one, reference_read, reference_written, truth_reads, truth_plain, integer_reads, integer_plain, octets_reads, octets_plain, content_name_reads, content_name_plain, content_reads, content_plain, data_reads, data_plain, reference_reads, reference_plain, generic_reads}
 use Rattle.mh_codec.proofs.MemberLemmas.{some_left, list_reads}
@@ -80,7 +84,7 @@ typed_is (typed.ContentRef x) = refl
 
 value_numbered : (n : ℕ) (k : ValueKind) → value_kind_with n ≡ Some k → value_number k ≡ n
 unfolding value_kind_with
-value_numbered n k h = same_number (value_number k) n (find_holds (λ (j : ValueKind). value_number j == n) value_kinds k h)
+value_numbered n k h = same_number (value_number k) n (find_holds (λ (j : ValueKind). value_number j == n) kinds k h)
 
 value_named : (k : ValueKind) → (value_kind_with (value_number k) ≡ Some k) × (value_number k < 2 ^ 16)
 unfolding value_kind_with
@@ -165,7 +169,7 @@ typed_reads = record {
   one = λ x good. typed_one x;
 }
 
-arguments : Reads (list_at typed_at 4096) (list typed_value) (is_list is_typed) (is_list is_typed)
+arguments : Reads (list_at typed_at longest_list) (list typed_value) (is_list is_typed) (is_list is_typed)
 arguments = list_reads typed_reads
 
 -- parameters
@@ -203,7 +207,7 @@ parameter_read need.Typed e p good is =
     let x = went (typed_at e) _ p is in
     subst (Spelled e) (ok_same x.behind) (typed_read e x.value good x.first)
 parameter_read need.Arguments e p good is =
-    let x = went (list_at typed_at 4096 e) _ p is in
+    let x = went (list_at typed_at longest_list e) _ p is in
     subst (Spelled e) (ok_same x.behind) (arguments.found e x.value good x.first)
 
 parameter_written : (n : Need) (e : Element) (p : Parameter) → e.tag.number < 2 ^ 16 → fits_parameter n p ≡ true → is_parameter p ≡ true → written e ≡ parameter_value p → parameter_at n e ≡ Ok p

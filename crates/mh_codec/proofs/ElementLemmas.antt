@@ -1,55 +1,24 @@
 -- Elements of the notation: what was taken stands there, and what stands there is taken.
-use Rattle.std.proofs.Common.{◌≡◌, ℕ, suc, ◌<◌, ◌^◌, ◌⊎◌, inl, inr, Bool, true, false, ◌==◌, nat_lt, if◌then◌else◌, List, [], ◌∷◌, ◌++◌, Option, Some, Result, Ok, Err, refl, ap, sym, ◌∙◌, subst, arith, append-nil}
+use Rattle.std.proofs.Common.{◌≡◌, ℕ, ◌<◌, ◌^◌, ◌⊎◌, inl, inr, Bool, true, false, ◌==◌, if◌then◌else◌, List, [], ◌∷◌, ◌++◌, Option, Some, Result, Ok, Err, refl, ap, sym, ◌∙◌, subst, arith, append-nil}
 use Rattle.std.specs.List.{find}
 use Rattle.std.proofs.lemmas.Bool.Decides.{nat_tests}
+use Rattle.mh_base.specs.Reading.{Rest}
 use Rattle.mh_der.specs.declared.tag.Tag.{Tag}
 use Rattle.mh_der.specs.declared.tag.TagClass.{TagClass}
 use Rattle.mh_der.specs.declared.tag.TagClass.TheVariants as class
 use Rattle.mh_der.specs.declared.der_error.DerError.{DerError}
 use Rattle.mh_der.specs.Tags.{boolean_tag, integer_tag, octet_string_tag, sequence_tag}
 use Rattle.mh_der.specs.Element.{element}
-use Rattle.mh_der.specs.Rest.{Rest, Element}
+use Rattle.mh_der.specs.Rest.{Element}
 use Rattle.mh_der.specs.Reading.{next, ended as der_ended}
 use Rattle.mh_der.proofs.DigitLemmas.{AreBytes}
 use Rattle.mh_der.proofs.ElementLaws.{Found, element_found, element_given}
-use Rattle.mh_group.specs.Holdable.{is_octets}
 use Rattle.mh_codec.specs.declared.kind.Kind.{Kind}
 use Rattle.mh_codec.specs.declared.kind.Kind.TheVariants as kind
-use Rattle.mh_codec.specs.declared.codec_error.Why.{Why}
 use Rattle.mh_codec.specs.Tags.{kind_of, kind_in}
 use Rattle.mh_codec.specs.Spelling.{own}
-use Rattle.mh_codec.specs.Gives.{Refusal, refused, der, ◌>>=◌}
+use Rattle.mh_codec.specs.Gives.{der}
 use Rattle.mh_codec.specs.Reading.{taken, ended}
-
--- a reading that went well
-pub record Went {A B : Type 0} (read : Result A Refusal) (f : A → Result B Refusal) (y : B) : Type 0 where
-  pub value : A
-  pub first : read ≡ Ok value
-  pub behind : f value ≡ Ok y
-
-pub went : {A B : Type 0} (read : Result A Refusal) (f : A → Result B Refusal) (y : B) → (read >>= f) ≡ Ok y → Went read f y
-went (Ok x) f y e = record { value = x; first = refl; behind = e }
-went (Err r) f y e = absurd cc
-
--- a reading that goes well
-pub then_is : {A B : Type 0} (read : Result A Refusal) (f : A → Result B Refusal) (x : A) (y : B) → read ≡ Ok x → f x ≡ Ok y → (read >>= f) ≡ Ok y
-then_is read f x y e h = rw e h
-
--- a test that went well
-pub if_ok : {A : Type 0} (b : Bool) (r : Result A Refusal) (w : Why) (o : ℕ) (y : A) → (if b then r else refused w o) ≡ Ok y → (b ≡ true) × (r ≡ Ok y)
-if_ok true r w o y e = (refl, e)
-if_ok false r w o y e = absurd cc
-
-pub if_not_ok : {A : Type 0} (b : Bool) (r : Result A Refusal) (w : Why) (o : ℕ) (y : A) → (if b then refused w o else r) ≡ Ok y → (b ≡ false) × (r ≡ Ok y)
-if_not_ok true r w o y e = absurd cc
-if_not_ok false r w o y e = (refl, e)
-
-pub ok_same : {A : Type 0} {x y : A} → ◌≡◌ {A = Result A Refusal} (Ok x) (Ok y) → x ≡ y
-ok_same e = cc
-
--- what holds of an answer holds of the same one
-pub ok_holds : {A : Type 0} (P : A → Type 0) (x y : A) → ◌≡◌ {A = Result A Refusal} (Ok x) (Ok y) → P x → P y
-ok_holds P x y e h = subst P (ok_same e) h
 
 -- the octets of an element
 abbrev pub written : Element → List ℕ
@@ -62,14 +31,6 @@ in_parts bs front rest first more is f r = rw (is, f, r) refl
 -- octets in one part, behind which nothing stands
 pub last_part : (bs front rest first : List ℕ) → bs ≡ front ++ rest → rest ≡ [] → front ≡ first → bs ≡ first
 last_part bs front rest first is none f = rw (is, none, f) (append-nil first)
-
--- bytes are octets
-pub bytes_are_octets : (bs : List ℕ) → AreBytes bs → is_octets bs ≡ true
-bytes_are_octets [] h = refl
-bytes_are_octets (b ∷ bs) h =
-    let small : b < 256 = h 0 in
-    let first : nat_lt b 256 ≡ true = grind (arith, nat_tests) in
-    rw first (bytes_are_octets bs (λ k. h (suc k)))
 
 -- an element as a source can hold it
 pub record Good (e : Element) : Type 0 where

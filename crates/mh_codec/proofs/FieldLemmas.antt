@@ -2,29 +2,28 @@
 use Rattle.std.proofs.Common.{◌≡◌, ℕ, zero, suc, ◌+◌, ◌<◌, ◌≤◌, ◌^◌, Bool, true, false, ◌==◌, nat_lt, if◌then◌else◌, List, [], ◌∷◌, ◌++◌, length, Option, Some, None, IfSome, Result, Ok, refl, ap, sym, ◌∙◌, subst, arith, append-nil, append_assoc}
 use Rattle.std.specs.List.{list_all}
 use Rattle.std.proofs.lemmas.Bool.Decides.{nat_tests}
+use Rattle.mh_base.specs.Reading.{Rest, ◌>>=◌}
+use Rattle.mh_base.proofs.ReadingLemmas.{went, if_ok, ok_same}
 use Rattle.mh_der.specs.Element.{element}
-use Rattle.mh_der.specs.Rest.{Rest, Element}
+use Rattle.mh_der.specs.Rest.{Element}
 use Rattle.mh_der.specs.Reading.{is_empty}
 use Rattle.mh_der.proofs.DigitLemmas.{AreBytes}
 use Rattle.mh_der.proofs.ElementLaws.{Found}
 use Rattle.mh_group.specs.declared.class.Class.{Class}
-use Rattle.mh_group.specs.declared.class.Class.TheVariants as class
 use Rattle.mh_group.specs.declared.attribute.Attribute.{Attribute}
 use Rattle.mh_group.specs.declared.attribute.Attribute.TheVariants as attribute
-use Rattle.mh_group.specs.declared.shape.Shape.{Shape}
-use Rattle.mh_group.specs.declared.shape.Shape.TheVariants as shape
-use Rattle.mh_group.specs.declared.written.Setting.{Setting}
 use Rattle.mh_group.specs.declared.written.Field.{Field}
-use Rattle.mh_group.specs.Table.{attribute_number, shape_of, value_shape, is_list_group, takes}
 use Rattle.mh_group.specs.Words.{attributes}
 use Rattle.mh_group.specs.Fit.{fits, rises_above, takes_each, fits_each}
 use Rattle.mh_group.specs.Holdable.{is_setting, has_settings}
+use Rattle.mh_group.proofs.ShapeLemmas.{items_shape, items_unfit}
+use Rattle.mh_group.specs.Table.{attribute_number, shape_of, takes, is_items_shape}
 use Rattle.mh_codec.specs.declared.codec_error.Why.TheVariants.{UnknownTag, WrongOrder}
 use Rattle.mh_codec.specs.Tags.{attribute_with}
 use Rattle.mh_codec.specs.Spelling.{own, several, value, field}
-use Rattle.mh_codec.specs.Gives.{Refusal, ◌>>=◌}
-use Rattle.mh_codec.specs.Reading.{taken, own_at, admitted, some_at, setting, is_items_shape, attribute_at, next_field, gathered, fields}
-use Rattle.mh_codec.proofs.ElementLemmas.{went, if_ok, ok_same, written, Good, same_number, find_holds, taken_found, good_found, taken_given}
+use Rattle.mh_codec.specs.Gives.{Refusal}
+use Rattle.mh_codec.specs.Reading.{taken, own_at, admitted, some_at, setting, attribute_at, next_field, gathered, fields}
+use Rattle.mh_codec.proofs.ElementLemmas.{written, Good, same_number, find_holds, taken_found, good_found, taken_given}
 use Rattle.mh_codec.proofs.ValueLemmas.{own_numbered, own_written, some_ok}
 use Rattle.mh_codec.proofs.ReferenceLemmas.{and_true, both_true, spelled_as}
 use Rattle.mh_codec.proofs.MemberLemmas.{empty_is, some_left}
@@ -77,29 +76,6 @@ attribute_named attribute.ObjectInfo = (refl, omega arith)
 attribute_named attribute.StdId = (refl, omega arith)
 attribute_named attribute.StdVersion = (refl, omega arith)
 attribute_named attribute.NextScenes = (refl, omega arith)
-
--- the items have a shape of their own
-no_items_value : (c : Class) → is_items_shape (value_shape c) ≡ false
-no_items_value class.BooleanVar = refl
-no_items_value class.OStringVar = refl
-no_items_value class.ObjectRefVar = refl
-no_items_value class.ContentRefVar = refl
-no_items_value _ = refl
-
-no_items_members : (b : Bool) → is_items_shape (if b then shape.ListItems else shape.Members) ≡ false
-no_items_members true = refl
-no_items_members false = refl
-
-items_shape : (c : Class) (a : Attribute) → is_items_shape (shape_of c a) ≡ true → a ≡ attribute.Items
-items_shape c attribute.Items h = refl
-items_shape c attribute.OrigValue h = absurd (let none = no_items_value c in cc)
-items_shape c attribute.TokenGroupItems h = absurd (let none = no_items_members (is_list_group c) in cc)
-items_shape c _ h = absurd cc
-
--- no field has the items' shape
-items_unfit : (s : Shape) (v : Setting) → fits s v ≡ true → is_items_shape s ≡ false
-items_unfit shape.Items _ h = absurd cc
-items_unfit _ v h = refl
 
 pub no_items_field : (c : Class) (f : Field) → fits (shape_of c f.attribute) f.setting ≡ true → is_items_shape (shape_of c f.attribute) ≡ false
 no_items_field c f h = items_unfit (shape_of c f.attribute) f.setting h

@@ -5,7 +5,10 @@ use Rattle.std.specs.Ordering.{int_eq}
 use Rattle.std.specs.List.{list_all}
 use Rattle.std.proofs.lemmas.Bool.Decides.{nat_tests}
 use Rattle.std.proofs.lemmas.List.Folds.{list_all-append}
-use Rattle.mh_der.specs.Rest.{Rest, Element}
+use Rattle.mh_base.specs.Reading.{Rest, ◌>>=◌}
+use Rattle.mh_base.specs.Limits.{longest_list}
+use Rattle.mh_base.proofs.ReadingLemmas.{went, if_ok, ok_same}
+use Rattle.mh_der.specs.Rest.{Element}
 use Rattle.mh_der.specs.Reading.{is_empty}
 use Rattle.mh_group.specs.declared.shape.Shape.{Shape}
 use Rattle.mh_group.specs.declared.shape.Shape.TheVariants as shape
@@ -17,13 +20,12 @@ use Rattle.mh_group.specs.declared.action.Parameter.TheVariants as of_parameter
 use Rattle.mh_group.specs.declared.written.Member.{Member}
 use Rattle.mh_group.specs.declared.written.Setting.{Setting}
 use Rattle.mh_group.specs.declared.written.Setting.TheVariants as of_setting
-use Rattle.mh_group.specs.Table.{needs_of, optional_of}
 use Rattle.mh_group.specs.Fit.{fits, fits_parameter, fits_parameters, fits_action, fits_effect, fits_member, is_list_item, is_natural, is_field_length}
+use Rattle.mh_group.specs.Table.{needs_of, optional_of}
 use Rattle.mh_codec.specs.declared.codec_error.Why.TheVariants.{UnknownTag, Limit, BadValue}
 use Rattle.mh_codec.specs.Tags.{action_with}
-use Rattle.mh_codec.specs.Gives.{Refusal, ◌>>=◌}
+use Rattle.mh_codec.specs.Gives.{Refusal}
 use Rattle.mh_codec.specs.Reading.{taken, ended, only, own_at, some_at, sequence_at, truth_at, integer_at, octets_at, natural_at, length_at, fixed_at, event_at, justification_at, colour_at, reference_at, content_name_at, content_at, data_at, generic_at, exhausted, next_member, continued, listed, list_at, typed_at, parameter_at, parameters, action_at, effect_at, row_at, member_in, member_at, list_item_in, list_item_at, position_at, next_scene_at, part, pair, single, setting}
-use Rattle.mh_codec.proofs.ElementLemmas.{went, if_ok, ok_same}
 use Rattle.mh_codec.proofs.ValueLemmas.{natural_read}
 use Rattle.mh_codec.proofs.ReferenceLemmas.{and_true, both_true}
 use Rattle.mh_codec.proofs.PairLemmas.{fits_part}
@@ -92,7 +94,7 @@ parameter_fits need.Data e p is = made_fits (fits_parameter need.Data) (generic_
 parameter_fits need.Event e p is = made_fits (fits_parameter need.Event) (event_at e) of_parameter.Event p is (λ x h. refl)
 parameter_fits (need.Receiver k) e p is = made_fits (fits_parameter (need.Receiver k)) (reference_at e) of_parameter.Receiver p is (λ x h. refl)
 parameter_fits need.Typed e p is = made_fits (fits_parameter need.Typed) (typed_at e) of_parameter.Typed p is (λ x h. refl)
-parameter_fits need.Arguments e p is = made_fits (fits_parameter need.Arguments) (list_at typed_at 4096 e) of_parameter.Arguments p is (λ x h. refl)
+parameter_fits need.Arguments e p is = made_fits (fits_parameter need.Arguments) (list_at typed_at longest_list e) of_parameter.Arguments p is (λ x h. refl)
 
 -- parameters that were read behind others
 record Parameters (optional : ℕ) (ns : List Need) (done ps : List Parameter) : Type 0 where
@@ -144,15 +146,15 @@ action_fits e x is =
 -- members
 
 effect_fits : (e : Element) (xs : List Action) → effect_at e ≡ Ok xs → fits_effect xs ≡ true
-effect_fits e xs is = (list_fits action_fits 4096 e xs is).0
+effect_fits e xs is = (list_fits action_fits longest_list e xs is).0
 
 slots_fit : (left : Rest) (m : Member) → member_in left ≡ Ok m → fits_member m ≡ true
 unfolding member_in
 slots_fit left m is =
     let a = went (taken left) _ m is in
     let object = went (reference_at a.value.0) _ m a.behind in
-    let slots = went (listed effect_at 4096 [] a.value.1) _ m object.behind in
-    subst (λ (n : Member). fits_member n ≡ true) (ok_same slots.behind) (members_fit effect_fits 4096 [] a.value.1 slots.value refl slots.first).fit
+    let slots = went (listed effect_at longest_list [] a.value.1) _ m object.behind in
+    subst (λ (n : Member). fits_member n ≡ true) (ok_same slots.behind) (members_fit effect_fits longest_list [] a.value.1 slots.value refl slots.first).fit
 
 member_fits : (e : Element) (m : Member) → member_at e ≡ Ok m → fits_member m ≡ true
 unfolding member_at
@@ -213,11 +215,11 @@ single_fits shape.Colour e v is = made_fits (fits shape.Colour) (colour_at e) of
 single_fits shape.Content e v is = made_fits (fits shape.Content) (content_at e) of_setting.Content v is (λ x h. refl)
 single_fits shape.ContentRef e v is = made_fits (fits shape.ContentRef) (content_name_at e) of_setting.ContentRef v is (λ x h. refl)
 single_fits shape.Justification e v is = made_fits (fits shape.Justification) (justification_at e) of_setting.Justification v is (λ x h. refl)
-single_fits shape.MovementTable e v is = made_fits (fits shape.MovementTable) (list_at row_at 4096 e) of_setting.MovementTable v is (λ x h. refl)
-single_fits shape.Members e v is = made_fits (fits shape.Members) (list_at member_at 4096 e) of_setting.Members v is (λ x h. (list_fits member_fits 4096 e x h).0)
+single_fits shape.MovementTable e v is = made_fits (fits shape.MovementTable) (list_at row_at longest_list e) of_setting.MovementTable v is (λ x h. refl)
+single_fits shape.Members e v is = made_fits (fits shape.Members) (list_at member_at longest_list e) of_setting.Members v is (λ x h. (list_fits member_fits longest_list e x h).0)
 single_fits shape.ListItems e v is = made_fits (fits shape.ListItems) (list_at list_item_at 256 e) of_setting.Members v is (items_fit e)
-single_fits shape.Positions e v is = made_fits (fits shape.Positions) (list_at position_at 4096 e) of_setting.Positions v is (λ x h. refl)
-single_fits shape.NextScenes e v is = made_fits (fits shape.NextScenes) (list_at next_scene_at 4096 e) of_setting.NextScenes v is (λ x h. refl)
+single_fits shape.Positions e v is = made_fits (fits shape.Positions) (list_at position_at longest_list e) of_setting.Positions v is (λ x h. refl)
+single_fits shape.NextScenes e v is = made_fits (fits shape.NextScenes) (list_at next_scene_at longest_list e) of_setting.NextScenes v is (λ x h. refl)
 single_fits _ e v is = absurd cc
 
 -- pairs

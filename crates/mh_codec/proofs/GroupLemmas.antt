@@ -1,13 +1,15 @@
 -- Ingredients and groups: what was read is spelled so and is what the tables allow, and what is spelled
 -- so is read.
-use Rattle.std.proofs.Common.{◌≡◌, ℕ, suc, ◌+◌, ◌<◌, ◌^◌, Bool, true, false, ◌&&◌, not, ◌==◌, nat_lt, nat_le, if◌then◌else◌, List, [], ◌∷◌, ◌++◌, length, take, drop, Option, Some, None, is_none, Ok, pos, refl, ap, sym, ◌∙◌, subst, arith, take-append-drop}
-use Rattle.std.specs.Option.{option_or}
+use Rattle.std.proofs.Common.{◌≡◌, ℕ, suc, ◌+◌, ◌<◌, ◌^◌, Bool, true, false, ◌&&◌, ◌==◌, nat_lt, nat_le, if◌then◌else◌, List, [], ◌∷◌, ◌++◌, length, take, drop, Option, Some, None, is_none, Ok, pos, refl, ap, sym, ◌∙◌, subst, arith, take-append-drop}
 use Rattle.std.specs.List.{list_all}
 use Rattle.std.proofs.lemmas.Bool.Decides.{nat_tests}
 use Rattle.std.proofs.lemmas.List.Folds.{list_all-append}
 use Rattle.mh_base.specs.Path.{is_name_byte}
+use Rattle.mh_base.specs.Reading.{Rest, is_same}
+use Rattle.mh_base.specs.Limits.{longest_list}
+use Rattle.mh_base.proofs.ReadingLemmas.{went, if_ok, ok_same, ok_holds}
 use Rattle.mh_der.specs.Tags.{sequence_tag}
-use Rattle.mh_der.specs.Rest.{Rest, Element}
+use Rattle.mh_der.specs.Rest.{Element}
 use Rattle.mh_der.proofs.DigitLemmas.{AreBytes}
 use Rattle.mh_group.specs.declared.class.Class.{Class}
 use Rattle.mh_group.specs.declared.class.Class.TheVariants as class
@@ -17,15 +19,16 @@ use Rattle.mh_group.specs.declared.written.Field.{Field}
 use Rattle.mh_group.specs.declared.written.Ingredient.{Ingredient}
 use Rattle.mh_group.specs.declared.written.Written.{Written}
 use Rattle.mh_group.specs.declared.misfit.MisfitWhy.{MisfitWhy}
-use Rattle.mh_group.specs.Table.{class_number, attribute_number, takes, shape_of, is_group_class}
 use Rattle.mh_group.specs.Words.{classes}
-use Rattle.mh_group.specs.Fit.{fits, before_items, is_rising, rises_above, has_required, takes_each, fits_each, fields_misfit, ingredient_misfit, ingredients_misfit, misfit_of, written_items, items_of, is_group}
+use Rattle.mh_group.specs.Fit.{fits, before_items, rises_above, has_required, fields_misfit, ingredient_misfit, ingredients_misfit, misfit_of, written_items, items_of, is_group}
 use Rattle.mh_group.specs.Holdable.{is_setting, is_number, is_list, has_settings, is_ingredient, is_holdable}
+use Rattle.mh_group.proofs.MisfitLemmas.{if_no_none, or_none, none_is, AreRight, are_right, is_right}
+use Rattle.mh_group.specs.Table.{class_number, attribute_number, takes, shape_of, is_group_class, is_items_shape}
 use Rattle.mh_codec.specs.declared.codec_error.Why.TheVariants.{UnknownTag, MissingField, BadValue}
 use Rattle.mh_codec.specs.Tags.{class_with}
 use Rattle.mh_codec.specs.Spelling.{own, natural, octet_string, several, list, named, field, ingredient, items, body as body_octets, group}
-use Rattle.mh_codec.specs.Reading.{taken, only, sequence_at, own_at, is_same, some_at, named_in, ingredient_number_at, fields, complete, class_at, list_at, ingredient_at, items_at, with_items, body, identifier_in, group_at, is_items_shape}
-use Rattle.mh_codec.proofs.ElementLemmas.{went, if_ok, ok_same, ok_holds, written, in_parts, Good, same_element, same_number, find_holds, taken_found, good_found, taken_given}
+use Rattle.mh_codec.specs.Reading.{taken, only, sequence_at, own_at, some_at, named_in, ingredient_number_at, fields, complete, class_at, list_at, ingredient_at, items_at, with_items, body, identifier_in, group_at}
+use Rattle.mh_codec.proofs.ElementLemmas.{written, in_parts, Good, same_element, same_number, find_holds, taken_found, good_found, taken_given}
 use Rattle.mh_codec.proofs.ValueLemmas.{own_numbered, own_written, some_ok, sequence_read, sequence_written, number_read, number_written, ingredient_number_read, ingredient_number_written}
 use Rattle.mh_codec.proofs.ReferenceLemmas.{IsOne, Reads, and_true, both_true, spelled_as, integer_one, only_read, only_written, Named, named_read, named_written}
 use Rattle.mh_codec.proofs.MemberLemmas.{list_reads}
@@ -97,37 +100,6 @@ no_items c left new None rest h ends = ends
 no_items c left new (Some e) rest h (stands, met, below) = absurd (not_group c h met.takes_them)
 
 -- fields with nothing wrong
-
--- what an object's fields are, where nothing is wrong with them
-record AreRight (c : Class) (fs : List Field) : Type 0 where
-  pub rising : rises_above 0 fs ≡ true
-  pub required : has_required c fs ≡ true
-  pub take : takes_each c fs ≡ true
-  pub fit : fits_each c fs ≡ true
-
-if_none : (b : Bool) (w : MisfitWhy) (r : Option MisfitWhy) → (if not b then Some w else r) ≡ None → (b ≡ true) × (r ≡ None)
-if_none true w r e = (refl, e)
-if_none false w r e = absurd cc
-
-if_no_none : (b : Bool) (w : MisfitWhy) (r : Option MisfitWhy) → (if b then Some w else r) ≡ None → (b ≡ false) × (r ≡ None)
-if_no_none true w r e = absurd cc
-if_no_none false w r e = (refl, e)
-
-or_none : (o r : Option MisfitWhy) → option_or o r ≡ None → (o ≡ None) × (r ≡ None)
-or_none None r e = (refl, e)
-or_none (Some w) r e = absurd cc
-
-are_right : (c : Class) (fs : List Field) → fields_misfit c fs ≡ None → AreRight c fs
-are_right c fs e =
-    let a = if_none (is_rising fs) _ _ e in
-    let b = if_none (has_required c fs) _ _ a.1 in
-    let d = if_none (takes_each c fs) _ _ b.1 in
-    let f = if_none (fits_each c fs) _ _ d.1 in
-    record { rising = a.0; required = b.0; take = d.0; fit = f.0 }
-
-none_is : (o : Option MisfitWhy) → is_none o ≡ true → o ≡ None
-none_is None h = refl
-none_is (Some w) h = absurd cc
 
 is_none_of : (o : Option MisfitWhy) → o ≡ None → is_none o ≡ true
 is_none_of o h = rw h refl
@@ -222,7 +194,7 @@ ingredient_reads = record {
 
 -- the items
 
-members : Reads (list_at ingredient_at 4096) (list ingredient) (is_list fits_ingredient) (is_list fits_ingredient)
+members : Reads (list_at ingredient_at longest_list) (list ingredient) (is_list fits_ingredient) (is_list fits_ingredient)
 members = list_reads ingredient_reads
 
 items_read : (e : Element) (is : List Ingredient) → Good e → e.tag ≡ own 3 → items_at e ≡ Ok is → (written e ≡ items is) × (is_list fits_ingredient is ≡ true)
@@ -433,14 +405,14 @@ whole_body : (c : Class) (left : Rest) (x : List Field × Option (List Ingredien
 whole_body c left x e fs bytes read done =
     let b = body_read c left x bytes read in
     let all = complete_is c x.0 e fs done in
-    let few = and_true (nat_le (length (written_items x.1)) 4096) (list_all fits_ingredient (written_items x.1)) b.2 in
+    let few = and_true (nat_le (length (written_items x.1)) longest_list) (list_all fits_ingredient (written_items x.1)) b.2 in
     let them = all_fit (written_items x.1) few.1 in
     record {
       is = b.0 ∙ ap (λ (gs : List Field). body_octets x.1 gs) all.0;
       fit = subst (FitFields c 0) all.0 b.1;
       required = all.1;
       none_wrong = them.none_wrong;
-      good = both_true (nat_le (length (written_items x.1)) 4096) (list_all is_ingredient (written_items x.1)) few.0 them.good;
+      good = both_true (nat_le (length (written_items x.1)) longest_list) (list_all is_ingredient (written_items x.1)) few.0 them.good;
     }
 
 abbrev GroupIs : Element → Written → Type 0
@@ -468,19 +440,6 @@ group_read e g good is =
       group_held c.value name.value a.value.1 d.value x.value.1 (and_true (list_all is_name_byte name.value) true i.1).0 b,
       group_fits c.value name.value a.value.1 d.value x.value.1 called.1 b,
     )
-
-record IsRight (g : Written) : Type 0 where
-  pub class : is_group_class g.class ≡ true
-  pub fields : AreRight g.class g.fields
-  pub items : ingredients_misfit (items_of g) ≡ None
-
-is_right : (g : Written) → is_group g ≡ true → IsRight g
-unfolding misfit_of
-is_right g h =
-    let n = none_is (misfit_of g) h in
-    let a = if_none (is_group_class g.class) _ _ n in
-    let b = or_none (fields_misfit g.class g.fields) (ingredients_misfit (items_of g)) a.1 in
-    record { class = a.0; fields = are_right g.class g.fields b.0; items = b.1 }
 
 none_misfit : (is : List Ingredient) → ingredients_misfit is ≡ None → list_all (λ i. is_none (ingredient_misfit i)) is ≡ true
 none_misfit [] h = refl

@@ -1,25 +1,21 @@
 -- Lists of members up to their end, and fields up to theirs, one at a time.
-use Rattle.std.proofs.Common.{◌≡◌, ℕ, zero, suc, ◌+◌, ◌<◌, List, [], ◌∷◌, ◌++◌, Option, Some, None, Result, Ok, refl, ap, arith}
-use Rattle.mh_der.specs.Rest.{Rest, Element}
+use Rattle.std.proofs.Common.{◌≡◌, ℕ, zero, suc, ◌+◌, ◌<◌, List, [], ◌∷◌, ◌++◌, Option, Some, None, Result, Ok, refl, arith}
+use Rattle.mh_base.specs.Reading.{Rest}
+use Rattle.mh_base.proofs.ReadingLemmas.{fails_bind}
+use Rattle.mh_der.specs.Rest.{Element}
 use Rattle.mh_group.specs.declared.class.Class.{Class}
 use Rattle.mh_group.specs.declared.written.Field.{Field}
 use Rattle.mh_group.specs.Table.{attribute_number}
 use Rattle.mh_codec.specs.declared.codec_error.CodecError.{CodecError}
-use Rattle.mh_codec.specs.declared.codec_error.CodecError.TheVariants.{At, NoMemory}
 use Rattle.mh_codec.specs.declared.codec_error.Why.TheVariants.{Limit}
-use Rattle.mh_codec.specs.Gives.{Refusal, Fails, ◌>>=◌}
+use Rattle.mh_codec.specs.Gives.{Refusal, Fails, told}
 use Rattle.mh_codec.specs.Reading.{exhausted, listed, next_member, fields, next_field}
-
--- a refusal stays, whatever was to follow
-pub fails_bind : {A B : Type 0} (error : CodecError) (read : Result A Refusal) (f : A → Result B Refusal) → Fails error read → Fails error (read >>= f)
-fails_bind NoMemory read f h = tt
-fails_bind (At w o) read f h = ap (λ r. r >>= f) h
 
 module _ {A : Type 0} (member : Element → Result A Refusal) where
   pub listed_fails : (n : ℕ) (done : List A) (left : Rest) (error : CodecError) → 0 < n → Fails error (next_member member left) → Fails error (listed member n done left)
   unfolding listed
   listed_fails zero done left error some h = absurd (omega arith)
-  listed_fails (suc n) done left error some h = fails_bind error (next_member member left) _ h
+  listed_fails (suc n) done left error some h = fails_bind (told error) (next_member member left) _ h
 
   pub listed_done : (n : ℕ) (done : List A) (left rest : Rest) (o : Option A) → 0 < n → next_member member left ≡ Ok (o, rest) → o ≡ None → listed member n done left ≡ Ok done
   unfolding listed
@@ -42,13 +38,13 @@ module _ {A : Type 0} (member : Element → Result A Refusal) where
 
   pub listed_full_fails : (n : ℕ) (done : List A) (left : Rest) (error : CodecError) → n ≡ 0 → Fails error (exhausted Limit left) → Fails error (listed member n done left)
   unfolding listed
-  listed_full_fails zero done left error z h = fails_bind error (exhausted Limit left) _ h
+  listed_full_fails zero done left error z h = fails_bind (told error) (exhausted Limit left) _ h
   listed_full_fails (suc n) done left error z h = absurd (omega arith)
 
 pub fields_fail : (c : Class) (n last : ℕ) (done : List Field) (left : Rest) (error : CodecError) → 0 < n → Fails error (next_field c last left) → Fails error (fields c n last done left)
 unfolding fields
 fields_fail c zero last done left error some h = absurd (omega arith)
-fields_fail c (suc n) last done left error some h = fails_bind error (next_field c last left) _ h
+fields_fail c (suc n) last done left error some h = fails_bind (told error) (next_field c last left) _ h
 
 pub fields_done : (c : Class) (n last : ℕ) (done : List Field) (left rest : Rest) (o : Option Field) (i : Option Element) → 0 < n → next_field c last left ≡ Ok (o, i, rest) → o ≡ None → fields c n last done left ≡ Ok (done, i, rest)
 unfolding fields

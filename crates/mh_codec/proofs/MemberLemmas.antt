@@ -2,10 +2,13 @@
 use Rattle.std.proofs.Common.{◌≡◌, ℕ, zero, suc, ◌<◌, ◌≤◌, ◌^◌, Bool, true, false, nat_le, if◌then◌else◌, List, [], ◌∷◌, ◌++◌, length, Option, Some, None, Result, Ok, refl, ap, sym, ◌∙◌, subst, arith, append-nil, append_assoc, length-append}
 use Rattle.std.specs.List.{list_all}
 use Rattle.std.proofs.lemmas.Bool.Decides.{nat_tests}
+use Rattle.mh_base.specs.Reading.{Rest, ◌>>=◌}
+use Rattle.mh_base.specs.Limits.{longest_list}
+use Rattle.mh_base.proofs.ReadingLemmas.{went, if_ok, ok_same}
 use Rattle.mh_der.specs.declared.tag.Tag.{Tag}
 use Rattle.mh_der.specs.Tags.{sequence_tag}
 use Rattle.mh_der.specs.Element.{element}
-use Rattle.mh_der.specs.Rest.{Rest, Element}
+use Rattle.mh_der.specs.Rest.{Element}
 use Rattle.mh_der.specs.Reading.{is_empty}
 use Rattle.mh_der.proofs.DigitLemmas.{AreBytes}
 use Rattle.mh_der.proofs.ElementLaws.{Found, element_longer}
@@ -13,9 +16,9 @@ use Rattle.mh_group.specs.Holdable.{is_list}
 use Rattle.mh_codec.specs.declared.codec_error.Why.{Why}
 use Rattle.mh_codec.specs.declared.codec_error.Why.TheVariants.{Limit}
 use Rattle.mh_codec.specs.Spelling.{several, list}
-use Rattle.mh_codec.specs.Gives.{Refusal, ◌>>=◌}
+use Rattle.mh_codec.specs.Gives.{Refusal}
 use Rattle.mh_codec.specs.Reading.{taken, sequence_at, exhausted, next_member, continued, listed, list_at}
-use Rattle.mh_codec.proofs.ElementLemmas.{went, if_ok, ok_same, written, Good, same_element, taken_found, good_found, taken_given}
+use Rattle.mh_codec.proofs.ElementLemmas.{written, Good, same_element, taken_found, good_found, taken_given}
 use Rattle.mh_codec.proofs.ValueLemmas.{sequence_read, sequence_written}
 use Rattle.mh_codec.proofs.ReferenceLemmas.{IsOne, Reads, and_true, both_true, spelled_as}
 
@@ -38,10 +41,10 @@ pub exhausted_given : (w : Why) (left : Rest) → left.bytes ≡ [] → exhauste
 unfolding exhausted
 exhausted_given w left e = rw e refl
 
-short_enough : (n : ℕ) → n ≤ 4096 → nat_le n 4096 ≡ true
+short_enough : (n : ℕ) → n ≤ longest_list → nat_le n longest_list ≡ true
 short_enough n h = grind (arith, nat_tests)
 
-pub few_enough : (n : ℕ) → nat_le n 4096 ≡ true → n ≤ 4096
+pub few_enough : (n : ℕ) → nat_le n longest_list ≡ true → n ≤ longest_list
 few_enough n h = grind (arith, nat_tests)
 
 module _ {A : Type 0} {member : Element → Result A Refusal} {spelling : A → List ℕ} {is_good is_fit : A → Bool} (reads : Reads member spelling is_good is_fit) where
@@ -101,7 +104,7 @@ module _ {A : Type 0} {member : Element → Result A Refusal} {spelling : A → 
   members_found (suc n) done left xs bytes e =
       members_next n done left xs (is_empty left.bytes) refl bytes e (λ rest x. members_found n (done ++ x ∷ []) rest xs)
 
-  pub several_found : (limit : ℕ) (left : Rest) (xs : List A) → limit ≤ 4096 → AreBytes left.bytes → listed member limit [] left ≡ Ok xs
+  pub several_found : (limit : ℕ) (left : Rest) (xs : List A) → limit ≤ longest_list → AreBytes left.bytes → listed member limit [] left ≡ Ok xs
       → (left.bytes ≡ several spelling xs) × (is_list is_good xs ≡ true)
   several_found limit left xs few bytes read =
       let m = members_found limit [] left xs bytes read in
@@ -111,7 +114,7 @@ module _ {A : Type 0} {member : Element → Result A Refusal} {spelling : A → 
       )
 
   -- a whole list
-  pub list_found : (limit : ℕ) (e : Element) (xs : List A) → limit ≤ 4096 → Good e → list_at member limit e ≡ Ok xs → (written e ≡ list spelling xs) × (is_list is_good xs ≡ true)
+  pub list_found : (limit : ℕ) (e : Element) (xs : List A) → limit ≤ longest_list → Good e → list_at member limit e ≡ Ok xs → (written e ≡ list spelling xs) × (is_list is_good xs ≡ true)
   unfolding list list_at
   list_found limit e xs few good is =
       let inner = went (sequence_at e) _ xs is in
@@ -148,14 +151,14 @@ module _ {A : Type 0} {member : Element → Result A Refusal} {spelling : A → 
   unfolding list
   list_one xs = record { tag = sequence_tag; contents = several spelling xs; small = omega arith; is = refl }
 
-  list_whole : (e : Element) (xs : List A) → e.tag.number < 2 ^ 16 → is_list is_fit xs ≡ true → written e ≡ list spelling xs → list_at member 4096 e ≡ Ok xs
+  list_whole : (e : Element) (xs : List A) → e.tag.number < 2 ^ 16 → is_list is_fit xs ≡ true → written e ≡ list spelling xs → list_at member longest_list e ≡ Ok xs
   list_whole e xs small good is =
-      let parts = and_true (nat_le (length xs) 4096) (list_all is_fit xs) good in
-      list_given 4096 e xs small (few_enough (length xs) parts.0) parts.1 is
+      let parts = and_true (nat_le (length xs) longest_list) (list_all is_fit xs) good in
+      list_given longest_list e xs small (few_enough (length xs) parts.0) parts.1 is
 
-  pub list_reads : Reads (list_at member 4096) (list spelling) (is_list is_good) (is_list is_fit)
+  pub list_reads : Reads (list_at member longest_list) (list spelling) (is_list is_good) (is_list is_fit)
   list_reads = record {
-    found = λ e xs good is. list_found 4096 e xs (omega arith) good is;
+    found = λ e xs good is. list_found longest_list e xs (omega arith) good is;
     given = list_whole;
     one = λ xs good. list_one xs;
   }

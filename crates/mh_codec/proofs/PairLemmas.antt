@@ -2,8 +2,10 @@
 use Rattle.std.proofs.Common.{◌≡◌, ℕ, ◌<◌, ◌^◌, Bool, true, false, ◌&&◌, List, [], ◌++◌, Ok, ℤ, pos, negsuc, int_lt, refl, ap, sym, ◌∙◌, subst, arith, append-nil}
 use Rattle.std.specs.Ordering.{int_eq}
 use Rattle.std.proofs.lemmas.Bool.Decides.{nat_tests}
+use Rattle.mh_base.specs.Reading.{Rest}
+use Rattle.mh_base.proofs.ReadingLemmas.{went, if_ok, ok_same}
 use Rattle.mh_der.specs.Tags.{sequence_tag}
-use Rattle.mh_der.specs.Rest.{Rest, Element}
+use Rattle.mh_der.specs.Rest.{Element}
 use Rattle.mh_der.proofs.DigitLemmas.{AreBytes}
 use Rattle.mh_group.specs.declared.shape.Shape.{Shape}
 use Rattle.mh_group.specs.declared.shape.Shape.TheVariants as shape
@@ -13,7 +15,7 @@ use Rattle.mh_group.specs.Holdable.{is_integer, is_position}
 use Rattle.mh_codec.specs.declared.codec_error.Why.TheVariants.{BadValue}
 use Rattle.mh_codec.specs.Spelling.{integer, natural, position}
 use Rattle.mh_codec.specs.Reading.{taken, ended, integer_at, natural_at, fixed_at, sequence_at, position_at, part, pair}
-use Rattle.mh_codec.proofs.ElementLemmas.{went, if_ok, ok_same, written, in_parts, last_part, Good, same_element, taken_found, good_found, taken_given, nothing_left, ended_given}
+use Rattle.mh_codec.proofs.ElementLemmas.{written, in_parts, last_part, Good, same_element, taken_found, good_found, taken_given, nothing_left, ended_given}
 use Rattle.mh_codec.proofs.ValueLemmas.{sequence_read, sequence_written, integer_read, integer_written, natural_read, natural_written}
 use Rattle.mh_codec.proofs.ReferenceLemmas.{IsOne, Reads, and_true, both_true, spelled_as, integer_one}
 

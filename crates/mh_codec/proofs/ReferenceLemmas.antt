@@ -3,11 +3,13 @@
 use Rattle.std.proofs.Common.{◌≡◌, ℕ, ◌<◌, ◌^◌, Bool, true, false, ◌&&◌, List, [], ◌++◌, Result, Ok, ℤ, pos, refl, ap, sym, ◌∙◌, subst, arith, append-nil}
 use Rattle.std.specs.List.{list_all}
 use Rattle.mh_base.specs.Path.{is_name_byte}
+use Rattle.mh_base.specs.Reading.{Rest}
+use Rattle.mh_base.proofs.ReadingLemmas.{went, ok_same}
 use Rattle.mh_der.specs.declared.tag.Tag.{Tag}
 use Rattle.mh_der.specs.Tags.{boolean_tag, integer_tag, octet_string_tag, sequence_tag}
 use Rattle.mh_der.specs.Element.{element}
 use Rattle.mh_der.specs.Integer.{integer_octets, boolean_octets}
-use Rattle.mh_der.specs.Rest.{Rest, Element}
+use Rattle.mh_der.specs.Rest.{Element}
 use Rattle.mh_der.proofs.DigitLemmas.{AreBytes}
 use Rattle.mh_group.specs.declared.reference.Ref.{Ref}
 use Rattle.mh_group.specs.declared.reference.Ref.TheVariants as ref
@@ -24,7 +26,7 @@ use Rattle.mh_codec.specs.Tags.{kind_of}
 use Rattle.mh_codec.specs.Spelling.{own, integer, natural, boolean, octet_string, named, reference, generic, content_tag, content_name, content_value, data_value}
 use Rattle.mh_codec.specs.Gives.{Refusal}
 use Rattle.mh_codec.specs.Reading.{taken, ended, only, truth_at, integer_at, octets_at, number_at, name_at, content_name_at, content_at, data_at, named_in, reference_at, is_indirect, variable_at, generic_at}
-use Rattle.mh_codec.proofs.ElementLemmas.{went, ok_same, written, in_parts, last_part, Good, same_element, same_number, taken_found, good_found, taken_given, nothing_left, ended_given}
+use Rattle.mh_codec.proofs.ElementLemmas.{written, in_parts, last_part, Good, same_element, same_number, taken_found, good_found, taken_given, nothing_left, ended_given}
 use Rattle.mh_codec.proofs.ValueLemmas.{kind_tag, truth_found, truth_given, integer_read, integer_written, octets_read, octets_are, octets_written, number_read, number_written, name_read, name_written, content_name_read, content_name_written, content_read, content_written, data_read, data_written}
 
 -- bytes that are one element

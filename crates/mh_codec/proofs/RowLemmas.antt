@@ -2,8 +2,11 @@
 -- spelled so is read.
 use Rattle.std.proofs.Common.{◌≡◌, ℕ, ◌<◌, ◌^◌, Bool, true, ◌&&◌, ◌==◌, nat_le, List, [], ◌∷◌, ◌++◌, length, Ok, refl, ap, sym, ◌∙◌, subst, arith, append-nil}
 use Rattle.std.specs.List.{list_all}
+use Rattle.mh_base.specs.Reading.{Rest}
+use Rattle.mh_base.specs.Limits.{longest_list}
+use Rattle.mh_base.proofs.ReadingLemmas.{went, ok_same}
 use Rattle.mh_der.specs.Tags.{octet_string_tag, sequence_tag}
-use Rattle.mh_der.specs.Rest.{Rest, Element}
+use Rattle.mh_der.specs.Rest.{Element}
 use Rattle.mh_der.proofs.DigitLemmas.{AreBytes}
 use Rattle.mh_group.specs.declared.action.Action.{Action}
 use Rattle.mh_group.specs.declared.written.Member.{Member}
@@ -13,7 +16,7 @@ use Rattle.mh_group.specs.Holdable.{is_integer, is_name, is_reference, is_list, 
 use Rattle.mh_codec.specs.declared.codec_error.Why.TheVariants.{UnknownTag}
 use Rattle.mh_codec.specs.Spelling.{integer, octet_string, reference, several, list, action, member, next_scene}
 use Rattle.mh_codec.specs.Reading.{taken, ended, sequence_at, integer_at, name_at, reference_at, listed, effect_at, member_in, member_at, exhausted, list_item_in, list_item_at, next_scene_in, next_scene_at}
-use Rattle.mh_codec.proofs.ElementLemmas.{went, ok_same, written, in_parts, last_part, Good, same_element, same_number, taken_found, good_found, taken_given, nothing_left, ended_given}
+use Rattle.mh_codec.proofs.ElementLemmas.{written, in_parts, last_part, Good, same_element, same_number, taken_found, good_found, taken_given, nothing_left, ended_given}
 use Rattle.mh_codec.proofs.ValueLemmas.{integer_read, integer_written, name_read, name_written, sequence_read, sequence_written}
 use Rattle.mh_codec.proofs.ReferenceLemmas.{IsOne, Reads, and_true, both_true, spelled_as, integer_one, reference_one, reference_read, reference_written}
 use Rattle.mh_codec.proofs.MemberLemmas.{exhausted_is, exhausted_given, few_enough, several_found, several_given, list_reads}
@@ -31,8 +34,8 @@ list_both p q (x ∷ xs) h i =
 -- a list whose members fit and can be held
 pub list_fit : {A : Type 0} (p q : A → Bool) (xs : List A) → list_all p xs ≡ true → is_list q xs ≡ true → is_list (λ x. p x && q x) xs ≡ true
 list_fit p q xs fit good =
-    let parts = and_true (nat_le (length xs) 4096) (list_all q xs) good in
-    both_true (nat_le (length xs) 4096) (list_all (λ x. p x && q x) xs) parts.0 (list_both p q xs fit parts.1)
+    let parts = and_true (nat_le (length xs) longest_list) (list_all q xs) good in
+    both_true (nat_le (length xs) longest_list) (list_all (λ x. p x && q x) xs) parts.0 (list_both p q xs fit parts.1)
 
 -- effects
 
@@ -57,9 +60,9 @@ member_found left m bytes is =
     let a = went (taken left) _ m is in
     let f = taken_found left a.value.0 a.value.1 bytes a.first in
     let o = went (reference_at a.value.0) _ m a.behind in
-    let slots = went (listed effect_at 4096 [] a.value.1) _ m o.behind in
+    let slots = went (listed effect_at longest_list [] a.value.1) _ m o.behind in
     let r = reference_read a.value.0 o.value (good_found left a.value.0 a.value.1 f) o.first in
-    let s = several_found effect_reads 4096 a.value.1 slots.value (omega arith) f.rest slots.first in
+    let s = several_found effect_reads longest_list a.value.1 slots.value (omega arith) f.rest slots.first in
     subst (IsMember left.bytes) (ok_same slots.behind) (
       in_parts left.bytes (written a.value.0) a.value.1.bytes (reference o.value) (several (list action) slots.value) f.written r.0 s.0,
       both_true (is_reference o.value) (is_list (is_list is_action) slots.value) r.1 s.1,
@@ -81,11 +84,11 @@ unfolding member_in
 member_given left m fit is =
     let parts = and_true (fits_member m) (is_member m) fit in
     let goods = and_true (is_reference m.object) (is_list (is_list is_action) m.slots) parts.1 in
-    let slots = and_true (nat_le (length m.slots) 4096) (list_all (is_list is_action) m.slots) goods.1 in
+    let slots = and_true (nat_le (length m.slots) longest_list) (list_all (is_list is_action) m.slots) goods.1 in
     let one = reference_one m.object in
     let g = taken_given left one.tag one.contents (several (list action) m.slots) one.small (is ∙ ap (λ (bs : List ℕ). bs ++ several (list action) m.slots) one.is) in
     let object = reference_written g.found m.object g.small goods.0 (g.is ∙ sym one.is) in
-    let rest = several_given effect_reads 4096 m.slots g.rest (few_enough (length m.slots) slots.0) (effects_fit m.slots parts.0 slots.1) g.behind in
+    let rest = several_given effect_reads longest_list m.slots g.rest (few_enough (length m.slots) slots.0) (effects_fit m.slots parts.0 slots.1) g.behind in
     rw (g.takes, object, rest) refl
 
 member_written : (e : Element) (m : Member) → e.tag.number < 2 ^ 16 → fits_and_is_member m ≡ true → written e ≡ member m → member_at e ≡ Ok m

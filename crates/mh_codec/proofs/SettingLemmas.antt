@@ -3,7 +3,10 @@ use Rattle.std.proofs.Common.{◌≡◌, ℕ, ◌≤◌, ◌<◌, ◌^◌, true,
 use Rattle.std.specs.List.{list_all}
 use Rattle.std.proofs.lemmas.Bool.Decides.{nat_tests}
 use Rattle.mh_base.specs.Event.{number_of}
-use Rattle.mh_der.specs.Rest.{Rest, Element}
+use Rattle.mh_base.specs.Reading.{Rest, ◌>>=◌}
+use Rattle.mh_base.specs.Limits.{longest_list}
+use Rattle.mh_base.proofs.ReadingLemmas.{went, ok_same}
+use Rattle.mh_der.specs.Rest.{Element}
 use Rattle.mh_der.proofs.DigitLemmas.{AreBytes}
 use Rattle.mh_group.specs.declared.shape.Shape.{Shape}
 use Rattle.mh_group.specs.declared.shape.Shape.TheVariants as shape
@@ -14,9 +17,8 @@ use Rattle.mh_group.specs.Words.{justification_number}
 use Rattle.mh_group.specs.Fit.{fits, fits_action, fits_member, is_list_item}
 use Rattle.mh_group.specs.Holdable.{colour_octets, is_integer, is_action, is_list, is_member, is_position, is_next_scene, is_setting}
 use Rattle.mh_codec.specs.Spelling.{integer, list, member, position, next_scene, value}
-use Rattle.mh_codec.specs.Gives.{◌>>=◌}
 use Rattle.mh_codec.specs.Reading.{only, truth_at, integer_at, octets_at, natural_at, length_at, event_at, justification_at, colour_at, reference_at, content_name_at, content_at, data_at, list_at, effect_at, row_at, member_at, list_item_at, position_at, next_scene_at, single, pair, setting}
-use Rattle.mh_codec.proofs.ElementLemmas.{went, ok_same, written, Good}
+use Rattle.mh_codec.proofs.ElementLemmas.{written, Good}
 use Rattle.mh_codec.proofs.ValueLemmas.{truth_found, truth_given, integer_read, integer_written, natural_read, length_read, length_written, event_read, event_written, justification_read, justification_written, colour_read, colour_written}
 use Rattle.mh_codec.proofs.ReferenceLemmas.{IsOne, Reads, and_true, boolean_one, integer_one, octets_one, content_name_one, content_one, data_one, reference_one, reference_read, reference_written, integer_reads, octets_reads, content_name_reads, content_reads, data_reads, only_read, only_written}
 use Rattle.mh_codec.proofs.MemberLemmas.{list_found, list_given, list_one, list_reads}
@@ -34,16 +36,16 @@ pair_setting s left v bytes is =
 
 -- lists
 
-rows : Reads (list_at row_at 4096) (list (list integer)) (is_list (is_list is_integer)) (is_list (is_list is_integer))
+rows : Reads (list_at row_at longest_list) (list (list integer)) (is_list (is_list is_integer)) (is_list (is_list is_integer))
 rows = list_reads (list_reads integer_reads)
 
-members : Reads (list_at member_at 4096) (list member) (is_list is_member) (is_list fits_and_is_member)
+members : Reads (list_at member_at longest_list) (list member) (is_list is_member) (is_list fits_and_is_member)
 members = list_reads member_reads
 
-positions : Reads (list_at position_at 4096) (list position) (is_list is_position) (is_list is_position)
+positions : Reads (list_at position_at longest_list) (list position) (is_list is_position) (is_list is_position)
 positions = list_reads position_reads
 
-scenes : Reads (list_at next_scene_at 4096) (list next_scene) (is_list is_next_scene) (is_list is_next_scene)
+scenes : Reads (list_at next_scene_at longest_list) (list next_scene) (is_list is_next_scene) (is_list is_next_scene)
 scenes = list_reads scene_reads
 
 few_items : (n : ℕ) → nat_le n 256 ≡ true → n ≤ 256
@@ -52,7 +54,7 @@ few_items n h = grind (arith, nat_tests)
 items_written : (e : Element) (ms : List Member) → e.tag.number < 2 ^ 16 → (nat_le (length ms) 256 && list_all is_list_item ms) ≡ true → is_list is_member ms ≡ true → written e ≡ list member ms → list_at list_item_at 256 e ≡ Ok ms
 items_written e ms small fit good is =
     let parts = and_true (nat_le (length ms) 256) (list_all is_list_item ms) fit in
-    let goods = and_true (nat_le (length ms) 4096) (list_all is_member ms) good in
+    let goods = and_true (nat_le (length ms) longest_list) (list_all is_member ms) good in
     list_given item_reads 256 e ms small (few_items (length ms) parts.0) (list_both is_list_item is_member ms parts.1 goods.1) is
 
 -- what is read is spelled so
@@ -96,19 +98,19 @@ single_read shape.Justification e v good is =
     let x = went (justification_at e) _ v is in
     subst (Spelled e) (ok_same x.behind) (justification_read e x.value good x.first, refl)
 single_read shape.MovementTable e v good is =
-    let x = went (list_at row_at 4096 e) _ v is in
+    let x = went (list_at row_at longest_list e) _ v is in
     subst (Spelled e) (ok_same x.behind) (rows.found e x.value good x.first)
 single_read shape.Members e v good is =
-    let x = went (list_at member_at 4096 e) _ v is in
+    let x = went (list_at member_at longest_list e) _ v is in
     subst (Spelled e) (ok_same x.behind) (members.found e x.value good x.first)
 single_read shape.ListItems e v good is =
     let x = went (list_at list_item_at 256 e) _ v is in
     subst (Spelled e) (ok_same x.behind) (list_found item_reads 256 e x.value (omega arith) good x.first)
 single_read shape.Positions e v good is =
-    let x = went (list_at position_at 4096 e) _ v is in
+    let x = went (list_at position_at longest_list e) _ v is in
     subst (Spelled e) (ok_same x.behind) (positions.found e x.value good x.first)
 single_read shape.NextScenes e v good is =
-    let x = went (list_at next_scene_at 4096 e) _ v is in
+    let x = went (list_at next_scene_at longest_list e) _ v is in
     subst (Spelled e) (ok_same x.behind) (scenes.found e x.value good x.first)
 single_read shape.Colour e v good is =
     let x = went (colour_at e) _ v is in

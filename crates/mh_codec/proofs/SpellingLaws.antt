@@ -1,8 +1,10 @@
 -- The laws that join the reading to the spelling: what is read is spelled so, and what is spelled so is
 -- read.
-use Rattle.std.proofs.Common.{◌≡◌, ◌≢◌, ℕ, ◌≤◌, true, false, nat_lt, List, [], length, Result, Ok, Err, IfErr, refl, sym, ◌∙◌, subst, arith, append-nil}
-use Rattle.std.proofs.lemmas.Bool.Decides.{nat_tests}
-use Rattle.mh_der.specs.Rest.{Rest, Element, whole}
+use Rattle.std.proofs.Common.{◌≡◌, ◌≢◌, ℕ, true, nat_lt, List, [], length, Result, Ok, Err, IfErr, refl, sym, ◌∙◌, subst, append-nil}
+use Rattle.mh_base.specs.Reading.{Rest, whole}
+use Rattle.mh_base.specs.Limits.{largest_file}
+use Rattle.mh_base.proofs.ReadingLemmas.{went, if_not_ok, ok_same, one_answer, is_file, file_is}
+use Rattle.mh_der.specs.Rest.{Element}
 use Rattle.mh_der.proofs.DigitLemmas.{AreBytes}
 use Rattle.mh_group.specs.declared.written.Written.{Written as Group}
 use Rattle.mh_group.specs.Fit.{is_group}
@@ -11,23 +13,17 @@ use Rattle.mh_codec.specs.declared.codec_error.CodecError.TheVariants.{At, NoMem
 use Rattle.mh_codec.specs.declared.codec_error.Why.TheVariants.{Limit}
 use Rattle.mh_codec.specs.Spelling.{group}
 use Rattle.mh_codec.specs.Writable.{Spells, SpellsNone, SpellsNoOther}
-use Rattle.mh_codec.specs.Gives.{Refusal, Fails, Gives}
+use Rattle.mh_codec.specs.Gives.{Fails, Gives}
 use Rattle.mh_codec.specs.Reading.{taken, ended, group_at, read}
 use Rattle.mh_codec.specs.Laws.{SpellsOne}
-use Rattle.mh_codec.proofs.ElementLemmas.{went, if_not_ok, ok_same, written, last_part, taken_found, good_found, taken_given, nothing_left, ended_given}
+use Rattle.mh_codec.proofs.ElementLemmas.{written, last_part, taken_found, good_found, taken_given, nothing_left, ended_given}
 use Rattle.mh_codec.proofs.GroupLemmas.{group_read, group_written, group_one}
-
-not_above : (n : ℕ) → nat_lt 1048576 n ≡ false → n ≤ 1048576
-not_above n h = grind (arith, nat_tests)
-
-not_long : (n : ℕ) → n ≤ 1048576 → nat_lt 1048576 n ≡ false
-not_long n h = grind (arith, nat_tests)
 
 -- what is read is spelled so
 pub read_found : (octets : List ℕ) (g : Group) → AreBytes octets → read octets ≡ Ok g → Spells octets g
 unfolding read Spells
 read_found octets g bytes is =
-    let t = if_not_ok (nat_lt 1048576 (length octets)) _ Limit 0 g is in
+    let t = if_not_ok (nat_lt largest_file (length octets)) _ Limit 0 g is in
     let a = went (taken (whole octets)) _ g t.1 in
     let f = taken_found (whole octets) a.value.0 a.value.1 bytes a.first in
     let x = went (group_at a.value.0) _ g a.behind in
@@ -35,7 +31,7 @@ read_found octets g bytes is =
     let none = nothing_left a.value.1 end.first in
     let r = group_read a.value.0 x.value (good_found (whole octets) a.value.0 a.value.1 f) x.first in
     let spelled = last_part octets (written a.value.0) a.value.1.bytes (group x.value) f.written none r.0 in
-    subst (Spells octets) (ok_same end.behind) (spelled, not_above (length octets) t.0, r.1)
+    subst (Spells octets) (ok_same end.behind) (spelled, is_file (length octets) t.0, r.1)
 
 -- the group that an element spells is one that the tables allow
 pub element_fits : (octets : List ℕ) (e : Element) (behind : Rest) (g : Group) → AreBytes octets → taken (whole octets) ≡ Ok (e, behind) → group_at e ≡ Ok g → is_group g ≡ true
@@ -50,17 +46,14 @@ read_given octets g fit (is, short, good) =
     let one = group_one g in
     let a = taken_given (whole octets) one.tag one.contents [] one.small (is ∙ one.is ∙ sym (append-nil _)) in
     let x = group_written a.found g a.small fit good (a.is ∙ sym one.is) in
-    rw (not_long (length octets) short, a.takes, x, ended_given a.rest a.behind) refl
+    rw (file_is (length octets) short, a.takes, x, ended_given a.rest a.behind) refl
 
 pub none_spelled : (octets : List ℕ) (e : CodecError) → Fails e (read octets) → e ≢ NoMemory → SpellsNone octets
 none_spelled octets (At w o) fails other g fit spells = absurd (cc (read_given octets g fit spells))
 none_spelled octets NoMemory fails other g fit spells = other refl
 
-same_read : (g h : Group) (r : Result Group Refusal) → r ≡ Ok g → r ≡ Ok h → h ≡ g
-same_read g h r e f = cc
-
 pub no_other_spelled : (octets : List ℕ) (g : Group) → read octets ≡ Ok g → SpellsNoOther octets g
-no_other_spelled octets g e h fit spells = same_read g h (read octets) e (read_given octets h fit spells)
+no_other_spelled octets g e h fit spells = one_answer g h (read octets) e (read_given octets h fit spells)
 
 -- no octets spell two groups
 pub spells_one : SpellsOne

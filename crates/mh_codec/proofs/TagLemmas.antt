@@ -3,8 +3,8 @@ use Rattle.std.proofs.Common.{◌≡◌, ℕ, ◌+◌, ◌-◌, ◌<◌, ◌≤�
 use Rattle.std.specs.List.{find}
 use Rattle.std.proofs.lemmas.Bool.Decides.{nat_tests}
 use Rattle.mh_group.specs.declared.action_name.ActionName.{ActionName}
-use Rattle.mh_group.specs.Table.{action_number}
 use Rattle.mh_group.specs.Words.{actions}
+use Rattle.mh_group.specs.Table.{action_number}
 use Rattle.mh_codec.specs.Tags.{action_with}
 
 shifted : (m n : ℕ) → 100 ≤ n → (100 + m == n) ≡ (m == n - 100)

@@ -8,9 +8,11 @@ use Rattle.mh_base.specs.declared.event.EventType.{EventType}
 use Rattle.mh_base.specs.declared.event.EventType.TheVariants as event
 use Rattle.mh_base.specs.Event.{event_of as event_with, number_of, event_types}
 use Rattle.mh_base.specs.Path.{is_name_byte}
+use Rattle.mh_base.specs.Reading.{Rest}
+use Rattle.mh_base.proofs.ReadingLemmas.{went, if_ok, if_not_ok, ok_same}
 use Rattle.mh_der.specs.Tags.{boolean_tag, integer_tag, octet_string_tag, sequence_tag}
 use Rattle.mh_der.specs.Integer.{integer_octets, boolean_octets}
-use Rattle.mh_der.specs.Rest.{Rest, Element}
+use Rattle.mh_der.specs.Rest.{Element}
 use Rattle.mh_der.specs.declared.der_error.Why.{Why as DerWhy}
 use Rattle.mh_der.specs.Reading.{told_at, integer_of, boolean_of}
 use Rattle.mh_der.proofs.IntegerLaws.{integer_found, integer_fits, integer_given, boolean_found, boolean_given}
@@ -23,6 +25,7 @@ use Rattle.mh_group.specs.declared.justification.Justification.TheVariants as ju
 use Rattle.mh_group.specs.Words.{justifications, justification_number}
 use Rattle.mh_group.specs.Fit.{is_field_length}
 use Rattle.mh_group.specs.Holdable.{is_integer, is_number, is_name, is_octets, colour_octets, is_content, is_data}
+use Rattle.mh_group.proofs.WritingLemmas.{bytes_are_octets}
 use Rattle.mh_codec.specs.declared.kind.Kind.{Kind}
 use Rattle.mh_codec.specs.declared.kind.Kind.TheVariants as kind
 use Rattle.mh_codec.specs.declared.codec_error.Why.{Why}
@@ -31,7 +34,7 @@ use Rattle.mh_codec.specs.Tags.{kind_of}
 use Rattle.mh_codec.specs.Spelling.{own, integer, natural, boolean, octet_string, content_tag, content_name, content_value, data_value, colour_value}
 use Rattle.mh_codec.specs.Gives.{der}
 use Rattle.mh_codec.specs.Reading.{some_at, admitted, truth_at, integer_at, octets_at, sequence_at, own_at, primitive_at, natural_at, length_at, number_at, ingredient_number_at, name_at, content_name_at, content_at, data_at, event_at, justification_at, colour_of, colour_at}
-use Rattle.mh_codec.proofs.ElementLemmas.{went, if_ok, if_not_ok, ok_same, written, bytes_are_octets, Good, same_element, tag_of_kind, told_by, same_number, find_holds, primitive}
+use Rattle.mh_codec.proofs.ElementLemmas.{written, Good, same_element, tag_of_kind, told_by, same_number, find_holds, primitive}
 
 -- what an element's own reading told
 told_ok : {A : Type 0} (e : Element) (r : Result A DerWhy) (x : A) → der (told_at e r) ≡ Ok x → r ≡ Ok x

@@ -1,25 +1,15 @@
 -- What the writer rests on: lists in two parts, and groups with no spelling.
-use Rattle.std.proofs.Common.{◌≡◌, ℕ, ◌+◌, ◌-◌, ◌<◌, Bool, true, false, ◌&&◌, List, ◌++◌, length, take, drop, get_or, Result, Ok, Err, OnOk, IfErr, refl, ap, sym, ◌∙◌, arith, append_assoc}
+use Rattle.std.proofs.Common.{◌≡◌, ℕ, ◌+◌, ◌<◌, Bool, true, false, ◌&&◌, List, ◌++◌, length, drop, get_or, Result, Ok, Err, IfErr, refl, ap, sym, ◌∙◌, arith, append_assoc}
 use Rattle.std.specs.List.{list_all}
-use Rattle.std.proofs.lemmas.List.Folds.{list_all-append, list_all_at}
-use Rattle.std.proofs.lemmas.List.{take-append-drop, take_all, length-drop, at_drop_more}
+use Rattle.std.proofs.lemmas.List.Folds.{list_all_at}
+use Rattle.std.proofs.lemmas.List.{at_drop_more}
+use Rattle.mh_base.specs.Limits.{largest_file}
 use Rattle.mh_group.specs.declared.written.Written.{Written}
 use Rattle.mh_group.specs.Holdable.{is_holdable}
 use Rattle.mh_codec.specs.declared.codec_error.CodecError.{CodecError}
 use Rattle.mh_codec.specs.Spelling.{several, group}
 use Rattle.mh_codec.specs.Writable.{Spells}
 use Rattle.mh_codec.specs.Unwritable.{Refuses, HasNoSpelling}
-
--- a test of all members is one of a slice up to a place and of that from there on
-pub all_parts : {A : Type 0} (p : A → Bool) (n : ℕ) (xs : List A) → (list_all p (take n xs) && list_all p (take (length xs - n) (drop n xs))) ≡ list_all p xs
-all_parts p n xs =
-    let behind : take (length xs - n) (drop n xs) ≡ drop n xs = take_all (length xs - n) (drop n xs) (omega (arith, length-drop n xs)) in
-    rw behind (sym (list_all-append p (take n xs) (drop n xs)) ∙ ap (λ l. list_all p l) (take-append-drop n xs))
-
--- where the part in front fits, the whole fits as the part behind does
-pub whole_fits : {X E : Type 0} (r : Result X E) (front behind : Bool) → front ≡ true → OnOk r (behind ≡ true) → OnOk r ((front && behind) ≡ true)
-whole_fits (Ok x) front behind f b = rw (f, b) refl
-whole_fits (Err e) front behind f b = tt
 
 pub whole_refused : {X : Type 0} (r : Result X CodecError) (front behind others : Bool) → front ≡ true → IfErr r (Refuses behind) → IfErr r (Refuses ((front && behind) && others))
 whole_refused (Ok x) front behind others f b = tt
@@ -50,7 +40,7 @@ unfolding Spells
 none_spells_unwritable g bad octets s = cc
 
 -- nor has what a file cannot hold
-pub none_spells_large : (g : Written) (octets : List ℕ) → octets ≡ group g → 1048576 < length octets → HasNoSpelling g
+pub none_spells_large : (g : Written) (octets : List ℕ) → octets ≡ group g → largest_file < length octets → HasNoSpelling g
 unfolding Spells
 none_spells_large g octets e large other s =
     let same : length other ≡ length octets = ap (λ l. length l) (s.0 ∙ sym e) in

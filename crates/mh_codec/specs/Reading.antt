@@ -1,7 +1,7 @@
 -- The exact reading: the group that the octets spell, or the first refusal from the left. It goes from
 -- element to element, as the reader does; what it means is said by the laws that join it to the
 -- spelling.
-use Rattle.std.specs.Prelude.{ℕ, zero, suc, Bool, true, false, ◌||◌, ◌&&◌, not, ◌==◌, nat_lt, nat_le, if◌then◌else◌, List, [], ◌∷◌, ◌++◌, length, Option, Some, None, Result, Ok, ℤ, pos, int_lt, unsigned_abs}
+use Rattle.std.specs.Prelude.{ℕ, zero, suc, Bool, true, false, ◌||◌, ◌&&◌, ◌==◌, nat_lt, nat_le, if◌then◌else◌, List, [], ◌∷◌, ◌++◌, length, Option, Some, None, Result, Ok, ℤ, pos, int_lt, unsigned_abs}
 use Rattle.std.specs.Ordering.{int_eq}
 use Rattle.std.specs.List.{list_all, find}
 use Rattle.mh_base.specs.declared.colour.Colour.{Colour}
@@ -10,7 +10,9 @@ use Rattle.mh_base.specs.Event.{event_of as event_with}
 use Rattle.mh_base.specs.declared.value.Kind.{Kind as ValueKind}
 use Rattle.mh_base.specs.declared.value.Kind.TheVariants as value_kind
 use Rattle.mh_base.specs.Path.{is_name_byte}
-use Rattle.mh_der.specs.Rest.{Rest, Element, whole}
+use Rattle.mh_base.specs.Reading.{Rest, whole, refused, ◌>>=◌, is_same}
+use Rattle.mh_base.specs.Limits.{largest_file, longest_list}
+use Rattle.mh_der.specs.Rest.{Element}
 use Rattle.mh_der.specs.Reading.{next, ended as der_ended, told_at, integer_of, boolean_of, is_empty}
 use Rattle.mh_group.specs.declared.class.Class.{Class}
 use Rattle.mh_group.specs.declared.attribute.Attribute.{Attribute}
@@ -40,15 +42,15 @@ use Rattle.mh_group.specs.declared.written.Setting.TheVariants as of_setting
 use Rattle.mh_group.specs.declared.written.Field.{Field}
 use Rattle.mh_group.specs.declared.written.Ingredient.{Ingredient}
 use Rattle.mh_group.specs.declared.written.Written.{Written}
-use Rattle.mh_group.specs.Table.{attribute_number, shape_of, takes, needs_of, optional_of, is_group_class}
 use Rattle.mh_group.specs.Words.{justifications, justification_number}
 use Rattle.mh_group.specs.Fit.{has_required, is_field_length}
+use Rattle.mh_group.specs.Table.{attribute_number, shape_of, takes, needs_of, optional_of, is_group_class, is_items_shape}
 use Rattle.mh_codec.specs.declared.kind.Kind.{Kind}
 use Rattle.mh_codec.specs.declared.kind.Kind.TheVariants as kind
 use Rattle.mh_codec.specs.declared.codec_error.Why.{Why}
 use Rattle.mh_codec.specs.declared.codec_error.Why.TheVariants.{UnknownTag, MissingField, WrongOrder, Limit, BadValue}
 use Rattle.mh_codec.specs.Tags.{kind_of, class_with, attribute_with, action_with, value_kind_with, items_number, content_name_number, variable_number}
-use Rattle.mh_codec.specs.Gives.{Refusal, refused, der, ◌>>=◌}
+use Rattle.mh_codec.specs.Gives.{Refusal, der}
 
 -- the element is refused
 abbrev pub refused_at : {A : Type 0} → Why → Element → Result A Refusal
@@ -69,10 +71,6 @@ exhausted w left = if is_empty left.bytes then Ok tt else refused w left.offset
 -- what was read, where it may stand; else the element is refused
 abbrev pub admitted : {A : Type 0} → Bool → Why → Element → A → Result A Refusal
 admitted b w e x = if b then Ok x else refused_at w e
-
-abbrev pub is_same : Bool → Bool → Bool
-is_same true b = b
-is_same false b = not b
 
 unfoldable pub truth_at : Element → Result Bool Refusal
 truth_at e = of_kind (kind_of e.tag)
@@ -271,7 +269,7 @@ parameter_at need.Data e = generic_at data_at e >>= λ x. Ok (of_parameter.Data 
 parameter_at need.Event e = event_at e >>= λ x. Ok (of_parameter.Event x)
 parameter_at (need.Receiver _) e = reference_at e >>= λ x. Ok (of_parameter.Receiver x)
 parameter_at need.Typed e = typed_at e >>= λ x. Ok (of_parameter.Typed x)
-parameter_at need.Arguments e = list_at typed_at 4096 e >>= λ x. Ok (of_parameter.Arguments x)
+parameter_at need.Arguments e = list_at typed_at longest_list e >>= λ x. Ok (of_parameter.Arguments x)
 
 -- the parameters that are needed, in their order; where nothing is left, so many of them may be missing
 abbrev pub parameters : ℕ → List Need → List Parameter → Rest → Result (List Parameter × Rest) Refusal
@@ -291,14 +289,14 @@ action_at e = do
   Ok (record { name = name; target = target; parameters = given.0 })
 
 abbrev pub effect_at : Element → Result (List Action) Refusal
-effect_at = list_at action_at 4096
+effect_at = list_at action_at longest_list
 
 -- a member: its object, and the effect of each slot
 unfoldable pub member_in : Rest → Result Member Refusal
 member_in left = do
   a ← taken left
   object ← reference_at a.0
-  slots ← listed effect_at 4096 [] a.1
+  slots ← listed effect_at longest_list [] a.1
   Ok (record { object = object; slots = slots })
 
 unfoldable pub member_at : Element → Result Member Refusal
@@ -317,7 +315,7 @@ list_item_at e = sequence_at e >>= λ left. list_item_in left
 
 -- a row of a movement table
 abbrev pub row_at : Element → Result (List ℤ) Refusal
-row_at = list_at integer_at 4096
+row_at = list_at integer_at longest_list
 
 -- one integer of a pair; the screen's has one value
 unfoldable pub part : Shape → ℤ → Element → Result ℤ Refusal
@@ -366,11 +364,11 @@ single shape.Colour e = colour_at e >>= λ x. Ok (of_setting.Colour x)
 single shape.Content e = content_at e >>= λ x. Ok (of_setting.Content x)
 single shape.ContentRef e = content_name_at e >>= λ x. Ok (of_setting.ContentRef x)
 single shape.Justification e = justification_at e >>= λ x. Ok (of_setting.Justification x)
-single shape.MovementTable e = list_at row_at 4096 e >>= λ x. Ok (of_setting.MovementTable x)
-single shape.Members e = list_at member_at 4096 e >>= λ x. Ok (of_setting.Members x)
+single shape.MovementTable e = list_at row_at longest_list e >>= λ x. Ok (of_setting.MovementTable x)
+single shape.Members e = list_at member_at longest_list e >>= λ x. Ok (of_setting.Members x)
 single shape.ListItems e = list_at list_item_at 256 e >>= λ x. Ok (of_setting.Members x)
-single shape.Positions e = list_at position_at 4096 e >>= λ x. Ok (of_setting.Positions x)
-single shape.NextScenes e = list_at next_scene_at 4096 e >>= λ x. Ok (of_setting.NextScenes x)
+single shape.Positions e = list_at position_at longest_list e >>= λ x. Ok (of_setting.Positions x)
+single shape.NextScenes e = list_at next_scene_at longest_list e >>= λ x. Ok (of_setting.NextScenes x)
 single _ e = refused_at UnknownTag e
 
 abbrev pub is_pair : Shape → Bool
@@ -382,10 +380,6 @@ is_pair _ = false
 -- the value of this shape, and nothing behind it
 unfoldable pub setting : Shape → Rest → Result Setting Refusal
 setting s left = if is_pair s then (pair s left >>= λ p. Ok (of_setting.Pair p.0 p.1)) else (only left >>= λ e. single s e)
-
-abbrev pub is_items_shape : Shape → Bool
-is_items_shape shape.Items = true
-is_items_shape _ = false
 
 -- the attribute that the element gives, which the class takes and which comes behind the last one
 unfoldable pub attribute_at : Class → ℕ → Element → Result Attribute Refusal
@@ -435,7 +429,7 @@ ingredient_at e = do
   Ok (record { class = class; number = number; fields = done })
 
 unfoldable pub items_at : Element → Result (List Ingredient) Refusal
-items_at e = only e.contents >>= λ a. list_at ingredient_at 4096 a
+items_at e = only e.contents >>= λ a. list_at ingredient_at longest_list a
 
 -- the items where they were met, and the fields behind them
 abbrev pub with_items : Class → List Field → Option Element → Rest → Result (List Field × Option (List Ingredient)) Refusal
@@ -462,7 +456,7 @@ group_at e = do
 
 -- the group that the octets spell, or the first refusal from the left
 unfoldable pub read : List ℕ → Result Written Refusal
-read octets = if nat_lt 1048576 (length octets) then refused Limit 0 else (do
+read octets = if nat_lt largest_file (length octets) then refused Limit 0 else (do
   a ← taken (whole octets)
   x ← group_at a.0
   end ← ended a.1

@@ -30,10 +30,10 @@ use Rattle.mh_group.specs.declared.written.Setting.TheVariants as setting
 use Rattle.mh_group.specs.declared.written.Field.{Field}
 use Rattle.mh_group.specs.declared.written.Ingredient.{Ingredient}
 use Rattle.mh_group.specs.declared.written.Written.{Written}
-use Rattle.mh_group.specs.Table.{class_number, attribute_number, action_number}
 use Rattle.mh_group.specs.Words.{justification_number}
 use Rattle.mh_group.specs.Fit.{before_items}
 use Rattle.mh_group.specs.Holdable.{colour_octets}
+use Rattle.mh_group.specs.Table.{class_number, attribute_number, action_number}
 
 -- the tag of this number that is the notation's own
 abbrev pub own : ℕ → Tag

@@ -1,16 +1,17 @@
 -- What the tags of the notation stand for: their numbers, and what is looked up by a number.
-use Rattle.std.specs.Prelude.{ℕ, ◌+◌, ◌==◌, Bool, true, false, if◌then◌else◌, List, [], ◌∷◌, Option}
+use Rattle.std.specs.Prelude.{ℕ, ◌+◌, ◌==◌, Bool, true, false, if◌then◌else◌, Option}
 use Rattle.std.specs.List.{find}
 use Rattle.mh_base.specs.declared.value.Kind.{Kind as ValueKind}
 use Rattle.mh_base.specs.declared.value.Kind.TheVariants as value
+use Rattle.mh_base.specs.Kinds.{kinds}
 use Rattle.mh_der.specs.declared.tag.Tag.{Tag}
 use Rattle.mh_der.specs.declared.tag.TagClass.{TagClass}
 use Rattle.mh_der.specs.declared.tag.TagClass.TheVariants.{Universal, Context}
 use Rattle.mh_group.specs.declared.class.Class.{Class}
 use Rattle.mh_group.specs.declared.attribute.Attribute.{Attribute}
 use Rattle.mh_group.specs.declared.action_name.ActionName.{ActionName}
-use Rattle.mh_group.specs.Table.{class_number, attribute_number, action_number}
 use Rattle.mh_group.specs.Words.{classes, attributes, actions}
+use Rattle.mh_group.specs.Table.{class_number, attribute_number, action_number}
 use Rattle.mh_codec.specs.declared.kind.Kind.{Kind}
 use Rattle.mh_codec.specs.declared.kind.Kind.TheVariants as kind
 
@@ -35,9 +36,6 @@ value_number value.Int = 63
 value_number value.Octets = 64
 value_number value.Object = 65
 value_number value.Content = 66
-
-abbrev pub value_kinds : List ValueKind
-value_kinds = value.Bool ∷ value.Int ∷ value.Octets ∷ value.Object ∷ value.Content ∷ []
 
 -- an action's tags begin behind this
 abbrev pub before_actions : ℕ
@@ -70,4 +68,4 @@ unfoldable pub action_with : ℕ → Option ActionName
 action_with n = find (λ a. before_actions + action_number a == n) actions
 
 unfoldable pub value_kind_with : ℕ → Option ValueKind
-value_kind_with n = find (λ k. value_number k == n) value_kinds
+value_kind_with n = find (λ k. value_number k == n) kinds

@@ -1,5 +1,6 @@
 -- What it means that octets spell a group, which is one that the notation can hold.
 use Rattle.std.specs.Prelude.{◌≡◌, ℕ, ◌≤◌, true, List, length}
+use Rattle.mh_base.specs.Limits.{largest_file}
 use Rattle.mh_group.specs.declared.written.Written.{Written}
 use Rattle.mh_group.specs.Fit.{is_group}
 use Rattle.mh_group.specs.Holdable.{is_holdable}
@@ -7,7 +8,7 @@ use Rattle.mh_codec.specs.Spelling.{group}
 
 -- the octets spell the group, and nothing else
 unfoldable pub Spells : List ℕ → Written → Type 0
-Spells octets g = (octets ≡ group g) × (length octets ≤ 1048576) × (is_holdable g ≡ true)
+Spells octets g = (octets ≡ group g) × (length octets ≤ largest_file) × (is_holdable g ≡ true)
 
 -- the octets spell no group that the tables allow
 abbrev pub SpellsNone : List ℕ → Type 0

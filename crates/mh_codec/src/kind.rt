@@ -4,7 +4,7 @@ ghost use Rattle.std.specs.Prelude.{◌≡◌, ◌+◌, ◌<◌};
 ghost use Rattle.mh_group.specs.Table.{class_number as class_number_lem, attribute_number as attribute_number_lem, action_number as action_number_lem};
 ghost use Rattle.mh_codec.specs.Tags.{kind_of as kind_of_lem, universal as universal_lem, class_with as class_with_lem, attribute_with as attribute_with_lem, action_with as action_with_lem, value_kind_with as value_kind_with_lem, value_number as value_number_lem, before_actions};
 
-use mh_base::Kind as ValueKind;
+use mh_base::{KINDS, Kind as ValueKind};
 use mh_der::{Tag, TagClass};
 use mh_group::{ActionName, Attribute, Class};
 
@@ -84,20 +84,12 @@ pub(crate) fn action_with(number: u16) -> Option<ActionName>
     ActionName::of_number(number)
 }
 
-const VALUE_KINDS: [ValueKind; 5] = [
-    ValueKind::Bool,
-    ValueKind::Int,
-    ValueKind::Octets,
-    ValueKind::Object,
-    ValueKind::Content,
-];
-
 /// The kind of value that stands behind the tag of this number, if there is one.
 #[tactic(auto, unfolding(crate::specs::Tags::value_kind_with))]
 pub(crate) fn value_kind_with(number: u16) -> Option<ValueKind>
     ensures { result ≡ value_kind_with_lem number }
 {
-    VALUE_KINDS
+    KINDS
         .iter()
         .copied()
         .find(|kind| value_number(*kind) == number)

@@ -22,5 +22,6 @@ mod writing_member;
 mod writing_value;
 
 pub use codec_error::{CodecError, Why};
-pub use object::{LARGEST_FILE, begins_group, decode_group};
+pub use mh_base::LARGEST_FILE;
+pub use object::{begins_group, decode_group};
 pub use writing::encode_group;

@@ -3,23 +3,20 @@
 ghost use Rattle.std.specs.Prelude.{◌≡◌, ◌≢◌, ◌≤◌, IfOk, IfErr};
 ghost use Rattle.mh_codec.specs.Gives.{Gives};
 ghost use Rattle.mh_codec.specs.Writable.{Spells, SpellsNone, SpellsNoOther};
-ghost use Rattle.mh_codec.specs.Reading.{read, begins_group as begins_group_lem, group_at as group_at_lem, body as body_lem, class_at as class_at_lem, identifier_in as identifier_in_lem, fields as fields_lem, next_field as next_field_lem, attribute_at as attribute_at_lem, complete as complete_lem, items_at as items_at_lem, ingredient_at as ingredient_at_lem, is_items_shape as is_items_shape_lem};
+ghost use Rattle.mh_codec.specs.Reading.{read, begins_group as begins_group_lem, group_at as group_at_lem, body as body_lem, class_at as class_at_lem, identifier_in as identifier_in_lem, fields as fields_lem, next_field as next_field_lem, attribute_at as attribute_at_lem, complete as complete_lem, items_at as items_at_lem, ingredient_at as ingredient_at_lem};
 
 use crate::kind::{ITEMS, attribute_with, class_with};
-use crate::readable::{LONGEST_LIST, Readable, list_at};
+use crate::readable::{Readable, list_at};
 use crate::setting::setting;
 use crate::value::{
     ended, ingredient_number_at, named_in, only, own_at, refused, sequence_at, taken,
 };
 use crate::{CodecError, Why};
-use mh_base::Seq;
+use mh_base::{LARGEST_FILE, LONGEST_LIST, Seq};
 use mh_der::{Element, Reader};
 use mh_group::group::has_required;
-use mh_group::{Attribute, Class, Field, Group, Ingredient, Shape, Written, WrittenName};
+use mh_group::{Attribute, Class, Field, Group, Ingredient, Written, WrittenName};
 use std::alloc::Global;
-
-/// The most bytes of a group's file.
-pub const LARGEST_FILE: usize = 1048576;
 
 /// More fields than an object can have, since their numbers rise.
 const MOST_FIELDS: usize = 64;
@@ -165,18 +162,11 @@ fn next_field<'a>(
     let (element, behind) = taken(reader)?;
     let attribute = attribute_at(class, last, &element)?;
     let shape = class.shape(attribute);
-    if is_items_shape(shape) {
+    if shape.is_items() {
         return Ok((None, Some(element), behind));
     }
     let setting = setting(alloc, shape, element.contents())?;
     Ok((Some(Field { attribute, setting }), None, behind))
-}
-
-/// Whether the shape is that of a group's items.
-fn is_items_shape(shape: Shape) -> bool
-    ensures { result ≡ is_items_shape_lem shape }
-{
-    matches!(shape, Shape::Items)
 }
 
 /// The attribute that the element gives, which the class takes and which comes behind the last one.

@@ -1,17 +1,15 @@
 //! Readers by type: what one element says, values that variables hold, and lists.
 ghost use Rattle.std.specs.Prelude.{[]};
+ghost use Rattle.mh_base.specs.Limits.{longest_list};
 ghost use Rattle.mh_codec.specs.Gives.{Gives};
 ghost use Rattle.mh_codec.specs.Reading.{generic_at as generic_at_lem, list_at as list_at_lem, listed, next_member as next_member_lem};
 
 use crate::value::{exhausted, is_indirect, sequence_at, taken, variable_at};
 use crate::{CodecError, Why};
-use mh_base::Seq;
+use mh_base::{LONGEST_LIST, Seq};
 use mh_der::{Element, Reader};
 use mh_group::Generic;
 use std::alloc::Global;
-
-/// The most members of one written list.
-pub(crate) const LONGEST_LIST: usize = 4096;
 
 /// What can be read from one element.
 pub(crate) trait Readable {
@@ -34,7 +32,7 @@ impl<T: Readable> Readable for Seq<T> {
 
     type Value = Seq<T::Value>;
 
-    ghost reading = { list_at_lem T.reading 4096 };
+    ghost reading = { list_at_lem T.reading longest_list };
 
     fn read_at(alloc: Global, element: &Element<'_>) -> Result<Seq<T::Value>, CodecError> {
         list_at::<T>(alloc, LONGEST_LIST, element)

@@ -9,9 +9,8 @@ ghost use Rattle.mh_codec.specs.Spelling.{own as own_lem, several, list, generic
 ghost use Rattle.mh_codec.specs.Unwritable.{Refuses};
 
 use crate::kind::VARIABLE;
-use crate::readable::LONGEST_LIST;
 use crate::{CodecError, Why};
-use mh_base::Seq;
+use mh_base::{LONGEST_LIST, Seq};
 use mh_der::{SEQUENCE, Tag, TagClass, write_element};
 use mh_group::{Generic, Ref};
 use std::alloc::Global;

@@ -10,10 +10,9 @@ ghost use Rattle.mh_codec.specs.Unwritable.{Refuses, HasNoSpelling};
 
 use crate::CodecError;
 use crate::kind::{attribute_number, class_number};
-use crate::object::LARGEST_FILE;
 use crate::writable::{PAST_LIMIT, Writable, own, write_list, write_several};
 use crate::writing_value::{write_integer, write_named, write_natural};
-use mh_base::Seq;
+use mh_base::{LARGEST_FILE, Seq};
 use mh_der::write_element;
 use mh_group::group::before_items;
 use mh_group::{Attribute, Field, Group, Ingredient, Setting, Written};

@@ -1,9 +1,9 @@
 //! Writers of the members of the lists that attributes hold: members of token groups and list groups,
 //! positions, next scenes.
 use crate::CodecError;
-use crate::readable::LONGEST_LIST;
 use crate::writable::{PAST_LIMIT, Writable, write_several};
 use crate::writing_value::{write_integer, write_name};
+use mh_base::LONGEST_LIST;
 use mh_der::{SEQUENCE, write_element};
 use mh_group::{Member, NextScene, Position};
 use std::alloc::Global;

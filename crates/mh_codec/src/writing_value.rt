@@ -41,7 +41,7 @@ pub(crate) fn write_name(out: &mut Vec<u8>, name: &WrittenName) -> Result<(), Al
 }
 
 /// Writes an octet string.
-#[tactic(auto, using(crate::proofs::ElementLemmas::bytes_are_octets), unfolding(crate::specs::Spelling::octet_string))]
+#[tactic(auto, using(mh_group::proofs::WritingLemmas::bytes_are_octets), unfolding(crate::specs::Spelling::octet_string))]
 fn write_octets(out: &mut Vec<u8>, octets: &[u8]) -> Result<(), AllocError>
     ensures written { OnOk result (out.new.items ≡ out.old.items ++ octet_string octets.now) }
     ensures fits { OnOk result (is_octets octets.now ≡ true) }

@@ -2,13 +2,14 @@
 use Rattle.std.proofs.Common.{◌≡◌, ℕ, ◌+◌, ◌-◌, ◌<◌, ◌≤◌, ◌^◌, List, ◌++◌, length, take, drop, Result, Ok, Err, refl, sym, ◌∙◌, ap, ap₂, subst, arith, append_assoc, length-append, length-take, take-append-drop}
 use Rattle.std.proofs.Math.Seq.{take-append_seam}
 use Rattle.std.specs.Int.Digits.{AllBelowBase}
+use Rattle.mh_base.specs.Reading.{Rest, ◌>>=◌}
 use Rattle.mh_der.specs.declared.tag.Tag.{Tag}
 use Rattle.mh_der.specs.declared.der_error.Why.{Why}
 use Rattle.mh_der.specs.declared.der_error.DerError.{DerError}
 use Rattle.mh_der.specs.Element.{identifier, length_octets, element}
 use Rattle.mh_der.specs.Laws.{BeginWithNone}
-use Rattle.mh_der.specs.Reading.{◌>>=◌, tag_of, length_of, parts, element_at, found_at, next}
-use Rattle.mh_der.specs.Rest.{Rest, Element}
+use Rattle.mh_der.specs.Reading.{tag_of, length_of, parts, element_at, found_at, next}
+use Rattle.mh_der.specs.Rest.{Element}
 use Rattle.mh_der.proofs.DigitLemmas.{AreBytes, bytes_below, below_bytes, below_front, below_behind}
 use Rattle.mh_der.proofs.TagLemmas.{tag_given, tag_found, identifier_some, same_value, no_value}
 use Rattle.mh_der.proofs.LengthLemmas.{length_given, length_found, octets_some, drop_seam}

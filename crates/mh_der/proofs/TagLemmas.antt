@@ -4,13 +4,14 @@ use Rattle.std.proofs.lemmas.Bool.{cases_lt}
 use Rattle.std.proofs.lemmas.Bool.Decides.{nat_tests}
 use Rattle.std.proofs.lemmas.Nat.{div-mul-add, mod-mul-add}
 use Rattle.std.specs.Int.Digits.{AllBelowBase}
+use Rattle.mh_base.specs.Reading.{◌>>=◌}
 use Rattle.mh_der.specs.declared.tag.Tag.{Tag}
 use Rattle.mh_der.specs.declared.tag.TagClass.{TagClass}
 use Rattle.mh_der.specs.declared.tag.TagClass.TheVariants as class
 use Rattle.mh_der.specs.declared.der_error.Why.{Why}
 use Rattle.mh_der.specs.declared.der_error.Why.TheVariants.{Truncated, BadTag}
 use Rattle.mh_der.specs.Element.{class_bits, form_bit, identifier}
-use Rattle.mh_der.specs.Reading.{◌>>=◌, class_of, is_constructed, digit, long_enough, long_number, tag_of}
+use Rattle.mh_der.specs.Reading.{class_of, is_constructed, digit, long_enough, long_number, tag_of}
 use Rattle.mh_der.proofs.DigitLemmas.{marked, marked_push}
 
 -- the first octet of a tag, but for its last five bits

@@ -1,26 +1,22 @@
 -- The exact reading: the element at the front of what is left, or what is wrong with it. What it means
 -- is said by the laws that join it to the elements as they are written.
-use Rattle.std.specs.Prelude.{◌≡◌, ℕ, zero, suc, ◌+◌, ◌-◌, ◌*◌, ◌/◌, ◌%◌, ℤ, Bool, true, false, ◌||◌, ◌==◌, nat_lt, if◌then◌else◌, List, [], ◌∷◌, ◌++◌, length, take, drop, Result, Ok, Err}
+use Rattle.std.specs.Prelude.{ℕ, zero, suc, ◌+◌, ◌-◌, ◌*◌, ◌/◌, ◌%◌, ℤ, Bool, true, false, ◌||◌, ◌==◌, nat_lt, if◌then◌else◌, List, [], ◌∷◌, ◌++◌, length, take, drop, Some, Result, Ok, Err}
 use Rattle.std.specs.Int.{from_be_bytes, cast_signed, w32}
 use Rattle.std.specs.Int.Digits.{number_from_digits}
+use Rattle.mh_base.specs.Reading as base
+use Rattle.mh_base.specs.Reading.{◌>>=◌, Rest}
 use Rattle.mh_der.specs.declared.tag.Tag.{Tag}
 use Rattle.mh_der.specs.declared.tag.TagClass.{TagClass}
 use Rattle.mh_der.specs.declared.tag.TagClass.TheVariants as class
 use Rattle.mh_der.specs.declared.der_error.Why.{Why}
 use Rattle.mh_der.specs.declared.der_error.Why.TheVariants.{Truncated, BadTag, LongLength, Indefinite, BadInteger, BadBoolean, Trailing}
 use Rattle.mh_der.specs.declared.der_error.DerError.{DerError}
-use Rattle.mh_der.specs.Rest.{Rest, Element}
+use Rattle.mh_der.specs.Rest.{Element}
 use Rattle.mh_der.specs.Integer.{is_padded}
-
-infixl 10 ◌>>=◌
-abbrev pub ◌>>=◌ : {A B E : Type 0} → Result A E → (A → Result B E) → Result B E
-(Ok x) >>= f = f x
-(Err e) >>= f = Err e
 
 -- what a function returned, seen by view, is what the reading gives
 abbrev pub Gives : {X Y E : Type 0} → (X → Y) → Result X E → Result Y E → Type 0
-Gives view (Ok x) read = read ≡ Ok (view x)
-Gives view (Err e) read = read ≡ Err e
+Gives view result read = base.Gives Some view result read
 
 abbrev pub class_of : ℕ → TagClass
 class_of b =

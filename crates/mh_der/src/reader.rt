@@ -1,6 +1,6 @@
 //! `Reader`: where reading stands in a source. It gives the elements one after the other.
 ghost use Rattle.std.specs.Prelude.{◌≡◌, ◌++◌, OnErr, IfOk, IfErr};
-ghost use Rattle.mh_der.specs.Rest.{whole};
+ghost use Rattle.mh_base.specs.Reading.{whole};
 ghost use Rattle.mh_der.specs.Element.{element};
 ghost use Rattle.mh_der.specs.Laws.{BeginWithNone};
 ghost use Rattle.mh_der.specs.Reading.{Gives, next as next_lem, ended as ended_lem, is_empty as is_empty_lem};
@@ -19,7 +19,7 @@ pub struct Reader<'a> {
 
 impl<'a> Model for Reader<'a> {
     ghost use Rattle.std.specs.Prelude.{◌+◌, ◌<◌, ◌^◌, length};
-    ghost use Rattle.mh_der.specs.Rest.{Rest};
+    ghost use Rattle.mh_base.specs.Reading.{Rest};
 
     ghost Value = { Rest };
 

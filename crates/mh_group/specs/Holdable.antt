@@ -4,6 +4,7 @@ use Rattle.std.specs.Prelude.{ℕ, ◌^◌, ℤ, pos, negsuc, Bool, true, ◌&&�
 use Rattle.std.specs.List.{list_all}
 use Rattle.mh_base.specs.Path.{is_name_byte}
 use Rattle.mh_base.specs.declared.colour.Colour.{Colour}
+use Rattle.mh_base.specs.Limits.{longest_list}
 use Rattle.mh_group.specs.declared.reference.Ref.{Ref}
 use Rattle.mh_group.specs.declared.reference.Ref.TheVariants as ref
 use Rattle.mh_group.specs.declared.reference.Generic.{Generic}
@@ -61,7 +62,7 @@ is_plain x = true
 
 -- a list of at most so many members as a list may have
 abbrev pub is_list : {A : Type 0} → (A → Bool) → List A → Bool
-is_list is_member xs = nat_le (length xs) 4096 && list_all is_member xs
+is_list is_member xs = nat_le (length xs) longest_list && list_all is_member xs
 
 abbrev pub is_typed : Typed → Bool
 is_typed (typed.Bool x) = is_generic is_plain x

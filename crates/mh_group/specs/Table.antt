@@ -319,6 +319,11 @@ shape_of c attribute.StdId = shape.Octets
 shape_of c attribute.StdVersion = shape.Int
 shape_of c attribute.NextScenes = shape.NextScenes
 
+-- the shape is that of a group's items
+abbrev pub is_items_shape : Shape → Bool
+is_items_shape shape.Items = true
+is_items_shape _ = false
+
 -- objects of the class may be written with the attribute
 abbrev pub takes : Class → Attribute → Bool
 takes c attribute.OnStartUp = is_group_class c

@@ -3,12 +3,16 @@ use Rattle.std.specs.Prelude.{ℕ, List, [], ◌∷◌, codes}
 use Rattle.mh_base.specs.Event.{event_types}
 use Rattle.mh_base.specs.declared.event.EventType.{EventType}
 use Rattle.mh_base.specs.declared.event.EventType.TheVariants as event
+use Rattle.mh_base.specs.declared.value.Kind.{Kind}
+use Rattle.mh_base.specs.declared.value.Kind.TheVariants as kind
 use Rattle.mh_group.specs.declared.class.Class.{Class}
 use Rattle.mh_group.specs.declared.class.Class.TheVariants as class
 use Rattle.mh_group.specs.declared.attribute.Attribute.{Attribute}
 use Rattle.mh_group.specs.declared.attribute.Attribute.TheVariants as attribute
 use Rattle.mh_group.specs.declared.action_name.ActionName.{ActionName}
 use Rattle.mh_group.specs.declared.action_name.ActionName.TheVariants as action
+use Rattle.mh_group.specs.declared.action.Typed.{Typed}
+use Rattle.mh_group.specs.declared.action.Typed.TheVariants as typed
 use Rattle.mh_group.specs.declared.justification.Justification.{Justification}
 use Rattle.mh_group.specs.declared.justification.Justification.TheVariants as justification
 
@@ -199,3 +203,19 @@ event_word event.ItemSelected = codes "ItemSelected"
 event_word event.ItemDeselected = codes "ItemDeselected"
 event_word event.EntryFieldFull = codes "EntryFieldFull"
 event_word event.EngineEvent = codes "EngineEvent"
+
+-- the keyword in front of a value of a kind
+unfoldable pub kind_word : Kind → List ℕ
+kind_word kind.Bool = codes "GBoolean"
+kind_word kind.Int = codes "GInteger"
+kind_word kind.Octets = codes "GOctetString"
+kind_word kind.Object = codes "GObjectRef"
+kind_word kind.Content = codes "GContentRef"
+
+-- the kind of a value that has its kind in front
+abbrev pub kind_of : Typed → Kind
+kind_of (typed.Bool _) = kind.Bool
+kind_of (typed.Int _) = kind.Int
+kind_of (typed.Octets _) = kind.Octets
+kind_of (typed.Ref _) = kind.Object
+kind_of (typed.ContentRef _) = kind.Content

@@ -1,6 +1,9 @@
 //! Elementary actions and effects, as a group writes them.
+ghost use Rattle.std.specs.Prelude.{◌≡◌};
+ghost use Rattle.mh_group.specs.Words.{kind_of};
+
 use crate::{ActionName, Generic, Ref, WrittenName};
-use mh_base::{EventType, Octets, Seq};
+use mh_base::{EventType, Kind, Octets, Seq};
 
 /// A value with its kind in front.
 #[derive(Drop)]
@@ -10,6 +13,21 @@ pub enum Typed {
     Octets(Generic<Octets>),
     Ref(Generic<Ref>),
     ContentRef(Generic<WrittenName>),
+}
+
+impl Typed {
+    /// The kind that stands in front.
+    pub fn kind(&self) -> Kind
+        ensures { result ≡ kind_of self.now }
+    {
+        match self {
+            Typed::Bool(_) => Kind::Bool,
+            Typed::Int(_) => Kind::Int,
+            Typed::Octets(_) => Kind::Octets,
+            Typed::Ref(_) => Kind::Object,
+            Typed::ContentRef(_) => Kind::Content,
+        }
+    }
 }
 
 /// The content of a visible (ISO/IEC 13522-5, Content): in the group's file, or in a file of its own.

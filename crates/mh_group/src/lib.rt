@@ -4,11 +4,16 @@
 
 pub mod action;
 pub mod action_name;
+mod action_word;
 pub mod attribute;
 pub mod class;
+mod class_actions;
+mod class_attributes;
+mod fit;
 pub mod group;
 pub mod justification;
 pub mod misfit;
+mod needs;
 pub mod number;
 pub mod reference;
 pub mod shape;
@@ -26,6 +31,6 @@ pub use misfit::{Misfit, MisfitWhy};
 pub use number::Number;
 pub use reference::{Generic, Ref};
 pub use shape::{Need, Shape};
-pub use words::{event_of_word, event_word};
+pub use words::{event_of_word, event_word, kind_of_word, kind_word};
 pub use written::{Field, Ingredient, Member, NextScene, Position, Setting, Written};
 pub use written_name::WrittenName;

@@ -1,10 +1,11 @@
-//! The words of the types of events.
+//! The words of the types of events and of the kinds of values.
 ghost use Rattle.std.specs.Prelude.{◌≡◌};
 ghost use Rattle.std.specs.List.{find};
 ghost use Rattle.std.specs.Str.{bytes_eq};
-ghost use Rattle.mh_group.specs.Words.{event_word as event_word_lem, events};
+ghost use Rattle.mh_base.specs.Kinds.{kinds};
+ghost use Rattle.mh_group.specs.Words.{event_word as event_word_lem, events, kind_word as kind_word_lem};
 
-use mh_base::EventType;
+use mh_base::{EventType, KINDS, Kind};
 
 /// All types of events, in the order of their numbers.
 pub(crate) static EVENTS: [EventType; 25] = [
@@ -73,5 +74,26 @@ pub fn event_word(event: EventType) -> &'static [u8]
         EventType::ItemDeselected => b"ItemDeselected",
         EventType::EntryFieldFull => b"EntryFieldFull",
         EventType::EngineEvent => b"EngineEvent",
+    }
+}
+
+/// The kind of values that this keyword stands in front of, if there is one.
+pub fn kind_of_word(name: &[u8]) -> Option<Kind>
+    ensures { result ≡ find (λ x. bytes_eq (kind_word_lem x) name.now) kinds }
+{
+    KINDS.iter().copied().find(|x| kind_word(*x) == name)
+}
+
+/// The keyword in front of a value of the kind in the textual notation.
+#[tactic(auto, unfolding(crate::specs::Words::kind_word))]
+pub fn kind_word(kind: Kind) -> &'static [u8]
+    ensures { result.now ≡ kind_word_lem kind }
+{
+    match kind {
+        Kind::Bool => b"GBoolean",
+        Kind::Int => b"GInteger",
+        Kind::Octets => b"GOctetString",
+        Kind::Object => b"GObjectRef",
+        Kind::Content => b"GContentRef",
     }
 }

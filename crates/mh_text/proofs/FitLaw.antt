@@ -2,19 +2,21 @@
 use Rattle.std.proofs.Common.{◌≡◌, ℕ, zero, suc, ◌&&◌, Bool, true, false, not, ◌==◌, List, [], ◌∷◌, Option, Some, None, is_none, Result, Ok, inl, inr, refl, subst}
 use Rattle.std.specs.List.{list_all}
 use Rattle.std.proofs.lemmas.Bool.{and_parts}
+use Rattle.mh_base.specs.Reading.{is_same}
+use Rattle.mh_base.specs.Limits.{longest_list}
 use Rattle.mh_group.specs.declared.class.Class.{Class}
 use Rattle.mh_group.specs.declared.attribute.Attribute.{Attribute}
 use Rattle.mh_group.specs.declared.written.Field.{Field}
 use Rattle.mh_group.specs.declared.written.Ingredient.{Ingredient}
 use Rattle.mh_group.specs.declared.written.Written.{Written}
-use Rattle.mh_group.specs.declared.misfit.MisfitWhy.{MisfitWhy}
-use Rattle.mh_group.specs.Table.{shape_of, takes, is_group_class}
 use Rattle.mh_group.specs.Fit.{fits, is_rising, has_required, takes_each, fits_each, fields_misfit, ingredient_misfit, ingredients_misfit, misfit_of, written_items, is_group}
+use Rattle.mh_group.proofs.MisfitLemmas.{none_is}
+use Rattle.mh_group.specs.Table.{shape_of, takes, is_group_class, is_items_shape}
 use Rattle.mh_text.specs.declared.sign.Sign.{Sign}
 use Rattle.mh_text.specs.declared.sign.Sign.TheVariants as sign
 use Rattle.mh_text.specs.Rest.{Left, Piece}
 use Rattle.mh_text.specs.Gives.{Refusal}
-use Rattle.mh_text.specs.Reading.{next, is_same, is_close_brace, is_open_brace, braced, number_of, ingredient_number_of, setting, has_attribute, attribute_of, placed, is_items_shape, is_items, next_field, gathered, fields, fields_behind_items, complete, class_of, list, ingredient, items, identifier, body, group}
+use Rattle.mh_text.specs.Reading.{next, is_close_brace, is_open_brace, braced, number_of, ingredient_number_of, setting, has_attribute, attribute_of, placed, is_items, next_field, gathered, fields, fields_behind_items, complete, class_of, list, ingredient, items, identifier, body, group}
 use Rattle.mh_text.proofs.FoundGroups.{not_true}
 use Rattle.mh_text.proofs.FieldLemmas.{FitsIn, Has, has_placed_parts}
 use Rattle.mh_text.proofs.OrderLemmas.{rising_placed, all_from}
@@ -112,29 +114,25 @@ ingredient_fits : (p : Piece) (left : Left) → Fit is_right (ingredient p left)
 unfolding ingredient
 ingredient_fits p left = either _ (is_open_brace p.sign) _ _
     (λ h. after _ (next left) _ (λ a. knowing _ _ (class_of false a.0) _ (class_fits false a.0) (λ class classed. after _ (next a.1) _ (λ b.
-    knowing _ _ (ingredient_number_of b.0) _ (number_fits b.0) (λ number numbered. knowing _ _ (fields class 4096 [] b.1) _ (fields_fit class 4096 [] b.1 (none_yet class)) (λ x in_order.
+    knowing _ _ (ingredient_number_of b.0) _ (number_fits b.0) (λ number numbered. knowing _ _ (fields class longest_list [] b.1) _ (fields_fit class longest_list [] b.1 (none_yet class)) (λ x in_order.
     knowing _ _ (complete class x.0 x.1) _ (complete_fits class x.0 x.1 in_order) (λ done right. right_ingredient (record { class = class; number = number; fields = done }) classed numbered right)))))))
     (λ h. tt)
-
-none_wrong : (o : Option MisfitWhy) → is_none o ≡ true → o ≡ None
-none_wrong None h = refl
-none_wrong (Some w) h = absurd cc
 
 all_ingredients : (xs : List Ingredient) → list_all is_right xs ≡ true → ingredients_misfit xs ≡ None
 all_ingredients [] h = refl
 all_ingredients (x ∷ xs) h =
     let both = and_parts (is_right x) (list_all is_right xs) h in
-    rw (none_wrong (ingredient_misfit x) both.0, all_ingredients xs both.1) refl
+    rw (none_is (ingredient_misfit x) both.0, all_ingredients xs both.1) refl
 
 items_fit : (left : Left) → Only (λ x. ingredients_misfit x.0 ≡ None) (items left)
 unfolding items
-items_fit left = after _ (next left) _ (λ a. weaker _ _ (list ingredient 4096 a.0 a.1) (λ x h. all_ingredients x.0 h) (list_fits ingredient is_right ingredient_fits 4096 a.0 a.1))
+items_fit left = after _ (next left) _ (λ a. weaker _ _ (list ingredient longest_list a.0 a.1) (λ x h. all_ingredients x.0 h) (list_fits ingredient is_right ingredient_fits longest_list a.0 a.1))
 
 -- groups
 behind_items_fit : (c : Class) (done : List Field) (left : Left) → InOrder c done → Only (λ x. InOrder c x.0) (fields_behind_items c done left)
 unfolding fields_behind_items
 behind_items_fit c done left in_order =
-    knowing _ _ (fields c 4096 done left) _ (fields_fit c 4096 done left in_order) (λ x h. either _ (is_items c x.1.sign) _ _ (λ g. tt) (λ g. h))
+    knowing _ _ (fields c longest_list done left) _ (fields_fit c longest_list done left in_order) (λ x h. either _ (is_items c x.1.sign) _ _ (λ g. tt) (λ g. h))
 
 abbrev IsBody : Class → List Field → Option (List Ingredient) → Type 0
 IsBody c fs its = InOrder c fs × (ingredients_misfit (written_items its) ≡ None)
@@ -142,7 +140,7 @@ IsBody c fs its = InOrder c fs × (ingredients_misfit (written_items its) ≡ No
 body_fits : (c : Class) (left : Left) → Only (λ x. IsBody c x.0 x.1) (body c left)
 unfolding body
 body_fits c left =
-    knowing _ _ (fields c 4096 [] left) _ (fields_fit c 4096 [] left (none_yet c)) (λ x in_order. either _ (is_items c x.1.sign) _ _
+    knowing _ _ (fields c longest_list [] left) _ (fields_fit c longest_list [] left (none_yet c)) (λ x in_order. either _ (is_items c x.1.sign) _ _
     (λ h. knowing _ _ (items x.2) _ (items_fit x.2) (λ y right. knowing _ _ (fields_behind_items c x.0 y.1) _ (behind_items_fit c x.0 y.1 in_order) (λ z behind. (behind, right))))
     (λ h. (in_order, refl)))
 

@@ -5,6 +5,8 @@ use Rattle.std.specs.List.{list_all}
 use Rattle.std.proofs.lemmas.Bool.{and_parts, and_from}
 use Rattle.std.proofs.lemmas.Bool.Decides.{nat_tests}
 use Rattle.std.proofs.lemmas.List.Folds.{list_all-append}
+use Rattle.mh_base.specs.Reading.{◌>>=◌}
+use Rattle.mh_base.specs.Limits.{longest_list}
 use Rattle.mh_group.specs.declared.action.Parameter.{Parameter}
 use Rattle.mh_group.specs.declared.action.Parameter.TheVariants as of_parameter
 use Rattle.mh_group.specs.declared.shape.Shape.{Shape}
@@ -12,10 +14,10 @@ use Rattle.mh_group.specs.declared.shape.Shape.TheVariants as shape
 use Rattle.mh_group.specs.declared.shape.Need.{Need}
 use Rattle.mh_group.specs.declared.shape.Need.TheVariants as need
 use Rattle.mh_group.specs.declared.written.Setting.TheVariants as of_setting
-use Rattle.mh_group.specs.Table.{needs_of, optional_of}
 use Rattle.mh_group.specs.Fit.{fits_parameter, fits_parameters, fits_action, fits_effect, fits_member, is_list_item, is_natural, is_field_length, fits}
+use Rattle.mh_group.specs.Table.{needs_of, optional_of}
 use Rattle.mh_text.specs.Rest.{Left, Piece}
-use Rattle.mh_text.specs.Gives.{Refusal, ◌>>=◌}
+use Rattle.mh_text.specs.Gives.{Refusal}
 use Rattle.mh_text.specs.Reading.{next, is_open, is_close, opened, closed, closed_list, integer_of, natural_of, field_length_of, fixed_of, truth_of, event_of, justification_of, octets_of, colour_of, data_of, made, alone, truth, integer, octets, event_data, content_name, content, reference, generic, next_member, continued, listed, list, typed, generic_parameter, parameter, parameters, action_name_of, action, effect, row, member, list_item, position, next_scene, single, part, pair, several, setting_at, setting}
 
 -- what a reading gives, where it gives something, is so
@@ -130,7 +132,7 @@ unfolding parameter
 parameter_fits need.Event p left = made_fits (fits_parameter need.Event) of_parameter.Event (alone (event_of p) left) (λ x. refl)
 parameter_fits (need.Receiver k) p left = made_fits (fits_parameter (need.Receiver k)) of_parameter.Receiver (reference p left) (λ x. refl)
 parameter_fits need.Typed p left = made_fits (fits_parameter need.Typed) of_parameter.Typed (typed p left) (λ x. refl)
-parameter_fits need.Arguments p left = made_fits (fits_parameter need.Arguments) of_parameter.Arguments (list typed 4096 p left) (λ x. refl)
+parameter_fits need.Arguments p left = made_fits (fits_parameter need.Arguments) of_parameter.Arguments (list typed longest_list p left) (λ x. refl)
 parameter_fits need.Bool p left = generic_parameter_fits need.Bool p left
 parameter_fits need.Int p left = generic_parameter_fits need.Int p left
 parameter_fits need.Octets p left = generic_parameter_fits need.Octets p left
@@ -163,13 +165,13 @@ action_fits p left =
     (λ given g. subst (λ (ps : List Parameter). fits_parameters (optional_of name) (needs_of name) ps ≡ true) (sym g.same) g.fit)))))
 
 effect_fits : (p : Piece) (left : Left) → Fit fits_effect (effect p left)
-effect_fits p left = list_fits action fits_action action_fits 4096 p left
+effect_fits p left = list_fits action fits_action action_fits longest_list p left
 
 member_fits : (p : Piece) (left : Left) → Fit fits_member (member p left)
 unfolding member
 member_fits p left = either _ (is_open p.sign) _ _
     (λ h. after _ (next left) _ (λ a. after _ (reference a.0 a.1) _ (λ object.
-    knowing _ _ (listed effect 4096 [] object.1) _ (listed_fit effect fits_effect effect_fits 4096 4096 [] object.1 refl (omega arith)) (λ slots members. members.all))))
+    knowing _ _ (listed effect longest_list [] object.1) _ (listed_fit effect fits_effect effect_fits longest_list longest_list [] object.1 refl (omega arith)) (λ slots members. members.all))))
     (λ h. tt)
 
 list_item_fits : (p : Piece) (left : Left) → Fit is_list_item (list_item p left)
@@ -207,12 +209,12 @@ screen_fits p left = knowing _ _ (fixed_of (pos 720) p) _ (fixed_fits (pos 720) 
 several_fits : (s : Shape) (p : Piece) (left : Left) → Fit (fits s) (several s p left)
 unfolding several
 several_fits shape.Effect p left = made_from fits_effect (fits shape.Effect) of_setting.Effect (effect p left) (effect_fits p left) (λ x h. h)
-several_fits shape.MovementTable p left = made_fits (fits shape.MovementTable) of_setting.MovementTable (list row 4096 p left) (λ x. refl)
-several_fits shape.Members p left = made_from (list_all fits_member) (fits shape.Members) of_setting.Members (list member 4096 p left) (list_fits member fits_member member_fits 4096 p left) (λ x h. h)
+several_fits shape.MovementTable p left = made_fits (fits shape.MovementTable) of_setting.MovementTable (list row longest_list p left) (λ x. refl)
+several_fits shape.Members p left = made_from (list_all fits_member) (fits shape.Members) of_setting.Members (list member longest_list p left) (list_fits member fits_member member_fits longest_list p left) (λ x h. h)
 several_fits shape.ListItems p left =
     made_from (λ ms. nat_le (length ms) 256 && list_all is_list_item ms) (fits shape.ListItems) of_setting.Members (list list_item 256 p left) (short_list_fits list_item is_list_item list_item_fits 256 p left) (λ x h. h)
-several_fits shape.Positions p left = made_fits (fits shape.Positions) of_setting.Positions (list position 4096 p left) (λ x. refl)
-several_fits shape.NextScenes p left = made_fits (fits shape.NextScenes) of_setting.NextScenes (list next_scene 4096 p left) (λ x. refl)
+several_fits shape.Positions p left = made_fits (fits shape.Positions) of_setting.Positions (list position longest_list p left) (λ x. refl)
+several_fits shape.NextScenes p left = made_fits (fits shape.NextScenes) of_setting.NextScenes (list next_scene longest_list p left) (λ x. refl)
 several_fits _ p left = tt
 
 setting_at_fits : (s : Shape) (p : Piece) (left : Left) → Fit (fits s) (setting_at s p left)

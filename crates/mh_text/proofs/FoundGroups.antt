@@ -2,26 +2,28 @@
 use Rattle.std.proofs.Common.{◌≡◌, ℕ, zero, suc, ◌⊎◌, inl, inr, Bool, true, false, ◌&&◌, not, ◌==◌, if◌then◌else◌, List, [], ◌∷◌, ◌++◌, Option, Some, None, Result, Ok, pos, refl, ap, sym, ◌∙◌, subst, arith}
 use Rattle.std.proofs.lemmas.Bool.{and_parts}
 use Rattle.std.proofs.lemmas.Bool.Decides.{nat_tests}
+use Rattle.mh_base.specs.Reading.{◌>>=◌, is_same}
+use Rattle.mh_base.specs.Limits.{longest_list}
+use Rattle.mh_base.proofs.ReadingLemmas.{went, if_ok, if_not_ok, ok_same}
 use Rattle.mh_group.specs.declared.class.Class.{Class}
 use Rattle.mh_group.specs.declared.attribute.Attribute.{Attribute}
 use Rattle.mh_group.specs.declared.attribute.Attribute.TheVariants as attribute
 use Rattle.mh_group.specs.declared.written.Field.{Field}
 use Rattle.mh_group.specs.declared.written.Ingredient.{Ingredient}
 use Rattle.mh_group.specs.declared.written.Written.{Written as Group}
-use Rattle.mh_group.specs.declared.class.Class.TheVariants as class
-use Rattle.mh_group.specs.declared.shape.Shape.TheVariants as shape
-use Rattle.mh_group.specs.Table.{value_shape, shape_of, takes, is_group_class, is_list_group}
 use Rattle.mh_group.specs.Words.{class_word, attribute_word}
+use Rattle.mh_group.proofs.ShapeLemmas.{items_shape}
+use Rattle.mh_group.specs.Table.{shape_of, takes, is_group_class, is_items_shape}
 use Rattle.mh_text.specs.declared.token_kind.TokenKind.TheVariants as kind
 use Rattle.mh_text.specs.declared.sign.Sign.{Sign}
 use Rattle.mh_text.specs.declared.sign.Sign.TheVariants as sign
 use Rattle.mh_text.specs.declared.text_error.Why.TheVariants as why
 use Rattle.mh_text.specs.Rest.{Left, Piece}
-use Rattle.mh_text.specs.Gives.{Refusal, ◌>>=◌}
+use Rattle.mh_text.specs.Gives.{Refusal}
 use Rattle.mh_text.specs.Spelling.{IsNamed, IsNumber, AreSeveral, IsListOf, IsField, NoneTwice, AreFieldsOf, IsIngredient, IsBody, IsGroup}
-use Rattle.mh_text.specs.Reading.{next, is_same, is_close_brace, is_open_brace, opened, closed, braced, refused_at, name_of, number_of, ingredient_number_of, setting, has_attribute, attribute_of, placed, is_items_shape, is_items, next_field, gathered, fields, fields_behind_items, complete, class_of, ingredient, items, identifier, body, group}
+use Rattle.mh_text.specs.Reading.{next, is_close_brace, is_open_brace, opened, closed, braced, refused_at, name_of, number_of, ingredient_number_of, setting, has_attribute, attribute_of, placed, is_items, next_field, gathered, fields, fields_behind_items, complete, class_of, ingredient, items, identifier, body, group}
 use Rattle.mh_text.proofs.SignLemmas.{class_spelled, attribute_spelled}
-use Rattle.mh_text.proofs.PieceLemmas.{kind_of, word_of, as_word, words, IsGood, AreGood, Passes, PassesFrom, turned, onward, went, if_ok, if_not_ok, ok_same, went_on}
+use Rattle.mh_text.proofs.PieceLemmas.{kind_of, word_of, as_word, words, IsGood, AreGood, Passes, PassesFrom, turned, onward, went_on}
 use Rattle.mh_text.proofs.FoundLemmas.{first_word, first_integer, moved, moved_from, opened_found, closed_found, braced_found, is_open_brace_word, is_close_brace_word, name_found, number_found, from_piece, list_found}
 use Rattle.mh_text.proofs.FoundSettings.{setting_found}
 use Rattle.mh_text.proofs.FieldLemmas.{Has, Apart, has_contained, contains_had, has_left, has_right, has_either, has_placed_parts, has_placed_new, has_placed_old, apart_first, once_first, once_both}
@@ -203,24 +205,10 @@ same_false : (b : Bool) → is_same b false ≡ true → b ≡ false
 same_false true h = absurd cc
 same_false false h = refl
 
--- only the attribute of the items has their shape
-value_no_items : (c : Class) → is_items_shape (value_shape c) ≡ false
-value_no_items class.Application = refl
-value_no_items _ = refl
-
-members_no_items : (b : Bool) → is_items_shape (if b then shape.ListItems else shape.Members) ≡ false
-members_no_items true = refl
-members_no_items false = refl
-
 items_taken : (a : Attribute) (c : Class) → is_items_shape (shape_of c a) ≡ true → (takes c a ≡ is_group_class c) × (a ≡ attribute.Items)
-items_taken attribute.Items c h = (refl, refl)
-items_taken attribute.OrigValue c h =
-    let none = value_no_items c in
-    absurd cc
-items_taken attribute.TokenGroupItems c h =
-    let none = members_no_items (is_list_group c) in
-    absurd cc
-items_taken _ c h = absurd cc
+items_taken a c h =
+    let same = items_shape c a h in
+    (subst (λ (b : Attribute). takes c b ≡ is_group_class c) (sym same) refl, same)
 
 ends_brace : (c : Class) (p : Piece) → Ends c p → is_group_class c ≡ false → is_close_brace p.sign ≡ true
 ends_brace c p (inl h) other = h
@@ -244,8 +232,8 @@ ingredient_found p left x rest is_good good e =
     let classed = class_found false a.piece class.value a.is_good class.first in
     let b = went_on a.rest _ (x, rest) a.good class.behind in
     let number = went (ingredient_number_of b.piece) _ (x, rest) b.behind in
-    let f = went (fields class.value 4096 [] b.rest) _ (x, rest) number.behind in
-    let fs = fields_found class.value 4096 [] f.value.0 f.value.1 b.rest f.value.2 b.good f.first in
+    let f = went (fields class.value longest_list [] b.rest) _ (x, rest) number.behind in
+    let fs = fields_found class.value longest_list [] f.value.0 f.value.1 b.rest f.value.2 b.good f.first in
     let done = went (complete class.value f.value.0 f.value.1) _ (x, rest) f.behind in
     let same : done.value ≡ f.value.0 = complete_is class.value f.value.0 done.value f.value.1 done.first in
     moved_from IsIngredient p left (record { class = class.value; number = number.value; fields = done.value }) x f.value.2 rest done.behind (record {
@@ -271,7 +259,7 @@ unfolding items
 items_found left xs rest good e =
     let a = went_on left _ (xs, rest) good e in
     from_piece (IsListOf IsIngredient xs) left a.rest rest a.piece a.written a.wrong
-    (list_found ingredient IsIngredient ingredient_found 4096 (omega arith) a.piece a.rest xs rest a.is_good a.good a.behind)
+    (list_found ingredient IsIngredient ingredient_found longest_list (omega arith) a.piece a.rest xs rest a.is_good a.good a.behind)
 
 -- the group
 is_zero : (n : ℕ) → (n == 0) ≡ true → 0 ≡ n
@@ -327,8 +315,8 @@ behind_items_is : (c : Class) (done xs : List Field) (p : Piece) (left rest : Le
     → FieldsAt c done xs p left rest × (is_items c p.sign ≡ false)
 unfolding fields_behind_items
 behind_items_is c done xs p left rest good e =
-    let f = went (fields c 4096 done left) _ (xs, p, rest) e in
-    let found = fields_found c 4096 done f.value.0 f.value.1 left f.value.2 good f.first in
+    let f = went (fields c longest_list done left) _ (xs, p, rest) e in
+    let found = fields_found c longest_list done f.value.0 f.value.1 left f.value.2 good f.first in
     let t = if_not_ok (is_items c f.value.1.sign) (Ok (f.value.0, f.value.1, f.value.2)) why.Syntax f.value.1.start (xs, p, rest) f.behind in
     subst (λ (z : List Field × Piece × Left). FieldsAt c done z.0 z.1 left z.2 × (is_items c z.1.sign ≡ false)) (ok_same t.1) (found, t.0)
 
@@ -392,8 +380,8 @@ body_if c false fs xs its q p left behind rest h l e =
 body_found : (c : Class) (left : Left) (xs : List Field) (its : Option (List Ingredient)) (p : Piece) (rest : Left) → AreGood left.pieces → body c left ≡ Ok (xs, its, p, rest) → BodyAt xs its p left rest
 unfolding body
 body_found c left xs its p rest good e =
-    let f = went (fields c 4096 [] left) _ (xs, its, p, rest) e in
-    body_if c (is_items c f.value.1.sign) f.value.0 xs its f.value.1 p left f.value.2 rest refl (fields_found c 4096 [] f.value.0 f.value.1 left f.value.2 good f.first) f.behind
+    let f = went (fields c longest_list [] left) _ (xs, its, p, rest) e in
+    body_if c (is_items c f.value.1.sign) f.value.0 xs its f.value.1 p left f.value.2 rest refl (fields_found c longest_list [] f.value.0 f.value.1 left f.value.2 good f.first) f.behind
 
 pub group_found : (left : Left) (g : Group) (rest : Left) → AreGood left.pieces → group left ≡ Ok (g, rest) → Passes (IsGroup g) left rest
 unfolding group

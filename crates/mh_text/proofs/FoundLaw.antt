@@ -1,6 +1,9 @@
 -- What was read from a text is spelled by it.
-use Rattle.std.proofs.Common.{◌≡◌, ℕ, zero, suc, ◌<◌, ◌≤◌, Bool, true, false, ◌&&◌, ◌==◌, nat_lt, if◌then◌else◌, List, [], ◌∷◌, length, map, Option, Some, None, Result, Ok, Err, ℤ, refl, ap, sym, ◌∙◌, subst, subst₂, arith}
+use Rattle.std.proofs.Common.{◌≡◌, ℕ, zero, suc, ◌<◌, Bool, true, false, ◌&&◌, ◌==◌, nat_lt, if◌then◌else◌, List, [], ◌∷◌, length, map, Option, Some, None, Result, Ok, Err, ℤ, refl, ap, sym, ◌∙◌, subst, subst₂, arith}
 use Rattle.std.proofs.lemmas.Bool.Decides.{nat_tests}
+use Rattle.mh_base.specs.Reading.{Rest, whole}
+use Rattle.mh_base.specs.Limits.{largest_file}
+use Rattle.mh_base.proofs.ReadingLemmas.{went, if_not_ok, ok_same, is_file}
 use Rattle.mh_group.specs.declared.written.Written.{Written as Group}
 use Rattle.mh_text.specs.declared.token_kind.TokenKind.{TokenKind}
 use Rattle.mh_text.specs.declared.token_kind.TokenKind.TheVariants as kind
@@ -9,14 +12,14 @@ use Rattle.mh_text.specs.declared.sign.Sign.TheVariants as sign
 use Rattle.mh_text.specs.declared.text_error.Why.{Why}
 use Rattle.mh_text.specs.declared.text_error.Why.TheVariants as why
 use Rattle.mh_text.specs.Signs.{sign_of, sign_or, or_else, word_sign, integer_sign, integer_of}
-use Rattle.mh_text.specs.Rest.{Rest, Left, Piece, piece, bad_at}
-use Rattle.mh_text.specs.Left.{Lexed, finished, bad, token, lexed, meant, left_in, left, whole}
+use Rattle.mh_text.specs.Rest.{Left, Piece, piece, bad_at}
+use Rattle.mh_text.specs.Left.{Lexed, finished, bad, token, lexed, meant, left_in, left}
 use Rattle.mh_text.specs.Words.{AreWords, IsWord, needs_gap}
 use Rattle.mh_text.specs.Spelling.{IsGroup, Spells}
 use Rattle.mh_text.specs.Reading.{ended, group, read}
 use Rattle.mh_text.proofs.LeftLemmas.{left_is, lexed_shorter}
 use Rattle.mh_text.proofs.SignLemmas.{keyword_kind, word_kind}
-use Rattle.mh_text.proofs.PieceLemmas.{kind_of, word_of, words, AreGood, went, if_not_ok, ok_same}
+use Rattle.mh_text.proofs.PieceLemmas.{kind_of, word_of, words, AreGood}
 use Rattle.mh_text.proofs.TokenLemmas.{IsCut, lexed_token, lexed_finished}
 use Rattle.mh_text.proofs.FoundGroups.{group_found}
 
@@ -104,19 +107,16 @@ ended_from [] None o e = (refl, refl)
 ended_from [] (Some w) o e = absurd cc
 ended_from (p ∷ ps) w o e = absurd cc
 
-not_above : (n : ℕ) → nat_lt 1048576 n ≡ false → n ≤ 1048576
-not_above n h = grind (arith, nat_tests)
-
 pub read_found : (bytes : List ℕ) (g : Group) → read bytes ≡ Ok g → Spells bytes g
 unfolding read Spells
 read_found bytes g e =
-    let t = if_not_ok (nat_lt 1048576 (length bytes)) _ why.Limit 0 g e in
+    let t = if_not_ok (nat_lt largest_file (length bytes)) _ why.Limit 0 g e in
     let x = went (group (left false (whole bytes))) _ g t.1 in
     let end = went (ended x.value.1) _ g x.behind in
     let start = left_words (suc (length bytes)) false (whole bytes) (omega arith) in
     let found = group_found (left false (whole bytes)) x.value.0 x.value.1 start.good x.first in
     let none = ended_from x.value.1.pieces x.value.1.wrong x.value.1.offset end.first in (
-      not_above (length bytes) t.0,
+      is_file (length bytes) t.0,
       words (left false (whole bytes)),
       start.worded (sym found.wrong ∙ none.1),
       subst₂ (λ y ws. IsGroup y (words (left false (whole bytes))) ws) (ok_same end.behind) (ap (map word_of) none.0) found.spells,

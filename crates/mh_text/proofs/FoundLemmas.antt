@@ -3,6 +3,9 @@ use Rattle.std.proofs.Common.{◌≡◌, ℕ, zero, suc, ◌+◌, ◌*◌, ◌�
 use Rattle.std.proofs.lemmas.Bool.Decides.{nat_tests}
 use Rattle.mh_base.specs.declared.colour.Colour.{Colour}
 use Rattle.mh_base.specs.declared.event.EventType.{EventType}
+use Rattle.mh_base.specs.Reading.{◌>>=◌}
+use Rattle.mh_base.specs.Limits.{longest_list}
+use Rattle.mh_base.proofs.ReadingLemmas.{went, if_ok, if_not_ok, ok_same}
 use Rattle.mh_group.specs.declared.reference.Ref.{Ref}
 use Rattle.mh_group.specs.declared.reference.Ref.TheVariants as ref
 use Rattle.mh_group.specs.declared.reference.Generic.{Generic}
@@ -25,11 +28,11 @@ use Rattle.mh_text.specs.Bytes.{hexadecimal_value}
 use Rattle.mh_text.specs.Rest.{Left, Piece}
 use Rattle.mh_text.specs.Signs.{sign_of}
 use Rattle.mh_text.specs.Words.{Written, IsWord, Quotes, nothing, plain, escaped}
-use Rattle.mh_text.specs.Gives.{Refusal, ◌>>=◌}
+use Rattle.mh_text.specs.Gives.{Refusal}
 use Rattle.mh_text.specs.Spelling.{IsOpen, IsClose, IsOpenBrace, Writes, IsInteger, IsNumber, IsName, AreOctets, truth_word, IsTruth, IsRef, IsGeneric, IsContentName, IsContent, IsData, AreSeveral, IsListOf}
 use Rattle.mh_text.specs.Reading.{next, past, is_open, is_close, is_open_brace, is_close_brace, is_indirect, is_content_ref, opened, closed, closed_list, braced, inner, refused_at, name_of, integer_of, natural_of, field_length_of, fixed_of, number_of, truth_of, event_of, justification_of, octets_of, colour_in, colour_of, named_reference, reference, made, alone, truth, integer, octets, data_of, event_data, content_name, content, generic, next_member, continued, listed, list}
 use Rattle.mh_text.proofs.SignLemmas.{content_ref_spelled, indirect_ref_spelled, truth_spelled, event_spelled, justification_spelled, integer_spelled, inner_is}
-use Rattle.mh_text.proofs.PieceLemmas.{kind_of, word_of, as_word, words, IsGood, AreGood, Passes, PassesFrom, turned, onward, went, if_ok, if_not_ok, ok_same, went_on}
+use Rattle.mh_text.proofs.PieceLemmas.{kind_of, word_of, as_word, words, IsGood, AreGood, Passes, PassesFrom, turned, onward, went_on}
 
 -- a token that passes a test, as it was read
 record Passed (test : Sign → Bool) (left rest : Left) : Type 0 where
@@ -521,14 +524,14 @@ module _ {A : Type 0} (member : Piece → Left → Result (A × Left) Refusal) (
       listed_on n done xs left x.value.1 rest x.value.0 (λ d b g. listed_found n d xs b rest g) (next_member_found left x.value.0 x.value.1 good x.first) x.behind
 
   -- a list between parentheses
-  pub list_found : (most : ℕ) → most ≤ 4096 → Finds (list member most) (IsListOf IsOne)
+  pub list_found : (most : ℕ) → most ≤ longest_list → Finds (list member most) (IsListOf IsOne)
   unfolding list
   list_found most few p left xs rest is_good good e =
       let t = if_ok (is_open p.sign) _ why.Syntax p.start (xs, rest) e in
       let l = listed_found most [] xs left rest good t.1 in
       record {
         spells = (
-          turned (λ ys. length ys ≤ 4096) xs l.new l.same (omega (arith, l.few)),
+          turned (λ ys. length ys ≤ longest_list) xs l.new l.same (omega (arith, l.few)),
           words left,
           l.end,
           first_word _ (word_of p) _ (words left) refl (is_open_word p is_good t.0),

@@ -3,6 +3,9 @@ use Rattle.std.proofs.Common.{◌≡◌, ℕ, ◌≤◌, Bool, true, false, ◌&
 use Rattle.std.proofs.lemmas.Bool.{and_parts}
 use Rattle.mh_base.specs.declared.value.Kind.{Kind}
 use Rattle.mh_base.specs.declared.value.Kind.TheVariants as of_kind
+use Rattle.mh_base.specs.Reading.{◌>>=◌}
+use Rattle.mh_base.specs.Limits.{longest_list}
+use Rattle.mh_base.proofs.ReadingLemmas.{went, if_ok, ok_same}
 use Rattle.mh_group.specs.declared.action.Typed.{Typed}
 use Rattle.mh_group.specs.declared.action.Typed.TheVariants as of_typed
 use Rattle.mh_group.specs.declared.action.Parameter.{Parameter}
@@ -14,26 +17,25 @@ use Rattle.mh_group.specs.declared.shape.Need.{Need}
 use Rattle.mh_group.specs.declared.shape.Need.TheVariants as need
 use Rattle.mh_group.specs.declared.written.Setting.{Setting}
 use Rattle.mh_group.specs.declared.written.Setting.TheVariants as of_setting
-use Rattle.mh_group.specs.Table.{needs_of, optional_of}
 use Rattle.mh_group.specs.Holdable.{colour_octets}
-use Rattle.mh_group.specs.Words.{action_word}
+use Rattle.mh_group.specs.Words.{action_word, kind_word}
+use Rattle.mh_group.specs.Table.{needs_of, optional_of}
 use Rattle.mh_text.specs.declared.token_kind.TokenKind.TheVariants as kind
 use Rattle.mh_text.specs.declared.sign.Sign.{Sign}
 use Rattle.mh_text.specs.declared.sign.Sign.TheVariants as sign
 use Rattle.mh_text.specs.declared.text_error.Why.TheVariants as why
 use Rattle.mh_text.specs.Rest.{Left, Piece}
-use Rattle.mh_text.specs.Signs.{kind_word}
 use Rattle.mh_text.specs.Words.{Written}
-use Rattle.mh_text.specs.Gives.{Refusal, ◌>>=◌}
+use Rattle.mh_text.specs.Gives.{Refusal}
 use Rattle.mh_text.specs.Spelling.{IsClose, IsInteger, IsTruth, AreOctets, IsRef, IsGeneric, IsContentName, IsContent, IsData, IsTyped, IsParameter, AreSeveral, IsListOf, IsAction, IsMember, IsPosition, IsNextScene, IsSetting}
 use Rattle.mh_text.specs.Reading.{is_open, is_close, opened, closed, integer_of, natural_of, field_length_of, name_of, truth_of, event_of, justification_of, octets_of, colour_of, reference, alone, truth, integer, octets, data_of, event_data, content_name, content, generic, listed, list, value_of, typed, generic_parameter, parameter, parameters, action_name_of, action, effect, row, member, list_item, position, next_scene, single, part, pair, several, setting_at, setting}
 use Rattle.mh_text.proofs.SignLemmas.{action_spelled, kind_spelled}
-use Rattle.mh_text.proofs.PieceLemmas.{kind_of, word_of, as_word, words, IsGood, AreGood, Passes, PassesFrom, turned, onward, went, if_ok, ok_same, went_on}
+use Rattle.mh_text.proofs.PieceLemmas.{kind_of, word_of, as_word, words, IsGood, AreGood, Passes, PassesFrom, turned, onward, went_on}
 use Rattle.mh_text.proofs.FoundLemmas.{Finds, IsIntegerWord, first_word, first_integer, first_octets, moved_from, from_piece, made_found, made_finds, alone_found, is_open_word, is_close_word, opened_found, closed_found, name_found, integer_found, natural_found, field_length_found, fixed_found, truth_found, event_found, justification_found, octets_found, colour_found, data_found, reference_found, truth_finds, integer_finds, octets_finds, data_finds, content_name_found, content_found, generic_found, listed_found, list_found}
 
 -- a value with its kind in front
 value_found : (k : Kind) (before : Written) → before ≡ as_word kind.Keyword (58 ∷ kind_word k) → Finds (value_of k) (λ t ws rs. IsTyped t (before ∷ ws) rs)
-unfolding value_of kind_word
+unfolding value_of
 value_found of_kind.Bool before is p left t rest is_good good e =
     made_finds (IsGeneric IsTruth) (λ t ws rs. IsTyped t (before ∷ ws) rs) of_typed.Bool (generic truth) (generic_found truth IsTruth truth_finds) (λ x ws rs h. (ws, ap (λ w. w ∷ ws) is, h)) p left t rest is_good good e
 value_found of_kind.Int before is p left t rest is_good good e =
@@ -92,7 +94,7 @@ parameter_found (need.Receiver k) p left x rest is_good good e =
 parameter_found need.Typed p left x rest is_good good e =
     made_finds IsTyped IsParameter of_parameter.Typed typed typed_found (λ y ws rs h. h) p left x rest is_good good e
 parameter_found need.Arguments p left x rest is_good good e =
-    made_finds (IsListOf IsTyped) IsParameter of_parameter.Arguments (list typed 4096) (list_found typed IsTyped typed_found 4096 (omega arith)) (λ y ws rs h. h) p left x rest is_good good e
+    made_finds (IsListOf IsTyped) IsParameter of_parameter.Arguments (list typed longest_list) (list_found typed IsTyped typed_found longest_list (omega arith)) (λ y ws rs h. h) p left x rest is_good good e
 parameter_found need.Bool p left x rest is_good good e = generic_parameter_found need.Bool p left x rest is_good good e
 parameter_found need.Int p left x rest is_good good e = generic_parameter_found need.Int p left x rest is_good good e
 parameter_found need.Octets p left x rest is_good good e = generic_parameter_found need.Octets p left x rest is_good good e
@@ -199,10 +201,10 @@ action_found p left x rest is_good good e =
     })
 
 effect_found : Finds effect (IsListOf IsAction)
-effect_found p left xs rest is_good good e = list_found action IsAction action_found 4096 (omega arith) p left xs rest is_good good e
+effect_found p left xs rest is_good good e = list_found action IsAction action_found longest_list (omega arith) p left xs rest is_good good e
 
 row_found : Finds row (IsListOf IsInteger)
-row_found p left xs rest is_good good e = list_found integer IsInteger integer_finds 4096 (omega arith) p left xs rest is_good good e
+row_found p left xs rest is_good good e = list_found integer IsInteger integer_finds longest_list (omega arith) p left xs rest is_good good e
 
 -- members, positions and scenes
 member_found : Finds member IsMember
@@ -212,11 +214,11 @@ member_found p left x rest is_good good e =
     let a = went_on left _ (x, rest) good t.1 in
     let object = went (reference a.piece a.rest) _ (x, rest) a.behind in
     let referred = from_piece (IsRef object.value.0) left a.rest object.value.1 a.piece a.written a.wrong (reference_found a.piece a.rest object.value.0 object.value.1 a.is_good a.good object.first) in
-    let slots = went (listed effect 4096 [] object.value.1) _ (x, rest) object.behind in
-    let l = listed_found effect (IsListOf IsAction) effect_found 4096 [] slots.value.0 object.value.1 slots.value.1 referred.good slots.first in
+    let slots = went (listed effect longest_list [] object.value.1) _ (x, rest) object.behind in
+    let l = listed_found effect (IsListOf IsAction) effect_found longest_list [] slots.value.0 object.value.1 slots.value.1 referred.good slots.first in
     moved_from IsMember p left (record { object = object.value.0; slots = slots.value.0 }) x slots.value.1 rest slots.behind (record {
       spells = (
-        turned (λ ys. length ys ≤ 4096) slots.value.0 l.new l.same l.few,
+        turned (λ ys. length ys ≤ longest_list) slots.value.0 l.new l.same l.few,
         words left,
         words object.value.1,
         l.end,
@@ -361,15 +363,15 @@ unfolding several
 several_found shape.Effect p left x rest is_good good e =
     made_finds (IsListOf IsAction) IsSetting of_setting.Effect effect effect_found (λ y ws rs h. h) p left x rest is_good good e
 several_found shape.MovementTable p left x rest is_good good e =
-    made_finds (IsListOf (IsListOf IsInteger)) IsSetting of_setting.MovementTable (list row 4096) (list_found row (IsListOf IsInteger) row_found 4096 (omega arith)) (λ y ws rs h. h) p left x rest is_good good e
+    made_finds (IsListOf (IsListOf IsInteger)) IsSetting of_setting.MovementTable (list row longest_list) (list_found row (IsListOf IsInteger) row_found longest_list (omega arith)) (λ y ws rs h. h) p left x rest is_good good e
 several_found shape.Members p left x rest is_good good e =
-    made_finds (IsListOf IsMember) IsSetting of_setting.Members (list member 4096) (list_found member IsMember member_found 4096 (omega arith)) (λ y ws rs h. h) p left x rest is_good good e
+    made_finds (IsListOf IsMember) IsSetting of_setting.Members (list member longest_list) (list_found member IsMember member_found longest_list (omega arith)) (λ y ws rs h. h) p left x rest is_good good e
 several_found shape.ListItems p left x rest is_good good e =
     made_finds (IsListOf IsMember) IsSetting of_setting.Members (list list_item 256) (list_found list_item IsMember list_item_found 256 (omega arith)) (λ y ws rs h. h) p left x rest is_good good e
 several_found shape.Positions p left x rest is_good good e =
-    made_finds (IsListOf IsPosition) IsSetting of_setting.Positions (list position 4096) (list_found position IsPosition position_found 4096 (omega arith)) (λ y ws rs h. h) p left x rest is_good good e
+    made_finds (IsListOf IsPosition) IsSetting of_setting.Positions (list position longest_list) (list_found position IsPosition position_found longest_list (omega arith)) (λ y ws rs h. h) p left x rest is_good good e
 several_found shape.NextScenes p left x rest is_good good e =
-    made_finds (IsListOf IsNextScene) IsSetting of_setting.NextScenes (list next_scene 4096) (list_found next_scene IsNextScene next_scene_found 4096 (omega arith)) (λ y ws rs h. h) p left x rest is_good good e
+    made_finds (IsListOf IsNextScene) IsSetting of_setting.NextScenes (list next_scene longest_list) (list_found next_scene IsNextScene next_scene_found longest_list (omega arith)) (λ y ws rs h. h) p left x rest is_good good e
 several_found _ p left x rest is_good good e = absurd cc
 
 setting_at_found : (s : Shape) → Finds (setting_at s) IsSetting

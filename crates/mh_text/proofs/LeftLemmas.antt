@@ -3,6 +3,7 @@ use Rattle.std.proofs.Common.{◌≡◌, ℕ, zero, suc, ◌+◌, ◌<◌, Bool,
 use Rattle.mh_text.specs.declared.token_kind.TokenKind.{TokenKind}
 use Rattle.std.specs.List.{prefix_len}
 use Rattle.std.proofs.lemmas.Bool.Decides.{nat_tests}
+use Rattle.mh_base.specs.Reading.{Rest, refused}
 use Rattle.mh_text.specs.declared.token_kind.TokenKind.TheVariants.{Word}
 use Rattle.mh_text.specs.Bytes.{is_digit, is_letter}
 use Rattle.mh_text.specs.Lexing.{gap_length, token_at, bare_token_at, number_length, behind_first, number_or_word}
@@ -13,9 +14,9 @@ use Rattle.mh_text.specs.declared.text_error.Why.{Why}
 use Rattle.mh_text.specs.declared.text_error.Why.TheVariants as why
 use Rattle.mh_text.specs.declared.text_error.TextError.{TextError}
 use Rattle.mh_text.specs.declared.text_error.TextError.TheVariants.{At, NoMemory}
-use Rattle.mh_text.specs.Gives.{refused, Fails}
+use Rattle.mh_text.specs.Gives.{Fails}
 use Rattle.mh_text.specs.Reading.{taken, next}
-use Rattle.mh_text.specs.Rest.{Rest, Left, Piece, piece, bad_at}
+use Rattle.mh_text.specs.Rest.{Left, Piece, piece, bad_at}
 use Rattle.mh_text.specs.Left.{Lexed, finished, bad, token, cut, lexed_at, lexed, IsBad, meant, left_in, left_of, left}
 
 -- the token, if there is one, has a byte

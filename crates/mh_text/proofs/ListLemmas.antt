@@ -1,27 +1,23 @@
 -- Lists of members up to a closing parenthesis, and fields up to a closing brace, one at a time.
 use Rattle.std.proofs.Common.{◌≡◌, ℕ, zero, suc, ◌+◌, ◌-◌, ◌<◌, Bool, true, false, ◌&&◌, nat_le, if◌then◌else◌, List, [], ◌∷◌, ◌++◌, length, get_or, drop, Option, Some, None, Result, Ok, refl, ap, sym, ◌∙◌, subst, arith, length-drop}
 use Rattle.std.proofs.Math.Seq.{drop-cons}
+use Rattle.mh_base.specs.Reading.{refused, ◌>>=◌}
+use Rattle.mh_base.proofs.ReadingLemmas.{fails_bind}
 use Rattle.mh_group.specs.declared.class.Class.{Class}
 use Rattle.mh_group.specs.declared.shape.Need.{Need}
 use Rattle.mh_group.specs.declared.action.Parameter.{Parameter}
 use Rattle.mh_group.specs.declared.written.Field.{Field}
 use Rattle.mh_text.specs.declared.text_error.TextError.{TextError}
-use Rattle.mh_text.specs.declared.text_error.TextError.TheVariants.{At, NoMemory}
 use Rattle.mh_text.specs.declared.text_error.Why.TheVariants.{Limit}
 use Rattle.mh_text.specs.Rest.{Left, Piece}
-use Rattle.mh_text.specs.Gives.{Refusal, refused, Fails, ◌>>=◌}
+use Rattle.mh_text.specs.Gives.{Refusal, Fails, told}
 use Rattle.mh_text.specs.Reading.{next, is_close, parameter, parameters, closed_list, listed, next_member, fields, next_field, placed}
-
--- a refusal stays, whatever was to follow
-pub fails_bind : {A B : Type 0} (error : TextError) (read : Result A Refusal) (f : A → Result B Refusal) → Fails error read → Fails error (read >>= f)
-fails_bind NoMemory read f h = tt
-fails_bind (At w o) read f h = ap (λ r. r >>= f) h
 
 module _ {A : Type 0} (member : Piece → Left → Result (A × Left) Refusal) where
   pub listed_fails : (n : ℕ) (done : List A) (left : Left) (error : TextError) → 0 < n → Fails error (next_member member left) → Fails error (listed member n done left)
   unfolding listed
   listed_fails zero done left error some h = absurd (omega arith)
-  listed_fails (suc n) done left error some h = fails_bind error (next_member member left) _ h
+  listed_fails (suc n) done left error some h = fails_bind (told error) (next_member member left) _ h
 
   pub listed_done : (n : ℕ) (done : List A) (left rest : Left) (o : Option A) → 0 < n → next_member member left ≡ Ok (o, rest) → o ≡ None → listed member n done left ≡ Ok (done, rest)
   unfolding listed
@@ -44,13 +40,13 @@ module _ {A : Type 0} (member : Piece → Left → Result (A × Left) Refusal) w
 
   pub listed_full_fails : (n : ℕ) (done : List A) (left : Left) (error : TextError) → n ≡ 0 → Fails error (closed_list left) → Fails error (listed member n done left)
   unfolding listed
-  listed_full_fails zero done left error z h = fails_bind error (closed_list left) _ h
+  listed_full_fails zero done left error z h = fails_bind (told error) (closed_list left) _ h
   listed_full_fails (suc n) done left error z h = absurd (omega arith)
 
 pub fields_fail : (c : Class) (n : ℕ) (done : List Field) (left : Left) (error : TextError) → 0 < n → Fails error (next_field c done left) → Fails error (fields c n done left)
 unfolding fields
 fields_fail c zero done left error some h = absurd (omega arith)
-fields_fail c (suc n) done left error some h = fails_bind error (next_field c done left) _ h
+fields_fail c (suc n) done left error some h = fails_bind (told error) (next_field c done left) _ h
 
 pub fields_done : (c : Class) (n : ℕ) (done : List Field) (left rest : Left) (o : Option Field) (p : Piece) → 0 < n → next_field c done left ≡ Ok (o, p, rest) → o ≡ None → fields c n done left ≡ Ok (done, p, rest)
 unfolding fields
@@ -73,7 +69,7 @@ fields_over c (suc n) done left rest p z e = absurd (omega arith)
 
 pub fields_over_fail : (c : Class) (n : ℕ) (done : List Field) (left : Left) (error : TextError) → n ≡ 0 → Fails error (next left) → Fails error (fields c n done left)
 unfolding fields
-fields_over_fail c zero done left error z h = fails_bind error (next left) _ h
+fields_over_fail c zero done left error z h = fails_bind (told error) (next left) _ h
 fields_over_fail c (suc n) done left error z h = absurd (omega arith)
 
 -- The parameters that are needed from a place on. That place has one.
@@ -97,14 +93,14 @@ module _ (optional : ℕ) (needs : List Need) (i : ℕ) (d : Need) (done : List 
       else (parameter (get_or needs i d) a.0 a.1 >>= λ x. parameters optional (drop (i + 1) needs) (done ++ x.0 ∷ []) x.1)) long
 
   pub parameters_fail : (error : TextError) → Fails error (next left) → Fails error (parameters optional (drop i needs) done left)
-  parameters_fail error h = subst (Fails error) (sym step) (fails_bind error (next left) _ h)
+  parameters_fail error h = subst (Fails error) (sym step) (fails_bind (told error) (next left) _ h)
 
   pub parameters_done : (p : Piece) (rest : Left) → next left ≡ Ok (p, rest) → true ≡ may_end p → parameters optional (drop i needs) done left ≡ Ok (done, rest)
   parameters_done p rest e h = step ∙ rw (e, sym h) refl
 
   pub parameter_fails : (error : TextError) (p : Piece) (rest : Left) → next left ≡ Ok (p, rest) → false ≡ may_end p → Fails error (parameter (get_or needs i d) p rest)
       → Fails error (parameters optional (drop i needs) done left)
-  parameter_fails error p rest e h fails = subst (Fails error) (sym step) (rw (e, sym h) (fails_bind error (parameter (get_or needs i d) p rest) _ fails))
+  parameter_fails error p rest e h fails = subst (Fails error) (sym step) (rw (e, sym h) (fails_bind (told error) (parameter (get_or needs i d) p rest) _ fails))
 
   pub parameters_more : (p : Piece) (rest behind : Left) (x : Parameter) (more : List Parameter) → next left ≡ Ok (p, rest) → false ≡ may_end p
       → parameter (get_or needs i d) p rest ≡ Ok (x, behind) → more ≡ done ++ x ∷ []

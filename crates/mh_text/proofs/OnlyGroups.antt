@@ -1,22 +1,21 @@
 -- What is spelled is read: fields, ingredients and groups.
-use Rattle.std.proofs.Common.{◌≡◌, ℕ, zero, suc, ◌<◌, ◌≤◌, inl, inr, Bool, true, false, ◌&&◌, not, ◌==◌, nat_lt, if◌then◌else◌, List, [], ◌∷◌, ◌++◌, length, Option, Some, None, is_none, Result, Ok, pos, refl, ap, sym, ◌∙◌, subst, arith}
-use Rattle.std.specs.Option.{option_or}
+use Rattle.std.proofs.Common.{◌≡◌, ℕ, zero, suc, ◌<◌, inl, inr, Bool, true, false, ◌&&◌, not, ◌==◌, if◌then◌else◌, List, [], ◌∷◌, ◌++◌, length, Option, Some, None, Result, Ok, pos, refl, ap, sym, ◌∙◌, subst, arith}
 use Rattle.std.proofs.lemmas.Bool.{and_from}
-use Rattle.std.proofs.lemmas.Bool.Decides.{nat_tests}
+use Rattle.mh_base.specs.Reading.{whole, is_same}
+use Rattle.mh_base.specs.Limits.{longest_list}
+use Rattle.mh_base.proofs.ReadingLemmas.{then_is, file_is}
 use Rattle.mh_group.specs.declared.class.Class.{Class}
 use Rattle.mh_group.specs.declared.attribute.Attribute.{Attribute}
 use Rattle.mh_group.specs.declared.attribute.Attribute.TheVariants as attribute
-use Rattle.mh_group.specs.declared.shape.Shape.{Shape}
-use Rattle.mh_group.specs.declared.shape.Shape.TheVariants as shape
 use Rattle.mh_group.specs.declared.written.Setting.{Setting}
-use Rattle.mh_group.specs.declared.written.Setting.TheVariants as of_setting
 use Rattle.mh_group.specs.declared.written.Field.{Field}
 use Rattle.mh_group.specs.declared.written.Ingredient.{Ingredient}
 use Rattle.mh_group.specs.declared.written.Written.{Written as Group}
-use Rattle.mh_group.specs.declared.misfit.MisfitWhy.{MisfitWhy}
-use Rattle.mh_group.specs.Table.{attribute_number, shape_of, takes, is_group_class}
-use Rattle.mh_group.specs.Fit.{fits, is_rising, has_required, takes_each, fits_each, fields_misfit, ingredient_misfit, ingredients_misfit, misfit_of, written_items, items_of, is_group}
+use Rattle.mh_group.specs.Fit.{fits, has_required, ingredient_misfit, ingredients_misfit, written_items, is_group}
 use Rattle.mh_group.specs.Words.{class_word, attribute_word}
+use Rattle.mh_group.proofs.MisfitLemmas.{if_no_none, or_none, AreRight, are_right, is_right}
+use Rattle.mh_group.proofs.ShapeLemmas.{items_unfit}
+use Rattle.mh_group.specs.Table.{attribute_number, shape_of, takes, is_group_class, is_items_shape}
 use Rattle.mh_text.specs.declared.token_kind.TokenKind.TheVariants as kind
 use Rattle.mh_text.specs.declared.sign.Sign.{Sign}
 use Rattle.mh_text.specs.declared.sign.Sign.TheVariants as sign
@@ -26,31 +25,21 @@ use Rattle.mh_text.specs.Words.{Written}
 use Rattle.mh_text.specs.Signs.{sign_of}
 use Rattle.mh_text.specs.Gives.{Refusal}
 use Rattle.mh_text.specs.Spelling.{IsKeyword, IsCloseBrace, IsNamed, AreSeveral, IsListOf, IsField, NoneTwice, AreFieldsOf, IsIngredient, IsBody, IsGroup, Spells}
-use Rattle.mh_text.specs.Left.{left, whole}
-use Rattle.mh_text.specs.Reading.{next, ended, is_same, opened, closed, braced, refused_at, name_of, number_of, ingredient_number_of, setting, has_attribute, attribute_of, placed, is_items_shape, is_items, next_field, fields, fields_behind_items, complete, class_of, ingredient, items, identifier, body, group, read}
+use Rattle.mh_text.specs.Left.{left}
+use Rattle.mh_text.specs.Reading.{next, ended, opened, closed, braced, refused_at, name_of, number_of, ingredient_number_of, setting, has_attribute, attribute_of, placed, is_items, next_field, fields, fields_behind_items, complete, class_of, ingredient, items, identifier, body, group, read}
 use Rattle.mh_text.proofs.SignLemmas.{class_means, attribute_means, integer_means}
 use Rattle.mh_text.proofs.FieldLemmas.{FitsIn, Has, Apart, has_contained, contains_had, has_left, has_right, none_passes, passes_none, same_turned}
 use Rattle.mh_text.proofs.OrderLemmas.{gathered_in, gathered_both, gathered_parts, gathered_same, free_first, apart_next, few_fields, all_had}
-use Rattle.mh_text.proofs.OnlyLemmas.{StandsAt, first, at_end, then_is, Reads, Takes, open_read, close_read, brace_read, name_is, number_is, AllFit, list_takes}
+use Rattle.mh_text.proofs.OnlyLemmas.{StandsAt, first, at_end, Reads, Takes, open_read, close_read, brace_read, name_is, number_is, AllFit, list_takes}
 use Rattle.mh_text.proofs.OnlySettings.{setting_read}
 
 -- the attribute of a field is not that of the items
-no_value_fits : (s : Setting) → fits shape.Items s ≡ false
-no_value_fits (of_setting.Bool b) = refl
-no_value_fits _ = refl
-
-no_items_shape : (form : Shape) (s : Setting) → fits form s ≡ true → is_items_shape form ≡ false
-no_items_shape shape.Items s h =
-    let none = no_value_fits s in
-    absurd cc
-no_items_shape _ s h = refl
-
 other_number : (c : Class) (a : Attribute) → is_items_shape (shape_of c a) ≡ false → (attribute_number a == attribute_number attribute.Items) ≡ false
 other_number c attribute.Items h = absurd cc
 other_number c _ h = refl
 
 no_items_number : (c : Class) (a : Attribute) (s : Setting) → fits (shape_of c a) s ≡ true → (attribute_number a == attribute_number attribute.Items) ≡ false
-no_items_number c a s h = other_number c a (no_items_shape (shape_of c a) s h)
+no_items_number c a s h = other_number c a (items_unfit (shape_of c a) s h)
 
 attribute_is : (c : Class) (done : List Field) (a : Attribute) (start : ℕ) (text : List ℕ) → takes c a ≡ true → has_attribute done a ≡ false
     → attribute_of c done (record { sign = sign.Attribute a; start = start; text = text }) ≡ Ok a
@@ -78,7 +67,7 @@ field_read c done f l ws rest fit free at (a, named, value) =
       rest = v.rest;
       is = then_is (next l) _ _ (Some f, p, v.rest) s.first
           (then_is (attribute_of c done p) _ f.attribute (Some f, p, v.rest) (attribute_is c done f.attribute s.start (58 ∷ attribute_word f.attribute) fit.0 free)
-          (rw (no_items_shape (shape_of c f.attribute) f.setting fit.1) (then_is (setting (shape_of c f.attribute) s.rest) _ _ (Some f, p, v.rest) v.is refl)));
+          (rw (items_unfit (shape_of c f.attribute) f.setting fit.1) (then_is (setting (shape_of c f.attribute) s.rest) _ _ (Some f, p, v.rest) v.is refl)));
       at = v.at;
     }
 
@@ -143,34 +132,11 @@ ends_items c done end rest group_class fit e m at =
       test = refl;
     }
 
--- what an object's fields are, where nothing is wrong with them
-record AreRight (c : Class) (fs : List Field) : Type 0 where
-  pub rising : is_rising fs ≡ true
-  pub required : has_required c fs ≡ true
-  pub fit : (x : Field) → Has fs x → FitsIn c x
-
-if_none : (b : Bool) (w : MisfitWhy) (r : Option MisfitWhy) → (if not b then Some w else r) ≡ None → (b ≡ true) × (r ≡ None)
-if_none true w r e = (refl, e)
-if_none false w r e = absurd cc
-
-if_no_none : (b : Bool) (w : MisfitWhy) (r : Option MisfitWhy) → (if b then Some w else r) ≡ None → (b ≡ false) × (r ≡ None)
-if_no_none true w r e = absurd cc
-if_no_none false w r e = (refl, e)
-
-are_right : (c : Class) (fs : List Field) → fields_misfit c fs ≡ None → AreRight c fs
-are_right c fs e =
-    let a = if_none (is_rising fs) _ _ e in
-    let b = if_none (has_required c fs) _ _ a.1 in
-    let d = if_none (takes_each c fs) _ _ b.1 in
-    let f = if_none (fits_each c fs) _ _ d.1 in
-    record {
-      rising = a.0;
-      required = b.0;
-      fit = λ x h. (all_had (λ f. takes c f.attribute) fs x d.0 h, all_had (λ f. fits (shape_of c f.attribute) f.setting) fs x f.0 h);
-    }
+fits_in : (c : Class) (fs : List Field) → AreRight c fs → (x : Field) → Has fs x → FitsIn c x
+fits_in c fs right x h = (all_had (λ f. takes c f.attribute) fs x right.take h, all_had (λ f. fits (shape_of c f.attribute) f.setting) fs x right.fit h)
 
 written_fit : (c : Class) (xs fs : List Field) → AreRight c xs → AreFieldsOf xs fs → (x : Field) → Has fs x → FitsIn c x
-written_fit c xs fs right (once, same) x h = right.fit x (has_contained xs x ((same x).0 (contains_had fs x h)))
+written_fit c xs fs right (once, same) x h = fits_in c xs right x (has_contained xs x ((same x).0 (contains_had fs x h)))
 
 complete_is : (c : Class) (xs : List Field) (p : Piece) → has_required c xs ≡ true → complete c xs p ≡ Ok xs
 unfolding complete
@@ -200,7 +166,7 @@ ingredient_takes l x ws rest fit at (a, b, c, d, fs, opens, named, (text, writes
     let s = first l ws a kind.OpenBrace (123 ∷ []) sign.OpenBrace at opens refl in
     let t = first s.rest a b kind.Keyword (58 ∷ class_word x.class) (sign.Class x.class) s.at named (class_means x.class) in
     let u = first t.rest b c kind.Integer text (sign.Integer (pos x.number)) t.at number (integer_means text (pos x.number) writes) in
-    let f = fields_read x.class 4096 [] fs u.rest c d rest IsBrace (few_fields fs same.0) (λ y z h. absurd h) same.0 (written_fit x.class x.fields fs right same) u.at several
+    let f = fields_read x.class longest_list [] fs u.rest c d rest IsBrace (few_fields fs same.0) (λ y z h. absurd h) same.0 (written_fit x.class x.fields fs right same) u.at several
     (ends_brace x.class (gathered_in fs []) d rest close) in
     let kept : gathered_in fs [] ≡ x.fields = gathered_same x.fields fs right.rising same in
     record {
@@ -212,15 +178,11 @@ ingredient_takes l x ws rest fit at (a, b, c, d, fs, opens, named, (text, writes
           (then_is (class_of false (record { sign = sign.Class x.class; start = t.start; text = 58 ∷ class_word x.class })) _ x.class (x, f.rest) (class_is false x.class t.start (58 ∷ class_word x.class) g.0)
           (then_is (next t.rest) _ _ (x, f.rest) u.first
           (then_is (ingredient_number_of (record { sign = sign.Integer (pos x.number); start = u.start; text = text })) _ x.number (x, f.rest) (ingredient_number_is x.number u.start text n.0)
-          (then_is (fields x.class 4096 [] u.rest) _ (x.fields, f.head, f.rest) (x, f.rest) (fields_named (fields x.class 4096 [] u.rest) (gathered_in fs []) x.fields f.head f.rest f.is kept)
+          (then_is (fields x.class longest_list [] u.rest) _ (x.fields, f.head, f.rest) (x, f.rest) (fields_named (fields x.class longest_list [] u.rest) (gathered_in fs []) x.fields f.head f.rest f.is kept)
           (then_is (complete x.class x.fields f.head) _ x.fields (x, f.rest) (complete_is x.class x.fields f.head right.required) refl)))));
       at = f.at;
       no_close = refl;
     }
-
-or_none : (o p : Option MisfitWhy) → option_or o p ≡ None → (o ≡ None) × (p ≡ None)
-or_none (Some w) p e = absurd cc
-or_none None p e = (refl, e)
 
 all_fit : (xs : List Ingredient) → ingredients_misfit xs ≡ None → AllFit FitsIngredient xs
 all_fit [] h = tt
@@ -231,7 +193,7 @@ all_fit (x ∷ xs) h =
 items_read : (l : Left) (xs : List Ingredient) (ws rest : List Written) → ingredients_misfit xs ≡ None → StandsAt l ws → IsListOf IsIngredient xs ws rest → Reads (items l) xs rest
 unfolding items
 items_read l xs ws rest fit at h =
-    let b = list_takes ingredient IsIngredient FitsIngredient ingredient_takes 4096 l xs ws rest (λ few. few, all_fit xs fit) at h in
+    let b = list_takes ingredient IsIngredient FitsIngredient ingredient_takes longest_list l xs ws rest (λ few. few, all_fit xs fit) at h in
     record { rest = b.rest; is = then_is (next l) _ _ (xs, b.rest) b.first b.is; at = b.at }
 
 -- the group
@@ -267,12 +229,12 @@ items_are : (c : Class) (s : Sign) → IsItems s → is_items c s ≡ true
 unfolding is_items
 items_are c s h = ap (is_items c) h
 
-behind_items_read : (c : Class) (done : List Field) (l : Left) (xs : List Field) (ws : List Written) → FieldsRead (fields c 4096 done l) xs ws IsBrace → FieldsRead (fields_behind_items c done l) xs ws IsBrace
+behind_items_read : (c : Class) (done : List Field) (l : Left) (xs : List Field) (ws : List Written) → FieldsRead (fields c longest_list done l) xs ws IsBrace → FieldsRead (fields_behind_items c done l) xs ws IsBrace
 unfolding fields_behind_items
 behind_items_read c done l xs ws f = record {
   head = f.head;
   rest = f.rest;
-  is = then_is (fields c 4096 done l) _ _ (xs, f.head, f.rest) f.is (ap (λ (b : Bool). if b then refused_at why.Syntax f.head else Ok (xs, f.head, f.rest)) (brace_no_items c f.head.sign f.test));
+  is = then_is (fields c longest_list done l) _ _ (xs, f.head, f.rest) f.is (ap (λ (b : Bool). if b then refused_at why.Syntax f.head else Ok (xs, f.head, f.rest)) (brace_no_items c f.head.sign f.test));
   at = f.at;
   test = f.test;
 }
@@ -300,12 +262,12 @@ body_read : (c : Class) (l : Left) (xs fs : List Field) (its : Option (List Ingr
     → ingredients_misfit (written_items its) ≡ None → StandsAt l ws → IsBody its fs ws end → IsCloseBrace end rest → BodyRead c l xs its rest
 unfolding body
 body_read c l xs fs None ws end rest group_class right same fit at several close =
-    let f = fields_read c 4096 [] fs l ws end rest IsBrace (few_fields fs same.0) (λ y z h. absurd h) same.0 (written_fit c xs fs right same) at several (ends_brace c (gathered_in fs []) end rest close) in
+    let f = fields_read c longest_list [] fs l ws end rest IsBrace (few_fields fs same.0) (λ y z h. absurd h) same.0 (written_fit c xs fs right same) at several (ends_brace c (gathered_in fs []) end rest close) in
     let kept : gathered_in fs [] ≡ xs = gathered_same xs fs right.rising same in
     record {
       head = f.head;
       rest = f.rest;
-      is = then_is (fields c 4096 [] l) _ (xs, f.head, f.rest) (xs, None, f.head, f.rest) (fields_named (fields c 4096 [] l) (gathered_in fs []) xs f.head f.rest f.is kept)
+      is = then_is (fields c longest_list [] l) _ (xs, f.head, f.rest) (xs, None, f.head, f.rest) (fields_named (fields c longest_list [] l) (gathered_in fs []) xs f.head f.rest f.is kept)
           (rw (brace_no_items c f.head.sign f.test) refl);
       at = f.at;
     }
@@ -315,40 +277,23 @@ body_read c l xs fs (Some its) ws end rest group_class right same fit at (front,
     let fit_front : (x : Field) → Has front x → FitsIn c x = λ x h. all_fits x (subst (λ l. Has l x) (sym parts) (has_left front back x h)) in
     let fit_back : (x : Field) → Has back x → FitsIn c x = λ x h. all_fits x (subst (λ l. Has l x) (sym parts) (has_right front back x h)) in
     let from_front : (x : Field) → Has (gathered_in front []) x → Has front x = λ x h. elim (gathered_parts front [] x h) [ inl none ↦ absurd none | inr r ↦ r ] in
-    let f = fields_read c 4096 [] front l ws a b IsItems (few_fields front once.0) (λ y z h. absurd h) once.0 fit_front at before
+    let f = fields_read c longest_list [] front l ws a b IsItems (few_fields front once.0) (λ y z h. absurd h) once.0 fit_front at before
     (ends_items c (gathered_in front []) a b group_class (λ x h. fit_front x (from_front x h)) named) in
     let it = items_read f.rest its b d fit f.at listed_items in
     let g = behind_items_read c (gathered_in front []) it.rest (gathered_in back (gathered_in front [])) rest
-    (fields_read c 4096 (gathered_in front []) back it.rest d end rest IsBrace (few_fields back once.1) (λ x y h k. once.2 x y (from_front x h) k) once.1 fit_back it.at behind
+    (fields_read c longest_list (gathered_in front []) back it.rest d end rest IsBrace (few_fields back once.1) (λ x y h k. once.2 x y (from_front x h) k) once.1 fit_back it.at behind
     (ends_brace c (gathered_in back (gathered_in front [])) end rest close)) in
     let kept : gathered_in back (gathered_in front []) ≡ xs = sym (gathered_both front back []) ∙ ap (λ l. gathered_in l []) (sym parts) ∙ gathered_same xs fs right.rising same in
     record {
       head = g.head;
       rest = g.rest;
-      is = then_is (fields c 4096 [] l) _ (gathered_in front [], f.head, f.rest) (xs, Some its, g.head, g.rest) f.is
+      is = then_is (fields c longest_list [] l) _ (gathered_in front [], f.head, f.rest) (xs, Some its, g.head, g.rest) f.is
           (rw (items_are c f.head.sign f.test)
           (then_is (items f.rest) _ (its, it.rest) (xs, Some its, g.head, g.rest) it.is
           (then_is (fields_behind_items c (gathered_in front []) it.rest) _ (xs, g.head, g.rest) (xs, Some its, g.head, g.rest)
           (fields_named (fields_behind_items c (gathered_in front []) it.rest) (gathered_in back (gathered_in front [])) xs g.head g.rest g.is kept) (refl {a = Ok (xs, Some its, g.head, g.rest)}))));
       at = g.at;
     }
-
-record IsRight (g : Group) : Type 0 where
-  pub class : is_group_class g.class ≡ true
-  pub fields : AreRight g.class g.fields
-  pub items : ingredients_misfit (items_of g) ≡ None
-
-none_is : (o : Option MisfitWhy) → is_none o ≡ true → o ≡ None
-none_is None h = refl
-none_is (Some w) h = absurd cc
-
-is_right : (g : Group) → is_group g ≡ true → IsRight g
-unfolding misfit_of
-is_right g h =
-    let n = none_is (misfit_of g) h in
-    let a = if_none (is_group_class g.class) _ _ n in
-    let b = or_none (fields_misfit g.class g.fields) (ingredients_misfit (items_of g)) a.1 in
-    record { class = a.0; fields = are_right g.class g.fields b.0; items = b.1 }
 
 group_read : (l : Left) (g : Group) (ws rest : List Written) → is_group g ≡ true → StandsAt l ws → IsGroup g ws rest → Reads (group l) g rest
 unfolding group
@@ -369,15 +314,12 @@ group_read l g ws rest fit at (a, b, c, d, fs, opens, named, identity, between, 
       at = x.at;
     }
 
-not_long : (n : ℕ) → n ≤ 1048576 → nat_lt 1048576 n ≡ false
-not_long n h = grind (arith, nat_tests)
-
 -- a text that spells a group is read as that group
 pub read_only : (bytes : List ℕ) (g : Group) → is_group g ≡ true → Spells bytes g → read bytes ≡ Ok g
 unfolding read Spells
 read_only bytes g fit (short, words, are_words, is_group_spelled) =
     let at : StandsAt (left false (whole bytes)) words = record { wants = false; place = whole bytes; is = refl; words = are_words } in
     let r = group_read (left false (whole bytes)) g words [] fit at is_group_spelled in
-    rw (not_long (length bytes) short)
+    rw (file_is (length bytes) short)
     (then_is (group (left false (whole bytes))) _ _ g r.is
     (then_is (ended r.rest) _ tt g (at_end r.rest r.at) refl))

@@ -5,6 +5,9 @@ use Rattle.std.proofs.lemmas.Bool.Decides.{nat_tests}
 use Rattle.mh_base.specs.declared.colour.Colour.{Colour}
 use Rattle.mh_base.specs.declared.event.EventType.{EventType}
 use Rattle.mh_base.specs.Path.{is_name_byte}
+use Rattle.mh_base.specs.Reading.{Rest, ◌>>=◌}
+use Rattle.mh_base.specs.Limits.{longest_list}
+use Rattle.mh_base.proofs.ReadingLemmas.{then_is}
 use Rattle.mh_group.specs.declared.reference.Ref.TheVariants as ref
 use Rattle.mh_group.specs.declared.reference.Generic.TheVariants.{Direct, Indirect}
 use Rattle.mh_group.specs.declared.justification.Justification.{Justification}
@@ -19,10 +22,10 @@ use Rattle.mh_text.specs.declared.sign.Sign.{Sign}
 use Rattle.mh_text.specs.declared.sign.Sign.TheVariants as sign
 use Rattle.mh_text.specs.declared.octet_text.Escape.TheVariants.{Outside}
 use Rattle.mh_text.specs.Escapes.{unescaped}
-use Rattle.mh_text.specs.Rest.{Rest, Left, Piece, piece}
+use Rattle.mh_text.specs.Rest.{Left, Piece, piece}
 use Rattle.mh_text.specs.Signs.{sign_of}
 use Rattle.mh_text.specs.Words.{Written, AreWords, IsWord, Quotes, needs_gap}
-use Rattle.mh_text.specs.Gives.{Refusal, ◌>>=◌}
+use Rattle.mh_text.specs.Gives.{Refusal}
 use Rattle.mh_text.specs.Spelling.{IsOpen, IsClose, IsOpenBrace, IsInteger, IsNumber, IsName, AreOctets, IsColour, truth_word, IsTruth, IsRef, IsGeneric, IsContentName, IsContent, IsData, AreSeveral, IsListOf}
 use Rattle.mh_text.specs.Left.{token, lexed, meant, left_in, left}
 use Rattle.mh_text.specs.Reading.{next, ended, is_close, is_indirect, is_content_ref, opened, closed, closed_list, braced, inner, name_of, integer_of, natural_of, number_of, truth_of, event_of, justification_of, octets_of, colour_in, colour_of, data_of, made, alone, truth, integer, octets, event_data, content_name, content, named_reference, reference, generic, next_member, listed, list}
@@ -80,9 +83,6 @@ at_end l at = ap ended (at.is ∙ left_is at.wants at.place ∙ ap (left_in left
 -- the first word, where it is this one
 pub first : (l : Left) (ws rest : List Written) (k : TokenKind) (text : List ℕ) (s : Sign) → StandsAt l ws → ws ≡ as_word k text ∷ rest → sign_of k text ≡ Ok s → Steps l k text s rest
 first l ws rest k text s at e means = steps l k text s rest (subst (StandsAt l) e at) means
-
-pub then_is : {A B : Type 0} (read : Result A Refusal) (f : A → Result B Refusal) (x : A) (y : B) → read ≡ Ok x → f x ≡ Ok y → (read >>= f) ≡ Ok y
-then_is read f x y e h = ap (λ r. r >>= f) e ∙ h
 
 -- reading gives this value, and stands then where these words are left
 pub record Reads {A : Type 0} (read : Result (A × Left) Refusal) (x : A) (ws : List Written) : Type 0 where
@@ -423,11 +423,11 @@ pub all_any : {A : Type 0} (xs : List A) → AllFit Any xs
 all_any [] = tt
 all_any (x ∷ xs) = (tt, all_any xs)
 
--- no more than may be, where no list has more than 4096
+-- no more than may be, where no list has more than a list may
 abbrev pub FitsList : {A : Type 0} → ℕ → (A → Type 0) → List A → Type 0
-FitsList most Fits xs = (length xs ≤ 4096 → length xs ≤ most) × AllFit Fits xs
+FitsList most Fits xs = (length xs ≤ longest_list → length xs ≤ most) × AllFit Fits xs
 
-pub any_list : {A : Type 0} (xs : List A) → FitsList 4096 Any xs
+pub any_list : {A : Type 0} (xs : List A) → FitsList longest_list Any xs
 any_list xs = (λ few. few, all_any xs)
 
 module _ {A : Type 0} (member : Piece → Left → Result (A × Left) Refusal) (IsOne : A → List Written → List Written → Type 0) (Fits : A → Type 0) (takes_one : Takes member IsOne Fits) where

@@ -5,6 +5,9 @@ use Rattle.std.proofs.lemmas.Bool.{and_parts}
 use Rattle.std.proofs.lemmas.Bool.Decides.{nat_tests}
 use Rattle.mh_base.specs.declared.value.Kind.{Kind}
 use Rattle.mh_base.specs.declared.value.Kind.TheVariants as of_kind
+use Rattle.mh_base.specs.Reading.{◌>>=◌}
+use Rattle.mh_base.specs.Limits.{longest_list}
+use Rattle.mh_base.proofs.ReadingLemmas.{then_is}
 use Rattle.mh_group.specs.declared.action.Action.{Action}
 use Rattle.mh_group.specs.declared.action.Typed.{Typed}
 use Rattle.mh_group.specs.declared.action.Typed.TheVariants as of_typed
@@ -17,20 +20,19 @@ use Rattle.mh_group.specs.declared.shape.Need.TheVariants as need
 use Rattle.mh_group.specs.declared.written.Member.{Member}
 use Rattle.mh_group.specs.declared.written.Setting.{Setting}
 use Rattle.mh_group.specs.declared.written.Setting.TheVariants as of_setting
-use Rattle.mh_group.specs.Table.{needs_of, optional_of}
 use Rattle.mh_group.specs.Fit.{fits, fits_parameter, fits_parameters, fits_action, fits_effect, fits_member, is_list_item, is_natural, is_field_length}
-use Rattle.mh_group.specs.Words.{action_word}
+use Rattle.mh_group.specs.Words.{action_word, kind_word}
+use Rattle.mh_group.specs.Table.{needs_of, optional_of}
 use Rattle.mh_text.specs.declared.token_kind.TokenKind.TheVariants as kind
 use Rattle.mh_text.specs.declared.sign.Sign.TheVariants as sign
 use Rattle.mh_text.specs.declared.text_error.Why.TheVariants as why
 use Rattle.mh_text.specs.Rest.{Left}
-use Rattle.mh_text.specs.Signs.{sign_of, kind_word}
+use Rattle.mh_text.specs.Signs.{sign_of}
 use Rattle.mh_text.specs.Words.{Written}
-use Rattle.mh_text.specs.Gives.{◌>>=◌}
 use Rattle.mh_text.specs.Spelling.{IsClose, IsKeyword, IsInteger, IsTruth, AreOctets, IsRef, IsContentName, IsContent, IsData, IsTyped, IsParameter, AreSeveral, IsListOf, IsAction, IsMember, IsPosition, IsNextScene, IsSetting}
 use Rattle.mh_text.specs.Reading.{next, is_close, opened, closed, refused_at, name_of, integer_of, natural_of, field_length_of, fixed_of, truth_of, event_of, justification_of, octets_of, colour_of, data_of, reference, alone, truth, integer, octets, event_data, content_name, content, generic, listed, list, value_of, typed, generic_parameter, parameter, parameters, action_name_of, action, effect, row, member, list_item, position, next_scene, single, part, pair, several, setting_at, setting}
 use Rattle.mh_text.proofs.SignLemmas.{action_means, kind_means}
-use Rattle.mh_text.proofs.OnlyLemmas.{StandsAt, first, then_is, Reads, Begun, Takes, Any, number_one, one_made, alone_taken, made_taken, truth_one, event_one, justification_one, integer_one, octets_one, colour_one, data_one, open_read, close_read, name_is, integer_is, natural_is, truth_takes, integer_takes, octets_takes, data_takes, reference_takes, content_name_takes, content_takes, generic_takes, AllFit, any_list, listed_read, list_takes}
+use Rattle.mh_text.proofs.OnlyLemmas.{StandsAt, first, Reads, Begun, Takes, Any, number_one, one_made, alone_taken, made_taken, truth_one, event_one, justification_one, integer_one, octets_one, colour_one, data_one, open_read, close_read, name_is, integer_is, natural_is, truth_takes, integer_takes, octets_takes, data_takes, reference_takes, content_name_takes, content_takes, generic_takes, AllFit, any_list, listed_read, list_takes}
 
 -- a value with its kind in front
 kinded : (k : Kind) (t : Typed) (l : Left) (ws a rest : List Written) → StandsAt l ws → IsKeyword (kind_word k) ws a → ((m : Left) → StandsAt m a → Begun m (value_of k) t rest) → Begun l typed t rest
@@ -49,7 +51,7 @@ kinded k t l ws a rest at keyed behind =
     }
 
 typed_takes : Takes typed IsTyped Any
-unfolding value_of kind_word
+unfolding value_of
 typed_takes l (of_typed.Bool x) ws rest fit at (a, keyed, value) =
     kinded of_kind.Bool (of_typed.Bool x) l ws a rest at keyed (λ m h. made_taken of_typed.Bool (generic truth) x m rest (generic_takes truth IsTruth truth_takes m x a rest tt h value))
 typed_takes l (of_typed.Int x) ws rest fit at (a, keyed, value) =
@@ -74,7 +76,7 @@ parameter_takes need.Event l (of_parameter.Event x) ws rest fit at h = made_take
 parameter_takes (need.Receiver k) l (of_parameter.Receiver x) ws rest fit at h = made_taken of_parameter.Receiver reference x l rest (reference_takes l x ws rest at h).0
 parameter_takes need.Typed l (of_parameter.Typed x) ws rest fit at h = made_taken of_parameter.Typed typed x l rest (typed_takes l x ws rest tt at h)
 parameter_takes need.Arguments l (of_parameter.Arguments xs) ws rest fit at h =
-    made_taken of_parameter.Arguments (list typed 4096) xs l rest (list_takes typed IsTyped Any typed_takes 4096 l xs ws rest (any_list xs) at h)
+    made_taken of_parameter.Arguments (list typed longest_list) xs l rest (list_takes typed IsTyped Any typed_takes longest_list l xs ws rest (any_list xs) at h)
 parameter_takes _ l _ ws rest fit at h = absurd cc
 
 and_not : (a b : Bool) → b ≡ false → (a && b) ≡ false
@@ -135,10 +137,10 @@ all_true p (x ∷ xs) h =
     (both.0, all_true p xs both.1)
 
 effect_takes : Takes effect (IsListOf IsAction) (λ xs. fits_effect xs ≡ true)
-effect_takes l xs ws rest fit at h = list_takes action IsAction FitsAction action_takes 4096 l xs ws rest (λ few. few, all_true fits_action xs fit) at h
+effect_takes l xs ws rest fit at h = list_takes action IsAction FitsAction action_takes longest_list l xs ws rest (λ few. few, all_true fits_action xs fit) at h
 
 row_takes : Takes row (IsListOf IsInteger) Any
-row_takes l xs ws rest fit at h = list_takes integer IsInteger Any (λ m x vs us fine here is. (integer_takes m x vs us here is).0) 4096 l xs ws rest (any_list xs) at h
+row_takes l xs ws rest fit at h = list_takes integer IsInteger Any (λ m x vs us fine here is. (integer_takes m x vs us here is).0) longest_list l xs ws rest (any_list xs) at h
 
 -- members, positions and scenes
 member_takes : Takes member IsMember (λ x. fits_member x ≡ true)
@@ -146,7 +148,7 @@ unfolding member sign_of
 member_takes l x ws rest fit at (few, a, b, c, opens, referred, slotted, close) =
     let s = first l ws a kind.OpenParenthesis (40 ∷ []) sign.OpenParenthesis at opens refl in
     let r = reference_takes s.rest x.object a b s.at referred in
-    let g = listed_read effect (IsListOf IsAction) (λ xs. fits_effect xs ≡ true) effect_takes 4096 [] x.slots r.0.rest b c rest few (all_true fits_effect x.slots fit) r.0.at slotted close in
+    let g = listed_read effect (IsListOf IsAction) (λ xs. fits_effect xs ≡ true) effect_takes longest_list [] x.slots r.0.rest b c rest few (all_true fits_effect x.slots fit) r.0.at slotted close in
     record {
       head = record { sign = sign.OpenParenthesis; start = s.start; text = 40 ∷ [] };
       behind = s.rest;
@@ -154,7 +156,7 @@ member_takes l x ws rest fit at (few, a, b, c, opens, referred, slotted, close) 
       rest = g.rest;
       is = then_is (next s.rest) _ _ (x, g.rest) r.0.first
           (then_is (reference r.0.head r.0.behind) _ _ (x, g.rest) r.0.is
-          (then_is (listed effect 4096 [] r.0.rest) _ _ (x, g.rest) g.is refl));
+          (then_is (listed effect longest_list [] r.0.rest) _ _ (x, g.rest) g.is refl));
       at = g.at;
       no_close = refl;
     }
@@ -301,17 +303,17 @@ setting_takes shape.Justification l (of_setting.Justification j) ws rest fit at 
     alone_taken (λ p. justification_of p >>= λ y. Ok (of_setting.Justification y)) (of_setting.Justification j) l rest (one_made of_setting.Justification justification_of j l rest (justification_one j l ws rest at h))
 setting_takes shape.Effect l (of_setting.Effect xs) ws rest fit at h = made_taken of_setting.Effect effect xs l rest (effect_takes l xs ws rest fit at h)
 setting_takes shape.MovementTable l (of_setting.MovementTable xs) ws rest fit at h =
-    made_taken of_setting.MovementTable (list row 4096) xs l rest (list_takes row (IsListOf IsInteger) Any row_takes 4096 l xs ws rest (any_list xs) at h)
+    made_taken of_setting.MovementTable (list row longest_list) xs l rest (list_takes row (IsListOf IsInteger) Any row_takes longest_list l xs ws rest (any_list xs) at h)
 setting_takes shape.Members l (of_setting.Members xs) ws rest fit at h =
-    made_taken of_setting.Members (list member 4096) xs l rest (list_takes member IsMember (λ x. fits_member x ≡ true) member_takes 4096 l xs ws rest (λ few. few, all_true fits_member xs fit) at h)
+    made_taken of_setting.Members (list member longest_list) xs l rest (list_takes member IsMember (λ x. fits_member x ≡ true) member_takes longest_list l xs ws rest (λ few. few, all_true fits_member xs fit) at h)
 setting_takes shape.ListItems l (of_setting.Members xs) ws rest fit at h =
     let both = and_parts (nat_le (length xs) 256) (list_all is_list_item xs) fit in
     made_taken of_setting.Members (list list_item 256) xs l rest
     (list_takes list_item IsMember (λ x. is_list_item x ≡ true) list_item_takes 256 l xs ws rest (λ few. at_most (length xs) 256 both.0, all_true is_list_item xs both.1) at h)
 setting_takes shape.Positions l (of_setting.Positions xs) ws rest fit at h =
-    made_taken of_setting.Positions (list position 4096) xs l rest (list_takes position IsPosition Any position_takes 4096 l xs ws rest (any_list xs) at h)
+    made_taken of_setting.Positions (list position longest_list) xs l rest (list_takes position IsPosition Any position_takes longest_list l xs ws rest (any_list xs) at h)
 setting_takes shape.NextScenes l (of_setting.NextScenes xs) ws rest fit at h =
-    made_taken of_setting.NextScenes (list next_scene 4096) xs l rest (list_takes next_scene IsNextScene Any next_scene_takes 4096 l xs ws rest (any_list xs) at h)
+    made_taken of_setting.NextScenes (list next_scene longest_list) xs l rest (list_takes next_scene IsNextScene Any next_scene_takes longest_list l xs ws rest (any_list xs) at h)
 setting_takes _ l _ ws rest fit at h = absurd cc
 
 pub setting_read : (s : Shape) (x : Setting) (l : Left) (ws rest : List Written) → fits s x ≡ true → StandsAt l ws → IsSetting x ws rest → Reads (setting s l) x rest

@@ -3,11 +3,12 @@ use Rattle.std.proofs.Common.{◌≡◌, ℕ, suc, ◌+◌, ◌<◌, ◌≤◌, 
 use Rattle.std.specs.List.{list_all, prefix_len}
 use Rattle.std.proofs.lemmas.Bool.{and_parts, and_from}
 use Rattle.std.proofs.lemmas.Bool.Decides.{nat_tests}
+use Rattle.mh_base.specs.Limits.{longest_list}
 use Rattle.mh_group.specs.declared.attribute.Attribute.{Attribute}
 use Rattle.mh_group.specs.declared.attribute.Attribute.TheVariants as attribute
 use Rattle.mh_group.specs.declared.written.Field.{Field}
-use Rattle.mh_group.specs.Table.{attribute_number}
 use Rattle.mh_group.specs.Fit.{rises_above, is_rising}
+use Rattle.mh_group.specs.Table.{attribute_number}
 use Rattle.mh_text.specs.Reading.{placed, has_attribute}
 use Rattle.mh_text.specs.Spelling.{NoneTwice, AreFieldsOf}
 use Rattle.mh_text.proofs.FieldLemmas.{Has, Apart, has_contained, contains_had, has_placed_parts, has_placed_new, has_placed_old, none_passes, passes_none, same_turned, or_false}
@@ -129,7 +130,7 @@ rising_short n (f ∷ fs) low rising =
     let rest = rising_short (attribute_number f.attribute) fs (number_small f.attribute) parts.1 in
     omega arith
 
-pub few_fields : (fs : List Field) → NoneTwice fs → length fs < 4096
+pub few_fields : (fs : List Field) → NoneTwice fs → length fs < longest_list
 few_fields fs once =
     let short = rising_short 0 (gathered_in fs []) (omega arith) (gathered_rising fs [] refl (λ x y h g. absurd h) once) in
     let long = gathered_length fs [] in

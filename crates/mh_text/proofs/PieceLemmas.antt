@@ -1,5 +1,7 @@
 -- Tokens with their meaning as words, and what it says of a reading that it went well.
-use Rattle.std.proofs.Common.{◌≡◌, ℕ, Bool, true, false, if◌then◌else◌, List, [], ◌∷◌, map, Option, Some, None, Result, Ok, Err, refl, ap, sym, ◌∙◌, subst}
+use Rattle.std.proofs.Common.{◌≡◌, ℕ, List, [], ◌∷◌, map, Option, Some, None, Result, Ok, ap, sym, ◌∙◌, subst}
+use Rattle.mh_base.specs.Reading.{◌>>=◌}
+use Rattle.mh_base.proofs.ReadingLemmas.{went}
 use Rattle.mh_text.specs.declared.token_kind.TokenKind.{TokenKind}
 use Rattle.mh_text.specs.declared.token_kind.TokenKind.TheVariants as kind
 use Rattle.mh_text.specs.declared.sign.Sign.{Sign}
@@ -8,7 +10,7 @@ use Rattle.mh_text.specs.declared.text_error.Why.{Why}
 use Rattle.mh_text.specs.Signs.{sign_of}
 use Rattle.mh_text.specs.Rest.{Left, Piece}
 use Rattle.mh_text.specs.Words.{Written, IsWord}
-use Rattle.mh_text.specs.Gives.{Refusal, refused, ◌>>=◌}
+use Rattle.mh_text.specs.Gives.{Refusal}
 use Rattle.mh_text.specs.Reading.{next, missing}
 
 -- the kind of the tokens that have this meaning
@@ -62,25 +64,6 @@ pub record Passes (R : List Written → List Written → Type 0) (left rest : Le
 pub onward : (left middle rest : Left) → middle.wrong ≡ left.wrong → rest.wrong ≡ middle.wrong → rest.wrong ≡ left.wrong
 onward left middle rest first then_on = then_on ∙ first
 
--- a reading that went well
-pub record Went {A B : Type 0} (read : Result A Refusal) (f : A → Result B Refusal) (y : B) : Type 0 where
-  pub value : A
-  pub first : read ≡ Ok value
-  pub behind : f value ≡ Ok y
-
-pub went : {A B : Type 0} (read : Result A Refusal) (f : A → Result B Refusal) (y : B) → (read >>= f) ≡ Ok y → Went read f y
-went (Ok x) f y e = record { value = x; first = refl; behind = e }
-went (Err r) f y e = absurd cc
-
--- a test that went well
-pub if_ok : {A : Type 0} (b : Bool) (r : Result A Refusal) (w : Why) (o : ℕ) (y : A) → (if b then r else refused w o) ≡ Ok y → (b ≡ true) × (r ≡ Ok y)
-if_ok true r w o y e = (refl, e)
-if_ok false r w o y e = absurd cc
-
-pub if_not_ok : {A : Type 0} (b : Bool) (r : Result A Refusal) (w : Why) (o : ℕ) (y : A) → (if b then refused w o else r) ≡ Ok y → (b ≡ false) × (r ≡ Ok y)
-if_not_ok true r w o y e = absurd cc
-if_not_ok false r w o y e = (refl, e)
-
 -- a token was taken
 pub record Took (left : Left) (p : Piece) (rest : Left) : Type 0 where
   pub pieces : left.pieces ≡ p ∷ rest.pieces
@@ -106,9 +89,6 @@ took_words left p rest t = ap (map word_of) t.pieces
 
 pub took_good : (left : Left) (p : Piece) (rest : Left) → Took left p rest → AreGood left.pieces → IsGood p × AreGood rest.pieces
 took_good left p rest t good = subst AreGood t.pieces good
-
-pub ok_same : {A : Type 0} {x y : A} → ◌≡◌ {A = Result A Refusal} (Ok x) (Ok y) → x ≡ y
-ok_same e = cc
 
 -- a token was taken, and reading went on behind it
 pub record WentOn {B : Type 0} (left : Left) (f : Piece × Left → Result B Refusal) (y : B) : Type 0 where

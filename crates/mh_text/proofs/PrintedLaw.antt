@@ -8,6 +8,8 @@ use Rattle.std.proofs.lemmas.Bool.Decides.{nat_tests}
 use Rattle.std.proofs.lemmas.List.{take-append-drop}
 use Rattle.std.proofs.lemmas.List.Folds.{list_all-append}
 use Rattle.mh_base.specs.Path.{is_name_byte}
+use Rattle.mh_base.specs.Limits.{largest_file, longest_list}
+use Rattle.mh_base.proofs.ReadingLemmas.{is_file}
 use Rattle.mh_group.specs.declared.class.Class.{Class}
 use Rattle.mh_group.specs.declared.misfit.MisfitWhy.{MisfitWhy}
 use Rattle.mh_group.specs.declared.misfit.MisfitWhy.TheVariants as misfit
@@ -23,10 +25,10 @@ use Rattle.mh_group.specs.declared.written.Setting.TheVariants as of_setting
 use Rattle.mh_group.specs.declared.written.Field.{Field}
 use Rattle.mh_group.specs.declared.written.Ingredient.{Ingredient}
 use Rattle.mh_group.specs.declared.written.Written.{Written as Group}
-use Rattle.mh_group.specs.Table.{attribute_number, is_group_class}
-use Rattle.mh_group.specs.Words.{class_word, attribute_word, action_word, event_word, justification_word}
 use Rattle.mh_group.specs.Fit.{rises_above, is_rising, before_items, is_group, misfit_of, fields_misfit, ingredient_misfit, ingredients_misfit, items_of, written_items}
 use Rattle.mh_group.specs.Holdable.{colour_octets, is_plain, is_integer, is_number, is_name, is_octets, is_reference, is_generic, is_typed, is_content, is_data, is_parameter, is_action, is_list, is_member, is_position, is_next_scene, is_setting, has_settings, is_ingredient, is_holdable}
+use Rattle.mh_group.specs.Words.{class_word, attribute_word, action_word, event_word, justification_word}
+use Rattle.mh_group.specs.Table.{attribute_number, is_group_class}
 use Rattle.mh_text.specs.declared.token_kind.TokenKind.TheVariants as kind
 use Rattle.mh_text.specs.Words.{Written}
 use Rattle.mh_text.specs.Words.IsGap.{blank, nothing as no_gap}
@@ -65,10 +67,10 @@ member_prints : (m : Member) → is_member m ≡ true → Prints (IsMember m) (m
 unfolding member
 member_prints m h tail rest spaced =
     let parts = and_parts (is_reference m.object) (is_list (is_list is_action) m.slots) h in
-    let slots = and_parts (nat_le (length m.slots) 4096) (list_all (is_list is_action) m.slots) parts.1 in
+    let slots = and_parts (nat_le (length m.slots) longest_list) (list_all (is_list is_action) m.slots) parts.1 in
     let z = four opening (reference m.object) (flat_map (list action) m.slots) closing opening_prints (reference_prints m.object parts.0)
     (each_prints (IsListOf IsAction) (list action) (is_list is_action) effect_prints m.slots slots.1) closing_prints tail rest spaced in
-    (z.0, z.1, (few (length m.slots) 4096 slots.0, z.2.0, z.2.1, z.2.2, z.2.3, z.2.4, z.2.5, z.2.6))
+    (z.0, z.1, (few (length m.slots) longest_list slots.0, z.2.0, z.2.1, z.2.2, z.2.3, z.2.4, z.2.5, z.2.6))
 
 position_prints : (p : Position) → is_position p ≡ true → Prints (IsPosition p) (position p)
 unfolding position
@@ -210,15 +212,15 @@ body_prints (Some is) fs h k tail rest spaced =
 line_end : SpacedWords (10 ∷ []) []
 line_end wants = inl (blank 10 [] refl no_gap)
 
-pub printed_spells : (g : Group) → is_group g ≡ true → is_holdable g ≡ true → length (printed g) ≤ 1048576 → Spells (printed g) g
+pub printed_spells : (g : Group) → is_group g ≡ true → is_holdable g ≡ true → length (printed g) ≤ largest_file → Spells (printed g) g
 unfolding Spells printed is_holdable misfit_of
 printed_spells g fits held short =
     let allowed = none_both (fields_misfit g.class g.fields) (ingredients_misfit (items_of g)) (none_else (not (is_group_class g.class)) misfit.NotAGroup _ fits) in
     let parts = and_parts (list_all is_name_byte g.identifier) (has_settings g.fields && is_list is_ingredient (items_of g)) held in
     let inner = and_parts (has_settings g.fields) (is_list is_ingredient (items_of g)) parts.1 in
-    let listed = and_parts (nat_le (length (items_of g)) 4096) (list_all is_ingredient (items_of g)) inner.1 in
+    let listed = and_parts (nat_le (length (items_of g)) longest_list) (list_all is_ingredient (items_of g)) inner.1 in
     let ready : list_all is_ready (items_of g) ≡ true = all_ready (items_of g) listed.1 (ingredients_rise (items_of g) allowed.1) in
-    let ready_list : is_list is_ready (items_of g) ≡ true = and_from (nat_le (length (items_of g)) 4096) (list_all is_ready (items_of g)) listed.0 ready in
+    let ready_list : is_list is_ready (items_of g) ≡ true = and_from (nat_le (length (items_of g)) longest_list) (list_all is_ready (items_of g)) listed.0 ready in
     let z = four (keyword (class_word g.class)) (named g.identifier 0) (body g.items g.fields) closing_brace
     (keyword_prints (class_word g.class) (class_keyword g.class)) (named_prints g.identifier 0 parts.0 refl) (body_prints g.items g.fields ready_list inner.0) closing_brace_prints
     (10 ∷ []) [] line_end in
@@ -230,7 +232,7 @@ printed_spells g fits held short =
     )
 
 -- the same, of a buffer that was empty
-pub buffer_spells : (text before : List ℕ) (g : Group) → text ≡ before ++ printed g → before ≡ [] → is_group g ≡ true → is_holdable g ≡ true → length text ≤ 1048576 → Spells text g
+pub buffer_spells : (text before : List ℕ) (g : Group) → text ≡ before ++ printed g → before ≡ [] → is_group g ≡ true → is_holdable g ≡ true → length text ≤ largest_file → Spells text g
 buffer_spells text before g whole empty fits held short =
     let same : text ≡ printed g = whole ∙ ap (λ (l : List ℕ). l ++ printed g) empty in
     let size : length text ≡ length (printed g) = ap (λ (l : List ℕ). length l) same in
@@ -238,17 +240,14 @@ buffer_spells text before g whole empty fits held short =
 
 pub reads_printed : (g : Group) → is_group g ≡ true → passes_limit g ≡ false → read (printed g) ≡ Ok g
 unfolding passes_limit
-reads_printed g fits within = read_only (printed g) g fits (printed_spells g fits (held (is_holdable g) (nat_lt 1048576 (length (printed g))) within) (short (is_holdable g) (length (printed g)) within))
+reads_printed g fits within = read_only (printed g) g fits (printed_spells g fits (held (is_holdable g) (nat_lt largest_file (length (printed g))) within) (short (is_holdable g) (length (printed g)) within))
   where
     held : (a b : Bool) → (not a || b) ≡ false → a ≡ true
     held true b h = refl
     held false b h = cc
 
-    is_short : (n : ℕ) → nat_lt 1048576 n ≡ false → n ≤ 1048576
-    is_short n h = grind (arith, nat_tests)
-
-    short : (a : Bool) (n : ℕ) → (not a || nat_lt 1048576 n) ≡ false → n ≤ 1048576
-    short true n h = is_short n h
+    short : (a : Bool) (n : ℕ) → (not a || nat_lt largest_file n) ≡ false → n ≤ largest_file
+    short true n h = is_file n h
     short false n h = cc
 
 pub spells_one : (bytes : List ℕ) (g h : Group) → is_group g ≡ true → is_group h ≡ true → Spells bytes g → Spells bytes h → g ≡ h

@@ -8,6 +8,8 @@ use Rattle.std.proofs.lemmas.Bool.{and_parts}
 use Rattle.std.proofs.lemmas.Bool.Decides.{nat_tests}
 use Rattle.std.proofs.lemmas.List.{append_assoc}
 use Rattle.mh_base.specs.Path.{is_name_byte}
+use Rattle.mh_base.specs.Limits.{longest_list}
+use Rattle.mh_base.specs.declared.value.Kind.TheVariants as value_kind
 use Rattle.mh_group.specs.declared.reference.Ref.{Ref}
 use Rattle.mh_group.specs.declared.reference.Ref.TheVariants as ref
 use Rattle.mh_group.specs.declared.reference.Generic.{Generic}
@@ -19,6 +21,7 @@ use Rattle.mh_group.specs.declared.action.EventData.TheVariants as of_data
 use Rattle.mh_group.specs.declared.action.Typed.{Typed}
 use Rattle.mh_group.specs.declared.action.Typed.TheVariants as of_typed
 use Rattle.mh_group.specs.Holdable.{is_integer, is_number, is_name, is_octets, is_plain, is_reference, is_generic, is_typed, is_content, is_data, is_list}
+use Rattle.mh_group.specs.Words.{kind_word}
 use Rattle.mh_text.specs.declared.token_kind.TokenKind.{TokenKind}
 use Rattle.mh_text.specs.declared.token_kind.TokenKind.TheVariants as kind
 use Rattle.mh_text.specs.Bytes.{is_digit, is_text_byte, is_quoted_byte, is_hexadecimal, hexadecimal_value, number_behind, negated}
@@ -26,7 +29,7 @@ use Rattle.mh_text.specs.Words.{Quotes, AreDigits, IsWord, needs_gap, Written, A
 use Rattle.mh_text.specs.Words.IsGap.{blank, nothing as no_gap}
 use Rattle.mh_text.specs.Words.Quotes.{nothing, plain, escaped}
 use Rattle.mh_text.specs.Spelling.{IsFirst, IsOpen, IsClose, IsKeyword, Writes, IsInteger, IsNumber, IsName, AreOctets, IsTruth, IsNamed, IsRef, IsGeneric, IsContentName, IsTyped, IsContent, IsData, AreSeveral, IsListOf}
-use Rattle.mh_text.specs.Printed.{opening, closing, keyword, word, truth, integer, natural, name, hexadecimal_digit, quoted, octets, list, named, reference, indirect_word, generic, content_name, kind_word, typed_value, content_value, data_value}
+use Rattle.mh_text.specs.Printed.{opening, closing, keyword, word, truth, integer, natural, name, hexadecimal_digit, quoted, octets, list, named, reference, indirect_word, generic, content_name, typed_value, content_value, data_value}
 use Rattle.mh_text.proofs.TableWords.{is_keyword, keyword_good, is_letters, letters_good}
 
 -- the text is these words, whatever stands in front of it
@@ -94,9 +97,9 @@ pub list_prints : {A : Type 0} (IsOne : A → List Written → List Written → 
     → ((x : A) → ok x ≡ true → Prints (IsOne x) (f x)) → (xs : List A) → is_list ok xs ≡ true → Prints (IsListOf IsOne xs) (list f xs)
 unfolding list
 list_prints IsOne f ok one xs h tail rest spaced =
-    let parts = and_parts (nat_le (length xs) 4096) (list_all ok xs) h in
+    let parts = and_parts (nat_le (length xs) longest_list) (list_all ok xs) h in
     let z = three opening (flat_map f xs) closing opening_prints (each_prints IsOne f ok one xs parts.1) closing_prints tail rest spaced in
-    (z.0, z.1, (few (length xs) 4096 parts.0, z.2.0, z.2.1, z.2.2, z.2.3, z.2.4))
+    (z.0, z.1, (few (length xs) longest_list parts.0, z.2.0, z.2.1, z.2.2, z.2.3, z.2.4))
 
 pub keyword_prints : (bytes : List ℕ) → is_keyword bytes ≡ true → Prints (IsKeyword bytes) (keyword bytes)
 unfolding keyword
@@ -245,11 +248,11 @@ generic_prints IsValue f ok one (Indirect r) h = indirect_prints r h
 
 pub typed_prints : (x : Typed) → is_typed x ≡ true → Prints (IsTyped x) (typed_value x)
 unfolding typed_value kind_word
-typed_prints (of_typed.Bool x) h = two (keyword (codes "GBoolean")) (generic truth x) (keyword_prints (codes "GBoolean") refl) (generic_prints IsTruth truth is_plain truth_prints x h)
-typed_prints (of_typed.Int x) h = two (keyword (codes "GInteger")) (generic integer x) (keyword_prints (codes "GInteger") refl) (generic_prints IsInteger integer is_integer integer_prints x h)
-typed_prints (of_typed.Octets x) h = two (keyword (codes "GOctetString")) (generic octets x) (keyword_prints (codes "GOctetString") refl) (generic_prints AreOctets octets is_octets octets_print x h)
-typed_prints (of_typed.Ref x) h = two (keyword (codes "GObjectRef")) (generic reference x) (keyword_prints (codes "GObjectRef") refl) (generic_prints IsRef reference is_reference reference_prints x h)
-typed_prints (of_typed.ContentRef x) h = two (keyword (codes "GContentRef")) (generic content_name x) (keyword_prints (codes "GContentRef") refl) (generic_prints IsContentName content_name is_name content_name_prints x h)
+typed_prints (of_typed.Bool x) h = two (keyword (kind_word value_kind.Bool)) (generic truth x) (keyword_prints (kind_word value_kind.Bool) refl) (generic_prints IsTruth truth is_plain truth_prints x h)
+typed_prints (of_typed.Int x) h = two (keyword (kind_word value_kind.Int)) (generic integer x) (keyword_prints (kind_word value_kind.Int) refl) (generic_prints IsInteger integer is_integer integer_prints x h)
+typed_prints (of_typed.Octets x) h = two (keyword (kind_word value_kind.Octets)) (generic octets x) (keyword_prints (kind_word value_kind.Octets) refl) (generic_prints AreOctets octets is_octets octets_print x h)
+typed_prints (of_typed.Ref x) h = two (keyword (kind_word value_kind.Object)) (generic reference x) (keyword_prints (kind_word value_kind.Object) refl) (generic_prints IsRef reference is_reference reference_prints x h)
+typed_prints (of_typed.ContentRef x) h = two (keyword (kind_word value_kind.Content)) (generic content_name x) (keyword_prints (kind_word value_kind.Content) refl) (generic_prints IsContentName content_name is_name content_name_prints x h)
 
 pub content_prints : (x : Content) → is_content x ≡ true → Prints (IsContent x) (content_value x)
 content_prints (of_content.Included bs) h = octets_print bs h

@@ -1,25 +1,14 @@
 -- What the printer rests on: lists in two parts, octets, and groups that pass a limit.
-use Rattle.std.proofs.Common.{◌≡◌, ℕ, suc, ◌+◌, ◌-◌, ◌<◌, ◌≤◌, Bool, true, false, ◌&&◌, ◌||◌, not, nat_lt, List, [], ◌∷◌, ◌++◌, length, get_or, take, drop, Result, Ok, Err, OnOk, IfErr, refl, ap, sym, ◌∙◌, arith, append_assoc, append-nil}
+use Rattle.std.proofs.Common.{◌≡◌, ℕ, ◌+◌, ◌<◌, ◌≤◌, Bool, true, false, ◌&&◌, ◌||◌, not, nat_lt, List, ◌∷◌, ◌++◌, length, get_or, drop, Result, Ok, Err, IfErr, refl, ap, sym, ◌∙◌, arith, append_assoc, append-nil}
 use Rattle.std.specs.List.{list_all, flat_map}
 use Rattle.std.proofs.lemmas.Bool.Decides.{nat_tests}
-use Rattle.std.proofs.lemmas.List.Folds.{list_all-append}
-use Rattle.std.proofs.lemmas.List.{take-append-drop, take_all, drop_all, length-drop}
+use Rattle.std.proofs.lemmas.List.{drop_all}
+use Rattle.mh_base.specs.Limits.{largest_file}
 use Rattle.mh_group.specs.declared.written.Written.{Written}
-use Rattle.mh_group.specs.Holdable.{is_octets, is_holdable}
+use Rattle.mh_group.specs.Holdable.{is_holdable}
 use Rattle.mh_text.specs.declared.text_error.TextError.{TextError}
 use Rattle.mh_text.specs.Printed.{printed, passes_limit, Refuses}
 use Rattle.mh_text.proofs.ListLemmas.{at_place}
-
--- a test of all members is one of a slice up to a place and of that from there on
-pub all_parts : {A : Type 0} (p : A → Bool) (n : ℕ) (xs : List A) → (list_all p (take n xs) && list_all p (take (length xs - n) (drop n xs))) ≡ list_all p xs
-all_parts p n xs =
-    let behind : take (length xs - n) (drop n xs) ≡ drop n xs = take_all (length xs - n) (drop n xs) (omega (arith, length-drop n xs)) in
-    rw behind (sym (list_all-append p (take n xs) (drop n xs)) ∙ ap (λ l. list_all p l) (take-append-drop n xs))
-
--- where the part in front fits, the whole fits as the part behind does
-pub whole_fits : {X E : Type 0} (r : Result X E) (front behind : Bool) → front ≡ true → OnOk r (behind ≡ true) → OnOk r ((front && behind) ≡ true)
-whole_fits (Ok x) front behind f b = rw (f, b) refl
-whole_fits (Err e) front behind f b = tt
 
 pub whole_refused : {X : Type 0} (r : Result X TextError) (front behind others : Bool) → front ≡ true → IfErr r (Refuses behind) → IfErr r (Refuses ((front && behind) && others))
 whole_refused (Ok x) front behind others f b = tt
@@ -45,14 +34,6 @@ all_printed f xs i out all past rest = sym (append-nil out) ∙ ap (λ l. out ++
 pub all_passed : {A : Type 0} (p : A → Bool) (xs : List A) (i : ℕ) (all : Bool) → length xs ≤ i → list_all p (drop i xs) ≡ all → all ≡ true
 all_passed p xs i all past rest = sym rest ∙ ap (λ l. list_all p l) (drop_all i xs past)
 
--- bytes are octets
-pub bytes_are_octets : (bs : List ℕ) → ((k : ℕ) → get_or bs k 0 < 256) → is_octets bs ≡ true
-bytes_are_octets [] h = refl
-bytes_are_octets (b ∷ bs) h =
-    let small : b < 256 = h 0 in
-    let first : nat_lt b 256 ≡ true = grind (arith, nat_tests) in
-    rw first (bytes_are_octets bs (λ k. h (suc k)))
-
 -- a group passes a limit where it cannot be held, or where its printed form is too long
 
 pub unheld_passes : (g : Written) → is_holdable g ≡ false → passes_limit g ≡ true
@@ -69,16 +50,16 @@ or_true : (b : Bool) → (b || true) ≡ true
 or_true true = refl
 or_true false = refl
 
-pub long_passes : (g : Written) (text : List ℕ) → text ≡ printed g → 1048576 < length text → passes_limit g ≡ true
+pub long_passes : (g : Written) (text : List ℕ) → text ≡ printed g → largest_file < length text → passes_limit g ≡ true
 unfolding passes_limit
 long_passes g text e h =
     let same : length text ≡ length (printed g) = ap (λ l. length l) e in
-    let above : nat_lt 1048576 (length (printed g)) ≡ true = is_above 1048576 (length (printed g)) (omega (arith, same, h)) in
+    let above : nat_lt largest_file (length (printed g)) ≡ true = is_above largest_file (length (printed g)) (omega (arith, same, h)) in
     rw above (or_true (not (is_holdable g)))
 
-pub within_limit : (g : Written) (text : List ℕ) → text ≡ printed g → length text ≤ 1048576 → is_holdable g ≡ true → passes_limit g ≡ false
+pub within_limit : (g : Written) (text : List ℕ) → text ≡ printed g → length text ≤ largest_file → is_holdable g ≡ true → passes_limit g ≡ false
 unfolding passes_limit
 within_limit g text e h fits =
     let same : length text ≡ length (printed g) = ap (λ l. length l) e in
-    let below : nat_lt 1048576 (length (printed g)) ≡ false = is_not_above 1048576 (length (printed g)) (omega (arith, same, h)) in
+    let below : nat_lt largest_file (length (printed g)) ≡ false = is_not_above largest_file (length (printed g)) (omega (arith, same, h)) in
     rw (fits, below) refl

@@ -15,9 +15,9 @@ use Rattle.mh_group.specs.declared.action_name.ActionName.{ActionName}
 use Rattle.mh_group.specs.declared.action_name.ActionName.TheVariants as action
 use Rattle.mh_base.specs.declared.value.Kind.{Kind}
 use Rattle.mh_base.specs.declared.value.Kind.TheVariants as of_kind
+use Rattle.mh_base.specs.Kinds.{kinds}
 use Rattle.mh_group.specs.declared.justification.Justification.{Justification}
 use Rattle.mh_group.specs.declared.justification.Justification.TheVariants as justification
-use Rattle.mh_group.specs.Words.{class_word, classes, attribute_word, attributes, action_word, actions, event_word, events, justification_word, justifications}
 use Rattle.mh_text.specs.declared.token_kind.TokenKind.TheVariants as kind
 use Rattle.mh_text.specs.declared.sign.Sign.{Sign}
 use Rattle.mh_text.specs.declared.sign.Sign.TheVariants as sign
@@ -26,7 +26,8 @@ use Rattle.mh_text.specs.declared.text_error.Why.TheVariants as why
 use Rattle.mh_text.specs.Bytes.{is_digit, number_behind, negated}
 use Rattle.mh_text.specs.Words.{IsWord}
 use Rattle.mh_text.specs.Spelling.{Writes, truth_word}
-use Rattle.mh_text.specs.Signs.{sign_of, sign_or, or_else, kinds, kind_word, mark_sign, name_sign, keyword_sign, word_sign, integer_of, positive, negative}
+use Rattle.mh_group.specs.Words.{class_word, classes, attribute_word, attributes, action_word, actions, event_word, events, justification_word, justifications, kind_word}
+use Rattle.mh_text.specs.Signs.{sign_of, sign_or, or_else, mark_sign, name_sign, keyword_sign, word_sign, integer_of, positive, negative}
 use Rattle.mh_text.specs.Reading.{inner}
 use Rattle.mh_text.proofs.PieceLemmas.{kind_of}
 

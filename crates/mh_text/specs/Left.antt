@@ -1,6 +1,7 @@
 -- The tokens that are left in a text, with their meaning, up to its end or to the first thing that is
 -- wrong: how the reader sees a text.
 use Rattle.std.specs.Prelude.{◌≡◌, ℕ, zero, suc, ◌+◌, Bool, false, ◌&&◌, ◌==◌, if◌then◌else◌, List, [], ◌∷◌, length, take, drop, Option, Some, None, Result, Ok, Err}
+use Rattle.mh_base.specs.Reading.{Rest}
 use Rattle.mh_text.specs.declared.token_kind.TokenKind.{TokenKind}
 use Rattle.mh_text.specs.declared.sign.Sign.{Sign}
 use Rattle.mh_text.specs.declared.text_error.Why.{Why}
@@ -10,11 +11,7 @@ use Rattle.mh_text.specs.declared.text_error.TextError.TheVariants.{At}
 use Rattle.mh_text.specs.Lexing.{gap_length, token_at}
 use Rattle.mh_text.specs.Signs.{sign_of}
 use Rattle.mh_text.specs.Words.{needs_gap}
-use Rattle.mh_text.specs.Rest.{Rest, Left, nothing, bad_at, piece}
-
--- a whole text is left
-abbrev pub whole : List ℕ → Rest
-whole bytes = record { offset = 0; bytes = bytes }
+use Rattle.mh_text.specs.Rest.{Left, nothing, bad_at, piece}
 
 -- what is found behind white space: the end, bytes that begin no token, or a token and what is left
 -- behind it

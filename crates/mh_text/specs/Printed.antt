@@ -4,6 +4,7 @@ use Rattle.std.specs.Prelude.{◌≡◌, ◌≢◌, ℕ, ◌+◌, ◌/◌, ◌%�
 use Rattle.std.specs.List.{flat_map}
 use Rattle.std.specs.Fmt.{signed_decimal}
 use Rattle.mh_base.specs.declared.colour.Colour.{Colour}
+use Rattle.mh_base.specs.Limits.{largest_file}
 use Rattle.mh_group.specs.declared.attribute.Attribute.TheVariants as attribute
 use Rattle.mh_group.specs.declared.reference.Ref.{Ref}
 use Rattle.mh_group.specs.declared.reference.Ref.TheVariants as ref
@@ -28,7 +29,7 @@ use Rattle.mh_group.specs.declared.written.Ingredient.{Ingredient}
 use Rattle.mh_group.specs.declared.written.Written.{Written}
 use Rattle.mh_group.specs.Fit.{before_items}
 use Rattle.mh_group.specs.Holdable.{colour_octets, is_holdable}
-use Rattle.mh_group.specs.Words.{class_word, attribute_word, action_word, event_word, justification_word}
+use Rattle.mh_group.specs.Words.{class_word, attribute_word, action_word, event_word, justification_word, kind_word, kind_of}
 use Rattle.mh_text.specs.declared.text_error.TextError.{TextError}
 use Rattle.mh_text.specs.declared.text_error.TextError.TheVariants.{At, NoMemory}
 use Rattle.mh_text.specs.declared.text_error.Why.TheVariants.{Limit}
@@ -107,14 +108,6 @@ generic printed (Indirect r) = keyword indirect_word ++ reference r
 unfoldable pub content_name : List ℕ → List ℕ
 content_name bytes = keyword (codes "ContentRef") ++ opening ++ name bytes ++ closing
 
--- the keyword of a value's kind
-unfoldable pub kind_word : Typed → List ℕ
-kind_word (of_typed.Bool x) = codes "GBoolean"
-kind_word (of_typed.Int x) = codes "GInteger"
-kind_word (of_typed.Octets x) = codes "GOctetString"
-kind_word (of_typed.Ref x) = codes "GObjectRef"
-kind_word (of_typed.ContentRef x) = codes "GContentRef"
-
 abbrev pub kind_value : Typed → List ℕ
 kind_value (of_typed.Bool x) = generic truth x
 kind_value (of_typed.Int x) = generic integer x
@@ -124,7 +117,7 @@ kind_value (of_typed.ContentRef x) = generic content_name x
 
 -- a value behind the keyword of its kind
 unfoldable pub typed_value : Typed → List ℕ
-typed_value x = keyword (kind_word x) ++ kind_value x
+typed_value x = keyword (kind_word (kind_of x)) ++ kind_value x
 
 abbrev pub content_value : Content → List ℕ
 content_value (of_content.Included bytes) = octets bytes
@@ -197,7 +190,7 @@ printed g = 123 ∷ (keyword (class_word g.class) ++ named g.identifier 0 ++ bod
 
 -- a list of the group has too many members, or its printed form is too long for a file
 unfoldable pub passes_limit : Written → Bool
-passes_limit g = not (is_holdable g) || nat_lt 1048576 (length (printed g))
+passes_limit g = not (is_holdable g) || nat_lt largest_file (length (printed g))
 
 -- unless memory ran out, the error is that of a limit and the test of what was to be printed fails
 abbrev pub Refuses : Bool → TextError → Type 0

@@ -8,6 +8,8 @@ use Rattle.mh_base.specs.declared.event.EventType.{EventType}
 use Rattle.mh_base.specs.declared.value.Kind.{Kind}
 use Rattle.mh_base.specs.declared.value.Kind.TheVariants as kind
 use Rattle.mh_base.specs.Path.{is_name_byte}
+use Rattle.mh_base.specs.Reading.{whole, refused, ◌>>=◌, is_same}
+use Rattle.mh_base.specs.Limits.{largest_file, longest_list}
 use Rattle.mh_group.specs.declared.class.Class.{Class}
 use Rattle.mh_group.specs.declared.attribute.Attribute.{Attribute}
 use Rattle.mh_group.specs.declared.action_name.ActionName.{ActionName}
@@ -37,8 +39,8 @@ use Rattle.mh_group.specs.declared.written.Setting.TheVariants as of_setting
 use Rattle.mh_group.specs.declared.written.Field.{Field}
 use Rattle.mh_group.specs.declared.written.Ingredient.{Ingredient}
 use Rattle.mh_group.specs.declared.written.Written.{Written}
-use Rattle.mh_group.specs.Table.{attribute_number, shape_of, takes, needs_of, optional_of, is_group_class}
 use Rattle.mh_group.specs.Fit.{has_required, is_field_length}
+use Rattle.mh_group.specs.Table.{attribute_number, shape_of, takes, needs_of, optional_of, is_group_class, is_items_shape}
 use Rattle.mh_text.specs.declared.sign.Sign.{Sign}
 use Rattle.mh_text.specs.declared.sign.Sign.TheVariants as sign
 use Rattle.mh_text.specs.declared.text_error.Why.{Why}
@@ -46,8 +48,8 @@ use Rattle.mh_text.specs.declared.text_error.Why.TheVariants.{Syntax, Range, Lim
 use Rattle.mh_text.specs.declared.octet_text.Escape.TheVariants.{Outside}
 use Rattle.mh_text.specs.Escapes.{unescaped}
 use Rattle.mh_text.specs.Rest.{Left, Piece}
-use Rattle.mh_text.specs.Left.{left, whole}
-use Rattle.mh_text.specs.Gives.{Refusal, refused, ◌>>=◌}
+use Rattle.mh_text.specs.Left.{left}
+use Rattle.mh_text.specs.Gives.{Refusal}
 
 -- the token is refused
 abbrev pub refused_at : {A : Type 0} → Why → Piece → Result A Refusal
@@ -86,10 +88,6 @@ ended left = first left.pieces
     first : List Piece → Result (Unit {0}) Refusal
     first [] = end_of tt left.wrong left.offset
     first (p ∷ ps) = refused_at Syntax p
-
-abbrev pub is_same : Bool → Bool → Bool
-is_same true b = b
-is_same false b = not b
 
 abbrev pub is_open : Sign → Bool
 is_open sign.OpenParenthesis = true
@@ -329,7 +327,7 @@ unfoldable pub parameter : Need → Piece → Left → Result (Parameter × Left
 parameter need.Event p left = made of_parameter.Event (alone (event_of p) left)
 parameter (need.Receiver _) p left = made of_parameter.Receiver (reference p left)
 parameter need.Typed p left = made of_parameter.Typed (typed p left)
-parameter need.Arguments p left = made of_parameter.Arguments (list typed 4096 p left)
+parameter need.Arguments p left = made of_parameter.Arguments (list typed longest_list p left)
 parameter n p left = generic_parameter n p left
 
 -- The parameters that are needed, in their order, up to the closing parenthesis. So many of them may be
@@ -358,11 +356,11 @@ action p left = do
   Ok (record { name = name; target = target.0; parameters = given.0 }, given.1)
 
 abbrev pub effect : Piece → Left → Result (List Action × Left) Refusal
-effect p left = list action 4096 p left
+effect p left = list action longest_list p left
 
 -- one row of a movement table
 abbrev pub row : Piece → Left → Result (List ℤ × Left) Refusal
-row p left = list integer 4096 p left
+row p left = list integer longest_list p left
 
 -- a member with its slots
 unfoldable pub member : Piece → Left → Result (Member × Left) Refusal
@@ -372,7 +370,7 @@ member p left = if is_open p.sign then described else refused_at Syntax p
     described = do
       a ← next left
       object ← reference a.0 a.1
-      slots ← listed effect 4096 [] object.1
+      slots ← listed effect longest_list [] object.1
       Ok (record { object = object.0; slots = slots.0 }, slots.1)
 
 -- a member of a list group, which has no slots
@@ -441,11 +439,11 @@ pair s p left = do
 -- the value of a shape that is a list
 unfoldable pub several : Shape → Piece → Left → Result (Setting × Left) Refusal
 several shape.Effect p left = made of_setting.Effect (effect p left)
-several shape.MovementTable p left = made of_setting.MovementTable (list row 4096 p left)
-several shape.Members p left = made of_setting.Members (list member 4096 p left)
+several shape.MovementTable p left = made of_setting.MovementTable (list row longest_list p left)
+several shape.Members p left = made of_setting.Members (list member longest_list p left)
 several shape.ListItems p left = made of_setting.Members (list list_item 256 p left)
-several shape.Positions p left = made of_setting.Positions (list position 4096 p left)
-several shape.NextScenes p left = made of_setting.NextScenes (list next_scene 4096 p left)
+several shape.Positions p left = made of_setting.Positions (list position longest_list p left)
+several shape.NextScenes p left = made of_setting.NextScenes (list next_scene longest_list p left)
 several _ p left = refused_at Syntax p
 
 -- the value of this shape, which begins with this token
@@ -482,10 +480,6 @@ attribute_of c fields p = named p.sign
 abbrev pub placed : Field → List Field → List Field
 placed f fields = insert fields (prefix_len (λ g. nat_lt (attribute_number g.attribute) (attribute_number f.attribute)) fields) f
 
-abbrev pub is_items_shape : Shape → Bool
-is_items_shape shape.Items = true
-is_items_shape _ = false
-
 -- the token is the keyword of a group's items
 unfoldable pub is_items : Class → Sign → Bool
 is_items c (sign.Attribute a) = is_items_shape (shape_of c a)
@@ -513,7 +507,7 @@ fields c (suc n) done left = next_field c done left >>= λ x. gathered (fields c
 
 -- the fields behind the items, which do not come twice
 unfoldable pub fields_behind_items : Class → List Field → Left → Result (List Field × Piece × Left) Refusal
-fields_behind_items c done left = fields c 4096 done left >>= λ x. if is_items c x.1.sign then refused_at Syntax x.1 else Ok (x.0, x.1, x.2)
+fields_behind_items c done left = fields c longest_list done left >>= λ x. if is_items c x.1.sign then refused_at Syntax x.1 else Ok (x.0, x.1, x.2)
 
 -- the fields, where none that the class needs is missing
 unfoldable pub complete : Class → List Field → Piece → Result (List Field) Refusal
@@ -537,12 +531,12 @@ ingredient p left = if is_open_brace p.sign then described else refused_at Synta
       class ← class_of false a.0
       b ← next a.1
       number ← ingredient_number_of b.0
-      x ← fields class 4096 [] b.1
+      x ← fields class longest_list [] b.1
       done ← complete class x.0 x.1
       Ok (record { class = class; number = number; fields = done }, x.2)
 
 unfoldable pub items : Left → Result (List Ingredient × Left) Refusal
-items left = next left >>= λ a. list ingredient 4096 a.0 a.1
+items left = next left >>= λ a. list ingredient longest_list a.0 a.1
 
 -- a name, and the number 0
 unfoldable pub identifier : Left → Result (List ℕ × Left) Refusal
@@ -557,7 +551,7 @@ identifier left = do
 
 -- what stands between a group's identifier and its closing brace
 unfoldable pub body : Class → Left → Result (List Field × Option (List Ingredient) × Piece × Left) Refusal
-body c left = fields c 4096 [] left >>= λ x.
+body c left = fields c longest_list [] left >>= λ x.
     if is_items c x.1.sign then (do
       y ← items x.2
       z ← fields_behind_items c x.0 y.1
@@ -576,7 +570,7 @@ group left = do
 
 -- the group that the text writes, or the first refusal from the left
 unfoldable pub read : List ℕ → Result Written Refusal
-read bytes = if nat_lt 1048576 (length bytes) then refused Limit 0 else (do
+read bytes = if nat_lt largest_file (length bytes) then refused Limit 0 else (do
   x ← group (left false (whole bytes))
   end ← ended x.1
   Ok x.0)

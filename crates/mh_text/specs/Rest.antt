@@ -1,12 +1,7 @@
--- How contracts see what is left of a text: as bytes, and as tokens with their meaning.
+-- How contracts see what is left of a text, as tokens with their meaning.
 use Rattle.std.specs.Prelude.{ℕ, List, [], ◌∷◌, Option, Some, None}
 use Rattle.mh_text.specs.declared.sign.Sign.{Sign}
 use Rattle.mh_text.specs.declared.text_error.Why.{Why}
-
--- the bytes that are left, and how many stand before them
-pub record Rest : Type 0 where
-  pub offset : ℕ
-  pub bytes : List ℕ
 
 -- a token with its meaning
 pub record Piece : Type 0 where

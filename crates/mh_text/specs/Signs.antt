@@ -4,12 +4,12 @@ use Rattle.std.specs.List.{find}
 use Rattle.std.specs.Str.{bytes_eq}
 use Rattle.mh_base.specs.declared.event.EventType.{EventType}
 use Rattle.mh_base.specs.declared.value.Kind.{Kind}
-use Rattle.mh_base.specs.declared.value.Kind.TheVariants as of_kind
+use Rattle.mh_base.specs.Kinds.{kinds}
 use Rattle.mh_group.specs.declared.class.Class.{Class}
 use Rattle.mh_group.specs.declared.attribute.Attribute.{Attribute}
 use Rattle.mh_group.specs.declared.action_name.ActionName.{ActionName}
 use Rattle.mh_group.specs.declared.justification.Justification.{Justification}
-use Rattle.mh_group.specs.Words.{class_word, classes, attribute_word, attributes, action_word, actions, event_word, events, justification_word, justifications}
+use Rattle.mh_group.specs.Words.{class_word, classes, attribute_word, attributes, action_word, actions, event_word, events, justification_word, justifications, kind_word}
 use Rattle.mh_text.specs.declared.token_kind.TokenKind.{TokenKind}
 use Rattle.mh_text.specs.declared.token_kind.TokenKind.TheVariants as kind
 use Rattle.mh_text.specs.declared.sign.Sign.{Sign}
@@ -37,18 +37,6 @@ event_of_word text = find (λ x. bytes_eq (event_word x) text) events
 
 abbrev pub justification_of_word : List ℕ → Option Justification
 justification_of_word text = find (λ x. bytes_eq (justification_word x) text) justifications
-
--- the kinds of values
-abbrev pub kinds : List Kind
-kinds = of_kind.Bool ∷ of_kind.Int ∷ of_kind.Octets ∷ of_kind.Object ∷ of_kind.Content ∷ []
-
--- the keyword in front of a value of a kind
-unfoldable pub kind_word : Kind → List ℕ
-kind_word of_kind.Bool = codes "GBoolean"
-kind_word of_kind.Int = codes "GInteger"
-kind_word of_kind.Octets = codes "GOctetString"
-kind_word of_kind.Object = codes "GObjectRef"
-kind_word of_kind.Content = codes "GContentRef"
 
 abbrev pub kind_of_word : List ℕ → Option Kind
 kind_of_word name = find (λ x. bytes_eq (kind_word x) name) kinds

@@ -4,6 +4,8 @@
 use Rattle.std.specs.Prelude.{◌≡◌, ℕ, ◌<◌, ◌≤◌, ◌^◌, ◌⊎◌, ◌↔◌, Bool, true, false, ◌==◌, List, [], ◌∷◌, ◌++◌, length, Option, Some, None, ℤ, pos, Contains, codes}
 use Rattle.std.specs.List.{list_any}
 use Rattle.mh_base.specs.declared.colour.Colour.{Colour}
+use Rattle.mh_base.specs.declared.value.Kind.TheVariants as value_kind
+use Rattle.mh_base.specs.Limits.{largest_file, longest_list}
 use Rattle.mh_group.specs.declared.attribute.Attribute.TheVariants as attribute
 use Rattle.mh_group.specs.declared.reference.Ref.{Ref}
 use Rattle.mh_group.specs.declared.reference.Ref.TheVariants as ref
@@ -28,8 +30,8 @@ use Rattle.mh_group.specs.declared.written.Ingredient.{Ingredient}
 use Rattle.mh_group.specs.declared.written.Written.{Written as Group}
 use Rattle.mh_group.specs.Fit.{is_group}
 use Rattle.mh_group.specs.Holdable.{colour_octets}
+use Rattle.mh_group.specs.Words.{class_word, attribute_word, action_word, event_word, justification_word, kind_word}
 use Rattle.mh_group.specs.Table.{attribute_number}
-use Rattle.mh_group.specs.Words.{class_word, attribute_word, action_word, event_word, justification_word}
 use Rattle.mh_text.specs.declared.token_kind.TokenKind.{TokenKind}
 use Rattle.mh_text.specs.declared.token_kind.TokenKind.TheVariants as kind
 use Rattle.mh_text.specs.Bytes.{number_behind, negated}
@@ -113,11 +115,11 @@ abbrev pub IsOfKind : {A : Type 0} → List ℕ → (A → List Written → List
 IsOfKind name IsValue x ws rest = (a : List Written) × IsKeyword name ws a × IsGeneric IsValue x a rest
 
 abbrev pub IsTyped : Typed → List Written → List Written → Type 0
-IsTyped (typed.Bool x) ws rest = IsOfKind (codes "GBoolean") IsTruth x ws rest
-IsTyped (typed.Int x) ws rest = IsOfKind (codes "GInteger") IsInteger x ws rest
-IsTyped (typed.Octets x) ws rest = IsOfKind (codes "GOctetString") AreOctets x ws rest
-IsTyped (typed.Ref x) ws rest = IsOfKind (codes "GObjectRef") IsRef x ws rest
-IsTyped (typed.ContentRef x) ws rest = IsOfKind (codes "GContentRef") IsContentName x ws rest
+IsTyped (typed.Bool x) ws rest = IsOfKind (kind_word value_kind.Bool) IsTruth x ws rest
+IsTyped (typed.Int x) ws rest = IsOfKind (kind_word value_kind.Int) IsInteger x ws rest
+IsTyped (typed.Octets x) ws rest = IsOfKind (kind_word value_kind.Octets) AreOctets x ws rest
+IsTyped (typed.Ref x) ws rest = IsOfKind (kind_word value_kind.Object) IsRef x ws rest
+IsTyped (typed.ContentRef x) ws rest = IsOfKind (kind_word value_kind.Content) IsContentName x ws rest
 
 -- content: in the file, or in a file of this name
 abbrev pub IsContent : Content → List Written → List Written → Type 0
@@ -136,7 +138,7 @@ AreSeveral IsOne (x ∷ xs) ws rest = (a : List Written) × IsOne x ws a × AreS
 
 -- values between parentheses, as many as a list may have
 abbrev pub IsListOf : {A : Type 0} → (A → List Written → List Written → Type 0) → List A → List Written → List Written → Type 0
-IsListOf IsOne xs ws rest = (length xs ≤ 4096) × (a : List Written) × (b : List Written)
+IsListOf IsOne xs ws rest = (length xs ≤ longest_list) × (a : List Written) × (b : List Written)
     × IsOpen ws a × AreSeveral IsOne xs a b × IsClose b rest
 
 abbrev pub IsParameter : Parameter → List Written → List Written → Type 0
@@ -158,7 +160,7 @@ IsAction x ws rest = (a : List Written) × (b : List Written) × (c : List Writt
 
 -- a member: its object, and the effect of each slot
 abbrev pub IsMember : Member → List Written → List Written → Type 0
-IsMember m ws rest = (length m.slots ≤ 4096) × (a : List Written) × (b : List Written) × (c : List Written)
+IsMember m ws rest = (length m.slots ≤ longest_list) × (a : List Written) × (b : List Written) × (c : List Written)
     × IsOpen ws a × IsRef m.object a b × AreSeveral (IsListOf IsAction) m.slots b c × IsClose c rest
 
 abbrev pub IsPosition : Position → List Written → List Written → Type 0
@@ -224,7 +226,7 @@ IsGroup x ws rest = (a : List Written) × (b : List Written) × (c : List Writte
 
 -- the bytes spell the group, and nothing else
 unfoldable pub Spells : List ℕ → Group → Type 0
-Spells bytes x = (length bytes ≤ 1048576) × (words : List Written) × AreWords false bytes words × IsGroup x words []
+Spells bytes x = (length bytes ≤ largest_file) × (words : List Written) × AreWords false bytes words × IsGroup x words []
 
 -- the bytes spell no group that the tables allow
 abbrev pub SpellsNone : List ℕ → Type 0

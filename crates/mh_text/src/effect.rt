@@ -4,14 +4,14 @@ ghost use Rattle.std.specs.Prelude.{◌≡◌, ◌&&◌, [], nat_le};
 ghost use Rattle.mh_text.specs.Gives.{Gives};
 ghost use Rattle.mh_text.specs.Reading.{is_close, action, action_name_of as action_name_of_lem, parameters as parameters_lem, parameter as parameter_lem, generic_parameter as generic_parameter_lem, typed as typed_lem, value_of as value_of_lem};
 
-use crate::form::{Form, LONGEST_LIST, generic, list};
+use crate::form::{Form, generic, list};
 use crate::place::{Piece, Place};
 use crate::sign::Sign;
 use crate::value::{
     AnyContent, AnyReference, ContentName, Data, Integer, OctetText, Truth, event_of, reference,
 };
 use crate::{TextError, Why};
-use mh_base::{Kind, Seq};
+use mh_base::{Kind, LONGEST_LIST, Seq};
 use mh_group::{Action, ActionName, Need, Parameter, Typed};
 use std::alloc::Global;
 

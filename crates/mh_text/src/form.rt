@@ -1,6 +1,6 @@
 //! `Form`: a way in which values are written, told by its reader; and what is made of any form: lists of
 //! values, and values that a variable may hold.
-ghost use Rattle.std.specs.Prelude.{◌≡◌, [], Result};
+ghost use Rattle.std.specs.Prelude.{[], Result};
 ghost use Rattle.mh_text.specs.Rest.{Left, Piece as PieceValue};
 ghost use Rattle.mh_text.specs.Gives.{Gives, Refusal};
 ghost use Rattle.mh_text.specs.Reading.{generic as generic_lem, list as list_lem, listed, next_member};
@@ -11,9 +11,6 @@ use crate::{TextError, Why};
 use mh_base::Seq;
 use mh_group::Generic;
 use std::alloc::Global;
-
-/// The most members of one written list.
-pub const LONGEST_LIST: usize = 4096;
 
 /// A way in which values are written.
 pub(crate) trait Form {

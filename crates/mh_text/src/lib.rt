@@ -25,7 +25,8 @@ pub mod token;
 pub mod token_kind;
 mod value;
 
-pub use object::{LARGEST_FILE, begins_group, read_group};
+pub use mh_base::LARGEST_FILE;
+pub use object::{begins_group, read_group};
 pub use printing::print_group;
 pub use text_error::{TextError, Why};
 pub use token::{Token, Tokens};

@@ -1,27 +1,25 @@
 //! Readers of fields, ingredients and groups, and `read_group`. Which attributes a class takes and
 //! has to be written with is the word of `mh_group`'s tables.
-ghost use Rattle.std.specs.Prelude.{◌≡◌, ◌≢◌, ◌≤◌, [], false, true, nat_lt, length, IfOk, IfErr};
+ghost use Rattle.std.specs.Prelude.{◌≡◌, ◌≢◌, ◌≤◌, false, true, nat_lt, length, IfOk, IfErr};
 ghost use Rattle.std.specs.List.{prefix_len};
+ghost use Rattle.mh_base.specs.Limits.{longest_list};
 ghost use Rattle.mh_group.specs.Table.{attribute_number};
 ghost use Rattle.mh_text.specs.Gives.{Gives};
 ghost use Rattle.mh_text.specs.Spelling.{Spells, SpellsNone, SpellsNoOther};
 ghost use Rattle.mh_text.specs.Lexing.{behind_gap as behind_gap_lem, begins_group as begins_group_lem};
-ghost use Rattle.mh_text.specs.Reading.{read, group as group_lem, body as body_lem, class_of as class_of_lem, identifier as identifier_lem, is_items as is_items_lem, is_items_shape as is_items_shape_lem, fields as fields_lem, next_field as next_field_lem, fields_behind_items as fields_behind_items_lem, attribute_of as attribute_of_lem, has_attribute as has_attribute_lem, placed, complete as complete_lem, items as items_lem, ingredient};
+ghost use Rattle.mh_text.specs.Reading.{read, group as group_lem, body as body_lem, class_of as class_of_lem, identifier as identifier_lem, is_items as is_items_lem, fields as fields_lem, next_field as next_field_lem, fields_behind_items as fields_behind_items_lem, attribute_of as attribute_of_lem, has_attribute as has_attribute_lem, placed, complete as complete_lem, items as items_lem, ingredient};
 
-use crate::form::{Form, LONGEST_LIST, list};
+use crate::form::{Form, list};
 use crate::lexing::{begins_with, gap_length};
 use crate::place::{Piece, Place};
 use crate::setting::setting;
 use crate::sign::Sign;
 use crate::value::{ingredient_number_of, name_of, number_of};
 use crate::{TextError, Why};
-use mh_base::Seq;
+use mh_base::{LARGEST_FILE, LONGEST_LIST, Seq};
 use mh_group::group::has_required;
-use mh_group::{Attribute, Class, Field, Group, Ingredient, Shape, Written, WrittenName};
+use mh_group::{Attribute, Class, Field, Group, Ingredient, Written, WrittenName};
 use std::alloc::{AllocError, Global};
-
-/// The most bytes of a group's file.
-pub const LARGEST_FILE: usize = 1048576;
 
 /// Whether the bytes begin as a group does: with `{` and `:`, white space and comments passed over
 /// before and between them.
@@ -143,15 +141,9 @@ fn is_items(class: Class, sign: Sign) -> bool
     ensures { result ≡ is_items_lem class sign }
 {
     match sign {
-        Sign::Attribute(attribute) => is_items_shape(class.shape(attribute)),
+        Sign::Attribute(attribute) => class.shape(attribute).is_items(),
         _ => false,
     }
-}
-
-fn is_items_shape(shape: Shape) -> bool
-    ensures { result ≡ is_items_shape_lem shape }
-{
-    matches!(shape, Shape::Items)
 }
 
 /// The fields up to the closing brace or the keyword of the items, put in order among those that came
@@ -162,7 +154,7 @@ fn fields<'a>(
     before: Seq<Field>,
     place: Place<'a>,
 ) -> Result<(Seq<Field>, Piece<'a>, Place<'a>), TextError>
-    ensures { Gives (λ x. x) result (fields_lem class 4096 before place.entry) }
+    ensures { Gives (λ x. x) result (fields_lem class longest_list before place.entry) }
 {
     let mut fields = before;
     let mut place = place;
@@ -196,7 +188,7 @@ fn next_field<'a>(
     }
     let attribute = attribute_of(class, fields, &piece)?;
     let shape = class.shape(attribute);
-    if is_items_shape(shape) {
+    if shape.is_items() {
         return Ok((None, piece, place));
     }
     let (setting, place) = setting(alloc, shape, place)?;

@@ -1,9 +1,10 @@
 //! `Place`: where reading stands in a text. It gives the next token with its meaning, or the first
 //! thing that is wrong there; what is wanted is left to the readers.
 ghost use Rattle.std.specs.Prelude.{◌≡◌, false};
-ghost use Rattle.mh_text.specs.Left.{left, whole, meant as meant_lem};
+ghost use Rattle.mh_base.specs.Reading.{whole, refused};
+ghost use Rattle.mh_text.specs.Left.{left, meant as meant_lem};
 ghost use Rattle.mh_text.specs.Signs.{sign_of as sign_of_lem};
-ghost use Rattle.mh_text.specs.Gives.{Gives, Fails, refused};
+ghost use Rattle.mh_text.specs.Gives.{Gives, Fails};
 ghost use Rattle.mh_text.specs.Words.{needs_gap as needs_gap_lem};
 ghost use Rattle.mh_text.specs.Reading.{taken, next, opened, closed, closed_list, braced, ended, inner};
 

@@ -6,9 +6,8 @@ ghost use Rattle.std.specs.List.{list_all, flat_map};
 ghost use Rattle.mh_group.specs.Holdable.{is_reference, is_generic, is_list};
 ghost use Rattle.mh_text.specs.Printed.{opening, closing, keyword, word as word_lem, list, generic, reference as reference_lem, indirect_word as indirect_word_lem, Refuses};
 
-use crate::form::LONGEST_LIST;
 use crate::{TextError, Why};
-use mh_base::Seq;
+use mh_base::{LONGEST_LIST, Seq};
 use mh_group::{Generic, Ref};
 use std::alloc::{AllocError, Global};
 

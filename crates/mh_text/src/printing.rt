@@ -7,10 +7,9 @@ ghost use Rattle.mh_text.specs.Spelling.{Spells};
 ghost use Rattle.mh_text.specs.Printed.{items as items_lem, body as body_lem, printed, passes_limit, Refuses};
 
 use crate::TextError;
-use crate::object::LARGEST_FILE;
 use crate::printable::{PAST_LIMIT, Printable, print_list, print_several, put_keyword, put_word};
 use crate::printing_value::{put_integer, put_named, put_natural};
-use mh_base::Seq;
+use mh_base::{LARGEST_FILE, Seq};
 use mh_group::{Attribute, Field, Group, Ingredient, Setting, Written, event_word, group};
 use std::alloc::Global;
 

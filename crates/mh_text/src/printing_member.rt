@@ -1,15 +1,13 @@
 //! Printers of what lists hold: values behind their kind, parameters, actions, members of token groups
 //! and list groups, positions, next scenes.
-ghost use Rattle.std.specs.Prelude.{◌≡◌};
-ghost use Rattle.mh_text.specs.Printed.{kind_word as kind_word_lem};
 
 use crate::TextError;
-use crate::form::LONGEST_LIST;
 use crate::printable::{
     PAST_LIMIT, Printable, print_several, put_closing, put_keyword, put_opening, put_word,
 };
 use crate::printing_value::{put_integer, put_name};
-use mh_group::{Action, Member, NextScene, Parameter, Position, Typed, event_word};
+use mh_base::LONGEST_LIST;
+use mh_group::{Action, Member, NextScene, Parameter, Position, Typed, event_word, kind_word};
 use std::alloc::Global;
 
 /// A value behind the keyword of its kind.
@@ -23,7 +21,7 @@ impl Printable for Typed {
 
     #[tactic(auto, unfolding(crate::specs::Printed::typed_value))]
     fn print(&self, alloc: Global, out: &mut Vec<u8>) -> Result<(), TextError> {
-        put_keyword(out, kind_word(self))?;
+        put_keyword(out, kind_word(self.kind()))?;
         match self {
             Typed::Bool(value) => value.print(alloc, out),
             Typed::Int(value) => value.print(alloc, out),
@@ -31,20 +29,6 @@ impl Printable for Typed {
             Typed::Ref(value) => value.print(alloc, out),
             Typed::ContentRef(value) => value.print(alloc, out),
         }
-    }
-}
-
-/// The keyword of a value's kind.
-#[tactic(auto, unfolding(crate::specs::Printed::kind_word))]
-fn kind_word(value: &Typed) -> &'static [u8]
-    ensures { result.now ≡ kind_word_lem value.now }
-{
-    match value {
-        Typed::Bool(_) => b"GBoolean",
-        Typed::Int(_) => b"GInteger",
-        Typed::Octets(_) => b"GOctetString",
-        Typed::Ref(_) => b"GObjectRef",
-        Typed::ContentRef(_) => b"GContentRef",
     }
 }
 

@@ -183,7 +183,7 @@ pub(crate) fn put_integer(alloc: Global, out: &mut Vec<u8>, number: i32) -> Resu
     out.extend_from_slice(digits.as_bytes())
 }
 
-#[tactic(auto, using(crate::proofs::PrintingLemmas::bytes_are_octets), unfolding(crate::specs::Printed::octets))]
+#[tactic(auto, using(mh_group::proofs::WritingLemmas::bytes_are_octets), unfolding(crate::specs::Printed::octets))]
 fn put_octets(out: &mut Vec<u8>, bytes: &[u8]) -> Result<(), AllocError>
     ensures printed { OnOk result (out.new.items ≡ out.old.items ++ octets_lem bytes.now) }
     ensures fits { OnOk result (is_octets bytes.now ≡ true) }

@@ -1,14 +1,13 @@
 //! Readers of the values that are lists: effects, rows of integers, members, positions and scenes.
-ghost use Rattle.std.specs.Prelude.{◌≡◌};
 ghost use Rattle.mh_text.specs.Gives.{Gives};
 ghost use Rattle.mh_text.specs.Reading.{several as several_lem, effect, row, member, list_item, position, next_scene};
 
 use crate::effect::ElementaryAction;
-use crate::form::{Form, LONGEST_LIST, list, members};
+use crate::form::{Form, list, members};
 use crate::place::{Piece, Place};
 use crate::value::{Integer, integer_of, name_of, reference};
 use crate::{TextError, Why};
-use mh_base::Seq;
+use mh_base::{LONGEST_LIST, Seq};
 use mh_group::group::MOST_LIST_ITEMS;
 use mh_group::{Effect, Member, NextScene, Position, Setting, Shape};
 use std::alloc::Global;

@@ -1,7 +1,7 @@
 //! `Sign`: what a token means. Keywords, words and integers are looked up here, wherever they stand;
 //! what may stand where is left to the readers.
-ghost use Rattle.std.specs.Prelude.{◌≡◌, ◌≤◌, Some, None, nat_le, if◌then◌else◌, ◌+◌, ◌*◌};
-ghost use Rattle.mh_text.specs.Signs.{sign_of as sign_of_lem, keyword_sign as keyword_sign_lem, name_sign as name_sign_lem, kind_word as kind_word_lem, kind_of_word as kind_of_word_lem, mark_sign as mark_sign_lem, word_sign as word_sign_lem, integer_sign as integer_sign_lem, integer_of as integer_of_lem, positive as positive_lem, negative as negative_lem};
+ghost use Rattle.std.specs.Prelude.{◌≡◌, Some, None, nat_le, if◌then◌else◌, ◌+◌, ◌*◌};
+ghost use Rattle.mh_text.specs.Signs.{sign_of as sign_of_lem, keyword_sign as keyword_sign_lem, name_sign as name_sign_lem, mark_sign as mark_sign_lem, word_sign as word_sign_lem, integer_sign as integer_sign_lem, integer_of as integer_of_lem, positive as positive_lem, negative as negative_lem};
 ghost use Rattle.mh_text.specs.Bytes.{number_behind};
 ghost use Rattle.mh_text.specs.Reading.{is_open as is_open_lem, is_close as is_close_lem, is_open_brace as is_open_brace_lem, is_close_brace as is_close_brace_lem, is_indirect as is_indirect_lem, is_content_ref as is_content_ref_lem};
 
@@ -113,40 +113,10 @@ fn name_sign(name: &[u8]) -> Option<Sign>
     if let Some(action) = ActionName::of_word(name) {
         return Some(Sign::Action(action));
     }
-    if let Some(kind) = kind_of_word(name) {
+    if let Some(kind) = mh_group::kind_of_word(name) {
         return Some(Sign::Kind(kind));
     }
     mark_sign(name)
-}
-
-/// The kinds of values.
-const KINDS: [Kind; 5] = [
-    Kind::Bool,
-    Kind::Int,
-    Kind::Octets,
-    Kind::Object,
-    Kind::Content,
-];
-
-/// The kind that this keyword stands in front of, if there is one.
-fn kind_of_word(name: &[u8]) -> Option<Kind>
-    ensures { result ≡ kind_of_word_lem name.now }
-{
-    KINDS.iter().copied().find(|x| kind_word(*x) == name)
-}
-
-/// The keyword in front of a value of the kind.
-#[tactic(auto, unfolding(crate::specs::Signs::kind_word))]
-pub(crate) fn kind_word(kind: Kind) -> &'static [u8]
-    ensures { result.now ≡ kind_word_lem kind }
-{
-    match kind {
-        Kind::Bool => b"GBoolean",
-        Kind::Int => b"GInteger",
-        Kind::Octets => b"GOctetString",
-        Kind::Object => b"GObjectRef",
-        Kind::Content => b"GContentRef",
-    }
 }
 
 /// What a keyword means that no table has.

@@ -1,7 +1,8 @@
 //! `Tokens`: the tokens of a text, each the slice at its span, in order. Between two of them stands
 //! nothing but white space and comments. What a token means is left to `sign`.
 ghost use Rattle.std.specs.Prelude.{◌≡◌, ◌+◌, length, MatchResult, MatchOption};
-ghost use Rattle.mh_text.specs.Left.{whole, lexed, finished, token, IsBad};
+ghost use Rattle.mh_base.specs.Reading.{whole};
+ghost use Rattle.mh_text.specs.Left.{lexed, finished, token, IsBad};
 
 use crate::{TextError, TokenKind, Why, lexing};
 use std::marker::Model;
@@ -24,7 +25,7 @@ pub struct Tokens<'a> {
 
 impl<'a> Model for Tokens<'a> {
     ghost use Rattle.std.specs.Prelude.{◌+◌, ◌<◌, ◌^◌, length};
-    ghost use Rattle.mh_text.specs.Rest.{Rest};
+    ghost use Rattle.mh_base.specs.Reading.{Rest};
 
     ghost Value = { Rest };
 

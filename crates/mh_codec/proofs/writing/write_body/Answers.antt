@@ -1,7 +1,8 @@
 -- The fields in front of the items and those behind them are all of them.
 use Rattle.std.proofs.Common.{rules, sym}
 use Rattle.mh_group.specs.Holdable.{is_setting}
-use Rattle.mh_codec.proofs.WritingLemmas.{all_parts, whole_fits, whole_refused}
+use Rattle.mh_group.proofs.WritingLemmas.{all_parts, whole_fits}
+use Rattle.mh_codec.proofs.WritingLemmas.{whole_refused}
 use Rattle.mh_codec.proofs.writing.write_body.Goals as goal
 
 pub returns-in_err-write_several-in-Some-clause-limit : goal.returns-in_err-write_several-in-Some-clause-limit

@@ -1,6 +1,6 @@
 use Rattle.std.proofs.Common.{Ok, ap, sym, ◌∙◌}
+use Rattle.mh_base.specs.Reading.{refused}
 use Rattle.mh_text.specs.declared.text_error.Why.TheVariants.{Syntax}
-use Rattle.mh_text.specs.Gives.{refused}
 use Rattle.mh_text.specs.Reading.{next, taken}
 use Rattle.mh_text.proofs.LeftLemmas.{next_finished}
 use Rattle.mh_text.proofs.place.Place.next.Goals as goal

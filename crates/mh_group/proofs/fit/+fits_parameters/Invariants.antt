@@ -1,5 +1,5 @@
 use Rattle.std.proofs.Common.{length}
-use Rattle.mh_group.proofs.group.+fits_parameters.Given as goal
+use Rattle.mh_group.proofs.fit.+fits_parameters.Given as goal
 
 abbrev pub decreases-fits_parameters : goal.decreases-fits_parameters
 decreases-fits_parameters l = length l.needed.now

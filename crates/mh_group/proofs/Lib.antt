@@ -1,0 +1,3 @@
+pub mod MisfitLemmas
+pub mod ShapeLemmas
+pub mod WritingLemmas

@@ -1,0 +1,86 @@
+//! The words of the elementary actions in the textual notation.
+ghost use Rattle.std.specs.Prelude.{◌≡◌};
+ghost use Rattle.mh_group.specs.Words.{action_word};
+
+use crate::ActionName;
+
+impl ActionName {
+    /// Its word in the textual notation, without the colon.
+    #[tactic(auto, unfolding(crate::specs::Words::action_word))]
+    pub fn word(self) -> &'static [u8]
+        ensures { result.now ≡ action_word self }
+    {
+        match self {
+            ActionName::Run => b"Run",
+            ActionName::Stop => b"Stop",
+            ActionName::Preload => b"Preload",
+            ActionName::Unload => b"Unload",
+            ActionName::GetAvailabilityStatus => b"GetAvailabilityStatus",
+            ActionName::GetRunningStatus => b"GetRunningStatus",
+            ActionName::SendEvent => b"SendEvent",
+            ActionName::SetTimer => b"SetTimer",
+            ActionName::Launch => b"Launch",
+            ActionName::Quit => b"Quit",
+            ActionName::LockScreen => b"LockScreen",
+            ActionName::UnlockScreen => b"UnlockScreen",
+            ActionName::TransitionTo => b"TransitionTo",
+            ActionName::SetInputRegister => b"SetInputRegister",
+            ActionName::Activate => b"Activate",
+            ActionName::Deactivate => b"Deactivate",
+            ActionName::SetVariable => b"SetVariable",
+            ActionName::TestVariable => b"TestVariable",
+            ActionName::Add => b"Add",
+            ActionName::Subtract => b"Subtract",
+            ActionName::Multiply => b"Multiply",
+            ActionName::Divide => b"Divide",
+            ActionName::Modulo => b"Modulo",
+            ActionName::Append => b"Append",
+            ActionName::Call => b"Call",
+            ActionName::Fork => b"Fork",
+            ActionName::SetPosition => b"SetPosition",
+            ActionName::GetPosition => b"GetPosition",
+            ActionName::SetBoxSize => b"SetBoxSize",
+            ActionName::GetBoxSize => b"GetBoxSize",
+            ActionName::BringToFront => b"BringToFront",
+            ActionName::SendToBack => b"SendToBack",
+            ActionName::PutBefore => b"PutBefore",
+            ActionName::PutBehind => b"PutBehind",
+            ActionName::SetFillColour => b"SetFillColour",
+            ActionName::SetLineColour => b"SetLineColour",
+            ActionName::SetLineWidth => b"SetLineWidth",
+            ActionName::Clear => b"Clear",
+            ActionName::DrawLine => b"DrawLine",
+            ActionName::DrawRectangle => b"DrawRectangle",
+            ActionName::SetData => b"SetData",
+            ActionName::GetTextData => b"GetTextData",
+            ActionName::SetTextColour => b"SetTextColour",
+            ActionName::SetInteractionStatus => b"SetInteractionStatus",
+            ActionName::GetInteractionStatus => b"GetInteractionStatus",
+            ActionName::SetHighlightStatus => b"SetHighlightStatus",
+            ActionName::GetHighlightStatus => b"GetHighlightStatus",
+            ActionName::SetEntryPoint => b"SetEntryPoint",
+            ActionName::GetEntryPoint => b"GetEntryPoint",
+            ActionName::SetOverwriteMode => b"SetOverwriteMode",
+            ActionName::Select => b"Select",
+            ActionName::Deselect => b"Deselect",
+            ActionName::SetLabel => b"SetLabel",
+            ActionName::GetLabel => b"GetLabel",
+            ActionName::Move => b"Move",
+            ActionName::MoveTo => b"MoveTo",
+            ActionName::GetTokenPosition => b"GetTokenPosition",
+            ActionName::CallActionSlot => b"CallActionSlot",
+            ActionName::AddItem => b"AddItem",
+            ActionName::DelItem => b"DelItem",
+            ActionName::ScrollItems => b"ScrollItems",
+            ActionName::SetFirstItem => b"SetFirstItem",
+            ActionName::GetFirstItem => b"GetFirstItem",
+            ActionName::SelectItem => b"SelectItem",
+            ActionName::DeselectItem => b"DeselectItem",
+            ActionName::ToggleItem => b"ToggleItem",
+            ActionName::GetItemStatus => b"GetItemStatus",
+            ActionName::GetListItem => b"GetListItem",
+            ActionName::GetListSize => b"GetListSize",
+            ActionName::GetCellItem => b"GetCellItem",
+        }
+    }
+}
