@@ -44,22 +44,7 @@ class_numbered n c h = same_number (class_number c) n (find_holds (λ (b : Class
 class_named : (c : Class) → (class_with (class_number c) ≡ Some c) × (class_number c < 2 ^ 16)
 unfolding class_with
 class_named class.Application = (refl, omega arith)
-class_named class.Scene = (refl, omega arith)
-class_named class.Link = (refl, omega arith)
-class_named class.BooleanVar = (refl, omega arith)
-class_named class.IntegerVar = (refl, omega arith)
-class_named class.OStringVar = (refl, omega arith)
-class_named class.ObjectRefVar = (refl, omega arith)
-class_named class.ContentRefVar = (refl, omega arith)
-class_named class.Rectangle = (refl, omega arith)
-class_named class.Text = (refl, omega arith)
-class_named class.DynamicLineArt = (refl, omega arith)
-class_named class.ListGroup = (refl, omega arith)
-class_named class.TokenGroup = (refl, omega arith)
-class_named class.EntryField = (refl, omega arith)
-class_named class.PushButton = (refl, omega arith)
-class_named class.ResidentPrg = (refl, omega arith)
-class_named class.Stream = (refl, omega arith)
+class_named _ = (refl, omega arith)
 
 abbrev ClassRead : Bool → Element → Class → Type 0
 ClassRead wants e c = (e.tag ≡ own (class_number c)) × (is_same wants (is_group_class c) ≡ true)

@@ -4,9 +4,10 @@ ghost use Rattle.std.specs.Prelude.{[]};
 ghost use Rattle.mh_codec.specs.Gives.{Gives};
 ghost use Rattle.mh_codec.specs.Reading.{action_at as action_at_lem, parameters as parameters_lem, parameter_at as parameter_at_lem, typed_at as typed_at_lem, value_at as value_at_lem};
 
+use crate::element::{ended, only, own_at, refused, taken};
 use crate::kind::{action_with, value_kind_with};
 use crate::readable::{Readable, generic_at, list_at};
-use crate::value::{ended, event_at, only, own_at, reference_at, refused, taken};
+use crate::value::{event_at, reference_at};
 use crate::{CodecError, Why};
 use mh_base::{Kind as ValueKind, LONGEST_LIST, Octets, Seq};
 use mh_der::{Element, Reader};

@@ -8,6 +8,7 @@
 
 mod action;
 pub mod codec_error;
+mod element;
 mod kind;
 pub mod laws;
 mod member;
@@ -15,6 +16,7 @@ mod object;
 mod readable;
 mod setting;
 mod value;
+mod value_readable;
 mod writable;
 mod writing;
 mod writing_action;

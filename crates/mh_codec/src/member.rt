@@ -3,9 +3,10 @@
 ghost use Rattle.mh_codec.specs.Gives.{Gives};
 ghost use Rattle.mh_codec.specs.Reading.{member_in as member_in_lem, member_at as member_at_lem, list_item_in as list_item_in_lem, list_item_at as list_item_at_lem, position_at as position_at_lem, next_scene_in as next_scene_in_lem, next_scene_at as next_scene_at_lem};
 
+use crate::element::{ended, exhausted, sequence_at, taken};
 use crate::readable::{Readable, members};
 use crate::setting::pair;
-use crate::value::{ended, exhausted, integer_at, name_at, reference_at, sequence_at, taken};
+use crate::value::{integer_at, name_at, reference_at};
 use crate::{CodecError, Why};
 use mh_base::{LONGEST_LIST, Seq};
 use mh_der::{Element, Reader};

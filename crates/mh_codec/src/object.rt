@@ -5,12 +5,11 @@ ghost use Rattle.mh_codec.specs.Gives.{Gives};
 ghost use Rattle.mh_codec.specs.Writable.{Spells, SpellsNone, SpellsNoOther};
 ghost use Rattle.mh_codec.specs.Reading.{read, begins_group as begins_group_lem, group_at as group_at_lem, body as body_lem, class_at as class_at_lem, identifier_in as identifier_in_lem, fields as fields_lem, next_field as next_field_lem, attribute_at as attribute_at_lem, complete as complete_lem, items_at as items_at_lem, ingredient_at as ingredient_at_lem};
 
+use crate::element::{ended, only, own_at, refused, sequence_at, taken};
 use crate::kind::{ITEMS, attribute_with, class_with};
 use crate::readable::{Readable, list_at};
 use crate::setting::setting;
-use crate::value::{
-    ended, ingredient_number_at, named_in, only, own_at, refused, sequence_at, taken,
-};
+use crate::value::{ingredient_number_at, named_in};
 use crate::{CodecError, Why};
 use mh_base::{LARGEST_FILE, LONGEST_LIST, Seq};
 use mh_der::{Element, Reader};

@@ -4,7 +4,8 @@ ghost use Rattle.mh_base.specs.Limits.{longest_list};
 ghost use Rattle.mh_codec.specs.Gives.{Gives};
 ghost use Rattle.mh_codec.specs.Reading.{generic_at as generic_at_lem, list_at as list_at_lem, listed, next_member as next_member_lem};
 
-use crate::value::{exhausted, is_indirect, sequence_at, taken, variable_at};
+use crate::element::{exhausted, sequence_at, taken};
+use crate::value::{is_indirect, variable_at};
 use crate::{CodecError, Why};
 use mh_base::{LONGEST_LIST, Seq};
 use mh_der::{Element, Reader};

@@ -3,11 +3,12 @@ ghost use Rattle.std.specs.Prelude.{◌≡◌};
 ghost use Rattle.mh_codec.specs.Gives.{Gives};
 ghost use Rattle.mh_codec.specs.Reading.{setting as setting_lem, single as single_lem, pair as pair_lem, part as part_lem, is_pair as is_pair_lem};
 
+use crate::element::{ended, only, refused, taken};
 use crate::member::ListItem;
 use crate::readable::{Readable, list_at};
 use crate::value::{
-    colour_at, content_at, data_at, ended, event_at, fixed_at, integer_at, justification_at,
-    length_at, natural_at, only, reference_at, refused, taken, truth_at,
+    colour_at, content_at, data_at, event_at, fixed_at, integer_at, justification_at, length_at,
+    natural_at, reference_at, truth_at,
 };
 use crate::{CodecError, Why};
 use mh_base::{Octets, Seq};

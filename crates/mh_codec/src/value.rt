@@ -1,67 +1,15 @@
 //! Readers of values that are one element: truth values, numbers, octets, names, references.
 ghost use Rattle.std.specs.Prelude.{◌≡◌, pos, ◌≤ℤ◌, IfOk};
 ghost use Rattle.mh_codec.specs.Gives.{Gives};
-ghost use Rattle.mh_codec.specs.Reading.{taken as taken_lem, ended as ended_lem, exhausted as exhausted_lem, truth_at as truth_at_lem, integer_at as integer_at_lem, octets_at as octets_at_lem, sequence_at as sequence_at_lem, own_at as own_at_lem, natural_at as natural_at_lem, fixed_at as fixed_at_lem, number_at as number_at_lem, ingredient_number_at as ingredient_number_at_lem, name_at as name_at_lem, event_at as event_at_lem, colour_at as colour_at_lem, justification_at as justification_at_lem, length_at as length_at_lem, primitive_at as primitive_at_lem, name_of as name_of_lem, content_name_at as content_name_at_lem, content_at as content_at_lem, data_at as data_at_lem, named_in as named_in_lem, reference_at as reference_at_lem, only as only_lem, is_indirect as is_indirect_lem, variable_at as variable_at_lem};
+ghost use Rattle.mh_codec.specs.Reading.{truth_at as truth_at_lem, integer_at as integer_at_lem, octets_at as octets_at_lem, natural_at as natural_at_lem, fixed_at as fixed_at_lem, number_at as number_at_lem, ingredient_number_at as ingredient_number_at_lem, name_at as name_at_lem, event_at as event_at_lem, colour_at as colour_at_lem, justification_at as justification_at_lem, length_at as length_at_lem, name_of as name_of_lem, content_name_at as content_name_at_lem, content_at as content_at_lem, data_at as data_at_lem, named_in as named_in_lem, reference_at as reference_at_lem, is_indirect as is_indirect_lem, variable_at as variable_at_lem};
 
+use crate::element::{ended, only, primitive_at, refused, taken};
 use crate::kind::{CONTENT_NAME, Kind, VARIABLE, kind_of};
-use crate::readable::Readable;
 use crate::{CodecError, Why};
 use mh_base::{Colour, EventType, Octets};
 use mh_der::{Element, Reader, bool_of, int_of};
 use mh_group::{Content, EventData, Justification, Number, Ref, WrittenName};
 use std::alloc::Global;
-
-/// The refusal of the element.
-pub(crate) fn refused(element: &Element<'_>, why: Why) -> CodecError
-    ensures { result ≡ CodecError.At why element.now.offset }
-{
-    CodecError::At {
-        why,
-        offset: element.offset(),
-    }
-}
-
-/// The next element, and the reader behind it.
-#[tactic(auto, unfolding(crate::specs::Reading::taken))]
-pub(crate) fn taken<'a>(reader: Reader<'a>) -> Result<(Element<'a>, Reader<'a>), CodecError>
-    ensures { Gives (λ x. x) result (taken_lem reader.entry) }
-{
-    Ok(reader.taken()?)
-}
-
-/// Nothing is left, which is wanted here.
-#[tactic(auto, unfolding(crate::specs::Reading::ended))]
-pub(crate) fn ended(reader: Reader<'_>) -> Result<(), CodecError>
-    ensures { Gives (λ x. x) result (ended_lem reader.entry) }
-{
-    reader.ended()?;
-    Ok(())
-}
-
-/// Nothing is left; else what is left is refused for this cause.
-#[tactic(auto, unfolding(crate::specs::Reading::exhausted))]
-pub(crate) fn exhausted(reader: &Reader<'_>, why: Why) -> Result<(), CodecError>
-    ensures { Gives (λ x. x) result (exhausted_lem why reader.now) }
-{
-    if reader.is_empty() {
-        Ok(())
-    } else {
-        Err(CodecError::At {
-            why,
-            offset: reader.offset(),
-        })
-    }
-}
-
-/// The one element that is left.
-#[tactic(auto, unfolding(crate::specs::Reading::only))]
-pub(crate) fn only<'a>(reader: Reader<'a>) -> Result<Element<'a>, CodecError>
-    ensures { Gives (λ x. x) result (only_lem reader.entry) }
-{
-    let (element, behind) = taken(reader)?;
-    ended(behind)?;
-    Ok(element)
-}
 
 #[tactic(auto, unfolding(crate::specs::Reading::truth_at))]
 pub(crate) fn truth_at(element: &Element<'_>) -> Result<bool, CodecError>
@@ -84,44 +32,11 @@ pub(crate) fn integer_at(element: &Element<'_>) -> Result<i32, CodecError>
 }
 
 #[tactic(auto, unfolding(crate::specs::Reading::octets_at))]
-fn octets_at<'a>(element: &Element<'a>) -> Result<&'a [u8], CodecError>
+pub(crate) fn octets_at<'a>(element: &Element<'a>) -> Result<&'a [u8], CodecError>
     ensures { Gives (λ x. x.now) result (octets_at_lem element.now) }
 {
     match kind_of(element.tag()) {
         Kind::Octets => Ok(element.contents().bytes()),
-        _ => Err(refused(element, Why::UnknownTag)),
-    }
-}
-
-/// A reader of what is inside a sequence.
-#[tactic(auto, unfolding(crate::specs::Reading::sequence_at))]
-pub(crate) fn sequence_at<'a>(element: &Element<'a>) -> Result<Reader<'a>, CodecError>
-    ensures { Gives (λ x. x) result (sequence_at_lem element.now) }
-{
-    match kind_of(element.tag()) {
-        Kind::Sequence => Ok(element.contents()),
-        _ => Err(refused(element, Why::UnknownTag)),
-    }
-}
-
-/// The number of a tag of the notation's own.
-#[tactic(auto, unfolding(crate::specs::Reading::own_at))]
-pub(crate) fn own_at(element: &Element<'_>) -> Result<u16, CodecError>
-    ensures { Gives (λ x. x) result (own_at_lem element.now) }
-{
-    match kind_of(element.tag()) {
-        Kind::Own(number) => Ok(number),
-        _ => Err(refused(element, Why::UnknownTag)),
-    }
-}
-
-/// The number of a tag of the notation's own that is primitive.
-#[tactic(auto, unfolding(crate::specs::Reading::primitive_at))]
-fn primitive_at(element: &Element<'_>) -> Result<u16, CodecError>
-    ensures { Gives (λ x. x) result (primitive_at_lem element.now) }
-{
-    match kind_of(element.tag()) {
-        Kind::Primitive(number) => Ok(number),
         _ => Err(refused(element, Why::UnknownTag)),
     }
 }
@@ -207,7 +122,10 @@ fn name_of(alloc: Global, element: &Element<'_>, bytes: &[u8]) -> Result<Written
 
 /// The name of a content file.
 #[tactic(auto, unfolding(crate::specs::Reading::content_name_at))]
-fn content_name_at(alloc: Global, element: &Element<'_>) -> Result<WrittenName, CodecError>
+pub(crate) fn content_name_at(
+    alloc: Global,
+    element: &Element<'_>,
+) -> Result<WrittenName, CodecError>
     ensures { Gives (λ x. x) result (content_name_at_lem element.now) }
 {
     let number = primitive_at(element)?;
@@ -330,88 +248,4 @@ pub(crate) fn variable_at(alloc: Global, element: &Element<'_>) -> Result<Ref, C
 {
     let inner = only(element.contents())?;
     reference_at(alloc, &inner)
-}
-
-impl Readable for bool {
-    ghost use Rattle.mh_codec.specs.Reading.{truth_at as reading_lem};
-
-    type Value = bool;
-
-    ghost reading = { reading_lem };
-
-    fn read_at(_alloc: Global, element: &Element<'_>) -> Result<bool, CodecError> {
-        truth_at(element)
-    }
-}
-
-impl Readable for i32 {
-    ghost use Rattle.mh_codec.specs.Reading.{integer_at as reading_lem};
-
-    type Value = i32;
-
-    ghost reading = { reading_lem };
-
-    fn read_at(_alloc: Global, element: &Element<'_>) -> Result<i32, CodecError> {
-        integer_at(element)
-    }
-}
-
-impl Readable for Octets {
-    ghost use Rattle.mh_codec.specs.Reading.{octets_at as reading_lem};
-
-    type Value = Octets;
-
-    ghost reading = { reading_lem };
-
-    fn read_at(alloc: Global, element: &Element<'_>) -> Result<Octets, CodecError> {
-        Ok(Octets::from_slice(alloc, octets_at(element)?)?)
-    }
-}
-
-impl Readable for Ref {
-    ghost use Rattle.mh_codec.specs.Reading.{reference_at as reading_lem};
-
-    type Value = Ref;
-
-    ghost reading = { reading_lem };
-
-    fn read_at(alloc: Global, element: &Element<'_>) -> Result<Ref, CodecError> {
-        reference_at(alloc, element)
-    }
-}
-
-impl Readable for WrittenName {
-    ghost use Rattle.mh_codec.specs.Reading.{content_name_at as reading_lem};
-
-    type Value = WrittenName;
-
-    ghost reading = { reading_lem };
-
-    fn read_at(alloc: Global, element: &Element<'_>) -> Result<WrittenName, CodecError> {
-        content_name_at(alloc, element)
-    }
-}
-
-impl Readable for Content {
-    ghost use Rattle.mh_codec.specs.Reading.{content_at as reading_lem};
-
-    type Value = Content;
-
-    ghost reading = { reading_lem };
-
-    fn read_at(alloc: Global, element: &Element<'_>) -> Result<Content, CodecError> {
-        content_at(alloc, element)
-    }
-}
-
-impl Readable for EventData {
-    ghost use Rattle.mh_codec.specs.Reading.{data_at as reading_lem};
-
-    type Value = EventData;
-
-    ghost reading = { reading_lem };
-
-    fn read_at(_alloc: Global, element: &Element<'_>) -> Result<EventData, CodecError> {
-        data_at(element)
-    }
 }

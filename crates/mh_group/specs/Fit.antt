@@ -5,6 +5,7 @@ use Rattle.std.specs.Ordering.{int_eq}
 use Rattle.std.specs.List.{list_all, list_any, prefix_len}
 use Rattle.std.specs.Option.{option_or}
 use Rattle.mh_group.specs.declared.class.Class.{Class}
+use Rattle.mh_group.specs.declared.attribute.Attribute.{Attribute}
 use Rattle.mh_group.specs.declared.attribute.Attribute.TheVariants as attribute
 use Rattle.mh_group.specs.declared.shape.Shape.{Shape}
 use Rattle.mh_group.specs.declared.shape.Shape.TheVariants as shape
@@ -99,9 +100,13 @@ rises_above n (f ∷ fs) = nat_lt n (attribute_number f.attribute) && rises_abov
 abbrev pub is_rising : List Field → Bool
 is_rising fs = rises_above 0 fs
 
+-- one of the fields has the attribute
+abbrev pub has_attribute : List Field → Attribute → Bool
+has_attribute fs a = list_any (λ f. attribute_number f.attribute == attribute_number a) fs
+
 -- what the class has to be written with is there
 abbrev pub has_required : Class → List Field → Bool
-has_required c fs = list_all (λ a. list_any (λ f. attribute_number f.attribute == attribute_number a) fs) (required_of c)
+has_required c fs = list_all (λ a. has_attribute fs a) (required_of c)
 
 -- the class takes each of the attributes
 abbrev pub takes_each : Class → List Field → Bool

@@ -1,8 +1,6 @@
 //! `Group`: what is written, where the tables allow it.
-ghost use Rattle.std.specs.Prelude.{◌≡◌, true, false, length, IfOk, IfErr, OnOk, OnErr, ◌==◌, ◌≤◌, Some};
-ghost use Rattle.std.specs.List.{list_any};
-ghost use Rattle.mh_group.specs.Table.{attribute_number};
-ghost use Rattle.mh_group.specs.Fit.{is_group, misfit_of as misfit_of_lem, is_rising, rises_above, has_required as has_required_lem, takes_each as takes_each_lem, fits_each as fits_each_lem, fields_misfit as fields_misfit_lem, ingredient_misfit as ingredient_misfit_lem, ingredients_misfit as ingredients_misfit_lem, items_of, before_items as before_items_lem};
+ghost use Rattle.std.specs.Prelude.{◌≡◌, true, false, length, IfOk, IfErr, OnOk, OnErr, ◌≤◌, Some};
+ghost use Rattle.mh_group.specs.Fit.{is_group, misfit_of as misfit_of_lem, is_rising, has_attribute as has_attribute_lem, has_required as has_required_lem, takes_each as takes_each_lem, fits_each as fits_each_lem, fields_misfit as fields_misfit_lem, ingredient_misfit as ingredient_misfit_lem, ingredients_misfit as ingredients_misfit_lem, items_of, before_items as before_items_lem};
 ghost use Rattle.mh_group.specs.declared.written.Written.{Written};
 
 pub use crate::fit::{MOST_LIST_ITEMS, fits, fits_action};
@@ -98,8 +96,9 @@ fn are_rising(fields: &[Field]) -> bool
     true
 }
 
-fn has_attribute(fields: &[Field], attribute: Attribute) -> bool
-    ensures { result ≡ list_any (λ f. attribute_number f.attribute == attribute_number attribute) fields.now }
+/// Whether one of the fields has the attribute.
+pub fn has_attribute(fields: &[Field], attribute: Attribute) -> bool
+    ensures { result ≡ has_attribute_lem fields.now attribute }
 {
     let number = attribute.number();
     fields

@@ -4,9 +4,9 @@ use Rattle.std.specs.List.{list_any, prefix_len}
 use Rattle.std.proofs.lemmas.Bool.Decides.{nat_tests}
 use Rattle.mh_group.specs.declared.written.Field.{Field}
 use Rattle.mh_group.specs.declared.class.Class.{Class}
-use Rattle.mh_group.specs.Fit.{fits}
 use Rattle.mh_group.specs.Table.{attribute_number, shape_of, takes}
-use Rattle.mh_text.specs.Reading.{placed, has_attribute}
+use Rattle.mh_group.specs.Fit.{fits, has_attribute}
+use Rattle.mh_text.specs.Reading.{placed}
 use Rattle.mh_text.specs.Spelling.{NoneTwice}
 
 -- the list has the element

@@ -9,14 +9,14 @@ use Rattle.mh_group.specs.declared.attribute.Attribute.{Attribute}
 use Rattle.mh_group.specs.declared.written.Field.{Field}
 use Rattle.mh_group.specs.declared.written.Ingredient.{Ingredient}
 use Rattle.mh_group.specs.declared.written.Written.{Written}
-use Rattle.mh_group.specs.Fit.{fits, is_rising, has_required, takes_each, fits_each, fields_misfit, ingredient_misfit, ingredients_misfit, misfit_of, written_items, is_group}
 use Rattle.mh_group.proofs.MisfitLemmas.{none_is}
 use Rattle.mh_group.specs.Table.{shape_of, takes, is_group_class, is_items_shape}
+use Rattle.mh_group.specs.Fit.{fits, is_rising, has_required, takes_each, fits_each, fields_misfit, ingredient_misfit, ingredients_misfit, misfit_of, written_items, is_group, has_attribute}
 use Rattle.mh_text.specs.declared.sign.Sign.{Sign}
 use Rattle.mh_text.specs.declared.sign.Sign.TheVariants as sign
 use Rattle.mh_text.specs.Rest.{Left, Piece}
 use Rattle.mh_text.specs.Gives.{Refusal}
-use Rattle.mh_text.specs.Reading.{next, is_close_brace, is_open_brace, braced, number_of, ingredient_number_of, setting, has_attribute, attribute_of, placed, is_items, next_field, gathered, fields, fields_behind_items, complete, class_of, list, ingredient, items, identifier, body, group}
+use Rattle.mh_text.specs.Reading.{next, is_close_brace, is_open_brace, braced, number_of, ingredient_number_of, setting, attribute_of, placed, is_items, next_field, gathered, fields, fields_behind_items, complete, class_of, list, ingredient, items, identifier, body, group}
 use Rattle.mh_text.proofs.FoundGroups.{not_true}
 use Rattle.mh_text.proofs.FieldLemmas.{FitsIn, Has, has_placed_parts}
 use Rattle.mh_text.proofs.OrderLemmas.{rising_placed, all_from}

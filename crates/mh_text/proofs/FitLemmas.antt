@@ -14,8 +14,8 @@ use Rattle.mh_group.specs.declared.shape.Shape.TheVariants as shape
 use Rattle.mh_group.specs.declared.shape.Need.{Need}
 use Rattle.mh_group.specs.declared.shape.Need.TheVariants as need
 use Rattle.mh_group.specs.declared.written.Setting.TheVariants as of_setting
-use Rattle.mh_group.specs.Fit.{fits_parameter, fits_parameters, fits_action, fits_effect, fits_member, is_list_item, is_natural, is_field_length, fits}
 use Rattle.mh_group.specs.Table.{needs_of, optional_of}
+use Rattle.mh_group.specs.Fit.{fits_parameter, fits_parameters, fits_action, fits_effect, fits_member, is_list_item, is_natural, is_field_length, fits}
 use Rattle.mh_text.specs.Rest.{Left, Piece}
 use Rattle.mh_text.specs.Gives.{Refusal}
 use Rattle.mh_text.specs.Reading.{next, is_open, is_close, opened, closed, closed_list, integer_of, natural_of, field_length_of, fixed_of, truth_of, event_of, justification_of, octets_of, colour_of, data_of, made, alone, truth, integer, octets, event_data, content_name, content, reference, generic, next_member, continued, listed, list, typed, generic_parameter, parameter, parameters, action_name_of, action, effect, row, member, list_item, position, next_scene, single, part, pair, several, setting_at, setting}

@@ -14,6 +14,7 @@ use Rattle.mh_group.specs.declared.written.Written.{Written as Group}
 use Rattle.mh_group.specs.Words.{class_word, attribute_word}
 use Rattle.mh_group.proofs.ShapeLemmas.{items_shape}
 use Rattle.mh_group.specs.Table.{shape_of, takes, is_group_class, is_items_shape}
+use Rattle.mh_group.specs.Fit.{has_attribute}
 use Rattle.mh_text.specs.declared.token_kind.TokenKind.TheVariants as kind
 use Rattle.mh_text.specs.declared.sign.Sign.{Sign}
 use Rattle.mh_text.specs.declared.sign.Sign.TheVariants as sign
@@ -21,7 +22,7 @@ use Rattle.mh_text.specs.declared.text_error.Why.TheVariants as why
 use Rattle.mh_text.specs.Rest.{Left, Piece}
 use Rattle.mh_text.specs.Gives.{Refusal}
 use Rattle.mh_text.specs.Spelling.{IsNamed, IsNumber, AreSeveral, IsListOf, IsField, NoneTwice, AreFieldsOf, IsIngredient, IsBody, IsGroup}
-use Rattle.mh_text.specs.Reading.{next, is_close_brace, is_open_brace, opened, closed, braced, refused_at, name_of, number_of, ingredient_number_of, setting, has_attribute, attribute_of, placed, is_items, next_field, gathered, fields, fields_behind_items, complete, class_of, ingredient, items, identifier, body, group}
+use Rattle.mh_text.specs.Reading.{next, is_close_brace, is_open_brace, opened, closed, braced, refused_at, name_of, number_of, ingredient_number_of, setting, attribute_of, placed, is_items, next_field, gathered, fields, fields_behind_items, complete, class_of, ingredient, items, identifier, body, group}
 use Rattle.mh_text.proofs.SignLemmas.{class_spelled, attribute_spelled}
 use Rattle.mh_text.proofs.PieceLemmas.{kind_of, word_of, as_word, words, IsGood, AreGood, Passes, PassesFrom, turned, onward, went_on}
 use Rattle.mh_text.proofs.FoundLemmas.{first_word, first_integer, moved, moved_from, opened_found, closed_found, braced_found, is_open_brace_word, is_close_brace_word, name_found, number_found, from_piece, list_found}

@@ -11,11 +11,11 @@ use Rattle.mh_group.specs.declared.written.Setting.{Setting}
 use Rattle.mh_group.specs.declared.written.Field.{Field}
 use Rattle.mh_group.specs.declared.written.Ingredient.{Ingredient}
 use Rattle.mh_group.specs.declared.written.Written.{Written as Group}
-use Rattle.mh_group.specs.Fit.{fits, has_required, ingredient_misfit, ingredients_misfit, written_items, is_group}
 use Rattle.mh_group.specs.Words.{class_word, attribute_word}
 use Rattle.mh_group.proofs.MisfitLemmas.{if_no_none, or_none, AreRight, are_right, is_right}
 use Rattle.mh_group.proofs.ShapeLemmas.{items_unfit}
 use Rattle.mh_group.specs.Table.{attribute_number, shape_of, takes, is_group_class, is_items_shape}
+use Rattle.mh_group.specs.Fit.{fits, has_required, ingredient_misfit, ingredients_misfit, written_items, is_group, has_attribute}
 use Rattle.mh_text.specs.declared.token_kind.TokenKind.TheVariants as kind
 use Rattle.mh_text.specs.declared.sign.Sign.{Sign}
 use Rattle.mh_text.specs.declared.sign.Sign.TheVariants as sign
@@ -26,7 +26,7 @@ use Rattle.mh_text.specs.Signs.{sign_of}
 use Rattle.mh_text.specs.Gives.{Refusal}
 use Rattle.mh_text.specs.Spelling.{IsKeyword, IsCloseBrace, IsNamed, AreSeveral, IsListOf, IsField, NoneTwice, AreFieldsOf, IsIngredient, IsBody, IsGroup, Spells}
 use Rattle.mh_text.specs.Left.{left}
-use Rattle.mh_text.specs.Reading.{next, ended, opened, closed, braced, refused_at, name_of, number_of, ingredient_number_of, setting, has_attribute, attribute_of, placed, is_items, next_field, fields, fields_behind_items, complete, class_of, ingredient, items, identifier, body, group, read}
+use Rattle.mh_text.specs.Reading.{next, ended, opened, closed, braced, refused_at, name_of, number_of, ingredient_number_of, setting, attribute_of, placed, is_items, next_field, fields, fields_behind_items, complete, class_of, ingredient, items, identifier, body, group, read}
 use Rattle.mh_text.proofs.SignLemmas.{class_means, attribute_means, integer_means}
 use Rattle.mh_text.proofs.FieldLemmas.{FitsIn, Has, Apart, has_contained, contains_had, has_left, has_right, none_passes, passes_none, same_turned}
 use Rattle.mh_text.proofs.OrderLemmas.{gathered_in, gathered_both, gathered_parts, gathered_same, free_first, apart_next, few_fields, all_had}

@@ -7,9 +7,9 @@ use Rattle.mh_base.specs.Limits.{longest_list}
 use Rattle.mh_group.specs.declared.attribute.Attribute.{Attribute}
 use Rattle.mh_group.specs.declared.attribute.Attribute.TheVariants as attribute
 use Rattle.mh_group.specs.declared.written.Field.{Field}
-use Rattle.mh_group.specs.Fit.{rises_above, is_rising}
 use Rattle.mh_group.specs.Table.{attribute_number}
-use Rattle.mh_text.specs.Reading.{placed, has_attribute}
+use Rattle.mh_group.specs.Fit.{rises_above, is_rising, has_attribute}
+use Rattle.mh_text.specs.Reading.{placed}
 use Rattle.mh_text.specs.Spelling.{NoneTwice, AreFieldsOf}
 use Rattle.mh_text.proofs.FieldLemmas.{Has, Apart, has_contained, contains_had, has_placed_parts, has_placed_new, has_placed_old, none_passes, passes_none, same_turned, or_false}
 

@@ -25,10 +25,10 @@ use Rattle.mh_group.specs.declared.written.Setting.TheVariants as of_setting
 use Rattle.mh_group.specs.declared.written.Field.{Field}
 use Rattle.mh_group.specs.declared.written.Ingredient.{Ingredient}
 use Rattle.mh_group.specs.declared.written.Written.{Written as Group}
-use Rattle.mh_group.specs.Fit.{rises_above, is_rising, before_items, is_group, misfit_of, fields_misfit, ingredient_misfit, ingredients_misfit, items_of, written_items}
 use Rattle.mh_group.specs.Holdable.{colour_octets, is_plain, is_integer, is_number, is_name, is_octets, is_reference, is_generic, is_typed, is_content, is_data, is_parameter, is_action, is_list, is_member, is_position, is_next_scene, is_setting, has_settings, is_ingredient, is_holdable}
 use Rattle.mh_group.specs.Words.{class_word, attribute_word, action_word, event_word, justification_word}
 use Rattle.mh_group.specs.Table.{attribute_number, is_group_class}
+use Rattle.mh_group.specs.Fit.{rises_above, is_rising, before_items, is_group, misfit_of, fields_misfit, ingredient_misfit, ingredients_misfit, items_of, written_items}
 use Rattle.mh_text.specs.declared.token_kind.TokenKind.TheVariants as kind
 use Rattle.mh_text.specs.Words.{Written}
 use Rattle.mh_text.specs.Words.IsGap.{blank, nothing as no_gap}

@@ -27,9 +27,9 @@ use Rattle.mh_group.specs.declared.written.Setting.TheVariants as of_setting
 use Rattle.mh_group.specs.declared.written.Field.{Field}
 use Rattle.mh_group.specs.declared.written.Ingredient.{Ingredient}
 use Rattle.mh_group.specs.declared.written.Written.{Written}
-use Rattle.mh_group.specs.Fit.{before_items}
 use Rattle.mh_group.specs.Holdable.{colour_octets, is_holdable}
 use Rattle.mh_group.specs.Words.{class_word, attribute_word, action_word, event_word, justification_word, kind_word, kind_of}
+use Rattle.mh_group.specs.Fit.{before_items}
 use Rattle.mh_text.specs.declared.text_error.TextError.{TextError}
 use Rattle.mh_text.specs.declared.text_error.TextError.TheVariants.{At, NoMemory}
 use Rattle.mh_text.specs.declared.text_error.Why.TheVariants.{Limit}

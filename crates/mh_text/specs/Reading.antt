@@ -39,8 +39,8 @@ use Rattle.mh_group.specs.declared.written.Setting.TheVariants as of_setting
 use Rattle.mh_group.specs.declared.written.Field.{Field}
 use Rattle.mh_group.specs.declared.written.Ingredient.{Ingredient}
 use Rattle.mh_group.specs.declared.written.Written.{Written}
-use Rattle.mh_group.specs.Fit.{has_required, is_field_length}
 use Rattle.mh_group.specs.Table.{attribute_number, shape_of, takes, needs_of, optional_of, is_group_class, is_items_shape}
+use Rattle.mh_group.specs.Fit.{has_required, is_field_length, has_attribute}
 use Rattle.mh_text.specs.declared.sign.Sign.{Sign}
 use Rattle.mh_text.specs.declared.sign.Sign.TheVariants as sign
 use Rattle.mh_text.specs.declared.text_error.Why.{Why}
@@ -464,9 +464,6 @@ setting_at s p left = alone (single s p) left
 
 unfoldable pub setting : Shape → Left → Result (Setting × Left) Refusal
 setting s left = next left >>= λ a. setting_at s a.0 a.1
-
-abbrev pub has_attribute : List Field → Attribute → Bool
-has_attribute fields a = list_any (λ f. attribute_number f.attribute == attribute_number a) fields
 
 -- the attribute that this token names, where the class takes it and it has not come before
 unfoldable pub attribute_of : Class → List Field → Piece → Result Attribute Refusal

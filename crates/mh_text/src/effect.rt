@@ -7,9 +7,8 @@ ghost use Rattle.mh_text.specs.Reading.{is_close, action, action_name_of as acti
 use crate::form::{Form, generic, list};
 use crate::place::{Piece, Place};
 use crate::sign::Sign;
-use crate::value::{
-    AnyContent, AnyReference, ContentName, Data, Integer, OctetText, Truth, event_of, reference,
-};
+use crate::value::{event_of, reference};
+use crate::value_form::{AnyContent, AnyReference, ContentName, Data, Integer, OctetText, Truth};
 use crate::{TextError, Why};
 use mh_base::{Kind, LONGEST_LIST, Seq};
 use mh_group::{Action, ActionName, Need, Parameter, Typed};

@@ -7,6 +7,7 @@
 #![tactic(auto)]
 
 mod effect;
+mod field;
 mod form;
 pub mod laws;
 mod lexing;
@@ -24,6 +25,7 @@ pub mod text_error;
 pub mod token;
 pub mod token_kind;
 mod value;
+mod value_form;
 
 pub use mh_base::LARGEST_FILE;
 pub use object::{begins_group, read_group};

@@ -1,7 +1,7 @@
 //! The printer of groups: the group itself, its ingredients and fields.
 ghost use Rattle.std.specs.Prelude.{◌≡◌, ◌≢◌, ◌++◌, ◌&&◌, true, false, IfOk, OnOk, IfErr};
-ghost use Rattle.mh_group.specs.Fit.{written_items};
 ghost use Rattle.mh_group.specs.Holdable.{is_list, has_settings, is_ingredient, is_holdable};
+ghost use Rattle.mh_group.specs.Fit.{written_items};
 ghost use Rattle.mh_text.specs.declared.text_error.Why.{Why};
 ghost use Rattle.mh_text.specs.Spelling.{Spells};
 ghost use Rattle.mh_text.specs.Printed.{items as items_lem, body as body_lem, printed, passes_limit, Refuses};

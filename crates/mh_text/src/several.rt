@@ -5,7 +5,8 @@ ghost use Rattle.mh_text.specs.Reading.{several as several_lem, effect, row, mem
 use crate::effect::ElementaryAction;
 use crate::form::{Form, list, members};
 use crate::place::{Piece, Place};
-use crate::value::{Integer, integer_of, name_of, reference};
+use crate::value::{integer_of, name_of, reference};
+use crate::value_form::Integer;
 use crate::{TextError, Why};
 use mh_base::{LONGEST_LIST, Seq};
 use mh_group::group::MOST_LIST_ITEMS;

@@ -2,9 +2,8 @@
 //! Each takes the token at which the value begins, and the place behind that token where it reads on.
 ghost use Rattle.std.specs.Prelude.{◌≡◌, pos, ◌≤ℤ◌, IfOk};
 ghost use Rattle.mh_text.specs.Gives.{Gives};
-ghost use Rattle.mh_text.specs.Reading.{name_of as name_of_lem, integer_of as integer_of_lem, natural_of as natural_of_lem, field_length_of as field_length_of_lem, fixed_of as fixed_of_lem, number_of as number_of_lem, ingredient_number_of as ingredient_number_of_lem, truth_of as truth_of_lem, event_of as event_of_lem, justification_of as justification_of_lem, data_of as data_of_lem, octets_of as octets_of_lem, colour_of as colour_of_lem, reference as reference_lem, named_reference as named_reference_lem, truth, integer, octets, event_data, content_name as content_name_lem, content as content_lem};
+ghost use Rattle.mh_text.specs.Reading.{name_of as name_of_lem, integer_of as integer_of_lem, natural_of as natural_of_lem, field_length_of as field_length_of_lem, fixed_of as fixed_of_lem, number_of as number_of_lem, ingredient_number_of as ingredient_number_of_lem, truth_of as truth_of_lem, event_of as event_of_lem, justification_of as justification_of_lem, data_of as data_of_lem, octets_of as octets_of_lem, colour_of as colour_of_lem, reference as reference_lem, named_reference as named_reference_lem, truth, integer, octets, content_name as content_name_lem, content as content_lem};
 
-use crate::form::Form;
 use crate::octet_text::unescaped;
 use crate::place::{Piece, Place};
 use crate::sign::Sign;
@@ -234,123 +233,4 @@ pub(crate) fn content<'a>(
     }
     let octets = octets_of(alloc, piece)?;
     Ok((Content::Included(octets), place))
-}
-
-/// A truth value.
-pub(crate) struct Truth;
-
-impl Form for Truth {
-    type Value = bool;
-
-    ghost reading = { truth };
-
-    fn read<'a>(
-        _alloc: Global,
-        piece: &Piece<'_>,
-        place: Place<'a>,
-    ) -> Result<(bool, Place<'a>), TextError> {
-        Ok((truth_of(piece)?, place))
-    }
-}
-
-/// An integer.
-pub(crate) struct Integer;
-
-impl Form for Integer {
-    type Value = i32;
-
-    ghost reading = { integer };
-
-    fn read<'a>(
-        _alloc: Global,
-        piece: &Piece<'_>,
-        place: Place<'a>,
-    ) -> Result<(i32, Place<'a>), TextError> {
-        Ok((integer_of(piece)?, place))
-    }
-}
-
-/// Octets in a string or a quoted string.
-pub(crate) struct OctetText;
-
-impl Form for OctetText {
-    type Value = Octets;
-
-    ghost reading = { octets };
-
-    fn read<'a>(
-        alloc: Global,
-        piece: &Piece<'_>,
-        place: Place<'a>,
-    ) -> Result<(Octets, Place<'a>), TextError> {
-        Ok((octets_of(alloc, piece)?, place))
-    }
-}
-
-/// The data of an event.
-pub(crate) struct Data;
-
-impl Form for Data {
-    type Value = EventData;
-
-    ghost reading = { event_data };
-
-    fn read<'a>(
-        _alloc: Global,
-        piece: &Piece<'_>,
-        place: Place<'a>,
-    ) -> Result<(EventData, Place<'a>), TextError> {
-        Ok((data_of(piece)?, place))
-    }
-}
-
-/// A reference.
-pub(crate) struct AnyReference;
-
-impl Form for AnyReference {
-    type Value = Ref;
-
-    ghost reading = { reference_lem };
-
-    fn read<'a>(
-        alloc: Global,
-        piece: &Piece<'_>,
-        place: Place<'a>,
-    ) -> Result<(Ref, Place<'a>), TextError> {
-        reference(alloc, piece, place)
-    }
-}
-
-/// The name of a content file, behind its keyword.
-pub(crate) struct ContentName;
-
-impl Form for ContentName {
-    type Value = WrittenName;
-
-    ghost reading = { content_name_lem };
-
-    fn read<'a>(
-        alloc: Global,
-        piece: &Piece<'_>,
-        place: Place<'a>,
-    ) -> Result<(WrittenName, Place<'a>), TextError> {
-        content_name(alloc, piece, place)
-    }
-}
-
-/// Content: octets, or the name of a content file.
-pub(crate) struct AnyContent;
-
-impl Form for AnyContent {
-    type Value = Content;
-
-    ghost reading = { content_lem };
-
-    fn read<'a>(
-        alloc: Global,
-        piece: &Piece<'_>,
-        place: Place<'a>,
-    ) -> Result<(Content, Place<'a>), TextError> {
-        content(alloc, piece, place)
-    }
 }

@@ -3,7 +3,7 @@ use Rattle.std.proofs.lemmas.Result.{err_from_is_err_and}
 use Rattle.mh_base.specs.Limits.{longest_list}
 use Rattle.mh_text.specs.Gives.{Fails}
 use Rattle.mh_text.proofs.ListLemmas.{fields_fail, fields_done, fields_more, fields_over, fields_over_fail}
-use Rattle.mh_text.proofs.object.fields.Goals as goal
+use Rattle.mh_text.proofs.field.fields.Goals as goal
 
 pub returns-in_err-member : goal.returns-in_err-member
 returns-in_err-member c =

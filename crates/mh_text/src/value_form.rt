@@ -1,0 +1,129 @@
+//! The forms of the values that fit a few tokens.
+ghost use Rattle.mh_text.specs.Reading.{reference as reference_lem, truth, integer, octets, event_data, content_name as content_name_lem, content as content_lem};
+
+use crate::TextError;
+use crate::form::Form;
+use crate::place::{Piece, Place};
+use crate::value::{content, content_name, data_of, integer_of, octets_of, reference, truth_of};
+use mh_base::Octets;
+use mh_group::{Content, EventData, Ref, WrittenName};
+use std::alloc::Global;
+
+/// A truth value.
+pub(crate) struct Truth;
+
+impl Form for Truth {
+    type Value = bool;
+
+    ghost reading = { truth };
+
+    fn read<'a>(
+        _alloc: Global,
+        piece: &Piece<'_>,
+        place: Place<'a>,
+    ) -> Result<(bool, Place<'a>), TextError> {
+        Ok((truth_of(piece)?, place))
+    }
+}
+
+/// An integer.
+pub(crate) struct Integer;
+
+impl Form for Integer {
+    type Value = i32;
+
+    ghost reading = { integer };
+
+    fn read<'a>(
+        _alloc: Global,
+        piece: &Piece<'_>,
+        place: Place<'a>,
+    ) -> Result<(i32, Place<'a>), TextError> {
+        Ok((integer_of(piece)?, place))
+    }
+}
+
+/// Octets in a string or a quoted string.
+pub(crate) struct OctetText;
+
+impl Form for OctetText {
+    type Value = Octets;
+
+    ghost reading = { octets };
+
+    fn read<'a>(
+        alloc: Global,
+        piece: &Piece<'_>,
+        place: Place<'a>,
+    ) -> Result<(Octets, Place<'a>), TextError> {
+        Ok((octets_of(alloc, piece)?, place))
+    }
+}
+
+/// The data of an event.
+pub(crate) struct Data;
+
+impl Form for Data {
+    type Value = EventData;
+
+    ghost reading = { event_data };
+
+    fn read<'a>(
+        _alloc: Global,
+        piece: &Piece<'_>,
+        place: Place<'a>,
+    ) -> Result<(EventData, Place<'a>), TextError> {
+        Ok((data_of(piece)?, place))
+    }
+}
+
+/// A reference.
+pub(crate) struct AnyReference;
+
+impl Form for AnyReference {
+    type Value = Ref;
+
+    ghost reading = { reference_lem };
+
+    fn read<'a>(
+        alloc: Global,
+        piece: &Piece<'_>,
+        place: Place<'a>,
+    ) -> Result<(Ref, Place<'a>), TextError> {
+        reference(alloc, piece, place)
+    }
+}
+
+/// The name of a content file, behind its keyword.
+pub(crate) struct ContentName;
+
+impl Form for ContentName {
+    type Value = WrittenName;
+
+    ghost reading = { content_name_lem };
+
+    fn read<'a>(
+        alloc: Global,
+        piece: &Piece<'_>,
+        place: Place<'a>,
+    ) -> Result<(WrittenName, Place<'a>), TextError> {
+        content_name(alloc, piece, place)
+    }
+}
+
+/// Content: octets, or the name of a content file.
+pub(crate) struct AnyContent;
+
+impl Form for AnyContent {
+    type Value = Content;
+
+    ghost reading = { content_lem };
+
+    fn read<'a>(
+        alloc: Global,
+        piece: &Piece<'_>,
+        place: Place<'a>,
+    ) -> Result<(Content, Place<'a>), TextError> {
+        content(alloc, piece, place)
+    }
+}
