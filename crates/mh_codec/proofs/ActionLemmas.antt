@@ -1,6 +1,7 @@
 -- Actions and their parameters: what was read is spelled so, and what is spelled so is read.
 use Rattle.std.proofs.Common.{◌≡◌, ℕ, ◌+◌, ◌<◌, ◌^◌, ◌⊎◌, inl, inr, Bool, true, false, ◌&&◌, ◌==◌, nat_le, if◌then◌else◌, List, [], ◌∷◌, ◌++◌, length, Some, Result, Ok, refl, ap, sym, ◌∙◌, subst, arith, pos, append-nil, append_assoc}
 use Rattle.std.specs.List.{list_all}
+use Rattle.std.proofs.lemmas.Bool.{and_parts, and_from}
 use Rattle.mh_base.specs.Event.{number_of}
 use Rattle.mh_base.specs.declared.value.Kind.{Kind as ValueKind}
 use Rattle.mh_base.specs.declared.value.Kind.TheVariants as value_kind
@@ -32,7 +33,7 @@ use Rattle.mh_codec.specs.Gives.{Refusal}
 use Rattle.mh_codec.specs.Reading.{taken, ended, only, own_at, some_at, truth_at, integer_at, octets_at, event_at, content_name_at, content_at, data_at, reference_at, generic_at, list_at, value_at, typed_at, parameter_at, parameters, action_at}
 use Rattle.mh_codec.proofs.ElementLemmas.{written, in_parts, last_part, Good, same_element, same_number, find_holds, taken_found, good_found, taken_given, nothing_left, ended_given}
 use Rattle.mh_codec.proofs.ValueLemmas.{own_numbered, own_written, some_ok, event_read, event_written}
-use Rattle.mh_codec.proofs.ReferenceLemmas.{IsOne, Reads, and_true, both_true, same_all, spelled_as, only_read, only_written, integer_one, reference_one, reference_read, reference_written, truth_reads, truth_plain, integer_reads, integer_plain, octets_reads, octets_plain, content_name_reads, content_name_plain, content_reads, content_plain, data_reads, data_plain, reference_reads, reference_plain, generic_reads}
+use Rattle.mh_codec.proofs.ReferenceLemmas.{IsOne, Reads, same_all, spelled_as, only_read, only_written, integer_one, reference_one, reference_read, reference_written, truth_reads, truth_plain, integer_reads, integer_plain, octets_reads, octets_plain, content_name_reads, content_name_plain, content_reads, content_plain, data_reads, data_plain, reference_reads, reference_plain, generic_reads}
 use Rattle.mh_codec.proofs.MemberLemmas.{some_left, list_reads}
 
 -- values that are written directly or are held by variables
@@ -266,7 +267,7 @@ more_found optional n ns done left y bytes e further =
       all = more.all ∙ append_assoc done (p.value ∷ []) more.new;
       is = in_parts left.bytes (written a.value.0) a.value.1.bytes (parameter_value p.value) (several parameter_value more.new ++ y.1.bytes) f.written r.0 more.is
           ∙ sym (append_assoc (parameter_value p.value) (several parameter_value more.new) y.1.bytes);
-      good = both_true (is_parameter p.value) (list_all is_parameter more.new) r.1 more.good;
+      good = and_from (is_parameter p.value) (list_all is_parameter more.new) r.1 more.good;
       bytes = more.bytes;
     }
 
@@ -289,8 +290,8 @@ parameters_given optional [] done [] left fits good is = record { rest = left; t
 parameters_given optional [] done (p ∷ ps) left fits good is = absurd cc
 parameters_given optional (n ∷ ns) done [] left fits good is = record { rest = left; takes = rw (is, fits, append-nil done) refl; behind = is }
 parameters_given optional (n ∷ ns) done (p ∷ ps) left fits good is =
-    let goods = and_true (is_parameter p) (list_all is_parameter ps) good in
-    let fit = and_true (fits_parameter n p) (fits_parameters optional ns ps) fits in
+    let goods = and_parts (is_parameter p) (list_all is_parameter ps) good in
+    let fit = and_parts (fits_parameter n p) (fits_parameters optional ns ps) fits in
     let one = parameter_one p goods.0 in
     let stands : left.bytes ≡ element one.tag one.contents ++ several parameter_value ps = is ∙ ap (λ (bs : List ℕ). bs ++ several parameter_value ps) one.is in
     let g = taken_given left one.tag one.contents (several parameter_value ps) one.small stands in
@@ -339,14 +340,14 @@ action_read e x good is =
     let inner = in_parts e.contents.bytes (written a.value.0) a.value.1.bytes (generic reference target.value) (several parameter_value given.value.0) f.written t.0 rest in
     subst (λ (y : Action). (written e ≡ action y) × (is_action y ≡ true)) (ok_same end.behind) (
       spelled_as e (own (100 + action_number called.value)) (generic reference target.value ++ several parameter_value given.value.0) tag inner,
-      both_true (is_generic is_reference target.value) (list_all is_parameter given.value.0) t.1 (same_all is_parameter p.new given.value.0 p.all p.good),
+      and_from (is_generic is_reference target.value) (list_all is_parameter given.value.0) t.1 (same_all is_parameter p.new given.value.0 p.all p.good),
     )
 
 pub action_written : (e : Element) (x : Action) → e.tag.number < 2 ^ 16 → fits_and_is x ≡ true → written e ≡ action x → action_at e ≡ Ok x
 unfolding action_at action
 action_written e x small good is =
-    let fit = and_true (fits_action x) (is_action x) good in
-    let goods = and_true (is_generic is_reference x.target) (list_all is_parameter x.parameters) fit.1 in
+    let fit = and_parts (fits_action x) (is_action x) good in
+    let goods = and_parts (is_generic is_reference x.target) (list_all is_parameter x.parameters) fit.1 in
     let called = action_named x.name in
     let same = same_element e.tag (own (100 + action_number x.name)) e.contents.bytes (generic reference x.target ++ several parameter_value x.parameters) small called.1 is in
     let one = references.one x.target goods.0 in

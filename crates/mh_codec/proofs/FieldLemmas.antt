@@ -2,6 +2,7 @@
 use Rattle.std.proofs.Common.{◌≡◌, ℕ, zero, suc, ◌+◌, ◌<◌, ◌≤◌, ◌^◌, Bool, true, false, ◌==◌, nat_lt, if◌then◌else◌, List, [], ◌∷◌, ◌++◌, length, Option, Some, None, IfSome, Result, Ok, refl, ap, sym, ◌∙◌, subst, arith, append-nil, append_assoc}
 use Rattle.std.specs.List.{list_all}
 use Rattle.std.proofs.lemmas.Bool.Decides.{nat_tests}
+use Rattle.std.proofs.lemmas.Bool.{and_parts, and_from}
 use Rattle.mh_base.specs.Reading.{Rest, ◌>>=◌}
 use Rattle.mh_base.proofs.ReadingLemmas.{went, if_ok, ok_same}
 use Rattle.mh_der.specs.Element.{element}
@@ -18,6 +19,7 @@ use Rattle.mh_group.specs.Fit.{fits, rises_above, takes_each, fits_each}
 use Rattle.mh_group.specs.Holdable.{is_setting, has_settings}
 use Rattle.mh_group.proofs.ShapeLemmas.{items_shape, items_unfit}
 use Rattle.mh_group.specs.Table.{attribute_number, shape_of, takes, is_items_shape}
+use Rattle.mh_group.proofs.NumberLemmas.{number_small}
 use Rattle.mh_codec.specs.declared.codec_error.Why.TheVariants.{UnknownTag, WrongOrder}
 use Rattle.mh_codec.specs.Tags.{attribute_with}
 use Rattle.mh_codec.specs.Spelling.{own, several, value, field}
@@ -25,7 +27,7 @@ use Rattle.mh_codec.specs.Gives.{Refusal}
 use Rattle.mh_codec.specs.Reading.{taken, own_at, admitted, some_at, setting, attribute_at, next_field, gathered, fields}
 use Rattle.mh_codec.proofs.ElementLemmas.{written, Good, same_number, find_holds, taken_found, good_found, taken_given}
 use Rattle.mh_codec.proofs.ValueLemmas.{own_numbered, own_written, some_ok}
-use Rattle.mh_codec.proofs.ReferenceLemmas.{and_true, both_true, spelled_as}
+use Rattle.mh_codec.proofs.ReferenceLemmas.{spelled_as}
 use Rattle.mh_codec.proofs.MemberLemmas.{empty_is, some_left}
 use Rattle.mh_codec.proofs.FitLemmas.{setting_fits}
 use Rattle.mh_codec.proofs.SettingLemmas.{setting_found, setting_given}
@@ -36,10 +38,10 @@ attribute_numbered : (n : ℕ) (a : Attribute) → attribute_with n ≡ Some a �
 unfolding attribute_with
 attribute_numbered n a h = same_number (attribute_number a) n (find_holds (λ (b : Attribute). attribute_number b == n) attributes a h)
 
-pub attribute_named : (a : Attribute) → (attribute_with (attribute_number a) ≡ Some a) × (attribute_number a ≤ 38)
+attribute_named : (a : Attribute) → attribute_with (attribute_number a) ≡ Some a
 unfolding attribute_with
-attribute_named attribute.Items = (refl, omega arith)
-attribute_named _ = (refl, omega arith)
+attribute_named attribute.Items = refl
+attribute_named _ = refl
 
 pub no_items_field : (c : Class) (f : Field) → fits (shape_of c f.attribute) f.setting ≡ true → is_items_shape (shape_of c f.attribute) ≡ false
 no_items_field c f h = items_unfit (shape_of c f.attribute) f.setting h
@@ -63,10 +65,10 @@ none_fit c last = record { take = refl; fit = refl; good = refl; rising = refl }
 
 pub more_fit : (c : Class) (last : ℕ) (f : Field) (fs : List Field) → FitField c last f → FitFields c (attribute_number f.attribute) fs → FitFields c last (f ∷ fs)
 more_fit c last f fs one many = record {
-  take = both_true (takes c f.attribute) (takes_each c fs) one.takes_it many.take;
-  fit = both_true (fits (shape_of c f.attribute) f.setting) (fits_each c fs) one.fit many.fit;
-  good = both_true (is_setting f.setting) (has_settings fs) one.good many.good;
-  rising = both_true (nat_lt last (attribute_number f.attribute)) (rises_above (attribute_number f.attribute) fs) one.behind many.rising;
+  take = and_from (takes c f.attribute) (takes_each c fs) one.takes_it many.take;
+  fit = and_from (fits (shape_of c f.attribute) f.setting) (fits_each c fs) one.fit many.fit;
+  good = and_from (is_setting f.setting) (has_settings fs) one.good many.good;
+  rising = and_from (nat_lt last (attribute_number f.attribute)) (rises_above (attribute_number f.attribute) fs) one.behind many.rising;
 }
 
 -- an attribute that was read
@@ -95,7 +97,7 @@ attribute_read c last e a is =
 
 attribute_given : (c : Class) (last : ℕ) (e : Element) (a : Attribute) → e.tag ≡ own (attribute_number a) → takes c a ≡ true → nat_lt last (attribute_number a) ≡ true → attribute_at c last e ≡ Ok a
 unfolding attribute_at
-attribute_given c last e a tag t l = rw (own_written e (attribute_number a) tag, (attribute_named a).0, t, l) refl
+attribute_given c last e a tag t l = rw (own_written e (attribute_number a) tag, attribute_named a, t, l) refl
 
 -- the element of the items, met behind fields with smaller numbers
 pub record ItemsMet (c : Class) (last : ℕ) (e : Element) (rest : Rest) : Type 0 where
@@ -214,7 +216,7 @@ ends_more c last left rest f new (Some x) end is l (stands, met, below) = (
     takes_them = met.takes_them;
     behind = still_below last (attribute_number f.attribute) l met.behind;
   },
-  both_true (nat_lt (attribute_number f.attribute) 3) (below_items new) met.behind below,
+  and_from (nat_lt (attribute_number f.attribute) 3) (below_items new) met.behind below,
 )
 
 fields_step : (c : Class) (n last : ℕ) (done : List Field) (left : Rest) (o : Option Field) (i : Option Element) (rest : Rest) (y : List Field × Option Element × Rest) → IsNext c last left o i rest
@@ -249,7 +251,7 @@ record NextGiven (c : Class) (last : ℕ) (left : Rest) (f : Field) (r : List �
   pub behind : rest.bytes ≡ r
 
 small_number : (a : Attribute) → attribute_number a < 2 ^ 16
-small_number a = let few = (attribute_named a).1 in omega arith
+small_number a = let few = number_small a in omega arith
 
 next_given : (c : Class) (last : ℕ) (left : Rest) (f : Field) (r : List ℕ) → FitField c last f → left.bytes ≡ field f ++ r → NextGiven c last left f r
 unfolding next_field field
@@ -262,10 +264,10 @@ next_given c last left f r fit is =
 
 pub fit_first : (c : Class) (last : ℕ) (f : Field) (fs : List Field) → FitFields c last (f ∷ fs) → FitField c last f × FitFields c (attribute_number f.attribute) fs
 fit_first c last f fs h =
-    let t = and_true (takes c f.attribute) (takes_each c fs) h.take in
-    let v = and_true (fits (shape_of c f.attribute) f.setting) (fits_each c fs) h.fit in
-    let g = and_true (is_setting f.setting) (has_settings fs) h.good in
-    let r = and_true (nat_lt last (attribute_number f.attribute)) (rises_above (attribute_number f.attribute) fs) h.rising in (
+    let t = and_parts (takes c f.attribute) (takes_each c fs) h.take in
+    let v = and_parts (fits (shape_of c f.attribute) f.setting) (fits_each c fs) h.fit in
+    let g = and_parts (is_setting f.setting) (has_settings fs) h.good in
+    let r = and_parts (nat_lt last (attribute_number f.attribute)) (rises_above (attribute_number f.attribute) fs) h.rising in (
       record { takes_it = t.0; fit = v.0; good = g.0; behind = r.0 },
       record { take = t.1; fit = v.1; good = g.1; rising = r.1 },
     )
@@ -324,7 +326,7 @@ to_items c (suc n) last done [] left inner r fit few them low below is =
     }
 to_items c (suc n) last done (f ∷ fs) left inner r fit few them low below is =
     let parts = fit_first c last f fs fit in
-    let b = and_true (nat_lt (attribute_number f.attribute) 3) (below_items fs) below in
+    let b = and_parts (nat_lt (attribute_number f.attribute) 3) (below_items fs) below in
     let g = next_given c last left f (several field fs ++ (element (own 3) inner ++ r)) parts.0 (is ∙ append_assoc (field f) (several field fs) _) in
     let more = to_items c n (attribute_number f.attribute) (done ++ f ∷ []) fs g.rest inner r parts.1 (omega arith) them b.0 b.1 g.behind in
     record {
@@ -340,7 +342,7 @@ to_items c (suc n) last done (f ∷ fs) left inner r fit few them low below is =
 pub few_fields : (last : ℕ) (fs : List Field) → last ≤ 38 → rises_above last fs ≡ true → length fs + last ≤ 38
 few_fields last [] h r = omega arith
 few_fields last (f ∷ fs) h r =
-    let parts = and_true (nat_lt last (attribute_number f.attribute)) (rises_above (attribute_number f.attribute) fs) r in
-    let more = few_fields (attribute_number f.attribute) fs (attribute_named f.attribute).1 parts.1 in
+    let parts = and_parts (nat_lt last (attribute_number f.attribute)) (rises_above (attribute_number f.attribute) fs) r in
+    let more = few_fields (attribute_number f.attribute) fs (number_small f.attribute) parts.1 in
     let above : last < attribute_number f.attribute = above_is last (attribute_number f.attribute) parts.0 in
     omega arith

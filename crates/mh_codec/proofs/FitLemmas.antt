@@ -5,6 +5,7 @@ use Rattle.std.specs.Ordering.{int_eq}
 use Rattle.std.specs.List.{list_all}
 use Rattle.std.proofs.lemmas.Bool.Decides.{nat_tests}
 use Rattle.std.proofs.lemmas.List.Folds.{list_all-append}
+use Rattle.std.proofs.lemmas.Bool.{and_parts, and_from}
 use Rattle.mh_base.specs.Reading.{Rest, ◌>>=◌}
 use Rattle.mh_base.specs.Limits.{longest_list}
 use Rattle.mh_base.proofs.ReadingLemmas.{went, if_ok, ok_same}
@@ -27,7 +28,6 @@ use Rattle.mh_codec.specs.Tags.{action_with}
 use Rattle.mh_codec.specs.Gives.{Refusal}
 use Rattle.mh_codec.specs.Reading.{taken, ended, only, own_at, some_at, sequence_at, truth_at, integer_at, octets_at, natural_at, length_at, fixed_at, event_at, justification_at, colour_at, reference_at, content_name_at, content_at, data_at, generic_at, exhausted, next_member, continued, listed, list_at, typed_at, parameter_at, parameters, action_at, effect_at, row_at, member_in, member_at, list_item_in, list_item_at, position_at, next_scene_at, part, pair, single, setting}
 use Rattle.mh_codec.proofs.ValueLemmas.{natural_read}
-use Rattle.mh_codec.proofs.ReferenceLemmas.{and_true, both_true}
 use Rattle.mh_codec.proofs.PairLemmas.{fits_part}
 
 -- what is made of a value that was read fits, where what is made of each such value fits
@@ -60,7 +60,7 @@ module _ {A : Type 0} {member : Element → Result A Refusal} {is_fit : A → Bo
       → ((x : A) → list_all is_fit (done ++ x ∷ []) ≡ true → listed member n (done ++ x ∷ []) rest ≡ Ok xs → Members n (done ++ x ∷ []) xs) → Members (suc n) done xs
   go_on n done None rest xs fit next e more = no_members (suc n) done xs fit (ok_same e)
   go_on n done (Some x) rest xs fit next e more =
-      let one : list_all is_fit (x ∷ []) ≡ true = both_true (is_fit x) true next refl in
+      let one : list_all is_fit (x ∷ []) ≡ true = and_from (is_fit x) true next refl in
       let m = more x (rw (list_all-append is_fit done (x ∷ []), fit, one) refl) e in
       record { fit = m.fit; few = omega (arith, m.few, length-append done (x ∷ [])) }
 
@@ -120,7 +120,7 @@ parameters_step optional n ns done left false y few e further =
     record {
       new = p.value ∷ more.new;
       all = more.all ∙ append_assoc done (p.value ∷ []) more.new;
-      fit = both_true (fits_parameter n p.value) (fits_parameters optional ns more.new) (parameter_fits n a.value.0 p.value p.first) more.fit;
+      fit = and_from (fits_parameter n p.value) (fits_parameters optional ns more.new) (parameter_fits n a.value.0 p.value p.first) more.fit;
     }
 
 parameters_fit : (optional : ℕ) (ns : List Need) (done : List Parameter) (left : Rest) (y : List Parameter × Rest) → parameters optional ns done left ≡ Ok y → Parameters optional ns done y.0
@@ -128,7 +128,7 @@ parameters_fit optional [] done left y e =
     subst (λ (z : List Parameter × Rest). Parameters optional [] done z.0) (ok_same e) (no_parameters optional [] done (none_over optional))
 parameters_fit optional (n ∷ ns) done left y e =
     parameters_step optional n ns done left (is_empty left.bytes && nat_le (length (n ∷ ns)) optional) y
-    (λ h. (and_true (is_empty left.bytes) (nat_le (length (n ∷ ns)) optional) h).1) e (λ p rest more. parameters_fit optional ns (done ++ p ∷ []) rest y more)
+    (λ h. (and_parts (is_empty left.bytes) (nat_le (length (n ∷ ns)) optional) h).1) e (λ p rest more. parameters_fit optional ns (done ++ p ∷ []) rest y more)
 
 action_fits : (e : Element) (x : Action) → action_at e ≡ Ok x → fits_action x ≡ true
 unfolding action_at
@@ -182,7 +182,7 @@ few_items n h = grind (arith, nat_tests)
 items_fit : (e : Element) (ms : List Member) → list_at list_item_at 256 e ≡ Ok ms → (nat_le (length ms) 256 && list_all is_list_item ms) ≡ true
 items_fit e ms is =
     let them = list_fits item_fits 256 e ms is in
-    both_true (nat_le (length ms) 256) (list_all is_list_item ms) (few_items (length ms) them.1) them.0
+    and_from (nat_le (length ms) 256) (list_all is_list_item ms) (few_items (length ms) them.1) them.0
 
 -- values of one element
 
@@ -250,7 +250,7 @@ pair_fits s left p is =
     let end = went (ended b.value.1) _ p y.behind in
     let first = part_fits s (pos 720) a.value.0 x.value x.first in
     let second = part_fits s (pos 576) b.value.0 y.value y.first in
-    subst (PairFits s) (ok_same end.behind) (both_true (fits_part s (pos 720) x.value) (fits_part s (pos 576) y.value) first second)
+    subst (PairFits s) (ok_same end.behind) (and_from (fits_part s (pos 720) x.value) (fits_part s (pos 576) y.value) first second)
 
 -- a value of this shape
 

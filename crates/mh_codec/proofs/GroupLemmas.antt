@@ -4,6 +4,7 @@ use Rattle.std.proofs.Common.{◌≡◌, ℕ, suc, ◌+◌, ◌<◌, ◌^◌, Bo
 use Rattle.std.specs.List.{list_all}
 use Rattle.std.proofs.lemmas.Bool.Decides.{nat_tests}
 use Rattle.std.proofs.lemmas.List.Folds.{list_all-append}
+use Rattle.std.proofs.lemmas.Bool.{and_parts, and_from}
 use Rattle.mh_base.specs.Path.{is_name_byte}
 use Rattle.mh_base.specs.Reading.{Rest, is_same}
 use Rattle.mh_base.specs.Limits.{longest_list}
@@ -30,7 +31,7 @@ use Rattle.mh_codec.specs.Spelling.{own, natural, octet_string, several, list, n
 use Rattle.mh_codec.specs.Reading.{taken, only, sequence_at, own_at, some_at, named_in, ingredient_number_at, fields, complete, class_at, list_at, ingredient_at, items_at, with_items, body, identifier_in, group_at}
 use Rattle.mh_codec.proofs.ElementLemmas.{written, in_parts, Good, same_element, same_number, find_holds, taken_found, good_found, taken_given}
 use Rattle.mh_codec.proofs.ValueLemmas.{own_numbered, own_written, some_ok, sequence_read, sequence_written, number_read, number_written, ingredient_number_read, ingredient_number_written}
-use Rattle.mh_codec.proofs.ReferenceLemmas.{IsOne, Reads, and_true, both_true, spelled_as, integer_one, only_read, only_written, Named, named_read, named_written}
+use Rattle.mh_codec.proofs.ReferenceLemmas.{IsOne, Reads, spelled_as, integer_one, only_read, only_written, Named, named_read, named_written}
 use Rattle.mh_codec.proofs.MemberLemmas.{list_reads}
 use Rattle.mh_codec.proofs.RowLemmas.{list_fit}
 use Rattle.mh_codec.proofs.FieldLemmas.{Ends, fields_found, FitField, FitFields, none_fit, more_fit, fit_first, no_items_field, fields_given, to_items, below_items, few_fields}
@@ -152,12 +153,12 @@ ingredient_read e i good is =
 ingredient_written : (e : Element) (i : Ingredient) → e.tag.number < 2 ^ 16 → fits_ingredient i ≡ true → written e ≡ ingredient i → ingredient_at e ≡ Ok i
 unfolding ingredient_at ingredient
 ingredient_written e i small fit is =
-    let parts = and_true (is_none (ingredient_misfit i)) (is_ingredient i) fit in
+    let parts = and_parts (is_none (ingredient_misfit i)) (is_ingredient i) fit in
     let none = none_is (ingredient_misfit i) parts.0 in
     let a = if_no_none (is_group_class i.class) _ _ none in
     let b = if_no_none (i.number == 0) _ _ a.1 in
     let right = are_right i.class i.fields b.1 in
-    let goods = and_true (is_number i.number) (has_settings i.fields) parts.1 in
+    let goods = and_parts (is_number i.number) (has_settings i.fields) parts.1 in
     let same = same_element e.tag (own (class_number i.class)) e.contents.bytes (natural i.number ++ several field i.fields) small (class_named i.class).1 is in
     let one = integer_one (pos i.number) in
     let g = taken_given e.contents one.tag one.contents (several field i.fields) one.small (same.inner ∙ ap (λ (bs : List ℕ). bs ++ several field i.fields) one.is) in
@@ -210,11 +211,11 @@ cut_is : (before after : List Field) → below_items before ≡ true → rises_a
     → (take (before_items (before ++ after)) (before ++ after) ≡ before) × (drop (before_items (before ++ after)) (before ++ after) ≡ after)
 cut_is [] [] below rises = (refl, refl)
 cut_is [] (f ∷ fs) below rises =
-    let parts = and_true (nat_lt 3 (attribute_number f.attribute)) (rises_above (attribute_number f.attribute) fs) rises in
+    let parts = and_parts (nat_lt 3 (attribute_number f.attribute)) (rises_above (attribute_number f.attribute) fs) rises in
     let none = not_before (attribute_number f.attribute) parts.0 in
     (rw none refl, rw none refl)
 cut_is (b ∷ bs) after below rises =
-    let parts = and_true (nat_lt (attribute_number b.attribute) 3) (below_items bs) below in
+    let parts = and_parts (nat_lt (attribute_number b.attribute) 3) (below_items bs) below in
     let more = cut_is bs after parts.1 rises in
     let k = before_items (bs ++ after) in (
       rw parts.0 (ap (λ (n : ℕ). take n (b ∷ (bs ++ after))) (one_more k) ∙ ap (λ (fs : List Field). b ∷ fs) more.0),
@@ -240,7 +241,7 @@ parted_first : (c : Class) (last : ℕ) (f : Field) (fs : List Field) (b : Bool)
 parted_first c last f fs true h one many more =
     subst (λ (n : ℕ). PartedAt c last n (f ∷ fs)) (sym (one_more (before_items fs))) (record {
       before_fit = more_fit c last f (take (before_items fs) fs) one more.before_fit;
-      below = both_true (nat_lt (attribute_number f.attribute) 3) (below_items (take (before_items fs) fs)) h more.below;
+      below = and_from (nat_lt (attribute_number f.attribute) 3) (below_items (take (before_items fs) fs)) h more.below;
       after_fit = more.after_fit;
     })
 parted_first c last f fs false h one many more =
@@ -264,12 +265,12 @@ rises_from last n h i = grind (arith, nat_tests)
 rises_both : (last : ℕ) (before after : List Field) → nat_lt last 3 ≡ true → rises_above last before ≡ true → below_items before ≡ true → rises_above 3 after ≡ true → rises_above last (before ++ after) ≡ true
 rises_both last [] [] low rises below rest = refl
 rises_both last [] (f ∷ fs) low rises below rest =
-    let parts = and_true (nat_lt 3 (attribute_number f.attribute)) (rises_above (attribute_number f.attribute) fs) rest in
-    both_true (nat_lt last (attribute_number f.attribute)) _ (rises_from last (attribute_number f.attribute) low parts.0) parts.1
+    let parts = and_parts (nat_lt 3 (attribute_number f.attribute)) (rises_above (attribute_number f.attribute) fs) rest in
+    and_from (nat_lt last (attribute_number f.attribute)) _ (rises_from last (attribute_number f.attribute) low parts.0) parts.1
 rises_both last (b ∷ bs) after low rises below rest =
-    let parts = and_true (nat_lt last (attribute_number b.attribute)) (rises_above (attribute_number b.attribute) bs) rises in
-    let lower = and_true (nat_lt (attribute_number b.attribute) 3) (below_items bs) below in
-    both_true (nat_lt last (attribute_number b.attribute)) _ parts.0 (rises_both (attribute_number b.attribute) bs after lower.0 parts.1 lower.1 rest)
+    let parts = and_parts (nat_lt last (attribute_number b.attribute)) (rises_above (attribute_number b.attribute) bs) rises in
+    let lower = and_parts (nat_lt (attribute_number b.attribute) 3) (below_items bs) below in
+    and_from (nat_lt last (attribute_number b.attribute)) _ parts.0 (rises_both (attribute_number b.attribute) bs after lower.0 parts.1 lower.1 rest)
 
 all_both : (p : Field → Bool) (fs gs : List Field) → list_all p fs ≡ true → list_all p gs ≡ true → list_all p (fs ++ gs) ≡ true
 all_both p fs gs h i = rw (list_all-append p fs gs, h, i) refl
@@ -352,7 +353,7 @@ identifier_read left name bytes is =
 identifier_written : (left : Rest) (name : List ℕ) → list_all is_name_byte name ≡ true → left.bytes ≡ octet_string name ++ natural 0 → identifier_in left ≡ Ok name
 unfolding identifier_in
 identifier_written left name good e =
-    let x = named_written left name 0 (both_true (list_all is_name_byte name) true good refl) e in
+    let x = named_written left name 0 (and_from (list_all is_name_byte name) true good refl) e in
     rw x.takes refl
 
 -- what the ingredients are, where each of them fits
@@ -363,10 +364,10 @@ record AllFit (is : List Ingredient) : Type 0 where
 all_fit : (is : List Ingredient) → list_all fits_ingredient is ≡ true → AllFit is
 all_fit [] h = record { none_wrong = refl; good = refl }
 all_fit (i ∷ is) h =
-    let parts = and_true (fits_ingredient i) (list_all fits_ingredient is) h in
-    let one = and_true (is_none (ingredient_misfit i)) (is_ingredient i) parts.0 in
+    let parts = and_parts (fits_ingredient i) (list_all fits_ingredient is) h in
+    let one = and_parts (is_none (ingredient_misfit i)) (is_ingredient i) parts.0 in
     let more = all_fit is parts.1 in
-    record { none_wrong = rw (none_is (ingredient_misfit i) one.0, more.none_wrong) refl; good = both_true (is_ingredient i) (list_all is_ingredient is) one.1 more.good }
+    record { none_wrong = rw (none_is (ingredient_misfit i) one.0, more.none_wrong) refl; good = and_from (is_ingredient i) (list_all is_ingredient is) one.1 more.good }
 
 -- the fields and the items of a group, and nothing behind them
 record WholeBody (c : Class) (left : Rest) (fs : List Field) (its : Option (List Ingredient)) : Type 0 where
@@ -390,14 +391,14 @@ whole_body : (c : Class) (left : Rest) (x : List Field × Option (List Ingredien
 whole_body c left x e fs bytes read done =
     let b = body_read c left x bytes read in
     let all = complete_is c x.0 e fs done in
-    let few = and_true (nat_le (length (written_items x.1)) longest_list) (list_all fits_ingredient (written_items x.1)) b.2 in
+    let few = and_parts (nat_le (length (written_items x.1)) longest_list) (list_all fits_ingredient (written_items x.1)) b.2 in
     let them = all_fit (written_items x.1) few.1 in
     record {
       is = b.0 ∙ ap (λ (gs : List Field). body_octets x.1 gs) all.0;
       fit = subst (FitFields c 0) all.0 b.1;
       required = all.1;
       none_wrong = them.none_wrong;
-      good = both_true (nat_le (length (written_items x.1)) longest_list) (list_all is_ingredient (written_items x.1)) few.0 them.good;
+      good = and_from (nat_le (length (written_items x.1)) longest_list) (list_all is_ingredient (written_items x.1)) few.0 them.good;
     }
 
 abbrev GroupIs : Element → Written → Type 0
@@ -422,7 +423,7 @@ group_read e g good is =
     let contents = in_parts e.contents.bytes (written a.value.0) a.value.1.bytes (named name.value 0) (body_octets x.value.1 d.value) f.written identity b.is in
     ok_holds (GroupIs e) (record { class = c.value; identifier = name.value; fields = d.value; items = x.value.1 }) g d.behind (
       spelled_as e (own (class_number c.value)) (named name.value 0 ++ body_octets x.value.1 d.value) called.0 contents,
-      group_held c.value name.value a.value.1 d.value x.value.1 (and_true (list_all is_name_byte name.value) true i.1).0 b,
+      group_held c.value name.value a.value.1 d.value x.value.1 (and_parts (list_all is_name_byte name.value) true i.1).0 b,
       group_fits c.value name.value a.value.1 d.value x.value.1 called.1 b,
     )
 
@@ -430,7 +431,7 @@ none_misfit : (is : List Ingredient) → ingredients_misfit is ≡ None → list
 none_misfit [] h = refl
 none_misfit (i ∷ is) h =
     let parts = or_none (ingredient_misfit i) (ingredients_misfit is) h in
-    both_true (is_none (ingredient_misfit i)) (list_all (λ i. is_none (ingredient_misfit i)) is) (is_none_of (ingredient_misfit i) parts.0) (none_misfit is parts.1)
+    and_from (is_none (ingredient_misfit i)) (list_all (λ i. is_none (ingredient_misfit i)) is) (is_none_of (ingredient_misfit i) parts.0) (none_misfit is parts.1)
 
 same_true : (b : Bool) → b ≡ true → is_same true b ≡ true
 same_true b h = h
@@ -439,8 +440,8 @@ pub group_written : (e : Element) (g : Written) → e.tag.number < 2 ^ 16 → is
 unfolding group_at group named is_holdable
 group_written e g small fit good is =
     let right = is_right g fit in
-    let goods = and_true (list_all is_name_byte g.identifier) _ good in
-    let rest = and_true (has_settings g.fields) (is_list is_ingredient (items_of g)) goods.1 in
+    let goods = and_parts (list_all is_name_byte g.identifier) _ good in
+    let rest = and_parts (has_settings g.fields) (is_list is_ingredient (items_of g)) goods.1 in
     let them = list_fit (λ i. is_none (ingredient_misfit i)) is_ingredient (items_of g) (none_misfit (items_of g) right.items) rest.1 in
     let same = same_element e.tag (own (class_number g.class)) e.contents.bytes (named g.identifier 0 ++ body_octets g.items g.fields) small (class_named g.class).1 is in
     let a = taken_given e.contents sequence_tag (octet_string g.identifier ++ natural 0) (body_octets g.items g.fields) (omega arith) same.inner in

@@ -2,6 +2,7 @@
 use Rattle.std.proofs.Common.{◌≡◌, ℕ, zero, suc, ◌<◌, ◌≤◌, ◌^◌, Bool, true, false, nat_le, if◌then◌else◌, List, [], ◌∷◌, ◌++◌, length, Option, Some, None, Result, Ok, refl, ap, sym, ◌∙◌, subst, arith, append-nil, append_assoc, length-append}
 use Rattle.std.specs.List.{list_all}
 use Rattle.std.proofs.lemmas.Bool.Decides.{nat_tests}
+use Rattle.std.proofs.lemmas.Bool.{and_parts, and_from}
 use Rattle.mh_base.specs.Reading.{Rest, ◌>>=◌}
 use Rattle.mh_base.specs.Limits.{longest_list}
 use Rattle.mh_base.proofs.ReadingLemmas.{went, if_ok, ok_same}
@@ -20,7 +21,7 @@ use Rattle.mh_codec.specs.Gives.{Refusal}
 use Rattle.mh_codec.specs.Reading.{taken, sequence_at, exhausted, next_member, continued, listed, list_at}
 use Rattle.mh_codec.proofs.ElementLemmas.{written, Good, same_element, taken_found, good_found, taken_given}
 use Rattle.mh_codec.proofs.ValueLemmas.{sequence_read, sequence_written}
-use Rattle.mh_codec.proofs.ReferenceLemmas.{IsOne, Reads, and_true, both_true, spelled_as}
+use Rattle.mh_codec.proofs.ReferenceLemmas.{IsOne, Reads, spelled_as}
 
 pub empty_is : (bs : List ℕ) → is_empty bs ≡ true → bs ≡ []
 empty_is [] h = refl
@@ -72,7 +73,7 @@ module _ {A : Type 0} {member : Element → Result A Refusal} {spelling : A → 
         new = x ∷ more.new;
         all = more.all ∙ append_assoc done (x ∷ []) more.new;
         is = f.written ∙ ap (λ (bs : List ℕ). bs ++ rest.bytes) r.0 ∙ ap (λ (bs : List ℕ). spelling x ++ bs) more.is;
-        good = both_true (is_good x) (list_all is_good more.new) r.1 more.good;
+        good = and_from (is_good x) (list_all is_good more.new) r.1 more.good;
         few = let few = more.few in omega arith;
       }
 
@@ -110,7 +111,7 @@ module _ {A : Type 0} {member : Element → Result A Refusal} {spelling : A → 
       let m = members_found limit [] left xs bytes read in
       let less = m.few in (
         m.is ∙ ap (several spelling) (sym m.all),
-        subst (λ (ys : List A). is_list is_good ys ≡ true) (sym m.all) (both_true _ (list_all is_good m.new) (short_enough (length m.new) (omega arith)) m.good),
+        subst (λ (ys : List A). is_list is_good ys ≡ true) (sym m.all) (and_from _ (list_all is_good m.new) (short_enough (length m.new) (omega arith)) m.good),
       )
 
   -- a whole list
@@ -129,7 +130,7 @@ module _ {A : Type 0} {member : Element → Result A Refusal} {spelling : A → 
   members_given (suc n) done [] left good few is = rw is (ap Ok (sym (append-nil done)))
   members_given zero done (x ∷ xs) left good few is = absurd (omega arith)
   members_given (suc n) done (x ∷ xs) left good few is =
-      let parts = and_true (is_fit x) (list_all is_fit xs) good in
+      let parts = and_parts (is_fit x) (list_all is_fit xs) good in
       let one = reads.one x parts.0 in
       let stands : left.bytes ≡ element one.tag one.contents ++ several spelling xs = is ∙ ap (λ (bs : List ℕ). bs ++ several spelling xs) one.is in
       let g = taken_given left one.tag one.contents (several spelling xs) one.small stands in
@@ -153,7 +154,7 @@ module _ {A : Type 0} {member : Element → Result A Refusal} {spelling : A → 
 
   list_whole : (e : Element) (xs : List A) → e.tag.number < 2 ^ 16 → is_list is_fit xs ≡ true → written e ≡ list spelling xs → list_at member longest_list e ≡ Ok xs
   list_whole e xs small good is =
-      let parts = and_true (nat_le (length xs) longest_list) (list_all is_fit xs) good in
+      let parts = and_parts (nat_le (length xs) longest_list) (list_all is_fit xs) good in
       list_given longest_list e xs small (few_enough (length xs) parts.0) parts.1 is
 
   pub list_reads : Reads (list_at member longest_list) (list spelling) (is_list is_good) (is_list is_fit)

@@ -2,6 +2,7 @@
 use Rattle.std.proofs.Common.{◌≡◌, ℕ, ◌<◌, ◌^◌, Bool, true, false, ◌&&◌, List, [], ◌++◌, Ok, ℤ, pos, negsuc, int_lt, refl, ap, sym, ◌∙◌, subst, arith, append-nil}
 use Rattle.std.specs.Ordering.{int_eq}
 use Rattle.std.proofs.lemmas.Bool.Decides.{nat_tests}
+use Rattle.std.proofs.lemmas.Bool.{and_parts, and_from}
 use Rattle.mh_base.specs.Reading.{Rest}
 use Rattle.mh_base.proofs.ReadingLemmas.{went, if_ok, ok_same}
 use Rattle.mh_der.specs.Tags.{sequence_tag}
@@ -17,7 +18,7 @@ use Rattle.mh_codec.specs.Spelling.{integer, natural, position}
 use Rattle.mh_codec.specs.Reading.{taken, ended, integer_at, natural_at, fixed_at, sequence_at, position_at, part, pair}
 use Rattle.mh_codec.proofs.ElementLemmas.{written, in_parts, last_part, Good, same_element, taken_found, good_found, taken_given, nothing_left, ended_given}
 use Rattle.mh_codec.proofs.ValueLemmas.{sequence_read, sequence_written, integer_read, integer_written, natural_read, natural_written}
-use Rattle.mh_codec.proofs.ReferenceLemmas.{IsOne, Reads, and_true, both_true, spelled_as, integer_one}
+use Rattle.mh_codec.proofs.ReferenceLemmas.{IsOne, Reads, spelled_as, integer_one}
 
 -- one integer of a pair
 
@@ -56,7 +57,7 @@ pair_read s left p bytes is =
     let rest = last_part a.value.1.bytes (written b.value.0) b.value.1.bytes (integer y.value) g.written none second.0 in
     subst (IsPair left.bytes) (ok_same end.behind) (
       in_parts left.bytes (written a.value.0) a.value.1.bytes (integer x.value) (integer y.value) f.written first.0 rest,
-      both_true (is_integer x.value) (is_integer y.value) first.1 second.1,
+      and_from (is_integer x.value) (is_integer y.value) first.1 second.1,
     )
 
 not_negative : (x : ℤ) → is_natural x ≡ true → int_lt x (pos 0) ≡ false
@@ -84,8 +85,8 @@ part_given _ k e x small fit good is = integer_written e x small good is
 pub pair_given : (s : Shape) (left : Rest) (x y : ℤ) → (fits_part s (pos 720) x && fits_part s (pos 576) y) ≡ true → (is_integer x && is_integer y) ≡ true → left.bytes ≡ integer x ++ integer y → pair s left ≡ Ok (x, y)
 unfolding pair
 pair_given s left x y fit good is =
-    let fits = and_true (fits_part s (pos 720) x) (fits_part s (pos 576) y) fit in
-    let goods = and_true (is_integer x) (is_integer y) good in
+    let fits = and_parts (fits_part s (pos 720) x) (fits_part s (pos 576) y) fit in
+    let goods = and_parts (is_integer x) (is_integer y) good in
     let one = integer_one x in
     let two = integer_one y in
     let a = taken_given left one.tag one.contents (integer y) one.small (is ∙ ap (λ (bs : List ℕ). bs ++ integer y) one.is) in

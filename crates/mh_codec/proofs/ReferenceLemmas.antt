@@ -2,6 +2,7 @@
 -- and what is spelled so is read.
 use Rattle.std.proofs.Common.{◌≡◌, ℕ, ◌<◌, ◌^◌, Bool, true, false, ◌&&◌, List, [], ◌++◌, Result, Ok, ℤ, pos, refl, ap, sym, ◌∙◌, subst, arith, append-nil}
 use Rattle.std.specs.List.{list_all}
+use Rattle.std.proofs.lemmas.Bool.{and_parts, and_from}
 use Rattle.mh_base.specs.Path.{is_name_byte}
 use Rattle.mh_base.specs.Reading.{Rest}
 use Rattle.mh_base.proofs.ReadingLemmas.{went, ok_same}
@@ -108,13 +109,6 @@ data_reads = record {
   one = λ x good. data_one x;
 }
 
-pub and_true : (a b : Bool) → (a && b) ≡ true → (a ≡ true) × (b ≡ true)
-and_true true b h = (refl, h)
-and_true false b h = absurd cc
-
-pub both_true : (a b : Bool) → a ≡ true → b ≡ true → (a && b) ≡ true
-both_true a b h i = rw (h, i) refl
-
 pub same_all : {A : Type 0} (p : A → Bool) (xs ys : List A) → ys ≡ xs → list_all p xs ≡ true → list_all p ys ≡ true
 same_all p xs ys same h = rw same h
 
@@ -176,7 +170,7 @@ named_read left x bytes is =
     let second = last_part a.value.1.bytes (written b.value.0) b.value.1.bytes (natural number.value) g.written none k.0 in
     subst (λ (y : List ℕ × ℕ × Element). Named left.bytes y.0 y.1) (ok_same end.behind) (
       in_parts left.bytes (written a.value.0) a.value.1.bytes (octet_string name.value) (natural number.value) f.written n.0 second,
-      both_true (list_all is_name_byte name.value) (is_number number.value) n.1 k.1,
+      and_from (list_all is_name_byte name.value) (is_number number.value) n.1 k.1,
     )
 
 pub record NamedGiven (left : Rest) (name : List ℕ) (n : ℕ) : Type 0 where
@@ -186,7 +180,7 @@ pub record NamedGiven (left : Rest) (name : List ℕ) (n : ℕ) : Type 0 where
 pub named_written : (left : Rest) (name : List ℕ) (n : ℕ) → (list_all is_name_byte name && is_number n) ≡ true → left.bytes ≡ octet_string name ++ natural n → NamedGiven left name n
 unfolding named_in octet_string integer
 named_written left name n good e =
-    let parts = and_true (list_all is_name_byte name) (is_number n) good in
+    let parts = and_parts (list_all is_name_byte name) (is_number n) good in
     let a = taken_given left octet_string_tag name (natural n) (omega arith) e in
     let b = taken_given a.rest integer_tag (integer_octets (pos n)) [] (omega arith) (a.behind ∙ sym (append-nil (natural n))) in
     record { number = b.found; takes = rw (a.takes, name_written a.found name a.small parts.0 a.is, b.takes, number_written b.found n b.small parts.1 b.is, ended_given b.rest b.behind) refl }

@@ -2,6 +2,7 @@
 -- spelled so is read.
 use Rattle.std.proofs.Common.{◌≡◌, ℕ, ◌<◌, ◌^◌, Bool, true, ◌&&◌, ◌==◌, nat_le, List, [], ◌∷◌, ◌++◌, length, Ok, refl, ap, sym, ◌∙◌, subst, arith, append-nil}
 use Rattle.std.specs.List.{list_all}
+use Rattle.std.proofs.lemmas.Bool.{and_parts, and_from}
 use Rattle.mh_base.specs.Reading.{Rest}
 use Rattle.mh_base.specs.Limits.{longest_list}
 use Rattle.mh_base.proofs.ReadingLemmas.{went, ok_same}
@@ -18,7 +19,7 @@ use Rattle.mh_codec.specs.Spelling.{integer, octet_string, reference, several, l
 use Rattle.mh_codec.specs.Reading.{taken, ended, sequence_at, integer_at, name_at, reference_at, listed, effect_at, member_in, member_at, exhausted, list_item_in, list_item_at, next_scene_in, next_scene_at}
 use Rattle.mh_codec.proofs.ElementLemmas.{written, in_parts, last_part, Good, same_element, same_number, taken_found, good_found, taken_given, nothing_left, ended_given}
 use Rattle.mh_codec.proofs.ValueLemmas.{integer_read, integer_written, name_read, name_written, sequence_read, sequence_written}
-use Rattle.mh_codec.proofs.ReferenceLemmas.{IsOne, Reads, and_true, both_true, spelled_as, integer_one, reference_one, reference_read, reference_written}
+use Rattle.mh_codec.proofs.ReferenceLemmas.{IsOne, Reads, spelled_as, integer_one, reference_one, reference_read, reference_written}
 use Rattle.mh_codec.proofs.MemberLemmas.{exhausted_is, exhausted_given, few_enough, several_found, several_given, list_reads}
 use Rattle.mh_codec.proofs.ActionLemmas.{fits_and_is, action_reads}
 
@@ -27,15 +28,15 @@ use Rattle.mh_codec.proofs.ActionLemmas.{fits_and_is, action_reads}
 pub list_both : {A : Type 0} (p q : A → Bool) (xs : List A) → list_all p xs ≡ true → list_all q xs ≡ true → list_all (λ x. p x && q x) xs ≡ true
 list_both p q [] h i = refl
 list_both p q (x ∷ xs) h i =
-    let a = and_true (p x) (list_all p xs) h in
-    let b = and_true (q x) (list_all q xs) i in
-    both_true (p x && q x) (list_all (λ x. p x && q x) xs) (both_true (p x) (q x) a.0 b.0) (list_both p q xs a.1 b.1)
+    let a = and_parts (p x) (list_all p xs) h in
+    let b = and_parts (q x) (list_all q xs) i in
+    and_from (p x && q x) (list_all (λ x. p x && q x) xs) (and_from (p x) (q x) a.0 b.0) (list_both p q xs a.1 b.1)
 
 -- a list whose members fit and can be held
 pub list_fit : {A : Type 0} (p q : A → Bool) (xs : List A) → list_all p xs ≡ true → is_list q xs ≡ true → is_list (λ x. p x && q x) xs ≡ true
 list_fit p q xs fit good =
-    let parts = and_true (nat_le (length xs) longest_list) (list_all q xs) good in
-    both_true (nat_le (length xs) longest_list) (list_all (λ x. p x && q x) xs) parts.0 (list_both p q xs fit parts.1)
+    let parts = and_parts (nat_le (length xs) longest_list) (list_all q xs) good in
+    and_from (nat_le (length xs) longest_list) (list_all (λ x. p x && q x) xs) parts.0 (list_both p q xs fit parts.1)
 
 -- effects
 
@@ -45,9 +46,9 @@ effect_reads = list_reads action_reads
 effects_fit : (es : List (List Action)) → list_all fits_effect es ≡ true → list_all (is_list is_action) es ≡ true → list_all (is_list fits_and_is) es ≡ true
 effects_fit [] fit good = refl
 effects_fit (e ∷ es) fit good =
-    let f = and_true (fits_effect e) (list_all fits_effect es) fit in
-    let g = and_true (is_list is_action e) (list_all (is_list is_action) es) good in
-    both_true (is_list fits_and_is e) (list_all (is_list fits_and_is) es) (list_fit fits_action is_action e f.0 g.0) (effects_fit es f.1 g.1)
+    let f = and_parts (fits_effect e) (list_all fits_effect es) fit in
+    let g = and_parts (is_list is_action e) (list_all (is_list is_action) es) good in
+    and_from (is_list fits_and_is e) (list_all (is_list fits_and_is) es) (list_fit fits_action is_action e f.0 g.0) (effects_fit es f.1 g.1)
 
 -- members
 
@@ -65,7 +66,7 @@ member_found left m bytes is =
     let s = several_found effect_reads longest_list a.value.1 slots.value (omega arith) f.rest slots.first in
     subst (IsMember left.bytes) (ok_same slots.behind) (
       in_parts left.bytes (written a.value.0) a.value.1.bytes (reference o.value) (several (list action) slots.value) f.written r.0 s.0,
-      both_true (is_reference o.value) (is_list (is_list is_action) slots.value) r.1 s.1,
+      and_from (is_reference o.value) (is_list (is_list is_action) slots.value) r.1 s.1,
     )
 
 member_read : (e : Element) (m : Member) → Good e → member_at e ≡ Ok m → (written e ≡ member m) × (is_member m ≡ true)
@@ -82,9 +83,9 @@ fits_and_is_member m = fits_member m && is_member m
 member_given : (left : Rest) (m : Member) → fits_and_is_member m ≡ true → left.bytes ≡ reference m.object ++ several (list action) m.slots → member_in left ≡ Ok m
 unfolding member_in
 member_given left m fit is =
-    let parts = and_true (fits_member m) (is_member m) fit in
-    let goods = and_true (is_reference m.object) (is_list (is_list is_action) m.slots) parts.1 in
-    let slots = and_true (nat_le (length m.slots) longest_list) (list_all (is_list is_action) m.slots) goods.1 in
+    let parts = and_parts (fits_member m) (is_member m) fit in
+    let goods = and_parts (is_reference m.object) (is_list (is_list is_action) m.slots) parts.1 in
+    let slots = and_parts (nat_le (length m.slots) longest_list) (list_all (is_list is_action) m.slots) goods.1 in
     let one = reference_one m.object in
     let g = taken_given left one.tag one.contents (several (list action) m.slots) one.small (is ∙ ap (λ (bs : List ℕ). bs ++ several (list action) m.slots) one.is) in
     let object = reference_written g.found m.object g.small goods.0 (g.is ∙ sym one.is) in
@@ -121,7 +122,7 @@ item_found left m bytes is =
     let none = exhausted_is UnknownTag a.value.1 end.first in
     subst (IsMember left.bytes) (ok_same end.behind) (
       in_parts left.bytes (written a.value.0) a.value.1.bytes (reference o.value) [] f.written r.0 none,
-      both_true (is_reference o.value) true r.1 refl,
+      and_from (is_reference o.value) true r.1 refl,
     )
 
 item_read : (e : Element) (m : Member) → Good e → list_item_at e ≡ Ok m → (written e ≡ member m) × (is_member m ≡ true)
@@ -142,8 +143,8 @@ no_slots (x ∷ xs) h = absurd (let none : length (x ∷ xs) ≡ 0 = same_number
 item_given : (left : Rest) (m : Member) → is_item_and_member m ≡ true → left.bytes ≡ reference m.object ++ several (list action) m.slots → list_item_in left ≡ Ok m
 unfolding list_item_in
 item_given left m fit is =
-    let parts = and_true (is_list_item m) (is_member m) fit in
-    let goods = and_true (is_reference m.object) (is_list (is_list is_action) m.slots) parts.1 in
+    let parts = and_parts (is_list_item m) (is_member m) fit in
+    let goods = and_parts (is_reference m.object) (is_list (is_list is_action) m.slots) parts.1 in
     let none = no_slots m.slots parts.0 in
     let one = reference_one m.object in
     let g = taken_given left one.tag one.contents [] one.small (is ∙ ap (λ (l : List (List Action)). reference m.object ++ several (list action) l) none ∙ ap (λ (bs : List ℕ). bs ++ []) one.is) in
@@ -184,7 +185,7 @@ scene_found left s bytes is =
     let second = last_part a.value.1.bytes (written b.value.0) b.value.1.bytes (integer weight.value) g.written none w.0 in
     subst (IsScene left.bytes) (ok_same end.behind) (
       in_parts left.bytes (written a.value.0) a.value.1.bytes (octet_string name.value) (integer weight.value) f.written n.0 second,
-      both_true (is_name name.value) (is_integer weight.value) n.1 w.1,
+      and_from (is_name name.value) (is_integer weight.value) n.1 w.1,
     )
 
 scene_read : (e : Element) (s : NextScene) → Good e → next_scene_at e ≡ Ok s → (written e ≡ next_scene s) × (is_next_scene s ≡ true)
@@ -198,7 +199,7 @@ scene_read e s good is =
 scene_given : (left : Rest) (s : NextScene) → is_next_scene s ≡ true → left.bytes ≡ octet_string s.name ++ integer s.weight → next_scene_in left ≡ Ok s
 unfolding next_scene_in octet_string
 scene_given left s good is =
-    let goods = and_true (is_name s.name) (is_integer s.weight) good in
+    let goods = and_parts (is_name s.name) (is_integer s.weight) good in
     let one = integer_one s.weight in
     let a = taken_given left octet_string_tag s.name (integer s.weight) (omega arith) is in
     let b = taken_given a.rest one.tag one.contents [] one.small (a.behind ∙ one.is ∙ sym (append-nil _)) in

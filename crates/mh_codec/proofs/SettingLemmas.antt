@@ -2,6 +2,7 @@
 use Rattle.std.proofs.Common.{◌≡◌, ℕ, ◌≤◌, ◌<◌, ◌^◌, true, ◌&&◌, nat_le, List, ◌++◌, length, Ok, ℤ, pos, refl, sym, ◌∙◌, subst, arith}
 use Rattle.std.specs.List.{list_all}
 use Rattle.std.proofs.lemmas.Bool.Decides.{nat_tests}
+use Rattle.std.proofs.lemmas.Bool.{and_parts}
 use Rattle.mh_base.specs.Event.{number_of}
 use Rattle.mh_base.specs.Reading.{Rest, ◌>>=◌}
 use Rattle.mh_base.specs.Limits.{longest_list}
@@ -20,7 +21,7 @@ use Rattle.mh_codec.specs.Spelling.{integer, list, member, position, next_scene,
 use Rattle.mh_codec.specs.Reading.{only, truth_at, integer_at, octets_at, natural_at, length_at, event_at, justification_at, colour_at, reference_at, content_name_at, content_at, data_at, list_at, effect_at, row_at, member_at, list_item_at, position_at, next_scene_at, single, pair, setting}
 use Rattle.mh_codec.proofs.ElementLemmas.{written, Good}
 use Rattle.mh_codec.proofs.ValueLemmas.{truth_found, truth_given, integer_read, integer_written, natural_read, length_read, length_written, event_read, event_written, justification_read, justification_written, colour_read, colour_written}
-use Rattle.mh_codec.proofs.ReferenceLemmas.{IsOne, Reads, and_true, boolean_one, integer_one, octets_one, content_name_one, content_one, data_one, reference_one, reference_read, reference_written, integer_reads, octets_reads, content_name_reads, content_reads, data_reads, only_read, only_written}
+use Rattle.mh_codec.proofs.ReferenceLemmas.{IsOne, Reads, boolean_one, integer_one, octets_one, content_name_one, content_one, data_one, reference_one, reference_read, reference_written, integer_reads, octets_reads, content_name_reads, content_reads, data_reads, only_read, only_written}
 use Rattle.mh_codec.proofs.MemberLemmas.{list_found, list_given, list_one, list_reads}
 use Rattle.mh_codec.proofs.PairLemmas.{fits_part, pair_read, pair_given, natural_given, position_reads}
 use Rattle.mh_codec.proofs.RowLemmas.{list_both, list_fit, effect_reads, member_reads, item_reads, scene_reads, fits_and_is_member}
@@ -53,8 +54,8 @@ few_items n h = grind (arith, nat_tests)
 
 items_written : (e : Element) (ms : List Member) → e.tag.number < 2 ^ 16 → (nat_le (length ms) 256 && list_all is_list_item ms) ≡ true → is_list is_member ms ≡ true → written e ≡ list member ms → list_at list_item_at 256 e ≡ Ok ms
 items_written e ms small fit good is =
-    let parts = and_true (nat_le (length ms) 256) (list_all is_list_item ms) fit in
-    let goods = and_true (nat_le (length ms) longest_list) (list_all is_member ms) good in
+    let parts = and_parts (nat_le (length ms) 256) (list_all is_list_item ms) fit in
+    let goods = and_parts (nat_le (length ms) longest_list) (list_all is_member ms) good in
     list_given item_reads 256 e ms small (few_items (length ms) parts.0) (list_both is_list_item is_member ms parts.1 goods.1) is
 
 -- what is read is spelled so

@@ -1,3 +1,4 @@
 pub mod MisfitLemmas
+pub mod NumberLemmas
 pub mod ShapeLemmas
 pub mod WritingLemmas

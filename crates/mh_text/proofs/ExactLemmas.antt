@@ -1,9 +1,9 @@
 -- Which token stands at the front of a text that goes on behind a word.
-use Rattle.std.proofs.Common.{◌≡◌, ℕ, ◌+◌, ◌<◌, inl, inr, Bool, true, false, ◌||◌, ◌==◌, if◌then◌else◌, List, [], ◌∷◌, ◌++◌, length, take, drop, Option, Some, None, refl, ap, ap₂, sym, ◌∙◌, subst, arith, append_assoc, length-append, length-drop}
+use Rattle.std.proofs.Common.{◌≡◌, ℕ, ◌+◌, ◌<◌, inl, inr, Bool, true, false, ◌==◌, if◌then◌else◌, List, [], ◌∷◌, ◌++◌, length, take, drop, Option, Some, None, refl, ap, ap₂, sym, ◌∙◌, subst, arith, append_assoc, length-append, length-drop}
 use Rattle.std.specs.List.{list_all, prefix_len}
 use Rattle.std.proofs.Math.Seq.{take-append_seam, drop-append_seam}
-use Rattle.std.proofs.lemmas.Bool.{and_parts}
 use Rattle.std.proofs.lemmas.Bool.Decides.{nat_tests}
+use Rattle.std.proofs.lemmas.Bool.{and_parts, or_parts}
 use Rattle.mh_base.specs.Reading.{Rest}
 use Rattle.mh_text.specs.declared.token_kind.TokenKind.{TokenKind}
 use Rattle.mh_text.specs.declared.token_kind.TokenKind.TheVariants as kind
@@ -25,10 +25,6 @@ stops_at p b bs h = rw h refl
 
 loose_parts : (b : ℕ) → is_letter_or_digit b ≡ false → (is_letter b ≡ false) × (is_digit b ≡ false)
 loose_parts b h = or_parts (is_letter b) (is_digit b) h
-  where
-    or_parts : (x y : Bool) → (x || y) ≡ false → (x ≡ false) × (y ≡ false)
-    or_parts true y h = absurd cc
-    or_parts false y h = (refl, h)
 
 loose_letter : (bs : List ℕ) → IsLoose bs → prefix_len is_letter bs ≡ 0
 loose_letter [] h = refl

@@ -1,7 +1,8 @@
 -- Lists of fields: what is in them, and fields put in their place.
-use Rattle.std.proofs.Common.{◌≡◌, ℕ, zero, suc, ◌⊎◌, inl, inr, Bool, true, false, ◌||◌, ◌==◌, nat_lt, List, [], ◌∷◌, ◌++◌, take, drop, Contains, refl, sym, subst, arith, take-append-drop}
+use Rattle.std.proofs.Common.{◌≡◌, ℕ, zero, suc, ◌⊎◌, inl, inr, Bool, true, false, ◌==◌, nat_lt, List, [], ◌∷◌, ◌++◌, take, drop, Contains, refl, sym, subst, arith, take-append-drop}
 use Rattle.std.specs.List.{list_any, prefix_len}
 use Rattle.std.proofs.lemmas.Bool.Decides.{nat_tests}
+use Rattle.std.proofs.lemmas.Bool.{or_parts}
 use Rattle.mh_group.specs.declared.written.Field.{Field}
 use Rattle.mh_group.specs.declared.class.Class.{Class}
 use Rattle.mh_group.specs.Table.{attribute_number, shape_of, takes}
@@ -67,14 +68,10 @@ pub none_passes : {A : Type 0} (p : A → Bool) (xs : List A) → ((x : A) → H
 none_passes p [] h = refl
 none_passes p (x ∷ xs) h = rw (h x (inl refl)) (none_passes p xs (λ y g. h y (inr g)))
 
-pub or_false : (a b : Bool) → (a || b) ≡ false → (a ≡ false) × (b ≡ false)
-or_false true b h = absurd cc
-or_false false b h = (refl, h)
-
 pub passes_none : {A : Type 0} (p : A → Bool) (xs : List A) (x : A) → list_any p xs ≡ false → Has xs x → p x ≡ false
 passes_none p [] x h has = absurd has
-passes_none p (y ∷ ys) x h (inl is) = subst (λ z. p z ≡ false) is (or_false (p y) (list_any p ys) h).0
-passes_none p (y ∷ ys) x h (inr has) = passes_none p ys x (or_false (p y) (list_any p ys) h).1 has
+passes_none p (y ∷ ys) x h (inl is) = subst (λ z. p z ≡ false) is (or_parts (p y) (list_any p ys) h).0
+passes_none p (y ∷ ys) x h (inr has) = passes_none p ys x (or_parts (p y) (list_any p ys) h).1 has
 
 -- a field that the class takes, with a value of its shape
 abbrev pub FitsIn : Class → Field → Type 0

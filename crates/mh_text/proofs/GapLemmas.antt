@@ -1,18 +1,14 @@
 -- White space at the front of a text.
-use Rattle.std.proofs.Common.{◌≡◌, ℕ, ◌+◌, ◌⊎◌, inl, inr, Bool, true, false, ◌&&◌, ◌||◌, not, ◌==◌, if◌then◌else◌, List, [], ◌∷◌, ◌++◌, take, drop, refl, ap, ap₂, sym, ◌∙◌, subst, arith, add-one, append_assoc}
+use Rattle.std.proofs.Common.{◌≡◌, ℕ, ◌+◌, ◌⊎◌, inl, inr, Bool, true, false, ◌&&◌, not, ◌==◌, if◌then◌else◌, List, [], ◌∷◌, ◌++◌, take, drop, refl, ap, ap₂, sym, ◌∙◌, subst, arith, add-one, append_assoc}
 use Rattle.std.specs.List.{list_any}
-use Rattle.std.proofs.lemmas.Bool.{and_parts}
 use Rattle.std.proofs.lemmas.Bool.Decides.{nat_tests}
+use Rattle.std.proofs.lemmas.Bool.{and_parts, or_parts}
 use Rattle.mh_text.specs.Bytes.{is_space, begins_with}
 use Rattle.mh_text.specs.Lexing.{gap_length}
 use Rattle.mh_text.specs.Words.{IsLine, IsGap, nothing, blank, comment, IsLastGap}
 
 pub same_number : (n m : ℕ) → (n == m) ≡ true → n ≡ m
 same_number n m h = grind (arith, nat_tests)
-
-pub or_false : (a b : Bool) → (a || b) ≡ false → (a ≡ false) × (b ≡ false)
-or_false true b h = absurd cc
-or_false false b h = (refl, h)
 
 -- what stands before and at the place to which white space goes, seen from outside of a comment
 abbrev pub Outside : List ℕ → ℕ → Type 0
@@ -33,7 +29,7 @@ drop_one : (n : ℕ) (b : ℕ) (bs : List ℕ) → drop (n + 1) (b ∷ bs) ≡ d
 drop_one n b bs = rw add-one refl
 
 line_behind : (b : ℕ) (bs : List ℕ) → IsLine (b ∷ bs) → IsLine bs
-line_behind b bs h = (or_false (b == 10) (list_any (λ c. c == 10) bs) h).1
+line_behind b bs h = (or_parts (b == 10) (list_any (λ c. c == 10) bs) h).1
 
 line_before : (b : ℕ) (bs : List ℕ) → (b == 10) ≡ false → IsLine bs → IsLine (b ∷ bs)
 line_before b bs h line = rw h line

@@ -1,17 +1,16 @@
 -- Fields in the order of their attributes' numbers: putting them in, and that they are one list.
 use Rattle.std.proofs.Common.{◌≡◌, ℕ, suc, ◌+◌, ◌<◌, ◌≤◌, ◌⊎◌, inl, inr, Bool, true, false, ◌==◌, nat_lt, if◌then◌else◌, List, [], ◌∷◌, ◌++◌, length, insert, refl, ap, ap₂, sym, ◌∙◌, subst, arith, one-add}
 use Rattle.std.specs.List.{list_all, prefix_len}
-use Rattle.std.proofs.lemmas.Bool.{and_parts, and_from}
 use Rattle.std.proofs.lemmas.Bool.Decides.{nat_tests}
+use Rattle.std.proofs.lemmas.Bool.{and_parts, and_from, or_parts}
 use Rattle.mh_base.specs.Limits.{longest_list}
-use Rattle.mh_group.specs.declared.attribute.Attribute.{Attribute}
-use Rattle.mh_group.specs.declared.attribute.Attribute.TheVariants as attribute
 use Rattle.mh_group.specs.declared.written.Field.{Field}
 use Rattle.mh_group.specs.Table.{attribute_number}
 use Rattle.mh_group.specs.Fit.{rises_above, is_rising, has_attribute}
+use Rattle.mh_group.proofs.NumberLemmas.{number_above, number_small}
 use Rattle.mh_text.specs.Reading.{placed}
 use Rattle.mh_text.specs.Spelling.{NoneTwice, AreFieldsOf}
-use Rattle.mh_text.proofs.FieldLemmas.{Has, Apart, has_contained, contains_had, has_placed_parts, has_placed_new, has_placed_old, none_passes, passes_none, same_turned, or_false}
+use Rattle.mh_text.proofs.FieldLemmas.{Has, Apart, has_contained, contains_had, has_placed_parts, has_placed_new, has_placed_old, none_passes, passes_none, same_turned}
 
 -- put behind those of smaller numbers, one after the other
 abbrev put : Field → List Field → List Field
@@ -44,17 +43,9 @@ rising_put : (n : ℕ) (f : Field) (gs : List Field) → rises_above n gs ≡ tr
 rising_put n f [] rising above free = and_from _ _ above refl
 rising_put n f (g ∷ gs) rising above free =
     let parts = and_parts (nat_lt n (attribute_number g.attribute)) (rises_above (attribute_number g.attribute) gs) rising in
-    let others = or_false (attribute_number g.attribute == attribute_number f.attribute) (has_attribute gs f.attribute) free in
+    let others = or_parts (attribute_number g.attribute == attribute_number f.attribute) (has_attribute gs f.attribute) free in
     rising_if n f g gs (nat_lt (attribute_number g.attribute) (attribute_number f.attribute)) refl parts.0 parts.1 above others.0
     (λ h. rising_put (attribute_number g.attribute) f gs parts.1 h others.1)
-
-number_above : (a : Attribute) → 0 < attribute_number a
-number_above attribute.Items = omega arith
-number_above _ = omega arith
-
-number_small : (a : Attribute) → attribute_number a ≤ 38
-number_small attribute.Items = omega arith
-number_small _ = omega arith
 
 above_true : (n m : ℕ) → n < m → nat_lt n m ≡ true
 above_true n m h = grind (arith, nat_tests)

@@ -1,20 +1,19 @@
 -- A word at the front of a text, behind white space, is the token there.
 use Rattle.std.proofs.Common.{◌≡◌, ℕ, ◌+◌, ◌<◌, ◌≢◌, inl, inr, Bool, true, false, ◌==◌, List, [], ◌∷◌, ◌++◌, length, refl, ap, sym, ◌∙◌, subst, arith, append_assoc, append-nil, length-append}
 use Rattle.std.specs.List.{list_all, list_any}
-use Rattle.std.proofs.lemmas.Bool.{and_parts}
 use Rattle.std.proofs.lemmas.Bool.Decides.{nat_tests}
+use Rattle.std.proofs.lemmas.Bool.{and_parts, or_parts}
 use Rattle.mh_text.specs.declared.token_kind.TokenKind.{TokenKind}
 use Rattle.mh_text.specs.declared.token_kind.TokenKind.TheVariants as kind
 use Rattle.mh_text.specs.Bytes.{is_space, is_letter, is_digit, is_letter_or_digit}
 use Rattle.mh_text.specs.Lexing.{gap_length}
 use Rattle.mh_text.specs.Words.{IsLine, IsGap, nothing, blank, comment, IsLastGap, IsWord, needs_gap, Written, AreWords}
-use Rattle.mh_text.proofs.GapLemmas.{or_false}
 
 -- white space
 line_length : (line rest : List ℕ) → IsLine line → gap_length true (line ++ 10 ∷ rest) ≡ length line + 1 + gap_length false rest
 line_length [] rest h = omega arith
 line_length (b ∷ bs) rest h =
-    let parts = or_false (b == 10) (list_any (λ c. c == 10) bs) h in
+    let parts = or_parts (b == 10) (list_any (λ c. c == 10) bs) h in
     let behind = line_length bs rest parts.1 in
     rw parts.0 (omega arith)
 
@@ -33,7 +32,7 @@ gap_exact gap rest (comment line bs is_line g) none =
 last_line : (line : List ℕ) → IsLine line → gap_length true line ≡ length line
 last_line [] h = refl
 last_line (b ∷ bs) h =
-    let parts = or_false (b == 10) (list_any (λ c. c == 10) bs) h in
+    let parts = or_parts (b == 10) (list_any (λ c. c == 10) bs) h in
     rw parts.0 (omega (arith, last_line bs parts.1))
 
 last_gap : (gap line : List ℕ) → IsGap gap → IsLine line → gap_length false (gap ++ 47 ∷ 47 ∷ line) ≡ length (gap ++ 47 ∷ 47 ∷ line)

@@ -2,7 +2,7 @@
 -- token to token, as the reader does; what it means is said by the laws that join it to the spelling.
 use Rattle.std.specs.Prelude.{ℕ, zero, suc, ◌-◌, Bool, true, false, ◌&&◌, not, ◌==◌, nat_lt, nat_le, if◌then◌else◌, List, [], ◌∷◌, ◌++◌, length, take, drop, insert, Option, Some, None, Result, Ok, ℤ, pos, int_lt, unsigned_abs}
 use Rattle.std.specs.Ordering.{int_eq}
-use Rattle.std.specs.List.{list_all, list_any, prefix_len}
+use Rattle.std.specs.List.{list_all, prefix_len}
 use Rattle.mh_base.specs.declared.colour.Colour.{Colour}
 use Rattle.mh_base.specs.declared.event.EventType.{EventType}
 use Rattle.mh_base.specs.declared.value.Kind.{Kind}

@@ -1,8 +1,9 @@
 use Rattle.std.proofs.Common.{◌+◌, ◌-◌, ◌∙◌, sym, subst, arith}
 use Rattle.std.proofs.lemmas.Result.{err_from_is_err_and}
+use Rattle.mh_group.proofs.NumberLemmas.{number_small}
 use Rattle.mh_codec.specs.Gives.{Fails}
 use Rattle.mh_codec.proofs.ListLemmas.{fields_fail, fields_done, fields_more}
-use Rattle.mh_codec.proofs.FieldLemmas.{attribute_named, field_above}
+use Rattle.mh_codec.proofs.FieldLemmas.{field_above}
 use Rattle.mh_codec.proofs.object.fields.Goals as goal
 
 pub returns-in_err-member : goal.returns-in_err-member
@@ -20,9 +21,9 @@ loop-preserved c =
     let more = fields_more c.args.class (64 - c.loop.counter) (64 - (c.loop.counter + 1)) c.loop.last _ c.loop.fields c.push.new.self c.loop.reader _ _ _ _
     (omega arith) c.in_ok-member.ensures c.in-Some.is c.number-last.ensures c.in_ok-push.ensures.added in
     let above = field_above c.args.class c.loop.last c.loop.reader _ _ _ _ c.in_ok-member.ensures c.in-Some.is in
-    let named = attribute_named c.in-Some.field.attribute in
+    let few = number_small c.in-Some.field.attribute in
     record {
       same = more ∙ c.loop.invariant.same;
       risen = omega (arith, above, c.number-last.ensures, c.loop.invariant.risen);
-      small = omega (arith, named.1, c.number-last.ensures);
+      small = omega (arith, few, c.number-last.ensures);
     }
