@@ -1,5 +1,2 @@
-pub mod ChangedLemmas
 pub mod RunLemmas
 pub mod SafeEngine
-pub mod UnseenLemmas
-pub mod RowLemmas

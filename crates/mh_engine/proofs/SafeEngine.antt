@@ -10,7 +10,7 @@ use Rattle.mh_model.specs.Safe.{IsSafe}
 use Rattle.mh_model.specs.Headline.{fault_at, front_fault, IsFaultless}
 use Rattle.mh_model.proofs.SafeLemmas.{safe_front, safe_run, safe_faultless}
 use Rattle.mh_engine.specs.Play.{Play}
-use Rattle.mh_engine.specs.Answer.{is_faulted, judged, answer_by, answer_of}
+use Rattle.mh_machine.specs.Rest.{is_faulted, judged, answer_by, answer_of}
 
 -- where the first item is not stuck, no step answers that it was
 pub unfaulted : (s : State) → front_fault s ≡ None → is_faulted (answer_of s) ≡ false

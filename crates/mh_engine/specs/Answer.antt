@@ -1,8 +1,5 @@
--- What a step answers.
-use Rattle.std.specs.Prelude.{ℕ, Bool, true, false, not, ◌==◌, ◌||◌, ◌&&◌, List, [], ◌∷◌, Option, Some, None, slice_get, if◌then◌else◌}
-use Rattle.mh_model.specs.declared.fault.Fault.{Fault}
-use Rattle.mh_model.specs.declared.input.Input.{Input}
-use Rattle.mh_model.specs.declared.item.Item.{Item}
+-- What an engine refuses.
+use Rattle.std.specs.Prelude.{ℕ, Bool, true, false, not, ◌==◌, ◌||◌, ◌&&◌, List, [], ◌∷◌, Option, Some, None, if◌then◌else◌}
 use Rattle.mh_model.specs.State.{State}
 use Rattle.mh_model.specs.declared.input.Move.{Move}
 use Rattle.mh_model.specs.declared.input.Move.TheVariants as move
@@ -12,29 +9,6 @@ use Rattle.mh_engine.specs.declared.refusal.RefusedWhy.{RefusedWhy}
 use Rattle.mh_engine.specs.declared.refusal.RefusedWhy.TheVariants as refused
 use Rattle.mh_engine.specs.declared.refusal.StepError.{StepError}
 use Rattle.mh_engine.specs.declared.refusal.StepError.TheVariants as failed
-use Rattle.mh_engine.specs.declared.rest.Rest.{Rest}
-use Rattle.mh_engine.specs.declared.rest.Rest.TheVariants as rest
-use Rattle.mh_model.specs.Stuck.{stuck}
-use Rattle.mh_engine.specs.declared.stepped.Stepped.{Stepped}
-use Rattle.mh_engine.specs.declared.stepped.Stepped.TheVariants as answer
-
-abbrev pub judged : Option Fault → Stepped
-judged None = answer.Did
-judged (Some f) = answer.Faulted f
-
-abbrev pub answer_by : Option Item → Option Input → State → Stepped
-answer_by (Some i) next s = judged (stuck i s)
-answer_by None (Some i) s = answer.Did
-answer_by None None s = answer.Idle
-
--- Idle where there is nothing to do, Faulted where the first item is stuck, else Did
-abbrev pub answer_of : State → Stepped
-answer_of s = answer_by (slice_get s.work 0) (slice_get s.queue 0) s
-
-abbrev pub is_faulted : Stepped → Bool
-is_faulted answer.Idle = false
-is_faulted answer.Did = false
-is_faulted (answer.Faulted f) = true
 
 -- Refusals, want of memory aside. An engine that has stopped refuses everything.
 
@@ -53,10 +27,6 @@ post_refusal p = if p.stopped then Some refused.Stopped else (if is_full p.state
 abbrev pub stopped_after : StepError → Option Move → Bool → Bool
 stopped_after failed.NoMemory (Some move.Step) before = true
 stopped_after _ _ before = before
-
--- what is left to do
-abbrev pub rest_of : State → Rest
-rest_of s = if is_idle s then rest.Idle else rest.More
 
 -- a step move is not counted where all steps are counted and there is something to do
 abbrev pub is_counted : Move → State → Bool

@@ -1,4 +1,2 @@
-pub mod Screen
 pub mod Answer
 pub mod Play
-pub mod Rows

@@ -4,12 +4,11 @@ ghost use Rattle.mh_model.specs.State.{begun};
 ghost use Rattle.mh_model.specs.Step.{step as step_lem, stepped, posted, is_full, is_idle, moved, run as run_lem, most_steps};
 ghost use Rattle.mh_model.specs.Headline.{front_fault};
 ghost use Rattle.mh_model.specs.Picture.{shown};
-ghost use Rattle.mh_engine.specs.Answer.{answer_of, is_faulted, rest_of, is_counted, are_counted, step_refusal, post_refusal, stopped_after};
+ghost use Rattle.mh_machine.specs.Rest.{answer_of, is_faulted, rest_of};
+ghost use Rattle.mh_engine.specs.Answer.{is_counted, are_counted, step_refusal, post_refusal, stopped_after};
 
-use crate::machine::Machine;
-use crate::refusal::{Refused, RefusedWhy, RunEnd, StepError, Unaccepted, Unstarted};
-use crate::rest::Rest;
-use crate::stepped::Stepped;
+use crate::refusal::{Refused, RefusedWhy, RunEnd, StepError, Unaccepted};
+use mh_machine::{Machine, Rest, Stepped, Unstarted};
 use mh_model::{Fault, Input, Move, Picture};
 use mh_service::Service;
 use mh_verify::Accepted;
@@ -44,7 +43,7 @@ impl Engine {
         ensures begun { IfOk result (λ engine. engine ≡ record { state = begun service; stopped = false; accepted = false }) }
         ensures back { IfErr result (λ unstarted. unstarted.service ≡ service) }
     {
-        let machine = Machine::begin(alloc, service)?;
+        let machine = Machine::new(alloc, service)?;
         Ok(Engine {
             machine,
             stopped: false,
@@ -58,7 +57,7 @@ impl Engine {
         ensures back { IfErr result (λ refused. refused.accepted ≡ accepted) }
     {
         let (service, rest) = accepted.apart();
-        match Machine::begin(alloc, service) {
+        match Machine::new(alloc, service) {
             Ok(machine) => Ok(Engine {
                 machine,
                 stopped: false,
@@ -150,11 +149,7 @@ impl Engine {
     pub fn rest(&self) -> Rest
         ensures { result ≡ rest_of self.now.state }
     {
-        if self.machine.is_idle() {
-            Rest::Idle
-        } else {
-            Rest::More
-        }
+        self.machine.rest()
     }
 }
 

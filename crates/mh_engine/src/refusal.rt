@@ -3,16 +3,9 @@ ghost use Rattle.std.specs.Prelude.{◌≡◌};
 ghost use Rattle.mh_engine.specs.Answer.{refusal_number, step_number};
 
 use mh_model::Input;
-use mh_service::Service;
 use mh_verify::Accepted;
 use std::alloc::AllocError;
 use thiserror::Error;
-
-/// A service that could not be started for want of memory. It is handed back.
-#[derive(Drop)]
-pub struct Unstarted {
-    pub service: Service,
-}
 
 /// An accepted service that could not be started for want of memory. It is handed back.
 #[derive(Drop)]

@@ -2,7 +2,7 @@ pub mod FirstLemmas
 pub mod PropertyLemmas
 pub mod PlanesLemmas
 pub mod PaintingLemmas
-pub mod ShapeLemmas
+pub mod PartLemmas
 pub mod ServiceLemmas
 pub mod WorkLemmas
 pub mod SafeLemmas

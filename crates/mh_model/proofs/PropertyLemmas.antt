@@ -4,7 +4,7 @@ use Rattle.std.specs.List.{position}
 use Rattle.std.specs.Option.{option_map}
 use Rattle.std.proofs.Common.{ap, sym}
 use Rattle.mh_group.specs.declared.attribute.Attribute.{Attribute}
-use Rattle.mh_model.specs.declared.object.Property.{Property}
+use Rattle.mh_model.specs.declared.held.Property.{Property}
 use Rattle.mh_model.specs.Property.{held, with_held, is_of}
 use Rattle.mh_model.proofs.FirstLemmas.{first-position, none-position}
 

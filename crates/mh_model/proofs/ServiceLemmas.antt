@@ -4,9 +4,8 @@ use Rattle.std.specs.Cmp.Derive.{both_true}
 use Rattle.std.specs.List.{find, list_all}
 use Rattle.std.specs.Option.{option_map, option_map_or, option_or}
 use Rattle.std.specs.Str.{bytes_eq}
-use Rattle.std.proofs.Common.{ap, ◌∙◌, sym, subst, append-nil}
+use Rattle.std.proofs.Common.{ap, ◌∙◌, sym, subst}
 use Rattle.std.proofs.lemmas.Bool.Decides.{Decides-eqb}
-use Rattle.std.proofs.lemmas.List.Elements.{filter-append}
 use Rattle.std.proofs.lemmas.List.Folds.{list_all-append, find-append}
 use Rattle.std.proofs.lemmas.Slice.Eq.{bytes_eq-Decides}
 use Rattle.mh_base.specs.declared.obj_ref.ObjRef.{ObjRef}
@@ -14,10 +13,10 @@ use Rattle.mh_group.specs.declared.class.Class.{Class}
 use Rattle.mh_group.specs.declared.class.Class.TheVariants as class
 use Rattle.mh_group.specs.Table.{is_link, is_group_class, is_scene, is_application}
 use Rattle.mh_model.specs.declared.config.Config.{Config}
-use Rattle.mh_model.specs.declared.object.Object.{Object}
-use Rattle.mh_model.specs.Service.{Service, same_ref, object_at, group_ref, group_objects, is_in}
-use Rattle.mh_model.specs.Configuration.{is_group_of, is_ingredient_of, is_group_list, is_service, scene_objects, present}
-use Rattle.mh_model.specs.Safe.{is_there, is_scene_if_any}
+use Rattle.mh_model.specs.declared.object.Fixed.{Fixed}
+use Rattle.mh_model.specs.Service.{Service, same_ref, part_at, group_ref, group_parts, is_in}
+use Rattle.mh_model.specs.Configuration.{is_group_of, is_ingredient_of, is_group_list, is_service, scene_parts, present}
+use Rattle.mh_model.specs.Safe.{is_there}
 
 -- Truth
 
@@ -83,35 +82,35 @@ same_ref-same a b h =
     let numbers : a.number ≡ b.number = (Decides-eqb a.number b.number).0 (and_right (bytes_eq a.group b.group) (a.number == b.number) h) in
     λ i. record { group = groups i; number = numbers i }
 
-pub is_there_left : (r : ObjRef) (os ps : List Object) → is_there r os ≡ true → is_there r (os ++ ps) ≡ true
-is_there_left r os ps h = ap (λ (m : Option Object). option_map_or (λ (o : Object). true) m false) (find-append (λ (o : Object). same_ref o.key r) os ps) ∙ by (object_at r os) h
+pub is_there_left : (r : ObjRef) (ps qs : List Fixed) → is_there r ps ≡ true → is_there r (ps ++ qs) ≡ true
+is_there_left r ps qs h = ap (λ (m : Option Fixed). option_map_or (λ (o : Fixed). true) m false) (find-append (λ (o : Fixed). same_ref r o.key) ps qs) ∙ by (part_at r ps) h
   where
-    by : (m : Option Object) → option_map_or (λ (o : Object). true) m false ≡ true → option_map_or (λ (o : Object). true) (option_or m (object_at r ps)) false ≡ true
+    by : (m : Option Fixed) → option_map_or (λ (o : Fixed). true) m false ≡ true → option_map_or (λ (o : Fixed). true) (option_or m (part_at r qs)) false ≡ true
     by None e = absurd cc
     by (Some o) e = refl
 
-pub is_there_right : (r : ObjRef) (os ps : List Object) → is_there r ps ≡ true → is_there r (os ++ ps) ≡ true
-is_there_right r os ps h = ap (λ (m : Option Object). option_map_or (λ (o : Object). true) m false) (find-append (λ (o : Object). same_ref o.key r) os ps) ∙ by (object_at r os) h
+pub is_there_right : (r : ObjRef) (ps qs : List Fixed) → is_there r qs ≡ true → is_there r (ps ++ qs) ≡ true
+is_there_right r ps qs h = ap (λ (m : Option Fixed). option_map_or (λ (o : Fixed). true) m false) (find-append (λ (o : Fixed). same_ref r o.key) ps qs) ∙ by (part_at r ps) h
   where
-    by : (m : Option Object) → is_there r ps ≡ true → option_map_or (λ (o : Object). true) (option_or m (object_at r ps)) false ≡ true
+    by : (m : Option Fixed) → is_there r qs ≡ true → option_map_or (λ (o : Fixed). true) (option_or m (part_at r qs)) false ≡ true
     by None e = e
     by (Some o) e = refl
 
 -- a group of some class is there itself
-pub group_is_there : (is_class : Class → Bool) (v : Service) (g : List ℕ) → is_group_of is_class v g ≡ true → is_there (group_ref g) (group_objects v g) ≡ true
-group_is_there is_class v g h = by (object_at (group_ref g) (group_objects v g)) h
+pub group_is_there : (is_class : Class → Bool) (v : Service) (g : List ℕ) → is_group_of is_class v g ≡ true → is_there (group_ref g) (group_parts v g) ≡ true
+group_is_there is_class v g h = by (part_at (group_ref g) (group_parts v g)) h
   where
-    by : (m : Option Object) → option_map_or (λ (o : Object). is_class o.class) m false ≡ true → option_map_or (λ (o : Object). true) m false ≡ true
+    by : (m : Option Fixed) → option_map_or (λ (o : Fixed). is_class o.class) m false ≡ true → option_map_or (λ (o : Fixed). true) m false ≡ true
     by None e = e
     by (Some o) e = refl
 
 -- The objects of a service
 
 -- an object has number 0 exactly where it is a group
-abbrev pub is_whole : Object → Bool
+abbrev pub is_whole : Fixed → Bool
 is_whole o = if o.key.number == 0 then is_group_class o.class else not (is_group_class o.class)
 
-whole_group : (o : Object) → (o.key.number == 0) ≡ true → is_group_class o.class ≡ true → is_whole o ≡ true
+whole_group : (o : Fixed) → (o.key.number == 0) ≡ true → is_group_class o.class ≡ true → is_whole o ≡ true
 whole_group o zeroth is = ap (λ (b : Bool). if b then is_group_class o.class else not (is_group_class o.class)) zeroth ∙ is
 
 whole_ingredient : (b c : Bool) → not b ≡ true → not c ≡ true → (if b then c else not c) ≡ true
@@ -119,57 +118,59 @@ whole_ingredient true c e f = absurd cc
 whole_ingredient false c e f = f
 
 -- the objects of one group: each is of the group, and is whole
-abbrev is_right_in : List ℕ → Object → Bool
+abbrev is_right_in : List ℕ → Fixed → Bool
 is_right_in g o = is_in g o && is_whole o
 
-ingredient_right : (g : List ℕ) (o : Object) → is_ingredient_of g o ≡ true → is_right_in g o ≡ true
+ingredient_right : (g : List ℕ) (o : Fixed) → is_ingredient_of g o ≡ true → is_right_in g o ≡ true
 ingredient_right g o h =
     let first = and_left (is_in g o && not (o.key.number == 0)) (not (is_group_class o.class)) h in
     both_true (and_left (is_in g o) (not (o.key.number == 0)) first)
     (whole_ingredient (o.key.number == 0) (is_group_class o.class) (and_right (is_in g o) (not (o.key.number == 0)) first) (and_right (is_in g o && not (o.key.number == 0)) (not (is_group_class o.class)) h))
 
-group_list_right : (g : List ℕ) (os : List Object) → is_group_list g os ≡ true → list_all (is_right_in g) os ≡ true
+group_list_right : (g : List ℕ) (ps : List Fixed) → is_group_list g ps ≡ true → list_all (is_right_in g) ps ≡ true
 group_list_right g [] h = absurd cc
-group_list_right g (o ∷ os) h =
-    let rest = and_right (is_in g o && o.key.number == 0 && is_group_class o.class) (list_all (is_ingredient_of g) os) h in
-    let front = and_left (is_in g o && o.key.number == 0 && is_group_class o.class) (list_all (is_ingredient_of g) os) h in
+group_list_right g (o ∷ ps) h =
+    let rest = and_right (is_in g o && o.key.number == 0 && is_group_class o.class) (list_all (is_ingredient_of g) ps) h in
+    let front = and_left (is_in g o && o.key.number == 0 && is_group_class o.class) (list_all (is_ingredient_of g) ps) h in
     let is_group = and_right (is_in g o && o.key.number == 0) (is_group_class o.class) front in
     let at = and_left (is_in g o && o.key.number == 0) (is_group_class o.class) front in
     both_true (both_true (and_left (is_in g o) (o.key.number == 0) at) (whole_group o (and_right (is_in g o) (o.key.number == 0) at) is_group))
-    (all_follow (is_ingredient_of g) (is_right_in g) (ingredient_right g) os rest)
+    (all_follow (is_ingredient_of g) (is_right_in g) (ingredient_right g) ps rest)
 
-group_objects_right : (v : Service) (g : List ℕ) → is_service v ≡ true → list_all (is_right_in g) (group_objects v g) ≡ true
+group_parts_right : (v : Service) (g : List ℕ) → is_service v ≡ true → list_all (is_right_in g) (group_parts v g) ≡ true
 unfolding is_service
-group_objects_right v g h =
-    by (find (λ (e : List ℕ × List Object). bytes_eq e.0 g) v.groups) refl
+group_parts_right v g h =
+    by (find (λ (e : List ℕ × List Fixed). bytes_eq e.0 g) v.groups) refl
   where
-    lists : list_all (λ (e : List ℕ × List Object). is_group_list e.0 e.1) v.groups ≡ true
-    lists = and_left (list_all (λ (e : List ℕ × List Object). is_group_list e.0 e.1) v.groups) (is_group_of is_application v v.start) h
+    lists : list_all (λ (e : List ℕ × List Fixed). is_group_list e.0 e.1) v.groups ≡ true
+    lists = and_left (list_all (λ (e : List ℕ × List Fixed). is_group_list e.0 e.1) v.groups) (is_group_of is_application v v.start) h
 
-    by : (m : Option (List ℕ × List Object)) → find (λ (e : List ℕ × List Object). bytes_eq e.0 g) v.groups ≡ m → list_all (is_right_in g) (unwrap_or (option_map (λ (e : List ℕ × List Object). e.1) m) []) ≡ true
+    by : (m : Option (List ℕ × List Fixed)) → find (λ (e : List ℕ × List Fixed). bytes_eq e.0 g) v.groups ≡ m → list_all (is_right_in g) (unwrap_or (option_map (λ (e : List ℕ × List Fixed). e.1) m) []) ≡ true
     by None e = refl
     by (Some e) is =
-        let hit = found (λ (e : List ℕ × List Object). bytes_eq e.0 g) (λ (e : List ℕ × List Object). is_group_list e.0 e.1) v.groups e lists is in
+        let hit = found (λ (e : List ℕ × List Fixed). bytes_eq e.0 g) (λ (e : List ℕ × List Fixed). is_group_list e.0 e.1) v.groups e lists is in
         subst (λ (n : List ℕ). list_all (is_right_in n) e.1 ≡ true) ((bytes_eq-Decides e.0 g).0 hit.0) (group_list_right e.0 e.1 hit.1)
 
-pub group_objects_whole : (v : Service) (g : List ℕ) → is_service v ≡ true → list_all is_whole (group_objects v g) ≡ true
-group_objects_whole v g h = all_follow (is_right_in g) is_whole (λ o right. and_right (is_in g o) (is_whole o) right) (group_objects v g) (group_objects_right v g h)
+pub group_parts_whole : (v : Service) (g : List ℕ) → is_service v ≡ true → list_all is_whole (group_parts v g) ≡ true
+group_parts_whole v g h = all_follow (is_right_in g) is_whole (λ o right. and_right (is_in g o) (is_whole o) right) (group_parts v g) (group_parts_right v g h)
 
-pub group_objects_in : (v : Service) (g : List ℕ) → is_service v ≡ true → list_all (is_in g) (group_objects v g) ≡ true
-group_objects_in v g h = all_follow (is_right_in g) (is_in g) (λ o right. and_left (is_in g o) (is_whole o) right) (group_objects v g) (group_objects_right v g h)
+pub group_parts_in : (v : Service) (g : List ℕ) → is_service v ≡ true → list_all (is_in g) (group_parts v g) ≡ true
+group_parts_in v g h = all_follow (is_right_in g) (is_in g) (λ o right. and_left (is_in g o) (is_whole o) right) (group_parts v g) (group_parts_right v g h)
 
-scene_objects_whole : (v : Service) (scene : Option (List ℕ)) → is_service v ≡ true → list_all is_whole (scene_objects v scene) ≡ true
-scene_objects_whole v None h = refl
-scene_objects_whole v (Some g) h = group_objects_whole v g h
+scene_parts_whole : (v : Service) (scene : Option (List ℕ)) → is_service v ≡ true → list_all is_whole (scene_parts v scene) ≡ true
+scene_parts_whole v None h = refl
+scene_parts_whole v (Some g) h = group_parts_whole v g h
 
 pub present_whole : (v : Service) (c : Config) → is_service v ≡ true → list_all is_whole (present v c) ≡ true
-present_whole v c h = all_joined is_whole (group_objects v c.app) (scene_objects v c.scene) (group_objects_whole v c.app h) (scene_objects_whole v c.scene h)
+present_whole v c h = all_joined is_whole (group_parts v c.app) (scene_parts v c.scene) (group_parts_whole v c.app h) (scene_parts_whole v c.scene h)
 
 -- an object that is found under number 0 is no link
-pub found_group : (g : List ℕ) (os : List Object) (o : Object) → list_all is_whole os ≡ true → object_at (group_ref g) os ≡ Some o → is_link o.class ≡ false
-found_group g os o h e =
-    let hit = found (λ (x : Object). same_ref x.key (group_ref g)) is_whole os o h e in
-    let is_group : is_group_class o.class ≡ true = ap (λ (b : Bool). if b then is_group_class o.class else not (is_group_class o.class)) (sym (and_right (bytes_eq o.key.group g) (o.key.number == 0) hit.0)) ∙ hit.1 in
+pub found_group : (g : List ℕ) (ps : List Fixed) (o : Fixed) → list_all is_whole ps ≡ true → part_at (group_ref g) ps ≡ Some o → is_link o.class ≡ false
+found_group g ps o h e =
+    let hit = found (λ (x : Fixed). same_ref (group_ref g) x.key) is_whole ps o h e in
+    let key : group_ref g ≡ o.key = same_ref-same (group_ref g) o.key hit.0 in
+    let zeroth : true ≡ (o.key.number == 0) = ap (λ (k : ObjRef). k.number == 0) key in
+    let is_group : is_group_class o.class ≡ true = ap (λ (b : Bool). if b then is_group_class o.class else not (is_group_class o.class)) zeroth ∙ hit.1 in
     by o.class is_group
   where
     by : (k : Class) → is_group_class k ≡ true → is_link k ≡ false
@@ -177,43 +178,14 @@ found_group g os o h e =
     by _ is = refl
 
 -- an object that is found under another number is no scene
-pub found_ingredient : (r : ObjRef) (os : List Object) (o : Object) → (r.number == 0) ≡ false → list_all is_whole os ≡ true → object_at r os ≡ Some o → is_scene o.class ≡ false
-found_ingredient r os o other h e =
-    let hit = found (λ (x : Object). same_ref x.key r) is_whole os o h e in
-    let key : o.key ≡ r = same_ref-same o.key r hit.0 in
-    let numbered : (o.key.number == 0) ≡ false = ap (λ (k : ObjRef). k.number == 0) key ∙ other in
+pub found_ingredient : (r : ObjRef) (ps : List Fixed) (o : Fixed) → (r.number == 0) ≡ false → list_all is_whole ps ≡ true → part_at r ps ≡ Some o → is_scene o.class ≡ false
+found_ingredient r ps o other h e =
+    let hit = found (λ (x : Fixed). same_ref r x.key) is_whole ps o h e in
+    let key : r ≡ o.key = same_ref-same r o.key hit.0 in
+    let numbered : (o.key.number == 0) ≡ false = ap (λ (k : ObjRef). k.number == 0) (sym key) ∙ other in
     let no_group : not (is_group_class o.class) ≡ true = ap (λ (b : Bool). if b then is_group_class o.class else not (is_group_class o.class)) (sym numbered) ∙ hit.1 in
     by o.class no_group
   where
     by : (k : Class) → not (is_group_class k) ≡ true → is_scene k ≡ false
     by class.Scene is = absurd cc
     by _ is = refl
-
--- an application and a scene are two groups
-apart : (v : Service) (a b : List ℕ) → is_group_of is_application v a ≡ true → is_group_of is_scene v b ≡ true → bytes_eq b a ≡ false
-apart v a b app scene = by (bytes_eq b a) refl
-  where
-    both_of : (m : Option Object) → option_map_or (λ (o : Object). is_application o.class) m false ≡ true → option_map_or (λ (o : Object). is_scene o.class) m false ≡ true → ⊥
-    both_of None e f = cc
-    both_of (Some o) e f = one o.class e f
-      where
-        one : (k : Class) → is_application k ≡ true → is_scene k ≡ true → ⊥
-        one class.Application e f = cc
-        one _ e f = cc
-
-    by : (t : Bool) → bytes_eq b a ≡ t → t ≡ false
-    by true e = absurd (both_of (object_at (group_ref a) (group_objects v a)) app (subst (λ (g : List ℕ). is_group_of is_scene v g ≡ true) ((bytes_eq-Decides b a).0 e) scene))
-    by false e = refl
-
-scene_is_out : (v : Service) (a : List ℕ) (scene : Option (List ℕ)) → is_service v ≡ true → is_group_of is_application v a ≡ true → is_scene_if_any v scene ≡ true → list_all (λ o. not (is_in a o)) (scene_objects v scene) ≡ true
-scene_is_out v a None h app is = refl
-scene_is_out v a (Some g) h app is =
-    all_follow (is_in g) (λ o. not (is_in a o)) (λ o in_g. ap (λ (n : List ℕ). not (bytes_eq n a)) ((bytes_eq-Decides o.key.group g).0 in_g) ∙ ap not (apart v a g app is)) (group_objects v g) (group_objects_in v g h)
-
--- of what is present, the objects of the application are all that its group has
-pub application_objects : (v : Service) (c : Config) → is_service v ≡ true → is_group_of is_application v c.app ≡ true → is_scene_if_any v c.scene ≡ true → filter (is_in c.app) (present v c) ≡ group_objects v c.app
-application_objects v c h app scene =
-    filter-append (is_in c.app) (group_objects v c.app) (scene_objects v c.scene)
-    ∙ ap (λ (t : List Object). t ++ filter (is_in c.app) (scene_objects v c.scene)) (filter_all (is_in c.app) (group_objects v c.app) (group_objects_in v c.app h))
-    ∙ ap (λ (t : List Object). group_objects v c.app ++ t) (filter_none (is_in c.app) (scene_objects v c.scene) (scene_is_out v c.app c.scene h app scene))
-    ∙ append-nil (group_objects v c.app)

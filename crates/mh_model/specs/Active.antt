@@ -6,41 +6,53 @@ use Rattle.std.specs.Option.{option_map_or}
 use Rattle.mh_base.specs.declared.value.Value.{Value}
 use Rattle.mh_base.specs.declared.value.Value.TheVariants as value
 use Rattle.mh_group.specs.declared.attribute.Attribute.TheVariants as attribute
+use Rattle.mh_group.specs.declared.action_name.ActionName.{ActionName}
 use Rattle.mh_group.specs.Table.{is_link, is_scene}
 use Rattle.mh_model.specs.declared.act.Act.{Act}
 use Rattle.mh_model.specs.declared.config.Config.{Config}
+use Rattle.mh_model.specs.declared.act.Target.{Target}
+use Rattle.mh_model.specs.declared.act.Target.TheVariants as target
 use Rattle.mh_model.specs.declared.fault.Fault.{Fault}
-use Rattle.mh_model.specs.declared.object.Object.{Object}
+use Rattle.mh_model.specs.declared.fault.FaultKind.TheVariants as fault
+use Rattle.mh_model.specs.declared.object.Fixed.{Fixed}
 use Rattle.mh_model.specs.Property.{held, as_effect, as_value}
-use Rattle.mh_model.specs.Service.{Service, object_at}
-use Rattle.mh_model.specs.Stuck.{is_transition, class_for, stuck_act}
+use Rattle.mh_model.specs.Service.{Service, part_at}
+use Rattle.mh_model.specs.Stuck.{is_transition, class_for, stuck_at}
 use Rattle.mh_model.specs.Configuration.{is_group_of}
 
 -- the actions of an object, through its effects: start-up, close-down, and what a link does
-abbrev pub actions : Object → List Act
-actions o =
-    as_effect (held attribute.OnStartUp o.properties) ++ as_effect (held attribute.OnCloseDown o.properties)
-    ++ as_effect (held attribute.LinkEffect o.properties)
+abbrev pub actions : Fixed → List Act
+actions p =
+    as_effect (held attribute.OnStartUp p.properties) ++ as_effect (held attribute.OnCloseDown p.properties)
+    ++ as_effect (held attribute.LinkEffect p.properties)
 
 -- the source of a link is among the objects
-abbrev pub has_source : List Object → Option Value → Bool
-has_source os (Some (value.Object r)) = option_map_or (λ o. true) (object_at r os) false
-has_source os _ = false
+abbrev pub has_source : List Fixed → Option Value → Bool
+has_source ps (Some (value.Object r)) = option_map_or (λ p. true) (part_at r ps) false
+has_source ps _ = false
 
 -- the effect of a link is active where its source is present; those of a group always are
-abbrev pub is_active : List Object → Object → Bool
-is_active os o = if is_link o.class then has_source os (as_value (held attribute.EventSource o.properties)) else true
+abbrev pub is_active : List Fixed → Fixed → Bool
+is_active ps p = if is_link p.class then has_source ps (as_value (held attribute.EventSource p.properties)) else true
 
--- the actions of all active effects where these objects are present
-abbrev pub active_actions : List Object → List Act
-active_actions os = flat_map actions (filter (is_active os) os)
+-- the actions of all active effects where these are present
+abbrev pub active_actions : List Fixed → List Act
+active_actions ps = flat_map actions (filter (is_active ps) ps)
 
--- what is wrong with an action where these objects are present
-abbrev pub fault_of : Service → List Object → Act → Option Fault
-fault_of s os a = stuck_act a (class_for s os a)
+-- what is wrong with an action where these are present; of a target through a variable nothing is known yet
+abbrev pub fault_of_target : Service → List Fixed → ActionName → Target → Option Fault
+fault_of_target s ps n (target.Direct r) = stuck_at n r (class_for s ps n r)
+fault_of_target s ps n (target.Through v) = Some (record { what = fault.WrongKind; action = n; at = v })
+
+abbrev pub fault_of : Service → List Fixed → Act → Option Fault
+fault_of s ps a = fault_of_target s ps a.name a.target
 
 -- the configuration to which an action leads: a transition leads to its scene, under the same application
-abbrev pub leads : Service → Config → Act → Option Config
-leads s c a =
-    if is_transition a.name && a.target.number == 0 && is_group_of is_scene s a.target.group then Some (record c { scene = Some a.target.group })
+abbrev pub leads_to : Service → Config → ActionName → Target → Option Config
+leads_to s c n (target.Direct r) =
+    if is_transition n && r.number == 0 && is_group_of is_scene s r.group then Some (record c { scene = Some r.group })
     else None
+leads_to s c n (target.Through v) = None
+
+abbrev pub leads : Service → Config → Act → Option Config
+leads s c a = leads_to s c a.name a.target

@@ -3,28 +3,41 @@ use Rattle.std.specs.Prelude.{ℕ, Bool, true, false, ◌&&◌, ◌==◌, not, L
 use Rattle.std.specs.List.{list_all, list_any, flat_map}
 use Rattle.std.specs.Option.{option_map_or}
 use Rattle.std.specs.Str.{bytes_eq}
+use Rattle.mh_base.specs.declared.obj_ref.ObjRef.{ObjRef}
 use Rattle.mh_group.specs.declared.class.Class.{Class}
 use Rattle.mh_group.specs.Table.{is_group_class, is_scene, is_application}
 use Rattle.mh_model.specs.declared.config.Config.{Config}
-use Rattle.mh_model.specs.declared.object.Object.{Object}
-use Rattle.mh_model.specs.Service.{Service, object_at, group_ref, group_objects, is_in}
+use Rattle.mh_model.specs.declared.object.Fixed.{Fixed}
+use Rattle.mh_model.specs.Service.{Service, same_ref, part_at, group_ref, group_parts, is_in}
 
 -- the group of this name is of such a class: its object with number 0 is
 abbrev pub is_group_of : (Class → Bool) → Service → List ℕ → Bool
-is_group_of is_class s g = option_map_or (λ o. is_class o.class) (object_at (group_ref g) (group_objects s g)) false
+is_group_of is_class s g = option_map_or (λ p. is_class p.class) (part_at (group_ref g) (group_parts s g)) false
 
--- What every service is. The objects of a group begin with the group itself, and no other of them is a
+-- What every service is. The parts of a group begin with the group itself, and no other of them is a
 -- group; and the start is an application.
 
-abbrev pub is_ingredient_of : List ℕ → Object → Bool
-is_ingredient_of g o = is_in g o && not (o.key.number == 0) && not (is_group_class o.class)
+abbrev pub is_ingredient_of : List ℕ → Fixed → Bool
+is_ingredient_of g p = is_in g p && not (p.key.number == 0) && not (is_group_class p.class)
 
-abbrev pub is_group_list : List ℕ → List Object → Bool
+abbrev pub is_group_list : List ℕ → List Fixed → Bool
 is_group_list g [] = false
-is_group_list g (o ∷ os) = is_in g o && o.key.number == 0 && is_group_class o.class && list_all (is_ingredient_of g) os
+is_group_list g (p ∷ ps) = is_in g p && p.key.number == 0 && is_group_class p.class && list_all (is_ingredient_of g) ps
 
 unfoldable pub is_service : Service → Bool
 is_service s = list_all (λ e. is_group_list e.0 e.1) s.groups && is_group_of is_application s s.start
+
+-- no two parts of a group have one key
+
+abbrev pub is_keyed : ObjRef → List Fixed → Bool
+is_keyed r ps = list_any (λ p. same_ref r p.key) ps
+
+abbrev pub are_apart : List Fixed → Bool
+are_apart [] = true
+are_apart (p ∷ ps) = not (is_keyed p.key ps) && are_apart ps
+
+unfoldable pub has_keys : Service → Bool
+has_keys s = list_all (λ e. are_apart e.1) s.groups
 
 -- Configurations.
 
@@ -32,13 +45,13 @@ is_service s = list_all (λ e. is_group_list e.0 e.1) s.groups && is_group_of is
 abbrev pub starting : Service → Config
 starting s = record { app = s.start; scene = None }
 
-abbrev pub scene_objects : Service → Option (List ℕ) → List Object
-scene_objects s None = []
-scene_objects s (Some g) = group_objects s g
+abbrev pub scene_parts : Service → Option (List ℕ) → List Fixed
+scene_parts s None = []
+scene_parts s (Some g) = group_parts s g
 
--- the objects that are present, as their files give them: the application's, then the scene's
-abbrev pub present : Service → Config → List Object
-present s c = group_objects s c.app ++ scene_objects s c.scene
+-- what is present, as the files say it: the application's parts, then the scene's
+abbrev pub present : Service → Config → List Fixed
+present s c = group_parts s c.app ++ scene_parts s c.scene
 
 abbrev pub same_scene : Option (List ℕ) → Option (List ℕ) → Bool
 same_scene None None = true

@@ -1,6 +1,6 @@
 -- The first example, played by the definitions alone: one application that transits to a scene with a
 -- red rectangle, which moves by one cell when the red key comes.
-use Rattle.std.specs.Prelude.{◌≡◌, ◌==◌, if◌then◌else◌, ℕ, Bool, true, false, List, [], ◌∷◌, pos, replicate}
+use Rattle.std.specs.Prelude.{◌≡◌, ◌==◌, if◌then◌else◌, ℕ, Bool, true, List, [], ◌∷◌, pos, replicate}
 use Rattle.std.specs.List.{list_all, list_any, range_with_len}
 use Rattle.mh_base.specs.declared.value.Value.TheVariants as value
 use Rattle.mh_base.specs.declared.event.EventType.TheVariants as event
@@ -10,14 +10,16 @@ use Rattle.mh_group.specs.declared.attribute.Attribute.TheVariants as attribute
 use Rattle.mh_model.specs.declared.act.Act.{Act}
 use Rattle.mh_model.specs.declared.fault.Fault.{Fault}
 use Rattle.mh_model.specs.declared.fault.FaultKind.TheVariants as fault
-use Rattle.mh_model.specs.declared.object.Held.TheVariants as of
-use Rattle.mh_model.specs.declared.object.Object.{Object}
+use Rattle.mh_model.specs.declared.held.Held.TheVariants as of
+use Rattle.mh_model.specs.declared.act.Argument.TheVariants as argument
+use Rattle.mh_model.specs.declared.act.Target.TheVariants as target
+use Rattle.mh_model.specs.declared.object.Fixed.{Fixed}
 use Rattle.mh_model.specs.declared.input.Input.TheVariants as input
 use Rattle.mh_model.specs.declared.input.Move.{Move}
 use Rattle.mh_model.specs.declared.input.Move.TheVariants as move
 use Rattle.mh_model.specs.declared.key.Key.TheVariants as key
 use Rattle.mh_model.specs.Service.{Service, group_ref}
-use Rattle.mh_model.specs.State.{State, begun}
+use Rattle.mh_model.specs.State.{State, all, begun}
 use Rattle.mh_model.specs.Step.{run, is_idle}
 use Rattle.mh_model.specs.declared.visible.Visible.{Visible}
 use Rattle.mh_model.specs.Picture.{visibles, back_at}
@@ -29,25 +31,21 @@ a = 97 ∷ []
 abbrev pub s : List ℕ
 s = 115 ∷ []
 
-abbrev pub application : Object
+abbrev pub application : Fixed
 application = record {
   key = group_ref a;
   class = class.Application;
-  properties = record { attribute = attribute.OnStartUp; held = of.Effect (record { name = action.TransitionTo; target = group_ref s; arguments = [] } ∷ []) } ∷ [];
-  available = false;
-  running = false;
+  properties = record { attribute = attribute.OnStartUp; held = of.Effect (record { name = action.TransitionTo; target = target.Direct (group_ref s); arguments = [] } ∷ []) } ∷ [];
 }
 
-abbrev pub scene : Object
+abbrev pub scene : Fixed
 scene = record {
   key = group_ref s;
   class = class.Scene;
   properties = record { attribute = attribute.InputEventReg; held = of.Value (value.Int (pos 3)) } ∷ [];
-  available = false;
-  running = false;
 }
 
-abbrev pub rectangle : Object
+abbrev pub rectangle : Fixed
 rectangle = record {
   key = record { group = s; number = 10 };
   class = class.Rectangle;
@@ -57,14 +55,12 @@ rectangle = record {
       ∷ record { attribute = attribute.OrigLineWidth; held = of.Value (value.Int (pos 0)) }
       ∷ record { attribute = attribute.OrigRefFillColour; held = of.Colour (record { red = 255; green = 0; blue = 0; transparency = 0 }) }
       ∷ [];
-  available = false;
-  running = false;
 }
 
 abbrev pub move_it : ℕ → Act
-move_it n = record { name = action.SetPosition; target = record { group = s; number = n }; arguments = value.Int (pos 24) ∷ value.Int (pos 16) ∷ [] }
+move_it n = record { name = action.SetPosition; target = target.Direct (record { group = s; number = n }); arguments = argument.Direct (value.Int (pos 24)) ∷ argument.Direct (value.Int (pos 16)) ∷ [] }
 
-abbrev pub link : ℕ → Object
+abbrev pub link : ℕ → Fixed
 link n = record {
   key = record { group = s; number = 11 };
   class = class.Link;
@@ -74,8 +70,6 @@ link n = record {
       ∷ record { attribute = attribute.EventData; held = of.Value (value.Int (pos 100)) }
       ∷ record { attribute = attribute.LinkEffect; held = of.Effect (move_it n ∷ []) }
       ∷ [];
-  available = false;
-  running = false;
 }
 
 -- the link moves the object with this number
@@ -98,11 +92,11 @@ moved_on = run (move.Post (input.Key key.Red) ∷ steps 2) settled
 
 -- the colour behind a cell
 abbrev pub back_of : State → ℕ → ℕ
-back_of x c = back_at (reverse (visibles x.objects x.stack)) c
+back_of x c = back_at (reverse (visibles (all x.objects) x.stack)) c
 
 -- what is seen, the topmost first
 abbrev pub seen_in : State → List Visible
-seen_in x = reverse (visibles x.objects x.stack)
+seen_in x = reverse (visibles (all x.objects) x.stack)
 
 -- of the 60 by 36 cells, counted row by row, exactly these are red, and all others are black
 abbrev pub shows_red : List ℕ → List Visible → Bool

@@ -15,9 +15,10 @@ use Rattle.mh_model.specs.declared.act.Act.{Act}
 use Rattle.mh_model.specs.declared.event.Event.{Event}
 use Rattle.mh_model.specs.declared.item.Item.{Item}
 use Rattle.mh_model.specs.declared.item.Item.TheVariants as item
+use Rattle.mh_model.specs.declared.object.Fixed.{Fixed}
 use Rattle.mh_model.specs.declared.object.Object.{Object}
 use Rattle.mh_model.specs.Property.{held, as_bool, as_value, as_event, as_effect}
-use Rattle.mh_model.specs.Service.{same_ref, object_at, group_ref, is_in}
+use Rattle.mh_model.specs.Service.{Service, same_ref, part_at, group_ref, group_parts}
 
 -- values are the same where their kinds are, too
 abbrev pub same_value : Value → Value → Bool
@@ -45,9 +46,9 @@ hears_type None kind = false
 -- a link matches an event when it runs, and its source, type and data are the event's
 abbrev pub matches : Event → Object → Bool
 matches e o =
-    is_link o.class && o.running && hears_source (as_value (held attribute.EventSource o.properties)) e.source
-    && hears_type (as_event (held attribute.EventType o.properties)) e.kind
-    && hears_data (as_value (held attribute.EventData o.properties)) e.data
+    is_link o.fixed.class && o.body.running && hears_source (as_value (held attribute.EventSource o.fixed.properties)) e.source
+    && hears_type (as_event (held attribute.EventType o.fixed.properties)) e.kind
+    && hears_data (as_value (held attribute.EventData o.fixed.properties)) e.data
 
 -- the actions of an effect, as items
 abbrev pub acts : List Act → List Item
@@ -56,44 +57,51 @@ acts as_written = map item.Act as_written
 -- the actions of the effects of all links that match, in the order of the objects
 abbrev pub heard : Event → List Object → List Item
 heard e [] = []
-heard e (o ∷ os) = (if matches e o then acts (as_effect (held attribute.LinkEffect o.properties)) else []) ++ heard e os
+heard e (o ∷ os) = (if matches e o then acts (as_effect (held attribute.LinkEffect o.fixed.properties)) else []) ++ heard e os
 
 -- an event without data
 abbrev pub plain_event : ObjRef → EventType → Item
 plain_event source kind = item.Emit (record { source = source; kind = kind; «data» = None })
 
-abbrev pub is_initially_active : Object → Bool
-is_initially_active o = is_runnable o.class && as_bool true (held attribute.InitiallyActive o.properties)
+-- Groups. What is put when one is entered or left is told by what its file says.
 
-abbrev pub runs : List Object → List Item
-runs os = map (λ o. item.Run o.key) os
+abbrev pub is_initially_active : Fixed → Bool
+is_initially_active p = is_runnable p.class && as_bool true (held attribute.InitiallyActive p.properties)
 
-abbrev pub halts : List Object → List Item
-halts os = map (λ o. item.Halt o.key) os
+abbrev pub is_shared : Fixed → Bool
+is_shared p = as_bool false (held attribute.Shared p.properties)
+
+abbrev pub runs : List Fixed → List Item
+runs ps = map (λ p. item.Run p.key) ps
+
+abbrev pub halts : List Fixed → List Item
+halts ps = map (λ p. item.Halt p.key) ps
 
 -- an effect of a group itself
-abbrev pub effect_of : Option Object → Attribute → List Item
+abbrev pub effect_of : Option Fixed → Attribute → List Item
 effect_of None a = []
-effect_of (Some o) a = acts (as_effect (held a o.properties))
+effect_of (Some p) a = acts (as_effect (held a p.properties))
+
+abbrev pub group_effect : Service → List ℕ → Attribute → List Item
+group_effect v g a = effect_of (part_at (group_ref g) (group_parts v g)) a
 
 -- entering a group: its start-up, then its active ingredients run in Items order, then it runs
-abbrev pub entering : List ℕ → List Object → List Item
-entering g os =
-    effect_of (object_at (group_ref g) os) attribute.OnStartUp ++ runs (filter is_initially_active (filter (is_in g) os))
+abbrev pub entering : Service → List ℕ → List Item
+entering v g =
+    group_effect v g attribute.OnStartUp ++ runs (filter is_initially_active (group_parts v g))
     ++ plain_event (group_ref g) event.IsRunning ∷ []
 
-abbrev pub is_shared : Object → Bool
-is_shared o = as_bool false (held attribute.Shared o.properties)
-
 -- leaving the current scene, if there is one
-abbrev pub closing : Option (List ℕ) → List Object → List Item
-closing None os = []
-closing (Some scene) os =
-    effect_of (object_at (group_ref scene) os) attribute.OnCloseDown ++ halts (filter (λ o. is_runnable o.class) (filter (is_in scene) (reverse os)))
+abbrev pub closing : Service → Option (List ℕ) → List Item
+closing v None = []
+closing v (Some scene) =
+    group_effect v scene attribute.OnCloseDown
+    ++ halts (filter (λ p. is_runnable p.class) (reverse (group_parts v scene)))
 
 -- A transition: the scene closes down, its objects halt in reverse order, then those of the
 -- application that are not shared, and the scene is exchanged for the other.
-abbrev pub leaving : List ℕ → Option (List ℕ) → List Object → List ℕ → List Item
-leaving application scene os target =
-    closing scene os ++ halts (filter (λ o. is_runnable o.class && not (is_shared o)) (filter (is_in application) (reverse os)))
+abbrev pub leaving : Service → List ℕ → Option (List ℕ) → List ℕ → List Item
+leaving v application scene target =
+    closing v scene
+    ++ halts (filter (λ p. is_runnable p.class && not (is_shared p)) (reverse (group_parts v application)))
     ++ item.Exchange target ∷ []

@@ -5,6 +5,9 @@ pub mod Service
 pub mod State
 pub mod Items
 pub mod Stuck
+pub mod Sort
+pub mod Arguments
+pub mod Bodies
 pub mod Rules
 pub mod Step
 pub mod Planes

@@ -10,9 +10,9 @@ use Rattle.mh_model.specs.declared.object.Object.{Object}
 use Rattle.mh_model.specs.declared.visible.Visible.{Visible}
 use Rattle.mh_model.specs.declared.cell.Cell.{Cell}
 use Rattle.mh_model.specs.Planes.{Planes}
-use Rattle.mh_model.specs.Property.{held, as_pair, as_int, as_colour}
+use Rattle.mh_model.specs.Property.{read, as_pair, as_int, as_colour}
 use Rattle.mh_model.specs.Service.{object_at}
-use Rattle.mh_model.specs.State.{State}
+use Rattle.mh_model.specs.State.{State, all}
 
 -- a plane, made number by number
 unfoldable pub plane : (ℕ → ℕ) → List ℕ
@@ -71,13 +71,13 @@ transparent_black = record { red = 0; green = 0; blue = 0; transparency = 255 }
 
 abbrev pub visible_of : Object → Visible
 visible_of o =
-    let size = as_pair (held attribute.OrigBoxSize o.properties) in
-    let position = as_pair (held attribute.OrigPosition o.properties) in
+    let size = as_pair (read attribute.OrigBoxSize o) in
+    let position = as_pair (read attribute.OrigPosition o) in
     record {
       area = record { x = position.0; y = position.1; width = size.0; height = size.1 };
-      has_line = int_lt (pos 0) (as_int (pos 1) (held attribute.OrigLineWidth o.properties));
-      line = paint_of (as_colour opaque_black (held attribute.OrigRefLineColour o.properties));
-      fill = paint_of (as_colour transparent_black (held attribute.OrigRefFillColour o.properties));
+      has_line = int_lt (pos 0) (as_int (pos 1) (read attribute.OrigLineWidth o));
+      line = paint_of (as_colour opaque_black (read attribute.OrigRefLineColour o));
+      fill = paint_of (as_colour transparent_black (read attribute.OrigRefFillColour o));
     }
 
 -- the back colour that a visible gives to a cell, if it gives one
@@ -100,7 +100,7 @@ cell_at vs c = record { scalar = 32; fore = 0; back = back_at vs c }
 -- only visibles that are available and running are painted
 abbrev pub painted : Option Object → Option Visible
 painted None = None
-painted (Some o) = if is_visible o.class && o.available && o.running then Some (visible_of o) else None
+painted (Some o) = if is_visible o.fixed.class && o.body.available && o.body.running then Some (visible_of o) else None
 
 -- what is painted, the bottom first
 abbrev pub visibles : List Object → List ObjRef → List Visible
@@ -112,4 +112,4 @@ picture os stack = picture_of (cell_at (reverse (visibles os stack)))
 
 -- the picture that a state shows
 abbrev pub shown : State → Planes
-shown s = picture s.objects s.stack
+shown s = picture (all s.objects) s.stack

@@ -1,8 +1,8 @@
--- What an object holds under an attribute: what was put there last, else what was written, else the
--- default of the tables.
+-- What an object holds under an attribute: what was changed, else what was written, else the default of the
+-- tables.
 use Rattle.std.specs.Prelude.{Bool, ◌==◌, List, [], Option, Some, None, ℤ, pos}
 use Rattle.std.specs.List.{find}
-use Rattle.std.specs.Option.{option_map}
+use Rattle.std.specs.Option.{option_map, option_or}
 use Rattle.mh_base.specs.declared.value.Value.{Value}
 use Rattle.mh_base.specs.declared.value.Value.TheVariants as value
 use Rattle.mh_base.specs.declared.colour.Colour.{Colour}
@@ -10,9 +10,12 @@ use Rattle.mh_base.specs.declared.event.EventType.{EventType}
 use Rattle.mh_group.specs.declared.attribute.Attribute.{Attribute}
 use Rattle.mh_group.specs.Table.{attribute_number}
 use Rattle.mh_model.specs.declared.act.Act.{Act}
-use Rattle.mh_model.specs.declared.object.Held.{Held}
-use Rattle.mh_model.specs.declared.object.Held.TheVariants as of
-use Rattle.mh_model.specs.declared.object.Property.{Property}
+use Rattle.mh_model.specs.declared.held.Held.{Held}
+use Rattle.mh_model.specs.declared.held.Held.TheVariants as of
+use Rattle.mh_model.specs.declared.held.Property.{Property}
+use Rattle.mh_model.specs.declared.object.Body.{Body}
+use Rattle.mh_model.specs.declared.object.Fixed.{Fixed}
+use Rattle.mh_model.specs.declared.object.Object.{Object}
 use Rattle.mh_model.specs.First.{put_first}
 
 abbrev pub is_of : Attribute → Property → Bool
@@ -25,6 +28,13 @@ held a ps = option_map (λ p. p.held) (find (is_of a) ps)
 -- the properties with this held under the attribute
 abbrev pub with_held : Attribute → Held → List Property → List Property
 with_held a h ps = put_first (is_of a) (record { attribute = a; held = h }) ps
+
+-- what is read of an object: what was changed, else what was written
+abbrev pub read_of : Attribute → Fixed → Body → Option Held
+read_of a p b = option_or (held a b.changes) (held a p.properties)
+
+abbrev pub read : Attribute → Object → Option Held
+read a o = read_of a o.fixed o.body
 
 abbrev pub as_bool : Bool → Option Held → Bool
 as_bool d (Some (of.Value (value.Bool b))) = b

@@ -1,30 +1,46 @@
--- Services: groups by their names, each a list of objects with the group itself first.
-use Rattle.std.specs.Prelude.{ℕ, Bool, ◌==◌, ◌&&◌, List, [], Option, unwrap_or}
+-- Services: groups by their names, each a list of what its file says of its objects, the group itself first.
+use Rattle.std.specs.Prelude.{ℕ, Bool, false, ◌==◌, ◌&&◌, List, [], map, Option, unwrap_or}
 use Rattle.std.specs.List.{find}
 use Rattle.std.specs.Option.{option_map}
 use Rattle.std.specs.Str.{bytes_eq}
 use Rattle.mh_base.specs.declared.obj_ref.ObjRef.{ObjRef}
+use Rattle.mh_model.specs.declared.object.Fixed.{Fixed}
 use Rattle.mh_model.specs.declared.object.Object.{Object}
 
--- a finite map from the names of groups to their objects, and the application to start with
+-- a finite map from the names of groups to what they say of their objects, and the application to start with
 pub record Service : Type 0 where
-  pub groups : List (List ℕ × List Object)
+  pub groups : List (List ℕ × List Fixed)
   pub start : List ℕ
 
 abbrev pub same_ref : ObjRef → ObjRef → Bool
 same_ref a b = bytes_eq a.group b.group && a.number == b.number
 
+-- the part to which a reference leads, if it is among these
+abbrev pub part_at : ObjRef → List Fixed → Option Fixed
+part_at r ps = find (λ p. same_ref r p.key) ps
+
 -- the object to which a reference leads, if it is among these
 abbrev pub object_at : ObjRef → List Object → Option Object
-object_at r os = find (λ o. same_ref o.key r) os
+object_at r os = find (λ o. same_ref r o.fixed.key) os
 
--- the objects of a group as its file gives them; none where the service has no such group
+-- what the files say of these objects
+abbrev pub parts : List Object → List Fixed
+parts os = map (λ o. o.fixed) os
+
+-- the group's parts as its file gives them; none where the service has no such group
+abbrev pub group_parts : Service → List ℕ → List Fixed
+group_parts s g = unwrap_or (option_map (λ e. e.1) (find (λ e. bytes_eq e.0 g) s.groups)) []
+
+-- an object when its group is entered: nothing is changed, and it is neither available nor running
+abbrev pub fresh : Fixed → Object
+fresh p = record { fixed = p; body = record { changes = []; available = false; running = false } }
+
 abbrev pub group_objects : Service → List ℕ → List Object
-group_objects s g = unwrap_or (option_map (λ e. e.1) (find (λ e. bytes_eq e.0 g) s.groups)) []
+group_objects s g = map fresh (group_parts s g)
 
 -- the group itself
 abbrev pub group_ref : List ℕ → ObjRef
 group_ref g = record { group = g; number = 0 }
 
-abbrev pub is_in : List ℕ → Object → Bool
-is_in g o = bytes_eq o.key.group g
+abbrev pub is_in : List ℕ → Fixed → Bool
+is_in g p = bytes_eq p.key.group g

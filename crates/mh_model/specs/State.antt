@@ -1,5 +1,5 @@
 -- The state of the object machine.
-use Rattle.std.specs.Prelude.{ℕ, Bool, false, List, [], ◌∷◌, Option, None}
+use Rattle.std.specs.Prelude.{ℕ, Bool, false, List, [], ◌∷◌, ◌++◌, Option, None}
 use Rattle.mh_base.specs.declared.obj_ref.ObjRef.{ObjRef}
 use Rattle.mh_model.specs.declared.object.Object.{Object}
 use Rattle.mh_model.specs.declared.item.Item.{Item}
@@ -8,14 +8,23 @@ use Rattle.mh_model.specs.declared.input.Input.{Input}
 use Rattle.mh_model.specs.declared.fault.Fault.{Fault}
 use Rattle.mh_model.specs.Service.{Service, group_objects}
 
+-- the objects that are present: those of the active application, and those of the current scene, each group
+-- in Items order
+pub record Objects : Type 0 where
+  pub application : List Object
+  pub scene : List Object
+
+-- all of them, the application's first
+abbrev pub all : Objects → List Object
+all os = os.application ++ os.scene
+
 pub record State : Type 0 where
   -- the service, which stays as it is
   pub service : Service
   -- the configuration: the active application, and the current scene if there is one
   pub application : List ℕ
   pub scene : Option (List ℕ)
-  -- the present objects: those of the application, then those of the scene, each group in Items order
-  pub objects : List Object
+  pub objects : Objects
   -- the display stack, the bottom first
   pub stack : List ObjRef
   -- the inputs that wait
@@ -34,7 +43,7 @@ begun s = record {
   service = s;
   application = s.start;
   scene = None;
-  objects = group_objects s s.start;
+  objects = record { application = group_objects s s.start; scene = [] };
   stack = [];
   queue = [];
   work = item.Enter s.start ∷ [];

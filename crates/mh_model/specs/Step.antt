@@ -12,34 +12,33 @@ use Rattle.mh_model.specs.declared.input.Move.{Move}
 use Rattle.mh_model.specs.declared.input.Move.TheVariants as move
 use Rattle.mh_model.specs.declared.item.Item.{Item}
 use Rattle.mh_model.specs.declared.key.Key.{Key}
+use Rattle.mh_model.specs.declared.object.Fixed.{Fixed}
 use Rattle.mh_model.specs.declared.object.Object.{Object}
 use Rattle.mh_model.specs.Key.{key_number, passes}
 use Rattle.mh_model.specs.Property.{held, as_int}
-use Rattle.mh_model.specs.Service.{object_at, group_ref}
-use Rattle.mh_model.specs.State.{State}
+use Rattle.mh_model.specs.Service.{Service, part_at, group_ref, group_parts}
+use Rattle.mh_model.specs.State.{State, all}
 use Rattle.mh_model.specs.Items.{heard}
 use Rattle.mh_model.specs.Stuck.{stuck}
 use Rattle.mh_model.specs.Rules.{rule}
 
 -- the input event register of a scene
-abbrev pub register_of : Option Object → ℤ
+abbrev pub register_of : Option Fixed → ℤ
 register_of None = pos 4
-register_of (Some o) = as_int (pos 4) (held attribute.InputEventReg o.properties)
+register_of (Some p) = as_int (pos 4) (held attribute.InputEventReg p.properties)
 
 -- a key, as an event of the scene, has its number as data
 abbrev pub key_event : Key → ObjRef → Event
 key_event k source = record { source = source; kind = event.UserInput; «data» = Some (value.Int (key_number k)) }
 
 -- a key that the scene hears puts the actions of the links that wait for it
-abbrev pub key_items : Key → Option (List ℕ) → List Object → List Item
-key_items k None os = []
-key_items k (Some g) os = if passes (register_of (object_at (group_ref g) os)) k then heard (key_event k (group_ref g)) os else []
-
-abbrev pub input_items_in : Input → Option (List ℕ) → List Object → List Item
-input_items_in (input.Key k) scene os = key_items k scene os
+abbrev pub key_items : Key → Service → Option (List ℕ) → List Object → List Item
+key_items k v None os = []
+key_items k v (Some g) os =
+    if passes (register_of (part_at (group_ref g) (group_parts v g))) k then heard (key_event k (group_ref g)) os else []
 
 abbrev pub input_items : Input → State → List Item
-input_items i s = input_items_in i s.scene s.objects
+input_items (input.Key k) s = key_items k s.service s.scene (all s.objects)
 
 -- The work list is touched at its front alone: `slice_get 0` is the first item, and `drop 1` the rest.
 

@@ -1,14 +1,32 @@
-//! Elementary actions as the machine does them: with their names resolved.
-use mh_base::{ObjRef, Shared, Value};
+//! Elementary actions as they are written, with their names resolved.
+use mh_base::{Kind, ObjRef, Shared, Value};
 use mh_group::ActionName;
 
-/// An elementary action (ISO/IEC 13522-5, ElementaryAction) whose references are resolved.
+/// What an action is done to (ISO/IEC 13522-5, the target of an ElementaryAction).
+#[derive(Clone, Drop)]
+pub enum Target {
+    Direct(ObjRef),
+    /// The object to which this variable refers when the action is done.
+    Through(ObjRef),
+}
+
+/// A parameter of an action.
+#[derive(Clone, Drop)]
+pub enum Argument {
+    Direct(Value),
+    /// The value that this variable holds when the action is done, and its kind, if that is written.
+    Through(ObjRef, Option<Kind>),
+    /// The variable that receives an answer.
+    Receiver(ObjRef),
+}
+
+/// An elementary action (ISO/IEC 13522-5, ElementaryAction) whose names are resolved.
 #[derive(Clone, Drop)]
 pub struct Act {
     pub name: ActionName,
-    pub target: ObjRef,
-    /// The values of its parameters, in written order.
-    pub arguments: Shared<Value>,
+    pub target: Target,
+    /// In written order. What a program is called with follows its receiver.
+    pub arguments: Shared<Argument>,
 }
 
 /// What is done, in order, when an event comes.

@@ -5,8 +5,8 @@ use Rattle.std.proofs.lemmas.Bool.Decides.{eqb_tells}
 use Rattle.mh_model.specs.declared.fault.Fault.{Fault}
 use Rattle.mh_model.specs.declared.item.Item.{Item}
 use Rattle.mh_model.specs.Stuck.{stuck}
-use Rattle.mh_engine.specs.declared.stepped.Stepped.TheVariants.{Idle}
-use Rattle.mh_engine.specs.Answer.{judged, answer_by, answer_of}
+use Rattle.mh_machine.specs.declared.stepped.Stepped.TheVariants.{Idle}
+use Rattle.mh_machine.specs.Rest.{judged, answer_by, answer_of}
 use Rattle.mh_model.specs.State.{State}
 use Rattle.mh_model.specs.declared.input.Input.{Input}
 use Rattle.mh_model.specs.Step.{step, step_by, stepped, posted, is_full, is_empty, is_idle, most_steps}

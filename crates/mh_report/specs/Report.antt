@@ -11,9 +11,9 @@ use Rattle.mh_model.specs.Picture.{shown}
 use Rattle.mh_model.specs.Service.{Service}
 use Rattle.mh_model.specs.State.{State, begun}
 use Rattle.mh_model.specs.Step.{posted, stepped, is_full}
-use Rattle.mh_engine.specs.Answer.{rest_of}
-use Rattle.mh_engine.specs.declared.rest.Rest.{Rest}
-use Rattle.mh_engine.specs.declared.rest.Rest.TheVariants as rest
+use Rattle.mh_machine.specs.Rest.{rest_of}
+use Rattle.mh_machine.specs.declared.rest.Rest.{Rest}
+use Rattle.mh_machine.specs.declared.rest.Rest.TheVariants as rest
 use Rattle.mh_report.specs.declared.script.Command.{Command}
 use Rattle.mh_report.specs.declared.script.Command.TheVariants as command
 use Rattle.mh_report.specs.declared.status.Status.{Status}

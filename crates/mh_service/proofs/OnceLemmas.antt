@@ -4,7 +4,7 @@ use Rattle.std.specs.List.{IsDistinct, AllByRecursion, flat_map}
 use Rattle.std.specs.Str.{bytes_eq}
 use Rattle.mh_group.specs.Table.{is_scene, is_application}
 use Rattle.mh_model.specs.declared.config.Config.{Config}
-use Rattle.mh_model.specs.declared.object.Object.{Object}
+use Rattle.mh_model.specs.declared.object.Fixed.{Fixed}
 use Rattle.mh_model.specs.Service.{Service}
 use Rattle.mh_model.specs.Configuration.{same_config, same_scene, with_scenes, configurations, names, is_group_of}
 
@@ -90,5 +90,5 @@ distinct_all (app ∷ apps) scenes h k =
 pub each_once : (s : Service) → IsDistinct bytes_eq (map (λ e. e.0) s.groups) → IsDistinct same_config (configurations s)
 each_once s h =
     distinct_all (names is_application s) (names is_scene s)
-    (distinct_kept bytes_eq (is_group_of is_application s) (map (λ (e : List ℕ × List Object). e.0) s.groups) h)
-    (distinct_kept bytes_eq (is_group_of is_scene s) (map (λ (e : List ℕ × List Object). e.0) s.groups) h)
+    (distinct_kept bytes_eq (is_group_of is_application s) (map (λ (e : List ℕ × List Fixed). e.0) s.groups) h)
+    (distinct_kept bytes_eq (is_group_of is_scene s) (map (λ (e : List ℕ × List Fixed). e.0) s.groups) h)

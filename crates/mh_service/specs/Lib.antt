@@ -1,3 +1,4 @@
+pub mod Gives
 pub mod Resolved
 pub mod Limits
 pub mod Refusals

@@ -1,12 +1,14 @@
--- What a written group means: its objects, with every reference resolved, where all of its names lead
+-- What a written group says of its objects, with every reference resolved, where all of its names lead
 -- to paths.
-use Rattle.std.specs.Prelude.{ℕ, Bool, true, false, ◌&&◌, List, [], ◌∷◌, map, Option, pos}
-use Rattle.std.specs.List.{list_all, find}
+use Rattle.std.specs.Prelude.{ℕ, Bool, true, ◌&&◌, List, [], ◌∷◌, map, Option, Some, None, pos}
+use Rattle.std.specs.List.{list_all, find, flat_map}
 use Rattle.std.specs.Option.{option_map}
 use Rattle.std.specs.Str.{bytes_eq}
 use Rattle.mh_base.specs.Path.{is_path, led_to}
 use Rattle.mh_base.specs.Event.{number_of}
 use Rattle.mh_base.specs.declared.obj_ref.ObjRef.{ObjRef}
+use Rattle.mh_base.specs.declared.value.Kind.{Kind}
+use Rattle.mh_base.specs.declared.value.Kind.TheVariants as kind
 use Rattle.mh_base.specs.declared.value.Value.{Value}
 use Rattle.mh_base.specs.declared.value.Value.TheVariants as value
 use Rattle.mh_group.specs.declared.class.Class.{Class}
@@ -32,10 +34,14 @@ use Rattle.mh_group.specs.declared.written.Written.{Written}
 use Rattle.mh_group.specs.Words.{justification_number}
 use Rattle.mh_group.specs.Fit.{items_of}
 use Rattle.mh_model.specs.declared.act.Act.{Act}
-use Rattle.mh_model.specs.declared.object.Held.{Held}
-use Rattle.mh_model.specs.declared.object.Held.TheVariants as held
-use Rattle.mh_model.specs.declared.object.Property.{Property}
-use Rattle.mh_model.specs.declared.object.Object.{Object}
+use Rattle.mh_model.specs.declared.act.Argument.{Argument}
+use Rattle.mh_model.specs.declared.act.Argument.TheVariants as argument
+use Rattle.mh_model.specs.declared.act.Target.{Target}
+use Rattle.mh_model.specs.declared.act.Target.TheVariants as target
+use Rattle.mh_model.specs.declared.held.Held.{Held}
+use Rattle.mh_model.specs.declared.held.Held.TheVariants as held
+use Rattle.mh_model.specs.declared.held.Property.{Property}
+use Rattle.mh_model.specs.declared.object.Fixed.{Fixed}
 
 -- References. A number alone is an object of the group in which it is written.
 
@@ -48,19 +54,20 @@ abbrev pub leads : List ℕ → Ref → Bool
 leads from (ref.Here n) = true
 leads from (ref.In name n) = is_path (led_to from name)
 
--- Actions. An indirect target or parameter stands as the reference to its variable.
+-- Actions, as they are written. An indirect target or parameter is the reference to its variable.
 
-abbrev pub target_of : List ℕ → Generic Ref → ObjRef
-target_of from (generic.Direct r) = ref_of from r
-target_of from (generic.Indirect r) = ref_of from r
+abbrev pub target_of : List ℕ → Generic Ref → Target
+target_of from (generic.Direct r) = target.Direct (ref_of from r)
+target_of from (generic.Indirect r) = target.Through (ref_of from r)
 
 abbrev pub target_leads : List ℕ → Generic Ref → Bool
 target_leads from (generic.Direct r) = leads from r
 target_leads from (generic.Indirect r) = leads from r
 
-abbrev pub generic_of : {A : Type 0} → (A → Value) → List ℕ → Generic A → Value
-generic_of value_of from (generic.Direct x) = value_of x
-generic_of value_of from (generic.Indirect r) = value.Object (ref_of from r)
+-- with the kind of the value, if that is written
+abbrev pub generic_of : {A : Type 0} → (A → Value) → Option Kind → List ℕ → Generic A → Argument
+generic_of value_of k from (generic.Direct x) = argument.Direct (value_of x)
+generic_of value_of k from (generic.Indirect r) = argument.Through (ref_of from r) k
 
 abbrev pub generic_leads : {A : Type 0} → (A → Bool) → List ℕ → Generic A → Bool
 generic_leads value_leads from (generic.Direct x) = value_leads x
@@ -80,12 +87,12 @@ object_value from r = value.Object (ref_of from r)
 abbrev pub content_value : List ℕ → List ℕ → Value
 content_value from name = value.Content (led_to from name)
 
-abbrev pub typed_of : List ℕ → Typed → Value
-typed_of from (typed.Bool x) = generic_of value.Bool from x
-typed_of from (typed.Int x) = generic_of value.Int from x
-typed_of from (typed.Octets x) = generic_of value.Octets from x
-typed_of from (typed.Ref x) = generic_of (object_value from) from x
-typed_of from (typed.ContentRef x) = generic_of (content_value from) from x
+abbrev pub typed_of : List ℕ → Typed → Argument
+typed_of from (typed.Bool x) = generic_of value.Bool (Some kind.Bool) from x
+typed_of from (typed.Int x) = generic_of value.Int (Some kind.Int) from x
+typed_of from (typed.Octets x) = generic_of value.Octets (Some kind.Octets) from x
+typed_of from (typed.Ref x) = generic_of (object_value from) (Some kind.Object) from x
+typed_of from (typed.ContentRef x) = generic_of (content_value from) (Some kind.Content) from x
 
 abbrev pub typed_leads : List ℕ → Typed → Bool
 typed_leads from (typed.Bool x) = generic_leads is_nameless from x
@@ -107,36 +114,40 @@ abbrev pub data_of : EventData → Value
 data_of (event_data.Bool b) = value.Bool b
 data_of (event_data.Int x) = value.Int x
 
--- what a call is made with stands as no octets, since calls are not played yet
-abbrev pub argument_of : List ℕ → Parameter → Value
-argument_of from (parameter.Bool x) = generic_of value.Bool from x
-argument_of from (parameter.Int x) = generic_of value.Int from x
-argument_of from (parameter.Octets x) = generic_of value.Octets from x
-argument_of from (parameter.Ref x) = generic_of (object_value from) from x
-argument_of from (parameter.Content x) = generic_of (content_of from) from x
-argument_of from (parameter.Data x) = generic_of data_of from x
-argument_of from (parameter.Event e) = value.Int (pos (number_of e))
-argument_of from (parameter.Receiver r) = object_value from r
-argument_of from (parameter.Typed x) = typed_of from x
-argument_of from (parameter.Arguments xs) = value.Octets []
+-- one argument for each parameter, but one for each value that a program is called with
+abbrev pub arguments_of : List ℕ → Parameter → List Argument
+arguments_of from (parameter.Bool x) = generic_of value.Bool None from x ∷ []
+arguments_of from (parameter.Int x) = generic_of value.Int None from x ∷ []
+arguments_of from (parameter.Octets x) = generic_of value.Octets None from x ∷ []
+arguments_of from (parameter.Ref x) = generic_of (object_value from) None from x ∷ []
+arguments_of from (parameter.Content x) = generic_of (content_of from) None from x ∷ []
+arguments_of from (parameter.Data x) = generic_of data_of None from x ∷ []
+arguments_of from (parameter.Event e) = argument.Direct (value.Int (pos (number_of e))) ∷ []
+arguments_of from (parameter.Receiver r) = argument.Receiver (ref_of from r) ∷ []
+arguments_of from (parameter.Typed x) = typed_of from x ∷ []
+arguments_of from (parameter.Arguments xs) = map (typed_of from) xs
 
-abbrev pub argument_leads : List ℕ → Parameter → Bool
-argument_leads from (parameter.Bool x) = generic_leads is_nameless from x
-argument_leads from (parameter.Int x) = generic_leads is_nameless from x
-argument_leads from (parameter.Octets x) = generic_leads is_nameless from x
-argument_leads from (parameter.Ref x) = generic_leads (leads from) from x
-argument_leads from (parameter.Content x) = generic_leads (content_leads from) from x
-argument_leads from (parameter.Data x) = generic_leads is_nameless from x
-argument_leads from (parameter.Event e) = true
-argument_leads from (parameter.Receiver r) = leads from r
-argument_leads from (parameter.Typed x) = typed_leads from x
-argument_leads from (parameter.Arguments xs) = list_all (typed_leads from) xs
+abbrev pub parameter_leads : List ℕ → Parameter → Bool
+parameter_leads from (parameter.Bool x) = generic_leads is_nameless from x
+parameter_leads from (parameter.Int x) = generic_leads is_nameless from x
+parameter_leads from (parameter.Octets x) = generic_leads is_nameless from x
+parameter_leads from (parameter.Ref x) = generic_leads (leads from) from x
+parameter_leads from (parameter.Content x) = generic_leads (content_leads from) from x
+parameter_leads from (parameter.Data x) = generic_leads is_nameless from x
+parameter_leads from (parameter.Event e) = true
+parameter_leads from (parameter.Receiver r) = leads from r
+parameter_leads from (parameter.Typed x) = typed_leads from x
+parameter_leads from (parameter.Arguments xs) = list_all (typed_leads from) xs
 
 abbrev pub act_of : List ℕ → Action → Act
-act_of from a = record { name = a.name; target = target_of from a.target; arguments = map (argument_of from) a.parameters }
+act_of from a = record {
+  name = a.name;
+  target = target_of from a.target;
+  arguments = flat_map (arguments_of from) a.parameters;
+}
 
 abbrev pub act_leads : List ℕ → Action → Bool
-act_leads from a = target_leads from a.target && list_all (argument_leads from) a.parameters
+act_leads from a = target_leads from a.target && list_all (parameter_leads from) a.parameters
 
 -- What an object holds under its attributes.
 
@@ -159,9 +170,12 @@ held_of from (setting.Members members) = held.Kept
 held_of from (setting.Positions positions) = held.Kept
 held_of from (setting.NextScenes scenes) = held.Kept
 
+abbrev pub slots_lead : List ℕ → List (List Action) → Bool
+slots_lead from slots = list_all (λ slot. list_all (act_leads from) slot) slots
+
 -- the object and the slots of a member
 abbrev pub member_leads : List ℕ → Member → Bool
-member_leads from m = leads from m.object && list_all (λ slot. list_all (act_leads from) slot) m.slots
+member_leads from m = leads from m.object && slots_lead from m.slots
 
 -- the names of the scenes that may come next are only kept
 abbrev pub setting_leads : List ℕ → Setting → Bool
@@ -178,29 +192,34 @@ property_of from f = record { attribute = f.attribute; held = held_of from f.set
 abbrev pub field_leads : List ℕ → Field → Bool
 field_leads from f = setting_leads from f.setting
 
--- Objects. They begin neither available nor running.
+-- Parts, one for each object.
 
-abbrev pub new_object : List ℕ → ℕ → Class → List Field → Object
-new_object from n c fs = record { key = record { group = from; number = n }; class = c; properties = map (property_of from) fs; available = false; running = false }
+abbrev pub new_part : List ℕ → ℕ → Class → List Field → Fixed
+new_part from n c fs = record {
+  key = record { group = from; number = n };
+  class = c;
+  properties = map (property_of from) fs;
+}
 
-abbrev pub object_of : List ℕ → Ingredient → Object
-object_of from i = new_object from i.number i.class i.fields
+abbrev pub part_of : List ℕ → Ingredient → Fixed
+part_of from i = new_part from i.number i.class i.fields
 
 abbrev pub ingredient_leads : List ℕ → Ingredient → Bool
 ingredient_leads from i = list_all (field_leads from) i.fields
 
--- the objects of a group: the group itself, which has number 0, and its ingredients in Items order
-abbrev pub objects_of : List ℕ → Written → List Object
-objects_of name w = new_object name 0 w.class w.fields ∷ map (object_of name) (items_of w)
+-- the parts of a group: the group itself, which has number 0, and its ingredients in Items order
+abbrev pub parts_of : List ℕ → Written → List Fixed
+parts_of name w = new_part name 0 w.class w.fields ∷ map (part_of name) (items_of w)
 
 -- each name that the group writes leads to a path; its identifier aside, which is only kept
 abbrev pub group_leads : List ℕ → Written → Bool
-group_leads name w = list_all (field_leads name) w.fields && list_all (ingredient_leads name) (items_of w)
+group_leads name w =
+    list_all (field_leads name) w.fields && list_all (ingredient_leads name) (items_of w)
 
 -- the entry of a file in the service
-abbrev pub resolved : List ℕ × Written → List ℕ × List Object
-resolved f = (f.0, objects_of f.0 f.1)
+abbrev pub resolved : List ℕ × Written → List ℕ × List Fixed
+resolved f = (f.0, parts_of f.0 f.1)
 
--- the objects of the group of this name, if it is among the groups
-abbrev pub objects_under : List ℕ → List (List ℕ × List Object) → Option (List Object)
-objects_under name groups = option_map (λ e. e.1) (find (λ e. bytes_eq e.0 name) groups)
+-- the parts of the group of this name, if it is among the groups
+abbrev pub parts_under : List ℕ → List (List ℕ × List Fixed) → Option (List Fixed)
+parts_under name groups = option_map (λ e. e.1) (find (λ e. bytes_eq e.0 name) groups)

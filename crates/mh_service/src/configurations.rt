@@ -5,7 +5,7 @@
 ghost use Rattle.std.specs.Prelude.{◌≡◌, ◌++◌, true, false, None, Some, IfOk, OnOk, map};
 ghost use Rattle.mh_group.specs.Table.{is_scene};
 ghost use Rattle.mh_model.specs.Configuration.{configurations as configurations_lem, names as names_lem, with_scenes, is_group_of, is_service, same_config};
-ghost use Rattle.mh_model.specs.Service.{object_at, group_ref};
+ghost use Rattle.mh_model.specs.Service.{part_at, group_ref, same_ref};
 ghost use Rattle.std.specs.List.{flat_map, IsDistinct};
 ghost use Rattle.std.specs.Str.{bytes_eq};
 ghost use Rattle.std.specs.Option.{option_copied, option_map_or};
@@ -14,7 +14,7 @@ ghost use Rattle.mh_service.specs.Wanted.{is_wanted};
 use crate::Service;
 use mh_base::GroupName;
 use mh_group::Class;
-use mh_model::{Config, Object};
+use mh_model::{Config, FixedPart};
 use std::alloc::{AllocError, Global};
 
 /// Which groups are looked for.
@@ -75,27 +75,33 @@ impl Service {
     {
         match self.group(name) {
             None => false,
-            Some(objects) => itself_is(objects, name, wanted),
+            Some(parts) => itself_is(parts, name, wanted),
         }
     }
 }
 
-/// Whether the group itself, which is among these objects, is wanted.
-fn itself_is(objects: &[Object], name: &GroupName, wanted: Wanted) -> bool
-    ensures { result ≡ option_map_or (λ o. is_wanted wanted o.class) (object_at (group_ref name.now) objects.now) false }
+/// Whether the group itself, which is among these parts, is wanted.
+fn itself_is(parts: &[FixedPart], name: &GroupName, wanted: Wanted) -> bool
+    ensures { result ≡ option_map_or (λ p. is_wanted wanted p.class)
+        (part_at (group_ref name.now) parts.now) false }
 {
-    match itself_among(objects, name) {
+    match itself_among(parts, name) {
         None => false,
-        Some(object) => wanted.takes(object.class),
+        Some(part) => wanted.takes(part.get().class),
     }
 }
 
-fn itself_among<'a>(objects: &'a [Object], name: &GroupName) -> Option<&'a Object>
-    ensures { option_copied result ≡ object_at (group_ref name.now) objects.now }
+fn itself_among<'a>(parts: &'a [FixedPart], name: &GroupName) -> Option<&'a FixedPart>
+    ensures { option_copied result ≡ part_at (group_ref name.now) parts.now }
 {
-    objects
-        .iter()
-        .find(|o| o.key.group == *name && o.key.number == 0)
+    parts.iter().find(|part| is_itself(name, *part))
+}
+
+fn is_itself(name: &GroupName, part: &FixedPart) -> bool
+    ensures { result ≡ same_ref (group_ref name.now) part.now.key }
+{
+    let key = &part.get().key;
+    *name == key.group && key.number == 0
 }
 
 /// Each application without a scene, and then with each of these.

@@ -1,16 +1,18 @@
 //! The service: its groups under their names, with every reference resolved once.
 //!
-//! Promise: what `Service::of_files` answers holds the objects that the files mean, and it refuses what
-//! is no service, each refusal with the first group that causes it. What the objects then do is left to
-//! `mh_model` and the crates above it.
+//! Promise: what `Service::of_files` answers holds what the files say of their objects, and it
+//! refuses what is no service, each refusal with the first group that causes it. What the objects
+//! then do is left to `mh_model` and the crates above it.
 #![tactic(auto)]
 
+mod acts;
 pub mod configurations;
 mod refusing;
 pub mod resolving;
 pub mod room;
 pub mod service;
 pub mod service_error;
+mod values;
 
 pub use refusing::double_name;
 pub use service::Service;

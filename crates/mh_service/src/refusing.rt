@@ -3,10 +3,10 @@
 //! Promise: each look-out finds exactly the group that its definition names, and they come in the order
 //! of their numbers. Names that lead to no path are left to `service`, which resolves them.
 ghost use Rattle.std.specs.Prelude.{◌≡◌, ◌&&◌, not, true, false, None, Some, ◌∷◌, [], map, IfOk, OnOk, IfErr};
-ghost use Rattle.std.specs.List.{list_all, list_any};
-ghost use Rattle.std.specs.Option.{option_map, option_copied};
+ghost use Rattle.std.specs.List.{list_all};
+ghost use Rattle.std.specs.Option.{option_copied};
 ghost use Rattle.mh_group.specs.Table.{is_application as is_application_lem};
-ghost use Rattle.mh_service.specs.Refusals.{Refuses, for_reason, double_name as double_name_lem, missing_start as missing_start_lem, double_number as double_number_lem, has_double_number as has_double_number_lem, has_double, start_unfit as start_unfit_lem, has_group as has_group_lem, has_application as has_application_lem, over_limit as over_limit_lem, least_name, first_unplayed as first_unplayed_lem, is_unplayed as is_unplayed_lem, is_further as is_further_lem, is_before as is_before_lem, is_direct, is_played_parameter as is_played_parameter_lem, is_played_action as is_played_action_lem, is_played_setting as is_played_setting_lem, is_played_field as is_played_field_lem, is_played_ingredient as is_played_ingredient_lem, is_played_class as is_played_class_lem, is_played_name as is_played_name_lem, is_played_group as is_played_group_lem, refusal_before};
+ghost use Rattle.mh_service.specs.Refusals.{Refuses, for_reason, double_name as double_name_lem, missing_start as missing_start_lem, double_number as double_number_lem, has_double, start_unfit as start_unfit_lem, has_group as has_group_lem, has_application as has_application_lem, over_limit as over_limit_lem, least_name, first_unplayed as first_unplayed_lem, is_unplayed as is_unplayed_lem, is_further as is_further_lem, is_before as is_before_lem, is_played_parameter as is_played_parameter_lem, is_played_action as is_played_action_lem, is_played_setting as is_played_setting_lem, is_played_field as is_played_field_lem, is_played_ingredient as is_played_ingredient_lem, is_played_class as is_played_class_lem, is_played_name as is_played_name_lem, is_played_group as is_played_group_lem, refusal_before};
 ghost use Rattle.mh_service.specs.Limits.{whole_room};
 
 use crate::room::Room;

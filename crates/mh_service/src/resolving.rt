@@ -1,47 +1,48 @@
-//! What a written group means: its objects, with every reference resolved.
+//! What a written group says of its objects, with every reference resolved.
 //!
-//! Promise: the objects are those of the definitions, and `BadName` is answered exactly where a written
-//! name leads to no path. Which groups make a service is left to `service`.
-ghost use Rattle.std.specs.Prelude.{◌≡◌, ◌&&◌, true, false, map, IfOk, IsErrOf, OnOk, List, ◌∷◌, []};
+//! Promise: the parts are those of the definitions, and `BadName` is answered exactly where a
+//! written name leads to no path. Which groups make a service is left to `service`.
+ghost use Rattle.std.specs.Prelude.{◌≡◌, true, false, map, IfErr, OnOk};
 ghost use Rattle.std.specs.List.{list_all};
-ghost use Rattle.mh_group.specs.Fit.{items_of};
-ghost use Rattle.mh_service.specs.Resolved.{ref_of, leads, target_of, target_leads, generic_of, generic_leads, is_nameless, name_leads, object_value as object_value_lem, content_value as content_value_lem, typed_of, typed_leads, content_of, content_leads, data_of as data_of_lem, argument_of, argument_leads, member_leads, act_of, act_leads, held_of, setting_leads, property_of, field_leads, new_object, object_of, ingredient_leads, objects_of, group_leads};
+ghost use Rattle.mh_service.specs.Gives.{Gives};
+ghost use Rattle.mh_service.specs.Resolved.{member_leads, slots_lead, held_of, setting_leads, property_of, field_leads, new_part, part_of, ingredient_leads, parts_of, group_leads};
 
-use mh_base::{GroupName, NameError, ObjRef, Octets, Seq, Shared, Value};
-use mh_group::{
-    Action, Class, Content, EventData, Field, Generic, Ingredient, Member, Parameter, Ref, Setting,
-    Typed, Written, WrittenName, group,
-};
-use mh_model::{Act, Effect, Held, Object, Properties, Property};
-use std::alloc::{AllocError, Global};
+use crate::acts::effect;
+use crate::values::{content_of_file, content_value, data_of, object_value, reference};
+use mh_base::{GroupName, NameError, ObjRef, Seq, Value};
+use mh_group::{Class, Field, Ingredient, Member, Setting, Written, group};
+use mh_model::{Fixed, FixedPart, Held, Properties, Property};
+use std::alloc::Global;
 
-/// The objects of the group of this name: the group itself, and its ingredients in Items order.
-pub fn objects(alloc: Global, name: &GroupName, written: &Written) -> Result<Seq<Object>, NameError>
-    ensures found { IfOk result (λ objects. objects ≡ objects_of name.now written.now) }
-    ensures good { OnOk result (group_leads name.now written.now ≡ true) }
-    ensures bad { IsErrOf result NameError.BadName → group_leads name.now written.now ≡ false }
+/// The parts of the group of this name: the group itself, and its ingredients in Items order.
+pub fn parts(
+    alloc: Global,
+    name: &GroupName,
+    written: &Written,
+) -> Result<Seq<FixedPart>, NameError>
+    ensures { Gives (λ x. x) result (parts_of name.now written.now)
+        (group_leads name.now written.now) }
 {
-    let itself = object(alloc, name, 0, written.class, written.fields.as_slice())?;
+    let itself = part(alloc, name, 0, written.class, written.fields.as_slice())?;
     let ingredients = group::items(written);
-    let mut objects = Seq::new(alloc);
-    objects.push(itself)?;
+    let mut parts = Seq::new(alloc);
+    parts.push(itself)?;
     for ingredient in ingredients {
-        objects.push(ingredient_object(alloc, name, ingredient)?)?;
+        parts.push(ingredient_part(alloc, name, ingredient)?)?;
     }
-    Ok(objects)
+    Ok(parts)
 }
 
-fn ingredient_object(
+fn ingredient_part(
     alloc: Global,
     from: &GroupName,
     written: &Ingredient,
-) -> Result<Object, NameError>
-    ensures found { IfOk result (λ object. object ≡ object_of from.now written.now) }
-    ensures good { OnOk result (ingredient_leads from.now written.now ≡ true) }
-    ensures bad { IsErrOf result NameError.BadName → ingredient_leads from.now written.now ≡ false }
+) -> Result<FixedPart, NameError>
+    ensures { Gives (λ x. x) result (part_of from.now written.now)
+        (ingredient_leads from.now written.now) }
 {
     let number = written.number.get();
-    object(
+    part(
         alloc,
         from,
         number,
@@ -50,32 +51,29 @@ fn ingredient_object(
     )
 }
 
-fn object(
+fn part(
     alloc: Global,
     from: &GroupName,
     number: u32,
     class: Class,
     fields: &[Field],
-) -> Result<Object, NameError>
-    ensures found { IfOk result (λ object. object ≡ new_object from.now number class fields.now) }
-    ensures good { OnOk result (list_all (field_leads from.now) fields.now ≡ true) }
-    ensures bad { IsErrOf result NameError.BadName → list_all (field_leads from.now) fields.now ≡ false }
+) -> Result<FixedPart, NameError>
+    ensures { Gives (λ x. x) result (new_part from.now number class fields.now)
+        (list_all (field_leads from.now) fields.now) }
 {
     let properties = properties(alloc, from, fields)?;
     let group = from.clone()?;
-    Ok(Object {
+    let fixed = Fixed {
         key: ObjRef { group, number },
         class,
         properties,
-        available: false,
-        running: false,
-    })
+    };
+    Ok(FixedPart::new(alloc, fixed)?)
 }
 
 fn properties(alloc: Global, from: &GroupName, fields: &[Field]) -> Result<Properties, NameError>
-    ensures found { IfOk result (λ properties. properties ≡ map (property_of from.now) fields.now) }
-    ensures good { OnOk result (list_all (field_leads from.now) fields.now ≡ true) }
-    ensures bad { IsErrOf result NameError.BadName → list_all (field_leads from.now) fields.now ≡ false }
+    ensures { Gives (λ x. x) result (map (property_of from.now) fields.now)
+        (list_all (field_leads from.now) fields.now) }
 {
     let mut properties = Seq::new(alloc);
     for field in fields {
@@ -85,9 +83,8 @@ fn properties(alloc: Global, from: &GroupName, fields: &[Field]) -> Result<Prope
 }
 
 fn property(alloc: Global, from: &GroupName, field: &Field) -> Result<Property, NameError>
-    ensures found { IfOk result (λ property. property ≡ property_of from.now field.now) }
-    ensures good { OnOk result (field_leads from.now field.now ≡ true) }
-    ensures bad { IsErrOf result NameError.BadName → field_leads from.now field.now ≡ false }
+    ensures { Gives (λ x. x) result (property_of from.now field.now)
+        (field_leads from.now field.now) }
 {
     Ok(Property {
         attribute: field.attribute,
@@ -97,9 +94,8 @@ fn property(alloc: Global, from: &GroupName, field: &Field) -> Result<Property, 
 
 /// The value as an object holds it.
 fn held(alloc: Global, from: &GroupName, setting: &Setting) -> Result<Held, NameError>
-    ensures found { IfOk result (λ held. held ≡ held_of from.now setting.now) }
-    ensures good { OnOk result (setting_leads from.now setting.now ≡ true) }
-    ensures bad { IsErrOf result NameError.BadName → setting_leads from.now setting.now ≡ false }
+    ensures { Gives (λ x. x) result (held_of from.now setting.now)
+        (setting_leads from.now setting.now) }
 {
     Ok(match setting {
         Setting::Bool(truth) => Held::Value(Value::Bool(*truth)),
@@ -121,9 +117,7 @@ fn held(alloc: Global, from: &GroupName, setting: &Setting) -> Result<Held, Name
 
 /// The members of a token group. They are not played yet: their names are looked at alone.
 fn kept_members(alloc: Global, from: &GroupName, members: &[Member]) -> Result<Held, NameError>
-    ensures found { IfOk result (λ held. held ≡ Held.Kept) }
-    ensures good { OnOk result (list_all (member_leads from.now) members.now ≡ true) }
-    ensures bad { IsErrOf result NameError.BadName → list_all (member_leads from.now) members.now ≡ false }
+    ensures { Gives (λ x. x) result Held.Kept (list_all (member_leads from.now) members.now) }
 {
     for member in members {
         look_at_member(alloc, from, member)?;
@@ -133,7 +127,8 @@ fn kept_members(alloc: Global, from: &GroupName, members: &[Member]) -> Result<H
 
 fn look_at_member(alloc: Global, from: &GroupName, member: &Member) -> Result<(), NameError>
     ensures good { OnOk result (member_leads from.now member.now ≡ true) }
-    ensures bad { IsErrOf result NameError.BadName → member_leads from.now member.now ≡ false }
+    ensures bad { IfErr result
+        (λ e. e ≡ NameError.BadName → member_leads from.now member.now ≡ false) }
 {
     reference(alloc, from, &member.object)?;
     look_at_slots(alloc, from, member.slots.as_slice())
@@ -144,280 +139,12 @@ fn look_at_slots(
     from: &GroupName,
     slots: &[mh_group::Effect],
 ) -> Result<(), NameError>
-    ensures good { OnOk result (list_all (λ slot. list_all (act_leads from.now) slot) slots.now ≡ true) }
-    ensures bad { IsErrOf result NameError.BadName → list_all (λ slot. list_all (act_leads from.now) slot) slots.now ≡ false }
+    ensures good { OnOk result (slots_lead from.now slots.now ≡ true) }
+    ensures bad { IfErr result
+        (λ e. e ≡ NameError.BadName → slots_lead from.now slots.now ≡ false) }
 {
     for slot in slots {
         effect(alloc, from, slot.as_slice())?;
     }
     Ok(())
-}
-
-fn effect(alloc: Global, from: &GroupName, actions: &[Action]) -> Result<Effect, NameError>
-    ensures found { IfOk result (λ effect. effect ≡ map (act_of from.now) actions.now) }
-    ensures good { OnOk result (list_all (act_leads from.now) actions.now ≡ true) }
-    ensures bad { IsErrOf result NameError.BadName → list_all (act_leads from.now) actions.now ≡ false }
-{
-    let mut acts = Seq::new(alloc);
-    for action in actions {
-        acts.push(act(alloc, from, action)?)?;
-    }
-    Ok(Shared::from_vec(alloc, acts.into_vec())?)
-}
-
-fn act(alloc: Global, from: &GroupName, action: &Action) -> Result<Act, NameError>
-    ensures found { IfOk result (λ act. act ≡ act_of from.now action.now) }
-    ensures good { OnOk result (act_leads from.now action.now ≡ true) }
-    ensures bad { IsErrOf result NameError.BadName → act_leads from.now action.now ≡ false }
-{
-    let target = target(alloc, from, &action.target)?;
-    let arguments = arguments(alloc, from, action.parameters.as_slice())?;
-    Ok(Act {
-        name: action.name,
-        target,
-        arguments,
-    })
-}
-
-fn arguments(
-    alloc: Global,
-    from: &GroupName,
-    parameters: &[Parameter],
-) -> Result<Shared<Value>, NameError>
-    ensures found { IfOk result (λ arguments. arguments ≡ map (argument_of from.now) parameters.now) }
-    ensures good { OnOk result (list_all (argument_leads from.now) parameters.now ≡ true) }
-    ensures bad { IsErrOf result NameError.BadName → list_all (argument_leads from.now) parameters.now ≡ false }
-{
-    let mut arguments = Seq::new(alloc);
-    for parameter in parameters {
-        arguments.push(argument(alloc, from, parameter)?)?;
-    }
-    Ok(Shared::from_vec(alloc, arguments.into_vec())?)
-}
-
-fn argument(alloc: Global, from: &GroupName, parameter: &Parameter) -> Result<Value, NameError>
-    ensures found { IfOk result (λ argument. argument ≡ argument_of from.now parameter.now) }
-    ensures good { OnOk result (argument_leads from.now parameter.now ≡ true) }
-    ensures bad { IsErrOf result NameError.BadName → argument_leads from.now parameter.now ≡ false }
-{
-    match parameter {
-        Parameter::Bool(truth) => generic_truth(alloc, from, truth),
-        Parameter::Int(number) => generic_integer(alloc, from, number),
-        Parameter::Octets(octets) => generic_octets(alloc, from, octets),
-        Parameter::Ref(object) => generic_object(alloc, from, object),
-        Parameter::Content(content) => generic_content(alloc, from, content),
-        Parameter::Data(data) => generic_data(alloc, from, data),
-        Parameter::Event(event) => Ok(Value::Int(event.number() as i32)),
-        Parameter::Receiver(variable) => object_value(alloc, from, variable),
-        Parameter::Typed(value) => typed(alloc, from, value),
-        Parameter::Arguments(values) => call_arguments(alloc, from, values.as_slice()),
-    }
-}
-
-/// What a call is made with. Calls are not played yet: the names are looked at alone.
-fn call_arguments(alloc: Global, from: &GroupName, values: &[Typed]) -> Result<Value, NameError>
-    ensures found { IfOk result (λ value. value ≡ Value.Octets []) }
-    ensures good { OnOk result (list_all (typed_leads from.now) values.now ≡ true) }
-    ensures bad { IsErrOf result NameError.BadName → list_all (typed_leads from.now) values.now ≡ false }
-{
-    for value in values {
-        typed(alloc, from, value)?;
-    }
-    Ok(Value::Octets(Octets::from_vec(alloc, Vec::new(alloc))?))
-}
-
-fn typed(alloc: Global, from: &GroupName, value: &Typed) -> Result<Value, NameError>
-    ensures found { IfOk result (λ found. found ≡ typed_of from.now value.now) }
-    ensures good { OnOk result (typed_leads from.now value.now ≡ true) }
-    ensures bad { IsErrOf result NameError.BadName → typed_leads from.now value.now ≡ false }
-{
-    match value {
-        Typed::Bool(truth) => generic_truth(alloc, from, truth),
-        Typed::Int(number) => generic_integer(alloc, from, number),
-        Typed::Octets(octets) => generic_octets(alloc, from, octets),
-        Typed::Ref(object) => generic_object(alloc, from, object),
-        Typed::ContentRef(name) => generic_name(alloc, from, name),
-    }
-}
-
-/// The truth value; an indirect one stands as the reference to its variable, as all such values do.
-fn generic_truth(
-    alloc: Global,
-    from: &GroupName,
-    written: &Generic<bool>,
-) -> Result<Value, NameError>
-    ensures found { IfOk result (λ value. value ≡ generic_of Value.Bool from.now written.now) }
-    ensures good { OnOk result (generic_leads is_nameless from.now written.now ≡ true) }
-    ensures bad { IsErrOf result NameError.BadName → generic_leads is_nameless from.now written.now ≡ false }
-{
-    match written {
-        Generic::Direct(truth) => Ok(Value::Bool(*truth)),
-        Generic::Indirect(variable) => object_value(alloc, from, variable),
-    }
-}
-
-/// The number, or the reference to its variable.
-fn generic_integer(
-    alloc: Global,
-    from: &GroupName,
-    written: &Generic<i32>,
-) -> Result<Value, NameError>
-    ensures found { IfOk result (λ value. value ≡ generic_of Value.Int from.now written.now) }
-    ensures good { OnOk result (generic_leads is_nameless from.now written.now ≡ true) }
-    ensures bad { IsErrOf result NameError.BadName → generic_leads is_nameless from.now written.now ≡ false }
-{
-    match written {
-        Generic::Direct(number) => Ok(Value::Int(*number)),
-        Generic::Indirect(variable) => object_value(alloc, from, variable),
-    }
-}
-
-/// The octets, or the reference to their variable.
-fn generic_octets(
-    alloc: Global,
-    from: &GroupName,
-    written: &Generic<Octets>,
-) -> Result<Value, NameError>
-    ensures found { IfOk result (λ value. value ≡ generic_of Value.Octets from.now written.now) }
-    ensures good { OnOk result (generic_leads is_nameless from.now written.now ≡ true) }
-    ensures bad { IsErrOf result NameError.BadName → generic_leads is_nameless from.now written.now ≡ false }
-{
-    match written {
-        Generic::Direct(octets) => Ok(Value::Octets(octets.clone()?)),
-        Generic::Indirect(variable) => object_value(alloc, from, variable),
-    }
-}
-
-/// The object, or the reference to its variable.
-fn generic_object(
-    alloc: Global,
-    from: &GroupName,
-    written: &Generic<Ref>,
-) -> Result<Value, NameError>
-    ensures found { IfOk result (λ value. value ≡ generic_of (object_value_lem from.now) from.now written.now) }
-    ensures good { OnOk result (generic_leads (leads from.now) from.now written.now ≡ true) }
-    ensures bad { IsErrOf result NameError.BadName → generic_leads (leads from.now) from.now written.now ≡ false }
-{
-    match written {
-        Generic::Direct(object) => object_value(alloc, from, object),
-        Generic::Indirect(variable) => object_value(alloc, from, variable),
-    }
-}
-
-/// The content file, or the reference to its variable.
-fn generic_name(
-    alloc: Global,
-    from: &GroupName,
-    written: &Generic<WrittenName>,
-) -> Result<Value, NameError>
-    ensures found { IfOk result (λ value. value ≡ generic_of (content_value_lem from.now) from.now written.now) }
-    ensures good { OnOk result (generic_leads (name_leads from.now) from.now written.now ≡ true) }
-    ensures bad { IsErrOf result NameError.BadName → generic_leads (name_leads from.now) from.now written.now ≡ false }
-{
-    match written {
-        Generic::Direct(name) => content_value(alloc, from, name),
-        Generic::Indirect(variable) => object_value(alloc, from, variable),
-    }
-}
-
-/// The content, or the reference to its variable.
-fn generic_content(
-    alloc: Global,
-    from: &GroupName,
-    written: &Generic<Content>,
-) -> Result<Value, NameError>
-    ensures found { IfOk result (λ value. value ≡ generic_of (content_of from.now) from.now written.now) }
-    ensures good { OnOk result (generic_leads (content_leads from.now) from.now written.now ≡ true) }
-    ensures bad { IsErrOf result NameError.BadName → generic_leads (content_leads from.now) from.now written.now ≡ false }
-{
-    match written {
-        Generic::Direct(content) => content_of_file(alloc, from, content),
-        Generic::Indirect(variable) => object_value(alloc, from, variable),
-    }
-}
-
-/// The data of an event, or the reference to its variable.
-fn generic_data(
-    alloc: Global,
-    from: &GroupName,
-    written: &Generic<EventData>,
-) -> Result<Value, NameError>
-    ensures found { IfOk result (λ value. value ≡ generic_of data_of_lem from.now written.now) }
-    ensures good { OnOk result (generic_leads is_nameless from.now written.now ≡ true) }
-    ensures bad { IsErrOf result NameError.BadName → generic_leads is_nameless from.now written.now ≡ false }
-{
-    match written {
-        Generic::Direct(data) => Ok(data_of(data)),
-        Generic::Indirect(variable) => object_value(alloc, from, variable),
-    }
-}
-
-fn data_of(written: &EventData) -> Value
-    ensures { result ≡ data_of_lem written.now }
-{
-    match written {
-        EventData::Bool(truth) => Value::Bool(*truth),
-        EventData::Int(number) => Value::Int(*number),
-    }
-}
-
-/// Content in the group's file, or the name of its own.
-fn content_of_file(alloc: Global, from: &GroupName, content: &Content) -> Result<Value, NameError>
-    ensures found { IfOk result (λ value. value ≡ content_of from.now content.now) }
-    ensures good { OnOk result (content_leads from.now content.now ≡ true) }
-    ensures bad { IsErrOf result NameError.BadName → content_leads from.now content.now ≡ false }
-{
-    match content {
-        Content::Included(octets) => Ok(Value::Octets(octets.clone()?)),
-        Content::Referenced(name) => content_value(alloc, from, name),
-    }
-}
-
-/// The content file to which a name leads that the group `from` writes.
-fn content_value(alloc: Global, from: &GroupName, name: &WrittenName) -> Result<Value, NameError>
-    ensures found { IfOk result (λ value. value ≡ content_value_lem from.now name.now) }
-    ensures good { OnOk result (name_leads from.now name.now ≡ true) }
-    ensures bad { IsErrOf result NameError.BadName → name_leads from.now name.now ≡ false }
-{
-    let file = GroupName::resolve(alloc, from, name.as_bytes())?;
-    Ok(Value::Content(file))
-}
-
-fn object_value(alloc: Global, from: &GroupName, written: &Ref) -> Result<Value, NameError>
-    ensures found { IfOk result (λ value. value ≡ object_value_lem from.now written.now) }
-    ensures good { OnOk result (leads from.now written.now ≡ true) }
-    ensures bad { IsErrOf result NameError.BadName → leads from.now written.now ≡ false }
-{
-    let object = reference(alloc, from, written)?;
-    Ok(Value::Object(object))
-}
-
-/// The target; an indirect one, which is not played yet, stands as the reference to its variable.
-fn target(alloc: Global, from: &GroupName, written: &Generic<Ref>) -> Result<ObjRef, NameError>
-    ensures found { IfOk result (λ target. target ≡ target_of from.now written.now) }
-    ensures good { OnOk result (target_leads from.now written.now ≡ true) }
-    ensures bad { IsErrOf result NameError.BadName → target_leads from.now written.now ≡ false }
-{
-    match written {
-        Generic::Direct(object) => reference(alloc, from, object),
-        Generic::Indirect(variable) => reference(alloc, from, variable),
-    }
-}
-
-/// The object to which a reference leads that the group `from` writes.
-fn reference(alloc: Global, from: &GroupName, written: &Ref) -> Result<ObjRef, NameError>
-    ensures found { IfOk result (λ object. object ≡ ref_of from.now written.now) }
-    ensures good { OnOk result (leads from.now written.now ≡ true) }
-    ensures bad { IsErrOf result NameError.BadName → leads from.now written.now ≡ false }
-{
-    match written {
-        Ref::Here(number) => Ok(ObjRef {
-            group: from.clone()?,
-            number: number.get(),
-        }),
-        Ref::In(name, number) => Ok(ObjRef {
-            group: GroupName::resolve(alloc, from, name.as_bytes())?,
-            number: number.get(),
-        }),
-    }
 }

@@ -1,43 +1,45 @@
-//! `Service`: groups under their names, each a list of objects.
+//! `Service`: groups under their names, each a list of what its file says of its objects.
 //!
-//! Promise: the groups are those of the files in their order, resolved once, and an object is found
-//! exactly where its group has one with its number. That the service can be played is left to others.
-ghost use Rattle.std.specs.Prelude.{◌≡◌, IfOk, IfErr, OnOk, None, true, false, [], ◌∷◌, ◌++◌, map};
+//! Promise: the groups are those of the files in their order, resolved once, and no two parts of a
+//! group have one key. That the service can be played is left to others.
+ghost use Rattle.std.specs.Prelude.{◌≡◌, IfOk, IfErr, IfSome, OnOk, None, true, false, [], ◌∷◌, ◌++◌, map};
 ghost use Rattle.std.specs.List.{list_any, list_all};
 ghost use Rattle.std.specs.Option.{option_copied};
 ghost use Rattle.std.specs.Str.{bytes_eq};
 ghost use Rattle.mh_group.specs.Fit.{is_group};
-ghost use Rattle.mh_model.specs.Service.{object_at, group_objects};
-ghost use Rattle.mh_model.specs.Configuration.{is_service};
-ghost use Rattle.mh_service.specs.Resolved.{resolved, group_leads, objects_under};
+ghost use Rattle.mh_model.specs.Service.{part_at, group_parts};
+ghost use Rattle.mh_model.specs.Configuration.{is_service, has_keys, are_apart};
+ghost use Rattle.mh_service.specs.Resolved.{resolved, group_leads, parts_under};
 ghost use Rattle.mh_service.specs.Refusals.{Refuses, RefusesAt, for_reason, refusal_of, bad_reference, double_name};
 
 use crate::{ServiceError, Why, refusing, resolving};
 use indexmap::IndexMap;
 use mh_base::{GroupName, NameError, ObjRef, Seq};
 use mh_group::Group;
-use mh_model::Object;
+use mh_model::{Fixed, FixedPart, parts};
 use std::alloc::Global;
 use std::marker::Model;
 
-/// The groups of a service (ISO/IEC 13522-5, the object space) in the order of their files, each with
-/// its objects, and the application that is started first. A contract sees a finite map.
+/// The groups of a service (ISO/IEC 13522-5, the object space) in the order of their files, and the
+/// application that is started first. A contract sees a finite map.
 #[derive(Drop)]
 pub struct Service {
-    groups: IndexMap<GroupName, Seq<Object>>,
+    groups: IndexMap<GroupName, Seq<FixedPart>>,
     start: GroupName,
 }
 
 impl Model for Service {
     ghost use Rattle.std.specs.Prelude.{◌≡◌, true};
     ghost use Rattle.mh_model.specs.Service.{Service as ServiceValue};
-    ghost use Rattle.mh_model.specs.Configuration.{is_service};
+    ghost use Rattle.mh_model.specs.Configuration.{is_service, has_keys};
 
     ghost Value = { ServiceValue };
 
     ghost view = { λ s. record { groups = s.groups.entries; start = s.start } };
 
-    ghost invariant = { λ s. is_service (record { groups = s.groups.entries; start = s.start }) ≡ true };
+    ghost invariant = { λ s.
+        (is_service (record { groups = s.groups.entries; start = s.start }) ≡ true)
+        × (has_keys (record { groups = s.groups.entries; start = s.start }) ≡ true) };
 }
 
 impl Service {
@@ -58,31 +60,41 @@ impl Service {
         Ok(Service { groups, start })
     }
 
-    /// The objects of a group as its file gives them, if there is such a group.
+    /// What the file of a group says of its objects, if there is such a group.
     #[tactic(auto, using(crate::proofs::Lookups::lookup_find))]
-    pub fn group(&self, name: &GroupName) -> Option<&[Object]>
-        ensures { option_copied result ≡ objects_under name.now self.now.groups }
+    pub fn group(&self, name: &GroupName) -> Option<&[FixedPart]>
+        ensures found { option_copied result ≡ parts_under name.now self.now.groups }
+        ensures apart { IfSome result (λ parts. are_apart parts.now ≡ true) }
     {
         match self.groups.get(name) {
             None => None,
-            Some(objects) => Some(objects.as_slice()),
+            Some(parts) => Some(parts.as_slice()),
         }
     }
 
-    /// The object to which the reference leads, if there is one.
-    pub fn find(&self, at: &ObjRef) -> Option<&Object>
-        ensures { option_copied result ≡ object_at at.now (group_objects self.now at.now.group) }
+    /// What the file of a group says of its objects; nothing where there is no such group.
+    pub fn parts(&self, name: &GroupName) -> &[FixedPart]
+        ensures parts { result.now ≡ group_parts self.now name.now }
+        ensures apart { are_apart result.now ≡ true }
     {
-        match self.group(&at.group) {
-            None => None,
-            Some(objects) => first_at(objects, at),
+        match self.group(name) {
+            None => &[],
+            Some(parts) => parts,
         }
+    }
+
+    /// What is said of the object to which the reference leads, if there is one.
+    pub fn find(&self, at: &ObjRef) -> Option<&Fixed>
+        ensures { option_copied result ≡ part_at at.now (group_parts self.now at.now.group) }
+    {
+        parts::part_at(self.parts(&at.group), at)
     }
 
     /// The groups under their names.
-    pub(crate) fn groups(&self) -> &IndexMap<GroupName, Seq<Object>>
+    pub(crate) fn groups(&self) -> &IndexMap<GroupName, Seq<FixedPart>>
         ensures entries { result.now.entries ≡ self.now.groups }
         ensures service { is_service self.now ≡ true }
+        ensures keys { has_keys self.now ≡ true }
     {
         &self.groups
     }
@@ -99,7 +111,7 @@ impl Service {
 fn groups(
     alloc: Global,
     files: &[(GroupName, Group)],
-) -> Result<IndexMap<GroupName, Seq<Object>>, ServiceError>
+) -> Result<IndexMap<GroupName, Seq<FixedPart>>, ServiceError>
     requires { double_name [] files.now ≡ None }
     ensures groups { IfOk result (λ groups. groups.entries ≡ map resolved files.now) }
     ensures allowed { OnOk result (list_all (λ f. is_group f.1) files.now ≡ true) }
@@ -116,7 +128,7 @@ fn groups(
 /// Puts the group of a file at the end.
 fn add(
     alloc: Global,
-    groups: &mut IndexMap<GroupName, Seq<Object>>,
+    groups: &mut IndexMap<GroupName, Seq<FixedPart>>,
     file: &(GroupName, Group),
 ) -> Result<(), ServiceError>
     requires { list_any (bytes_eq file.now.0) (map (λ e. e.0) groups.old.entries) ≡ false }
@@ -126,29 +138,23 @@ fn add(
     ensures refused { IfErr result (RefusesAt file.now) }
 {
     let name = file.0.clone()?;
-    let objects = objects(alloc, file)?;
-    groups.insert(name, objects)?;
+    let parts = parts_of(alloc, file)?;
+    groups.insert(name, parts)?;
     Ok(())
 }
 
-fn objects(alloc: Global, file: &(GroupName, Group)) -> Result<Seq<Object>, ServiceError>
-    ensures found { IfOk result (λ objects. objects ≡ (resolved file.now).1) }
+fn parts_of(alloc: Global, file: &(GroupName, Group)) -> Result<Seq<FixedPart>, ServiceError>
+    ensures found { IfOk result (λ parts. parts ≡ (resolved file.now).1) }
     ensures allowed { OnOk result (is_group file.now.1 ≡ true) }
     ensures good { OnOk result (group_leads file.now.0 file.now.1 ≡ true) }
     ensures refused { IfErr result (RefusesAt file.now) }
 {
-    match resolving::objects(alloc, &file.0, file.1.written()) {
-        Ok(objects) => Ok(objects),
+    match resolving::parts(alloc, &file.0, file.1.written()) {
+        Ok(parts) => Ok(parts),
         Err(NameError::NoMemory) => Err(ServiceError::NoMemory),
         Err(NameError::BadName) => Err(ServiceError::Refused {
             why: Why::BadReference,
             group: file.0.clone()?,
         }),
     }
-}
-
-fn first_at<'a>(objects: &'a [Object], at: &ObjRef) -> Option<&'a Object>
-    ensures { option_copied result ≡ object_at at.now objects.now }
-{
-    objects.iter().find(|object| object.key == *at)
 }

@@ -3,7 +3,7 @@ use crate::playing::File;
 use crate::service::{APP, SCENE, last_letter, refusal};
 use mh_base::{GroupName, ObjRef, Seq, Value};
 use mh_group::{Attribute, Group};
-use mh_model::{Held, Object};
+use mh_model::{Fixed, FixedPart, Held, Target};
 use mh_service::{Service, double_name, resolving};
 use mh_text::read_group;
 use std::alloc::Global;
@@ -119,7 +119,7 @@ fn finds_objects(rt: HostRuntime) {
 }
 
 /// The path of the group of the source of a link.
-fn source(link: &Object) -> Option<&[u8]> {
+fn source(link: &Fixed) -> Option<&[u8]> {
     match link.properties.get(Attribute::EventSource) {
         Some(Held::Value(Value::Object(source))) => Some(source.group.as_bytes()),
         _ => None,
@@ -127,14 +127,20 @@ fn source(link: &Object) -> Option<&[u8]> {
 }
 
 /// The number of the target of the first action of a link.
-fn target(link: &Object) -> Option<u32> {
+fn target(link: &Fixed) -> Option<u32> {
     match link.properties.get(Attribute::LinkEffect) {
-        Some(Held::Effect(effect)) => effect.as_slice().first().map(|act| act.target.number),
+        Some(Held::Effect(effect)) => match effect.as_slice() {
+            [act, ..] => match &act.target {
+                Target::Direct(at) => Some(at.number),
+                Target::Through(_) => None,
+            },
+            [] => None,
+        },
         _ => None,
     }
 }
 
-fn is_the_link(object: &Object) -> bool {
+fn is_the_link(object: &Fixed) -> bool {
     match source(object) {
         Some(path) => path == b"d/x".as_slice() && target(object) == Some(20),
         None => false,
@@ -142,7 +148,7 @@ fn is_the_link(object: &Object) -> bool {
 }
 
 /// Whether the colour is that of the rectangle.
-fn is_filled(object: &Object) -> bool {
+fn is_filled(object: &Fixed) -> bool {
     match object.properties.get(Attribute::OrigRefFillColour) {
         Some(Held::Colour(colour)) => {
             [colour.red, colour.green, colour.blue, colour.transparency] == [255, 1, 2, 3]
@@ -152,7 +158,7 @@ fn is_filled(object: &Object) -> bool {
 }
 
 /// Whether the value is octets, though there are four as of a colour.
-fn has_octets(object: &Object) -> bool {
+fn has_octets(object: &Fixed) -> bool {
     match object.properties.get(Attribute::OrigValue) {
         Some(Held::Value(Value::Octets(octets))) => octets.as_slice() == b"abcd".as_slice(),
         _ => false,
@@ -188,16 +194,16 @@ fn objects_hold_what_is_written(rt: HostRuntime) {
 /// A variable whose value is as long as a colour.
 const OCTETS: &[u8] = br#"{:Scene ("~/s" 0) :Items ( {:OStringVar 1 :OrigValue "abcd"} ) }"#;
 
-fn holds_octets(objects: &[Object]) -> bool {
+fn holds_octets(objects: &[FixedPart]) -> bool {
     match objects {
-        [_, variable] => has_octets(variable),
+        [_, variable] => has_octets(variable.get()),
         _ => false,
     }
 }
 
-fn resolved(alloc: Global, text: &[u8]) -> Option<Seq<Object>> {
+fn resolved(alloc: Global, text: &[u8]) -> Option<Seq<FixedPart>> {
     let (name, group) = file(alloc, b"s", text)?;
-    resolving::objects(alloc, &name, group.written()).ok()
+    resolving::parts(alloc, &name, group.written()).ok()
 }
 
 /// Octets are a colour where the tables want one, and nowhere else.

@@ -5,15 +5,17 @@ use Rattle.std.specs.List.{Contains, find, list_all}
 use Rattle.std.specs.Option.{option_map, option_map_or}
 use Rattle.std.specs.Str.{bytes_eq}
 use Rattle.std.proofs.lemmas.Slice.Eq.{bytes_eq-Decides}
+use Rattle.mh_group.specs.declared.action_name.ActionName.{ActionName}
 use Rattle.mh_group.specs.declared.class.Class.{Class}
 use Rattle.mh_group.specs.Table.{is_scene, is_application}
-use Rattle.mh_model.specs.declared.act.Act.{Act}
 use Rattle.mh_model.specs.declared.config.Config.{Config}
-use Rattle.mh_model.specs.declared.object.Object.{Object}
-use Rattle.mh_model.specs.Service.{Service, object_at, group_ref}
+use Rattle.mh_model.specs.declared.act.Target.{Target}
+use Rattle.mh_model.specs.declared.act.Target.TheVariants as target
+use Rattle.mh_model.specs.declared.object.Fixed.{Fixed}
+use Rattle.mh_model.specs.Service.{Service, part_at, group_ref}
 use Rattle.mh_model.specs.Stuck.{is_transition}
 use Rattle.mh_model.specs.Configuration.{is_service, is_group_of, is_group_list, names, with_scenes, configurations}
-use Rattle.mh_model.specs.Active.{leads}
+use Rattle.mh_model.specs.Active.{leads_to}
 use Rattle.mh_model.specs.Acceptable.{IsReached, start, led}
 use Rattle.mh_verify.proofs.ContainsLemmas.{halves, no_member, here, behind, first_or_behind, in_joined}
 
@@ -36,19 +38,19 @@ passing {X} p (y ∷ xs) x e m = by (p y) refl (first_or_behind y xs x m) (passi
     by false d (inr k) ih = ih k
 
 -- the name of an entry that is found is a name
-named : (g : List ℕ) (es : List (List ℕ × List Object)) (e : List ℕ × List Object) → find (λ x. bytes_eq x.0 g) es ≡ Some e → Contains (map (λ x. x.0) es) g
+named : (g : List ℕ) (es : List (List ℕ × List Fixed)) (e : List ℕ × List Fixed) → find (λ x. bytes_eq x.0 g) es ≡ Some e → Contains (map (λ x. x.0) es) g
 named g [] e h = cc
 named g (x ∷ es) e h = by (bytes_eq x.0 g) refl h (named g es e)
   where
-    by : (b : Bool) → bytes_eq x.0 g ≡ b → cond b (Some x) (find (λ (y : List ℕ × List Object). bytes_eq y.0 g) es) ≡ Some e → (find (λ (y : List ℕ × List Object). bytes_eq y.0 g) es ≡ Some e → Contains (map (λ (y : List ℕ × List Object). y.0) es) g) → Contains (x.0 ∷ map (λ (y : List ℕ × List Object). y.0) es) g
-    by true d h ih = subst (λ (n : List ℕ). Contains (x.0 ∷ map (λ (y : List ℕ × List Object). y.0) es) n) ((bytes_eq-Decides x.0 g).0 d) (here x.0 (map (λ (y : List ℕ × List Object). y.0) es))
-    by false d h ih = behind x.0 (map (λ (y : List ℕ × List Object). y.0) es) g (ih h)
+    by : (b : Bool) → bytes_eq x.0 g ≡ b → cond b (Some x) (find (λ (y : List ℕ × List Fixed). bytes_eq y.0 g) es) ≡ Some e → (find (λ (y : List ℕ × List Fixed). bytes_eq y.0 g) es ≡ Some e → Contains (map (λ (y : List ℕ × List Fixed). y.0) es) g) → Contains (x.0 ∷ map (λ (y : List ℕ × List Fixed). y.0) es) g
+    by true d h ih = subst (λ (n : List ℕ). Contains (x.0 ∷ map (λ (y : List ℕ × List Fixed). y.0) es) n) ((bytes_eq-Decides x.0 g).0 d) (here x.0 (map (λ (y : List ℕ × List Fixed). y.0) es))
+    by false d h ih = behind x.0 (map (λ (y : List ℕ × List Fixed). y.0) es) g (ih h)
 
 -- a group of such a class is among their names
 listed : (p : Class → Bool) (s : Service) (g : List ℕ) → is_group_of p s g ≡ true → Contains (names p s) g
-listed p s g h = passing (is_group_of p s) (map (λ (e : List ℕ × List Object). e.0) s.groups) g h (by (find (λ (e : List ℕ × List Object). bytes_eq e.0 g) s.groups) refl h)
+listed p s g h = passing (is_group_of p s) (map (λ (e : List ℕ × List Fixed). e.0) s.groups) g h (by (find (λ (e : List ℕ × List Fixed). bytes_eq e.0 g) s.groups) refl h)
   where
-    by : (o : Option (List ℕ × List Object)) → find (λ (e : List ℕ × List Object). bytes_eq e.0 g) s.groups ≡ o → option_map_or (λ (x : Object). p x.class) (object_at (group_ref g) (unwrap_or (option_map (λ (e : List ℕ × List Object). e.1) o) [])) false ≡ true → Contains (map (λ (e : List ℕ × List Object). e.0) s.groups) g
+    by : (o : Option (List ℕ × List Fixed)) → find (λ (e : List ℕ × List Fixed). bytes_eq e.0 g) s.groups ≡ o → option_map_or (λ (x : Fixed). p x.class) (part_at (group_ref g) (unwrap_or (option_map (λ (e : List ℕ × List Fixed). e.1) o) [])) false ≡ true → Contains (map (λ (e : List ℕ × List Fixed). e.0) s.groups) g
     by None e k = cc
     by (Some x) e k = named g s.groups x e
 
@@ -61,23 +63,24 @@ record IsListed (s : Service) (c : Config) : Type 0 where
   app : c.app ≡ s.start
   scene : HasScene s c.scene
 
-led_listed : (s : Service) (c d : Config) (a : Act) → IsListed s c → leads s c a ≡ Some d → IsListed s d
-led_listed s c d a h e = by (is_transition a.name && a.target.number == 0) (is_group_of is_scene s a.target.group) refl e
+led_listed : (s : Service) (c d : Config) (n : ActionName) (t : Target) → IsListed s c → leads_to s c n t ≡ Some d → IsListed s d
+led_listed s c d n (target.Through v) h e = cc
+led_listed s c d n (target.Direct r) h e = by (is_transition n && r.number == 0) (is_group_of is_scene s r.group) refl e
   where
-    by : (t b : Bool) → is_group_of is_scene s a.target.group ≡ b → cond (t && b) (Some (record c { scene = Some a.target.group })) None ≡ Some d → IsListed s d
+    by : (t b : Bool) → is_group_of is_scene s r.group ≡ b → cond (t && b) (Some (record c { scene = Some r.group })) None ≡ Some d → IsListed s d
     by true true k e =
-        let same : record c { scene = Some a.target.group } ≡ d = cc in
+        let same : record c { scene = Some r.group } ≡ d = cc in
         subst (λ (x : Config). IsListed s x) same (record { app = h.app; scene = k })
     by true false k e = cc
     by false b k e = cc
 
 reached_is_listed : (s : Service) (c : Config) → IsReached s c → IsListed s c
 reached_is_listed s _ start = record { app = refl; scene = tt }
-reached_is_listed s _ (led c a d r m e) = led_listed s c d a (reached_is_listed s c r) e
+reached_is_listed s _ (led c a d r m e) = led_listed s c d a.name a.target (reached_is_listed s c r) e
 
 begins : (s : Service) → is_service s ≡ true → is_group_of is_application s s.start ≡ true
 unfolding is_service
-begins s h = (halves (list_all (λ (e : List ℕ × List Object). is_group_list e.0 e.1) s.groups) (is_group_of is_application s s.start) h).1
+begins s h = (halves (list_all (λ (e : List ℕ × List Fixed). is_group_list e.0 e.1) s.groups) (is_group_of is_application s s.start) h).1
 
 under : (s : Service) (app : List ℕ) (scene : Option (List ℕ)) → HasScene s scene → Contains (with_scenes (names is_scene s) app) (record { app = app; scene = scene })
 under s app None h = here (record { app = app; scene = None }) (map (λ g. record { app = app; scene = Some g }) (names is_scene s))

@@ -6,7 +6,7 @@ use Rattle.mh_base.specs.declared.obj_ref.ObjRef.{ObjRef}
 use Rattle.mh_model.specs.declared.act.Act.{Act}
 use Rattle.mh_model.specs.declared.config.Config.{Config}
 use Rattle.mh_model.specs.declared.fault.Fault.{Fault}
-use Rattle.mh_model.specs.declared.object.Object.{Object}
+use Rattle.mh_model.specs.declared.object.Fixed.{Fixed}
 use Rattle.mh_model.specs.Service.{Service}
 use Rattle.mh_model.specs.Configuration.{present, is_among}
 use Rattle.mh_model.specs.Active.{actions, is_active, active_actions, fault_of}
@@ -21,22 +21,22 @@ use Rattle.mh_verify.proofs.ContainsLemmas.{all_append, all_front, all_back, no_
 use Rattle.mh_verify.proofs.ConfigLemmas.{member_of, among_of}
 use Rattle.mh_verify.proofs.OrderLemmas.{first_of, none_of}
 
-abbrev is_good : Service → List Object → Act → Bool
-is_good s os a = is_none (fault_of s os a)
+abbrev is_good : Service → List Fixed → Act → Bool
+is_good s ps a = is_none (fault_of s ps a)
 
-nothing_wrong : (s : Service) (os : List Object) (c : Config) (key : ObjRef) (n : ℕ) (acts : List Act) → list_all (is_good s os) acts ≡ true → wrong_from s os c key n acts ≡ []
-nothing_wrong s os c key n [] h = refl
-nothing_wrong s os c key n (a ∷ acts) h = by (fault_of s os a) h (nothing_wrong s os c key (n + 1) acts)
+nothing_wrong : (s : Service) (ps : List Fixed) (c : Config) (key : ObjRef) (n : ℕ) (acts : List Act) → list_all (is_good s ps) acts ≡ true → wrong_from s ps c key n acts ≡ []
+nothing_wrong s ps c key n [] h = refl
+nothing_wrong s ps c key n (a ∷ acts) h = by (fault_of s ps a) h (nothing_wrong s ps c key (n + 1) acts)
   where
-    by : (f : Option Fault) → (is_none f && list_all (is_good s os) acts) ≡ true → (list_all (is_good s os) acts ≡ true → wrong_from s os c key (n + 1) acts ≡ []) → option_to_list (option_map (found_at c key n) f) ++ wrong_from s os c key (n + 1) acts ≡ []
+    by : (f : Option Fault) → (is_none f && list_all (is_good s ps) acts) ≡ true → (list_all (is_good s ps) acts ≡ true → wrong_from s ps c key (n + 1) acts ≡ []) → option_to_list (option_map (found_at c key n) f) ++ wrong_from s ps c key (n + 1) acts ≡ []
     by None h ih = ih h
     by (Some f) h ih = cc
 
-all_good : (s : Service) (os : List Object) (c : Config) (key : ObjRef) (n : ℕ) (acts : List Act) → wrong_from s os c key n acts ≡ [] → list_all (is_good s os) acts ≡ true
-all_good s os c key n [] h = refl
-all_good s os c key n (a ∷ acts) h = by (fault_of s os a) h (all_good s os c key (n + 1) acts)
+all_good : (s : Service) (ps : List Fixed) (c : Config) (key : ObjRef) (n : ℕ) (acts : List Act) → wrong_from s ps c key n acts ≡ [] → list_all (is_good s ps) acts ≡ true
+all_good s ps c key n [] h = refl
+all_good s ps c key n (a ∷ acts) h = by (fault_of s ps a) h (all_good s ps c key (n + 1) acts)
   where
-    by : (f : Option Fault) → option_to_list (option_map (found_at c key n) f) ++ wrong_from s os c key (n + 1) acts ≡ [] → (wrong_from s os c key (n + 1) acts ≡ [] → list_all (is_good s os) acts ≡ true) → (is_none f && list_all (is_good s os) acts) ≡ true
+    by : (f : Option Fault) → option_to_list (option_map (found_at c key n) f) ++ wrong_from s ps c key (n + 1) acts ≡ [] → (wrong_from s ps c key (n + 1) acts ≡ [] → list_all (is_good s ps) acts ≡ true) → (is_none f && list_all (is_good s ps) acts) ≡ true
     by None h ih = ih h
     by (Some f) h ih = cc
 
@@ -48,18 +48,18 @@ nil_parts : {X : Type 0} (xs ys : List X) → xs ++ ys ≡ [] → (xs ≡ []) ×
 nil_parts [] ys h = (refl, h)
 nil_parts (x ∷ xs) ys h = cc
 
-nothing_wrong_with : (s : Service) (os : List Object) (c : Config) (objects : List Object) → list_all (is_good s os) (flat_map actions objects) ≡ true → flat_map (wrong_with s os c) objects ≡ []
-nothing_wrong_with s os c [] h = refl
-nothing_wrong_with s os c (o ∷ objects) h =
-    let front = all_front (is_good s os) (actions o) (flat_map actions objects) h in
-    let back = all_back (is_good s os) (actions o) (flat_map actions objects) h in
-    nil_append (wrong_with s os c o) (flat_map (wrong_with s os c) objects) (nothing_wrong s os c o.key 1 (actions o) front) (nothing_wrong_with s os c objects back)
+nothing_wrong_with : (s : Service) (ps : List Fixed) (c : Config) (parts : List Fixed) → list_all (is_good s ps) (flat_map actions parts) ≡ true → flat_map (wrong_with s ps c) parts ≡ []
+nothing_wrong_with s ps c [] h = refl
+nothing_wrong_with s ps c (p ∷ parts) h =
+    let front = all_front (is_good s ps) (actions p) (flat_map actions parts) h in
+    let back = all_back (is_good s ps) (actions p) (flat_map actions parts) h in
+    nil_append (wrong_with s ps c p) (flat_map (wrong_with s ps c) parts) (nothing_wrong s ps c p.key 1 (actions p) front) (nothing_wrong_with s ps c parts back)
 
-all_good_with : (s : Service) (os : List Object) (c : Config) (objects : List Object) → flat_map (wrong_with s os c) objects ≡ [] → list_all (is_good s os) (flat_map actions objects) ≡ true
-all_good_with s os c [] h = refl
-all_good_with s os c (o ∷ objects) h =
-    let two = nil_parts (wrong_with s os c o) (flat_map (wrong_with s os c) objects) h in
-    all_append (is_good s os) (actions o) (flat_map actions objects) (all_good s os c o.key 1 (actions o) two.0) (all_good_with s os c objects two.1)
+all_good_with : (s : Service) (ps : List Fixed) (c : Config) (parts : List Fixed) → flat_map (wrong_with s ps c) parts ≡ [] → list_all (is_good s ps) (flat_map actions parts) ≡ true
+all_good_with s ps c [] h = refl
+all_good_with s ps c (p ∷ parts) h =
+    let two = nil_parts (wrong_with s ps c p) (flat_map (wrong_with s ps c) parts) h in
+    all_append (is_good s ps) (actions p) (flat_map actions parts) (all_good s ps c p.key 1 (actions p) two.0) (all_good_with s ps c parts two.1)
 
 none_where_free : (s : Service) (c : Config) → is_free s c ≡ true → refusals_in s c ≡ []
 none_where_free s c h = nothing_wrong_with s (present s c) c (filter (is_active (present s c)) (present s c)) h
@@ -69,13 +69,13 @@ free_where_none s c h = all_good_with s (present s c) c (filter (is_active (pres
 
 -- The configuration of what is wrong there.
 
-config_from : (s : Service) (os : List Object) (c : Config) (key : ObjRef) (n : ℕ) (acts : List Act) (x : Found) → Contains (wrong_from s os c key n acts) x → x.config ≡ c
-config_from s os c key n [] x m = absurd (no_member x m)
-config_from s os c key n (a ∷ acts) x m = by (fault_of s os a) m (config_from s os c key (n + 1) acts x)
+config_from : (s : Service) (ps : List Fixed) (c : Config) (key : ObjRef) (n : ℕ) (acts : List Act) (x : Found) → Contains (wrong_from s ps c key n acts) x → x.config ≡ c
+config_from s ps c key n [] x m = absurd (no_member x m)
+config_from s ps c key n (a ∷ acts) x m = by (fault_of s ps a) m (config_from s ps c key (n + 1) acts x)
   where
-    by : (f : Option Fault) → Contains (option_to_list (option_map (found_at c key n) f) ++ wrong_from s os c key (n + 1) acts) x → (Contains (wrong_from s os c key (n + 1) acts) x → x.config ≡ c) → x.config ≡ c
+    by : (f : Option Fault) → Contains (option_to_list (option_map (found_at c key n) f) ++ wrong_from s ps c key (n + 1) acts) x → (Contains (wrong_from s ps c key (n + 1) acts) x → x.config ≡ c) → x.config ≡ c
     by None m ih = ih m
-    by (Some f) m ih = elim (first_or_behind (found_at c key n f) (wrong_from s os c key (n + 1) acts) x m) [ inl same ↦ sym (ap (λ (y : Found). y.config) same) | inr k ↦ ih k ]
+    by (Some f) m ih = elim (first_or_behind (found_at c key n f) (wrong_from s ps c key (n + 1) acts) x m) [ inl same ↦ sym (ap (λ (y : Found). y.config) same) | inr k ↦ ih k ]
 
 config_of : (s : Service) (c : Config) (x : Found) → Contains (refusals_in s c) x → x.config ≡ c
 config_of s c x m =

@@ -6,7 +6,7 @@ use Rattle.mh_base.specs.declared.obj_ref.ObjRef.{ObjRef}
 use Rattle.mh_model.specs.declared.act.Act.{Act}
 use Rattle.mh_model.specs.declared.config.Config.{Config}
 use Rattle.mh_model.specs.declared.fault.Fault.{Fault}
-use Rattle.mh_model.specs.declared.object.Object.{Object}
+use Rattle.mh_model.specs.declared.object.Fixed.{Fixed}
 use Rattle.mh_model.specs.Service.{Service}
 use Rattle.mh_model.specs.Configuration.{present}
 use Rattle.mh_model.specs.Active.{actions, is_active, fault_of}
@@ -24,14 +24,14 @@ found_at c key n f = record {
   config = c;
 }
 
--- what is wrong with these actions of an object, counted on from n, where the objects are present
-abbrev pub wrong_from : Service → List Object → Config → ObjRef → ℕ → List Act → List Found
-wrong_from s os c key n [] = []
-wrong_from s os c key n (a ∷ acts) = option_to_list (option_map (found_at c key n) (fault_of s os a)) ++ wrong_from s os c key (n + 1) acts
+-- what is wrong with these actions of an object, counted on from n, where these are present
+abbrev pub wrong_from : Service → List Fixed → Config → ObjRef → ℕ → List Act → List Found
+wrong_from s ps c key n [] = []
+wrong_from s ps c key n (a ∷ acts) = option_to_list (option_map (found_at c key n) (fault_of s ps a)) ++ wrong_from s ps c key (n + 1) acts
 
 -- the actions of an object are counted from 1
-abbrev pub wrong_with : Service → List Object → Config → Object → List Found
-wrong_with s os c o = wrong_from s os c o.key 1 (actions o)
+abbrev pub wrong_with : Service → List Fixed → Config → Fixed → List Found
+wrong_with s ps c p = wrong_from s ps c p.key 1 (actions p)
 
 -- what is wrong with the effects that are active
 abbrev pub refusals_in : Service → Config → List Found

@@ -1,5 +1,5 @@
 //! What is wrong in given configurations, and which of it comes first.
-ghost use Rattle.std.specs.Prelude.{◌≡◌, Bool, None, Some, IfOk, ◌∷◌, [], filter};
+ghost use Rattle.std.specs.Prelude.{◌≡◌, ◌+◌, None, IfOk, length, filter};
 ghost use Rattle.std.specs.List.{flat_map};
 ghost use Rattle.mh_model.specs.Active.{is_active};
 ghost use Rattle.mh_model.specs.Configuration.{present};
@@ -11,12 +11,12 @@ ghost use Rattle.std.specs.Cmp.Lexicographic.{slice_cmp};
 ghost use Rattle.mh_verify.specs.Kinds.{kind_number};
 ghost use Rattle.mh_verify.specs.Least.{lesser as lesser_lem, least_of};
 
-use crate::present::{Present, actions};
+use crate::present::{Present, effects};
 use crate::{Found, Place, RefusalKind};
 use mh_base::{GroupName, ObjRef};
-use mh_model::{Act, Config, Fault, Object};
+use mh_model::{Act, Config, Fault, Fixed, FixedPart};
 use mh_service::Service;
-use std::alloc::{AllocError, Global};
+use std::alloc::AllocError;
 use std::cmp::Ordering;
 
 /// A configuration of a service, with what is present there.
@@ -102,41 +102,69 @@ fn found_at(config: &Config, key: &ObjRef, index: usize, fault: Fault) -> Result
     })
 }
 
-/// The first of what is wrong with these actions of an object, and of the best so far.
+/// The number of the next action. More than can be counted have no room in memory.
+fn next_number(counted: usize) -> Result<usize, AllocError>
+    ensures { IfOk result (λ next. next ≡ counted + 1) }
+{
+    counted.checked_add(1).ok_or(AllocError)
+}
+
+/// The first of what is wrong with these actions of an object, and of the best so far. They are counted
+/// on from those in front of them; beside it stands how many there are then.
 fn least_of_actions(
     best: Option<Found>,
     scope: &Scope<'_>,
     key: &ObjRef,
+    counted: usize,
     acts: &[Act],
-) -> Result<Option<Found>, AllocError>
-    ensures { IfOk result (λ least. least ≡ least_of best (wrong_from scope.now.service.now scope.now.present scope.now.config.now key.now 1 acts.now)) }
+) -> Result<(Option<Found>, usize), AllocError>
+    ensures least { IfOk result (λ r. r.0 ≡ least_of best
+        (wrong_from scope.now.service.now scope.now.present scope.now.config.now
+        key.now (counted + 1) acts.now)) }
+    ensures counted { IfOk result (λ r. r.1 ≡ counted + length acts.now) }
 {
     let mut best = best;
-    let mut index = 0;
+    let mut index = counted;
     for act in acts {
-        index += 1;
+        index = next_number(index)?;
         if let Some(fault) = scope.present.fault_of(scope.service, act)? {
             best = Some(lesser(best, found_at(scope.config, key, index, fault)?));
         }
     }
+    Ok((best, index))
+}
+
+/// The first of what is wrong with the effects of an object, and of the best so far.
+fn least_of_part(
+    best: Option<Found>,
+    scope: &Scope<'_>,
+    part: &Fixed,
+) -> Result<Option<Found>, AllocError>
+    ensures { IfOk result (λ least. least ≡ least_of best
+        (wrong_with scope.now.service.now scope.now.present scope.now.config.now part.now)) }
+{
+    let (start_up, close_down, link) = effects(part);
+    let (best, counted) = least_of_actions(best, scope, &part.key, 0, start_up)?;
+    let (best, counted) = least_of_actions(best, scope, &part.key, counted, close_down)?;
+    let (best, _) = least_of_actions(best, scope, &part.key, counted, link)?;
     Ok(best)
 }
 
 /// The first of what is wrong with the effects of these that are active, and of the best so far.
 #[tactic(auto, using(std::proofs::lemmas::Grind::common_steps, crate::proofs::LeastLemmas::least_append))]
-fn least_of_objects(
-    alloc: Global,
+fn least_of_parts(
     best: Option<Found>,
     scope: &Scope<'_>,
-    objects: &[Object],
+    parts: &[FixedPart],
 ) -> Result<Option<Found>, AllocError>
-    ensures { IfOk result (λ least. least ≡ least_of best (flat_map (wrong_with scope.now.service.now scope.now.present scope.now.config.now) (filter (is_active scope.now.present) objects.now))) }
+    ensures { IfOk result (λ least. least ≡ least_of best
+        (flat_map (wrong_with scope.now.service.now scope.now.present scope.now.config.now)
+        (filter (is_active scope.now.present) parts.now))) }
 {
     let mut best = best;
-    for object in objects {
-        if scope.present.is_active(object) {
-            let acts = actions(alloc, object)?;
-            best = least_of_actions(best, scope, &object.key, acts.as_slice())?;
+    for part in parts {
+        if scope.present.is_active(part.get()) {
+            best = least_of_part(best, scope, part.get())?;
         }
     }
     Ok(best)
@@ -144,7 +172,6 @@ fn least_of_objects(
 
 /// The first of what is wrong in the configuration, and of the best so far.
 fn least_in(
-    alloc: Global,
     best: Option<Found>,
     service: &Service,
     config: &Config,
@@ -157,22 +184,19 @@ fn least_in(
         present: Present::of(service, config),
     };
     let (application, scene) = scope.present.parts();
-    let best = least_of_objects(alloc, best, &scope, application)?;
-    least_of_objects(alloc, best, &scope, scene)
+    let best = least_of_parts(best, &scope, application)?;
+    least_of_parts(best, &scope, scene)
 }
 
 /// The first of what is wrong in these configurations.
 #[tactic(auto, using(std::proofs::lemmas::Grind::common_steps, crate::proofs::LeastLemmas::least_append))]
-pub fn first_in(
-    alloc: Global,
-    service: &Service,
-    configs: &[Config],
-) -> Result<Option<Found>, AllocError>
-    ensures { IfOk result (λ first. first ≡ least_of None (flat_map (refusals_in service.now) configs.now)) }
+pub fn first_in(service: &Service, configs: &[Config]) -> Result<Option<Found>, AllocError>
+    ensures { IfOk result (λ first. first ≡ least_of None
+        (flat_map (refusals_in service.now) configs.now)) }
 {
     let mut best = None;
     for config in configs {
-        best = least_in(alloc, best, service, config)?;
+        best = least_in(best, service, config)?;
     }
     Ok(best)
 }

@@ -1,54 +1,46 @@
 //! What is present in a configuration, what can come to be done there, and what is wrong with it.
 //!
 //! Promise: each function answers what the definition of the same name in `mh_model` says.
-ghost use Rattle.std.specs.Prelude.{◌≡◌, ◌++◌, Some, IfOk, OnOk};
+ghost use Rattle.std.specs.Prelude.{◌≡◌, ◌++◌, Some, IfOk};
 ghost use Rattle.std.specs.Option.{option_copied, option_map};
-ghost use Rattle.mh_model.specs.Active.{actions as actions_lem, has_source, is_active as is_active_lem, fault_of as fault_of_lem, leads as leads_lem};
-ghost use Rattle.mh_model.specs.Configuration.{present, scene_objects as scene_objects_lem};
-ghost use Rattle.mh_model.specs.Property.{held, as_effect, as_value};
-ghost use Rattle.mh_model.specs.Service.{object_at, group_objects as group_objects_lem};
-ghost use Rattle.mh_model.specs.Stuck.{class_for as class_for_lem, is_transition as is_transition_lem};
+ghost use Rattle.mh_model.specs.Active.{actions, has_source, is_active as is_active_lem, fault_of as fault_of_lem, leads as leads_lem};
+ghost use Rattle.mh_model.specs.Configuration.{present, scene_parts as scene_parts_lem};
+ghost use Rattle.mh_model.specs.Property.{held, as_value};
+ghost use Rattle.mh_model.specs.Service.{part_at as part_at_lem};
+ghost use Rattle.mh_model.specs.Stuck.{class_for as class_for_lem, stuck_at as stuck_at_lem};
 
 use mh_base::{GroupName, ObjRef, Value};
 use mh_group::{ActionName, Attribute, Class};
-use mh_model::{Act, Config, Fault, FaultKind, Held, Object, Properties};
+use mh_model::held::as_value;
+use mh_model::parts::{effect_of, is_transition, part_at};
+use mh_model::{Act, Config, Fault, FaultKind, Fixed, FixedPart, Properties, Target};
 use mh_service::Service;
-use std::alloc::{AllocError, Global};
+use std::alloc::AllocError;
 use std::marker::Model;
 
-/// The objects that are present: those of the application, then those of the scene. A contract sees them
-/// as one list.
+/// What the files say of what is present: the parts of the application, then those of the scene. A
+/// contract sees them as one list.
 #[derive(Drop)]
 pub struct Present<'a> {
-    application: &'a [Object],
-    scene: &'a [Object],
+    application: &'a [FixedPart],
+    scene: &'a [FixedPart],
 }
 
 impl<'a> Model for Present<'a> {
     ghost use Rattle.std.specs.Prelude.{List, ◌++◌};
-    ghost use Rattle.mh_model.specs.declared.object.Object.{Object};
+    ghost use Rattle.mh_model.specs.declared.object.Fixed.{Fixed};
 
-    ghost Value = { List Object };
+    ghost Value = { List Fixed };
 
     ghost view = { λ p. p.application.now ++ p.scene.now };
 }
 
-/// The objects of the group as its file gives them.
-fn group_objects<'a>(service: &'a Service, name: &GroupName) -> &'a [Object]
-    ensures { result.now ≡ group_objects_lem service.now name.now }
-{
-    match service.group(name) {
-        None => &[],
-        Some(objects) => objects,
-    }
-}
-
-fn scene_objects<'a>(service: &'a Service, name: &Option<GroupName>) -> &'a [Object]
-    ensures { result.now ≡ scene_objects_lem service.now name.now }
+fn scene_parts<'a>(service: &'a Service, name: &Option<GroupName>) -> &'a [FixedPart]
+    ensures { result.now ≡ scene_parts_lem service.now name.now }
 {
     match name {
         None => &[],
-        Some(name) => group_objects(service, name),
+        Some(name) => service.parts(name),
     }
 }
 
@@ -58,36 +50,36 @@ impl<'a> Present<'a> {
         ensures { result ≡ present service.now config.now }
     {
         Present {
-            application: group_objects(service, &config.app),
-            scene: scene_objects(service, &config.scene),
+            application: service.parts(&config.app),
+            scene: scene_parts(service, &config.scene),
         }
     }
 
-    /// The objects of the application, and those of the scene.
-    pub fn parts(&self) -> (&'a [Object], &'a [Object])
+    /// The parts of the application, and those of the scene.
+    pub fn parts(&self) -> (&'a [FixedPart], &'a [FixedPart])
         ensures { result.0.now ++ result.1.now ≡ self.now }
     {
         (self.application, self.scene)
     }
 
-    /// The object to which the reference leads, if it is present.
+    /// The part to which the reference leads, if it is present.
     #[tactic(auto, using(crate::proofs::ListLemmas::find_front, crate::proofs::ListLemmas::find_back))]
-    pub fn find(&self, at: &ObjRef) -> Option<&'a Object>
-        ensures { option_copied result ≡ object_at at.now self.now }
+    pub fn find(&self, at: &ObjRef) -> Option<&'a Fixed>
+        ensures { option_copied result ≡ part_at_lem at.now self.now }
     {
-        match find_in(self.application, at) {
-            Some(object) => Some(object),
-            None => find_in(self.scene, at),
+        match part_at(self.application, at) {
+            Some(part) => Some(part),
+            None => part_at(self.scene, at),
         }
     }
 
     /// Whether the effects of the object can come to be done: those of a link only where its source is
     /// present.
-    pub fn is_active(&self, object: &Object) -> bool
-        ensures { result ≡ is_active_lem self.now object.now }
+    pub fn is_active(&self, part: &Fixed) -> bool
+        ensures { result ≡ is_active_lem self.now part.now }
     {
-        if matches!(object.class, Class::Link) {
-            self.has_source(&object.properties)
+        if matches!(part.class, Class::Link) {
+            self.has_source(&part.properties)
         } else {
             true
         }
@@ -96,68 +88,72 @@ impl<'a> Present<'a> {
     fn has_source(&self, link: &Properties) -> bool
         ensures { result ≡ has_source self.now (as_value (held Attribute.EventSource link.now)) }
     {
-        match link.get(Attribute::EventSource) {
-            Some(Held::Value(Value::Object(source))) => self.find(source).is_some(),
+        match as_value(link.get(Attribute::EventSource)) {
+            Some(Value::Object(source)) => self.find(source).is_some(),
             _ => false,
         }
     }
 
-    /// What is wrong with the action, if anything is.
+    /// What is wrong with the action, if anything is. Of a target through a variable nothing is known
+    /// yet.
     pub fn fault_of(&self, service: &Service, act: &Act) -> Result<Option<Fault>, AllocError>
         ensures { IfOk result (λ fault. fault ≡ fault_of_lem service.now self.now act.now) }
     {
-        match self.class_for(service, act) {
-            None => fault(FaultKind::Absent, act),
-            Some(class) => {
-                if class.admits(act.name) {
-                    Ok(None)
-                } else {
-                    fault(FaultKind::WrongClass, act)
-                }
-            }
+        match &act.target {
+            Target::Direct(at) => stuck_at(act.name, at, self.class_for(service, act.name, at)),
+            Target::Through(variable) => fault(FaultKind::WrongKind, act.name, variable),
         }
     }
 
     /// The class of the target. To a transition each group of the service is there.
-    fn class_for(&self, service: &Service, act: &Act) -> Option<Class>
-        ensures { result ≡ class_for_lem service.now self.now act.now }
+    fn class_for(&self, service: &Service, name: ActionName, at: &ObjRef) -> Option<Class>
+        ensures { result ≡ class_for_lem service.now self.now name at.now }
     {
-        if is_transition(act.name) && act.target.number == 0 {
-            class_of(service.find(&act.target))
+        if is_transition(name) && at.number == 0 {
+            class_of(service.find(at))
         } else {
-            class_of(self.find(&act.target))
+            class_of(self.find(at))
         }
     }
 }
 
-fn find_in<'a>(objects: &'a [Object], at: &ObjRef) -> Option<&'a Object>
-    ensures { option_copied result ≡ object_at at.now objects.now }
+fn class_of(part: Option<&Fixed>) -> Option<Class>
+    ensures { result ≡ option_map (λ p. p.class) (option_copied part.entry) }
 {
-    objects.iter().find(|object| object.key == *at)
-}
-
-fn class_of(object: Option<&Object>) -> Option<Class>
-    ensures { result ≡ option_map (λ o. o.class) (option_copied object.entry) }
-{
-    match object {
+    match part {
         None => None,
-        Some(object) => Some(object.class),
+        Some(part) => Some(part.class),
     }
 }
 
-fn is_transition(name: ActionName) -> bool
-    ensures { result ≡ is_transition_lem name }
+/// What is wrong with such an action where its target is of this class, or is absent.
+fn stuck_at(
+    name: ActionName,
+    at: &ObjRef,
+    class: Option<Class>,
+) -> Result<Option<Fault>, AllocError>
+    ensures { IfOk result (λ fault. fault ≡ stuck_at_lem name at.now class) }
 {
-    matches!(name, ActionName::TransitionTo)
+    match class {
+        None => fault(FaultKind::Absent, name, at),
+        Some(class) => {
+            if class.admits(name) {
+                Ok(None)
+            } else {
+                fault(FaultKind::WrongClass, name, at)
+            }
+        }
+    }
 }
 
-fn fault(what: FaultKind, act: &Act) -> Result<Option<Fault>, AllocError>
-    ensures { IfOk result (λ fault. fault ≡ Some (record { what = what; action = act.now.name; at = act.now.target })) }
+fn fault(what: FaultKind, action: ActionName, at: &ObjRef) -> Result<Option<Fault>, AllocError>
+    ensures { IfOk result (λ fault. fault
+        ≡ Some (record { what = what; action = action; at = at.now })) }
 {
     Ok(Some(Fault {
         what,
-        action: act.name,
-        at: act.target.clone()?,
+        action,
+        at: at.clone()?,
     }))
 }
 
@@ -165,58 +161,28 @@ fn fault(what: FaultKind, act: &Act) -> Result<Option<Fault>, AllocError>
 pub fn leads(service: &Service, config: &Config, act: &Act) -> Result<Option<Config>, AllocError>
     ensures { IfOk result (λ led. led ≡ leads_lem service.now config.now act.now) }
 {
-    if !is_transition(act.name) || act.target.number != 0 {
+    let Target::Direct(at) = &act.target else {
+        return Ok(None);
+    };
+    if !is_transition(act.name) || at.number != 0 {
         return Ok(None);
     }
-    if !service.has_scene(&act.target.group) {
+    if !service.has_scene(&at.group) {
         return Ok(None);
     }
     Ok(Some(Config {
         app: config.app.clone()?,
-        scene: Some(act.target.group.clone()?),
+        scene: Some(at.group.clone()?),
     }))
 }
 
-/// The actions of an object, through its effects in their written order.
-pub fn actions(alloc: Global, object: &Object) -> Result<Vec<Act>, AllocError>
-    ensures { IfOk result (λ acts. acts.items ≡ actions_lem object.now) }
+/// The effects of an object in their written order: start-up, close-down, and what a link does.
+pub fn effects(part: &Fixed) -> (&[Act], &[Act], &[Act])
+    ensures { result.0.now ++ result.1.now ++ result.2.now ≡ actions part.now }
 {
-    let mut acts = Vec::new(alloc);
-    push_acts(
-        &mut acts,
-        effect_of(&object.properties, Attribute::OnStartUp),
-    )?;
-    push_acts(
-        &mut acts,
-        effect_of(&object.properties, Attribute::OnCloseDown),
-    )?;
-    push_acts(
-        &mut acts,
-        effect_of(&object.properties, Attribute::LinkEffect),
-    )?;
-    Ok(acts)
-}
-
-fn effect_of(properties: &Properties, attribute: Attribute) -> &[Act]
-    ensures { result.now ≡ as_effect (held attribute properties.now) }
-{
-    match properties.get(attribute) {
-        Some(Held::Effect(effect)) => effect.as_slice(),
-        _ => &[],
-    }
-}
-
-fn push_acts(acts: &mut Vec<Act>, effect: &[Act]) -> Result<(), AllocError>
-    ensures { OnOk result (acts.new.items ≡ acts.old.items ++ effect.now) }
-{
-    for act in effect {
-        acts.push(copied(act)?)?;
-    }
-    Ok(())
-}
-
-fn copied(act: &Act) -> Result<Act, AllocError>
-    ensures { IfOk result (λ copy. copy ≡ act.now) }
-{
-    act.clone()
+    (
+        effect_of(part, Attribute::OnStartUp),
+        effect_of(part, Attribute::OnCloseDown),
+        effect_of(part, Attribute::LinkEffect),
+    )
 }

@@ -3,13 +3,13 @@
 //! Promise: all that are reached are found, and no others. What is wrong in them is left to `judging`.
 ghost use Rattle.std.specs.Prelude.{◌≡◌, ◌++◌, ◌∷◌, [], ◌<◌, vec_len, slice_index_or, filter, IfOk, OnOk};
 ghost use Rattle.std.specs.List.{flat_map, position, remove};
-ghost use Rattle.mh_model.specs.Active.{actions as actions_lem, is_active};
+ghost use Rattle.mh_model.specs.Active.{actions, is_active};
 ghost use Rattle.mh_model.specs.Configuration.{same_config as same_config_lem, same_scene as same_scene_lem, starting as starting_lem};
 ghost use Rattle.mh_verify.specs.Reach.{led_by, led_to as led_to_lem, taken, without, all_taken, all_without, AreReached};
 
-use crate::present::{Present, actions, leads};
+use crate::present::{Present, effects, leads};
 use mh_base::GroupName;
-use mh_model::{Act, Config, Object};
+use mh_model::{Act, Config, Fixed, FixedPart};
 use mh_service::Service;
 use std::alloc::{AllocError, Global};
 
@@ -56,21 +56,37 @@ fn push_led(
     Ok(())
 }
 
-/// Puts behind these where the effects of the objects lead that are active.
+/// Puts behind these where the effects of an object lead.
+fn push_led_by(
+    led: &mut Vec<Config>,
+    service: &Service,
+    config: &Config,
+    part: &Fixed,
+) -> Result<(), AllocError>
+    ensures { OnOk result (led.new.items ≡ led.old.items
+        ++ led_by service.now config.now (actions part.now)) }
+{
+    let (start_up, close_down, link) = effects(part);
+    push_led(led, service, config, start_up)?;
+    push_led(led, service, config, close_down)?;
+    push_led(led, service, config, link)
+}
+
+/// Puts behind these where the effects lead that are active.
 fn push_led_of(
-    alloc: Global,
     led: &mut Vec<Config>,
     service: &Service,
     config: &Config,
     present: &Present<'_>,
-    objects: &[Object],
+    parts: &[FixedPart],
 ) -> Result<(), AllocError>
-    ensures { OnOk result (led.new.items ≡ led.old.items ++ led_by service.now config.now (flat_map actions_lem (filter (is_active present.now) objects.now))) }
+    ensures { OnOk result (led.new.items ≡ led.old.items
+        ++ led_by service.now config.now
+        (flat_map actions (filter (is_active present.now) parts.now))) }
 {
-    for object in objects {
-        if present.is_active(object) {
-            let acts = actions(alloc, object)?;
-            push_led(led, service, config, acts.as_slice())?;
+    for part in parts {
+        if present.is_active(part.get()) {
+            push_led_by(led, service, config, part.get())?;
         }
     }
     Ok(())
@@ -83,8 +99,8 @@ fn led_to(alloc: Global, service: &Service, config: &Config) -> Result<Vec<Confi
     let present = Present::of(service, config);
     let (application, scene) = present.parts();
     let mut led = Vec::new(alloc);
-    push_led_of(alloc, &mut led, service, config, &present, application)?;
-    push_led_of(alloc, &mut led, service, config, &present, scene)?;
+    push_led_of(&mut led, service, config, &present, application)?;
+    push_led_of(&mut led, service, config, &present, scene)?;
     Ok(led)
 }
 

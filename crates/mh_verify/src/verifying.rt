@@ -34,7 +34,7 @@ fn judge(alloc: Global, service: &Service) -> Result<(Vec<Config>, Option<Found>
     ensures first { IfOk result (λ judged. judged.1 ≡ least_of None (flat_map (refusals_in service.now) judged.0.items)) }
 {
     let reached = reaching::reached(alloc, service)?;
-    let first = judging::first_in(alloc, service, reached.as_slice())?;
+    let first = judging::first_in(service, reached.as_slice())?;
     Ok((reached, first))
 }
 

@@ -1,6 +1,0 @@
-use Rattle.std.proofs.Common.{◌*◌}
-use Rattle.mh_engine.specs.Rows.{IsPaintedBetween}
-use Rattle.mh_engine.proofs.painting.paint_over.Given as goal
-
-abbrev pub invariant-loop-row : goal.invariant-loop-row
-invariant-loop-row l = IsPaintedBetween l.visible l.initial.picture l.picture 0 (60 * l.row)

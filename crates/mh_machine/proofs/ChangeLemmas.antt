@@ -1,0 +1,120 @@
+-- Changing the body of an object that was found.
+use Rattle.std.specs.Prelude.{◌≡◌, ℕ, Bool, true, false, ◌||◌, if◌then◌else◌, cond, List, [], ◌∷◌, ◌++◌, map, Option, Some, None, refl}
+use Rattle.std.specs.List.{list_any}
+use Rattle.std.specs.Option.{option_map_or}
+use Rattle.std.proofs.Common.{ap, ◌∙◌, sym, subst}
+use Rattle.mh_base.specs.declared.obj_ref.ObjRef.{ObjRef}
+use Rattle.mh_model.specs.declared.object.Body.{Body}
+use Rattle.mh_model.specs.declared.object.Fixed.{Fixed}
+use Rattle.mh_model.specs.declared.object.Object.{Object}
+use Rattle.mh_model.specs.Planes.{Planes}
+use Rattle.mh_model.specs.Picture.{picture}
+use Rattle.mh_model.specs.Service.{Service, object_at, group_parts, parts, fresh}
+use Rattle.mh_model.specs.State.{Objects, all}
+use Rattle.mh_model.specs.Rules.{is_at, on_body, changed_in, changed}
+use Rattle.mh_model.proofs.PartLemmas.{parts-all, parts-fresh, changed-own, changed-others}
+use Rattle.mh_machine.specs.Plans.{planned, changed_as}
+use Rattle.mh_machine.specs.Holds.{Holds}
+use Rattle.mh_machine.specs.Links.{IsIndex}
+
+-- the change of a list of two parts
+in_both : (f : Fixed → Body → Body) (r : ObjRef) (os ps : List Object) → changed_in f r (os ++ ps) ≡ (if list_any (is_at r) os then changed_in f r os ++ ps else os ++ changed_in f r ps)
+in_both f r [] ps = refl
+in_both f r (o ∷ os) ps =
+    elim (is_at r o) as (λ (b : Bool). (if b then on_body f o ∷ (os ++ ps) else o ∷ changed_in f r (os ++ ps)) ≡ (if b || list_any (is_at r) os then (if b then on_body f o ∷ os else o ∷ changed_in f r os) ++ ps else o ∷ os ++ changed_in f r ps)) [
+      | true ↦ refl
+      | false ↦ ap (λ (t : List Object). o ∷ t) (in_both f r os ps) ∙ by (list_any (is_at r) os)
+    ]
+  where
+    by : (b : Bool) → o ∷ (if b then changed_in f r os ++ ps else os ++ changed_in f r ps) ≡ (if b then (o ∷ changed_in f r os) ++ ps else o ∷ os ++ changed_in f r ps)
+    by true = refl
+    by false = refl
+
+pub all_changed : (f : Fixed → Body → Body) (r : ObjRef) (os : Objects) → all (changed f r os) ≡ changed_in f r (all os)
+all_changed f r os =
+    by (list_any (is_at r) os.application) ∙ sym (in_both f r os.application os.scene)
+  where
+    by : (b : Bool) → all (if b then record os { application = changed_in f r os.application } else record os { scene = changed_in f r os.scene }) ≡ (if b then changed_in f r os.application ++ os.scene else os.application ++ changed_in f r os.scene)
+    by true = refl
+    by false = refl
+
+-- what is known of the object may be used
+found_in : (f : Fixed → Body → Body) (r : ObjRef) (os : List Object) (o : Object) → object_at r os ≡ Some o → changed_in (λ p b. f o.fixed o.body) r os ≡ changed_in f r os
+found_in f r [] o e = refl
+found_in f r (x ∷ os) o e =
+    elim (is_at r x) as (λ (b : Bool). cond b (Some x) (object_at r os) ≡ Some o → (if b then on_body (λ p c. f o.fixed o.body) x ∷ os else x ∷ changed_in (λ p c. f o.fixed o.body) r os) ≡ (if b then on_body f x ∷ os else x ∷ changed_in f r os)) [
+      | true ↦ λ is. ap (λ (z : Object). record x { body = f z.fixed z.body } ∷ os) (sym (ap (λ (m : Option Object). option_map_or (λ (z : Object). z) m x) is))
+      | false ↦ λ is. ap (λ (t : List Object). x ∷ t) (found_in f r os o is)
+    ] e
+
+-- where there is none nothing changes
+missing_in : (f : Fixed → Body → Body) (r : ObjRef) (os : List Object) → object_at r os ≡ None → changed_in f r os ≡ os
+missing_in f r [] e = refl
+missing_in f r (x ∷ os) e =
+    elim (is_at r x) as (λ (b : Bool). cond b (Some x) (object_at r os) ≡ None → (if b then on_body f x ∷ os else x ∷ changed_in f r os) ≡ x ∷ os) [
+      | true ↦ λ is. absurd cc
+      | false ↦ λ is. ap (λ (t : List Object). x ∷ t) (missing_in f r os is)
+    ] e
+
+-- an object of the first list is found there, another in the second
+
+here : (r : ObjRef) (os ps : List Object) → list_any (is_at r) os ≡ true → object_at r (os ++ ps) ≡ object_at r os
+here r [] ps e = absurd cc
+here r (o ∷ os) ps e =
+    elim (is_at r o) as (λ (b : Bool). b || list_any (is_at r) os ≡ true → cond b (Some o) (object_at r (os ++ ps)) ≡ cond b (Some o) (object_at r os)) [
+      | true ↦ λ h. refl
+      | false ↦ λ h. here r os ps h
+    ] e
+
+beyond : (r : ObjRef) (os ps : List Object) → list_any (is_at r) os ≡ false → object_at r (os ++ ps) ≡ object_at r ps
+beyond r [] ps e = refl
+beyond r (o ∷ os) ps e =
+    elim (is_at r o) as (λ (b : Bool). b || list_any (is_at r) os ≡ false → cond b (Some o) (object_at r (os ++ ps)) ≡ object_at r ps) [
+      | true ↦ λ h. absurd cc
+      | false ↦ λ h. beyond r os ps h
+    ] e
+
+pub as_planned : (f : Fixed → Body → Body) (r : ObjRef) (os : Objects) (m : Option Object) → m ≡ object_at r (all os) → changed_as (planned f r m) os ≡ changed f r os
+as_planned f r os None e = by (list_any (is_at r) os.application) refl
+  where
+    by : (b : Bool) → list_any (is_at r) os.application ≡ b → os ≡ (if b then record os { application = changed_in f r os.application } else record os { scene = changed_in f r os.scene })
+    by true is = ap (λ (t : List Object). record os { application = t }) (sym (missing_in f r os.application (sym (here r os.application os.scene is) ∙ sym e)))
+    by false is = ap (λ (t : List Object). record os { scene = t }) (sym (missing_in f r os.scene (sym (beyond r os.application os.scene is) ∙ sym e)))
+as_planned f r os (Some o) e = by (list_any (is_at r) os.application) refl
+  where
+    by : (b : Bool) → list_any (is_at r) os.application ≡ b
+        → (if b then record os { application = changed_in (λ p c. f o.fixed o.body) r os.application } else record os { scene = changed_in (λ p c. f o.fixed o.body) r os.scene })
+        ≡ (if b then record os { application = changed_in f r os.application } else record os { scene = changed_in f r os.scene })
+    by true is = ap (λ (t : List Object). record os { application = t }) (found_in f r os.application o (sym (here r os.application os.scene is) ∙ sym e))
+    by false is = ap (λ (t : List Object). record os { scene = t }) (found_in f r os.scene o (sym (beyond r os.application os.scene is) ∙ sym e))
+
+-- no change touches what the files say
+pub same_parts : (f : Fixed → Body → Body) (r : ObjRef) (os : Objects) → parts (all (changed f r os)) ≡ parts (all os)
+same_parts f r os =
+    parts-all (changed f r os)
+    ∙ ap (λ (t : List Fixed). t ++ parts (changed f r os).scene) (changed-own f r os)
+    ∙ ap (λ (t : List Fixed). parts os.application ++ t) (changed-others f r os)
+    ∙ sym (parts-all os)
+
+-- what the files say of the objects of fresh groups
+pub begun_parts : (ps : List Fixed) (os : Objects) → os ≡ record { application = map fresh ps; scene = [] } → parts (all os) ≡ ps ++ []
+begun_parts ps os e =
+    ap (λ (x : Objects). parts (all x)) e ∙ parts-all (record { application = map fresh ps; scene = [] }) ∙ ap (λ (t : List Fixed). t ++ []) (parts-fresh ps)
+
+pub begun_own : (ps : List Fixed) (os : Objects) → os ≡ record { application = map fresh ps; scene = [] } → parts os.application ≡ ps
+begun_own ps os e = ap (λ (x : Objects). parts x.application) e ∙ parts-fresh ps
+
+-- what a machine keeps, when the scene has been exchanged
+pub exchanged : (v : Service) (app : List ℕ) (os after : Objects) (ps own : List Fixed) (stack places : List ObjRef) (links : List (ObjRef × List ℕ)) (shown : Planes)
+    → after ≡ record os { scene = map fresh ps } → parts os.application ≡ group_parts v app → own ≡ group_parts v app → IsIndex links (own ++ ps)
+    → stack ≡ places → shown ≡ picture (all after) places → Holds v app after stack links shown
+exchanged v app os after ps own stack places links shown e kept is_own index same painted =
+    let first : parts after.application ≡ group_parts v app = ap (λ (x : Objects). parts x.application) e ∙ kept in
+    let second : parts after.scene ≡ ps = ap (λ (x : Objects). parts x.scene) e ∙ parts-fresh ps in
+    let whole : parts (all after) ≡ own ++ ps =
+    parts-all after ∙ ap (λ (t : List Fixed). t ++ parts after.scene) (first ∙ sym is_own) ∙ ap (λ (t : List Fixed). own ++ t) second in
+    record {
+      own = first;
+      index = subst (IsIndex links) (sym whole) index;
+      painted = painted ∙ ap (picture (all after)) (sym same);
+    }

@@ -1,0 +1,76 @@
+-- Frames, against the list of items that they stand for.
+use Rattle.std.specs.Prelude.{◌≡◌, ℕ, zero, suc, ◌+◌, ◌<◌, ◌==◌, true, false, nat_lt, List, [], ◌∷◌, ◌++◌, length, drop, slice_get, Some, refl}
+use Rattle.std.specs.List.{list_all}
+use Rattle.std.proofs.Common.{subst, ◌∙◌, arith}
+use Rattle.std.proofs.lemmas.List.{drop_all}
+use Rattle.mh_model.specs.declared.act.Act.{Act}
+use Rattle.mh_model.specs.declared.item.Item.{Item}
+use Rattle.mh_model.specs.Step.{is_empty}
+use Rattle.mh_model.proofs.ServiceLemmas.{and_left, and_right}
+use Rattle.mh_machine.specs.declared.work.Frame.{Frame}
+use Rattle.mh_machine.specs.declared.work.Frame.TheVariants as frame
+use Rattle.mh_machine.specs.Frames.{AreLive, left_of, flat, is_live, goes_on, passed_first}
+
+-- within an effect an action stands at each place
+opened : (effect : List Act) (n : ℕ) → nat_lt n (length effect) ≡ true → (a : Act) × (drop n effect ≡ a ∷ drop (n + 1) effect)
+opened [] n h = let bad : n < 0 = grind (arith, h) in absurd (omega arith)
+opened (a ∷ others) zero h = (a, refl)
+opened (a ∷ others) (suc n) h =
+    let next : suc n + 1 ≡ suc (n + 1) = grind arith in
+    rw next (opened others n (grind (arith, h)))
+
+-- with no action behind this one, nothing is left behind it
+ended : (effect : List Act) (n : ℕ) → nat_lt (n + 1) (length effect) ≡ false → drop (n + 1) effect ≡ []
+ended effect n h = drop_all (n + 1) effect (grind (arith, h))
+
+counted : (fs : List Frame) → (length fs == 0) ≡ is_empty fs
+counted [] = refl
+counted (f ∷ fs) = grind arith
+
+-- live frames hold nothing only if there are none
+flat_none : (fs : List Frame) → AreLive fs → is_empty fs ≡ is_empty (flat fs)
+flat_none [] h = refl
+flat_none (frame.One i ∷ fs) h = refl
+flat_none (frame.Acts effect n ∷ fs) h =
+    let hit = opened effect n (and_left (nat_lt n (length effect)) (list_all is_live fs) h) in
+    rw hit.1 refl
+
+pub flat_empty : (fs : List Frame) → AreLive fs → (length fs == 0) ≡ is_empty (flat fs)
+flat_empty fs h = counted fs ∙ flat_none fs h
+
+first_of_both : (xs ys : List Item) (i : Item) → Some i ≡ slice_get xs 0 → Some i ≡ slice_get (xs ++ ys) 0
+first_of_both [] ys i h = absurd cc
+first_of_both (x ∷ xs) ys i h = h
+
+-- the first item stands in the first frame
+pub flat_first : (fs : List Frame) (f : Frame) (i : Item) → slice_get fs 0 ≡ Some f → Some i ≡ slice_get (left_of f) 0 → Some i ≡ slice_get (flat fs) 0
+flat_first [] f i at h = absurd cc
+flat_first (x ∷ fs) f i at h =
+    let same : f ≡ x = cc in
+    first_of_both (left_of x) (flat fs) i (subst (λ (y : Frame). Some i ≡ slice_get (left_of y) 0) same h)
+
+pub flat_passed : (fs : List Frame) → AreLive fs → goes_on fs ≡ true → flat (passed_first fs) ≡ drop 1 (flat fs)
+flat_passed [] h more = refl
+flat_passed (frame.One i ∷ fs) h more = absurd cc
+flat_passed (frame.Acts effect n ∷ fs) h more =
+    let hit = opened effect n (and_left (nat_lt n (length effect)) (list_all is_live fs) h) in
+    rw hit.1 refl
+
+pub live_passed : (fs : List Frame) → AreLive fs → goes_on fs ≡ true → AreLive (passed_first fs)
+live_passed [] h more = refl
+live_passed (frame.One i ∷ fs) h more = absurd cc
+live_passed (frame.Acts effect n ∷ fs) h more = rw more (and_right (nat_lt n (length effect)) (list_all is_live fs) h)
+
+pub flat_ended : (fs : List Frame) → AreLive fs → goes_on fs ≡ false → flat (drop 1 (passed_first fs)) ≡ drop 1 (flat fs)
+flat_ended [] h more = refl
+flat_ended (frame.One i ∷ fs) h more = refl
+flat_ended (frame.Acts effect n ∷ fs) h more =
+    let hit = opened effect n (and_left (nat_lt n (length effect)) (list_all is_live fs) h) in
+    rw (hit.1, ended effect n more) refl
+
+pub live_ended : (fs : List Frame) → AreLive fs → AreLive (drop 1 (passed_first fs))
+live_ended [] h = refl
+live_ended (f ∷ fs) h = and_right (is_live f) (list_all is_live fs) h
+
+-- what is known of frames whose first item is passed over
+pub ruleset passing = (flat_passed, live_passed, flat_ended, live_ended)

@@ -1,0 +1,6 @@
+pub mod ChangeLemmas
+pub mod FrameLemmas
+pub mod LinkLemmas
+pub mod PlanLemmas
+pub mod RowLemmas
+pub mod UnseenLemmas

@@ -1,0 +1,11 @@
+use Rattle.std.proofs.Common.{rules, sym, subst}
+use Rattle.mh_model.specs.Service.{group_parts}
+use Rattle.mh_machine.specs.Links.{IsIndex}
+use Rattle.mh_machine.proofs.ChangeLemmas.{begun_parts, begun_own}
+use Rattle.mh_machine.proofs.machine.prepare.Goals as goal
+
+pub returns-clause-links : goal.returns-clause-links
+returns-clause-links c = subst (IsIndex c.in_ok-links.links) (sym (begun_parts c.parts-parts.result.now c.new-objects.result (search rules))) c.in_ok-links.ensures
+
+pub returns-clause-own : goal.returns-clause-own
+returns-clause-own c = begun_own (group_parts c.args.service.now c.args.service.now.start) c.new-objects.result (search rules)

@@ -1,0 +1,34 @@
+-- What a step answers, and what is left to do.
+use Rattle.std.specs.Prelude.{Option, Some, None, slice_get, if◌then◌else◌, Bool, true, false}
+use Rattle.mh_model.specs.declared.fault.Fault.{Fault}
+use Rattle.mh_model.specs.declared.input.Input.{Input}
+use Rattle.mh_model.specs.declared.item.Item.{Item}
+use Rattle.mh_model.specs.State.{State}
+use Rattle.mh_model.specs.Step.{is_idle}
+use Rattle.mh_model.specs.Stuck.{stuck}
+use Rattle.mh_machine.specs.declared.rest.Rest.{Rest}
+use Rattle.mh_machine.specs.declared.rest.Rest.TheVariants as rest
+use Rattle.mh_machine.specs.declared.stepped.Stepped.{Stepped}
+use Rattle.mh_machine.specs.declared.stepped.Stepped.TheVariants as answer
+
+abbrev pub judged : Option Fault → Stepped
+judged None = answer.Did
+judged (Some f) = answer.Faulted f
+
+abbrev pub answer_by : Option Item → Option Input → State → Stepped
+answer_by (Some i) next s = judged (stuck i s)
+answer_by None (Some i) s = answer.Did
+answer_by None None s = answer.Idle
+
+-- Idle where there is nothing to do, Faulted where the first item is stuck, else Did
+abbrev pub answer_of : State → Stepped
+answer_of s = answer_by (slice_get s.work 0) (slice_get s.queue 0) s
+
+abbrev pub is_faulted : Stepped → Bool
+is_faulted answer.Idle = false
+is_faulted answer.Did = false
+is_faulted (answer.Faulted f) = true
+
+-- what is left to do
+abbrev pub rest_of : State → Rest
+rest_of s = if is_idle s then rest.Idle else rest.More

@@ -1,0 +1,250 @@
+//! The links, found by the objects whose events they wait for.
+ghost use Rattle.std.specs.Prelude.{◌≡◌, ◌++◌, ◌+◌, ◌^◌, ◌<◌, IfOk, OnOk, Some, length, [], ◌∷◌, if◌then◌else◌};
+ghost use Rattle.std.specs.Map.{lookup};
+ghost use Rattle.std.specs.Option.{option_copied};
+ghost use Rattle.mh_model.specs.Items.{same_value as same_value_lem, hears_data as hears_data_lem, hears_type as hears_type_lem, heard as heard_lem, acts};
+ghost use Rattle.mh_model.specs.Property.{held, as_effect};
+ghost use Rattle.mh_model.specs.Service.{parts, same_ref as same_ref_lem};
+ghost use Rattle.mh_model.specs.State.{all};
+ghost use Rattle.mh_machine.specs.Links.{source_of as source_of_lem, place_of, places, waiting, IsIndex, is_awake as is_awake_lem, answer, answers};
+ghost use Rattle.mh_machine.specs.Pieces.{written};
+
+use crate::Piece;
+use indexmap::IndexMap;
+use mh_base::{EventType, ObjRef, Seq, Value};
+use mh_group::{Attribute, Class};
+use mh_model::held::{as_event, as_value};
+use mh_model::parts::same_ref;
+use mh_model::{Event, Fixed, FixedPart, Held, Object};
+use mh_store::Objects;
+use std::alloc::{AllocError, Global};
+use std::marker::Model;
+
+/// The links among the objects that are present, by the objects whose events they wait for.
+/// A contract sees the entries; `IsIndex` says of which parts they are the index.
+#[derive(Drop)]
+pub struct Links {
+    /// For each object the places of the links that wait for its events, in order.
+    table: IndexMap<ObjRef, Seq<usize>>,
+}
+
+impl Model for Links {
+    ghost use Rattle.std.specs.Prelude.{ℕ, List};
+    ghost use Rattle.mh_base.specs.declared.obj_ref.ObjRef.{ObjRef};
+
+    ghost Value = { List (ObjRef × List ℕ) };
+
+    ghost view = { λ links. links.table.entries };
+}
+
+impl Links {
+    /// The links among the application's parts and then the scene's.
+    pub fn of(
+        alloc: Global,
+        application: &[FixedPart],
+        scene: &[FixedPart],
+    ) -> Result<Links, AllocError>
+        ensures { IfOk result (λ links. IsIndex links (application.now ++ scene.now)) }
+    {
+        let mut table = IndexMap::new(alloc);
+        add_parts(alloc, &mut table, 0, application)?;
+        add_parts(alloc, &mut table, application.len(), scene)?;
+        Ok(Links { table })
+    }
+
+    /// The effects of all links that hear the event, in the order of the objects. Only the links
+    /// that wait for its source are asked.
+    pub fn heard(
+        &self,
+        alloc: Global,
+        event: &Event,
+        objects: &Objects,
+    ) -> Result<Vec<Piece>, AllocError>
+        requires { IsIndex self.now (parts (all objects.now)) }
+        ensures { IfOk result
+            (λ pieces. written pieces.items ≡ heard_lem event.now (all objects.now)) }
+    {
+        heard_at(alloc, self.places_of(&event.source), event, objects)
+    }
+
+    /// The places of the links that wait for the object.
+    fn places_of(&self, source: &ObjRef) -> &[usize]
+        ensures { result.now ≡ waiting source.now self.now }
+    {
+        match self.table.get(source) {
+            Some(places) => places.as_slice(),
+            None => &[],
+        }
+    }
+}
+
+fn add_parts(
+    alloc: Global,
+    table: &mut IndexMap<ObjRef, Seq<usize>>,
+    first: usize,
+    parts: &[FixedPart],
+) -> Result<(), AllocError>
+    requires { first + length parts.now < 2 ^ 64 }
+    ensures { OnOk result
+        ((r : _) →
+        waiting r table.new.entries ≡ waiting r table.old.entries ++ places first r parts.now) }
+{
+    for (index, part) in parts.iter().enumerate() {
+        add_part(alloc, table, first + index, part.get())?;
+    }
+    Ok(())
+}
+
+fn add_part(
+    alloc: Global,
+    table: &mut IndexMap<ObjRef, Seq<usize>>,
+    place: usize,
+    part: &Fixed,
+) -> Result<(), AllocError>
+    ensures { OnOk result
+        ((r : _) →
+        waiting r table.new.entries ≡ waiting r table.old.entries ++ place_of place r part.now) }
+{
+    match source_of(part) {
+        Some(source) => add_place(alloc, table, source, place),
+        None => Ok(()),
+    }
+}
+
+/// The object whose events the part waits for, if it is a link.
+fn source_of(part: &Fixed) -> Option<&ObjRef>
+    ensures { option_copied result ≡ source_of_lem part.now }
+{
+    if !matches!(part.class, Class::Link) {
+        return None;
+    }
+    match as_value(part.properties.get(Attribute::EventSource)) {
+        Some(Value::Object(source)) => Some(source),
+        _ => None,
+    }
+}
+
+fn add_place(
+    alloc: Global,
+    table: &mut IndexMap<ObjRef, Seq<usize>>,
+    source: &ObjRef,
+    place: usize,
+) -> Result<(), AllocError>
+    ensures { OnOk result
+        ((r : _) →
+        waiting r table.new.entries
+        ≡ waiting r table.old.entries ++ (if same_ref_lem source.now r then place ∷ [] else [])) }
+{
+    match table.get_mut(source) {
+        Some(places) => places.push(place),
+        None => start(alloc, table, source, place),
+    }
+}
+
+/// Puts the first place for the source.
+fn start(
+    alloc: Global,
+    table: &mut IndexMap<ObjRef, Seq<usize>>,
+    source: &ObjRef,
+    place: usize,
+) -> Result<(), AllocError>
+    ensures { OnOk result
+        ((r : _) →
+        lookup (same_ref_lem r) table.new.entries
+        ≡ (if same_ref_lem source.now r then Some (place ∷ [])
+        else lookup (same_ref_lem r) table.old.entries)) }
+{
+    let mut places = Seq::new(alloc);
+    places.push(place)?;
+    table.insert(source.clone()?, places)?;
+    Ok(())
+}
+
+/// What the links at these places put.
+fn heard_at(
+    alloc: Global,
+    places: &[usize],
+    event: &Event,
+    objects: &Objects,
+) -> Result<Vec<Piece>, AllocError>
+    ensures { IfOk result
+        (λ pieces. written pieces.items ≡ answers event.now (all objects.now) places.now) }
+{
+    let mut pieces = Vec::new(alloc);
+    for place in places {
+        if let Some(object) = objects.at(*place) {
+            put_answer(&mut pieces, event, object)?;
+        }
+    }
+    Ok(pieces)
+}
+
+fn put_answer(pieces: &mut Vec<Piece>, event: &Event, object: &Object) -> Result<(), AllocError>
+    ensures { OnOk result
+        (written pieces.new.items ≡ written pieces.old.items ++ answer event.now object.now) }
+{
+    if is_awake(event, object) {
+        put_effect(pieces, object.fixed.get())?;
+    }
+    Ok(())
+}
+
+/// Puts the effect of a link, which is shared.
+fn put_effect(pieces: &mut Vec<Piece>, link: &Fixed) -> Result<(), AllocError>
+    ensures { OnOk result
+        (written pieces.new.items
+        ≡ written pieces.old.items
+        ++ acts (as_effect (held Attribute.LinkEffect link.now.properties))) }
+{
+    if let Some(Held::Effect(effect)) = link.properties.get(Attribute::LinkEffect) {
+        pieces.push(Piece::Acts(effect.clone()?))?;
+    }
+    Ok(())
+}
+
+/// Whether a link that waits for the event's source runs, and waits for its type and data.
+fn is_awake(event: &Event, link: &Object) -> bool
+    ensures { result ≡ is_awake_lem event.now link.now }
+{
+    if !link.body.running {
+        return false;
+    }
+    let written = &link.fixed.get().properties;
+    if !hears_type(as_event(written.get(Attribute::EventType)), event.kind) {
+        return false;
+    }
+    hears_data(as_value(written.get(Attribute::EventData)), &event.data)
+}
+
+fn hears_type(heard: Option<EventType>, kind: EventType) -> bool
+    ensures { result ≡ hears_type_lem heard kind }
+{
+    match heard {
+        Some(heard) => heard.number() == kind.number(),
+        None => false,
+    }
+}
+
+fn hears_data(heard: Option<&Value>, given: &Option<Value>) -> bool
+    ensures { result ≡ hears_data_lem (option_copied heard.entry) given.now }
+{
+    match (heard, given) {
+        (None, _) => true,
+        (Some(heard), Some(given)) => same_value(heard, given),
+        (Some(_), None) => false,
+    }
+}
+
+/// Values are the same where their kinds are, too.
+fn same_value(a: &Value, b: &Value) -> bool
+    ensures { result ≡ same_value_lem a.now b.now }
+{
+    match (a, b) {
+        (Value::Bool(a), Value::Bool(b)) => *a == *b,
+        (Value::Int(a), Value::Int(b)) => *a == *b,
+        (Value::Octets(a), Value::Octets(b)) => a.as_slice() == b.as_slice(),
+        (Value::Object(a), Value::Object(b)) => same_ref(a, b),
+        (Value::Content(a), Value::Content(b)) => a.as_bytes() == b.as_bytes(),
+        _ => false,
+    }
+}

@@ -1,0 +1,159 @@
+//! What is put when a group is entered, and when a scene is left, told by the parts of the groups
+//! alone. An effect is put as one piece, which shares its actions.
+ghost use Rattle.std.specs.Prelude.{◌≡◌, ◌++◌, IfOk, OnOk, filter};
+ghost use Rattle.std.specs.Option.{option_map};
+ghost use Rattle.mh_model.specs.Items.{acts, runs, plain_event as plain_event_lem};
+ghost use Rattle.mh_model.specs.Items.{is_initially_active as is_initially_active_lem};
+ghost use Rattle.mh_model.specs.Items.{is_shared as is_shared_lem};
+ghost use Rattle.mh_model.specs.Property.{as_effect, held};
+ghost use Rattle.mh_machine.specs.Pieces.{items_of, written};
+ghost use Rattle.mh_machine.specs.Puts.{application_halts, effect_in, scene_halts};
+ghost use Rattle.mh_machine.specs.Puts.{entering_by, leaving_by};
+
+use crate::Piece;
+use mh_base::{EventType, GroupName, ObjRef};
+use mh_group::Attribute;
+use mh_model::held::as_bool;
+use mh_model::parts::{group_ref, part_at};
+use mh_model::{Event, Fixed, FixedPart, Held, Item};
+use std::alloc::{AllocError, Global};
+
+/// An event without data.
+pub fn plain_event(source: &ObjRef, kind: EventType) -> Result<Item, AllocError>
+    ensures { IfOk result (λ item. item ≡ plain_event_lem source.now kind) }
+{
+    Ok(Item::Emit(Event {
+        source: source.clone()?,
+        kind,
+        data: None,
+    }))
+}
+
+/// What is put when the group with these parts is entered.
+pub fn entering(
+    alloc: Global,
+    group: &GroupName,
+    parts: &[FixedPart],
+) -> Result<Vec<Piece>, AllocError>
+    ensures { IfOk result (λ pieces. written pieces.items ≡ entering_by group.now parts.now) }
+{
+    let mut pieces = Vec::new(alloc);
+    push_group_effect(&mut pieces, group, parts, Attribute::OnStartUp)?;
+    push_runs(&mut pieces, parts)?;
+    let running = plain_event(&group_ref(group)?, EventType::IsRunning)?;
+    push(&mut pieces, Piece::One(running))?;
+    Ok(pieces)
+}
+
+/// What a transition to the target puts in the place of the whole work list. Given are the parts of
+/// the application, and the scene that is left, if there is one, with its parts.
+pub fn leaving(
+    alloc: Global,
+    application: &[FixedPart],
+    scene: Option<(&GroupName, &[FixedPart])>,
+    target: &GroupName,
+) -> Result<Vec<Piece>, AllocError>
+    ensures { let left = option_map (λ s. (s.0.now, s.1.now)) scene.entry in
+        IfOk result (λ pieces. written pieces.items ≡ leaving_by application.now left target.now) }
+{
+    let mut pieces = Vec::new(alloc);
+    if let Some((name, parts)) = scene {
+        push_group_effect(&mut pieces, name, parts, Attribute::OnCloseDown)?;
+        push_scene_halts(&mut pieces, parts)?;
+    }
+    push_application_halts(&mut pieces, application)?;
+    push(&mut pieces, Piece::One(Item::Exchange(target.clone()?)))?;
+    Ok(pieces)
+}
+
+/// Puts the actions of an effect of the part behind these pieces.
+pub fn push_effect(
+    pieces: &mut Vec<Piece>,
+    part: &Fixed,
+    attribute: Attribute,
+) -> Result<(), AllocError>
+    ensures { let actions = as_effect (held attribute part.now.properties) in
+        OnOk result (written pieces.new.items ≡ written pieces.old.items ++ acts actions) }
+{
+    match part.properties.get(attribute) {
+        Some(Held::Effect(effect)) => push(pieces, Piece::Acts(effect.clone()?)),
+        _ => Ok(()),
+    }
+}
+
+fn push(pieces: &mut Vec<Piece>, piece: Piece) -> Result<(), AllocError>
+    ensures { OnOk result (written pieces.new.items ≡ written pieces.old.items ++ items_of piece) }
+{
+    pieces.push(piece)?;
+    Ok(())
+}
+
+/// Puts the actions of an effect of the group itself behind these pieces.
+fn push_group_effect(
+    pieces: &mut Vec<Piece>,
+    group: &GroupName,
+    parts: &[FixedPart],
+    attribute: Attribute,
+) -> Result<(), AllocError>
+    ensures { let actions = effect_in group.now parts.now attribute in
+        OnOk result (written pieces.new.items ≡ written pieces.old.items ++ actions) }
+{
+    match part_at(parts, &group_ref(group)?) {
+        Some(part) => push_effect(pieces, part, attribute),
+        None => Ok(()),
+    }
+}
+
+fn is_initially_active(part: &Fixed) -> bool
+    ensures { result ≡ is_initially_active_lem part.now }
+{
+    part.class.is_runnable() && as_bool(part.properties.get(Attribute::InitiallyActive), true)
+}
+
+fn is_shared(part: &Fixed) -> bool
+    ensures { result ≡ is_shared_lem part.now }
+{
+    as_bool(part.properties.get(Attribute::Shared), false)
+}
+
+/// Puts a Run of each initially active part behind these pieces.
+fn push_runs(pieces: &mut Vec<Piece>, parts: &[FixedPart]) -> Result<(), AllocError>
+    ensures { let active = filter is_initially_active_lem parts.now in
+        OnOk result (written pieces.new.items ≡ written pieces.old.items ++ runs active) }
+{
+    for part in parts {
+        let part = part.get();
+        if is_initially_active(part) {
+            push(pieces, Piece::One(Item::Run(part.key.clone()?)))?;
+        }
+    }
+    Ok(())
+}
+
+/// Puts a Halt of each part of the scene that can run behind these pieces, the last first.
+fn push_scene_halts(pieces: &mut Vec<Piece>, parts: &[FixedPart]) -> Result<(), AllocError>
+    ensures { let halted = scene_halts parts.now in
+        OnOk result (written pieces.new.items ≡ written pieces.old.items ++ halted) }
+{
+    for part in parts.iter().rev() {
+        let part = part.get();
+        if part.class.is_runnable() {
+            push(pieces, Piece::One(Item::Halt(part.key.clone()?)))?;
+        }
+    }
+    Ok(())
+}
+
+/// The same for the application, whose shared parts go on.
+fn push_application_halts(pieces: &mut Vec<Piece>, parts: &[FixedPart]) -> Result<(), AllocError>
+    ensures { let halted = application_halts parts.now in
+        OnOk result (written pieces.new.items ≡ written pieces.old.items ++ halted) }
+{
+    for part in parts.iter().rev() {
+        let part = part.get();
+        if part.class.is_runnable() && !is_shared(part) {
+            push(pieces, Piece::One(Item::Halt(part.key.clone()?)))?;
+        }
+    }
+    Ok(())
+}

@@ -1,0 +1,223 @@
+//! The work list, as a stack of frames: looking at its first item, and putting pieces in the place of
+//! that item, cost the same however long the list is.
+ghost use Rattle.std.specs.Prelude.{◌≡◌, ◌++◌, ◌+◌, ◌<◌, ◌≤◌, true, drop, slice_get, vec_len};
+ghost use Rattle.std.specs.Prelude.{IfOk, OnOk};
+ghost use Rattle.std.specs.VecDeque.{deque_len, deque_capacity};
+ghost use Rattle.mh_model.specs.Items.{acts};
+ghost use Rattle.mh_model.specs.Step.{is_empty as is_empty_lem};
+ghost use Rattle.mh_machine.specs.Pieces.{items_of, written};
+ghost use Rattle.mh_machine.specs.Frames.{AreLive, flat, goes_on, has_more, is_live, left_of};
+ghost use Rattle.mh_machine.specs.Frames.{passed, passed_first};
+
+use crate::Piece;
+use mh_model::{Act, Effect, Item};
+use std::alloc::{AllocError, Global};
+use std::collections::VecDeque;
+use std::marker::Model;
+
+/// What was put as one piece, as far as it is not done.
+#[derive(Drop)]
+enum Frame {
+    /// The actions of an effect from this place on; there is one at least.
+    Acts(Effect, usize),
+    One(Item),
+}
+
+/// The work that is to be done. A contract sees the items, and for how many more pieces there is
+/// room.
+#[derive(Drop)]
+pub struct Work {
+    /// The first one in front.
+    frames: VecDeque<Frame>,
+}
+
+impl Model for Work {
+    ghost use Rattle.std.specs.Prelude.{◌-◌};
+    ghost use Rattle.std.specs.VecDeque.{deque_len, deque_capacity};
+    ghost use Rattle.mh_machine.specs.Frames.{AreLive, WorkList, flat};
+
+    ghost Value = { WorkList };
+
+    ghost view = { λ w. record {
+      items = flat w.frames.items;
+      room = deque_capacity w.frames - deque_len w.frames;
+    } };
+
+    ghost invariant = { λ w. AreLive w.frames.items };
+}
+
+impl Work {
+    /// A list with these pieces, written out.
+    pub fn of_pieces(alloc: Global, pieces: Vec<Piece>) -> Result<Work, AllocError>
+        ensures items { IfOk result (λ work. work.items ≡ written pieces.items) }
+    {
+        let mut frames = VecDeque::with_capacity(alloc, pieces.len())?;
+        put_in_front(&mut frames, pieces);
+        Ok(Work { frames })
+    }
+
+    pub fn is_empty(&self) -> bool
+        ensures { result ≡ is_empty_lem self.now.items }
+    {
+        holds_nothing(&self.frames)
+    }
+
+    /// A copy of the first item, which shares what is large.
+    pub fn first(&self) -> Result<Option<Item>, AllocError>
+        ensures { IfOk result (λ item. item ≡ slice_get self.now.items 0) }
+    {
+        first_of(&self.frames)
+    }
+
+    /// Makes room for so many more pieces.
+    pub fn reserve(&mut self, count: usize) -> Result<(), AllocError>
+        ensures same { self.new.items ≡ self.old.items }
+        ensures room { OnOk result (count ≤ self.new.room) }
+    {
+        self.frames.reserve(count)
+    }
+
+    /// Puts these pieces, for which there is room, in the place of the first item. It takes no
+    /// memory.
+    pub fn put_for_first(&mut self, pieces: Vec<Piece>)
+        requires { vec_len pieces ≤ self.old.room }
+        ensures { self.new.items ≡ written pieces.items ++ drop 1 self.old.items }
+    {
+        drop_first(&mut self.frames);
+        put_in_front(&mut self.frames, pieces);
+    }
+}
+
+#[tactic(auto, using(crate::proofs::FrameLemmas::flat_empty))]
+fn holds_nothing(frames: &VecDeque<Frame>) -> bool
+    requires { AreLive frames.now.items }
+    ensures { result ≡ is_empty_lem (flat frames.now.items) }
+{
+    frames.is_empty()
+}
+
+fn first_of(frames: &VecDeque<Frame>) -> Result<Option<Item>, AllocError>
+    requires { AreLive frames.now.items }
+    ensures { IfOk result (λ item. item ≡ slice_get (flat frames.now.items) 0) }
+{
+    match frames.front() {
+        Some(frame) => Ok(Some(top(frame)?)),
+        None => Ok(None),
+    }
+}
+
+/// A copy of the first item of a frame.
+fn top(frame: &Frame) -> Result<Item, AllocError>
+    requires { is_live frame.now ≡ true }
+    ensures { IfOk result (λ item. Some item ≡ slice_get (left_of frame.now) 0) }
+{
+    match frame {
+        Frame::Acts(effect, next) => act_item(&effect.as_slice()[*next]),
+        Frame::One(item) => copied(item),
+    }
+}
+
+fn act_item(act: &Act) -> Result<Item, AllocError>
+    ensures { IfOk result (λ item. item ≡ Item.Act act.now) }
+{
+    Ok(Item::Act(act.clone()?))
+}
+
+fn copied(item: &Item) -> Result<Item, AllocError>
+    ensures { IfOk result (λ copy. copy ≡ item.now) }
+{
+    item.clone()
+}
+
+/// Takes the first item away, if there is one.
+#[tactic(auto, using(crate::proofs::FrameLemmas::passing))]
+fn drop_first(frames: &mut VecDeque<Frame>)
+    requires { AreLive frames.old.items }
+    ensures items { flat frames.new.items ≡ drop 1 (flat frames.old.items) }
+    ensures live { AreLive frames.new.items }
+    ensures len { deque_len frames.new ≤ deque_len frames.old }
+    ensures capacity { deque_capacity frames.new ≡ deque_capacity frames.old }
+{
+    if frames.is_empty() {
+        return;
+    }
+    if !pass_first(frames) {
+        drop_frame(frames);
+    }
+}
+
+/// Passes over the first item of the first frame. Whether that frame holds another one.
+fn pass_first(frames: &mut VecDeque<Frame>) -> bool
+    requires live { AreLive frames.old.items }
+    requires some { 0 < deque_len frames.old }
+    ensures more { result ≡ goes_on frames.old.items }
+    ensures items { frames.new.items ≡ passed_first frames.old.items }
+    ensures len { deque_len frames.new ≡ deque_len frames.old }
+    ensures capacity { deque_capacity frames.new ≡ deque_capacity frames.old }
+{
+    pass(&mut frames[0])
+}
+
+fn pass(frame: &mut Frame) -> bool
+    requires { is_live frame.old ≡ true }
+    ensures more { result ≡ has_more frame.old }
+    ensures after { frame.new ≡ passed frame.old }
+{
+    match frame {
+        Frame::Acts(effect, next) => {
+            let count = effect.as_slice().len();
+            *next += 1;
+            *next < count
+        }
+        Frame::One(_) => false,
+    }
+}
+
+fn drop_frame(frames: &mut VecDeque<Frame>)
+    ensures items { frames.new.items ≡ drop 1 frames.old.items }
+    ensures len { deque_len frames.new ≤ deque_len frames.old }
+    ensures capacity { deque_capacity frames.new ≡ deque_capacity frames.old }
+{
+    let _ = frames.pop_front();
+}
+
+/// Puts these pieces in front, for which there is room.
+fn put_in_front(frames: &mut VecDeque<Frame>, pieces: Vec<Piece>)
+    requires live { AreLive frames.old.items }
+    requires room { deque_len frames.old + vec_len pieces ≤ deque_capacity frames.old }
+    ensures items { flat frames.new.items ≡ written pieces.items ++ flat frames.old.items }
+    ensures live { AreLive frames.new.items }
+{
+    let mut left = pieces;
+    while let Some(piece) = left.pop() {
+        put_piece(frames, piece);
+    }
+}
+
+fn put_piece(frames: &mut VecDeque<Frame>, piece: Piece)
+    requires live { AreLive frames.old.items }
+    requires room { deque_len frames.old < deque_capacity frames.old }
+    ensures items { flat frames.new.items ≡ items_of piece ++ flat frames.old.items }
+    ensures live { AreLive frames.new.items }
+    ensures len { deque_len frames.new ≤ deque_len frames.old + 1 }
+    ensures capacity { deque_capacity frames.new ≡ deque_capacity frames.old }
+{
+    match piece {
+        Piece::Acts(effect) => put_effect(frames, effect),
+        Piece::One(item) => frames.push_front_reserved(Frame::One(item)),
+    }
+}
+
+/// An effect without actions makes no frame, so that the first item stands in the first frame.
+fn put_effect(frames: &mut VecDeque<Frame>, effect: Effect)
+    requires live { AreLive frames.old.items }
+    requires room { deque_len frames.old < deque_capacity frames.old }
+    ensures items { flat frames.new.items ≡ acts effect ++ flat frames.old.items }
+    ensures live { AreLive frames.new.items }
+    ensures len { deque_len frames.new ≤ deque_len frames.old + 1 }
+    ensures capacity { deque_capacity frames.new ≡ deque_capacity frames.old }
+{
+    if !effect.as_slice().is_empty() {
+        frames.push_front_reserved(Frame::Acts(effect, 0));
+    }
+}

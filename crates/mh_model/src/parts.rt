@@ -1,0 +1,65 @@
+//! Look-up among the parts of groups, and what is read off one.
+ghost use Rattle.std.specs.Prelude.{◌≡◌, IfOk};
+ghost use Rattle.std.specs.Option.{option_copied};
+ghost use Rattle.mh_model.specs.Service.{same_ref as same_ref_lem, part_at as part_at_lem, group_ref as group_ref_lem};
+ghost use Rattle.mh_model.specs.Property.{held, as_effect as as_effect_lem};
+ghost use Rattle.mh_model.specs.Stuck.{is_transition as is_transition_lem};
+
+use crate::held::as_effect;
+use crate::{Act, Fixed, FixedPart};
+use mh_base::{GroupName, ObjRef};
+use mh_group::{ActionName, Attribute};
+use std::alloc::AllocError;
+
+/// Whether the references lead to one object.
+pub fn same_ref(first: &ObjRef, second: &ObjRef) -> bool
+    ensures { result ≡ same_ref_lem first.now second.now }
+{
+    first.group == second.group && first.number == second.number
+}
+
+/// The part to which the reference leads, if it is among these.
+pub fn part_at<'a>(parts: &'a [FixedPart], at: &ObjRef) -> Option<&'a Fixed>
+    ensures { option_copied result ≡ part_at_lem at.now parts.now }
+{
+    match find(parts, at) {
+        Some(part) => Some(part.get()),
+        None => None,
+    }
+}
+
+fn find<'a>(parts: &'a [FixedPart], at: &ObjRef) -> Option<&'a FixedPart>
+    ensures { option_copied result ≡ part_at_lem at.now parts.now }
+{
+    parts.iter().find(|part| is_at(at, *part))
+}
+
+fn is_at(at: &ObjRef, part: &FixedPart) -> bool
+    ensures { result ≡ same_ref_lem at.now part.now.key }
+{
+    same_ref(at, &part.get().key)
+}
+
+/// The reference to a group itself.
+pub fn group_ref(group: &GroupName) -> Result<ObjRef, AllocError>
+    ensures { IfOk result (λ r. r ≡ group_ref_lem group.now) }
+{
+    Ok(ObjRef {
+        group: group.clone()?,
+        number: 0,
+    })
+}
+
+/// The effect that is written under the attribute, or an empty one.
+pub fn effect_of(part: &Fixed, attribute: Attribute) -> &[Act]
+    ensures { result.now ≡ as_effect_lem (held attribute part.now.properties) }
+{
+    as_effect(part.properties.get(attribute))
+}
+
+/// Whether the action is a transition to another scene.
+pub fn is_transition(name: ActionName) -> bool
+    ensures { result ≡ is_transition_lem name }
+{
+    matches!(name, ActionName::TransitionTo)
+}

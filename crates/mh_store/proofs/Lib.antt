@@ -1,0 +1,3 @@
+pub mod TableLemmas
+pub mod FreshLemmas
+pub mod BothLemmas

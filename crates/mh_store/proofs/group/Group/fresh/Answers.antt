@@ -1,0 +1,8 @@
+use Rattle.mh_store.proofs.FreshLemmas.{objects_of-parts, keyed-parts}
+use Rattle.mh_store.proofs.group.Group.fresh.Goals as goal
+
+pub invariant_of-result : goal.invariant_of-result
+invariant_of-result c = rw c.in_ok-table.ensures (keyed-parts c.args.parts.now)
+
+pub returns : goal.returns
+returns c = rw c.in_ok-table.ensures (objects_of-parts c.args.parts.now)
