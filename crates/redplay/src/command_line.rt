@@ -12,84 +12,83 @@ const VERSION: &str = "0.1.0";
 /// The application that is started where none is named.
 const START: &str = "a";
 
-/// What is asked for.
-#[derive(Clone, Copy, PartialEq, Eq)]
-pub enum Task {
+/// What is asked for, and what it is done with.
+#[derive(Drop)]
+pub enum Task<'a> {
     /// What the verifier says of a service.
-    Check,
+    Check(Source<'a>),
     /// A script, played on a service.
-    Play,
-    /// A group's file, in the notation that is wanted.
-    Convert(Notation),
+    Play {
+        source: Source<'a>,
+        /// The file with the script.
+        script: &'a str,
+        lenient: bool,
+    },
+    /// The group of a file, in the notation that is wanted.
+    Convert {
+        file: &'a str,
+        to: Notation,
+    },
 }
 
-/// A task, and what it is done with.
+/// Where a service is read from.
 #[derive(Drop)]
-pub struct Asked<'a> {
-    pub task: Task,
+pub struct Source<'a> {
     /// The folder with the files of the service.
-    pub folder: Option<&'a str>,
-    /// The file that is converted.
-    pub file: Option<&'a str>,
-    /// The file with the script.
-    pub script: Option<&'a str>,
+    pub folder: &'a str,
     /// The path of the application to start with.
     pub start: &'a str,
-    pub lenient: bool,
 }
 
 /// What the words ask for. The first word is the program's own name.
-pub fn line_of<'a, S: AsStr>(alloc: Global, words: &'a [S]) -> Result<Asked<'a>, Error> {
+///
+/// `program` requires a subcommand. Were there none, `check` would be meant, of the empty path.
+pub fn line_of<'a, S: AsStr>(alloc: Global, words: &'a [S]) -> Result<Task<'a>, Error> {
     let matches = program(alloc)?.try_get_matches_from(words)?;
-    if let Some(play) = matches.subcommand_matches("play") {
-        return Ok(what_to_play(play));
-    }
-    if let Some(convert) = matches.subcommand_matches("to-der") {
-        return Ok(what_to_convert(Notation::Binary, convert));
-    }
-    if let Some(convert) = matches.subcommand_matches("to-text") {
-        return Ok(what_to_convert(Notation::Textual, convert));
-    }
-    Ok(what_to_check(matches.subcommand_matches("check")))
+    let (name, given) = matches.subcommand().unwrap_or(("check", &matches));
+    Ok(match name {
+        "play" => Task::Play {
+            source: source_of(given),
+            script: required(given, "script"),
+            lenient: given.get_flag("lenient"),
+        },
+        "to-der" => converting(given, Notation::Binary),
+        "to-text" => converting(given, Notation::Textual),
+        _ => Task::Check(source_of(given)),
+    })
 }
 
-fn what_to_convert<'a>(to: Notation, convert: &ArgMatches<'a>) -> Asked<'a> {
-    Asked {
-        task: Task::Convert(to),
-        folder: None,
-        file: convert.get_str("FILE"),
-        script: None,
-        start: START,
-        lenient: false,
+fn converting<'a>(given: &ArgMatches<'a>, to: Notation) -> Task<'a> {
+    Task::Convert {
+        file: required(given, "FILE"),
+        to,
     }
 }
 
-fn what_to_play<'a>(play: &ArgMatches<'a>) -> Asked<'a> {
-    Asked {
-        task: Task::Play,
-        folder: play.get_str("DIR"),
-        file: None,
-        script: play.get_str("script"),
-        start: play.get_str("start").unwrap_or(START),
-        lenient: play.get_flag("lenient"),
+fn source_of<'a>(given: &ArgMatches<'a>) -> Source<'a> {
+    Source {
+        folder: required(given, "DIR"),
+        start: given.get_str("start").unwrap_or(START),
     }
 }
 
-fn what_to_check<'a>(check: Option<&ArgMatches<'a>>) -> Asked<'a> {
-    Asked {
-        task: Task::Check,
-        folder: check.and_then(|check| check.get_str("DIR")),
-        file: None,
-        script: None,
-        start: check
-            .and_then(|check| check.get_str("start"))
-            .unwrap_or(START),
-        lenient: false,
-    }
+/// The value of an argument that `program` requires. Were there none, it would be the empty path,
+/// where nothing can be read.
+fn required<'a>(given: &ArgMatches<'a>, name: &str) -> &'a str {
+    given.get_str(name).unwrap_or("")
 }
 
 fn program<'a>(alloc: Global) -> Result<Command<'a>, AllocError> {
-    with_conversions(alloc, with_services(alloc, bare(alloc))?)
+    with_services(alloc)?
+        .subcommand(to_der(alloc)?)?
+        .subcommand(to_text(alloc)?)
+}
+
+/// The program with the subcommands that take a service.
+fn with_services<'a>(alloc: Global) -> Result<Command<'a>, AllocError> {
+    bare(alloc)
+        .subcommand(check(alloc)?)?
+        .subcommand(play(alloc)?)
 }
 
 /// The program without its subcommands.
@@ -98,16 +97,6 @@ fn bare<'a>(alloc: Global) -> Command<'a> {
         .version(VERSION)
         .about("Checks, plays and converts red-button television services")
         .subcommand_required(true)
-}
-
-fn with_services<'a>(alloc: Global, program: Command<'a>) -> Result<Command<'a>, AllocError> {
-    program.subcommand(check(alloc)?)?.subcommand(play(alloc)?)
-}
-
-fn with_conversions<'a>(alloc: Global, program: Command<'a>) -> Result<Command<'a>, AllocError> {
-    program
-        .subcommand(to_der(alloc)?)?
-        .subcommand(to_text(alloc)?)
 }
 
 fn to_der<'a>(alloc: Global) -> Result<Command<'a>, AllocError> {

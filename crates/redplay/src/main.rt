@@ -5,7 +5,7 @@
 pub mod command_line;
 pub mod gather;
 
-use command_line::{Asked, Task, line_of};
+use command_line::{Source, Task, line_of};
 use gather::{Ungathered, gather, read_file};
 pub use mh_report::{
     ListSink, Notation, Options, PlayError, Sink, Status, WriterSink, check_bytes, convert_bytes,
@@ -26,22 +26,14 @@ fn main(rt: HostRuntime) -> ExitCode {
 /// Does what the command line asks for, and answers the exit status.
 fn run<R: Runtime + AllocGlobal>(rt: &R) -> io::Result<u8> {
     let words = env::args(rt)?.collect::<Vec<String>>(rt.alloc())?;
-    match line_of(rt.alloc(), words.as_slice()) {
-        Ok(asked) => do_asked(rt, &asked),
+    let task = match line_of(rt.alloc(), words.as_slice()) {
+        Ok(task) => task,
         Err(error) => {
             error.print(rt)?;
-            Ok(if error.use_stderr() { 2 } else { 0 })
+            return Ok(if error.use_stderr() { 2 } else { 0 });
         }
-    }
-}
-
-fn do_asked<R: Runtime + AllocGlobal>(rt: &R, asked: &Asked) -> io::Result<u8> {
-    let done = match asked.task {
-        Task::Check => checked(rt, asked),
-        Task::Play => played(rt, asked),
-        Task::Convert(to) => converted(rt, asked, to),
     };
-    match done {
+    match done(rt, &task) {
         Ok(status) => Ok(status),
         Err(Ungathered::Unreadable(name)) => {
             println!(rt; "read {name}")?;
@@ -51,62 +43,60 @@ fn do_asked<R: Runtime + AllocGlobal>(rt: &R, asked: &Asked) -> io::Result<u8> {
     }
 }
 
-fn checked<R: Runtime + AllocGlobal>(rt: &R, asked: &Asked) -> Result<u8, Ungathered> {
-    let Some(folder) = asked.folder else {
-        return Ok(Status::Unreadable.code());
-    };
-    let files = gather(rt, folder)?;
-    let options = chosen(rt.alloc(), asked)?;
+fn done<R: Runtime + AllocGlobal>(rt: &R, task: &Task) -> Result<u8, Ungathered> {
+    match task {
+        Task::Check(source) => checked(rt, source),
+        Task::Play {
+            source,
+            script,
+            lenient,
+        } => played(rt, source, script, *lenient),
+        Task::Convert { file, to } => converted(rt, file, *to),
+    }
+}
+
+fn checked<R: Runtime + AllocGlobal>(rt: &R, source: &Source) -> Result<u8, Ungathered> {
+    let files = gather(rt, source.folder)?;
+    let options = chosen(rt.alloc(), source.start, false)?;
     let mut sink = WriterSink {
         writer: io::writer(rt),
         failures: 0,
     };
-    match check_bytes(rt.alloc(), files.as_slice(), &options, &mut sink) {
-        Ok(status) => Ok(status.code()),
-        Err(_) => Ok(FAILED),
-    }
+    let status = check_bytes(rt.alloc(), files.as_slice(), &options, &mut sink);
+    Ok(status.map_or(FAILED, |status| status.code()))
 }
 
-fn played<R: Runtime + AllocGlobal>(rt: &R, asked: &Asked) -> Result<u8, Ungathered> {
-    let (Some(folder), Some(script)) = (asked.folder, asked.script) else {
-        return Ok(Status::Unreadable.code());
-    };
-    let files = gather(rt, folder)?;
+fn played<R: Runtime + AllocGlobal>(
+    rt: &R,
+    source: &Source,
+    script: &str,
+    lenient: bool,
+) -> Result<u8, Ungathered> {
+    let files = gather(rt, source.folder)?;
     let script = read_file(rt, script, script)?;
-    let options = chosen(rt.alloc(), asked)?;
+    let options = chosen(rt.alloc(), source.start, lenient)?;
     let mut sink = WriterSink {
         writer: io::writer(rt),
         failures: 0,
     };
     let files = files.as_slice();
-    match play_bytes(rt.alloc(), files, script.as_slice(), &options, &mut sink) {
-        Ok(status) => Ok(status.code()),
-        Err(_) => Ok(FAILED),
-    }
+    let status = play_bytes(rt.alloc(), files, script.as_slice(), &options, &mut sink);
+    Ok(status.map_or(FAILED, |status| status.code()))
 }
 
-fn converted<R: Runtime + AllocGlobal>(
-    rt: &R,
-    asked: &Asked,
-    to: Notation,
-) -> Result<u8, Ungathered> {
-    let Some(file) = asked.file else {
-        return Ok(Status::Unreadable.code());
-    };
+fn converted<R: Runtime + AllocGlobal>(rt: &R, file: &str, to: Notation) -> Result<u8, Ungathered> {
     let bytes = read_file(rt, file, file)?;
     let mut sink = WriterSink {
         writer: io::writer(rt),
         failures: 0,
     };
-    match convert_bytes(rt.alloc(), file.as_bytes(), bytes.as_slice(), to, &mut sink) {
-        Ok(status) => Ok(status.code()),
-        Err(_) => Ok(FAILED),
-    }
+    let status = convert_bytes(rt.alloc(), file.as_bytes(), bytes.as_slice(), to, &mut sink);
+    Ok(status.map_or(FAILED, |status| status.code()))
 }
 
-fn chosen(alloc: Global, asked: &Asked) -> Result<Options, AllocError> {
+fn chosen(alloc: Global, start: &str, lenient: bool) -> Result<Options, AllocError> {
     Ok(Options {
-        start: Vec::from_slice(alloc, asked.start.as_bytes())?,
-        lenient: asked.lenient,
+        start: Vec::from_slice(alloc, start.as_bytes())?,
+        lenient,
     })
 }
