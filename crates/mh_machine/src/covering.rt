@@ -1,6 +1,6 @@
 //! Which cells a box covers, and what a visible puts behind them.
 ghost use Rattle.std.specs.Prelude.{◌≡◌, ◌<◌, ◌≤ℤ◌, ◌+◌, ◌*◌, Some, None, pos};
-ghost use Rattle.mh_model.specs.Picture.{within as within_lem, covers as covers_lem, is_edge as is_edge_lem, covers_beside as covers_beside_lem, covers_above_and_below as covers_above_and_below_lem, ground_of as ground_of_lem, x_of as x_of_lem, y_of as y_of_lem};
+ghost use Rattle.mh_model.specs.Picture.{within as within_lem, is_edge as is_edge_lem, covers_beside as covers_beside_lem, covers_above_and_below as covers_above_and_below_lem, ground_of as ground_of_lem, x_of as x_of_lem, y_of as y_of_lem};
 ghost use Rattle.mh_machine.specs.Screen.{IsOnScreen};
 
 use mh_base::Area;
@@ -19,7 +19,8 @@ pub fn ground_of(visible: &Visible, at: usize) -> Option<u32>
     requires { at < 2160 }
     ensures { result ≡ ground_of_lem visible.now at }
 {
-    if !covers(&visible.area, x_of(at), y_of(at)) {
+    // most cells of a row lie beside the box, so its columns are asked first
+    if !covers_column(&visible.area, x_of(at)) || !covers_row(&visible.area, y_of(at)) {
         return None;
     }
     if visible.has_line && is_edge(&visible.area, x_of(at), y_of(at)) {
@@ -51,12 +52,6 @@ fn within(start: i32, size: i32, at: i64) -> bool
     ensures { result ≡ within_lem start size at }
 {
     i64::from(start) <= at && at < i64::from(start) + i64::from(size)
-}
-
-fn covers(area: &Area, x: i64, y: i64) -> bool
-    ensures { result ≡ covers_lem area.now x y }
-{
-    covers_column(area, x) && covers_row(area, y)
 }
 
 /// Whether the box does not cover one of the four neighbours of the cell.
