@@ -1,7 +1,7 @@
 -- Engines whose service was accepted.
 use Rattle.std.specs.Prelude.{◌≡◌, true, false, List, Option, Some, None, slice_get, refl}
 use Rattle.std.proofs.Common.{ap, sym, subst}
-use Rattle.mh_model.specs.declared.input.Input.{Input}
+use Rattle.mh_model.specs.declared.input.Waiting.{Waiting}
 use Rattle.mh_model.specs.declared.item.Item.{Item}
 use Rattle.mh_model.specs.declared.input.Move.{Move}
 use Rattle.mh_model.specs.State.{State}
@@ -16,7 +16,7 @@ use Rattle.mh_machine.specs.Rest.{is_faulted, judged, answer_by, answer_of}
 pub unfaulted : (s : State) → front_fault s ≡ None → is_faulted (answer_of s) ≡ false
 unfaulted s free = by (slice_get s.work 0) (slice_get s.queue 0) free
   where
-    by : (m : Option Item) (next : Option Input) → fault_at m s ≡ None → is_faulted (answer_by m next s) ≡ false
+    by : (m : Option Item) (next : Option Waiting) → fault_at m s ≡ None → is_faulted (answer_by m next s) ≡ false
     by (Some i) next e = ap (λ f. is_faulted (judged f)) e
     by None (Some i) e = refl
     by None None e = refl

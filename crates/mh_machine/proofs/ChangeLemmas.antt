@@ -13,7 +13,10 @@ use Rattle.mh_model.specs.Service.{Service, object_at, group_parts, parts, fresh
 use Rattle.mh_model.specs.State.{Objects, all}
 use Rattle.mh_model.specs.Rules.{is_at, on_body, changed_in, changed}
 use Rattle.mh_model.proofs.PartLemmas.{parts-all, parts-fresh, changed-own, changed-others}
-use Rattle.mh_machine.specs.Plans.{planned, changed_as}
+use Rattle.mh_model.specs.declared.edit.Edit.{Edit}
+use Rattle.mh_model.specs.Edits.{edited, edited_if}
+use Rattle.mh_machine.specs.declared.plan.Change.TheVariants as change
+use Rattle.mh_machine.specs.Plans.{Makes, change_at}
 use Rattle.mh_machine.specs.Holds.{Holds}
 use Rattle.mh_machine.specs.Links.{IsIndex}
 
@@ -74,19 +77,50 @@ beyond r (o ∷ os) ps e =
       | false ↦ λ h. beyond r os ps h
     ] e
 
-pub as_planned : (f : Fixed → Body → Body) (r : ObjRef) (os : Objects) (m : Option Object) → m ≡ object_at r (all os) → changed_as (planned f r m) os ≡ changed f r os
-as_planned f r os None e = by (list_any (is_at r) os.application) refl
+-- where there is none, nothing changes
+pub unchanged : (f : Fixed → Body → Body) (r : ObjRef) (os : Objects) → None ≡ object_at r (all os) → os ≡ changed f r os
+unchanged f r os e = by (list_any (is_at r) os.application) refl
   where
     by : (b : Bool) → list_any (is_at r) os.application ≡ b → os ≡ (if b then record os { application = changed_in f r os.application } else record os { scene = changed_in f r os.scene })
     by true is = ap (λ (t : List Object). record os { application = t }) (sym (missing_in f r os.application (sym (here r os.application os.scene is) ∙ sym e)))
     by false is = ap (λ (t : List Object). record os { scene = t }) (sym (missing_in f r os.scene (sym (beyond r os.application os.scene is) ∙ sym e)))
-as_planned f r os (Some o) e = by (list_any (is_at r) os.application) refl
+
+-- what is known of the object that is found may be used
+known : (f : Fixed → Body → Body) (r : ObjRef) (os : Objects) (o : Object) → Some o ≡ object_at r (all os) → changed (λ p c. f o.fixed o.body) r os ≡ changed f r os
+known f r os o e = by (list_any (is_at r) os.application) refl
   where
     by : (b : Bool) → list_any (is_at r) os.application ≡ b
         → (if b then record os { application = changed_in (λ p c. f o.fixed o.body) r os.application } else record os { scene = changed_in (λ p c. f o.fixed o.body) r os.scene })
         ≡ (if b then record os { application = changed_in f r os.application } else record os { scene = changed_in f r os.scene })
     by true is = ap (λ (t : List Object). record os { application = t }) (found_in f r os.application o (sym (here r os.application os.scene is) ∙ sym e))
     by false is = ap (λ (t : List Object). record os { scene = t }) (found_in f r os.scene o (sym (beyond r os.application os.scene is) ∙ sym e))
+
+-- two changes are one where they agree on the object that is found
+pub agreeing : (f g : Fixed → Body → Body) (r : ObjRef) (os : Objects) (o : Object) → Some o ≡ object_at r (all os) → g o.fixed o.body ≡ f o.fixed o.body → changed g r os ≡ changed f r os
+agreeing f g r os o e same = sym (known g r os o e) ∙ ap (λ (b : Body). changed (λ p c. b) r os) same ∙ known f r os o e
+
+idle_in : (r : ObjRef) (os : List Object) → changed_in (λ p b. b) r os ≡ os
+idle_in r [] = refl
+idle_in r (o ∷ os) =
+    elim (is_at r o) as (λ (b : Bool). (if b then o ∷ os else o ∷ changed_in (λ p c. c) r os) ≡ o ∷ os) [
+      | true ↦ refl
+      | false ↦ ap (λ (t : List Object). o ∷ t) (idle_in r os)
+    ]
+
+idle : (r : ObjRef) (os : Objects) → changed (λ p b. b) r os ≡ os
+idle r os =
+    elim (list_any (is_at r) os.application) as (λ (b : Bool). (if b then record os { application = changed_in (λ p c. c) r os.application } else record os { scene = changed_in (λ p c. c) r os.scene }) ≡ os) [
+      | true ↦ ap (λ (t : List Object). record os { application = t }) (idle_in r os.application)
+      | false ↦ ap (λ (t : List Object). record os { scene = t }) (idle_in r os.scene)
+    ]
+
+-- an edit, or none, that makes of the body what the rule makes of it is the rule's change
+pub makes_none : (f : Fixed → Body → Body) (r : ObjRef) → Makes change.Nothing f r None
+makes_none f r os e = unchanged f r os e
+
+pub makes_edit : (f : Fixed → Body → Body) (r : ObjRef) (o : Object) (m : Option Edit) → edited_if m o.body ≡ f o.fixed o.body → Makes (change_at r m) f r (Some o)
+makes_edit f r o None same os e = sym (idle r os) ∙ agreeing f (λ p b. b) r os o e same
+makes_edit f r o (Some x) same os e = agreeing f (λ p b. edited x b) r os o e same
 
 -- no change touches what the files say
 pub same_parts : (f : Fixed → Body → Body) (r : ObjRef) (os : Objects) → parts (all (changed f r os)) ≡ parts (all os)
@@ -118,3 +152,9 @@ exchanged v app os after ps own stack places links shown e kept is_own index sam
       index = subst (IsIndex links) (sym whole) index;
       painted = painted ∙ ap (picture (all after)) (sym same);
     }
+
+-- the same objects and the same stack
+pub holds_same : (v : Service) (app : List ℕ) (os after : Objects) (stack places : List ObjRef) (links : List (ObjRef × List ℕ)) (shown : Planes) → after ≡ os → places ≡ stack → Holds v app os stack links shown → Holds v app after places links shown
+holds_same v app os after stack places links shown e f k =
+    subst (λ (x : Objects). Holds v app x places links shown) (sym e)
+    (subst (λ (x : List ObjRef). Holds v app os x links shown) (sym f) k)

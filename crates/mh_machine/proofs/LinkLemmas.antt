@@ -17,7 +17,8 @@ use Rattle.mh_model.specs.Items.{hears_source, hears_type, hears_data, matches, 
 use Rattle.mh_model.specs.Property.{held, as_value, as_event, as_effect}
 use Rattle.mh_model.specs.Service.{same_ref, parts, fresh}
 use Rattle.mh_model.proofs.PartLemmas.{parts-fresh}
-use Rattle.mh_machine.specs.Links.{as_reference, waits_for, place_of, places, waiting, IsIndex, is_awake, answer, answer_at, answers}
+use Rattle.mh_model.specs.Property.{as_reference}
+use Rattle.mh_machine.specs.Links.{waits_for, place_of, places, waiting, IsIndex, is_awake, answer, answer_at, answers}
 
 -- The index
 

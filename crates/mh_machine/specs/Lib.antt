@@ -1,10 +1,8 @@
 pub mod Frames
 pub mod Holds
-pub mod Inputs
 pub mod Links
 pub mod Pieces
 pub mod Plans
-pub mod Puts
 pub mod Rest
 pub mod Rows
 pub mod Screen

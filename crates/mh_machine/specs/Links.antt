@@ -4,8 +4,6 @@ use Rattle.std.specs.List.{flat_map}
 use Rattle.std.specs.Map.{lookup}
 use Rattle.std.specs.Option.{option_map_or}
 use Rattle.mh_base.specs.declared.obj_ref.ObjRef.{ObjRef}
-use Rattle.mh_base.specs.declared.value.Value.{Value}
-use Rattle.mh_base.specs.declared.value.Value.TheVariants as value
 use Rattle.mh_group.specs.declared.attribute.Attribute.TheVariants as attribute
 use Rattle.mh_group.specs.Table.{is_link}
 use Rattle.mh_model.specs.declared.event.Event.{Event}
@@ -13,12 +11,8 @@ use Rattle.mh_model.specs.declared.item.Item.{Item}
 use Rattle.mh_model.specs.declared.object.Fixed.{Fixed}
 use Rattle.mh_model.specs.declared.object.Object.{Object}
 use Rattle.mh_model.specs.Items.{hears_type, hears_data, acts}
-use Rattle.mh_model.specs.Property.{held, as_value, as_event, as_effect}
+use Rattle.mh_model.specs.Property.{as_reference, held, as_value, as_event, as_effect}
 use Rattle.mh_model.specs.Service.{same_ref}
-
-abbrev pub as_reference : Option Value → Option ObjRef
-as_reference (Some (value.Object r)) = Some r
-as_reference _ = None
 
 -- the object whose events a link waits for
 abbrev pub source_of : Fixed → Option ObjRef

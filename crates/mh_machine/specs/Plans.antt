@@ -1,32 +1,69 @@
 -- Plans: what an item does, worked out before anything is changed.
-use Rattle.std.specs.Prelude.{ℕ, ◌+◌, Bool, true, false, if◌then◌else◌, List, [], ◌∷◌, ◌++◌, length, drop, Option, Some, None}
+use Rattle.std.specs.Prelude.{◌≡◌, ℕ, ◌+◌, Bool, true, false, if◌then◌else◌, List, [], ◌∷◌, ◌++◌, length, drop, Option, Some, None}
 use Rattle.mh_base.specs.declared.obj_ref.ObjRef.{ObjRef}
+use Rattle.mh_model.specs.declared.edit.Edit.{Edit}
+use Rattle.mh_model.specs.declared.event.Event.{Event}
 use Rattle.mh_model.specs.declared.fault.Fault.{Fault}
+use Rattle.mh_model.specs.declared.input.Waiting.{Waiting}
+use Rattle.mh_model.specs.declared.input.Waiting.TheVariants as waiting
 use Rattle.mh_model.specs.declared.item.Item.{Item}
 use Rattle.mh_model.specs.declared.object.Body.{Body}
 use Rattle.mh_model.specs.declared.object.Fixed.{Fixed}
 use Rattle.mh_model.specs.declared.object.Object.{Object}
-use Rattle.mh_model.specs.State.{State, Objects}
-use Rattle.mh_model.specs.Rules.{changed, is_visible_at}
+use Rattle.mh_base.specs.declared.value.Value.{Value}
+use Rattle.mh_model.specs.Bodies.{given}
+use Rattle.mh_model.specs.Edits.{edited}
+use Rattle.mh_model.specs.Lifecycle.{is_visible_at, without}
+use Rattle.mh_model.specs.Rules.{changed}
 use Rattle.mh_model.specs.Service.{object_at}
+use Rattle.mh_model.specs.State.{State, Objects, all}
 use Rattle.mh_machine.specs.declared.plan.Change.{Change}
+use Rattle.mh_machine.specs.declared.plan.Change.TheVariants as change
+use Rattle.mh_machine.specs.declared.plan.Gift.{Gift}
 use Rattle.mh_machine.specs.declared.plan.Plan.{Plan}
 use Rattle.mh_machine.specs.declared.plan.Puts.{Puts}
 use Rattle.mh_machine.specs.declared.plan.Puts.TheVariants as puts
+use Rattle.mh_machine.specs.declared.plan.Stacking.{Stacking}
+use Rattle.mh_machine.specs.declared.plan.Stacking.TheVariants as stacking
 use Rattle.mh_machine.specs.Pieces.{written}
 
--- the change of the object that was found at the reference
-abbrev pub planned : (Fixed → Body → Body) → ObjRef → Option Object → Option Change
-planned f r None = None
-planned f r (Some o) = Some (record { at = r; body = f o.fixed o.body })
+-- variables are given values, one after another
+abbrev pub given_all : List Gift → Objects → Objects
+given_all [] os = os
+given_all (g ∷ gs) os = given_all gs (changed (λ p b. given g.value b) g.at os)
 
-abbrev pub changed_as : Option Change → Objects → Objects
-changed_as None os = os
-changed_as (Some c) os = changed (λ p b. c.body) c.at os
+-- receivers, each with its answer
+abbrev pub gifts : List ObjRef → List Value → List Gift
+gifts [] vs = []
+gifts (r ∷ rs) [] = []
+gifts (r ∷ rs) (v ∷ vs) = record { at = r; value = v } ∷ gifts rs vs
 
-abbrev pub risen : Option ObjRef → List ObjRef → List ObjRef
-risen None stack = stack
-risen (Some r) stack = stack ++ r ∷ []
+abbrev pub changed_as : Change → Objects → Objects
+changed_as change.Nothing os = os
+changed_as (change.Edit r e) os = changed (λ p b. edited e b) r os
+changed_as (change.Give gs) os = given_all gs os
+
+-- the change of the object at the reference, if there is one
+abbrev pub change_at : ObjRef → Option Edit → Change
+change_at r None = change.Nothing
+change_at r (Some e) = change.Edit r e
+
+-- the change makes of the object that was found what the rule makes of it
+abbrev pub Makes : Change → (Fixed → Body → Body) → ObjRef → Option Object → Type 0
+Makes c f r found = (os : Objects) → found ≡ object_at r (all os) → changed_as c os ≡ changed f r os
+
+-- the edit, or none, makes of the object that was found what the rule makes of it, whatever its reference
+abbrev pub MakesFound : Option Edit → (Fixed → Body → Body) → Option Object → Type 0
+MakesFound e f found = (r : ObjRef) → Makes (change_at r e) f r found
+
+abbrev pub restacked : Stacking → List ObjRef → List ObjRef
+restacked stacking.Same stack = stack
+restacked (stacking.Rise r) stack = stack ++ r ∷ []
+restacked (stacking.Fall r) stack = without r stack
+
+abbrev pub queued : Option Event → List Waiting → List Waiting
+queued None queue = queue
+queued (Some e) queue = queue ++ waiting.Event e ∷ []
 
 abbrev pub noted : Option Fault → List Fault → List Fault
 noted None fs = fs
@@ -41,22 +78,32 @@ abbrev pub room_for : Puts → ℕ
 room_for (puts.InFront ps) = length ps
 room_for (puts.Instead w) = 0
 
--- whether what changes can be seen
-abbrev pub is_seen : Option Change → Option ObjRef → List Object → Bool
-is_seen c (Some r) os = true
-is_seen (Some c) None os = is_visible_at (object_at c.at os)
-is_seen None None os = false
+-- whether what changes can be seen: the value of a variable cannot
+abbrev pub is_seen : Change → List Object → Bool
+is_seen change.Nothing os = false
+is_seen (change.Edit r e) os = is_visible_at (object_at r os)
+is_seen (change.Give gs) os = false
+
+abbrev pub is_moved : Stacking → Bool
+is_moved stacking.Same = false
+is_moved (stacking.Rise r) = true
+is_moved (stacking.Fall r) = true
 
 -- the state when the plan is carried out
 abbrev pub committed : Plan → State → State
 committed p s = record s {
   objects = changed_as p.change s.objects;
-  stack = risen p.rises s.stack;
+  stack = restacked p.stacking s.stack;
+  queue = queued p.waits s.queue;
   work = worked p.puts s.work;
   transition = if p.begins then true else s.transition;
   taken = s.taken + 1;
   faults = noted p.fault s.faults;
 }
+
+-- the state with these items in the place of its first
+abbrev pub put_for_first : List Item → State → State
+put_for_first is s = record s { work = is ++ drop 1 s.work; taken = s.taken + 1 }
 
 -- the state with its first item taken
 abbrev pub taken_from : State → State

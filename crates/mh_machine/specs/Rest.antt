@@ -1,7 +1,7 @@
 -- What a step answers, and what is left to do.
 use Rattle.std.specs.Prelude.{Option, Some, None, slice_get, if◌then◌else◌, Bool, true, false}
 use Rattle.mh_model.specs.declared.fault.Fault.{Fault}
-use Rattle.mh_model.specs.declared.input.Input.{Input}
+use Rattle.mh_model.specs.declared.input.Waiting.{Waiting}
 use Rattle.mh_model.specs.declared.item.Item.{Item}
 use Rattle.mh_model.specs.State.{State}
 use Rattle.mh_model.specs.Step.{is_idle}
@@ -15,9 +15,9 @@ abbrev pub judged : Option Fault → Stepped
 judged None = answer.Did
 judged (Some f) = answer.Faulted f
 
-abbrev pub answer_by : Option Item → Option Input → State → Stepped
+abbrev pub answer_by : Option Item → Option Waiting → State → Stepped
 answer_by (Some i) next s = judged (stuck i s)
-answer_by None (Some i) s = answer.Did
+answer_by None (Some w) s = answer.Did
 answer_by None None s = answer.Idle
 
 -- Idle where there is nothing to do, Faulted where the first item is stuck, else Did

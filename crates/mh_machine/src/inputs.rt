@@ -1,41 +1,39 @@
 //! What an input puts when it is taken.
 ghost use Rattle.std.specs.Prelude.{◌≡◌, IfOk, Some};
-ghost use Rattle.std.specs.Option.{option_copied, option_map};
+ghost use Rattle.std.specs.Option.{option_copied};
 ghost use Rattle.mh_model.specs.Service.{parts};
 ghost use Rattle.mh_model.specs.State.{all};
-ghost use Rattle.mh_model.specs.Step.{register_of as register_of_lem, key_event as key_event_lem};
-ghost use Rattle.mh_machine.specs.Inputs.{key_items_in, input_items_in};
+ghost use Rattle.mh_model.specs.Step.{key_items, waiting_items, register_of as register_of_lem, key_event as key_event_lem};
 ghost use Rattle.mh_machine.specs.Links.{IsIndex};
 ghost use Rattle.mh_machine.specs.Pieces.{written};
 
-use crate::{Links, Piece};
+use crate::links::Links;
+use crate::piece::Piece;
 use mh_base::{EventType, GroupName, ObjRef, Value};
 use mh_group::Attribute;
 use mh_model::held::as_int;
 use mh_model::parts::{group_ref, part_at};
-use mh_model::{Event, Fixed, FixedPart, Input, Key};
+use mh_model::{Event, Fixed, FixedPart, Input, Key, Waiting};
 use mh_store::Objects;
 use std::alloc::{AllocError, Global};
 
-/// What an input puts: the effects of the links that hear it. The current scene, if there is one,
-/// is given with its parts.
+/// What an input puts: the effects of the links that hear it. The current scene is given with its
+/// parts.
 pub fn input_pieces(
     alloc: Global,
     input: Input,
-    scene: Option<(&GroupName, &[FixedPart])>,
+    group: &GroupName,
+    group_parts: &[FixedPart],
     links: &Links,
     objects: &Objects,
 ) -> Result<Vec<Piece>, AllocError>
     requires { IsIndex links.now (parts (all objects.now)) }
-    ensures { let current = option_map (λ s. (s.0.now, s.1.now)) scene.entry in
-        IfOk result
-        (λ pieces. written pieces.items ≡ input_items_in input current (all objects.now)) }
+    ensures { let current = Some (group.now, group_parts.now) in
+        IfOk result (λ pieces. written pieces.items
+        ≡ waiting_items (Waiting.Input input) current (all objects.now)) }
 {
     let Input::Key(key) = input;
-    match scene {
-        None => Ok(Vec::new(alloc)),
-        Some((group, parts)) => key_pieces(alloc, key, group, parts, links, objects),
-    }
+    key_pieces(alloc, key, group, group_parts, links, objects)
 }
 
 fn key_pieces(
@@ -49,7 +47,7 @@ fn key_pieces(
     requires { IsIndex links.now (parts (all objects.now)) }
     ensures { let current = Some (group.now, group_parts.now) in
         IfOk result
-        (λ pieces. written pieces.items ≡ key_items_in key current (all objects.now)) }
+        (λ pieces. written pieces.items ≡ key_items key current (all objects.now)) }
 {
     let source = group_ref(group)?;
     if !key.passes(register_of(part_at(group_parts, &source))) {

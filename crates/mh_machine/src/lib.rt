@@ -4,29 +4,25 @@
 //! and what it puts.
 #![tactic(auto)]
 
-mod bodies;
+mod acting;
 mod committing;
 mod covering;
 mod inputs;
 mod lifecycle;
-pub mod links;
+mod links;
 pub mod machine;
 mod painting;
-pub mod piece;
-pub mod plan;
+mod piece;
+mod plan;
 mod planning;
 mod puts;
-mod referring;
 pub mod rest;
 pub mod stepped;
 mod stepping;
 pub mod unstarted;
-pub mod work;
+mod work;
 
-pub use links::Links;
 pub use machine::Machine;
-pub use piece::Piece;
 pub use rest::Rest;
 pub use stepped::Stepped;
 pub use unstarted::Unstarted;
-pub use work::Work;

@@ -1,17 +1,48 @@
-//! What is put, and what comes on the display stack, when an object is to run or to stop.
-ghost use Rattle.std.specs.Prelude.{◌≡◌, ◌&&◌, IfOk, Some, None, if◌then◌else◌};
+//! What is put, and what becomes of the display stack, when an object is prepared, runs, stops and is
+//! dropped.
+ghost use Rattle.std.specs.Prelude.{◌≡◌, ◌&&◌, ◌++◌, IfOk, OnOk, if◌then◌else◌};
 ghost use Rattle.std.specs.Option.{option_copied};
-ghost use Rattle.mh_model.specs.Rules.{is_unprepared_at, is_visible_at, is_stopped_at, run_items, halt_items};
+ghost use Rattle.mh_model.specs.Lifecycle as spec;
 ghost use Rattle.mh_machine.specs.Pieces.{written};
 
-use crate::Piece;
+use crate::piece::Piece;
+use crate::plan::Stacking;
 use crate::puts::plain_event;
 use mh_base::{EventType, ObjRef};
 use mh_model::Object;
 use std::alloc::{AllocError, Global};
 
-fn is_unprepared(found: Option<&Object>) -> bool
-    ensures { result ≡ is_unprepared_at (option_copied found.entry) }
+pub fn is_available(found: Option<&Object>) -> bool
+    ensures { result ≡ spec.is_available_at (option_copied found.entry) }
+{
+    match found {
+        Some(object) => object.body.available,
+        None => false,
+    }
+}
+
+pub fn is_running(found: Option<&Object>) -> bool
+    ensures { result ≡ spec.is_running_at (option_copied found.entry) }
+{
+    match found {
+        Some(object) => object.body.running,
+        None => false,
+    }
+}
+
+/// Whether the object is there, and is not available.
+pub fn is_unavailable(found: Option<&Object>) -> bool
+    ensures { result ≡ spec.is_unavailable_at (option_copied found.entry) }
+{
+    match found {
+        Some(object) => !object.body.available,
+        None => false,
+    }
+}
+
+/// Whether the object is there, does not run, and is not available.
+pub fn is_unprepared(found: Option<&Object>) -> bool
+    ensures { result ≡ spec.is_unprepared_at (option_copied found.entry) }
 {
     match found {
         Some(object) => !object.body.running && !object.body.available,
@@ -20,7 +51,7 @@ fn is_unprepared(found: Option<&Object>) -> bool
 }
 
 fn is_stopped(found: Option<&Object>) -> bool
-    ensures { result ≡ is_stopped_at (option_copied found.entry) }
+    ensures { result ≡ spec.is_stopped_at (option_copied found.entry) }
 {
     match found {
         Some(object) => !object.body.running,
@@ -28,9 +59,8 @@ fn is_stopped(found: Option<&Object>) -> bool
     }
 }
 
-/// Whether the object can be seen when it runs.
-pub fn is_visible(found: Option<&Object>) -> bool
-    ensures { result ≡ is_visible_at (option_copied found.entry) }
+fn is_visible(found: Option<&Object>) -> bool
+    ensures { result ≡ spec.is_visible_at (option_copied found.entry) }
 {
     match found {
         Some(object) => object.fixed.get().class.is_visible(),
@@ -38,15 +68,52 @@ pub fn is_visible(found: Option<&Object>) -> bool
     }
 }
 
-/// The object that comes on the display stack when it is to run, if it comes there.
-pub fn rising(at: &ObjRef, found: Option<&Object>) -> Result<Option<ObjRef>, AllocError>
-    ensures { IfOk result (λ rises. rises ≡ (if is_unprepared_at (option_copied found.entry) && is_visible_at (option_copied found.entry) then Some at.now else None)) }
+/// A visible that becomes available goes on top of the display stack.
+pub fn rising(rises: bool, at: &ObjRef, found: Option<&Object>) -> Result<Stacking, AllocError>
+    ensures { IfOk result (λ stacking. stacking
+        ≡ (if rises && spec.is_visible_at (option_copied found.entry)
+        then Stacking.Rise at.now else Stacking.Same)) }
 {
-    if is_unprepared(found) && is_visible(found) {
-        Ok(Some(at.clone()?))
+    if rises && is_visible(found) {
+        Ok(Stacking::Rise(at.clone()?))
     } else {
-        Ok(None)
+        Ok(Stacking::Same)
     }
+}
+
+/// Puts an event behind these pieces, if it comes.
+fn push_event_if(
+    pieces: &mut Vec<Piece>,
+    comes: bool,
+    at: &ObjRef,
+    kind: EventType,
+) -> Result<(), AllocError>
+    ensures { OnOk result (written pieces.new.items
+        ≡ written pieces.old.items ++ spec.emit_if comes at.now kind) }
+{
+    if comes {
+        pieces.push(Piece::One(plain_event(at, kind)?))?;
+    }
+    Ok(())
+}
+
+/// What is put when the object is to become available.
+pub fn prepare_pieces(
+    alloc: Global,
+    at: &ObjRef,
+    found: Option<&Object>,
+) -> Result<Vec<Piece>, AllocError>
+    ensures { IfOk result (λ pieces. written pieces.items
+        ≡ spec.prepare_items at.now (option_copied found.entry)) }
+{
+    let mut pieces = Vec::new(alloc);
+    push_event_if(
+        &mut pieces,
+        is_unavailable(found),
+        at,
+        EventType::IsAvailable,
+    )?;
+    Ok(pieces)
 }
 
 /// What is put when the object is to run.
@@ -55,15 +122,17 @@ pub fn run_pieces(
     at: &ObjRef,
     found: Option<&Object>,
 ) -> Result<Vec<Piece>, AllocError>
-    ensures { IfOk result (λ pieces. written pieces.items ≡ run_items at.now (option_copied found.entry)) }
+    ensures { IfOk result (λ pieces. written pieces.items
+        ≡ spec.run_items at.now (option_copied found.entry)) }
 {
     let mut pieces = Vec::new(alloc);
-    if is_unprepared(found) {
-        pieces.push(Piece::One(plain_event(at, EventType::IsAvailable)?))?;
-    }
-    if is_stopped(found) {
-        pieces.push(Piece::One(plain_event(at, EventType::IsRunning)?))?;
-    }
+    push_event_if(
+        &mut pieces,
+        is_unprepared(found),
+        at,
+        EventType::IsAvailable,
+    )?;
+    push_event_if(&mut pieces, is_stopped(found), at, EventType::IsRunning)?;
     Ok(pieces)
 }
 
@@ -73,13 +142,24 @@ pub fn halt_pieces(
     at: &ObjRef,
     found: Option<&Object>,
 ) -> Result<Vec<Piece>, AllocError>
-    ensures { IfOk result (λ pieces. written pieces.items ≡ halt_items at.now (option_copied found.entry)) }
+    ensures { IfOk result (λ pieces. written pieces.items
+        ≡ spec.halt_items at.now (option_copied found.entry)) }
 {
     let mut pieces = Vec::new(alloc);
-    if let Some(object) = found {
-        if object.body.running {
-            pieces.push(Piece::One(plain_event(at, EventType::IsStopped)?))?;
-        }
-    }
+    push_event_if(&mut pieces, is_running(found), at, EventType::IsStopped)?;
+    Ok(pieces)
+}
+
+/// What is put when the object is dropped.
+pub fn drop_pieces(
+    alloc: Global,
+    at: &ObjRef,
+    found: Option<&Object>,
+) -> Result<Vec<Piece>, AllocError>
+    ensures { IfOk result (λ pieces. written pieces.items
+        ≡ spec.drop_items at.now (option_copied found.entry)) }
+{
+    let mut pieces = Vec::new(alloc);
+    push_event_if(&mut pieces, is_available(found), at, EventType::IsDeleted)?;
     Ok(pieces)
 }

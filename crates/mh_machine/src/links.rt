@@ -2,20 +2,20 @@
 ghost use Rattle.std.specs.Prelude.{◌≡◌, ◌++◌, ◌+◌, ◌^◌, ◌<◌, IfOk, OnOk, Some, length, [], ◌∷◌, if◌then◌else◌};
 ghost use Rattle.std.specs.Map.{lookup};
 ghost use Rattle.std.specs.Option.{option_copied};
-ghost use Rattle.mh_model.specs.Items.{same_value as same_value_lem, hears_data as hears_data_lem, hears_type as hears_type_lem, heard as heard_lem, acts};
-ghost use Rattle.mh_model.specs.Property.{held, as_effect};
+ghost use Rattle.mh_model.specs.Items.{hears_data as hears_data_lem, hears_type as hears_type_lem, heard as heard_lem};
 ghost use Rattle.mh_model.specs.Service.{parts, same_ref as same_ref_lem};
 ghost use Rattle.mh_model.specs.State.{all};
 ghost use Rattle.mh_machine.specs.Links.{source_of as source_of_lem, place_of, places, waiting, IsIndex, is_awake as is_awake_lem, answer, answers};
 ghost use Rattle.mh_machine.specs.Pieces.{written};
 
-use crate::Piece;
+use crate::piece::Piece;
+use crate::puts::push_effect;
 use indexmap::IndexMap;
 use mh_base::{EventType, ObjRef, Seq, Value};
 use mh_group::{Attribute, Class};
 use mh_model::held::{as_event, as_value};
-use mh_model::parts::same_ref;
-use mh_model::{Event, Fixed, FixedPart, Held, Object};
+use mh_model::kinds::same_value;
+use mh_model::{Event, Fixed, FixedPart, Object};
 use mh_store::Objects;
 use std::alloc::{AllocError, Global};
 use std::marker::Model;
@@ -184,20 +184,7 @@ fn put_answer(pieces: &mut Vec<Piece>, event: &Event, object: &Object) -> Result
         (written pieces.new.items ≡ written pieces.old.items ++ answer event.now object.now) }
 {
     if is_awake(event, object) {
-        put_effect(pieces, object.fixed.get())?;
-    }
-    Ok(())
-}
-
-/// Puts the effect of a link, which is shared.
-fn put_effect(pieces: &mut Vec<Piece>, link: &Fixed) -> Result<(), AllocError>
-    ensures { OnOk result
-        (written pieces.new.items
-        ≡ written pieces.old.items
-        ++ acts (as_effect (held Attribute.LinkEffect link.now.properties))) }
-{
-    if let Some(Held::Effect(effect)) = link.properties.get(Attribute::LinkEffect) {
-        pieces.push(Piece::Acts(effect.clone()?))?;
+        push_effect(pieces, object.fixed.get(), Attribute::LinkEffect)?;
     }
     Ok(())
 }
@@ -232,19 +219,5 @@ fn hears_data(heard: Option<&Value>, given: &Option<Value>) -> bool
         (None, _) => true,
         (Some(heard), Some(given)) => same_value(heard, given),
         (Some(_), None) => false,
-    }
-}
-
-/// Values are the same where their kinds are, too.
-fn same_value(a: &Value, b: &Value) -> bool
-    ensures { result ≡ same_value_lem a.now b.now }
-{
-    match (a, b) {
-        (Value::Bool(a), Value::Bool(b)) => *a == *b,
-        (Value::Int(a), Value::Int(b)) => *a == *b,
-        (Value::Octets(a), Value::Octets(b)) => a.as_slice() == b.as_slice(),
-        (Value::Object(a), Value::Object(b)) => same_ref(a, b),
-        (Value::Content(a), Value::Content(b)) => a.as_bytes() == b.as_bytes(),
-        _ => false,
     }
 }

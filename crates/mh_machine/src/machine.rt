@@ -2,16 +2,19 @@
 ghost use Rattle.std.specs.Prelude.{◌≡◌, ◌+◌, ◌++◌, ◌∷◌, ◌<◌, ◌^◌, [], true, false, Some, None, if◌then◌else◌, IfOk, IfErr, OnOk, OnErr, map};
 ghost use Rattle.mh_model.specs.Service.{group_parts, fresh, parts};
 ghost use Rattle.mh_model.specs.State.{begun, all};
-ghost use Rattle.mh_model.specs.Step.{posted, is_full as is_full_lem, is_idle as is_idle_lem};
+ghost use Rattle.mh_model.specs.Step.{posted, inputs, is_full as is_full_lem, is_idle as is_idle_lem};
 ghost use Rattle.mh_model.specs.Picture.{shown, picture as picture_lem};
 ghost use Rattle.mh_machine.specs.Links.{IsIndex};
 ghost use Rattle.mh_machine.specs.Rest.{rest_of};
 ghost use Rattle.mh_machine.specs.Pieces.{written};
 
+use crate::links::Links;
 use crate::painting::paint;
-use crate::{Links, Piece, Rest, Unstarted, Work};
+use crate::piece::Piece;
+use crate::work::Work;
+use crate::{Rest, Unstarted};
 use mh_base::{GroupName, ObjRef};
-use mh_model::{Fault, Input, Item, Picture};
+use mh_model::{Fault, Input, Item, Picture, Waiting};
 use mh_service::Service;
 use mh_store::{Group, Objects};
 use std::alloc::{AllocError, Global};
@@ -27,7 +30,7 @@ pub struct Machine {
     pub(crate) objects: Objects,
     pub(crate) links: Links,
     pub(crate) stack: Vec<ObjRef>,
-    pub(crate) queue: VecDeque<Input>,
+    pub(crate) queue: VecDeque<Waiting>,
     pub(crate) work: Work,
     pub(crate) transition: bool,
     pub(crate) taken: u64,
@@ -102,7 +105,10 @@ impl Machine {
     pub fn is_full(&self) -> bool
         ensures { result ≡ is_full_lem self.now }
     {
-        self.queue.len() >= MOST_INPUTS
+        if self.queue.len() < MOST_INPUTS {
+            return false;
+        }
+        waiting_inputs(&self.queue) >= MOST_INPUTS
     }
 
     /// Adds an input at the end of the queue.
@@ -111,7 +117,7 @@ impl Machine {
         ensures posted { OnOk result (self.new ≡ posted input self.old) }
         ensures kept { OnErr result (self.new ≡ self.old) }
     {
-        self.queue.push_back(input)?;
+        self.queue.push_back(Waiting::Input(input))?;
         Ok(())
     }
 
@@ -176,7 +182,7 @@ fn prepare(alloc: Global, service: &Service) -> Result<Beginning, AllocError>
     let application = service.start().clone()?;
     let parts = service.parts(&application);
     let links = Links::of(alloc, parts, &[])?;
-    let objects = Objects::new(Group::fresh(alloc, parts)?, Group::empty(alloc));
+    let objects = Objects::new(Group::fresh(alloc, &application, parts)?);
     let work = Work::of_pieces(alloc, entrance(alloc, &application)?)?;
     let picture = first_picture(alloc, &objects)?;
     Ok(Beginning {
@@ -186,6 +192,16 @@ fn prepare(alloc: Global, service: &Service) -> Result<Beginning, AllocError>
         work,
         picture,
     })
+}
+
+/// How many inputs wait; events are not counted.
+fn waiting_inputs(queue: &VecDeque<Waiting>) -> usize
+    ensures { result ≡ inputs queue.now.items }
+{
+    queue
+        .iter()
+        .filter(|waiting| matches!(waiting, Waiting::Input(_)))
+        .count()
 }
 
 fn first_picture(alloc: Global, objects: &Objects) -> Result<Picture, AllocError>

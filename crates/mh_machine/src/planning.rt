@@ -1,120 +1,106 @@
-//! What each item does, as a plan.
-ghost use Rattle.std.specs.Prelude.{◌≡◌, IfOk, Some, None};
+//! What an item does that changes more than one body or the work list alone, as a plan.
+//!
+//! Each kind of plan is a call of its own: taken together into one function they would make its frame so
+//! large that every step pays for all of them.
+ghost use Rattle.std.specs.Prelude.{◌≡◌, ◌∷◌, ◌++◌, [], IfOk, OnOk, Some};
 ghost use Rattle.mh_model.specs.State.{all};
 ghost use Rattle.mh_model.specs.Step.{done};
-ghost use Rattle.mh_model.specs.Rules.{act_on, rule_by, change_rule, transition_rule};
-ghost use Rattle.mh_model.specs.Arguments.{values as values_lem};
+ghost use Rattle.mh_model.specs.Arguments as said;
+ghost use Rattle.mh_model.specs.Rules.{ask_rule, transition_rule};
 ghost use Rattle.mh_model.specs.Items.{leaving as leaving_lem};
-ghost use Rattle.mh_machine.specs.Plans.{committed, taken_from};
-ghost use Rattle.mh_machine.specs.Pieces.{written};
+ghost use Rattle.mh_model.specs.Service.{group_parts, with_parts};
+ghost use Rattle.mh_machine.specs.Plans.{committed, gifts, taken_from};
 
-use crate::bodies::{change_by, halting, starting};
-use crate::lifecycle::{halt_pieces, rising, run_pieces};
-use crate::plan::{Plan, Puts};
-use crate::puts::{entering, leaving};
-use crate::referring::{referred, values};
-use crate::{Machine, Work};
-use mh_base::{GroupName, ObjRef, Seq};
-use mh_group::ActionName;
-use mh_model::parts::is_transition;
-use mh_model::sort::{Sort, sort_of};
-use mh_model::{Act, Event, Item};
-use std::alloc::AllocError;
+use crate::lifecycle::{
+    drop_pieces, halt_pieces, is_unavailable, is_unprepared, prepare_pieces, rising, run_pieces,
+};
+use crate::machine::Machine;
+use crate::plan::{Change, Gift, Plan, Puts, Stacking};
+use crate::puts::leaving;
+use crate::work::Work;
+use mh_actions::answers::answers;
+use mh_actions::arguments::{receivers, values};
+use mh_base::{GroupName, ObjRef, Seq, Value};
+use mh_model::{Act, Edit, Item};
+use std::alloc::{AllocError, Global};
 
 impl Machine {
-    /// An event: the actions of all links that hear it.
-    pub(crate) fn plan_emit(&self, event: &Event) -> Result<Plan, AllocError>
-        ensures { IfOk result (λ plan. committed plan self.now ≡ done (Item.Emit event.now) self.now) }
+    /// An object becomes available.
+    #[inline(never)]
+    pub(crate) fn plan_prepare(&self, at: &ObjRef) -> Result<Plan, AllocError>
+        ensures { IfOk result (λ plan. committed plan self.now
+            ≡ done (Item.Prepare at.now) self.now) }
     {
-        let pieces = self.links.heard(self.alloc, event, &self.objects)?;
-        Ok(Plan::putting(pieces))
-    }
-
-    /// A group whose objects are there is entered.
-    pub(crate) fn plan_enter(&self, group: &GroupName) -> Result<Plan, AllocError>
-        ensures { IfOk result (λ plan. committed plan self.now ≡ done (Item.Enter group.now) self.now) }
-    {
-        let pieces = entering(self.alloc, group, self.service.parts(group))?;
-        Ok(Plan::putting(pieces))
+        let found = self.objects.get(at);
+        let pieces = prepare_pieces(self.alloc, at, found)?;
+        let stacking = rising(is_unavailable(found), at, found)?;
+        let change = Change::Edit(at.clone()?, Edit::Prepare);
+        Ok(Plan::of(change, stacking, pieces))
     }
 
     /// An object runs.
+    #[inline(never)]
     pub(crate) fn plan_run(&self, at: &ObjRef) -> Result<Plan, AllocError>
-        ensures { IfOk result (λ plan. committed plan self.now ≡ done (Item.Run at.now) self.now) }
+        ensures { IfOk result (λ plan. committed plan self.now
+            ≡ done (Item.Run at.now) self.now) }
     {
         let found = self.objects.get(at);
         let pieces = run_pieces(self.alloc, at, found)?;
-        Ok(Plan {
-            change: starting(self.alloc, at, found)?,
-            rises: rising(at, found)?,
-            puts: Puts::InFront(Seq::from_vec(pieces)),
-            begins: false,
-            fault: None,
-        })
+        let stacking = rising(is_unprepared(found), at, found)?;
+        let change = Change::Edit(at.clone()?, Edit::Start);
+        Ok(Plan::of(change, stacking, pieces))
     }
 
     /// An object stops.
+    #[inline(never)]
     pub(crate) fn plan_halt(&self, at: &ObjRef) -> Result<Plan, AllocError>
-        ensures { IfOk result (λ plan. committed plan self.now ≡ done (Item.Halt at.now) self.now) }
+        ensures { IfOk result (λ plan. committed plan self.now
+            ≡ done (Item.Halt at.now) self.now) }
     {
-        let found = self.objects.get(at);
-        let pieces = halt_pieces(self.alloc, at, found)?;
-        Ok(Plan {
-            change: halting(self.alloc, at, found)?,
-            rises: None,
-            puts: Puts::InFront(Seq::from_vec(pieces)),
-            begins: false,
-            fault: None,
-        })
+        let pieces = halt_pieces(self.alloc, at, self.objects.get(at))?;
+        let change = Change::Edit(at.clone()?, Edit::Halt);
+        Ok(Plan::of(change, Stacking::Same, pieces))
     }
 
-    /// An action that is not stuck.
-    pub(crate) fn plan_act(&self, act: &Act) -> Result<Plan, AllocError>
-        ensures { IfOk result (λ plan. committed plan self.now ≡ done (Item.Act act.now) self.now) }
+    /// An object is no longer available.
+    #[inline(never)]
+    pub(crate) fn plan_drop(&self, at: &ObjRef) -> Result<Plan, AllocError>
+        ensures { IfOk result (λ plan. committed plan self.now
+            ≡ done (Item.Drop at.now) self.now) }
     {
-        match referred(&self.objects, &act.target) {
-            None => Ok(Plan::putting(Vec::new(self.alloc))),
-            Some(at) => self.plan_at(act, at),
-        }
+        let pieces = drop_pieces(self.alloc, at, self.objects.get(at))?;
+        let change = Change::Edit(at.clone()?, Edit::Drop);
+        Ok(Plan::of(change, Stacking::Fall(at.clone()?), pieces))
     }
 
-    /// An action whose target comes to this reference.
-    fn plan_at(&self, act: &Act, at: &ObjRef) -> Result<Plan, AllocError>
-        ensures { IfOk result (λ plan. committed plan self.now ≡ act_on (Some at.now) act.now.name (values_lem (all self.now.objects) act.now.arguments) (taken_from self.now)) }
-    {
-        match sort_of(act.name) {
-            Sort::Change => self.plan_change(act, at),
-            Sort::Whole if is_transition(act.name) => self.plan_transition(&at.group),
-            _ => Ok(Plan::putting(Vec::new(self.alloc))),
-        }
-    }
-
-    /// An action that changes the body of its target.
-    fn plan_change(&self, act: &Act, at: &ObjRef) -> Result<Plan, AllocError>
-        ensures { IfOk result (λ plan. committed plan self.now ≡ change_rule act.now.name (values_lem (all self.now.objects) act.now.arguments) at.now (taken_from self.now)) }
+    /// An action that asks its target.
+    pub(crate) fn plan_ask(&self, act: &Act, at: &ObjRef) -> Result<Plan, AllocError>
+        ensures { let values = said.values (all self.now.objects) act.now.arguments in
+            IfOk result (λ plan. committed plan self.now
+            ≡ ask_rule act.now.name values (said.receivers act.now.arguments) at.now
+            (taken_from self.now)) }
     {
         let values = values(self.alloc, &self.objects, act.arguments.as_slice())?;
         let found = self.objects.get(at);
-        Ok(Plan {
-            change: change_by(self.alloc, act.name, values.as_slice(), at, found)?,
-            rises: None,
-            puts: Puts::InFront(Seq::new(self.alloc)),
-            begins: false,
-            fault: None,
-        })
+        let told = answers(self.alloc, act.name, values.as_slice(), found)?;
+        let receivers = receivers(self.alloc, act.arguments.as_slice())?;
+        let gifts = gifts_of(self.alloc, receivers.as_slice(), told.as_slice())?;
+        Ok(Plan::changing(self.alloc, Change::Give(Seq::from_vec(gifts))))
     }
 
     /// A transition to another scene; nothing where one has begun.
-    fn plan_transition(&self, target: &GroupName) -> Result<Plan, AllocError>
-        ensures { (r : _) → r.group ≡ target.now → IfOk result (λ plan. committed plan self.now ≡ transition_rule r (taken_from self.now)) }
+    pub(crate) fn plan_transition(&self, target: &GroupName) -> Result<Plan, AllocError>
+        ensures { (r : _) → r.group ≡ target.now → IfOk result
+            (λ plan. committed plan self.now ≡ transition_rule r (taken_from self.now)) }
     {
         if self.transition {
             return Ok(Plan::putting(Vec::new(self.alloc)));
         }
         Ok(Plan {
-            change: None,
-            rises: None,
+            change: Change::Nothing,
+            stacking: Stacking::Same,
             puts: Puts::Instead(self.way_out(target)?),
+            waits: None,
             begins: true,
             fault: None,
         })
@@ -122,7 +108,9 @@ impl Machine {
 
     /// The work list that leaves the configuration for another scene.
     fn way_out(&self, target: &GroupName) -> Result<Work, AllocError>
-        ensures { IfOk result (λ work. work.items ≡ leaving_lem self.now.service self.now.application self.now.scene target.now) }
+        ensures { IfOk result (λ work. work.items
+            ≡ leaving_lem (group_parts self.now.service self.now.application)
+            (with_parts self.now.service self.now.scene) target.now) }
     {
         let own = self.service.parts(&self.application);
         let pieces = match &self.scene {
@@ -136,4 +124,33 @@ impl Machine {
         };
         Work::of_pieces(self.alloc, pieces)
     }
+}
+
+/// Each receiver with its answer.
+fn gifts_of(alloc: Global, receivers: &[ObjRef], answers: &[Value]) -> Result<Vec<Gift>, AllocError>
+    ensures { IfOk result (λ given. given.items ≡ gifts receivers.now answers.now) }
+{
+    let mut given = Vec::new(alloc);
+    let mut receivers = receivers;
+    let mut answers = answers;
+    while let Some((at, behind)) = receivers.split_first() {
+        let Some((value, more)) = answers.split_first() else {
+            return Ok(given);
+        };
+        push_gift(&mut given, at, value)?;
+        receivers = behind;
+        answers = more;
+    }
+    Ok(given)
+}
+
+fn push_gift(given: &mut Vec<Gift>, at: &ObjRef, value: &Value) -> Result<(), AllocError>
+    ensures { OnOk result
+        (given.new.items ≡ given.old.items ++ record { at = at.now; value = value.now } ∷ []) }
+{
+    given.push(Gift {
+        at: at.clone()?,
+        value: value.clone()?,
+    })?;
+    Ok(())
 }

@@ -7,10 +7,10 @@ ghost use Rattle.mh_model.specs.Items.{is_initially_active as is_initially_activ
 ghost use Rattle.mh_model.specs.Items.{is_shared as is_shared_lem};
 ghost use Rattle.mh_model.specs.Property.{as_effect, held};
 ghost use Rattle.mh_machine.specs.Pieces.{items_of, written};
-ghost use Rattle.mh_machine.specs.Puts.{application_halts, effect_in, scene_halts};
-ghost use Rattle.mh_machine.specs.Puts.{entering_by, leaving_by};
+ghost use Rattle.mh_model.specs.Items.{application_halts, group_effect, scene_halts};
+ghost use Rattle.mh_model.specs.Items.{entering as entering_lem, leaving as leaving_lem};
 
-use crate::Piece;
+use crate::piece::Piece;
 use mh_base::{EventType, GroupName, ObjRef};
 use mh_group::Attribute;
 use mh_model::held::as_bool;
@@ -35,7 +35,7 @@ pub fn entering(
     group: &GroupName,
     parts: &[FixedPart],
 ) -> Result<Vec<Piece>, AllocError>
-    ensures { IfOk result (λ pieces. written pieces.items ≡ entering_by group.now parts.now) }
+    ensures { IfOk result (λ pieces. written pieces.items ≡ entering_lem group.now parts.now) }
 {
     let mut pieces = Vec::new(alloc);
     push_group_effect(&mut pieces, group, parts, Attribute::OnStartUp)?;
@@ -54,7 +54,7 @@ pub fn leaving(
     target: &GroupName,
 ) -> Result<Vec<Piece>, AllocError>
     ensures { let left = option_map (λ s. (s.0.now, s.1.now)) scene.entry in
-        IfOk result (λ pieces. written pieces.items ≡ leaving_by application.now left target.now) }
+        IfOk result (λ pieces. written pieces.items ≡ leaving_lem application.now left target.now) }
 {
     let mut pieces = Vec::new(alloc);
     if let Some((name, parts)) = scene {
@@ -81,7 +81,8 @@ pub fn push_effect(
     }
 }
 
-fn push(pieces: &mut Vec<Piece>, piece: Piece) -> Result<(), AllocError>
+/// Puts a piece behind these.
+pub fn push(pieces: &mut Vec<Piece>, piece: Piece) -> Result<(), AllocError>
     ensures { OnOk result (written pieces.new.items ≡ written pieces.old.items ++ items_of piece) }
 {
     pieces.push(piece)?;
@@ -95,7 +96,7 @@ fn push_group_effect(
     parts: &[FixedPart],
     attribute: Attribute,
 ) -> Result<(), AllocError>
-    ensures { let actions = effect_in group.now parts.now attribute in
+    ensures { let actions = group_effect group.now parts.now attribute in
         OnOk result (written pieces.new.items ≡ written pieces.old.items ++ actions) }
 {
     match part_at(parts, &group_ref(group)?) {

@@ -3,20 +3,26 @@ ghost use Rattle.std.specs.Prelude.{◌≡◌, ◌+◌, ◌<◌, ◌^◌, ◌&&�
 ghost use Rattle.std.specs.Str.{bytes_eq};
 ghost use Rattle.mh_model.specs.Stuck.{stuck};
 ghost use Rattle.mh_model.specs.Headline.{front_fault};
-ghost use Rattle.mh_model.specs.Step.{done, faulted, took, did, step, step_by, input_items};
+ghost use Rattle.mh_model.specs.Step.{done, faulted, took, did, step, step_by, waiting_items};
+ghost use Rattle.mh_model.specs.Rules.{stays};
+ghost use Rattle.mh_model.specs.Service.{with_parts};
+ghost use Rattle.mh_model.specs.State.{all};
 ghost use Rattle.mh_machine.specs.Rest.{answer_of, answer_by, judged};
 ghost use Rattle.mh_machine.specs.Pieces.{written};
 
+use crate::Stepped;
 use crate::inputs::input_pieces;
-use crate::machine::entrance;
+use crate::links::Links;
+use crate::machine::{Machine, entrance};
 use crate::painting::paint;
-use crate::plan::{Plan, Puts};
-use crate::referring::why_stuck;
-use crate::{Links, Machine, Piece, Stepped, Work};
-use mh_base::{GroupName, ObjRef, Seq};
-use mh_model::{Fault, Input, Item};
+use crate::piece::Piece;
+use crate::plan::Plan;
+use crate::work::Work;
+use mh_actions::judging::why_stuck;
+use mh_base::{GroupName, ObjRef};
+use mh_model::{Fault, Item, Waiting};
 use mh_store::Group;
-use std::alloc::{AllocError, Global};
+use std::alloc::AllocError;
 use std::collections::VecDeque;
 
 impl Machine {
@@ -87,13 +93,7 @@ impl Machine {
         ensures done { OnOk result (self.new ≡ faulted fault self.old) }
         ensures kept { OnErr result (self.new ≡ self.old) }
     {
-        self.commit(Plan {
-            change: None,
-            rises: None,
-            puts: Puts::InFront(Seq::new(self.alloc)),
-            begins: false,
-            fault: Some(fault),
-        })
+        self.commit(Plan::noting(self.alloc, fault))
     }
 
     /// Does an item that is not stuck.
@@ -103,17 +103,20 @@ impl Machine {
         ensures kept { OnErr result (self.new ≡ self.old) }
     {
         let plan = match item {
-            Item::Act(act) => self.plan_act(act)?,
+            Item::Act(act) => return self.do_act(act),
+            Item::Emit(event) => return self.do_emit(event),
+            Item::Enter(group) => return self.do_enter(group),
+            Item::Prepare(at) => self.plan_prepare(at)?,
             Item::Run(at) => self.plan_run(at)?,
             Item::Halt(at) => self.plan_halt(at)?,
-            Item::Emit(event) => self.plan_emit(event)?,
-            Item::Enter(group) => self.plan_enter(group)?,
+            Item::Drop(at) => self.plan_drop(at)?,
             Item::Exchange(group) => return self.exchange(group),
         };
         self.commit(plan)
     }
 
     /// Exchanges the current scene for another.
+    #[inline(never)]
     fn exchange(&mut self, group: &GroupName) -> Result<(), AllocError>
         requires { self.old.taken + 1 < 2 ^ 64 }
         ensures done { OnOk result (self.new ≡ done (Item.Exchange group.now) self.old) }
@@ -122,49 +125,42 @@ impl Machine {
         let scene = group.clone()?;
         let parts = self.service.parts(group);
         let links = Links::of(self.alloc, self.service.parts(&self.application), parts)?;
-        let objects = Group::fresh(self.alloc, parts)?;
-        let stack = self.places_after()?;
+        let objects = Group::fresh(self.alloc, group, parts)?;
         let pieces = entrance(self.alloc, group)?;
         self.work.reserve(pieces.len())?;
         self.work.put_for_first(pieces);
-        self.scene = Some(scene);
+        set_scene(&mut self.scene, scene);
         self.objects.exchange(objects);
         self.links = links;
-        self.stack = stack;
+        keep_places(&mut self.stack, &self.application);
+        keep_waiting(&mut self.queue, &self.application);
         self.transition = false;
         self.taken += 1;
         paint(&mut self.picture, &self.objects, self.stack.as_slice());
         Ok(())
     }
 
-    /// The stack places that are left when the scene has been exchanged.
-    fn places_after(&self) -> Result<Vec<ObjRef>, AllocError>
-        ensures { IfOk result (λ kept. kept.items ≡ filter (λ r. bytes_eq r.group self.now.application) self.now.stack) }
-    {
-        kept_places(self.alloc, self.stack.as_slice(), &self.application)
-    }
-
-    /// Takes the first input from the queue, if there is one.
+    /// Takes what waits first in the queue, if anything does.
     fn take_first(&mut self) -> Result<Stepped, AllocError>
         requires { self.old.taken + 1 < 2 ^ 64 }
         ensures done { OnOk result (self.new ≡ step_by None (slice_get self.old.queue 0) self.old) }
         ensures answer { IfOk result (λ a. a ≡ answer_by None (slice_get self.old.queue 0) self.old) }
         ensures kept { OnErr result (self.new ≡ self.old) }
     {
-        match first_input(&self.queue) {
-            Some(input) => self.take(input),
+        match first_waiting(&self.queue)? {
+            Some(waiting) => self.take(&waiting),
             None => Ok(Stepped::Idle),
         }
     }
 
-    /// Takes this input, which is the first, from the queue.
-    fn take(&mut self, input: Input) -> Result<Stepped, AllocError>
+    /// Takes this, which waits first, from the queue.
+    fn take(&mut self, waiting: &Waiting) -> Result<Stepped, AllocError>
         requires { self.old.taken + 1 < 2 ^ 64 }
-        ensures done { OnOk result (self.new ≡ took input self.old) }
+        ensures done { OnOk result (self.new ≡ took waiting.now self.old) }
         ensures answer { IfOk result (λ a. a ≡ Stepped.Did) }
         ensures kept { OnErr result (self.new ≡ self.old) }
     {
-        let pieces = self.pieces_of(input)?;
+        let pieces = self.pieces_of(waiting)?;
         self.work = Work::of_pieces(self.alloc, pieces)?;
         let _ = self.queue.pop_front();
         self.taken += 1;
@@ -173,16 +169,20 @@ impl Machine {
 }
 
 impl Machine {
-    /// What the input puts.
-    fn pieces_of(&self, input: Input) -> Result<Vec<Piece>, AllocError>
-        ensures { IfOk result (λ pieces. written pieces.items ≡ input_items input self.now) }
+    /// What is put when this is taken.
+    fn pieces_of(&self, waiting: &Waiting) -> Result<Vec<Piece>, AllocError>
+        ensures { let scene = with_parts self.now.service self.now.scene in
+            IfOk result (λ pieces. written pieces.items
+            ≡ waiting_items waiting.now scene (all self.now.objects)) }
     {
-        match &self.scene {
-            None => Ok(Vec::new(self.alloc)),
-            Some(scene) => input_pieces(
+        match (waiting, &self.scene) {
+            (Waiting::Event(event), _) => self.links.heard(self.alloc, event, &self.objects),
+            (Waiting::Input(_), None) => Ok(Vec::new(self.alloc)),
+            (Waiting::Input(input), Some(scene)) => input_pieces(
                 self.alloc,
-                input,
-                Some((scene, self.service.parts(scene))),
+                *input,
+                scene,
+                self.service.parts(scene),
                 &self.links,
                 &self.objects,
             ),
@@ -190,26 +190,47 @@ impl Machine {
     }
 }
 
-/// The first input that waits.
-fn first_input(queue: &VecDeque<Input>) -> Option<Input>
-    ensures { result ≡ slice_get queue.now.items 0 }
+/// A copy of what waits first.
+fn first_waiting(queue: &VecDeque<Waiting>) -> Result<Option<Waiting>, AllocError>
+    ensures { IfOk result (λ first. first ≡ slice_get queue.now.items 0) }
 {
-    queue.front().copied()
+    match queue.front() {
+        Some(waiting) => Ok(Some(copied(waiting)?)),
+        None => Ok(None),
+    }
+}
+
+fn copied(waiting: &Waiting) -> Result<Waiting, AllocError>
+    ensures { IfOk result (λ copy. copy ≡ waiting.now) }
+{
+    waiting.clone()
+}
+
+fn set_scene(scene: &mut Option<GroupName>, group: GroupName)
+    ensures { scene.new ≡ Some group }
+{
+    *scene = Some(group);
 }
 
 /// The stack places that an exchange leaves: those of the application.
-fn kept_places(
-    alloc: Global,
-    stack: &[ObjRef],
-    application: &GroupName,
-) -> Result<Vec<ObjRef>, AllocError>
-    ensures { IfOk result (λ kept. kept.items ≡ filter (λ r. bytes_eq r.group application.now) stack.now) }
+fn keep_places(stack: &mut Vec<ObjRef>, application: &GroupName)
+    ensures { stack.new.items ≡ filter (λ r. bytes_eq r.group application.now) stack.old.items }
 {
-    let mut kept = Vec::new(alloc);
-    for at in stack {
-        if at.group == *application {
-            kept.push(at.clone()?)?;
-        }
+    stack.retain(|at| at.group == *application);
+}
+
+/// What waits on when a scene is exchanged: inputs, and the events of the application.
+fn keep_waiting(queue: &mut VecDeque<Waiting>, application: &GroupName)
+    ensures { queue.new.items ≡ filter (stays application.now) queue.old.items }
+{
+    queue.retain(|waiting| waits_on(waiting, application));
+}
+
+fn waits_on(waiting: &Waiting, application: &GroupName) -> bool
+    ensures { result ≡ stays application.now waiting.now }
+{
+    match waiting {
+        Waiting::Input(_) => true,
+        Waiting::Event(event) => event.source.group == *application,
     }
-    Ok(kept)
 }

@@ -9,7 +9,7 @@ ghost use Rattle.mh_machine.specs.Pieces.{items_of, written};
 ghost use Rattle.mh_machine.specs.Frames.{AreLive, flat, goes_on, has_more, is_live, left_of};
 ghost use Rattle.mh_machine.specs.Frames.{passed, passed_first};
 
-use crate::Piece;
+use crate::piece::Piece;
 use mh_model::{Act, Effect, Item};
 use std::alloc::{AllocError, Global};
 use std::collections::VecDeque;

@@ -4,5 +4,6 @@ pub mod PlanesLemmas
 pub mod PaintingLemmas
 pub mod PartLemmas
 pub mod ServiceLemmas
+pub mod FaultLemmas
 pub mod WorkLemmas
 pub mod SafeLemmas

@@ -1,45 +1,68 @@
 -- A safe state stays safe, and in a safe state nothing is stuck.
-use Rattle.std.specs.Prelude.{◌≡◌, ℕ, ◌+◌, ◌==◌, Bool, true, false, ◌&&◌, if◌then◌else◌, List, [], ◌∷◌, ◌++◌, drop, slice_get, Option, Some, None, refl}
+use Rattle.std.specs.Prelude.{◌≡◌, ℕ, ◌+◌, ◌==◌, Bool, true, false, if◌then◌else◌, cond, List, [], ◌∷◌, ◌++◌, drop, filter, slice_get, Option, Some, None, refl}
 use Rattle.std.specs.List.{list_all}
-use Rattle.std.specs.Option.{option_map_or}
+use Rattle.std.specs.Option.{option_map, option_map_or, option_or}
+use Rattle.std.specs.Str.{bytes_eq}
 use Rattle.std.proofs.Common.{inl, inr, ap, ◌∙◌, sym, subst, append_assoc, append-nil}
+use Rattle.std.specs.Cmp.Derive.{both_true}
+use Rattle.std.proofs.lemmas.List.Folds.{find-append}
+use Rattle.std.proofs.lemmas.Slice.Eq.{bytes_eq-Decides}
 use Rattle.mh_base.specs.declared.obj_ref.ObjRef.{ObjRef}
 use Rattle.mh_base.specs.declared.value.Value.{Value}
+use Rattle.mh_base.specs.declared.value.Value.TheVariants as value
+use Rattle.mh_base.specs.declared.event.EventType.{EventType}
 use Rattle.mh_base.specs.declared.event.EventType.TheVariants as event
+use Rattle.mh_base.specs.Event.{is_sync}
 use Rattle.mh_group.specs.declared.action_name.ActionName.{ActionName}
-use Rattle.mh_group.specs.Table.{is_scene, is_application}
+use Rattle.mh_group.specs.declared.action_name.ActionName.TheVariants as action
+use Rattle.mh_group.specs.declared.class.Class.{Class}
+use Rattle.mh_group.specs.declared.shape.Need.TheVariants as need
+use Rattle.mh_group.specs.Table.{is_scene, is_application, needs_of}
 use Rattle.mh_model.specs.declared.act.Act.{Act}
+use Rattle.mh_model.specs.declared.act.Argument.{Argument}
+use Rattle.mh_model.specs.declared.act.Argument.TheVariants as argument
 use Rattle.mh_model.specs.declared.act.Target.{Target}
 use Rattle.mh_model.specs.declared.act.Target.TheVariants as target
 use Rattle.mh_model.specs.declared.config.Config.{Config}
+use Rattle.mh_model.specs.declared.event.Event.{Event}
 use Rattle.mh_model.specs.declared.fault.Fault.{Fault}
 use Rattle.mh_model.specs.declared.input.Input.{Input}
 use Rattle.mh_model.specs.declared.input.Input.TheVariants as input
+use Rattle.mh_model.specs.declared.input.Waiting.{Waiting}
+use Rattle.mh_model.specs.declared.input.Waiting.TheVariants as waiting
 use Rattle.mh_model.specs.declared.input.Move.{Move}
 use Rattle.mh_model.specs.declared.input.Move.TheVariants as move
 use Rattle.mh_model.specs.declared.item.Item.{Item}
 use Rattle.mh_model.specs.declared.item.Item.TheVariants as item
 use Rattle.mh_model.specs.declared.object.Fixed.{Fixed}
 use Rattle.mh_model.specs.declared.object.Object.{Object}
+use Rattle.mh_model.specs.declared.operator.Operator.{Operator}
 use Rattle.mh_model.specs.declared.sort.Sort.{Sort}
 use Rattle.mh_model.specs.declared.sort.Sort.TheVariants as sort
 use Rattle.mh_model.specs.Key.{passes}
-use Rattle.mh_model.specs.Service.{Service, part_at, object_at, parts, group_ref, group_parts}
+use Rattle.mh_model.specs.Property.{value_held, as_reference}
+use Rattle.mh_model.specs.Service.{Service, same_ref, part_at, object_at, parts, group_ref, group_parts, with_parts, is_in}
 use Rattle.mh_model.specs.State.{State, Objects, all, begun}
 use Rattle.mh_model.specs.Items.{heard, leaving}
-use Rattle.mh_model.specs.Stuck.{is_transition, class_for, stuck_at, stuck}
+use Rattle.mh_model.specs.Lifecycle.{emit_if, is_available_at, is_running_at, is_unavailable_at, is_stopped_at, is_unprepared_at}
+use Rattle.mh_model.specs.Variables.{operator_of}
+use Rattle.mh_model.specs.Known.{Known, known_before, class_at, as_integer}
+use Rattle.mh_model.specs.Faults.{is_transition, admitted_faults, named_faults, takes_object, arguments_faults, faults, fault_known}
+use Rattle.mh_model.specs.Stuck.{stuck}
 use Rattle.mh_model.specs.Sort.{sort_of}
-use Rattle.mh_model.specs.Arguments.{values}
-use Rattle.mh_model.specs.Bodies.{started, halted, changed_by}
-use Rattle.mh_model.specs.Rules.{rule_by, transition_rule, rule, is_stopped_at, is_unprepared_at, run_items, is_running_at, halt_items}
-use Rattle.mh_model.specs.Step.{register_of, key_event, key_items, took, done, did, step_by, step, posted, most_steps, stepped, moved, run}
+use Rattle.mh_model.specs.Arguments.{values, receivers, held_by}
+use Rattle.mh_model.specs.Bodies.{prepared, started, halted, dropped, given, changed_by}
+use Rattle.mh_model.specs.Saying.{answers_at, event_numbered, sent, tested, put_items, put_items_at}
+use Rattle.mh_model.specs.Rules.{changed, filled, rule_by, transition_rule, emitted, stays, rule}
+use Rattle.mh_model.specs.Step.{register_of, key_event, key_items, took, done, did, step_by, step, is_full, posted, most_steps, stepped, moved, run}
 use Rattle.mh_model.specs.Configuration.{is_group_of, is_service, scene_parts, present, is_among}
-use Rattle.mh_model.specs.Active.{active_actions, fault_of, leads_to}
-use Rattle.mh_model.specs.Acceptable.{IsAcceptable, leads_into, is_none}
-use Rattle.mh_model.specs.Safe.{config_of, is_there, is_fine, IsPartOf, IsSafeItem, behind, IsSafeWork, IsSafe, is_scene_if_any}
+use Rattle.mh_model.specs.Active.{active_actions, is_none, is_direct, are_direct, is_good, fault_of, leads_to}
+use Rattle.mh_model.specs.Acceptable.{IsAcceptable, leads_into}
+use Rattle.mh_model.specs.Safe.{config_of, is_there, is_fine, IsPartOf, IsSafeItem, behind, IsSafeWork, IsSafe, is_scene_if_any, has_origin}
 use Rattle.mh_model.specs.Headline.{fault_at, front_fault, IsFaultless, NeverStuck}
+use Rattle.mh_model.proofs.FaultLemmas.{none_wrong, empty_left, empty_right, fit_object, knowing, direct_free}
 use Rattle.mh_model.proofs.PartLemmas.{found_there, parts-fresh, parts-all, changed-own, changed-others}
-use Rattle.mh_model.proofs.ServiceLemmas.{and_left, and_right, all_both, is_there_left, is_there_right, group_is_there, group_parts_whole, present_whole}
+use Rattle.mh_model.proofs.ServiceLemmas.{and_left, and_right, all_both, all_joined, found, same_ref-same, is_there_left, is_there_right, group_is_there, group_parts_in, group_parts_whole, present_whole}
 use Rattle.mh_model.proofs.WorkLemmas.{AreFine, IsFineGroup, IsFineScene, fine_left, fine_right, safe_heard, safe_emits, safe_entering, safe_leaving, safe_transition}
 
 -- What a safe state knows of its objects.
@@ -53,7 +76,7 @@ parts_present s k =
 
 -- all actions that can come to be done in a configuration of the closed set are fine
 fine_present : (v : Service) (k : IsAcceptable v) (c : Config) → is_among k.reached c ≡ true → list_all (is_fine v k.reached c) (active_actions (present v c)) ≡ true
-fine_present v k c h = all_both (λ a. is_none (fault_of v (present v c) a)) (leads_into v k.reached c) (active_actions (present v c)) (k.free c h) (k.closed.each c h)
+fine_present v k c h = all_both (is_good v (present v c)) (leads_into v k.reached c) (active_actions (present v c)) (k.free c h) (k.closed.each c h)
 
 fine_now : (s : State) (k : IsSafe s) → AreFine (is_fine s.service k.accepted.reached (config_of s)) (present s.service (config_of s)) (present s.service (config_of s))
 fine_now s k = fine_present s.service k.accepted (config_of s) k.among
@@ -106,14 +129,15 @@ safe_begun v k = record {
   own = parts-fresh (group_parts v v.start);
   others = refl;
   work = (inl refl, tt);
+  queue = refl;
   faultless = refl;
 }
 
 -- The rules. Here `rest` is the work behind the item, and `n` the number of steps.
 
 -- a state stays safe where its work is safe, and of its objects only bodies change
-kept : (s : State) (k : IsSafe s) (os : Objects) (stack : List ObjRef) (queue : List Input) (work : List Item) (transition : Bool) (n : ℕ) → parts os.application ≡ parts s.objects.application → parts os.scene ≡ parts s.objects.scene → IsSafeWork s.service k.accepted.reached (config_of s) work → IsSafe (record s { objects = os; stack = stack; queue = queue; work = work; transition = transition; taken = n })
-kept s k os stack queue work transition n own others safe = record {
+kept : (s : State) (k : IsSafe s) (os : Objects) (stack : List ObjRef) (queue : List Waiting) (work : List Item) (transition : Bool) (n : ℕ) → parts os.application ≡ parts s.objects.application → parts os.scene ≡ parts s.objects.scene → IsSafeWork s.service k.accepted.reached (config_of s) work → list_all (has_origin (present s.service (config_of s))) queue ≡ true → IsSafe (record s { objects = os; stack = stack; queue = queue; work = work; transition = transition; taken = n })
+kept s k os stack queue work transition n own others safe from_present = record {
   accepted = k.accepted;
   application = k.application;
   scene = k.scene;
@@ -121,56 +145,201 @@ kept s k os stack queue work transition n own others safe = record {
   own = own ∙ k.own;
   others = others ∙ k.others;
   work = safe;
+  queue = from_present;
   faultless = k.faultless;
 }
 
--- an action, by what kind of thing it does
-safe_by_sort : (s : State) (k : IsSafe s) (o : Sort) (a : ActionName) (vs : List Value) (r : ObjRef) (rest : List Item) (n : ℕ) → (is_none (stuck_at a r (class_for s.service (present s.service (config_of s)) a r)) && option_map_or (is_among k.accepted.reached) (leads_to s.service (config_of s) a (target.Direct r)) true) ≡ true → IsSafeWork s.service k.accepted.reached (config_of s) rest → IsSafe (rule_by o a vs r (record s { work = rest; taken = n }))
-safe_by_sort s k sort.Change a vs r rest n fine behind_it =
-    kept s k _ s.stack s.queue rest s.transition n (changed-own (changed_by a vs) r s.objects) (changed-others (changed_by a vs) r s.objects) behind_it
-safe_by_sort s k sort.Ask a vs r rest n fine behind_it = kept s k s.objects s.stack s.queue rest s.transition n refl refl behind_it
-safe_by_sort s k sort.Put a vs r rest n fine behind_it = kept s k s.objects s.stack s.queue rest s.transition n refl refl behind_it
-safe_by_sort s k sort.Order a vs r rest n fine behind_it = kept s k s.objects s.stack s.queue rest s.transition n refl refl behind_it
-safe_by_sort s k sort.Whole a vs r rest n fine behind_it = by (is_transition a) refl
+-- what receivers are given changes bodies alone
+
+filled-own : (rs : List ObjRef) (vs : List Value) (os : Objects) → parts (filled rs vs os).application ≡ parts os.application
+filled-own [] vs os = refl
+filled-own (r ∷ rs) [] os = refl
+filled-own (r ∷ rs) (v ∷ vs) os = filled-own rs vs (changed (λ p b. given v b) r os) ∙ changed-own (λ p b. given v b) r os
+
+filled-others : (rs : List ObjRef) (vs : List Value) (os : Objects) → parts (filled rs vs os).scene ≡ parts os.scene
+filled-others [] vs os = refl
+filled-others (r ∷ rs) [] os = refl
+filled-others (r ∷ rs) (v ∷ vs) os = filled-others rs vs (changed (λ p b. given v b) r os) ∙ changed-others (λ p b. given v b) r os
+
+-- What an action puts comes from objects that are present.
+
+-- the source of an event that is sent is one that the action names
+named_there : (v : Service) (ps : List Fixed) (n : ActionName) (r : ObjRef) → named_faults (known_before v ps) n r ≡ [] → is_there r ps ≡ true
+named_there v ps n r e =
+    let fit = fit_object (takes_object n) n r (class_at r ps) e in
+    by (part_at r ps) fit.0 fit.1
   where
-    put : (b : Bool) → is_transition a ≡ true → IsSafeWork s.service k.accepted.reached (config_of s) (if b then rest else leaving s.service s.application s.scene r.group)
+    by : (m : Option Fixed) (c : Class) → option_map (λ (p : Fixed). p.class) m ≡ Some c → option_map_or (λ (p : Fixed). true) m false ≡ true
+    by None c e = absurd cc
+    by (Some p) c e = refl
+
+safe_sent : (v : Service) (cs : List Config) (c : Config) (source r : ObjRef) (o : Object) (more : List Value) (rest : List Item) → is_there source (present v c) ≡ true → IsSafeWork v cs c rest → IsSafeWork v cs c (put_items action.SendEvent (value.Object source ∷ more) r o ++ rest)
+safe_sent v cs c source r o [] rest there_it k = k
+safe_sent v cs c source r o (value.Int kind ∷ more) rest there_it k = by (event_numbered kind)
+  where
+    by : (m : Option EventType) → IsSafeWork v cs c (sent source m more ++ rest)
+    by None = k
+    by (Some e) = (there_it, k)
+safe_sent v cs c source r o (value.Bool b ∷ more) rest there_it k = k
+safe_sent v cs c source r o (value.Octets b ∷ more) rest there_it k = k
+safe_sent v cs c source r o (value.Object b ∷ more) rest there_it k = k
+safe_sent v cs c source r o (value.Content b ∷ more) rest there_it k = k
+
+-- an event that is sent, by what is written first
+safe_send : (v : Service) (cs : List Config) (c : Config) (os : List Object) (r : ObjRef) (o : Object) (a : Act) (xs : List Argument) (rest : List Item) → are_direct (need.Ref ∷ need.Event ∷ need.Data ∷ []) xs ≡ true → arguments_faults (known_before v (present v c)) a (need.Ref ∷ need.Event ∷ need.Data ∷ []) xs ≡ [] → IsSafeWork v cs c rest → IsSafeWork v cs c (put_items action.SendEvent (values os xs) r o ++ rest)
+safe_send v cs c os r o a [] rest d e k = k
+safe_send v cs c os r o a (argument.Direct (value.Object q) ∷ xs) rest d e k =
+    safe_sent v cs c q r o (values os xs) rest (named_there v (present v c) a.name q (empty_left _ (arguments_faults (known_before v (present v c)) a (need.Event ∷ need.Data ∷ []) xs) e)) k
+safe_send v cs c os r o a (argument.Direct (value.Bool b) ∷ xs) rest d e k = absurd cc
+safe_send v cs c os r o a (argument.Direct (value.Int b) ∷ xs) rest d e k = absurd cc
+safe_send v cs c os r o a (argument.Direct (value.Octets b) ∷ xs) rest d e k = absurd cc
+safe_send v cs c os r o a (argument.Direct (value.Content b) ∷ xs) rest d e k = absurd cc
+safe_send v cs c os r o a (argument.Through q t ∷ xs) rest d e k = absurd cc
+safe_send v cs c os r o a (argument.Receiver q ∷ xs) rest d e k = absurd cc
+
+-- the event of a test comes from what is tested
+safe_tested : (v : Service) (cs : List Config) (c : Config) (r : ObjRef) (m : Option Operator) (held : Option Value) (x : Value) (rest : List Item) → is_there r (present v c) ≡ true → IsSafeWork v cs c rest → IsSafeWork v cs c (tested r m held x ++ rest)
+safe_tested v cs c r None held x rest there_it k = k
+safe_tested v cs c r (Some o) None x rest there_it k = k
+safe_tested v cs c r (Some o) (Some h) x rest there_it k = (there_it, k)
+
+safe_test : (v : Service) (cs : List Config) (c : Config) (r : ObjRef) (o : Object) (vs : List Value) (rest : List Item) → is_there r (present v c) ≡ true → IsSafeWork v cs c rest → IsSafeWork v cs c (put_items action.TestVariable vs r o ++ rest)
+safe_test v cs c r o [] rest there_it k = k
+safe_test v cs c r o (value.Int n ∷ []) rest there_it k = k
+safe_test v cs c r o (value.Int n ∷ x ∷ []) rest there_it k = safe_tested v cs c r (operator_of n) (value_held o.fixed o.body) x rest there_it k
+safe_test v cs c r o (value.Int n ∷ x ∷ y ∷ vs) rest there_it k = k
+safe_test v cs c r o (value.Bool b ∷ vs) rest there_it k = k
+safe_test v cs c r o (value.Octets b ∷ vs) rest there_it k = k
+safe_test v cs c r o (value.Object b ∷ vs) rest there_it k = k
+safe_test v cs c r o (value.Content b ∷ vs) rest there_it k = k
+
+-- what an action puts that is done to an object that is there
+safe_put : (v : Service) (cs : List Config) (c : Config) (os : List Object) (r : ObjRef) (o : Object) (n : ActionName) (a : Act) (xs : List Argument) (rest : List Item) → are_direct (needs_of n) xs ≡ true → arguments_faults (known_before v (present v c)) a (needs_of n) xs ≡ [] → is_there r (present v c) ≡ true → IsSafeWork v cs c rest → IsSafeWork v cs c (put_items n (values os xs) r o ++ rest)
+safe_put v cs c os r o action.Run a xs rest d e there_it k = (tt, k)
+safe_put v cs c os r o action.Stop a xs rest d e there_it k = (tt, k)
+safe_put v cs c os r o action.Preload a xs rest d e there_it k = (tt, k)
+safe_put v cs c os r o action.Unload a xs rest d e there_it k = (tt, (tt, k))
+safe_put v cs c os r o action.Activate a xs rest d e there_it k = (tt, k)
+safe_put v cs c os r o action.Deactivate a xs rest d e there_it k = (tt, k)
+safe_put v cs c os r o action.SendEvent a xs rest d e there_it k = safe_send v cs c os r o a xs rest d e k
+safe_put v cs c os r o action.TestVariable a xs rest d e there_it k = safe_test v cs c r o (values os xs) rest there_it k
+safe_put v cs c os r o _ a xs rest d e there_it k = k
+
+-- an action with which nothing is wrong, by what kind of thing it does
+safe_by_sort : (s : State) (k : IsSafe s) (o : Sort) (a : Act) (r : ObjRef) (rest : List Item) (n : ℕ) → are_direct (needs_of a.name) a.arguments ≡ true → admitted_faults (known_before s.service (present s.service (config_of s))) a.name r ≡ [] → arguments_faults (known_before s.service (present s.service (config_of s))) a (needs_of a.name) a.arguments ≡ [] → option_map_or (is_among k.accepted.reached) (leads_to s.service (config_of s) a.name (target.Direct r)) true ≡ true → IsSafeWork s.service k.accepted.reached (config_of s) rest → IsSafe (rule_by o a.name (values (all s.objects) a.arguments) (receivers a.arguments) r (record s { work = rest; taken = n }))
+safe_by_sort s k sort.Change a r rest n d fit good led behind_it =
+    kept s k _ s.stack s.queue rest s.transition n (changed-own (changed_by a.name (values (all s.objects) a.arguments)) r s.objects) (changed-others (changed_by a.name (values (all s.objects) a.arguments)) r s.objects) behind_it k.queue
+safe_by_sort s k sort.Ask a r rest n d fit good led behind_it =
+    let told : List Value = answers_at a.name (values (all s.objects) a.arguments) (object_at r (all s.objects)) in
+    kept s k _ s.stack s.queue rest s.transition n (filled-own (receivers a.arguments) told s.objects) (filled-others (receivers a.arguments) told s.objects) behind_it k.queue
+safe_by_sort s k sort.Put a r rest n d fit good led behind_it =
+    kept s k s.objects s.stack s.queue _ s.transition n refl refl (by (object_at r (all s.objects)) refl) k.queue
+  where
+    by : (m : Option Object) → object_at r (all s.objects) ≡ m → IsSafeWork s.service k.accepted.reached (config_of s) (put_items_at a.name (values (all s.objects) a.arguments) r m ++ rest)
+    by None e = behind_it
+    by (Some o) e = safe_put s.service k.accepted.reached (config_of s) (all s.objects) r o a.name a a.arguments rest d good (there s k r (found_there r (all s.objects) o e)) behind_it
+safe_by_sort s k sort.Order a r rest n d fit good led behind_it = kept s k s.objects s.stack s.queue rest s.transition n refl refl behind_it k.queue
+safe_by_sort s k sort.Whole a r rest n d fit good led behind_it = by (is_transition a.name) refl
+  where
+    put : (b : Bool) → is_transition a.name ≡ true → IsSafeWork s.service k.accepted.reached (config_of s) (if b then rest else leaving (group_parts s.service s.application) (with_parts s.service s.scene) r.group)
     put true is = behind_it
     put false is =
         safe_leaving s.service k.accepted.reached (config_of s) s.application s.scene r.group (fine_scene s k)
-        (safe_transition s.service k.accepted.reached (config_of s) a r (present_whole s.service (config_of s) k.accepted.service) is fine)
+        (safe_transition s.service k.accepted.reached (config_of s) a.name r (present_whole s.service (config_of s) k.accepted.service) is fit led)
 
-    by : (b : Bool) → is_transition a ≡ b → IsSafe (if b then transition_rule r (record s { work = rest; taken = n }) else record s { work = rest; taken = n })
-    by true is = kept s k s.objects s.stack s.queue _ true n refl refl (put s.transition is)
-    by false is = kept s k s.objects s.stack s.queue rest s.transition n refl refl behind_it
+    by : (b : Bool) → is_transition a.name ≡ b → IsSafe (if b then transition_rule r (record s { work = rest; taken = n }) else record s { work = rest; taken = n })
+    by true is = kept s k s.objects s.stack s.queue _ true n refl refl (put s.transition is) k.queue
+    by false is = kept s k s.objects s.stack s.queue rest s.transition n refl refl behind_it k.queue
 
 safe_action : (s : State) (k : IsSafe s) (a : Act) (rest : List Item) (n : ℕ) → IsSafeItem s.service k.accepted.reached (config_of s) (item.Act a) → IsSafeWork s.service k.accepted.reached (config_of s) rest → IsSafe (rule (item.Act a) (record s { work = rest; taken = n }))
 safe_action s k a rest n fine behind_it = by a.target fine
   where
+    before : Known
+    before = known_before s.service (present s.service (config_of s))
+
     by : (t : Target) → is_fine s.service k.accepted.reached (config_of s) (record a { target = t }) ≡ true → IsSafe (rule (item.Act (record a { target = t })) (record s { work = rest; taken = n }))
-    by (target.Direct r) h = safe_by_sort s k (sort_of a.name) a.name (values (all s.objects) a.arguments) r rest n h behind_it
-    by (target.Through v) h = absurd cc
+    by (target.Direct r) h =
+        let b : Act = record a { target = target.Direct r } in
+        let good = and_left (is_good s.service (present s.service (config_of s)) b) (leads_into s.service k.accepted.reached (config_of s) b) h in
+        let none = none_wrong (faults before b) (and_left (is_none (fault_of s.service (present s.service (config_of s)) b)) (is_direct b) good) in
+        safe_by_sort s k (sort_of a.name) b r rest n
+        (and_right (is_none (fault_of s.service (present s.service (config_of s)) b)) (is_direct b) good)
+        (empty_left (admitted_faults before a.name r) _ none)
+        (empty_right (admitted_faults before a.name r) _ none)
+        (and_right (is_good s.service (present s.service (config_of s)) b) (leads_into s.service k.accepted.reached (config_of s) b) h) behind_it
+    by (target.Through v) h =
+        let b : Act = record a { target = target.Through v } in
+        let good = and_left (is_good s.service (present s.service (config_of s)) b) (leads_into s.service k.accepted.reached (config_of s) b) h in
+        let never : false ≡ true = and_right (is_none (fault_of s.service (present s.service (config_of s)) b)) false good in
+        absurd cc
+
+-- an event of an object that is found, if it comes
+safe_emit : (s : State) (k : IsSafe s) (r : ObjRef) (kind : EventType) (rest : List Item) (test_of : Option Object → Bool) → test_of None ≡ false → IsSafeWork s.service k.accepted.reached (config_of s) rest → IsSafeWork s.service k.accepted.reached (config_of s) (emit_if (test_of (object_at r (all s.objects))) r kind ++ rest)
+safe_emit s k r kind rest test_of none behind_it = by (object_at r (all s.objects)) refl
+  where
+    by : (m : Option Object) → object_at r (all s.objects) ≡ m → IsSafeWork s.service k.accepted.reached (config_of s) (emit_if (test_of m) r kind ++ rest)
+    by None e = subst (λ (b : Bool). IsSafeWork s.service k.accepted.reached (config_of s) (emit_if b r kind ++ rest)) (sym none) behind_it
+    by (Some o) e = safe_emits s.service k.accepted.reached (config_of s) (record { source = r; kind = kind; «data» = None }) (test_of (Some o)) rest (there s k r (found_there r (all s.objects) o e)) behind_it
+
+safe_prepare_item : (s : State) (k : IsSafe s) (r : ObjRef) (rest : List Item) (n : ℕ) → IsSafeWork s.service k.accepted.reached (config_of s) rest → IsSafe (rule (item.Prepare r) (record s { work = rest; taken = n }))
+safe_prepare_item s k r rest n behind_it =
+    kept s k _ _ s.queue _ s.transition n (changed-own (λ p b. prepared b) r s.objects) (changed-others (λ p b. prepared b) r s.objects) (safe_emit s k r event.IsAvailable rest is_unavailable_at refl behind_it) k.queue
 
 safe_run_item : (s : State) (k : IsSafe s) (r : ObjRef) (rest : List Item) (n : ℕ) → IsSafeWork s.service k.accepted.reached (config_of s) rest → IsSafe (rule (item.Run r) (record s { work = rest; taken = n }))
 safe_run_item s k r rest n behind_it =
-    kept s k _ _ s.queue _ s.transition n (changed-own (λ p b. started b) r s.objects) (changed-others (λ p b. started b) r s.objects) (by (object_at r (all s.objects)) refl)
-  where
-    by : (m : Option Object) → object_at r (all s.objects) ≡ m → IsSafeWork s.service k.accepted.reached (config_of s) (run_items r m ++ rest)
-    by None e = behind_it
-    by (Some o) e =
-        let source = there s k r (found_there r (all s.objects) o e) in
-        let available : List Item = if is_unprepared_at (Some o) then item.Emit (record { source = r; kind = event.IsAvailable; «data» = None }) ∷ [] else [] in
-        let running : List Item = if is_stopped_at (Some o) then item.Emit (record { source = r; kind = event.IsRunning; «data» = None }) ∷ [] else [] in
-        subst (IsSafeWork s.service k.accepted.reached (config_of s)) (sym (append_assoc available running rest))
-        (safe_emits s.service k.accepted.reached (config_of s) _ (is_unprepared_at (Some o)) (running ++ rest) source (safe_emits s.service k.accepted.reached (config_of s) _ (is_stopped_at (Some o)) rest source behind_it))
+    kept s k _ _ s.queue _ s.transition n (changed-own (λ p b. started b) r s.objects) (changed-others (λ p b. started b) r s.objects)
+    (subst (IsSafeWork s.service k.accepted.reached (config_of s)) (sym (append_assoc (emit_if (is_unprepared_at (object_at r (all s.objects))) r event.IsAvailable) (emit_if (is_stopped_at (object_at r (all s.objects))) r event.IsRunning) rest))
+    (safe_emit s k r event.IsAvailable _ is_unprepared_at refl (safe_emit s k r event.IsRunning rest is_stopped_at refl behind_it))) k.queue
 
 safe_halt_item : (s : State) (k : IsSafe s) (r : ObjRef) (rest : List Item) (n : ℕ) → IsSafeWork s.service k.accepted.reached (config_of s) rest → IsSafe (rule (item.Halt r) (record s { work = rest; taken = n }))
 safe_halt_item s k r rest n behind_it =
-    kept s k _ s.stack s.queue _ s.transition n (changed-own (λ p b. halted b) r s.objects) (changed-others (λ p b. halted b) r s.objects) (by (object_at r (all s.objects)) refl)
+    kept s k _ s.stack s.queue _ s.transition n (changed-own (λ p b. halted b) r s.objects) (changed-others (λ p b. halted b) r s.objects) (safe_emit s k r event.IsStopped rest is_running_at refl behind_it) k.queue
+
+safe_drop_item : (s : State) (k : IsSafe s) (r : ObjRef) (rest : List Item) (n : ℕ) → IsSafeWork s.service k.accepted.reached (config_of s) rest → IsSafe (rule (item.Drop r) (record s { work = rest; taken = n }))
+safe_drop_item s k r rest n behind_it =
+    kept s k _ _ s.queue _ s.transition n (changed-own (λ p b. dropped b) r s.objects) (changed-others (λ p b. dropped b) r s.objects) (safe_emit s k r event.IsDeleted rest is_available_at refl behind_it) k.queue
+
+-- an event that is dealt with at once, or that waits
+safe_emitted : (s : State) (k : IsSafe s) (e : Event) (rest : List Item) (n : ℕ) → is_there e.source (present s.service (config_of s)) ≡ true → IsSafeWork s.service k.accepted.reached (config_of s) rest → IsSafe (emitted e (record s { work = rest; taken = n }))
+safe_emitted s k e rest n here_it behind_it = by (is_sync e.kind)
   where
-    by : (m : Option Object) → object_at r (all s.objects) ≡ m → IsSafeWork s.service k.accepted.reached (config_of s) (halt_items r m ++ rest)
-    by None e = behind_it
-    by (Some o) e =
-        safe_emits s.service k.accepted.reached (config_of s) (record { source = r; kind = event.IsStopped; «data» = None }) (is_running_at (Some o)) rest (there s k r (found_there r (all s.objects) o e)) behind_it
+    by : (b : Bool) → IsSafe (if b then record s { work = heard e (all s.objects) ++ rest; taken = n } else record s { queue = s.queue ++ waiting.Event e ∷ []; work = rest; taken = n })
+    by true = kept s k s.objects s.stack s.queue _ s.transition n refl refl (safe_heard s.service k.accepted.reached (config_of s) e (present s.service (config_of s)) (all s.objects) rest here_it (fine_objects s k) behind_it) k.queue
+    by false = kept s k s.objects s.stack _ rest s.transition n refl refl behind_it (all_joined (has_origin (present s.service (config_of s))) s.queue (waiting.Event e ∷ []) k.queue (both_true here_it refl))
+
+-- What waits when a scene is left comes from the application.
+
+all_kept : {X : Type 0} (p q t : X → Bool) → ((x : X) → p x ≡ true → q x ≡ true → t x ≡ true) → (xs : List X) → list_all q xs ≡ true → list_all t (filter p xs) ≡ true
+all_kept p q t follows [] h = refl
+all_kept {X} p q t follows (x ∷ xs) h = by (p x) refl (all_kept p q t follows xs (and_right (q x) (list_all q xs) h))
+  where
+    by : (b : Bool) → p x ≡ b → list_all t (filter p xs) ≡ true → list_all t (cond b (x ∷ filter p xs) (filter p xs)) ≡ true
+    by true is rest = both_true (follows x is (and_left (q x) (list_all q xs) h)) rest
+    by false is rest = rest
+
+-- an object of the application is among its parts
+among_own : (v : Service) (application : List ℕ) (scene : Option (List ℕ)) (r : ObjRef) → is_service v ≡ true → bytes_eq r.group application ≡ true → is_there r (group_parts v application ++ scene_parts v scene) ≡ true → is_there r (group_parts v application) ≡ true
+among_own v application None r good own h = subst (λ (ps : List Fixed). is_there r ps ≡ true) (append-nil (group_parts v application)) h
+among_own v application (Some g) r good own h = by (part_at r (group_parts v application)) (part_at r (group_parts v g)) refl refl (sym (ap (λ (m : Option Fixed). option_map_or (λ (p : Fixed). true) m false) (find-append (λ (p : Fixed). same_ref r p.key) (group_parts v application) (group_parts v g))) ∙ h)
+  where
+    same : r.group ≡ application
+    same = (bytes_eq-Decides r.group application).0 own
+
+    by : (m o : Option Fixed) → part_at r (group_parts v application) ≡ m → part_at r (group_parts v g) ≡ o → option_map_or (λ (p : Fixed). true) (option_or m o) false ≡ true → option_map_or (λ (p : Fixed). true) m false ≡ true
+    by (Some p) o e f h = refl
+    by None None e f h = absurd cc
+    by None (Some p) e f h =
+        let hit = found (λ (x : Fixed). same_ref r x.key) (is_in g) (group_parts v g) p (group_parts_in v g good) f in
+        let key : r ≡ p.key = same_ref-same r p.key hit.0 in
+        let named : p.key.group ≡ g = (bytes_eq-Decides p.key.group g).0 hit.1 in
+        let one : application ≡ g = sym same ∙ ap (λ (q : ObjRef). q.group) key ∙ named in
+        let never : None ≡ Some p = sym e ∙ ap (λ (x : List ℕ). part_at r (group_parts v x)) one ∙ f in
+        absurd cc
+
+origin_stays : (v : Service) (application : List ℕ) (scene : Option (List ℕ)) (g : List ℕ) → is_service v ≡ true → (w : Waiting) → stays application w ≡ true → has_origin (group_parts v application ++ scene_parts v scene) w ≡ true → has_origin (group_parts v application ++ group_parts v g) w ≡ true
+origin_stays v application scene g good (waiting.Input i) own h = refl
+origin_stays v application scene g good (waiting.Event e) own h =
+    is_there_left e.source (group_parts v application) (group_parts v g) (among_own v application scene e.source good own h)
 
 safe_exchange : (s : State) (k : IsSafe s) (g : List ℕ) (rest : List Item) (n : ℕ) → IsSafeItem s.service k.accepted.reached (config_of s) (item.Exchange g) → IsSafeWork s.service k.accepted.reached (behind (config_of s) (item.Exchange g)) rest → IsSafe (rule (item.Exchange g) (record s { work = rest; taken = n }))
 safe_exchange s k g rest n leads_there behind_it = record {
@@ -181,35 +350,35 @@ safe_exchange s k g rest n leads_there behind_it = record {
   own = k.own;
   others = parts-fresh (group_parts s.service g);
   work = (inr refl, behind_it);
+  queue = all_kept (stays s.application) (has_origin (present s.service (config_of s))) (has_origin (present s.service (record (config_of s) { scene = Some g }))) (origin_stays s.service s.application s.scene g k.accepted.service) s.queue k.queue;
   faultless = k.faultless;
 }
 
 -- doing an item, where the work behind it is safe
 safe_rule : (s : State) (k : IsSafe s) (i : Item) (rest : List Item) (n : ℕ) → IsSafeItem s.service k.accepted.reached (config_of s) i → IsSafeWork s.service k.accepted.reached (behind (config_of s) i) rest → IsSafe (rule i (record s { work = rest; taken = n }))
 safe_rule s k (item.Act a) rest n here_it behind_it = safe_action s k a rest n here_it behind_it
+safe_rule s k (item.Prepare r) rest n here_it behind_it = safe_prepare_item s k r rest n behind_it
 safe_rule s k (item.Run r) rest n here_it behind_it = safe_run_item s k r rest n behind_it
 safe_rule s k (item.Halt r) rest n here_it behind_it = safe_halt_item s k r rest n behind_it
-safe_rule s k (item.Emit e) rest n here_it behind_it =
-    kept s k s.objects s.stack s.queue _ s.transition n refl refl (safe_heard s.service k.accepted.reached (config_of s) e (present s.service (config_of s)) (all s.objects) rest here_it (fine_objects s k) behind_it)
+safe_rule s k (item.Drop r) rest n here_it behind_it = safe_drop_item s k r rest n behind_it
+safe_rule s k (item.Emit e) rest n here_it behind_it = safe_emitted s k e rest n here_it behind_it
 safe_rule s k (item.Enter g) rest n here_it behind_it =
-    kept s k s.objects s.stack s.queue _ s.transition n refl refl (safe_entering s.service k.accepted.reached (config_of s) g rest (fine_group s k g here_it) (group_there s k g here_it) behind_it)
+    kept s k s.objects s.stack s.queue _ s.transition n refl refl (safe_entering s.service k.accepted.reached (config_of s) g rest (fine_group s k g here_it) (group_there s k g here_it) behind_it) k.queue
 safe_rule s k (item.Exchange g) rest n here_it behind_it = safe_exchange s k g rest n here_it behind_it
 
 -- Steps
 
 -- an item that is safe in the configuration of a safe state is not stuck
 safe_item_free : (s : State) (k : IsSafe s) (i : Item) → IsSafeItem s.service k.accepted.reached (config_of s) i → stuck i s ≡ None
-safe_item_free s k (item.Act a) h = by a.target h
-  where
-    none : (f : Option Fault) → is_none f ≡ true → f ≡ None
-    none None e = refl
-    none (Some f) e = absurd cc
-
-    by : (t : Target) → is_fine s.service k.accepted.reached (config_of s) (record a { target = t }) ≡ true → stuck (item.Act (record a { target = t })) s ≡ None
-    by (target.Direct r) h =
-        ap (λ (ps : List Fixed). stuck_at a.name r (class_for s.service ps a.name r)) (parts_present s k)
-        ∙ none (stuck_at a.name r (class_for s.service (present s.service (config_of s)) a.name r)) (and_left (is_none (stuck_at a.name r (class_for s.service (present s.service (config_of s)) a.name r))) (option_map_or (is_among k.accepted.reached) (leads_to s.service (config_of s) a.name (target.Direct r)) true) h)
-    by (target.Through v) h = absurd cc
+safe_item_free s k (item.Act a) h =
+    let before : List Fixed = present s.service (config_of s) in
+    let good = and_left (is_good s.service before a) (leads_into s.service k.accepted.reached (config_of s) a) h in
+    let now : List Object = all s.objects in
+    ap (λ (ps : List Fixed). fault_known (knowing s.service ps (λ v. as_reference (held_by (object_at v now))) (λ v. as_integer (held_by (object_at v now)))) a) (parts_present s k)
+    ∙ direct_free s.service before (λ v. as_reference (held_by (object_at v now))) (λ v. as_integer (held_by (object_at v now))) a
+    (and_right (is_none (fault_of s.service before a)) (is_direct a) good) (and_left (is_none (fault_of s.service before a)) (is_direct a) good)
+safe_item_free s k (item.Prepare r) h = refl
+safe_item_free s k (item.Drop r) h = refl
 safe_item_free s k (item.Run r) h = refl
 safe_item_free s k (item.Halt r) h = refl
 safe_item_free s k (item.Emit e) h = refl
@@ -229,9 +398,21 @@ safe_front s k = by (slice_get s.work 0) refl
     by None e = refl
     by (Some i) e = safe_item_free s k i (first_safe s.service k.accepted.reached (config_of s) s.work i e k.work).0
 
--- what an input puts
-safe_took : (s : State) → IsSafe s → (i : Input) → IsSafe (took i s)
-safe_took s k (input.Key key) = kept s k s.objects s.stack _ _ s.transition _ refl refl (by s.scene refl)
+-- the first that waits comes from something present, and so does the rest
+first_waits : (ps : List Fixed) (ws : List Waiting) (w : Waiting) → slice_get ws 0 ≡ Some w → list_all (has_origin ps) ws ≡ true → (has_origin ps w ≡ true) × (list_all (has_origin ps) (drop 1 ws) ≡ true)
+first_waits ps [] w e h = absurd cc
+first_waits ps (x ∷ ws) w e h =
+    (subst (λ (y : Waiting). has_origin ps y ≡ true) (ap (λ (m : Option Waiting). option_map_or (λ (y : Waiting). y) m x) e) (and_left (has_origin ps x) (list_all (has_origin ps) ws) h), and_right (has_origin ps x) (list_all (has_origin ps) ws) h)
+
+-- what is put when the first that waits is taken
+safe_took : (s : State) (k : IsSafe s) (w : Waiting) → has_origin (present s.service (config_of s)) w ≡ true → list_all (has_origin (present s.service (config_of s))) (drop 1 s.queue) ≡ true → IsSafe (took w s)
+safe_took s k (waiting.Event e) here_it left = kept s k s.objects s.stack _ _ s.transition _ refl refl put left
+  where
+    put : IsSafeWork s.service k.accepted.reached (config_of s) (heard e (all s.objects))
+    put =
+        subst (IsSafeWork s.service k.accepted.reached (config_of s)) (append-nil (heard e (all s.objects)))
+        (safe_heard s.service k.accepted.reached (config_of s) e (present s.service (config_of s)) (all s.objects) [] here_it (fine_objects s k) tt)
+safe_took s k (waiting.Input (input.Key key)) here_it left = kept s k s.objects s.stack _ _ s.transition _ refl refl (by s.scene refl) left
   where
     passed : (b : Bool) (g : List ℕ) → s.scene ≡ Some g → IsSafeWork s.service k.accepted.reached (config_of s) (if b then heard (key_event key (group_ref g)) (all s.objects) else [])
     passed true g e =
@@ -239,7 +420,7 @@ safe_took s k (input.Key key) = kept s k s.objects s.stack _ _ s.transition _ re
         (safe_heard s.service k.accepted.reached (config_of s) (key_event key (group_ref g)) (present s.service (config_of s)) (all s.objects) [] (group_there s k g (inr e)) (fine_objects s k) tt)
     passed false g e = tt
 
-    by : (m : Option (List ℕ)) → s.scene ≡ m → IsSafeWork s.service k.accepted.reached (config_of s) (key_items key s.service m (all s.objects))
+    by : (m : Option (List ℕ)) → s.scene ≡ m → IsSafeWork s.service k.accepted.reached (config_of s) (key_items key (with_parts s.service m) (all s.objects))
     by None e = tt
     by (Some g) e = passed (passes (register_of (part_at (group_ref g) (group_parts s.service g))) key) g e
 
@@ -249,17 +430,23 @@ safe_done s k i e =
     safe_rule s k i (drop 1 s.work) (s.taken + 1) parts.0 parts.1
 
 pub safe_step : (s : State) → IsSafe s → IsSafe (step s)
-safe_step s k = by (slice_get s.work 0) (slice_get s.queue 0) refl
+safe_step s k = by (slice_get s.work 0) (slice_get s.queue 0) refl refl
   where
-    by : (m : Option Item) (next : Option Input) → slice_get s.work 0 ≡ m → IsSafe (step_by m next s)
-    by None None e = k
-    by None (Some i) e = safe_took s k i
-    by (Some i) next e =
+    by : (m : Option Item) (next : Option Waiting) → slice_get s.work 0 ≡ m → slice_get s.queue 0 ≡ next → IsSafe (step_by m next s)
+    by None None e f = k
+    by None (Some w) e f =
+        let first = first_waits (present s.service (config_of s)) s.queue w f k.queue in
+        safe_took s k w first.0 first.1
+    by (Some i) next e f =
         let free : stuck i s ≡ None = safe_item_free s k i (first_safe s.service k.accepted.reached (config_of s) s.work i e k.work).0 in
-        subst (λ (f : Option Fault). IsSafe (did f i s)) (sym free) (safe_done s k i e)
+        subst (λ (x : Option Fault). IsSafe (did x i s)) (sym free) (safe_done s k i e)
 
 pub safe_posted : (s : State) → IsSafe s → (i : Input) → IsSafe (posted i s)
-safe_posted s k i = kept s k s.objects s.stack _ s.work s.transition s.taken refl refl k.work
+safe_posted s k i = kept s k s.objects s.stack _ s.work s.transition s.taken refl refl k.work (by (is_full s))
+  where
+    by : (b : Bool) → list_all (has_origin (present s.service (config_of s))) (if b then s.queue else s.queue ++ waiting.Input i ∷ []) ≡ true
+    by true = k.queue
+    by false = all_joined (has_origin (present s.service (config_of s))) s.queue (waiting.Input i ∷ []) k.queue refl
 
 pub safe_stepped : (s : State) → IsSafe s → IsSafe (stepped s)
 safe_stepped s k =

@@ -18,20 +18,20 @@ use Rattle.mh_group.specs.Table.{is_link, is_scene, admits, is_runnable}
 use Rattle.mh_model.specs.declared.act.Act.{Act}
 use Rattle.mh_model.specs.declared.config.Config.{Config}
 use Rattle.mh_model.specs.declared.event.Event.{Event}
-use Rattle.mh_model.specs.declared.fault.Fault.{Fault}
 use Rattle.mh_model.specs.declared.item.Item.{Item}
 use Rattle.mh_model.specs.declared.item.Item.TheVariants as item
 use Rattle.mh_model.specs.declared.object.Fixed.{Fixed}
 use Rattle.mh_model.specs.declared.object.Object.{Object}
 use Rattle.mh_model.specs.declared.act.Target.TheVariants as target
 use Rattle.mh_model.specs.Property.{held, as_effect, as_value, as_event}
-use Rattle.mh_model.specs.Service.{Service, same_ref, part_at, parts, group_ref, group_parts}
+use Rattle.mh_model.specs.Service.{Service, same_ref, part_at, parts, group_ref, group_parts, with_parts}
 use Rattle.mh_model.specs.Items.{hears_source, hears_type, hears_data, matches, acts, heard, plain_event, is_initially_active, runs, halts, effect_of, group_effect, entering, is_shared, closing, leaving}
-use Rattle.mh_model.specs.Stuck.{is_transition, class_for, stuck_at}
+use Rattle.mh_model.specs.Faults.{is_transition, object_faults, admitted_faults}
+use Rattle.mh_model.specs.Known.{known_before, class_at}
 use Rattle.mh_model.specs.Configuration.{is_group_of, present, is_among}
 use Rattle.mh_model.specs.Active.{has_source, is_active, actions, leads_to}
-use Rattle.mh_model.specs.Acceptable.{is_none}
 use Rattle.mh_model.specs.Safe.{is_there, is_fine, IsSafeItem, IsSafeWork}
+use Rattle.mh_model.proofs.FaultLemmas.{fit_object}
 use Rattle.mh_model.proofs.ServiceLemmas.{and_left, and_right, all_left, all_right, same_ref-same, is_whole, found_group, found_ingredient}
 
 -- actions put in front of safe work
@@ -154,14 +154,14 @@ pub record IsFineGroup (v : Service) (cs : List Config) (c : Config) (g : List �
   pub whole : list_all is_whole (group_parts v g) ≡ true
   pub fine : AreFine (is_fine v cs c) all (group_parts v g)
 
-safe_start_up : (v : Service) (cs : List Config) (c : Config) (g : List ℕ) (rest : List Item) → IsFineGroup v cs c g → IsSafeWork v cs c rest → IsSafeWork v cs c (group_effect v g attribute.OnStartUp ++ rest)
+safe_start_up : (v : Service) (cs : List Config) (c : Config) (g : List ℕ) (rest : List Item) → IsFineGroup v cs c g → IsSafeWork v cs c rest → IsSafeWork v cs c (group_effect g (group_parts v g) attribute.OnStartUp ++ rest)
 safe_start_up v cs c g rest is k = by (part_at (group_ref g) (group_parts v g)) refl
   where
     by : (m : Option Fixed) → part_at (group_ref g) (group_parts v g) ≡ m → IsSafeWork v cs c (effect_of m attribute.OnStartUp ++ rest)
     by None e = k
     by (Some p) e = safe_acts v cs c (as_effect (held attribute.OnStartUp p.properties)) rest (start_up_fine (is_fine v cs c) p (group_fine (is_fine v cs c) is.all g (group_parts v g) p is.whole is.fine e)) k
 
-safe_close_down : (v : Service) (cs : List Config) (c : Config) (g : List ℕ) (rest : List Item) → IsFineGroup v cs c g → IsSafeWork v cs c rest → IsSafeWork v cs c (group_effect v g attribute.OnCloseDown ++ rest)
+safe_close_down : (v : Service) (cs : List Config) (c : Config) (g : List ℕ) (rest : List Item) → IsFineGroup v cs c g → IsSafeWork v cs c rest → IsSafeWork v cs c (group_effect g (group_parts v g) attribute.OnCloseDown ++ rest)
 safe_close_down v cs c g rest is k = by (part_at (group_ref g) (group_parts v g)) refl
   where
     by : (m : Option Fixed) → part_at (group_ref g) (group_parts v g) ≡ m → IsSafeWork v cs c (effect_of m attribute.OnCloseDown ++ rest)
@@ -169,9 +169,9 @@ safe_close_down v cs c g rest is k = by (part_at (group_ref g) (group_parts v g)
     by (Some p) e = safe_acts v cs c (as_effect (held attribute.OnCloseDown p.properties)) rest (close_down_fine (is_fine v cs c) p (group_fine (is_fine v cs c) is.all g (group_parts v g) p is.whole is.fine e)) k
 
 -- what entering a group puts
-pub safe_entering : (v : Service) (cs : List Config) (c : Config) (g : List ℕ) (rest : List Item) → IsFineGroup v cs c g → is_there (group_ref g) (present v c) ≡ true → IsSafeWork v cs c rest → IsSafeWork v cs c (entering v g ++ rest)
+pub safe_entering : (v : Service) (cs : List Config) (c : Config) (g : List ℕ) (rest : List Item) → IsFineGroup v cs c g → is_there (group_ref g) (present v c) ≡ true → IsSafeWork v cs c rest → IsSafeWork v cs c (entering g (group_parts v g) ++ rest)
 safe_entering v cs c g rest is there k =
-    let start = group_effect v g attribute.OnStartUp in
+    let start = group_effect g (group_parts v g) attribute.OnStartUp in
     let active : List Fixed = filter is_initially_active (group_parts v g) in
     let last : List Item = plain_event (group_ref g) event.IsRunning ∷ [] in
     let tail : IsSafeWork v cs c (runs active ++ (last ++ rest)) = safe_runs v cs c active (last ++ rest) (there, k) in
@@ -185,56 +185,58 @@ abbrev pub IsFineScene : Service → List Config → Config → Option (List ℕ
 IsFineScene v cs c None = Unit {0}
 IsFineScene v cs c (Some g) = IsFineGroup v cs c g
 
-safe_closing : (v : Service) (cs : List Config) (c : Config) (scene : Option (List ℕ)) (rest : List Item) → IsFineScene v cs c scene → IsSafeWork v cs c rest → IsSafeWork v cs c (closing v scene ++ rest)
+safe_closing : (v : Service) (cs : List Config) (c : Config) (scene : Option (List ℕ)) (rest : List Item) → IsFineScene v cs c scene → IsSafeWork v cs c rest → IsSafeWork v cs c (closing (with_parts v scene) ++ rest)
 safe_closing v cs c None rest is k = k
 safe_closing v cs c (Some g) rest is k =
-    let start = group_effect v g attribute.OnCloseDown in
+    let start = group_effect g (group_parts v g) attribute.OnCloseDown in
     let stopped : List Fixed = filter (λ p. is_runnable p.class) (reverse (group_parts v g)) in
     subst (IsSafeWork v cs c) (sym (append_assoc start (halts stopped) rest)) (safe_close_down v cs c g (halts stopped ++ rest) is (safe_halts v cs c stopped rest k))
 
-pub safe_leaving : (v : Service) (cs : List Config) (c : Config) (app : List ℕ) (scene : Option (List ℕ)) (target : List ℕ) → IsFineScene v cs c scene → IsSafeItem v cs c (item.Exchange target) → IsSafeWork v cs c (leaving v app scene target)
+pub safe_leaving : (v : Service) (cs : List Config) (c : Config) (app : List ℕ) (scene : Option (List ℕ)) (target : List ℕ) → IsFineScene v cs c scene → IsSafeItem v cs c (item.Exchange target) → IsSafeWork v cs c (leaving (group_parts v app) (with_parts v scene) target)
 safe_leaving v cs c app scene target is k =
     let stopped : List Fixed = filter (λ p. is_runnable p.class && not (is_shared p)) (reverse (group_parts v app)) in
     let last : List Item = item.Exchange target ∷ [] in
-    subst (IsSafeWork v cs c) (sym (append_assoc (closing v scene) (halts stopped) last)) (safe_closing v cs c scene (halts stopped ++ last) is (safe_halts v cs c stopped last (k, tt)))
+    subst (IsSafeWork v cs c) (sym (append_assoc (closing (with_parts v scene)) (halts stopped) last)) (safe_closing v cs c scene (halts stopped ++ last) is (safe_halts v cs c stopped last (k, tt)))
 
 -- Transitions
 
--- a transition that is not stuck leads to a scene of the service
-transition_target : (v : Service) (c : Config) (n : ActionName) (r : ObjRef) → list_all is_whole (present v c) ≡ true → is_transition n ≡ true → is_none (stuck_at n r (class_for v (present v c) n r)) ≡ true → ((r.number == 0) ≡ true) × (is_group_of is_scene v r.group ≡ true)
-transition_target v c n r whole is h = by_number (r.number == 0) refl
+-- what is found where nothing is wrong with the target of a transition is a scene
+scene_found : (n : ActionName) (r : ObjRef) (ps : List Fixed) → is_transition n ≡ true → object_faults (λ k. admits k n) n r (class_at r ps) ≡ [] → (p : Fixed) × (part_at r ps ≡ Some p) × (is_scene p.class ≡ true)
+scene_found n r ps is e = by (part_at r ps) refl e
   where
     admitted : (n : ActionName) → is_transition n ≡ true → (k : Class) → admits k n ≡ true → is_scene k ≡ true
     admitted action.TransitionTo e k f = f
     admitted _ e k f = absurd cc
 
-    if_admitted : (b : Bool) (f : Fault) → is_none (if b then None else Some f) ≡ true → b ≡ true
-    if_admitted true f e = refl
-    if_admitted false f e = absurd cc
+    by : (m : Option Fixed) → part_at r ps ≡ m → object_faults (λ k. admits k n) n r (option_map (λ (p : Fixed). p.class) m) ≡ [] → (p : Fixed) × (part_at r ps ≡ Some p) × (is_scene p.class ≡ true)
+    by None same e = absurd cc
+    by (Some p) same e =
+        let fit = fit_object (λ k. admits k n) n r (Some p.class) e in
+        let class_is : p.class ≡ fit.0 = ap (λ (m : Option Class). option_map_or (λ (k : Class). k) m p.class) fit.1 in
+        (p, same, admitted n is p.class (subst (λ (k : Class). admits k n ≡ true) (sym class_is) fit.2))
 
-    scene_in : (m : Option Fixed) → is_none (stuck_at n r (option_map (λ (p : Fixed). p.class) m)) ≡ true → (p : Fixed) × (m ≡ Some p) × (is_scene p.class ≡ true)
-    scene_in None e = absurd cc
-    scene_in (Some p) e = (p, refl, admitted n is p.class (if_admitted (admits p.class n) _ e))
-
-    looked : (b : Bool) → (r.number == 0) ≡ b → is_none (stuck_at n r (option_map (λ (p : Fixed). p.class) (part_at r (if true && b then group_parts v r.group else present v c)))) ≡ true
-    looked b e = subst (λ (t : Bool). is_none (stuck_at n r (option_map (λ (p : Fixed). p.class) (part_at r (if true && t then group_parts v r.group else present v c)))) ≡ true) e (subst (λ (t : Bool). is_none (stuck_at n r (option_map (λ (p : Fixed). p.class) (part_at r (if t && r.number == 0 then group_parts v r.group else present v c)))) ≡ true) is h)
+-- a transition with whose target nothing is wrong leads to a scene of the service
+transition_target : (v : Service) (c : Config) (n : ActionName) (r : ObjRef) → list_all is_whole (present v c) ≡ true → is_transition n ≡ true → admitted_faults (known_before v (present v c)) n r ≡ [] → ((r.number == 0) ≡ true) × (is_group_of is_scene v r.group ≡ true)
+transition_target v c n r whole is h = by_number (r.number == 0) refl
+  where
+    looked : (b : Bool) → (r.number == 0) ≡ b → object_faults (λ k. admits k n) n r (if true && b then class_at r (group_parts v r.group) else class_at r (present v c)) ≡ []
+    looked b e = subst (λ (t : Bool). object_faults (λ k. admits k n) n r (if true && t then class_at r (group_parts v r.group) else class_at r (present v c)) ≡ []) e (subst (λ (t : Bool). object_faults (λ k. admits k n) n r (if t && r.number == 0 then class_at r (group_parts v r.group) else class_at r (present v c)) ≡ []) is h)
 
     by_number : (b : Bool) → (r.number == 0) ≡ b → ((r.number == 0) ≡ true) × (is_group_of is_scene v r.group ≡ true)
     by_number true e =
-        let hit = scene_in (part_at r (group_parts v r.group)) (looked true e) in
+        let hit = scene_found n r (group_parts v r.group) is (looked true e) in
         let zeroth : r.number ≡ 0 = (Decides-eqb r.number 0).0 e in
         let itself : r ≡ group_ref r.group = λ i. record { group = r.group; number = zeroth i } in
         let at : part_at (group_ref r.group) (group_parts v r.group) ≡ Some hit.0 = ap (λ (q : ObjRef). part_at q (group_parts v r.group)) (sym itself) ∙ hit.1 in
         (e, ap (λ (m : Option Fixed). option_map_or (λ (p : Fixed). is_scene p.class) m false) at ∙ hit.2)
     by_number false e =
-        let hit = scene_in (part_at r (present v c)) (looked false e) in
+        let hit = scene_found n r (present v c) is (looked false e) in
         let no_scene : is_scene (hit.0).class ≡ false = found_ingredient r (present v c) hit.0 e whole hit.1 in
         let wrong : true ≡ false = sym hit.2 ∙ no_scene in
         absurd cc
 
-pub safe_transition : (v : Service) (cs : List Config) (c : Config) (n : ActionName) (r : ObjRef) → list_all is_whole (present v c) ≡ true → is_transition n ≡ true → (is_none (stuck_at n r (class_for v (present v c) n r)) && option_map_or (is_among cs) (leads_to v c n (target.Direct r)) true) ≡ true → IsSafeItem v cs c (item.Exchange r.group)
-safe_transition v cs c n r whole is h =
-    let free = and_left (is_none (stuck_at n r (class_for v (present v c) n r))) (option_map_or (is_among cs) (leads_to v c n (target.Direct r)) true) h in
+pub safe_transition : (v : Service) (cs : List Config) (c : Config) (n : ActionName) (r : ObjRef) → list_all is_whole (present v c) ≡ true → is_transition n ≡ true → admitted_faults (known_before v (present v c)) n r ≡ [] → option_map_or (is_among cs) (leads_to v c n (target.Direct r)) true ≡ true → IsSafeItem v cs c (item.Exchange r.group)
+safe_transition v cs c n r whole is free leads_into_them =
     let to = transition_target v c n r whole is free in
     let led : leads_to v c n (target.Direct r) ≡ Some (record c { scene = Some r.group }) = rw (is, to.0, to.1) refl in
-    (to.1, ap (λ (m : Option Config). option_map_or (is_among cs) m true) (sym led) ∙ and_right (is_none (stuck_at n r (class_for v (present v c) n r))) (option_map_or (is_among cs) (leads_to v c n (target.Direct r)) true) h)
+    (to.1, ap (λ (m : Option Config). option_map_or (is_among cs) m true) (sym led) ∙ leads_into_them)

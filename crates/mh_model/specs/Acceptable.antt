@@ -1,13 +1,12 @@
 -- Which services are acceptable: in no configuration that may be reached can an active action be stuck.
-use Rattle.std.specs.Prelude.{◌≡◌, Bool, true, false, List, Option, Some, None}
+use Rattle.std.specs.Prelude.{◌≡◌, Bool, true, List, Some}
 use Rattle.std.specs.List.{list_all, Contains}
 use Rattle.std.specs.Option.{option_map_or}
 use Rattle.mh_model.specs.declared.act.Act.{Act}
 use Rattle.mh_model.specs.declared.config.Config.{Config}
-use Rattle.mh_model.specs.declared.fault.Fault.{Fault}
 use Rattle.mh_model.specs.Service.{Service}
 use Rattle.mh_model.specs.Configuration.{is_service, starting, present, is_among}
-use Rattle.mh_model.specs.Active.{active_actions, fault_of, leads}
+use Rattle.mh_model.specs.Active.{active_actions, is_good, leads}
 
 -- where an action leads, if it leads anywhere, is among these
 abbrev pub leads_into : Service → List Config → Config → Act → Bool
@@ -18,13 +17,9 @@ pub record IsClosed (s : Service) (cs : List Config) : Type 0 where
   pub start : is_among cs (starting s) ≡ true
   pub each : (c : Config) → is_among cs c ≡ true → list_all (leads_into s cs c) (active_actions (present s c)) ≡ true
 
-abbrev pub is_none : Option Fault → Bool
-is_none None = true
-is_none (Some f) = false
-
 -- no active action can be stuck in the configuration
 abbrev pub is_free : Service → Config → Bool
-is_free s c = list_all (λ a. is_none (fault_of s (present s c) a)) (active_actions (present s c))
+is_free s c = list_all (is_good s (present s c)) (active_actions (present s c))
 
 -- there is a closed set of configurations, and in each of them no active action can be stuck
 pub record IsAcceptable (s : Service) : Type 0 where

@@ -1,23 +1,27 @@
 -- What can come to be done in a configuration: the actions of its active effects, what is wrong with one of
 -- them, and where it leads.
-use Rattle.std.specs.Prelude.{Bool, true, false, ◌&&◌, ◌==◌, if◌then◌else◌, List, ◌++◌, filter, Option, Some, None}
+use Rattle.std.specs.Prelude.{Bool, true, false, ◌&&◌, ◌==◌, if◌then◌else◌, List, [], ◌∷◌, ◌++◌, filter, Option, Some, None}
 use Rattle.std.specs.List.{flat_map}
 use Rattle.std.specs.Option.{option_map_or}
 use Rattle.mh_base.specs.declared.value.Value.{Value}
 use Rattle.mh_base.specs.declared.value.Value.TheVariants as value
 use Rattle.mh_group.specs.declared.attribute.Attribute.TheVariants as attribute
 use Rattle.mh_group.specs.declared.action_name.ActionName.{ActionName}
-use Rattle.mh_group.specs.Table.{is_link, is_scene}
+use Rattle.mh_group.specs.declared.shape.Need.{Need}
+use Rattle.mh_group.specs.declared.shape.Need.TheVariants as need
+use Rattle.mh_group.specs.Table.{is_link, is_scene, needs_of}
 use Rattle.mh_model.specs.declared.act.Act.{Act}
+use Rattle.mh_model.specs.declared.act.Argument.{Argument}
+use Rattle.mh_model.specs.declared.act.Argument.TheVariants as argument
 use Rattle.mh_model.specs.declared.config.Config.{Config}
 use Rattle.mh_model.specs.declared.act.Target.{Target}
 use Rattle.mh_model.specs.declared.act.Target.TheVariants as target
 use Rattle.mh_model.specs.declared.fault.Fault.{Fault}
-use Rattle.mh_model.specs.declared.fault.FaultKind.TheVariants as fault
 use Rattle.mh_model.specs.declared.object.Fixed.{Fixed}
 use Rattle.mh_model.specs.Property.{held, as_effect, as_value}
 use Rattle.mh_model.specs.Service.{Service, part_at}
-use Rattle.mh_model.specs.Stuck.{is_transition, class_for, stuck_at}
+use Rattle.mh_model.specs.Faults.{is_transition, fault_known}
+use Rattle.mh_model.specs.Known.{known_before}
 use Rattle.mh_model.specs.Configuration.{is_group_of}
 
 -- the actions of an object, through its effects: start-up, close-down, and what a link does
@@ -39,13 +43,36 @@ is_active ps p = if is_link p.class then has_source ps (as_value (held attribute
 abbrev pub active_actions : List Fixed → List Act
 active_actions ps = flat_map actions (filter (is_active ps) ps)
 
--- what is wrong with an action where these are present; of a target through a variable nothing is known yet
-abbrev pub fault_of_target : Service → List Fixed → ActionName → Target → Option Fault
-fault_of_target s ps n (target.Direct r) = stuck_at n r (class_for s ps n r)
-fault_of_target s ps n (target.Through v) = Some (record { what = fault.WrongKind; action = n; at = v })
-
+-- what is wrong with an action where these are present, as far as the files tell
 abbrev pub fault_of : Service → List Fixed → Act → Option Fault
-fault_of s ps a = fault_of_target s ps a.name a.target
+fault_of s ps a = fault_known (known_before s ps) a
+
+-- An object that is named through a variable is not known beforehand.
+
+abbrev pub is_direct_target : Target → Bool
+is_direct_target (target.Direct r) = true
+is_direct_target (target.Through v) = false
+
+abbrev pub is_direct_argument : Need → Argument → Bool
+is_direct_argument need.Ref (argument.Through v t) = false
+is_direct_argument _ x = true
+
+abbrev pub are_direct : List Need → List Argument → Bool
+are_direct [] xs = true
+are_direct (n ∷ ns) [] = true
+are_direct (n ∷ ns) (x ∷ xs) = is_direct_argument n x && are_direct ns xs
+
+-- the target and the objects among the parameters are named themselves
+abbrev pub is_direct : Act → Bool
+is_direct a = is_direct_target a.target && are_direct (needs_of a.name) a.arguments
+
+abbrev pub is_none : Option Fault → Bool
+is_none None = true
+is_none (Some f) = false
+
+-- nothing is wrong with the action, and it is known what it is done to
+abbrev pub is_good : Service → List Fixed → Act → Bool
+is_good s ps a = is_none (fault_of s ps a) && is_direct a
 
 -- the configuration to which an action leads: a transition leads to its scene, under the same application
 abbrev pub leads_to : Service → Config → ActionName → Target → Option Config

@@ -1,7 +1,5 @@
 -- What is put: by events, when a group is entered, and by a transition.
 use Rattle.std.specs.Prelude.{ℕ, Bool, true, false, ◌&&◌, ◌==◌, not, if◌then◌else◌, List, [], ◌∷◌, ◌++◌, map, filter, reverse, Option, Some, None}
-use Rattle.std.specs.Ordering.{int_eq}
-use Rattle.std.specs.Str.{bytes_eq}
 use Rattle.mh_base.specs.declared.obj_ref.ObjRef.{ObjRef}
 use Rattle.mh_base.specs.declared.value.Value.{Value}
 use Rattle.mh_base.specs.declared.value.Value.TheVariants as value
@@ -17,17 +15,9 @@ use Rattle.mh_model.specs.declared.item.Item.{Item}
 use Rattle.mh_model.specs.declared.item.Item.TheVariants as item
 use Rattle.mh_model.specs.declared.object.Fixed.{Fixed}
 use Rattle.mh_model.specs.declared.object.Object.{Object}
+use Rattle.mh_model.specs.Variables.{same_value}
 use Rattle.mh_model.specs.Property.{held, as_bool, as_value, as_event, as_effect}
-use Rattle.mh_model.specs.Service.{Service, same_ref, part_at, group_ref, group_parts}
-
--- values are the same where their kinds are, too
-abbrev pub same_value : Value → Value → Bool
-same_value (value.Bool a) (value.Bool b) = if a then b else not b
-same_value (value.Int a) (value.Int b) = int_eq a b
-same_value (value.Octets a) (value.Octets b) = bytes_eq a b
-same_value (value.Object a) (value.Object b) = same_ref a b
-same_value (value.Content a) (value.Content b) = bytes_eq a b
-same_value _ _ = false
+use Rattle.mh_model.specs.Service.{same_ref, part_at, group_ref}
 
 -- a link without data hears every event, one with data only those with the same
 abbrev pub hears_data : Option Value → Option Value → Bool
@@ -82,26 +72,30 @@ abbrev pub effect_of : Option Fixed → Attribute → List Item
 effect_of None a = []
 effect_of (Some p) a = acts (as_effect (held a p.properties))
 
-abbrev pub group_effect : Service → List ℕ → Attribute → List Item
-group_effect v g a = effect_of (part_at (group_ref g) (group_parts v g)) a
+-- an effect of the group with these parts
+abbrev pub group_effect : List ℕ → List Fixed → Attribute → List Item
+group_effect g ps a = effect_of (part_at (group_ref g) ps) a
 
--- entering a group: its start-up, then its active ingredients run in Items order, then it runs
-abbrev pub entering : Service → List ℕ → List Item
-entering v g =
-    group_effect v g attribute.OnStartUp ++ runs (filter is_initially_active (group_parts v g))
+-- entering a group with these parts: its start-up, then its active ingredients run in Items order, then it runs
+abbrev pub entering : List ℕ → List Fixed → List Item
+entering g ps =
+    group_effect g ps attribute.OnStartUp ++ runs (filter is_initially_active ps)
     ++ plain_event (group_ref g) event.IsRunning ∷ []
 
--- leaving the current scene, if there is one
-abbrev pub closing : Service → Option (List ℕ) → List Item
-closing v None = []
-closing v (Some scene) =
-    group_effect v scene attribute.OnCloseDown
-    ++ halts (filter (λ p. is_runnable p.class) (reverse (group_parts v scene)))
+-- all that can run of the scene halts, and of the application what is not shared, each in reverse order
 
--- A transition: the scene closes down, its objects halt in reverse order, then those of the
--- application that are not shared, and the scene is exchanged for the other.
-abbrev pub leaving : Service → List ℕ → Option (List ℕ) → List ℕ → List Item
-leaving v application scene target =
-    closing v scene
-    ++ halts (filter (λ p. is_runnable p.class && not (is_shared p)) (reverse (group_parts v application)))
-    ++ item.Exchange target ∷ []
+abbrev pub scene_halts : List Fixed → List Item
+scene_halts ps = halts (filter (λ p. is_runnable p.class) (reverse ps))
+
+abbrev pub application_halts : List Fixed → List Item
+application_halts ps = halts (filter (λ p. is_runnable p.class && not (is_shared p)) (reverse ps))
+
+-- leaving the current scene, given with its parts, if there is one
+abbrev pub closing : Option (List ℕ × List Fixed) → List Item
+closing None = []
+closing (Some (g, ps)) = group_effect g ps attribute.OnCloseDown ++ scene_halts ps
+
+-- A transition from a scene under an application with these parts: the scene closes down, the objects of both
+-- halt, and the scene is exchanged for the other.
+abbrev pub leaving : List Fixed → Option (List ℕ × List Fixed) → List ℕ → List Item
+leaving ps scene target = closing scene ++ application_halts ps ++ item.Exchange target ∷ []

@@ -4,10 +4,16 @@ pub mod Property
 pub mod Service
 pub mod State
 pub mod Items
+pub mod Variables
+pub mod Arguments
+pub mod Known
+pub mod Faults
 pub mod Stuck
 pub mod Sort
-pub mod Arguments
 pub mod Bodies
+pub mod Edits
+pub mod Lifecycle
+pub mod Saying
 pub mod Rules
 pub mod Step
 pub mod Planes
@@ -19,3 +25,4 @@ pub mod Acceptable
 pub mod Safe
 pub mod Headline
 pub mod Example
+pub mod Computing

@@ -1,13 +1,15 @@
 -- What an object holds under an attribute: what was changed, else what was written, else the default of the
 -- tables.
-use Rattle.std.specs.Prelude.{Bool, ◌==◌, List, [], Option, Some, None, ℤ, pos}
+use Rattle.std.specs.Prelude.{ℕ, Bool, ◌==◌, List, [], Option, Some, None, ℤ, pos}
 use Rattle.std.specs.List.{find}
 use Rattle.std.specs.Option.{option_map, option_or}
+use Rattle.mh_base.specs.declared.obj_ref.ObjRef.{ObjRef}
 use Rattle.mh_base.specs.declared.value.Value.{Value}
 use Rattle.mh_base.specs.declared.value.Value.TheVariants as value
 use Rattle.mh_base.specs.declared.colour.Colour.{Colour}
 use Rattle.mh_base.specs.declared.event.EventType.{EventType}
 use Rattle.mh_group.specs.declared.attribute.Attribute.{Attribute}
+use Rattle.mh_group.specs.declared.attribute.Attribute.TheVariants as attribute
 use Rattle.mh_group.specs.Table.{attribute_number}
 use Rattle.mh_model.specs.declared.act.Act.{Act}
 use Rattle.mh_model.specs.declared.held.Held.{Held}
@@ -36,6 +38,26 @@ read_of a p b = option_or (held a b.changes) (held a p.properties)
 abbrev pub read : Attribute → Object → Option Held
 read a o = read_of a o.fixed o.body
 
+abbrev pub as_value : Option Held → Option Value
+as_value (Some (of.Value v)) = Some v
+as_value _ = None
+
+-- the value that a variable holds: what it was given, else its original value
+abbrev pub value_held : Fixed → Body → Option Value
+value_held p b = option_or b.value (as_value (held attribute.OrigValue p.properties))
+
+abbrev pub as_number : Option Value → ℤ
+as_number (Some (value.Int n)) = n
+as_number _ = pos 0
+
+abbrev pub as_octets : Option Value → List ℕ
+as_octets (Some (value.Octets os)) = os
+as_octets _ = []
+
+abbrev pub as_reference : Option Value → Option ObjRef
+as_reference (Some (value.Object r)) = Some r
+as_reference _ = None
+
 abbrev pub as_bool : Bool → Option Held → Bool
 as_bool d (Some (of.Value (value.Bool b))) = b
 as_bool d _ = d
@@ -59,7 +81,3 @@ as_effect _ = []
 abbrev pub as_event : Option Held → Option EventType
 as_event (Some (of.Event e)) = Some e
 as_event _ = None
-
-abbrev pub as_value : Option Held → Option Value
-as_value (Some (of.Value v)) = Some v
-as_value _ = None

@@ -1,5 +1,5 @@
 -- Services: groups by their names, each a list of what its file says of its objects, the group itself first.
-use Rattle.std.specs.Prelude.{ℕ, Bool, false, ◌==◌, ◌&&◌, List, [], map, Option, unwrap_or}
+use Rattle.std.specs.Prelude.{ℕ, Bool, false, ◌==◌, ◌&&◌, List, [], map, Option, None, unwrap_or}
 use Rattle.std.specs.List.{find}
 use Rattle.std.specs.Option.{option_map}
 use Rattle.std.specs.Str.{bytes_eq}
@@ -31,9 +31,13 @@ parts os = map (λ o. o.fixed) os
 abbrev pub group_parts : Service → List ℕ → List Fixed
 group_parts s g = unwrap_or (option_map (λ e. e.1) (find (λ e. bytes_eq e.0 g) s.groups)) []
 
+-- a scene with its parts, if there is one
+abbrev pub with_parts : Service → Option (List ℕ) → Option (List ℕ × List Fixed)
+with_parts s scene = option_map (λ g. (g, group_parts s g)) scene
+
 -- an object when its group is entered: nothing is changed, and it is neither available nor running
 abbrev pub fresh : Fixed → Object
-fresh p = record { fixed = p; body = record { changes = []; available = false; running = false } }
+fresh p = record { fixed = p; body = record { value = None; changes = []; available = false; running = false } }
 
 abbrev pub group_objects : Service → List ℕ → List Object
 group_objects s g = map fresh (group_parts s g)

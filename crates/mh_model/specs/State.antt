@@ -4,7 +4,7 @@ use Rattle.mh_base.specs.declared.obj_ref.ObjRef.{ObjRef}
 use Rattle.mh_model.specs.declared.object.Object.{Object}
 use Rattle.mh_model.specs.declared.item.Item.{Item}
 use Rattle.mh_model.specs.declared.item.Item.TheVariants as item
-use Rattle.mh_model.specs.declared.input.Input.{Input}
+use Rattle.mh_model.specs.declared.input.Waiting.{Waiting}
 use Rattle.mh_model.specs.declared.fault.Fault.{Fault}
 use Rattle.mh_model.specs.Service.{Service, group_objects}
 
@@ -27,8 +27,8 @@ pub record State : Type 0 where
   pub objects : Objects
   -- the display stack, the bottom first
   pub stack : List ObjRef
-  -- the inputs that wait
-  pub queue : List Input
+  -- what waits to be taken: inputs, and events that are not dealt with at once
+  pub queue : List Waiting
   -- the work that is to be done before the next input is taken
   pub work : List Item
   -- a transition has begun, and its exchange is still to come

@@ -1,4 +1,5 @@
 //! The first example, played by the definitions alone.
+ghost use Rattle.mh_model.specs.Computing.{Computes};
 ghost use Rattle.mh_model.specs.Example.{PlaysFirst, PlaysOthers};
 
 /// The law that the definitions play the first example as its report says: 11 steps, then 2, with the
@@ -11,4 +12,10 @@ pub fn plays_first()
 /// reports say.
 pub fn plays_others()
     ensures { PlaysOthers }
+{}
+
+/// The law that the definitions compute as the rules say: tests whose links are heard at once, sums at
+/// the limits, numbers written in octets, and objects that are named through variables.
+pub fn computes()
+    ensures { Computes }
 {}

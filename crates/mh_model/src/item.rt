@@ -7,10 +7,14 @@ use mh_base::{GroupName, ObjRef};
 pub enum Item {
     /// An elementary action.
     Act(Act),
+    /// The object becomes available.
+    Prepare(ObjRef),
     /// The object becomes available, if it is not, and runs.
     Run(ObjRef),
     /// The object stops.
     Halt(ObjRef),
+    /// The object is no longer available.
+    Drop(ObjRef),
     /// The event is dealt with.
     Emit(Event),
     /// The group is entered: its objects are there already.

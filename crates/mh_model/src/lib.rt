@@ -5,32 +5,42 @@
 #![tactic(auto)]
 
 pub mod act;
+mod arguments;
 pub mod cell;
 pub mod config;
+pub mod edit;
 pub mod event;
 pub mod example;
 pub mod fault;
+mod fit;
 pub mod headline;
 pub mod held;
 pub mod input;
 pub mod item;
 pub mod key;
+pub mod kinds;
+pub mod known;
 pub mod object;
+pub mod operator;
 pub mod parts;
 pub mod picture;
+mod places;
 pub mod sort;
 pub mod visible;
+mod wrong;
 
 pub use act::{Act, Argument, Effect, Target};
 pub use cell::Cell;
 pub use config::Config;
+pub use edit::Edit;
 pub use event::Event;
 pub use fault::{Fault, FaultKind};
 pub use held::{Held, Properties, Property};
-pub use input::{Input, Move};
+pub use input::{Input, Move, Waiting};
 pub use item::Item;
 pub use key::Key;
 pub use object::{Body, Fixed, FixedPart, Object};
+pub use operator::Operator;
 pub use picture::Picture;
 pub use sort::Sort;
 pub use visible::Visible;

@@ -1,11 +1,12 @@
 //! Objects of the machine: what their files say of them, and what has changed.
 ghost use Rattle.std.specs.Prelude.{◌≡◌, ◌==◌, ◌&&◌, IfOk, [], Some, None};
 ghost use Rattle.std.specs.Option.{option_copied};
-ghost use Rattle.mh_model.specs.Property.{read as read_lem};
+ghost use Rattle.mh_model.specs.Property.{read as read_lem, value_held};
 ghost use Rattle.mh_model.specs.Service.{fresh as fresh_lem};
 
+use crate::held::as_value;
 use crate::{Held, Properties};
-use mh_base::ObjRef;
+use mh_base::{ObjRef, Value};
 use mh_group::{Attribute, Class};
 use std::alloc::{AllocError, Global};
 use std::marker::Model;
@@ -62,23 +63,12 @@ impl Clone for FixedPart {
 /// What changes of an object.
 #[derive(Drop)]
 pub struct Body {
+    /// What a variable was given, which stands above its original value.
+    pub value: Option<Value>,
     /// The attributes that were changed, which stand above the written ones.
     pub changes: Properties,
     pub available: bool,
     pub running: bool,
-}
-
-impl Body {
-    /// A copy. Octets are shared with it.
-    pub fn copy(&self, alloc: Global) -> Result<Body, AllocError>
-        ensures { IfOk result (λ copy. copy ≡ self.now) }
-    {
-        Ok(Body {
-            changes: self.changes.copy(alloc)?,
-            available: self.available,
-            running: self.running,
-        })
-    }
 }
 
 /// An object that is present.
@@ -96,11 +86,22 @@ impl Object {
         Ok(Object {
             fixed: part.clone()?,
             body: Body {
+                value: None,
                 changes: Properties::new(alloc),
                 available: false,
                 running: false,
             },
         })
+    }
+
+    /// The value that a variable holds: what it was given, else its original value.
+    pub fn value(&self) -> Option<&Value>
+        ensures { option_copied result ≡ value_held self.now.fixed self.now.body }
+    {
+        match &self.body.value {
+            Some(value) => Some(value),
+            None => as_value(self.fixed.get().properties.get(Attribute::OrigValue)),
+        }
     }
 
     /// What is read under the attribute: what was changed, else what was written.

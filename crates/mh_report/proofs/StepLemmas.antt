@@ -9,6 +9,7 @@ use Rattle.mh_machine.specs.declared.stepped.Stepped.TheVariants.{Idle}
 use Rattle.mh_machine.specs.Rest.{judged, answer_by, answer_of}
 use Rattle.mh_model.specs.State.{State}
 use Rattle.mh_model.specs.declared.input.Input.{Input}
+use Rattle.mh_model.specs.declared.input.Waiting.{Waiting}
 use Rattle.mh_model.specs.Step.{step, step_by, stepped, posted, is_full, is_empty, is_idle, most_steps}
 use Rattle.mh_report.specs.Report.{advanced}
 
@@ -36,7 +37,7 @@ judged_not_idle : (f : Option Fault) → judged f ≡ Idle → ⊥
 judged_not_idle None idle = cc
 judged_not_idle (Some f) idle = cc
 
-idle_by : (w : Option Item) (q : Option Input) (s : State) → answer_by w q s ≡ Idle → step_by w q s ≡ s
+idle_by : (w : Option Item) (q : Option Waiting) (s : State) → answer_by w q s ≡ Idle → step_by w q s ≡ s
 idle_by (Some i) q s idle = absurd (judged_not_idle (stuck i s) idle)
 idle_by None (Some i) s idle = cc
 idle_by None None s idle = refl

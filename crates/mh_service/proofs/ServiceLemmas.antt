@@ -16,9 +16,9 @@ use Rattle.mh_group.specs.declared.written.Written.{Written}
 use Rattle.mh_group.specs.Table.{is_group_class, is_application}
 use Rattle.mh_group.specs.Fit.{is_group, misfit_of, fields_misfit, ingredient_misfit, ingredients_misfit, items_of}
 use Rattle.mh_model.specs.declared.object.Fixed.{Fixed}
-use Rattle.mh_model.specs.Service.{Service, part_at, group_ref}
+use Rattle.mh_model.specs.Service.{Service, part_at, group_ref, is_in}
 use Rattle.mh_model.specs.Configuration.{is_service, is_group_list, is_ingredient_of, has_keys, is_keyed, are_apart}
-use Rattle.mh_model.proofs.ServiceLemmas.{and_left, and_right, found}
+use Rattle.mh_model.proofs.ServiceLemmas.{and_left, and_right, found, group_parts_in}
 use Rattle.mh_service.specs.Resolved.{parts_of, part_of, resolved, parts_under}
 use Rattle.mh_service.specs.Refusals.{File, double_name, missing_start, double_number, has_double, has_double_number, over_limit, has_application, start_unfit, for_reason, refusal_before}
 use Rattle.mh_service.specs.Limits.{whole_room}
@@ -142,6 +142,10 @@ apart_under s name ps h e = by (find (λ (x : List ℕ × List Fixed). bytes_eq 
         let same : x.1 ≡ ps = ap (λ (m : Option (List Fixed)). option_map_or (λ (t : List Fixed). t) m ps) e in
         let hit = found (λ (x : List ℕ × List Fixed). bytes_eq x.0 name) (λ (x : List ℕ × List Fixed). are_apart x.1) s.groups x h is in
         subst (λ (t : List Fixed). are_apart t ≡ true) same hit.1
+
+pub own_under : (s : Service) (name : List ℕ) (ps : List Fixed) → is_service s ≡ true → parts_under name s.groups ≡ Some ps → list_all (is_in name) ps ≡ true
+own_under s name ps h e =
+    subst (λ (m : Option (List Fixed)). list_all (is_in name) (unwrap_or m []) ≡ true) e (group_parts_in s name h)
 
 -- The start.
 

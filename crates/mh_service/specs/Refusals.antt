@@ -10,18 +10,12 @@ use Rattle.mh_group.specs.declared.class.Class.{Class}
 use Rattle.mh_group.specs.declared.class.Class.TheVariants as class
 use Rattle.mh_group.specs.declared.action_name.ActionName.{ActionName}
 use Rattle.mh_group.specs.declared.action_name.ActionName.TheVariants as action
-use Rattle.mh_group.specs.declared.reference.Generic.{Generic}
-use Rattle.mh_group.specs.declared.reference.Generic.TheVariants as generic
-use Rattle.mh_group.specs.declared.action.Action.{Action}
-use Rattle.mh_group.specs.declared.action.Parameter.{Parameter}
-use Rattle.mh_group.specs.declared.action.Parameter.TheVariants as parameter
-use Rattle.mh_group.specs.declared.action.Typed.TheVariants as typed
 use Rattle.mh_group.specs.declared.written.Setting.{Setting}
 use Rattle.mh_group.specs.declared.written.Setting.TheVariants as setting
 use Rattle.mh_group.specs.declared.written.Field.{Field}
 use Rattle.mh_group.specs.declared.written.Ingredient.{Ingredient}
 use Rattle.mh_group.specs.declared.written.Written.{Written}
-use Rattle.mh_group.specs.Table.{class_number, is_application}
+use Rattle.mh_group.specs.Table.{class_number, is_application, is_group_class, is_variable}
 use Rattle.mh_group.specs.Fit.{items_of}
 use Rattle.mh_service.specs.declared.room.Room.{Room}
 use Rattle.mh_service.specs.declared.service_error.Why.{Why}
@@ -82,38 +76,39 @@ over_limit r (f ∷ fs) = if has_room r f.1 then over_limit (room_behind r f.1) 
 abbrev pub bad_reference : List File → Option (List ℕ)
 bad_reference files = first_named (λ f. not (group_leads f.0 f.1)) files
 
--- 36: what is not played yet: classes, actions and kinds of parameters, indirect values, and more than
--- one application or scene
+-- 36: what is not played yet: classes, actions, and more than one application or scene. Of an action
+-- that is played, each target and each parameter is, written directly or through a variable.
 
 abbrev pub is_played_class : Class → Bool
-is_played_class class.Application = true
-is_played_class class.Scene = true
 is_played_class class.Link = true
-is_played_class class.IntegerVar = true
 is_played_class class.Rectangle = true
-is_played_class _ = false
+is_played_class c = is_group_class c || is_variable c
 
 abbrev pub is_played_name : ActionName → Bool
+is_played_name action.Run = true
+is_played_name action.Stop = true
+is_played_name action.Preload = true
+is_played_name action.Unload = true
+is_played_name action.GetAvailabilityStatus = true
+is_played_name action.GetRunningStatus = true
+is_played_name action.SendEvent = true
 is_played_name action.TransitionTo = true
+is_played_name action.Activate = true
+is_played_name action.Deactivate = true
 is_played_name action.SetVariable = true
+is_played_name action.TestVariable = true
 is_played_name action.Add = true
+is_played_name action.Subtract = true
+is_played_name action.Multiply = true
+is_played_name action.Divide = true
+is_played_name action.Modulo = true
+is_played_name action.Append = true
 is_played_name action.SetPosition = true
+is_played_name action.GetPosition = true
 is_played_name _ = false
 
-abbrev pub is_direct : {T : Type 0} → Generic T → Bool
-is_direct (generic.Direct x) = true
-is_direct (generic.Indirect r) = false
-
-abbrev pub is_played_parameter : Parameter → Bool
-is_played_parameter (parameter.Int n) = is_direct n
-is_played_parameter (parameter.Typed (typed.Int n)) = is_direct n
-is_played_parameter _ = false
-
-abbrev pub is_played_action : Action → Bool
-is_played_action a = is_played_name a.name && is_direct a.target && list_all is_played_parameter a.parameters
-
 abbrev pub is_played_setting : Setting → Bool
-is_played_setting (setting.Effect acts) = list_all is_played_action acts
+is_played_setting (setting.Effect acts) = list_all (λ a. is_played_name a.name) acts
 is_played_setting _ = true
 
 abbrev pub is_played_field : Field → Bool

@@ -6,17 +6,14 @@ ghost use Rattle.std.specs.Prelude.{◌≡◌, ◌&&◌, not, true, false, None,
 ghost use Rattle.std.specs.List.{list_all};
 ghost use Rattle.std.specs.Option.{option_copied};
 ghost use Rattle.mh_group.specs.Table.{is_application as is_application_lem};
-ghost use Rattle.mh_service.specs.Refusals.{Refuses, for_reason, double_name as double_name_lem, missing_start as missing_start_lem, double_number as double_number_lem, has_double, start_unfit as start_unfit_lem, has_group as has_group_lem, has_application as has_application_lem, over_limit as over_limit_lem, least_name, first_unplayed as first_unplayed_lem, is_unplayed as is_unplayed_lem, is_further as is_further_lem, is_before as is_before_lem, is_played_parameter as is_played_parameter_lem, is_played_action as is_played_action_lem, is_played_setting as is_played_setting_lem, is_played_field as is_played_field_lem, is_played_ingredient as is_played_ingredient_lem, is_played_class as is_played_class_lem, is_played_name as is_played_name_lem, is_played_group as is_played_group_lem, refusal_before};
+ghost use Rattle.mh_service.specs.Refusals.{Refuses, for_reason, double_name as double_name_lem, missing_start as missing_start_lem, double_number as double_number_lem, has_double, start_unfit as start_unfit_lem, has_group as has_group_lem, has_application as has_application_lem, over_limit as over_limit_lem, least_name, first_unplayed as first_unplayed_lem, is_unplayed as is_unplayed_lem, is_further as is_further_lem, is_before as is_before_lem, is_played_class as is_played_class_lem, is_played_name as is_played_name_lem, is_played_setting as is_played_setting_lem, is_played_field as is_played_field_lem, is_played_ingredient as is_played_ingredient_lem, is_played_group as is_played_group_lem, refusal_before};
 ghost use Rattle.mh_service.specs.Limits.{whole_room};
 
 use crate::room::Room;
 use crate::{ServiceError, Why};
 use indexmap::IndexSet;
 use mh_base::GroupName;
-use mh_group::{
-    Action, ActionName, Class, Field, Generic, Group, Ingredient, Parameter, Setting, Typed,
-    Written, group,
-};
+use mh_group::{Action, ActionName, Class, Field, Group, Ingredient, Setting, Written, group};
 use std::alloc::{AllocError, Global};
 
 /// Refuses what can be refused before references are resolved.
@@ -148,8 +145,8 @@ fn over_limit(files: &[(GroupName, Group)]) -> Option<&GroupName>
     None
 }
 
-/// The first group in order of name that is not played yet: one that writes a class, an action, a kind of
-/// parameter or an indirect value that is not played, and each application or scene but the first.
+/// The first group in order of name that is not played yet: one that writes a class or an action that is
+/// not played, and each application or scene but the first.
 pub fn first_unplayed(files: &[(GroupName, Group)]) -> Option<&GroupName>
     ensures { option_copied result ≡ first_unplayed_lem files.now }
 {
@@ -217,10 +214,7 @@ fn is_played_ingredient(ingredient: &Ingredient) -> bool
 fn is_played_class(class: Class) -> bool
     ensures { result ≡ is_played_class_lem class }
 {
-    matches!(
-        class,
-        Class::Application | Class::Scene | Class::Link | Class::IntegerVar | Class::Rectangle
-    )
+    matches!(class, Class::Link | Class::Rectangle) || class.is_group() || class.is_variable()
 }
 
 fn is_played_name(name: ActionName) -> bool
@@ -228,10 +222,26 @@ fn is_played_name(name: ActionName) -> bool
 {
     matches!(
         name,
-        ActionName::TransitionTo
+        ActionName::Run
+            | ActionName::Stop
+            | ActionName::Preload
+            | ActionName::Unload
+            | ActionName::GetAvailabilityStatus
+            | ActionName::GetRunningStatus
+            | ActionName::SendEvent
+            | ActionName::TransitionTo
+            | ActionName::Activate
+            | ActionName::Deactivate
             | ActionName::SetVariable
+            | ActionName::TestVariable
             | ActionName::Add
+            | ActionName::Subtract
+            | ActionName::Multiply
+            | ActionName::Divide
+            | ActionName::Modulo
+            | ActionName::Append
             | ActionName::SetPosition
+            | ActionName::GetPosition
     )
 }
 
@@ -251,35 +261,7 @@ fn is_played_setting(setting: &Setting) -> bool
 }
 
 fn are_played_actions(actions: &[Action]) -> bool
-    ensures { result ≡ list_all is_played_action_lem actions.now }
+    ensures { result ≡ list_all (λ a. is_played_name_lem a.name) actions.now }
 {
-    actions.iter().all(|action| is_played_action(action))
-}
-
-fn is_played_action(action: &Action) -> bool
-    ensures { result ≡ is_played_action_lem action.now }
-{
-    if !is_played_name(action.name) {
-        return false;
-    }
-    matches!(action.target, Generic::Direct(_))
-        && are_played_parameters(action.parameters.as_slice())
-}
-
-fn are_played_parameters(parameters: &[Parameter]) -> bool
-    ensures { result ≡ list_all is_played_parameter_lem parameters.now }
-{
-    parameters
-        .iter()
-        .all(|parameter| is_played_parameter(parameter))
-}
-
-fn is_played_parameter(parameter: &Parameter) -> bool
-    ensures { result ≡ is_played_parameter_lem parameter.now }
-{
-    match parameter {
-        Parameter::Int(number) => matches!(number, Generic::Direct(_)),
-        Parameter::Typed(Typed::Int(number)) => matches!(number, Generic::Direct(_)),
-        _ => false,
-    }
+    actions.iter().all(|action| is_played_name(action.name))
 }

@@ -1,13 +1,13 @@
 //! `Service`: groups under their names, each a list of what its file says of its objects.
 //!
-//! Promise: the groups are those of the files in their order, resolved once, and no two parts of a
-//! group have one key. That the service can be played is left to others.
+//! Promise: the groups are those of the files in their order, resolved once; the parts of a group are its
+//! own, and no two of them have one key. That the service can be played is left to others.
 ghost use Rattle.std.specs.Prelude.{◌≡◌, IfOk, IfErr, IfSome, OnOk, None, true, false, [], ◌∷◌, ◌++◌, map};
 ghost use Rattle.std.specs.List.{list_any, list_all};
 ghost use Rattle.std.specs.Option.{option_copied};
 ghost use Rattle.std.specs.Str.{bytes_eq};
 ghost use Rattle.mh_group.specs.Fit.{is_group};
-ghost use Rattle.mh_model.specs.Service.{part_at, group_parts};
+ghost use Rattle.mh_model.specs.Service.{part_at, group_parts, is_in};
 ghost use Rattle.mh_model.specs.Configuration.{is_service, has_keys, are_apart};
 ghost use Rattle.mh_service.specs.Resolved.{resolved, group_leads, parts_under};
 ghost use Rattle.mh_service.specs.Refusals.{Refuses, RefusesAt, for_reason, refusal_of, bad_reference, double_name};
@@ -65,6 +65,7 @@ impl Service {
     pub fn group(&self, name: &GroupName) -> Option<&[FixedPart]>
         ensures found { option_copied result ≡ parts_under name.now self.now.groups }
         ensures apart { IfSome result (λ parts. are_apart parts.now ≡ true) }
+        ensures own { IfSome result (λ parts. list_all (is_in name.now) parts.now ≡ true) }
     {
         match self.groups.get(name) {
             None => None,
@@ -76,6 +77,7 @@ impl Service {
     pub fn parts(&self, name: &GroupName) -> &[FixedPart]
         ensures parts { result.now ≡ group_parts self.now name.now }
         ensures apart { are_apart result.now ≡ true }
+        ensures own { list_all (is_in name.now) result.now ≡ true }
     {
         match self.group(name) {
             None => &[],

@@ -1,19 +1,26 @@
 -- The objects of an application and those of a scene as one list.
-use Rattle.std.proofs.Common.{◌≡◌, Bool, true, false, ◌||◌, if◌then◌else◌, List, [], ◌∷◌, Option, Some, None, refl, ap, sym, ◌∙◌}
+use Rattle.std.proofs.Common.{◌≡◌, Bool, true, false, ◌||◌, if◌then◌else◌, cond, List, [], ◌∷◌, Option, Some, None, Result, Ok, Err, OnOk, OnErr, IfOk, refl, ap, sym, ◌∙◌}
 use Rattle.std.specs.List.{list_any}
-use Rattle.std.specs.Option.{option_or}
+use Rattle.std.specs.Option.{is_some, option_or}
 use Rattle.std.proofs.lemmas.List.Folds.{find-append}
 use Rattle.mh_base.specs.declared.obj_ref.ObjRef.{ObjRef}
+use Rattle.mh_base.specs.declared.value.Value.{Value}
+use Rattle.mh_model.specs.declared.edit.Edit.{Edit}
 use Rattle.mh_model.specs.declared.object.Body.{Body}
 use Rattle.mh_model.specs.declared.object.Fixed.{Fixed}
 use Rattle.mh_model.specs.declared.object.Object.{Object}
+use Rattle.mh_model.specs.Bodies.{given}
+use Rattle.mh_model.specs.Edits.{edited}
+use Rattle.mh_model.specs.Lifecycle.{is_visible_at}
 use Rattle.mh_model.specs.Rules.{is_at, on_body, changed_in, changed}
-use Rattle.mh_model.specs.Service.{object_at}
+use Rattle.mh_model.specs.Service.{object_at, parts}
 use Rattle.mh_model.specs.State.{Objects, all}
-use Rattle.mh_store.specs.Table.{given, left_over}
+use Rattle.mh_model.proofs.PartLemmas.{changed-own, changed-others}
+use Rattle.mh_store.specs.declared.tried.Tried.TheVariants as trying
+use Rattle.mh_store.specs.Trying.{tried, left_over}
 
 -- the application's objects hide those of the scene
-object_at-all : (r : ObjRef) (os : Objects) → object_at r (all os) ≡ option_or (object_at r os.application) (object_at r os.scene)
+pub object_at-all : (r : ObjRef) (os : Objects) → object_at r (all os) ≡ option_or (object_at r os.application) (object_at r os.scene)
 object_at-all r os = find-append (is_at r) os.application os.scene
 
 pub found_first : (r : ObjRef) (os : Objects) (o : Object) → Some o ≡ object_at r os.application → Some o ≡ object_at r (all os)
@@ -22,30 +29,112 @@ found_first r os o first = rw (object_at-all r os, ← first) refl
 pub found_behind : (r : ObjRef) (os : Objects) (x : Option Object) → None ≡ object_at r os.application → x ≡ object_at r os.scene → x ≡ object_at r (all os)
 found_behind r os x none behind = rw (object_at-all r os, ← none) behind
 
+-- the test of a change says whether an object is found
+list_any-object_at : (r : ObjRef) (os : List Object) → list_any (is_at r) os ≡ is_some (object_at r os)
+list_any-object_at r [] = refl
+list_any-object_at r (o ∷ os) = by (is_at r o) (list_any-object_at r os)
+  where
+    by : (t : Bool) → list_any (is_at r) os ≡ is_some (object_at r os) → (t || list_any (is_at r) os) ≡ is_some (cond t (Some o) (object_at r os))
+    by true below = refl
+    by false below = below
+
 -- where no object is at the reference nothing is changed
-pub changed_in-nowhere : (f : Fixed → Body → Body) (r : ObjRef) (os : List Object) → list_any (is_at r) os ≡ false → os ≡ changed_in f r os
+pub changed_in-nowhere : (f : Fixed → Body → Body) (r : ObjRef) (os : List Object) → object_at r os ≡ None → os ≡ changed_in f r os
 changed_in-nowhere f r [] none = refl
 changed_in-nowhere f r (o ∷ os) none = by (is_at r o) (changed_in-nowhere f r os) none
   where
-    by : (t : Bool) → (list_any (is_at r) os ≡ false → os ≡ changed_in f r os) → (t || list_any (is_at r) os) ≡ false → o ∷ os ≡ (if t then on_body f o ∷ os else o ∷ changed_in f r os)
+    by : (t : Bool) → (object_at r os ≡ None → os ≡ changed_in f r os) → cond t (Some o) (object_at r os) ≡ None → o ∷ os ≡ (if t then on_body f o ∷ os else o ∷ changed_in f r os)
     by true below h = absurd cc
     by false below h = ap (λ (t : List Object). o ∷ t) (below h)
 
 -- an object of the application was changed
-pub changed-first : (b : Body) (r : ObjRef) (os : Objects) (own : List Object) → None ≡ left_over b r os.application → own ≡ given b r os.application → record os { application = own } ≡ changed (λ _ _. b) r os
-changed-first b r os own none is = by (list_any (is_at r) os.application) none
+pub changed-first : (f : Fixed → Body → Body) (r : ObjRef) (os : Objects) (own : List Object) → is_some (object_at r os.application) ≡ true → own ≡ changed_in f r os.application → record os { application = own } ≡ changed f r os
+changed-first f r os own there is = by (list_any (is_at r) os.application) (list_any-object_at r os.application ∙ there)
   where
-    by : (t : Bool) → None ≡ (if t then None else Some b) → record os { application = own } ≡ (if t then record os { application = changed_in (λ _ _. b) r os.application } else record os { scene = changed_in (λ _ _. b) r os.scene })
+    by : (t : Bool) → t ≡ true → record os { application = own } ≡ (if t then record os { application = changed_in f r os.application } else record os { scene = changed_in f r os.scene })
     by true h = rw is refl
     by false h = absurd cc
 
--- the application had no such object, so what came back was put into the scene
-pub changed-behind : (b back : Body) (r : ObjRef) (os : Objects) (own others : List Object) → Some back ≡ left_over b r os.application → own ≡ given b r os.application → others ≡ given back r os.scene → record { application = own; scene = others } ≡ changed (λ _ _. b) r os
-changed-behind b back r os own others came is behind = by (list_any (is_at r) os.application) refl came
+-- the application had no such object, so the scene was tried
+pub changed-behind : (f : Fixed → Body → Body) (r : ObjRef) (os : Objects) (own others : List Object) → object_at r os.application ≡ None → own ≡ changed_in f r os.application → others ≡ changed_in f r os.scene → record { application = own; scene = others } ≡ changed f r os
+changed-behind f r os own others none is behind = by (list_any (is_at r) os.application) (list_any-object_at r os.application ∙ ap is_some none)
   where
-    by : (t : Bool) → list_any (is_at r) os.application ≡ t → Some back ≡ (if t then None else Some b) → record { application = own; scene = others } ≡ (if t then record os { application = changed_in (λ _ _. b) r os.application } else record os { scene = changed_in (λ _ _. b) r os.scene })
-    by true nowhere h = absurd cc
-    by false nowhere h =
-        let same : back ≡ b = cc in
-        let kept : own ≡ os.application = is ∙ sym (changed_in-nowhere (λ _ _. b) r os.application nowhere) in
-        rw (kept, behind, same) refl
+    by : (t : Bool) → t ≡ false → record { application = own; scene = others } ≡ (if t then record os { application = changed_in f r os.application } else record os { scene = changed_in f r os.scene })
+    by true h = absurd cc
+    by false h =
+        let kept : own ≡ os.application = is ∙ sym (changed_in-nowhere f r os.application none) in
+        rw (kept, behind) refl
+
+-- What came of a change
+
+pub done-there : (e : Edit) (b : Bool) (m : Option Object) → trying.Done b ≡ tried e m → (is_some m ≡ true) × (b ≡ is_visible_at m)
+done-there e b None is = absurd cc
+done-there e b (Some o) is = (refl, cc)
+
+pub left-nowhere : (e back : Edit) (m : Option Object) → trying.Left back ≡ tried e m → (m ≡ None) × (back ≡ e)
+left-nowhere e back None is = (refl, cc)
+left-nowhere e back (Some o) is = absurd cc
+
+pub taken-there : {X : Type 0} (x : X) (m : Option Object) → None ≡ left_over x m → is_some m ≡ true
+taken-there x None is = absurd cc
+taken-there x (Some o) is = refl
+
+pub back-nowhere : {X : Type 0} (x back : X) (m : Option Object) → Some back ≡ left_over x m → (m ≡ None) × (back ≡ x)
+back-nowhere x back None is = (refl, cc)
+back-nowhere x back (Some o) is = absurd cc
+
+-- Both tried, one after the other
+
+-- what an edit promises of the objects as they were, and of what became of them
+pub record IsEdited {E : Type 0} (e : Edit) (r : ObjRef) (os after : Objects) (answer : Result Bool E) : Type 0 where
+  pub done : OnOk answer (after ≡ changed (λ _ b. edited e b) r os)
+  pub seen : IfOk answer (λ seen. seen ≡ is_visible_at (object_at r (all os)))
+  pub own : parts after.application ≡ parts os.application
+  pub others : parts after.scene ≡ parts os.scene
+  pub kept : OnErr answer (after ≡ os)
+
+-- each part of it, where the change was carried out
+changed-edited : {E : Type 0} (e : Edit) (r : ObjRef) (os after : Objects) (seen : Bool) → after ≡ changed (λ _ b. edited e b) r os → seen ≡ is_visible_at (object_at r (all os)) → IsEdited {E = E} e r os after (Ok seen)
+changed-edited e r os after seen is told = record {
+  done = is;
+  seen = told;
+  own = ap (λ (x : Objects). parts x.application) is ∙ changed-own (λ _ b. edited e b) r os;
+  others = ap (λ (x : Objects). parts x.scene) is ∙ changed-others (λ _ b. edited e b) r os;
+  kept = tt;
+}
+
+pub edited-first : (e : Edit) (r : ObjRef) (os : Objects) (own : List Object) (seen : Bool) → trying.Done seen ≡ tried e (object_at r os.application) → own ≡ changed_in (λ _ b. edited e b) r os.application → IsEdited {E = Unit {0}} e r os (record os { application = own }) (Ok seen)
+edited-first e r os own seen told is =
+    let there = done-there e seen (object_at r os.application) told in
+    changed-edited e r os (record os { application = own }) seen (changed-first (λ _ b. edited e b) r os own there.0 is) (there.1 ∙ by (object_at r os.application) there.0 ∙ ap is_visible_at (sym (object_at-all r os)))
+  where
+    by : (m : Option Object) → is_some m ≡ true → is_visible_at m ≡ is_visible_at (option_or m (object_at r os.scene))
+    by None h = absurd cc
+    by (Some o) h = refl
+
+pub edited-behind : {E : Type 0} (answer : Result Bool E) (e back : Edit) (r : ObjRef) (os : Objects) (own others : List Object) → trying.Left back ≡ tried e (object_at r os.application) → own ≡ changed_in (λ _ b. edited e b) r os.application → OnOk answer (others ≡ changed_in (λ _ b. edited back b) r os.scene) → IfOk answer (λ seen. seen ≡ is_visible_at (object_at r os.scene)) → OnErr answer (others ≡ os.scene) → IsEdited e r os (record { application = own; scene = others }) answer
+edited-behind (Ok seen) e back r os own others told is behind saw kept =
+    let left = left-nowhere e back (object_at r os.application) told in
+    let there : others ≡ changed_in (λ _ b. edited e b) r os.scene = behind ∙ ap (λ (x : Edit). changed_in (λ _ b. edited x b) r os.scene) left.1 in
+    changed-edited e r os (record { application = own; scene = others }) seen (changed-behind (λ _ b. edited e b) r os own others left.0 is there) (saw ∙ ap is_visible_at (found_behind r os (object_at r os.scene) (sym left.0) refl))
+edited-behind (Err why) e back r os own others told is behind saw kept =
+    let left = left-nowhere e back (object_at r os.application) told in
+    let same : own ≡ os.application = is ∙ sym (changed_in-nowhere (λ _ b. edited e b) r os.application left.0) in
+    record {
+      done = tt;
+      seen = tt;
+      own = ap parts same;
+      others = ap parts kept;
+      kept = λ i. record { application = same i; scene = kept i };
+    }
+
+-- and of a value that is given, which cannot be refused
+
+pub given-first : (v : Value) (r : ObjRef) (os : Objects) (own : List Object) → None ≡ left_over v (object_at r os.application) → own ≡ changed_in (λ _ b. given v b) r os.application → record os { application = own } ≡ changed (λ _ b. given v b) r os
+given-first v r os own taken is = changed-first (λ _ b. given v b) r os own (taken-there v (object_at r os.application) taken) is
+
+pub given-behind : (v back : Value) (r : ObjRef) (os : Objects) (own others : List Object) → Some back ≡ left_over v (object_at r os.application) → own ≡ changed_in (λ _ b. given v b) r os.application → others ≡ changed_in (λ _ b. given back b) r os.scene → record { application = own; scene = others } ≡ changed (λ _ b. given v b) r os
+given-behind v back r os own others came is behind =
+    let left = back-nowhere v back (object_at r os.application) came in
+    let there : others ≡ changed_in (λ _ b. given v b) r os.scene = behind ∙ ap (λ (x : Value). changed_in (λ _ b. given x b) r os.scene) left.1 in
+    changed-behind (λ _ b. given v b) r os own others left.0 is there

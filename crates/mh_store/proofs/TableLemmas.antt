@@ -1,50 +1,96 @@
--- A table of objects against the list of them.
-use Rattle.std.proofs.Common.{◌≡◌, Bool, true, false, cond, List, [], ◌∷◌, Some, None, refl, ap, sym}
-use Rattle.std.specs.List.{list_any}
+-- A table of the objects of one group against the list of them.
+use Rattle.std.proofs.Common.{◌≡◌, ℕ, Bool, true, false, ◌&&◌, not, cond, if◌then◌else◌, List, [], ◌∷◌, Some, None, Result, Ok, Err, OnOk, OnErr, IfOk, refl, ap, sym, subst, ◌∙◌}
+use Rattle.std.specs.Prelude.{nat_eq}
 use Rattle.std.specs.Map.{lookup, set_value}
+use Rattle.std.specs.Str.{bytes_eq}
 use Rattle.mh_base.specs.declared.obj_ref.ObjRef.{ObjRef}
+use Rattle.mh_model.specs.declared.edit.Edit.{Edit}
 use Rattle.mh_model.specs.declared.object.Body.{Body}
 use Rattle.mh_model.specs.declared.object.Object.{Object}
-use Rattle.mh_model.specs.Rules.{is_at}
+use Rattle.mh_model.specs.Rules.{is_at, on_body, changed_in}
 use Rattle.mh_model.specs.Service.{same_ref, object_at}
-use Rattle.mh_store.specs.Table.{IsKeyed, objects_of, with_body, given}
+use Rattle.mh_store.specs.declared.tried.Tried.{Tried}
+use Rattle.mh_store.specs.Table.{IsKeyed, objects_of, key_of, with_body, changed_at}
+use Rattle.mh_store.specs.Trying.{tried}
 
--- what stands under a reference is the object that it leads to
-pub lookup-object_at : (r : ObjRef) (es : List (ObjRef × Object)) → IsKeyed es → lookup (same_ref r) es ≡ object_at r (objects_of es)
-lookup-object_at r [] keyed = refl
-lookup-object_at r (e ∷ es) keyed = rw (keyed.0, lookup-object_at r es keyed.1) refl
+-- What is written back under a number
 
--- a table after the body of an object in it was changed
-pub record IsChanged (r : ObjRef) (b : Body) (es after : List (ObjRef × Object)) : Type 0 where
-  pub keyed : IsKeyed after
-  pub changed : objects_of after ≡ given b r (objects_of es)
-  pub there : list_any (is_at r) (objects_of es) ≡ true
-
-pub found-changed : (r : ObjRef) (b : Body) (es : List (ObjRef × Object)) (o : Object) → IsKeyed es → Some o ≡ lookup (same_ref r) es → IsChanged r b es (set_value (same_ref r) es (with_body b o))
-found-changed r b [] o keyed is = absurd cc
-found-changed r b (e ∷ es) o keyed is = by (same_ref r e.0) (ap (same_ref r) (sym keyed.0)) (found-changed r b es o keyed.1) is
+pub set_value-found : (f : Body → Body) (n : ℕ) (es : List (ℕ × Object)) (o : Object) → Some o ≡ lookup (nat_eq n) es → set_value (nat_eq n) es (with_body f o) ≡ changed_at f n es
+set_value-found f n [] o is = refl
+set_value-found f n (e ∷ es) o is = by (nat_eq n e.0) (set_value-found f n es o) is
   where
-    by : (t : Bool) → is_at r e.1 ≡ t → (Some o ≡ lookup (same_ref r) es → IsChanged r b es (set_value (same_ref r) es (with_body b o))) → Some o ≡ cond t (Some e.1) (lookup (same_ref r) es) → IsChanged r b (e ∷ es) (cond t ((e.0, with_body b o) ∷ es) (e ∷ set_value (same_ref r) es (with_body b o)))
-    by true here below same =
+    by : (t : Bool) → (Some o ≡ lookup (nat_eq n) es → set_value (nat_eq n) es (with_body f o) ≡ changed_at f n es) → Some o ≡ cond t (Some e.1) (lookup (nat_eq n) es) → cond t ((e.0, with_body f o) ∷ es) (e ∷ set_value (nat_eq n) es (with_body f o)) ≡ (if t then (e.0, with_body f e.1) ∷ es else e ∷ changed_at f n es)
+    by true below same =
         let it : o ≡ e.1 = cc in
-        record {
-          keyed = rw it keyed;
-          changed = rw (here, it) refl;
-          there = rw here refl;
-        }
-    by false here below same =
-        let rest = below same in
-        record {
-          keyed = (keyed.0, rest.keyed);
-          changed = rw here (ap (λ (os : List Object). e.1 ∷ os) rest.changed);
-          there = rw here rest.there;
-        }
+        ap (λ (x : Object). (e.0, with_body f x) ∷ es) it
+    by false below same = ap (λ (t : List (ℕ × Object)). e ∷ t) (below same)
 
--- under which nothing stands, that leads to no object
-pub none-nowhere : (r : ObjRef) (es : List (ObjRef × Object)) → IsKeyed es → None ≡ lookup (same_ref r) es → list_any (is_at r) (objects_of es) ≡ false
-none-nowhere r [] keyed is = refl
-none-nowhere r (e ∷ es) keyed is = by (same_ref r e.0) (ap (same_ref r) (sym keyed.0)) (none-nowhere r es keyed.1) is
+pub none-under : (f : Body → Body) (n : ℕ) (es : List (ℕ × Object)) → None ≡ lookup (nat_eq n) es → es ≡ changed_at f n es
+none-under f n [] is = refl
+none-under f n (e ∷ es) is = by (nat_eq n e.0) (none-under f n es) is
   where
-    by : (t : Bool) → is_at r e.1 ≡ t → (None ≡ lookup (same_ref r) es → list_any (is_at r) (objects_of es) ≡ false) → None ≡ cond t (Some e.1) (lookup (same_ref r) es) → list_any (is_at r) (objects_of (e ∷ es)) ≡ false
-    by true here below same = absurd cc
-    by false here below same = rw here (below same)
+    by : (t : Bool) → (None ≡ lookup (nat_eq n) es → es ≡ changed_at f n es) → None ≡ cond t (Some e.1) (lookup (nat_eq n) es) → e ∷ es ≡ (if t then (e.0, with_body f e.1) ∷ es else e ∷ changed_at f n es)
+    by true below same = absurd cc
+    by false below same = ap (λ (t : List (ℕ × Object)). e ∷ t) (below same)
+
+-- a change of a body keeps each object under its number
+pub keyed-changed : (f : Body → Body) (n : ℕ) (g : List ℕ) (es : List (ℕ × Object)) → IsKeyed g es → IsKeyed g (changed_at f n es)
+keyed-changed f n g [] keyed = tt
+keyed-changed f n g (e ∷ es) keyed = by (nat_eq n e.0) (keyed-changed f n g es keyed.1)
+  where
+    by : (t : Bool) → IsKeyed g (changed_at f n es) → IsKeyed g (if t then (e.0, with_body f e.1) ∷ es else e ∷ changed_at f n es)
+    by true below = keyed
+    by false below = (keyed.0, below)
+
+-- a test by `!=`, as it came out
+pub is_other : (b : Bool) → true ≡ not b → b ≡ false
+is_other true h = absurd cc
+is_other false h = refl
+
+pub is_own : (b : Bool) → false ≡ not b → b ≡ true
+is_own true h = refl
+is_own false h = absurd cc
+
+-- What a reference leads to: where it names the group, what stands under its number
+
+is_at-keyed : (r : ObjRef) (g : List ℕ) (e : ℕ × Object) → e.1.fixed.key ≡ key_of g e.0 → is_at r e.1 ≡ (bytes_eq r.group g && nat_eq r.number e.0)
+is_at-keyed r g e keyed = ap (same_ref r) keyed
+
+pub lookup-object_at : (r : ObjRef) (g : List ℕ) (es : List (ℕ × Object)) → bytes_eq r.group g ≡ true → IsKeyed g es → lookup (nat_eq r.number) es ≡ object_at r (objects_of es)
+lookup-object_at r g [] own keyed = refl
+lookup-object_at r g (e ∷ es) own keyed = rw (is_at-keyed r g e keyed.0, own, lookup-object_at r g es own keyed.1) refl
+
+pub changed_at-changed_in : (f : Body → Body) (r : ObjRef) (g : List ℕ) (es : List (ℕ × Object)) → bytes_eq r.group g ≡ true → IsKeyed g es → objects_of (changed_at f r.number es) ≡ changed_in (λ _ b. f b) r (objects_of es)
+changed_at-changed_in f r g [] own keyed = refl
+changed_at-changed_in f r g (e ∷ es) own keyed = rw (is_at-keyed r g e keyed.0, own) (by (nat_eq r.number e.0) (changed_at-changed_in f r g es own keyed.1))
+  where
+    by : (t : Bool) → objects_of (changed_at f r.number es) ≡ changed_in (λ _ b. f b) r (objects_of es) → objects_of (if t then (e.0, with_body f e.1) ∷ es else e ∷ changed_at f r.number es) ≡ (if t then on_body (λ _ b. f b) e.1 ∷ objects_of es else e.1 ∷ changed_in (λ _ b. f b) r (objects_of es))
+    by true below = refl
+    by false below = ap (λ (t : List Object). e.1 ∷ t) below
+
+-- a reference that names another group leads nowhere
+pub object_at-elsewhere : (r : ObjRef) (g : List ℕ) (es : List (ℕ × Object)) → bytes_eq r.group g ≡ false → IsKeyed g es → None ≡ object_at r (objects_of es)
+object_at-elsewhere r g [] other keyed = refl
+object_at-elsewhere r g (e ∷ es) other keyed = rw (is_at-keyed r g e keyed.0, other) (object_at-elsewhere r g es other keyed.1)
+
+pub changed_in-elsewhere : (f : Body → Body) (r : ObjRef) (g : List ℕ) (es : List (ℕ × Object)) → bytes_eq r.group g ≡ false → IsKeyed g es → objects_of es ≡ changed_in (λ _ b. f b) r (objects_of es)
+changed_in-elsewhere f r g [] other keyed = refl
+changed_in-elsewhere f r g (e ∷ es) other keyed = rw (is_at-keyed r g e keyed.0, other) (ap (λ (t : List Object). e.1 ∷ t) (changed_in-elsewhere f r g es other keyed.1))
+
+-- A change that may be refused memory
+
+pub on_error : {T E : Type 0} {X : Type 0} (answer : Result T E) → X → OnErr answer X
+on_error (Ok x) h = tt
+on_error (Err y) h = h
+
+pub keyed-tried : {T E : Type 0} (answer : Result T E) (f : Body → Body) (n : ℕ) (g : List ℕ) (es after : List (ℕ × Object)) → OnOk answer (after ≡ changed_at f n es) → OnErr answer (after ≡ es) → IsKeyed g es → IsKeyed g after
+keyed-tried (Ok x) f n g es after done kept keyed = subst (IsKeyed g) (sym done) (keyed-changed f n g es keyed)
+keyed-tried (Err y) f n g es after done kept keyed = subst (IsKeyed g) (sym kept) keyed
+
+pub done-tried : {T E : Type 0} (answer : Result T E) (f : Body → Body) (r : ObjRef) (g : List ℕ) (es after : List (ℕ × Object)) → bytes_eq r.group g ≡ true → IsKeyed g es → OnOk answer (after ≡ changed_at f r.number es) → OnOk answer (objects_of after ≡ changed_in (λ _ b. f b) r (objects_of es))
+done-tried (Ok x) f r g es after own keyed done = ap objects_of done ∙ changed_at-changed_in f r g es own keyed
+done-tried (Err y) f r g es after own keyed done = done
+
+pub told-tried : {E : Type 0} (answer : Result Tried E) (e : Edit) (r : ObjRef) (g : List ℕ) (es : List (ℕ × Object)) → bytes_eq r.group g ≡ true → IsKeyed g es → IfOk answer (λ told. told ≡ tried e (lookup (nat_eq r.number) es)) → IfOk answer (λ told. told ≡ tried e (object_at r (objects_of es)))
+told-tried (Ok x) e r g es own keyed told = told ∙ ap (tried e) (lookup-object_at r g es own keyed)
+told-tried (Err y) e r g es own keyed told = told

@@ -1,38 +1,38 @@
--- Objects under their references, as a table has them.
-use Rattle.std.specs.Prelude.{◌≡◌, Bool, not, if◌then◌else◌, List, [], ◌∷◌, map, Option, Some, None}
-use Rattle.std.specs.List.{list_all, list_any}
+-- The objects of one group under their numbers, as a table has them.
+use Rattle.std.specs.Prelude.{◌≡◌, ℕ, nat_eq, Bool, not, if◌then◌else◌, List, [], ◌∷◌, map}
+use Rattle.std.specs.List.{list_all}
 use Rattle.mh_base.specs.declared.obj_ref.ObjRef.{ObjRef}
 use Rattle.mh_model.specs.declared.object.Body.{Body}
 use Rattle.mh_model.specs.declared.object.Fixed.{Fixed}
 use Rattle.mh_model.specs.declared.object.Object.{Object}
-use Rattle.mh_model.specs.Rules.{is_at, changed_in}
-use Rattle.mh_model.specs.Service.{same_ref, fresh}
+use Rattle.mh_model.specs.Service.{fresh}
 
--- the objects, without their references
-abbrev pub objects_of : List (ObjRef × Object) → List Object
+-- the objects, without their numbers
+abbrev pub objects_of : List (ℕ × Object) → List Object
 objects_of es = map (λ e. e.1) es
 
--- each object stands under its own key
-abbrev pub IsKeyed : List (ObjRef × Object) → Type 0
-IsKeyed [] = Unit {0}
-IsKeyed (e ∷ es) = (e.0 ≡ e.1.fixed.key) × IsKeyed es
+-- the reference to an object of the group
+abbrev pub key_of : List ℕ → ℕ → ObjRef
+key_of g n = record { group = g; number = n }
 
--- the object with this body
-abbrev pub with_body : Body → Object → Object
-with_body b o = record o { body = b }
+-- each object is of the group, and stands under its own number
+abbrev pub IsKeyed : List ℕ → List (ℕ × Object) → Type 0
+IsKeyed g [] = Unit {0}
+IsKeyed g (e ∷ es) = (e.1.fixed.key ≡ key_of g e.0) × IsKeyed g es
 
--- the objects with this body given to the one at the reference
-abbrev pub given : Body → ObjRef → List Object → List Object
-given b r os = changed_in (λ _ _. b) r os
+-- the object with its body changed
+abbrev pub with_body : (Body → Body) → Object → Object
+with_body f o = record o { body = f o.body }
 
--- what is left of a body that was to be given: all of it, where there is no such object
-abbrev pub left_over : Body → ObjRef → List Object → Option Body
-left_over b r os = if list_any (is_at r) os then None else Some b
+-- the entries with the body of the object under this number changed
+abbrev pub changed_at : (Body → Body) → ℕ → List (ℕ × Object) → List (ℕ × Object)
+changed_at f n [] = []
+changed_at f n (e ∷ es) = if nat_eq n e.0 then (e.0, with_body f e.1) ∷ es else e ∷ changed_at f n es
 
--- nothing stands under the key
-abbrev pub is_new : ObjRef → List (ObjRef × Object) → Bool
-is_new r es = list_all (λ e. not (same_ref r e.0)) es
+-- nothing stands under the number
+abbrev pub is_new : ℕ → List (ℕ × Object) → Bool
+is_new n es = list_all (λ e. not (nat_eq n e.0)) es
 
--- the object of a part under its key
-abbrev pub entry_of : Fixed → ObjRef × Object
-entry_of p = (p.key, fresh p)
+-- the object of a part under its number
+abbrev pub entry_of : Fixed → ℕ × Object
+entry_of p = (p.key.number, fresh p)

@@ -1,13 +1,19 @@
 //! `Group`: the objects of one group.
-ghost use Rattle.std.specs.Prelude.{◌≡◌, ◌<◌, ◌^◌, IfOk, OnOk, true, [], ◌∷◌, ◌++◌, map, length, slice_get};
+ghost use Rattle.std.specs.Prelude.{◌≡◌, ◌<◌, ◌^◌, IfOk, OnOk, OnErr, true, ◌∷◌, ◌++◌, [], map, length, nat_eq, slice_get};
+ghost use Rattle.std.specs.List.{list_all};
+ghost use Rattle.std.specs.Map.{lookup};
 ghost use Rattle.std.specs.Option.{option_copied};
+ghost use Rattle.mh_model.specs.Bodies.{given};
 ghost use Rattle.mh_model.specs.Configuration.{are_apart};
-ghost use Rattle.mh_model.specs.Service.{object_at, fresh as fresh_lem};
-ghost use Rattle.mh_store.specs.Table.{IsKeyed, objects_of, given, left_over, entry_of, is_new};
+ghost use Rattle.mh_model.specs.Edits.{edited};
+ghost use Rattle.mh_model.specs.Service.{object_at, is_in, fresh as fresh_lem};
+ghost use Rattle.mh_store.specs.Table.{changed_at, entry_of, is_new};
+ghost use Rattle.mh_store.specs.Trying.{tried, left_over, edited_in, given_in};
 
+use crate::tried::Tried;
 use indexmap::IndexMap;
-use mh_base::ObjRef;
-use mh_model::{Body, FixedPart, Object};
+use mh_base::{GroupName, ObjRef, Value};
+use mh_model::{Edit, FixedPart, Object};
 use std::alloc::{AllocError, Global};
 use std::marker::Model;
 
@@ -15,8 +21,9 @@ use std::marker::Model;
 /// order in which the group's file has them.
 #[derive(Drop)]
 pub struct Group {
-    /// Each object stands under its own key.
-    table: IndexMap<ObjRef, Object>,
+    name: GroupName,
+    /// Each object stands under its own number.
+    table: IndexMap<u32, Object>,
 }
 
 impl Model for Group {
@@ -28,33 +35,29 @@ impl Model for Group {
 
     ghost view = { λ g. objects_of g.table.entries };
 
-    ghost invariant = { λ g. IsKeyed g.table.entries };
+    ghost invariant = { λ g. IsKeyed g.name g.table.entries };
 }
 
 impl Group {
-    /// No object. It takes no memory.
-    pub fn empty(alloc: Global) -> Group
-        ensures { result ≡ [] }
-    {
-        Group {
-            table: IndexMap::new(alloc),
-        }
-    }
-
     /// The objects of a group as they are when it is entered.
-    pub fn fresh(alloc: Global, parts: &[FixedPart]) -> Result<Group, AllocError>
-        requires { are_apart parts.now ≡ true }
+    pub fn fresh(alloc: Global, name: &GroupName, parts: &[FixedPart]) -> Result<Group, AllocError>
+        requires apart { are_apart parts.now ≡ true }
+        requires own { list_all (is_in name.now) parts.now ≡ true }
         ensures { IfOk result (λ group. group ≡ map fresh_lem parts.now) }
     {
-        let table = entered(alloc, parts)?;
-        Ok(Group { table })
+        let table = entered(alloc, name, parts)?;
+        let name = name.clone()?;
+        Ok(Group { name, table })
     }
 
     /// The object to which the reference leads, if it is here.
     pub(crate) fn get(&self, at: &ObjRef) -> Option<&Object>
         ensures { option_copied result ≡ object_at at.now self.now }
     {
-        self.table.get(at)
+        if at.group != self.name {
+            return None;
+        }
+        self.table.get(&at.number)
     }
 
     /// The object at this place.
@@ -75,34 +78,67 @@ impl Group {
         self.table.len()
     }
 
-    /// Gives the object at this reference another body. Where there is none the body comes back.
-    pub(crate) fn set_body(&mut self, at: &ObjRef, body: Body) -> Option<Body>
-        ensures changed { self.new ≡ given body at.now self.old }
-        ensures back { result ≡ left_over body at.now self.old }
+    /// Changes the body of the object at this reference. Where there is none the change comes back.
+    pub(crate) fn edit(&mut self, at: &ObjRef, edit: Edit) -> Result<Tried, AllocError>
+        ensures done { OnOk result (self.new ≡ edited_in edit at.now self.old) }
+        ensures told { IfOk result (λ told. told ≡ tried edit (object_at at.now self.old)) }
+        ensures kept { OnErr result (self.new ≡ self.old) }
     {
-        put_body(&mut self.table, at, body)
+        if at.group != self.name {
+            return Ok(Tried::Left(edit));
+        }
+        edit_under(&mut self.table, at.number, edit)
+    }
+
+    /// Gives the variable at this reference a value. Where there is none the value comes back.
+    pub(crate) fn give(&mut self, at: &ObjRef, value: Value) -> Option<Value>
+        ensures done { self.new ≡ given_in value at.now self.old }
+        ensures back { result ≡ left_over value (object_at at.now self.old) }
+    {
+        if at.group != self.name {
+            return Some(value);
+        }
+        give_under(&mut self.table, at.number, value)
     }
 }
 
-/// Gives the object under this reference another body. Where there is none the body comes back.
-fn put_body(table: &mut IndexMap<ObjRef, Object>, at: &ObjRef, body: Body) -> Option<Body>
-    requires { IsKeyed table.old.entries }
-    ensures keyed { IsKeyed table.new.entries }
-    ensures changed { objects_of table.new.entries ≡ given body at.now (objects_of table.old.entries) }
-    ensures back { result ≡ left_over body at.now (objects_of table.old.entries) }
+/// Changes the body of the object under this number. Where there is none the change comes back.
+fn edit_under(table: &mut IndexMap<u32, Object>, at: u32, edit: Edit) -> Result<Tried, AllocError>
+    ensures done { OnOk result (table.new.entries ≡ changed_at (edited edit) at table.old.entries) }
+    ensures told { IfOk result (λ told. told ≡ tried edit (lookup (nat_eq at) table.old.entries)) }
+    ensures kept { OnErr result (table.new.entries ≡ table.old.entries) }
 {
-    match table.get_mut(at) {
+    match table.get_mut(&at) {
         Some(object) => {
-            object.body = body;
+            object.body.edit(edit)?;
+            Ok(Tried::Done(object.fixed.get().class.is_visible()))
+        }
+        None => Ok(Tried::Left(edit)),
+    }
+}
+
+/// Gives the variable under this number a value. Where there is none the value comes back.
+fn give_under(table: &mut IndexMap<u32, Object>, at: u32, value: Value) -> Option<Value>
+    ensures done { table.new.entries ≡ changed_at (given value) at table.old.entries }
+    ensures back { result ≡ left_over value (lookup (nat_eq at) table.old.entries) }
+{
+    match table.get_mut(&at) {
+        Some(variable) => {
+            variable.body.give(value);
             None
         }
-        None => Some(body),
+        None => Some(value),
     }
 }
 
-/// The objects of the parts under their references.
-fn entered(alloc: Global, parts: &[FixedPart]) -> Result<IndexMap<ObjRef, Object>, AllocError>
-    requires { are_apart parts.now ≡ true }
+/// The objects of the parts under their numbers.
+fn entered(
+    alloc: Global,
+    name: &GroupName,
+    parts: &[FixedPart],
+) -> Result<IndexMap<u32, Object>, AllocError>
+    requires apart { are_apart parts.now ≡ true }
+    requires own { list_all (is_in name.now) parts.now ≡ true }
     ensures { IfOk result (λ table. table.entries ≡ map entry_of parts.now) }
 {
     let mut table = IndexMap::with_capacity(alloc, parts.len())?;
@@ -113,16 +149,12 @@ fn entered(alloc: Global, parts: &[FixedPart]) -> Result<IndexMap<ObjRef, Object
 }
 
 /// Puts the object of the part at the end.
-fn add(
-    alloc: Global,
-    table: &mut IndexMap<ObjRef, Object>,
-    part: &FixedPart,
-) -> Result<(), AllocError>
-    requires { is_new part.now.key table.old.entries ≡ true }
+fn add(alloc: Global, table: &mut IndexMap<u32, Object>, part: &FixedPart) -> Result<(), AllocError>
+    requires { is_new part.now.key.number table.old.entries ≡ true }
     ensures { OnOk result (table.new.entries ≡ table.old.entries ++ entry_of part.now ∷ []) }
 {
-    let key = part.get().key.clone()?;
+    let number = part.get().key.number;
     let object = Object::fresh(alloc, part)?;
-    table.insert(key, object)?;
+    table.insert(number, object)?;
     Ok(())
 }

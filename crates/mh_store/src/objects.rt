@@ -1,35 +1,46 @@
 //! `Objects`: those of the application and those of the scene.
-ghost use Rattle.std.specs.Prelude.{◌≡◌, length, slice_get};
+ghost use Rattle.std.specs.Prelude.{◌≡◌, OnOk, OnErr, IfOk, [], slice_get};
 ghost use Rattle.std.specs.Option.{option_copied};
+ghost use Rattle.mh_model.specs.Bodies.{given};
+ghost use Rattle.mh_model.specs.Edits.{edited};
+ghost use Rattle.mh_model.specs.Lifecycle.{is_visible_at};
 ghost use Rattle.mh_model.specs.Rules.{changed};
 ghost use Rattle.mh_model.specs.Service.{object_at, parts};
 ghost use Rattle.mh_model.specs.State.{all};
+ghost use Rattle.mh_store.specs.Trying.{of_scene, edited_in, given_in};
 
 use crate::Group;
-use mh_base::ObjRef;
-use mh_model::{Body, Object};
+use crate::tried::Tried;
+use mh_base::{ObjRef, Value};
+use mh_model::{Edit, Object};
+use std::alloc::AllocError;
 use std::marker::Model;
 
 /// The objects that are present: those of the active application, and those of the current scene.
 #[derive(Drop)]
 pub struct Objects {
     application: Group,
-    scene: Group,
+    scene: Option<Group>,
 }
 
 impl Model for Objects {
+    ghost use Rattle.std.specs.Prelude.{[], unwrap_or};
     ghost use Rattle.mh_model.specs.State.{Objects as ObjectsValue};
 
     ghost Value = { ObjectsValue };
 
-    ghost view = { λ o. record { application = o.application; scene = o.scene } };
+    ghost view = { λ o. record { application = o.application; scene = unwrap_or o.scene [] } };
 }
 
 impl Objects {
-    pub fn new(application: Group, scene: Group) -> Objects
-        ensures { result ≡ record { application = application; scene = scene } }
+    /// Those of an application, with no scene. It takes no memory.
+    pub fn new(application: Group) -> Objects
+        ensures { result ≡ record { application = application; scene = [] } }
     {
-        Objects { application, scene }
+        Objects {
+            application,
+            scene: None,
+        }
     }
 
     /// The object to which the reference leads, if it is present.
@@ -38,7 +49,7 @@ impl Objects {
     {
         match self.application.get(at) {
             Some(object) => Some(object),
-            None => self.scene.get(at),
+            None => get_in(&self.scene, at),
         }
     }
 
@@ -50,26 +61,33 @@ impl Objects {
         if place < behind {
             self.application.at(place)
         } else {
-            self.scene.at(place - behind)
+            at_in(&self.scene, place - behind)
         }
     }
 
-    /// How many objects there are.
-    pub fn len(&self) -> usize
-        ensures { result ≡ length (all self.now) }
+    /// Changes the body of the object at this reference; where there is none, nothing. It answers
+    /// whether the object is a visible.
+    pub fn edit(&mut self, at: &ObjRef, edit: Edit) -> Result<bool, AllocError>
+        ensures done { OnOk result (self.new ≡ changed (λ _ b. edited edit b) at.now self.old) }
+        ensures seen { IfOk result (λ seen. seen ≡ is_visible_at (object_at at.now (all self.old))) }
+        ensures own { parts self.new.application ≡ parts self.old.application }
+        ensures others { parts self.new.scene ≡ parts self.old.scene }
+        ensures kept { OnErr result (self.new ≡ self.old) }
     {
-        self.application.len() + self.scene.len()
+        match self.application.edit(at, edit)? {
+            Tried::Done(seen) => Ok(seen),
+            Tried::Left(edit) => edit_in(&mut self.scene, at, edit),
+        }
     }
 
-    /// Gives the object at this reference another body. Where there is none, nothing changes. It
-    /// takes no memory.
-    pub fn set_body(&mut self, at: &ObjRef, body: Body)
-        ensures changed { self.new ≡ changed (λ _ _. body) at.now self.old }
+    /// Gives the variable at this reference a value. It takes no memory.
+    pub fn give(&mut self, at: &ObjRef, value: Value)
+        ensures given { self.new ≡ changed (λ _ b. given value b) at.now self.old }
         ensures own { parts self.new.application ≡ parts self.old.application }
         ensures others { parts self.new.scene ≡ parts self.old.scene }
     {
-        if let Some(body) = self.application.set_body(at, body) {
-            self.scene.set_body(at, body);
+        if let Some(value) = self.application.give(at, value) {
+            give_in(&mut self.scene, at, value);
         }
     }
 
@@ -77,6 +95,50 @@ impl Objects {
     pub fn exchange(&mut self, scene: Group)
         ensures { self.new ≡ record self.old { scene = scene } }
     {
-        self.scene = scene;
+        self.scene = Some(scene);
+    }
+}
+
+/// The object of the scene, if there is one, to which the reference leads.
+fn get_in<'a>(scene: &'a Option<Group>, at: &ObjRef) -> Option<&'a Object>
+    ensures { option_copied result ≡ object_at at.now (of_scene scene.now) }
+{
+    match scene {
+        Some(group) => group.get(at),
+        None => None,
+    }
+}
+
+/// The object at this place of the scene, if there is one.
+fn at_in(scene: &Option<Group>, place: usize) -> Option<&Object>
+    ensures { option_copied result ≡ slice_get (of_scene scene.now) place }
+{
+    match scene {
+        Some(group) => group.at(place),
+        None => None,
+    }
+}
+
+/// Changes the body of the scene's object at this reference, and answers whether it is a visible.
+fn edit_in(scene: &mut Option<Group>, at: &ObjRef, edit: Edit) -> Result<bool, AllocError>
+    ensures done { OnOk result (of_scene scene.new ≡ edited_in edit at.now (of_scene scene.old)) }
+    ensures seen { IfOk result (λ s. s ≡ is_visible_at (object_at at.now (of_scene scene.old))) }
+    ensures kept { OnErr result (of_scene scene.new ≡ of_scene scene.old) }
+{
+    match scene {
+        Some(group) => match group.edit(at, edit)? {
+            Tried::Done(seen) => Ok(seen),
+            Tried::Left(_) => Ok(false),
+        },
+        None => Ok(false),
+    }
+}
+
+/// Gives the scene's variable at this reference a value.
+fn give_in(scene: &mut Option<Group>, at: &ObjRef, value: Value)
+    ensures { of_scene scene.new ≡ given_in value at.now (of_scene scene.old) }
+{
+    if let Some(group) = scene {
+        group.give(at, value);
     }
 }

@@ -1,117 +1,105 @@
 //! Names of groups and their paths, types of events, and lists.
+use crate::cases::{Question, all_hold, behind, number, said, word};
 use mh_base::{EventType, GroupName, NameError, Octets, Seq, Shared};
 use std::alloc::{AllocError, Global};
 
-/// The path of a group, a name that it writes, and the path to which the name leads, if to any.
-static NAMES: [(&[u8], &[u8], &[u8]); 30] = [
-    (b"a", b"x", b"x"),
-    (b"d/e", b"x", b"d/x"),
-    (b"d/e/f", b"x/y", b"d/e/x/y"),
-    (b"d/e", b"/x", b"x"),
-    (b"d/e", b"///x", b"x"),
-    (b"d/e", b"~x", b"x"),
-    (b"d/e", b"~/x", b"x"),
-    (b"d/e", b"~//x", b"x"),
-    (b"d/e", b"~/~x", b"~x"),
-    (b"d/e", b"~~x", b"~x"),
-    (b"d/e", b"DSM:x", b"x"),
-    (b"d/e", b"DSM://x/y", b"x/y"),
-    (b"d/e", b"DSM:~/x", b"~/x"),
-    (b"d/e", b"dsm:x", b"d/dsm:x"),
-    (b"d/e", b"DSM", b"d/DSM"),
-    (b"d/e", b"x y!", b"d/x y!"),
-    (b"d/e", b".x", b"d/.x"),
-    (b"d/e", b"...", b"d/..."),
-    (b"d/e", b"", b""),
-    (b"d/e", b"~", b""),
-    (b"d/e", b"~/", b""),
-    (b"d/e", b"DSM:", b""),
-    (b"d/e", b"DSM://a//b", b""),
-    (b"d/e", b"x/", b""),
-    (b"a", b"../x", b""),
-    (b"d/e", b"../x", b""),
-    (b"a", b"a/./b", b""),
-    (b"a", b"~/a/..", b""),
-    (b"a", b"x\"", b""),
-    (b"a", b"x\x7f", b""),
-];
+/// The path of a group and a name that it writes, and the path to which the name leads, if to any.
+static NAMES: &str = r#"
+a x => x;; d/e x => d/x;; d/e/f x/y => d/e/x/y;; d/e /x => x;; d/e ///x => x;; d/e ~x => x;;
+d/e ~/x => x;; d/e ~//x => x;; d/e ~/~x => ~x;; d/e ~~x => ~x;; d/e DSM:x => x;;
+d/e DSM://x/y => x/y;; d/e DSM:~/x => ~/x;; d/e dsm:x => d/dsm:x;; d/e DSM => d/DSM;;
+d/e x y! => d/x y!;; d/e .x => d/.x;; d/e ... => d/...;; d/e  => none;; d/e ~ => none;;
+d/e ~/ => none;; d/e DSM: => none;; d/e DSM://a//b => none;; d/e x/ => none;; a ../x => none;;
+d/e ../x => none;; a a/./b => none;; a ~/a/.. => none;; a x" => none;; a x\7f\ => none"#;
 
-fn found(alloc: Global, from: &[u8], name: &[u8]) -> Result<GroupName, NameError> {
-    let from = GroupName::of_path(alloc, from)?;
-    GroupName::resolve(alloc, &from, name)
+/// The path to which the name leads.
+fn path_of(alloc: Global, from: &[u8], name: &[u8]) -> Option<Vec<u8>> {
+    let from = GroupName::of_path(alloc, from).ok()?;
+    match GroupName::resolve(alloc, &from, name) {
+        Ok(name) => said(alloc, name.as_bytes()),
+        Err(NameError::BadName) => said(alloc, b"none"),
+        Err(NameError::NoMemory) => None,
+    }
 }
 
-/// Whether the name leads to the path, or to none where the path is empty.
-fn leads(alloc: Global, from: &[u8], name: &[u8], path: &[u8]) -> bool {
-    match found(alloc, from, name) {
-        Ok(name) => name.as_bytes() == path,
-        Err(NameError::BadName) => path.is_empty(),
-        Err(NameError::NoMemory) => false,
+struct Path;
+
+impl Question for Path {
+    fn answer(alloc: Global, asked: &str, bytes: &[u8]) -> Option<Vec<u8>> {
+        let from = word(asked, 0).as_bytes();
+        path_of(alloc, from, behind(asked, bytes)?)
     }
 }
 
 #[test]
 fn leads_names_to_paths(rt: HostRuntime) {
-    for (from, name, path) in &NAMES {
-        assert!(rt; leads(rt.alloc(), *from, *name, *path), "{name:?}");
-    }
+    all_hold::<Path>(&rt, rt.alloc(), NAMES);
 }
 
-/// The beginning of a name, how many letters stand behind it, and how long the path is to which the
-/// name leads that the group `d/e` writes.
-static LENGTHS: [(&[u8], u32, usize); 7] = [
-    (b"/", 1, 1),
-    (b"~/", 255, 255),
-    (b"~/", 256, 0),
-    (b"DSM:", 255, 255),
-    (b"DSM:", 256, 0),
-    (b"", 253, 255),
-    (b"", 254, 0),
-];
+/// How many letters stand behind the beginning of a name, and how long the path is to which the name
+/// leads that the group `d/e` writes, if it leads to any.
+static LENGTHS: &str = r#"
+1 / => 1;; 255 ~/ => 255;; 256 ~/ => none;; 255 DSM: => 255;; 256 DSM: => none;; 253  => 255;;
+254  => none"#;
 
-fn long_name(alloc: Global, front: &[u8], count: u32) -> Result<Vec<u8>, AllocError> {
-    let mut name = Vec::from_slice(alloc, front)?;
+fn long_name(alloc: Global, front: &str, count: u32) -> Option<Vec<u8>> {
+    let mut name = said(alloc, front.as_bytes())?;
     for _ in 0..count {
-        name.push(b'x')?;
+        name.push(b'x').ok()?;
     }
-    Ok(name)
+    Some(name)
 }
 
-/// How long the path is, or 0 where there is none.
-fn path_length(alloc: Global, front: &[u8], count: u32) -> Result<usize, NameError> {
-    let name = long_name(alloc, front, count)?;
-    match found(alloc, b"d/e", name.as_slice()) {
-        Ok(name) => Ok(name.as_bytes().len()),
-        Err(NameError::BadName) => Ok(0),
-        Err(NameError::NoMemory) => Err(NameError::NoMemory),
+/// How long the path is, or nothing where there is none.
+fn length_of(alloc: Global, name: &[u8]) -> Option<Vec<u8>> {
+    let path = path_of(alloc, b"d/e", name)?;
+    if path.as_slice() == b"none".as_slice() {
+        return Some(path);
+    }
+    let length = path.len();
+    Some(format!(in alloc; "{length}").ok()?.into_bytes())
+}
+
+struct Length;
+
+impl Question for Length {
+    fn answer(alloc: Global, asked: &str, _: &[u8]) -> Option<Vec<u8>> {
+        let name = long_name(alloc, word(asked, 1), number(asked, 0)?)?;
+        length_of(alloc, name.as_slice())
     }
 }
 
 #[test]
 fn takes_paths_of_255_bytes(rt: HostRuntime) {
-    for (front, count, length) in &LENGTHS {
-        let found = path_length(rt.alloc(), *front, *count).unwrap_or(999);
-        assert!(rt; found == *length, "{count} letters");
+    all_hold::<Length>(&rt, rt.alloc(), LENGTHS);
+}
+
+/// Of each number the type of events that has it: one that comes at once, one that waits in the queue,
+/// or none.
+static EVENTS: &[u8] = b"-sqsssq-qqqssq---ss--sssssssssqq-";
+
+fn letter(number: u32) -> u8 {
+    match EventType::of_number(number) {
+        Some(event) if event.number() != number => b'?',
+        Some(event) if event.is_sync() => b's',
+        Some(_) => b'q',
+        None => b'-',
     }
 }
 
-/// The numbers that no type of events has.
-static MISSING: [u32; 8] = [0, 7, 14, 15, 16, 19, 20, 32];
-
-/// The numbers of the types whose events wait in the queue.
-static QUEUED: [u32; 8] = [2, 6, 8, 9, 10, 13, 30, 31];
+/// Whether the numbers below 33 have these letters.
+fn have_letters(letters: &[u8]) -> bool {
+    for number in 0..33 {
+        if letters.get(number as usize).copied() != Some(letter(number)) {
+            return false;
+        }
+    }
+    letters.len() == 33
+}
 
 #[test]
 fn knows_the_types_of_events(rt: HostRuntime) {
-    for number in 0..33 {
-        match EventType::of_number(number) {
-            Some(event) => {
-                assert!(rt; event.number() == number && !MISSING.contains(&number));
-                assert!(rt; event.is_sync() != QUEUED.contains(&number), "{number}");
-            }
-            None => assert!(rt; MISSING.contains(&number), "{number}"),
-        }
-    }
+    assert!(rt; have_letters(EVENTS));
 }
 
 fn keeps_octets(alloc: Global) -> Result<bool, AllocError> {

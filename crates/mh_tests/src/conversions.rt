@@ -1,51 +1,39 @@
 //! Conversions of what is no group, or too long in the other notation.
+use crate::cases::{Question, all_hold, are};
 use crate::octets::repeated;
-use crate::playing::{are, empty_sink, ended};
-use mh_report::{Notation, PlayError, convert_bytes};
+use crate::playing::converted;
+use mh_report::Notation;
 use std::alloc::{AllocError, Global};
 
-/// What the conversion of a file called `a` writes.
-fn converted(alloc: Global, bytes: &[u8], to: Notation) -> Result<Vec<u8>, PlayError> {
-    let mut sink = empty_sink(alloc);
-    let status = convert_bytes(alloc, b"a", bytes, to, &mut sink)?;
-    Ok(ended(alloc, sink, status)?)
-}
-
 /// Files, and what is said of them whatever the other notation is.
-static WRONG: [(&[u8], &[u8]); 10] = [
-    (br#"{:Application ("~/a" 0)"#, b"file a 21 23\nexit 2\n"),
-    (br#"{:Applicatoin ("~/a" 0) }"#, b"file a 22 1\nexit 2\n"),
-    (br#"{:Application ("~/a` 0) }"#, b"file a 20 15\nexit 2\n"),
-    (br#"{:Application ("~/a" 1) }"#, b"file a 23 21\nexit 2\n"),
-    (b"", b"file a 21 0\nexit 2\n"),
-    (b"\xa0", b"file a 1 0\nexit 2\n"),
-    (b"\xa0\x80\x00\x00", b"file a 4 0\nexit 2\n"),
-    (
-        b"\xa0\x0a\x30\x08\x04\x03~/a\x02\x01\x01",
-        b"file a 14 9\nexit 2\n",
-    ),
-    (
-        b"\xa0\x0a\x30\x08\x04\x03~/a\x02\x01\x00\x00",
-        b"file a 7 12\nexit 2\n",
-    ),
-    (
-        b"\xa1\x0f\x30\x08\x04\x03~/s\x02\x01\x00\xac\x03\x02\x01\x00",
-        b"file a 10 12\nexit 2\n",
-    ),
-];
+static WRONG: &str = r#"
+{:Application ("~/a" 0) => file a 21 23|exit 2|;; {:Applicatoin ("~/a" 0) } => file a 22 1|exit 2|;;
+{:Application ("~/a` 0) } => file a 20 15|exit 2|;;
+{:Application ("~/a" 1) } => file a 23 21|exit 2|;;  => file a 21 0|exit 2|;;
+\a0\ => file a 1 0|exit 2|;; \a0800000\ => file a 4 0|exit 2|;;
+\a00a 3008 04037e2f61 020101\ => file a 14 9|exit 2|;;
+\a00a 3008 04037e2f61 020100 00\ => file a 7 12|exit 2|;;
+\a10f 3008 04037e2f73 020100 ac03 020100\ => file a 10 12|exit 2|"#;
+
+struct Either;
+
+impl Question for Either {
+    fn answer(alloc: Global, _: &str, file: &[u8]) -> Option<Vec<u8>> {
+        let written = converted(alloc, b"a", file, Notation::Binary)?;
+        if are(
+            converted(alloc, b"a", file, Notation::Textual),
+            written.as_slice(),
+        ) {
+            Some(written)
+        } else {
+            None
+        }
+    }
+}
 
 #[test]
 fn says_what_is_wrong(rt: HostRuntime) {
-    for (bytes, wanted) in &WRONG {
-        assert!(rt;
-            are(converted(rt.alloc(), *bytes, Notation::Binary), *wanted),
-            "{bytes:?}"
-        );
-        assert!(rt;
-            are(converted(rt.alloc(), *bytes, Notation::Textual), *wanted),
-            "{bytes:?}"
-        );
-    }
+    all_hold::<Either>(&rt, rt.alloc(), WRONG);
 }
 
 /// A text whose octets are more than a file may hold: rows of zeros, two bytes each in the text and
@@ -63,14 +51,14 @@ fn many_octets(alloc: Global) -> Result<Vec<u8>, AllocError> {
     repeated(alloc, front, b"\x00", 400_000, b"")
 }
 
-fn numbers_converted(alloc: Global) -> Result<Vec<u8>, PlayError> {
-    let text = many_numbers(alloc)?;
-    converted(alloc, text.as_slice(), Notation::Binary)
+fn numbers_converted(alloc: Global) -> Option<Vec<u8>> {
+    let text = many_numbers(alloc).ok()?;
+    converted(alloc, b"a", text.as_slice(), Notation::Binary)
 }
 
-fn octets_converted(alloc: Global) -> Result<Vec<u8>, PlayError> {
-    let octets = many_octets(alloc)?;
-    converted(alloc, octets.as_slice(), Notation::Textual)
+fn octets_converted(alloc: Global) -> Option<Vec<u8>> {
+    let octets = many_octets(alloc).ok()?;
+    converted(alloc, b"a", octets.as_slice(), Notation::Textual)
 }
 
 #[test]

@@ -1,64 +1,63 @@
 //! Elements: octets worked out by hand from ITU-T X.690.
+use crate::cases::{Question, all_hold, are, behind, placed, said, word};
 use mh_der::{
     DerError, Element, INTEGER, OCTET_STRING, Reader, SEQUENCE, Tag, TagClass, Why, int_of,
 };
 use std::alloc::{AllocError, Global};
 
-/// The number and the offset of the refusal, or 0 and 0 where there is none.
-pub fn told<T: Drop>(found: Result<T, DerError>) -> (u32, usize) {
+/// What is said of a refusal.
+pub fn refusal(alloc: Global, error: DerError) -> Option<Vec<u8>> {
+    placed(alloc, error.why.number(), error.offset)
+}
+
+fn told<T: Drop>(alloc: Global, found: Result<T, DerError>) -> Option<Vec<u8>> {
     match found {
-        Ok(_) => (0, 0),
-        Err(error) => (error.why.number(), error.offset),
+        Ok(_) => said(alloc, b"read"),
+        Err(error) => refusal(alloc, error),
     }
+}
+
+/// Sources, and why their first element is refused at its first byte.
+static ELEMENTS: &str = r#"
+first \a00a 3008 04037e2f61 020100\ => read;; first \a0800000\ => 4 0;; first \a080\ => 4 0;;
+first \bf1e00\ => 2 0;; first \bf1f00\ => read;; first \bf0000\ => 2 0;; first \bf800100\ => 2 0;;
+first \bf807f00\ => 2 0;; first \bf7e00\ => read;; first \bf810000\ => read;;
+first \bf83ff7f00\ => read;; first \bf84800000\ => 2 0;; first \bf8180800000\ => 2 0;;
+first \bf\ => 1 0;; first \bf81\ => 1 0;; first \bf8180\ => 1 0;; first \bf8100\ => 1 0;;
+first \a0810a 3008 04037e2f61 020100\ => 3 0;; first \04817f\ => 3 0;; first \048180\ => 1 0;;
+first \04820080\ => 3 0;; first \04820000\ => 3 0;; first \048201\ => 1 0;; first \0481\ => 1 0;;
+first \0483010000\ => 1 0;; first \0488ffffffffffffffff\ => 1 0;;
+first \0489010000000000000000\ => 1 0;; first \04ff01\ => 1 0;; first  => 1 0;; first \04\ => 1 0;;
+first \0401\ => 1 0;; first \0400\ => read;; first \0400 bf\ => read"#;
+
+/// What is said of the first element, of the first one inside it, or of what stands behind it.
+struct Source;
+
+impl Question for Source {
+    fn answer(alloc: Global, asked: &str, bytes: &[u8]) -> Option<Vec<u8>> {
+        let octets = behind(asked, bytes)?;
+        match word(asked, 0) {
+            "first" => told(alloc, Reader::new(octets).next()),
+            "inside" => told(alloc, first_inside(octets)),
+            "behind" => told(alloc, left_behind(octets)),
+            _ => None,
+        }
+    }
+}
+
+#[test]
+fn reads_and_refuses(rt: HostRuntime) {
+    all_hold::<Source>(&rt, rt.alloc(), ELEMENTS);
 }
 
 /// The element `a0`, with a sequence of the text `~/a` and the number 0.
 static WHOLE: &[u8] = b"\xa0\x0a\x30\x08\x04\x03~/a\x02\x01\x00";
 
-/// Sources, and why their first element is refused at its first byte, or 0.
-static ELEMENTS: [(u32, &[u8]); 33] = [
-    (0, b"\xa0\x0a\x30\x08\x04\x03~/a\x02\x01\x00"),
-    (4, b"\xa0\x80\x00\x00"),
-    (4, b"\xa0\x80"),
-    (2, b"\xbf\x1e\x00"),
-    (0, b"\xbf\x1f\x00"),
-    (2, b"\xbf\x00\x00"),
-    (2, b"\xbf\x80\x01\x00"),
-    (2, b"\xbf\x80\x7f\x00"),
-    (0, b"\xbf\x7e\x00"),
-    (0, b"\xbf\x81\x00\x00"),
-    (0, b"\xbf\x83\xff\x7f\x00"),
-    (2, b"\xbf\x84\x80\x00\x00"),
-    (2, b"\xbf\x81\x80\x80\x00\x00"),
-    (1, b"\xbf"),
-    (1, b"\xbf\x81"),
-    (1, b"\xbf\x81\x80"),
-    (1, b"\xbf\x81\x00"),
-    (3, b"\xa0\x81\x0a\x30\x08\x04\x03~/a\x02\x01\x00"),
-    (3, b"\x04\x81\x7f"),
-    (1, b"\x04\x81\x80"),
-    (3, b"\x04\x82\x00\x80"),
-    (3, b"\x04\x82\x00\x00"),
-    (1, b"\x04\x82\x01"),
-    (1, b"\x04\x81"),
-    (1, b"\x04\x83\x01\x00\x00"),
-    (1, b"\x04\x88\xff\xff\xff\xff\xff\xff\xff\xff"),
-    (1, b"\x04\x89\x01\x00\x00\x00\x00\x00\x00\x00\x00"),
-    (1, b"\x04\xff\x01"),
-    (1, b""),
-    (1, b"\x04"),
-    (1, b"\x04\x01"),
-    (0, b"\x04\x00"),
-    (0, b"\x04\x00\xbf"),
-];
-
-#[test]
-fn reads_and_refuses(rt: HostRuntime) {
-    for (number, source) in &ELEMENTS {
-        assert!(rt;
-            told(Reader::new(*source).next()) == (*number, 0),
-            "{source:?}"
-        );
+/// Whether the element is refused at its first byte, since it was cut off.
+fn is_cut(octets: &[u8]) -> bool {
+    match Reader::new(octets).next() {
+        Ok(_) => false,
+        Err(error) => error.why.number() == 1 && error.offset == 0,
     }
 }
 
@@ -66,34 +65,25 @@ fn reads_and_refuses(rt: HostRuntime) {
 #[test]
 fn refuses_what_is_cut_off(rt: HostRuntime) {
     for end in 0..WHOLE.len() {
-        assert!(rt;
-            told(Reader::new(&WHOLE[..end]).next()) == (1, 0),
-            "cut at {end}"
-        );
+        assert!(rt; is_cut(&WHOLE[..end]), "cut at {end}");
     }
 }
 
 /// Sources, and why and where the first element in their first one is refused.
-static INSIDE: [(u32, usize, &[u8]); 4] = [
-    (0, 0, b"\xa0\x0a\x30\x08\x04\x03~/a\x02\x01\x00"),
-    (1, 2, b"\xa0\x0a\x30\x09\x04\x03~/a\x02\x01\x00"),
-    (1, 4, b"\xbf\x81\x00\x02\x04\x81"),
-    (1, 2, b"\xa0\x00"),
-];
+static INSIDE: &str = r#"
+inside \a00a 3008 04037e2f61 020100\ => read;; inside \a00a 300904037e2f61020100\ => 1 2;;
+inside \bf810002 0481\ => 1 4;; inside \a000\ => 1 2"#;
 
-fn inside(source: &[u8]) -> Result<Element<'_>, DerError> {
+fn first_inside(source: &[u8]) -> Result<Element<'_>, DerError> {
     let element = Reader::new(source).next()?;
     element.contents().next()
 }
 
 /// Sources, and why and where what stands behind their first element is refused.
-static BEHIND: [(u32, usize, &[u8]); 3] = [
-    (0, 0, b"\x04\x00"),
-    (7, 2, b"\x04\x00\x00"),
-    (7, 4, b"\x04\x02\x01\x02\x30\x00"),
-];
+static BEHIND: &str = r#"
+behind \0400\ => read;; behind \0400 00\ => 7 2;; behind \04020102 3000\ => 7 4"#;
 
-fn behind(source: &[u8]) -> Result<(), DerError> {
+fn left_behind(source: &[u8]) -> Result<(), DerError> {
     let mut reader = Reader::new(source);
     let _ = reader.next()?;
     reader.ended()
@@ -102,12 +92,8 @@ fn behind(source: &[u8]) -> Result<(), DerError> {
 /// Offsets are those of the source.
 #[test]
 fn refuses_inside_and_behind(rt: HostRuntime) {
-    for (number, offset, source) in &INSIDE {
-        assert!(rt; told(inside(*source)) == (*number, *offset), "{source:?}");
-    }
-    for (number, offset, source) in &BEHIND {
-        assert!(rt; told(behind(*source)) == (*number, *offset), "{source:?}");
-    }
+    all_hold::<Source>(&rt, rt.alloc(), INSIDE);
+    all_hold::<Source>(&rt, rt.alloc(), BEHIND);
 }
 
 /// The tag 0 of its own.
@@ -158,37 +144,43 @@ fn stands_after_an_error(rt: HostRuntime) {
     assert!(rt; reader.bytes() == &source[2..] && !reader.is_empty());
 }
 
-/// What the refusals say.
-static REFUSALS: [(Why, u32, &str); 7] = [
-    (
-        Why::Truncated,
-        1,
-        "1: the bytes end before the element does (at 9)",
-    ),
-    (Why::BadTag, 2, "2: no tag is written so (at 9)"),
-    (
-        Why::LongLength,
-        3,
-        "3: the length is not in its shortest form (at 9)",
-    ),
-    (Why::Indefinite, 4, "4: the length is left open (at 9)"),
-    (Why::BadInteger, 5, "5: no integer is written so (at 9)"),
-    (Why::BadBoolean, 6, "6: no truth value is written so (at 9)"),
-    (Why::Trailing, 7, "7: nothing may stand here (at 9)"),
+/// The refusals, in the order of their numbers.
+static REFUSALS: [Why; 7] = [
+    Why::Truncated,
+    Why::BadTag,
+    Why::LongLength,
+    Why::Indefinite,
+    Why::BadInteger,
+    Why::BadBoolean,
+    Why::Trailing,
 ];
 
-fn is_worded(alloc: Global, why: Why, words: &str) -> Result<bool, AllocError> {
-    let error = DerError { why, offset: 9 };
-    Ok(format!(in alloc; "{error}")?.as_str() == words)
+/// The number of each, and what it says.
+static WORDS: &[u8] = b"\
+    1 1: the bytes end before the element does (at 9)\n\
+    2 2: no tag is written so (at 9)\n\
+    3 3: the length is not in its shortest form (at 9)\n\
+    4 4: the length is left open (at 9)\n\
+    5 5: no integer is written so (at 9)\n\
+    6 6: no truth value is written so (at 9)\n\
+    7 7: nothing may stand here (at 9)\n\
+    ";
+
+fn all_words(alloc: Global) -> Result<Vec<u8>, AllocError> {
+    let mut words = Vec::new(alloc);
+    for why in &REFUSALS {
+        let number = why.number();
+        let error = DerError {
+            why: *why,
+            offset: 9,
+        };
+        let line = format!(in alloc; "{number} {error}\n")?;
+        words.extend_from_slice(line.as_bytes())?;
+    }
+    Ok(words)
 }
 
 #[test]
 fn says_why(rt: HostRuntime) {
-    for (why, number, words) in &REFUSALS {
-        assert!(rt; why.number() == *number, "{words}");
-        assert!(rt;
-            is_worded(rt.alloc(), *why, *words).unwrap_or(false),
-            "{words}"
-        );
-    }
+    assert!(rt; are(all_words(rt.alloc()).ok(), WORDS));
 }

@@ -1,54 +1,24 @@
 //! Integers, truth values and elements, read and written: octets worked out by hand from ITU-T X.690.
-use crate::der::{CONTEXT, told};
+use crate::cases::{Question, all_hold, are, behind, number, said, word};
+use crate::der::{CONTEXT, refusal};
 use mh_der::{
     BOOLEAN, DerError, OCTET_STRING, Reader, SEQUENCE, Tag, TagClass, bool_of, int_of, write_bool,
     write_element, write_int,
 };
 use std::alloc::{AllocError, Global};
 
-/// Integers with their one spelling.
-static INTEGERS: [(i32, &[u8]); 16] = [
-    (0, b"\x02\x01\x00"),
-    (1, b"\x02\x01\x01"),
-    (127, b"\x02\x01\x7f"),
-    (128, b"\x02\x02\x00\x80"),
-    (256, b"\x02\x02\x01\x00"),
-    (-1, b"\x02\x01\xff"),
-    (-128, b"\x02\x01\x80"),
-    (-129, b"\x02\x02\xff\x7f"),
-    (32767, b"\x02\x02\x7f\xff"),
-    (-32768, b"\x02\x02\x80\x00"),
-    (32768, b"\x02\x03\x00\x80\x00"),
-    (-32769, b"\x02\x03\xff\x7f\xff"),
-    (-8388608, b"\x02\x03\x80\x00\x00"),
-    (8388608, b"\x02\x04\x00\x80\x00\x00"),
-    (2147483647, b"\x02\x04\x7f\xff\xff\xff"),
-    (-2147483648, b"\x02\x04\x80\x00\x00\x00"),
-];
+/// Integers in their one spelling, and what spells none.
+static INTEGERS: &str = r#"
+\020100\ => 0;; \020101\ => 1;; \02017f\ => 127;; \02020080\ => 128;; \02020100\ => 256;;
+\0201ff\ => -1;; \020180\ => -128;; \0202ff7f\ => -129;; \02027fff\ => 32767;;
+\02028000\ => -32768;; \0203008000\ => 32768;; \0203ff7fff\ => -32769;; \0203800000\ => -8388608;;
+\020400800000\ => 8388608;; \02047fffffff\ => 2147483647;; \020480000000\ => -2147483648;;
+\02020000\ => 5 0;; \0202007f\ => 5 0;; \0202ff80\ => 5 0;; \0202ffff\ => 5 0;;
+\0203000080\ => 5 0;; \0203ffff7f\ => 5 0;; \0204007fffff\ => 5 0;; \02050080000000\ => 5 0;;
+\02050100000000\ => 5 0;; \0200\ => 5 0"#;
 
-/// What spells no integer.
-static NO_INTEGERS: [&[u8]; 10] = [
-    b"\x02\x02\x00\x00",
-    b"\x02\x02\x00\x7f",
-    b"\x02\x02\xff\x80",
-    b"\x02\x02\xff\xff",
-    b"\x02\x03\x00\x00\x80",
-    b"\x02\x03\xff\xff\x7f",
-    b"\x02\x04\x00\x7f\xff\xff",
-    b"\x02\x05\x00\x80\x00\x00\x00",
-    b"\x02\x05\x01\x00\x00\x00\x00",
-    b"\x02\x00",
-];
-
-fn integer(source: &[u8]) -> Result<i32, DerError> {
+fn integer_of(source: &[u8]) -> Result<i32, DerError> {
     int_of(&Reader::new(source).next()?)
-}
-
-fn is_read_as(source: &[u8], value: i32) -> bool {
-    match integer(source) {
-        Ok(found) => found == value,
-        Err(_) => false,
-    }
 }
 
 fn is_written_as(alloc: Global, value: i32, octets: &[u8]) -> Result<bool, AllocError> {
@@ -57,38 +27,49 @@ fn is_written_as(alloc: Global, value: i32, octets: &[u8]) -> Result<bool, Alloc
     Ok(out.as_slice() == octets)
 }
 
-#[test]
-fn reads_and_writes_integers(rt: HostRuntime) {
-    for (value, octets) in &INTEGERS {
-        assert!(rt; is_read_as(*octets, *value), "{value}");
-        let is_written = is_written_as(rt.alloc(), *value, *octets).unwrap_or(false);
-        assert!(rt; is_written, "{value}");
-    }
-    for source in &NO_INTEGERS {
-        assert!(rt; told(integer(*source)) == (5, 0), "{source:?}");
+struct Integer;
+
+impl Question for Integer {
+    fn answer(alloc: Global, _: &str, octets: &[u8]) -> Option<Vec<u8>> {
+        match integer_of(octets) {
+            Ok(value) if is_written_as(alloc, value, octets).ok()? => {
+                Some(format!(in alloc; "{value}").ok()?.into_bytes())
+            }
+            Ok(_) => said(alloc, b"written otherwise"),
+            Err(error) => refusal(alloc, error),
+        }
     }
 }
 
-/// Truth values, and why they are not read, or 0.
-static TRUTHS: [(u32, bool, &[u8]); 6] = [
-    (0, true, b"\x01\x01\xff"),
-    (0, false, b"\x01\x01\x00"),
-    (6, false, b"\x01\x01\x01"),
-    (6, false, b"\x01\x01\xfe"),
-    (6, false, b"\x01\x00"),
-    (6, false, b"\x01\x02\xff\xff"),
-];
+#[test]
+fn reads_and_writes_integers(rt: HostRuntime) {
+    all_hold::<Integer>(&rt, rt.alloc(), INTEGERS);
+}
 
-fn truth(source: &[u8]) -> Result<bool, DerError> {
+/// Truth values, and what spells none.
+static TRUTHS: &str = r#"
+\0101ff\ => true;; \010100\ => false;; \010101\ => 6 0;; \0101fe\ => 6 0;; \0100\ => 6 0;;
+\0102ffff\ => 6 0"#;
+
+fn truth_of(source: &[u8]) -> Result<bool, DerError> {
     bool_of(&Reader::new(source).next()?)
+}
+
+struct Truth;
+
+impl Question for Truth {
+    fn answer(alloc: Global, _: &str, octets: &[u8]) -> Option<Vec<u8>> {
+        match truth_of(octets) {
+            Ok(true) => said(alloc, b"true"),
+            Ok(false) => said(alloc, b"false"),
+            Err(error) => refusal(alloc, error),
+        }
+    }
 }
 
 #[test]
 fn reads_truth_values(rt: HostRuntime) {
-    for (number, value, source) in &TRUTHS {
-        assert!(rt; told(truth(*source)) == (*number, 0), "{source:?}");
-        assert!(rt; truth(*source).unwrap_or(false) == *value, "{source:?}");
-    }
+    all_hold::<Truth>(&rt, rt.alloc(), TRUTHS);
 }
 
 fn written_all(alloc: Global) -> Result<Vec<u8>, AllocError> {
@@ -109,45 +90,24 @@ fn written_all(alloc: Global) -> Result<Vec<u8>, AllocError> {
 #[test]
 fn writes_elements(rt: HostRuntime) {
     let wanted = b"\xa0\x0a\x30\x08\x04\x03~/a\x02\x01\x00\x01\x01\xff\x01\x01\x00\x01\x00";
-    match written_all(rt.alloc()) {
-        Ok(octets) => assert!(rt; octets.as_slice() == wanted.as_slice()),
-        Err(_) => assert!(rt; false, "no memory"),
-    }
+    assert!(rt; are(written_all(rt.alloc()).ok(), wanted));
 }
 
 /// The class, the form and the number of a tag, how many octets of contents there are, and what stands
 /// in front of them.
-static FRONTS: [(TagClass, bool, u16, usize, &[u8]); 23] = [
-    (TagClass::Context, true, 0, 0, b"\xa0\x00"),
-    (TagClass::Context, true, 30, 0, b"\xbe\x00"),
-    (TagClass::Context, true, 31, 0, b"\xbf\x1f\x00"),
-    (TagClass::Context, true, 126, 0, b"\xbf\x7e\x00"),
-    (TagClass::Context, true, 127, 0, b"\xbf\x7f\x00"),
-    (TagClass::Context, true, 128, 0, b"\xbf\x81\x00\x00"),
-    (TagClass::Context, true, 201, 0, b"\xbf\x81\x49\x00"),
-    (TagClass::Context, true, 16383, 0, b"\xbf\xff\x7f\x00"),
-    (TagClass::Context, true, 16384, 0, b"\xbf\x81\x80\x00\x00"),
-    (TagClass::Context, true, 65535, 0, b"\xbf\x83\xff\x7f\x00"),
-    (TagClass::Universal, false, 5, 0, b"\x05\x00"),
-    (TagClass::Universal, true, 5, 0, b"\x25\x00"),
-    (TagClass::Application, false, 5, 0, b"\x45\x00"),
-    (TagClass::Context, false, 5, 0, b"\x85\x00"),
-    (TagClass::Private, false, 5, 0, b"\xc5\x00"),
-    (TagClass::Private, true, 5, 0, b"\xe5\x00"),
-    (TagClass::Universal, false, 4, 1, b"\x04\x01"),
-    (TagClass::Universal, false, 4, 127, b"\x04\x7f"),
-    (TagClass::Universal, false, 4, 128, b"\x04\x81\x80"),
-    (TagClass::Universal, false, 4, 255, b"\x04\x81\xff"),
-    (TagClass::Universal, false, 4, 256, b"\x04\x82\x01\x00"),
-    (TagClass::Universal, false, 4, 65535, b"\x04\x82\xff\xff"),
-    (
-        TagClass::Universal,
-        false,
-        4,
-        65536,
-        b"\x04\x83\x01\x00\x00",
-    ),
-];
+static FRONTS: &str = r#"
+context constructed 0 0 => \a000\;; context constructed 30 0 => \be00\;;
+context constructed 31 0 => \bf1f00\;; context constructed 126 0 => \bf7e00\;;
+context constructed 127 0 => \bf7f00\;; context constructed 128 0 => \bf810000\;;
+context constructed 201 0 => \bf814900\;; context constructed 16383 0 => \bfff7f00\;;
+context constructed 16384 0 => \bf81800000\;; context constructed 65535 0 => \bf83ff7f00\;;
+universal primitive 5 0 => \0500\;; universal constructed 5 0 => \2500\;;
+application primitive 5 0 => \4500\;; context primitive 5 0 => \8500\;;
+private primitive 5 0 => \c500\;; private constructed 5 0 => \e500\;;
+universal primitive 4 1 => \0401\;; universal primitive 4 127 => \047f\;;
+universal primitive 4 128 => \048180\;; universal primitive 4 255 => \0481ff\;;
+universal primitive 4 256 => \04820100\;; universal primitive 4 65535 => \0482ffff\;;
+universal primitive 4 65536 => \0483010000\"#;
 
 fn written(alloc: Global, tag: Tag, contents: &[u8]) -> Result<Vec<u8>, AllocError> {
     let mut out = Vec::new(alloc);
@@ -166,26 +126,42 @@ fn is_read_back(octets: &[u8], tag: Tag, contents: &[u8]) -> bool {
     }
 }
 
-/// Whether this front is written before so many octets, and the element is read back.
-fn has_front(alloc: Global, tag: Tag, size: usize, front: &[u8]) -> Result<bool, AllocError> {
-    let contents = vec![in alloc; 90u8; size]?;
-    let out = written(alloc, tag, contents.as_slice())?;
-    Ok(
-        out.as_slice().starts_with(front)
-            && out.len() == size + front.len()
-            && is_read_back(out.as_slice(), tag, contents.as_slice()),
-    )
+fn class_of(word: &str) -> Option<TagClass> {
+    match word {
+        "universal" => Some(TagClass::Universal),
+        "application" => Some(TagClass::Application),
+        "context" => Some(TagClass::Context),
+        "private" => Some(TagClass::Private),
+        _ => None,
+    }
+}
+
+/// What stands in front of so many octets, where the element is read back.
+fn front_of(alloc: Global, tag: Tag, size: usize) -> Option<Vec<u8>> {
+    let contents = vec![in alloc; 90u8; size].ok()?;
+    let out = written(alloc, tag, contents.as_slice()).ok()?;
+    if is_read_back(out.as_slice(), tag, contents.as_slice()) {
+        let front = out.as_slice().strip_suffix(contents.as_slice())?;
+        said(alloc, front)
+    } else {
+        None
+    }
+}
+
+struct Front;
+
+impl Question for Front {
+    fn answer(alloc: Global, asked: &str, _: &[u8]) -> Option<Vec<u8>> {
+        let tag = Tag {
+            class: class_of(word(asked, 0))?,
+            is_constructed: word(asked, 1) == "constructed",
+            number: word(asked, 2).parse::<u16>().ok()?,
+        };
+        front_of(alloc, tag, number(asked, 3)? as usize)
+    }
 }
 
 #[test]
 fn writes_tags_and_lengths(rt: HostRuntime) {
-    for (class, is_constructed, number, size, front) in &FRONTS {
-        let tag = Tag {
-            class: *class,
-            is_constructed: *is_constructed,
-            number: *number,
-        };
-        let is_written = has_front(rt.alloc(), tag, *size, *front).unwrap_or(false);
-        assert!(rt; is_written, "{number} with {size}");
-    }
+    all_hold::<Front>(&rt, rt.alloc(), FRONTS);
 }

@@ -1,19 +1,10 @@
 //! The engine: what it answers when there is nothing to do, and when too many inputs wait.
-use crate::examples::{APPLICATION, EMPTY, SCENE};
-use crate::objects::service_of;
-use crate::playing::File;
+use crate::cases::all_hold;
+use crate::service::Asked;
 use mh_engine::{Engine, Rest, Stepped};
 use mh_model::{Input, Key};
 use mh_service::Service;
 use std::alloc::Global;
-
-fn lenient(alloc: Global, service: Service) -> Option<Engine> {
-    Engine::start_lenient(alloc, service).ok()
-}
-
-fn started(alloc: Global, files: &[File]) -> Option<Engine> {
-    lenient(alloc, service_of(alloc, files)?)
-}
 
 fn answers_idle(engine: &mut Engine) -> bool {
     matches!(engine.step(), Ok(Stepped::Idle))
@@ -29,15 +20,13 @@ fn steps_to_idle(engine: &mut Engine) -> u64 {
     100
 }
 
-#[test]
-fn answers_that_it_is_idle(rt: HostRuntime) {
-    match started(rt.alloc(), &[EMPTY]) {
-        Some(engine) => {
-            let mut engine = engine;
-            assert!(rt; steps_to_idle(&mut engine) == 2 && engine.taken() == 2);
-            assert!(rt; engine.rest() == Rest::Idle);
-        }
-        None => assert!(rt; false, "no engine"),
+/// How many steps are made before the engine is idle, and how many it says that it took.
+fn idle(alloc: Global, engine: &mut Engine) -> Option<Vec<u8>> {
+    let steps = steps_to_idle(engine);
+    let taken = engine.taken();
+    match engine.rest() {
+        Rest::Idle => Some(format!(in alloc; "{steps} {taken}").ok()?.into_bytes()),
+        _ => None,
     }
 }
 
@@ -62,14 +51,52 @@ fn keys_to_refusal(engine: &mut Engine) -> u32 {
     1000
 }
 
+/// How many keys wait when one more is not taken, and the number of its refusal.
+fn keys(alloc: Global, engine: &mut Engine) -> Option<Vec<u8>> {
+    let waiting = keys_to_refusal(engine);
+    let number = refusal_of_key(engine)?;
+    Some(format!(in alloc; "{waiting} {number}").ok()?.into_bytes())
+}
+
+/// What is played. Its owner below is generic, since a function that owns an engine by name is dear to
+/// prove.
+trait Played {
+    fn answer(&mut self, alloc: Global, asked: &str) -> Option<Vec<u8>>;
+}
+
+impl Played for Engine {
+    fn answer(&mut self, alloc: Global, asked: &str) -> Option<Vec<u8>> {
+        match asked {
+            "idle" => idle(alloc, self),
+            _ => keys(alloc, self),
+        }
+    }
+}
+
+fn of_played<P: Played + Drop>(alloc: Global, played: Option<P>, asked: &str) -> Option<Vec<u8>> {
+    let mut played = played;
+    played.as_mut()?.answer(alloc, asked)
+}
+
+/// What is answered of the engine of the service.
+pub fn of_engine(alloc: Global, service: Service, asked: &str) -> Option<Vec<u8>> {
+    of_played(alloc, Engine::start_lenient(alloc, service).ok(), asked)
+}
+
+#[test]
+fn answers_that_it_is_idle(rt: HostRuntime) {
+    all_hold::<Asked>(
+        &rt,
+        rt.alloc(),
+        "\nan empty application\nidle @empty\n=> 2 2",
+    );
+}
+
 #[test]
 fn refuses_a_key_too_many(rt: HostRuntime) {
-    match started(rt.alloc(), &[APPLICATION, SCENE]) {
-        Some(engine) => {
-            let mut engine = engine;
-            assert!(rt; keys_to_refusal(&mut engine) == 256);
-            assert!(rt; refusal_of_key(&mut engine) == Some(51));
-        }
-        None => assert!(rt; false, "no engine"),
-    }
+    all_hold::<Asked>(
+        &rt,
+        rt.alloc(),
+        "\na red box\nkeys @application @scene\n=> 256 51",
+    );
 }

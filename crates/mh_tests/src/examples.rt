@@ -1,60 +1,42 @@
 //! Small services that several files read, write or play.
-use crate::playing::File;
 
-/// Goes to the scene `s`.
-pub const APPLICATION_TEXT: &[u8] =
-    br#"{:Application ("~/a" 0) :OnStartUp ( :TransitionTo (("~/s" 0)) ) }"#;
+/// What each file is, its path, and what it holds: an application that goes to the scene `s`, a scene
+/// with a red rectangle that a key moves, one with a key that moves what is not there, and so on.
+static FILES: &str =
+    r#"application: a {:Application ("~/a" 0) :OnStartUp ( :TransitionTo (("~/s" 0)) ) }
 
-pub const APPLICATION: File = ("a", APPLICATION_TEXT);
+scene: s {:Scene ("~/s" 0) :InputEventReg 3 :SceneCS 720 576 :Items ( {:Rectangle 10 :OrigBoxSize 24
+32 :OrigPosition 12 16 :OrigLineWidth 0 :OrigRefFillColour '=FF=00=00=00' } {:Link 11 :EventSource 0
+:EventType UserInput :EventData 100 :LinkEffect ( :SetPosition (10 24 16) ) } ) }
 
-/// A red rectangle that a key moves.
-pub const SCENE_TEXT: &[u8] = b"{:Scene (\"~/s\" 0) :InputEventReg 3 :SceneCS 720 576 :Items ( \
-    {:Rectangle 10 :OrigBoxSize 24 32 :OrigPosition 12 16 :OrigLineWidth 0 :OrigRefFillColour '=FF=00=00=00' } \
-    {:Link 11 :EventSource 0 :EventType UserInput :EventData 100 :LinkEffect ( :SetPosition (10 24 16) ) } ) }";
+absent: s {:Scene ("~/s" 0) :InputEventReg 3 :SceneCS 720 576 :Items ( {:Rectangle 10 :OrigBoxSize
+24 32 :OrigPosition 12 16 :OrigLineWidth 0 :OrigRefFillColour '=FF=00=00=00' } {:Link 11
+:EventSource 0 :EventType UserInput :EventData 100 :LinkEffect ( :SetPosition (99 24 16) ) } ) }
 
-pub const SCENE: File = ("s", SCENE_TEXT);
+empty: a {:Application ("~/a" 0) :Items ( ) }
 
-/// A key moves what is not there.
-pub const ABSENT: File = (
-    "s",
-    b"{:Scene (\"~/s\" 0) :InputEventReg 3 :SceneCS 720 576 :Items ( \
-    {:Rectangle 10 :OrigBoxSize 24 32 :OrigPosition 12 16 :OrigLineWidth 0 :OrigRefFillColour '=FF=00=00=00' } \
-    {:Link 11 :EventSource 0 :EventType UserInput :EventData 100 :LinkEffect ( :SetPosition (99 24 16) ) } ) }",
-);
+outside: a {:Application ("~/a" 0) :OnStartUp ( :TransitionTo (("~/../x" 0)) ) }
 
-pub const EMPTY: File = ("a", br#"{:Application ("~/a" 0) :Items ( ) }"#);
+open: a {:Application ("~/a" 0)
 
-pub const OUTSIDE: File = (
-    "a",
-    br#"{:Application ("~/a" 0) :OnStartUp ( :TransitionTo (("~/../x" 0)) ) }"#,
-);
+application-octets: a \a01b 3008 04037e2f61 020100 a10f 300d bf700a 3008 04037e2f73 020100\
 
-/// A group without an end.
-pub const OPEN: File = ("a", br#"{:Application ("~/a" 0)"#);
+scene-octets: s \a163 3008 04037e2f73 020100 a348 3046 a820 02010a ad06 020118 020120 ae06 02010c
+020110 af03 020100 b106 0404ff000000 a222 02010b a803 020100 a903 020106 aa03 020164 ab0e 300c
+bf7e09 02010a 020118 020110 a403 020103 a508 020202d0 02020240\"#;
 
-/// Shows the rectangle before and behind the key.
-pub const MOVES: &[u8] = b"run\nshow\nkey red\nrun\nshow\n";
-
-/// What `MOVES` writes.
-pub const FRAMES: &[u8] = b"did 11 idle\n\
-    frame 1\n\
-    row 01: 1-2 000000/ff0000 \"\"\n\
-    row 02: 1-2 000000/ff0000 \"\"\n\
-    did 2 idle\n\
-    frame 2\n\
-    row 01: 2-3 000000/ff0000 \"\"\n\
-    row 02: 2-3 000000/ff0000 \"\"\n\
-    total 13\n\
-    exit 0\n";
-
-/// The octets of `SCENE`.
-pub const SCENE_OCTETS: &[u8] = b"\xa1\x63\x30\x08\x04\x03~/s\x02\x01\x00\xa3\x48\x30\x46\
-    \xa8\x20\x02\x01\x0a\xad\x06\x02\x01\x18\x02\x01\x20\xae\x06\x02\x01\x0c\x02\x01\x10\
-    \xaf\x03\x02\x01\x00\xb1\x06\x04\x04\xff\x00\x00\x00\
-    \xa2\x22\x02\x01\x0b\xa8\x03\x02\x01\x00\xa9\x03\x02\x01\x06\xaa\x03\x02\x01\x64\
-    \xab\x0e\x30\x0c\xbf\x7e\x09\x02\x01\x0a\x02\x01\x18\x02\x01\x10\
-    \xa4\x03\x02\x01\x03\xa5\x08\x02\x02\x02\xd0\x02\x02\x02\x40";
-
-/// The octets of `APPLICATION`.
-pub const APPLICATION_OCTETS: &[u8] = b"\xa0\x1b\x30\x08\x04\x03~/a\x02\x01\x00\
-    \xa1\x0f\x30\x0d\xbf\x70\x0a\x30\x08\x04\x03~/s\x02\x01\x00";
+/// The path of a file and what it holds, as a table writes them or as one of these files.
+pub fn path_and_text(file: &str) -> Option<(&str, &str)> {
+    let file = file.trim_end();
+    if let Some(found) = file.split_once(' ') {
+        return Some(found);
+    }
+    for shared in FILES.split("\n\n") {
+        if let Some((name, held)) = shared.split_once(": ") {
+            if name == file {
+                return held.split_once(' ');
+            }
+        }
+    }
+    None
+}

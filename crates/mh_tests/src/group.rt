@@ -1,268 +1,126 @@
 //! What the tables allow: which written objects make a group, and why others do not.
-use crate::plain::{Plain, Plainly, ingredient, written};
-use mh_group::{ActionName, Attribute, Class, Group, Ingredient, MisfitWhy, Written};
+use crate::cases::{Question, all_hold, number, said, word};
+use crate::plain::{ingredient, written};
+use mh_group::{Class, Group, Written};
 use std::alloc::Global;
 
-/// Why fields do not make an object, if they do not.
-type Case = (Option<MisfitWhy>, &'static [Plainly]);
-
-/// Whether a group with these fields and this ingredient is judged so.
-fn is_judged(
-    alloc: Global,
-    class: Class,
-    own: &[Plainly],
-    item: Option<Ingredient>,
-    why: Option<MisfitWhy>,
-) -> Option<bool> {
-    let written = written(alloc, class, own, item?)?;
+/// Why what is written makes no group, if it makes none.
+fn judged(alloc: Global, written: Written) -> Option<Vec<u8>> {
     match Group::new(written) {
-        Ok(_) => Some(why.is_none()),
-        Err(misfit) => Some(why == Some(misfit.why)),
+        Ok(_) => said(alloc, b"fits"),
+        Err(misfit) => {
+            let why = misfit.why;
+            Some(format!(in alloc; "{why:?}").ok()?.into_bytes())
+        }
     }
 }
 
-/// Whether an ingredient of an application is judged so.
-fn is_judged_as(
-    alloc: Global,
-    class: Class,
-    number: u32,
-    plain: &[Plainly],
-    why: Option<MisfitWhy>,
-) -> bool {
-    let item = ingredient(alloc, class, number, plain);
-    is_judged(alloc, Class::Application, &[], item, why).unwrap_or(false)
+/// The class of what is asked.
+fn class_of(asked: &str) -> Option<Class> {
+    Class::of_word(word(asked, 0).as_bytes())
 }
 
-const FITS: Option<MisfitWhy> = None;
+/// What stands in front of the fields of what is asked, and its fields.
+fn parts(asked: &str) -> (&str, &str) {
+    asked.split_once("; ").unwrap_or((asked, ""))
+}
 
-const MISSING: Option<MisfitWhy> = Some(MisfitWhy::Missing);
+/// The ingredient of an application.
+struct Item;
 
-const ORDER: Option<MisfitWhy> = Some(MisfitWhy::Order);
+impl Question for Item {
+    fn answer(alloc: Global, asked: &str, _: &[u8]) -> Option<Vec<u8>> {
+        let (front, fields) = parts(asked);
+        let item = ingredient(alloc, class_of(front)?, number(front, 1)?, fields)?;
+        judged(alloc, written(alloc, Class::Application, "", item)?)
+    }
+}
 
-const NOT_TAKEN: Option<MisfitWhy> = Some(MisfitWhy::NotTaken);
-
-const VALUE: Option<MisfitWhy> = Some(MisfitWhy::Value);
-
-const SIZE: Plainly = (Attribute::OrigBoxSize, Plain::Pair(0, 0));
-
-const SHARED: Plainly = (Attribute::Shared, Plain::Bool(true));
-
-const SOURCE: Plainly = (Attribute::EventSource, Plain::Source);
-
-const EVENT: Plainly = (Attribute::EventType, Plain::Event);
-
-const NOTHING: Plainly = (
-    Attribute::LinkEffect,
-    Plain::Action(ActionName::TransitionTo, 0, 0),
-);
-
-const PLACES: Plainly = (Attribute::Positions, Plain::Positions);
-
-const DATA: Attribute = Attribute::EventData;
-
-const MEMBERS: Attribute = Attribute::TokenGroupItems;
-
-const CONTENT: Attribute = Attribute::OrigContent;
-
-const LINE: Attribute = Attribute::OrigRefLineColour;
-
-const FILL: Attribute = Attribute::OrigRefFillColour;
-
-static INGREDIENTS: [(Class, &[Case]); 11] = [
-    (Class::Scene, &[(Some(MisfitWhy::NotAnIngredient), &[])]),
-    (
-        Class::Rectangle,
-        &[
-            (FITS, &[SIZE]),
-            (MISSING, &[]),
-            (ORDER, &[SIZE, SIZE]),
-            (ORDER, &[SIZE, SHARED]),
-            (
-                FITS,
-                &[
-                    (Attribute::InitiallyActive, Plain::Bool(false)),
-                    SHARED,
-                    SIZE,
-                ],
-            ),
-            (NOT_TAKEN, &[(Attribute::OrigValue, Plain::Int(1)), SIZE]),
-            (NOT_TAKEN, &[(Attribute::Items, Plain::Int(1)), SIZE]),
-            (VALUE, &[(Attribute::OrigBoxSize, Plain::Pair(-1, 0))]),
-            (VALUE, &[(Attribute::OrigBoxSize, Plain::Pair(0, -1))]),
-            (VALUE, &[(Attribute::OrigBoxSize, Plain::Int(1))]),
-            (
-                FITS,
-                &[SIZE, (Attribute::OrigPosition, Plain::Pair(-1, -1))],
-            ),
-            (FITS, &[SIZE, (Attribute::OrigLineWidth, Plain::Int(0))]),
-            (VALUE, &[SIZE, (Attribute::OrigLineWidth, Plain::Int(-1))]),
-            (FITS, &[SIZE, (LINE, Plain::Colour), (FILL, Plain::Colour)]),
-            (VALUE, &[SIZE, (LINE, Plain::Octets(4))]),
-            (VALUE, &[SIZE, (FILL, Plain::Included(4))]),
-        ],
-    ),
-    (
-        Class::IntegerVar,
-        &[
-            (FITS, &[(Attribute::OrigValue, Plain::Int(-2147483648))]),
-            (MISSING, &[]),
-            (VALUE, &[(Attribute::OrigValue, Plain::Bool(true))]),
-        ],
-    ),
-    (
-        Class::Link,
-        &[
-            (FITS, &[SOURCE, EVENT, NOTHING]),
-            (FITS, &[SOURCE, EVENT, (DATA, Plain::Number(1)), NOTHING]),
-            (FITS, &[SOURCE, EVENT, (DATA, Plain::Truth(true)), NOTHING]),
-            (VALUE, &[SOURCE, EVENT, (DATA, Plain::Int(1)), NOTHING]),
-            (VALUE, &[SOURCE, EVENT, (DATA, Plain::Octets(1)), NOTHING]),
-            (MISSING, &[EVENT, NOTHING]),
-            (MISSING, &[SOURCE, NOTHING]),
-            (MISSING, &[SOURCE, EVENT]),
-        ],
-    ),
-    (
-        Class::EntryField,
-        &[
-            (FITS, &[SIZE, (Attribute::MaxLength, Plain::Int(255))]),
-            (FITS, &[SIZE, (Attribute::MaxLength, Plain::Int(1))]),
-            (VALUE, &[SIZE, (Attribute::MaxLength, Plain::Int(256))]),
-            (VALUE, &[SIZE, (Attribute::MaxLength, Plain::Int(0))]),
-        ],
-    ),
-    (
-        Class::ListGroup,
-        &[
-            (FITS, &[(MEMBERS, Plain::Members(256, 0)), PLACES]),
-            (VALUE, &[(MEMBERS, Plain::Members(257, 0)), PLACES]),
-            (VALUE, &[(MEMBERS, Plain::Members(1, 1)), PLACES]),
-            (MISSING, &[]),
-        ],
-    ),
-    (
-        Class::TokenGroup,
-        &[(FITS, &[(MEMBERS, Plain::Members(257, 2))])],
-    ),
-    (
-        Class::Text,
-        &[
-            (FITS, &[SIZE, (CONTENT, Plain::Included(0))]),
-            (FITS, &[SIZE, (CONTENT, Plain::Referenced)]),
-            (VALUE, &[SIZE, (CONTENT, Plain::Octets(4))]),
-            (VALUE, &[SIZE, (CONTENT, Plain::Name)]),
-        ],
-    ),
-    (
-        Class::OStringVar,
-        &[
-            (FITS, &[(Attribute::OrigValue, Plain::Octets(4))]),
-            (VALUE, &[(Attribute::OrigValue, Plain::Colour)]),
-            (FITS, &[(Attribute::OrigValue, Plain::Octets(3))]),
-            (VALUE, &[(Attribute::OrigValue, Plain::Name)]),
-        ],
-    ),
-    (
-        Class::ContentRefVar,
-        &[(FITS, &[(Attribute::OrigValue, Plain::Name)])],
-    ),
-    (
-        Class::ObjectRefVar,
-        &[(FITS, &[(Attribute::OrigValue, Plain::Source)])],
-    ),
-];
+/// Ingredients: a class, a number and fields.
+static INGREDIENTS: &str = r#"
+Scene 1 => NotAnIngredient;; Rectangle 1; OrigBoxSize pair 0 0 => fits;; Rectangle 1 => Missing;;
+Rectangle 1; OrigBoxSize pair 0 0; OrigBoxSize pair 0 0 => Order;;
+Rectangle 1; OrigBoxSize pair 0 0; Shared bool true => Order;;
+Rectangle 1; InitiallyActive bool false; Shared bool true; OrigBoxSize pair 0 0 => fits;;
+Rectangle 1; OrigValue int 1; OrigBoxSize pair 0 0 => NotTaken;;
+Rectangle 1; Items int 1; OrigBoxSize pair 0 0 => NotTaken;;
+Rectangle 1; OrigBoxSize pair -1 0 => Value;; Rectangle 1; OrigBoxSize pair 0 -1 => Value;;
+Rectangle 1; OrigBoxSize int 1 => Value;;
+Rectangle 1; OrigBoxSize pair 0 0; OrigPosition pair -1 -1 => fits;;
+Rectangle 1; OrigBoxSize pair 0 0; OrigLineWidth int 0 => fits;;
+Rectangle 1; OrigBoxSize pair 0 0; OrigLineWidth int -1 => Value;;
+Rectangle 1; OrigBoxSize pair 0 0; OrigRefLineColour colour; OrigRefFillColour colour => fits;;
+Rectangle 1; OrigBoxSize pair 0 0; OrigRefLineColour octets 4 => Value;;
+Rectangle 1; OrigBoxSize pair 0 0; OrigRefFillColour included 4 => Value;;
+IntegerVar 1; OrigValue int -2147483648 => fits;; IntegerVar 1 => Missing;;
+IntegerVar 1; OrigValue bool true => Value;;
+Link 1; EventSource source; EventType event; LinkEffect action TransitionTo 0 0 => fits;;
+Link 1; EventSource source; EventType event; EventData number 1; LinkEffect action TransitionTo 0 0 => fits;;
+Link 1; EventSource source; EventType event; EventData truth true; LinkEffect action TransitionTo 0 0 => fits;;
+Link 1; EventSource source; EventType event; EventData int 1; LinkEffect action TransitionTo 0 0 => Value;;
+Link 1; EventSource source; EventType event; EventData octets 1; LinkEffect action TransitionTo 0 0 => Value;;
+Link 1; EventType event; LinkEffect action TransitionTo 0 0 => Missing;;
+Link 1; EventSource source; LinkEffect action TransitionTo 0 0 => Missing;;
+Link 1; EventSource source; EventType event => Missing;;
+EntryField 1; OrigBoxSize pair 0 0; MaxLength int 255 => fits;;
+EntryField 1; OrigBoxSize pair 0 0; MaxLength int 1 => fits;;
+EntryField 1; OrigBoxSize pair 0 0; MaxLength int 256 => Value;;
+EntryField 1; OrigBoxSize pair 0 0; MaxLength int 0 => Value;;
+ListGroup 1; TokenGroupItems members 256 0; Positions positions => fits;;
+ListGroup 1; TokenGroupItems members 257 0; Positions positions => Value;;
+ListGroup 1; TokenGroupItems members 1 1; Positions positions => Value;; ListGroup 1 => Missing;;
+TokenGroup 1; TokenGroupItems members 257 2 => fits;;
+Text 1; OrigBoxSize pair 0 0; OrigContent included 0 => fits;;
+Text 1; OrigBoxSize pair 0 0; OrigContent referenced => fits;;
+Text 1; OrigBoxSize pair 0 0; OrigContent octets 4 => Value;;
+Text 1; OrigBoxSize pair 0 0; OrigContent name => Value;; OStringVar 1; OrigValue octets 4 => fits;;
+OStringVar 1; OrigValue colour => Value;; OStringVar 1; OrigValue octets 3 => fits;;
+OStringVar 1; OrigValue name => Value;; ContentRefVar 1; OrigValue name => fits;;
+ObjectRefVar 1; OrigValue source => fits;; BooleanVar 1; OrigValue bool true => fits;;
+Rectangle 2147483647; OrigBoxSize pair 0 0 => fits;; Rectangle 0; OrigBoxSize pair 0 0 => Unnumbered"#;
 
 #[test]
 fn takes_what_the_tables_allow(rt: HostRuntime) {
-    for (class, cases) in &INGREDIENTS {
-        for (at, (why, plain)) in cases.iter().enumerate() {
-            let word = class.number();
-            assert!(rt;
-                is_judged_as(rt.alloc(), *class, 1, *plain, *why),
-                "{word}: {at}"
-            );
-        }
-    }
-    let truth = [(Attribute::OrigValue, Plain::Bool(true))];
-    assert!(rt; is_judged_as(rt.alloc(), Class::BooleanVar, 1, &truth, FITS));
-    let (rectangle, unnumbered) = (Class::Rectangle, Some(MisfitWhy::Unnumbered));
-    assert!(rt; is_judged_as(rt.alloc(), rectangle, 2147483647, &[SIZE], FITS));
-    assert!(rt; is_judged_as(rt.alloc(), rectangle, 0, &[SIZE], unnumbered));
+    all_hold::<Item>(&rt, rt.alloc(), INGREDIENTS);
 }
 
-/// Actions of a link: how many integers they have, how many values with their kind behind them, and
-/// whether they fit.
-static EFFECTS: [(ActionName, u32, u32, bool); 7] = [
-    (ActionName::SetPosition, 2, 0, true),
-    (ActionName::SetPosition, 1, 0, false),
-    (ActionName::SetPosition, 3, 0, false),
-    (ActionName::SetVariable, 0, 1, true),
-    (ActionName::SetVariable, 1, 0, false),
-    (ActionName::SetTimer, 1, 0, true),
-    (ActionName::SetTimer, 0, 0, false),
-];
+/// Actions of a link: how many integers they have, and how many values with their kind behind them.
+static EFFECTS: &str = r#"
+Link 1; EventSource source; EventType event; LinkEffect action SetPosition 2 0 => fits;;
+Link 1; EventSource source; EventType event; LinkEffect action SetPosition 1 0 => Value;;
+Link 1; EventSource source; EventType event; LinkEffect action SetPosition 3 0 => Value;;
+Link 1; EventSource source; EventType event; LinkEffect action SetVariable 0 1 => fits;;
+Link 1; EventSource source; EventType event; LinkEffect action SetVariable 1 0 => Value;;
+Link 1; EventSource source; EventType event; LinkEffect action SetTimer 1 0 => fits;;
+Link 1; EventSource source; EventType event; LinkEffect action SetTimer 0 0 => Value"#;
 
 #[test]
 fn takes_actions_with_their_parameters(rt: HostRuntime) {
-    for (name, integers, typed, fits) in &EFFECTS {
-        let effect = (
-            Attribute::LinkEffect,
-            Plain::Action(*name, *integers, *typed),
-        );
-        let plain = [SOURCE, EVENT, effect];
-        let why = if *fits { FITS } else { VALUE };
-        let word = name.number();
-        assert!(rt;
-            is_judged_as(rt.alloc(), Class::Link, 1, &plain, why),
-            "{word}: {integers}"
-        );
+    all_hold::<Item>(&rt, rt.alloc(), EFFECTS);
+}
+
+/// A group with one rectangle.
+struct Whole;
+
+impl Question for Whole {
+    fn answer(alloc: Global, asked: &str, _: &[u8]) -> Option<Vec<u8>> {
+        let (front, fields) = parts(asked);
+        let number = number(front, 1)?;
+        let item = ingredient(alloc, Class::Rectangle, number, "OrigBoxSize pair 0 0")?;
+        judged(alloc, written(alloc, class_of(front)?, fields, item)?)
     }
 }
 
-/// The fields of groups with one rectangle: their class, the number of the rectangle, and the fields.
-static GROUPS: [(Class, u32, Case); 6] = [
-    (
-        Class::Scene,
-        1,
-        (
-            FITS,
-            &[
-                (Attribute::InputEventReg, Plain::Int(3)),
-                (Attribute::SceneCs, Plain::Pair(720, 576)),
-            ],
-        ),
-    ),
-    (
-        Class::Scene,
-        1,
-        (VALUE, &[(Attribute::SceneCs, Plain::Pair(720, 575))]),
-    ),
-    (
-        Class::Application,
-        1,
-        (NOT_TAKEN, &[(Attribute::InputEventReg, Plain::Int(3))]),
-    ),
-    (
-        Class::Application,
-        1,
-        (VALUE, &[(Attribute::Items, Plain::Int(1))]),
-    ),
-    (Class::Rectangle, 1, (Some(MisfitWhy::NotAGroup), &[SIZE])),
-    // the group itself comes before its ingredients
-    (
-        Class::Scene,
-        0,
-        (NOT_TAKEN, &[(Attribute::OrigValue, Plain::Int(1))]),
-    ),
-];
+/// Groups: their class, the number of the rectangle, and the fields.
+static GROUPS: &str = r#"
+Scene 1; InputEventReg int 3; SceneCS pair 720 576 => fits;;
+Scene 1; SceneCS pair 720 575 => Value;; Application 1; InputEventReg int 3 => NotTaken;;
+Application 1; Items int 1 => Value;; Rectangle 1; OrigBoxSize pair 0 0 => NotAGroup;;
+Scene 0; OrigValue int 1 => NotTaken -- the group itself comes before its ingredients"#;
 
 #[test]
 fn takes_groups(rt: HostRuntime) {
-    for (at, (class, number, (why, own))) in GROUPS.iter().enumerate() {
-        let item = ingredient(rt.alloc(), Class::Rectangle, *number, &[SIZE]);
-        let is_judged = is_judged(rt.alloc(), *class, *own, item, *why);
-        assert!(rt; is_judged.unwrap_or(false), "{at}");
-    }
+    all_hold::<Whole>(&rt, rt.alloc(), GROUPS);
 }
 
 /// What is handed back of what is no group.
@@ -275,8 +133,8 @@ fn back(written: Written) -> Option<Written> {
 
 /// The class and the number of ingredients that are handed back.
 fn handed_back(alloc: Global) -> Option<(Class, usize)> {
-    let item = ingredient(alloc, Class::Rectangle, 7, &[])?;
-    let back = back(written(alloc, Class::Scene, &[], item)?)?;
+    let item = ingredient(alloc, Class::Rectangle, 7, "")?;
+    let back = back(written(alloc, Class::Scene, "", item)?)?;
     Some((back.class, back.items.as_ref()?.len()))
 }
 

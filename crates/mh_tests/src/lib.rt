@@ -10,6 +10,8 @@ mod base;
 #[cfg(test)]
 mod building;
 #[cfg(test)]
+mod cases;
+#[cfg(test)]
 mod codec;
 #[cfg(test)]
 mod codec_forms;
@@ -55,6 +57,8 @@ mod tables;
 mod text;
 #[cfg(test)]
 mod text_forms;
+#[cfg(test)]
+mod variables;
 #[cfg(test)]
 mod verify;
 #[cfg(test)]

@@ -1,64 +1,52 @@
 //! Lists and files at their limits, in both notations.
 use crate::building::{application, token_group};
-use crate::codec::refusal;
+use crate::cases::{Question, all_hold, are, number, placed};
+use crate::codec::reading;
 use crate::octets::{APPLICATION, ITEMS, LIST, NUMBER, SCENE, START_UP, Shell, repeated, within};
-use crate::text_forms;
+use crate::text_forms::{ITEMS as PLACE, reading_within};
 use mh_codec::{CodecError, LARGEST_FILE, Why, encode_group};
 use mh_group::Group;
 use std::alloc::{AllocError, Global};
 
-/// Lists in an ingredient of the textual notation: how many members there may be, what stands before
-/// them, one of them, and what stands behind them.
-static TEXTS: [(usize, &str, &str, &str); 8] = [
-    (
-        256,
-        "{:ListGroup 1 :Positions () :TokenGroupItems (",
-        "(2)",
-        ")}",
-    ),
-    (4096, "{:TokenGroup 1 :TokenGroupItems (", "(2)", ")}"),
-    (4096, "{:TokenGroup 1 :TokenGroupItems ((2", "()", "))}"),
-    (4096, "{:TokenGroup 1 :MovementTable (", "()", ")}"),
-    (4096, "{:TokenGroup 1 :MovementTable ((1)(", "1 ", "))}"),
-    (4096, "{:ListGroup 1 :Positions (", "(1 2)", ")}"),
-    (4096, "{:Stream 1 :NextScenes (", "(\"\" 1)", ")}"),
-    (
-        4096,
-        "{:Link 1 :EventSource 1 :EventType UserInput :LinkEffect (:Call(1 2(",
-        ":GInteger 1 ",
-        ")))}",
-    ),
-];
+/// Lists in an ingredient of the textual notation: how many members there may be, and the ingredient
+/// with one of them in angle brackets; and what is said of so many members, and of one more.
+static TEXTS: &str = r#"
+256 {:ListGroup 1 :Positions () :TokenGroupItems (<(2)>)} => read, 24 814;;
+4096 {:TokenGroup 1 :TokenGroupItems (<(2)>)} => read, 24 12321;;
+4096 {:TokenGroup 1 :TokenGroupItems ((2<()>))} => read, 24 8227;;
+4096 {:TokenGroup 1 :MovementTable (<()>)} => read, 24 8223;;
+4096 {:TokenGroup 1 :MovementTable ((1)(<1 >))} => read, 24 8227;;
+4096 {:ListGroup 1 :Positions (<(1 2)>)} => read, 24 20506;;
+4096 {:Stream 1 :NextScenes (<("" 1)>)} => read, 24 24600;;
+4096 {:Link 1 :EventSource 1 :EventType UserInput :LinkEffect (:Call(1 2(<:GInteger 1 >)))} => read, 24 49220"#;
 
-/// The number and the offset of the refusal where so many members stand in the list.
-fn refusal_of_text(
-    alloc: Global,
-    count: usize,
-    front: &str,
-    member: &str,
-    behind: &str,
-) -> (u32, usize) {
-    let text = repeated(
-        alloc,
-        front.as_bytes(),
-        member.as_bytes(),
-        count,
-        behind.as_bytes(),
-    );
-    match text {
-        Ok(text) => text_forms::refusal_within(alloc, &text_forms::ITEMS, text.as_slice()),
-        Err(_) => (1, 0),
+/// What is said of an ingredient with so many members in its list.
+fn reading_of_text(alloc: Global, count: usize, written: &str) -> Option<Vec<u8>> {
+    let (front, rest) = written.split_once('<')?;
+    let (member, behind) = rest.split_once('>')?;
+    let (member, behind) = (member.as_bytes(), behind.as_bytes());
+    let text = repeated(alloc, front.as_bytes(), member, count, behind).ok()?;
+    reading_within(alloc, &PLACE, text.as_slice())
+}
+
+struct Text;
+
+impl Question for Text {
+    fn answer(alloc: Global, asked: &str, _: &[u8]) -> Option<Vec<u8>> {
+        let most = number(asked, 0)? as usize;
+        let (_, written) = asked.split_once(' ')?;
+        let mut answer = reading_of_text(alloc, most, written)?;
+        answer.extend_from_slice(b", ").ok()?;
+        answer
+            .extend_from_slice(reading_of_text(alloc, most + 1, written)?.as_slice())
+            .ok()?;
+        Some(answer)
     }
 }
 
 #[test]
 fn texts_have_short_lists(rt: HostRuntime) {
-    for (most, front, member, behind) in &TEXTS {
-        let (number, _) = refusal_of_text(rt.alloc(), *most, *front, *member, *behind);
-        assert!(rt; number == 0, "{front}");
-        let told = refusal_of_text(rt.alloc(), *most + 1, *front, *member, *behind);
-        assert!(rt; told == (24, front.len() + *most * member.len()), "{front}");
-    }
+    all_hold::<Text>(&rt, rt.alloc(), TEXTS);
 }
 
 const TOKEN_GROUP: Shell = (Some(12), NUMBER, b"");
@@ -149,22 +137,36 @@ fn long_list(
     within(alloc, shells, members.as_slice())
 }
 
-fn refusal_of_octets(alloc: Global, count: usize, member: &[u8], shells: &[Shell]) -> (u32, usize) {
-    match long_list(alloc, count, member, shells) {
-        Ok(octets) => refusal(alloc, octets.as_slice()),
-        Err(_) => (99, 0),
-    }
+/// The number and the offset of the refusal where so many members stand in the list, if there is one.
+fn reading_of_list(
+    alloc: Global,
+    count: usize,
+    member: &[u8],
+    shells: &[Shell],
+) -> Option<Vec<u8>> {
+    let octets = long_list(alloc, count, member, shells).ok()?;
+    reading(alloc, octets.as_slice())
+}
+
+/// Whether the list is read with so many members, and refused at this offset with one more.
+fn is_longest(
+    alloc: Global,
+    most: usize,
+    offset: usize,
+    member: &[u8],
+    shells: &[Shell],
+) -> Option<bool> {
+    let refused = placed(alloc, 13, offset)?;
+    let is_read = are(reading_of_list(alloc, most, member, shells), b"read");
+    let longer = reading_of_list(alloc, most.checked_add(1)?, member, shells);
+    Some(is_read && are(longer, refused.as_slice()))
 }
 
 #[test]
 fn octets_have_short_lists(rt: HostRuntime) {
     for (most, offset, member, shells) in &OCTETS {
-        assert!(rt;
-            refusal_of_octets(rt.alloc(), *most, *member, *shells) == (0, 0),
-            "{offset}"
-        );
-        let told = refusal_of_octets(rt.alloc(), *most + 1, *member, *shells);
-        assert!(rt; told == (13, *offset), "{offset}");
+        let is_longest = is_longest(rt.alloc(), *most, *offset, *member, *shells);
+        assert!(rt; is_longest == Some(true), "{offset}");
     }
 }
 
@@ -187,19 +189,20 @@ fn written_length(alloc: Global, group: Option<Group>) -> usize {
 
 const TOO_LONG: usize = 9_999_999;
 
-/// Ten octets of the name, six of each action, and two or four in front of the effect, of its field and of
-/// the group.
-static ACTIONS: [(usize, usize); 3] = [(1, 22), (4096, 24598), (4097, TOO_LONG)];
-
-/// How many letters the name has. Five octets stand in front of the name, of its sequence and of the group,
-/// and there are three of the number and four of an empty effect.
-static LETTERS: [(usize, usize); 2] = [
-    (LARGEST_FILE - 22, LARGEST_FILE),
-    (LARGEST_FILE - 21, TOO_LONG),
+/// How many letters the name of an application has, how many actions it does at its start, and in how
+/// many octets it is written. Five octets stand in front of the name, of its sequence and of the group,
+/// there are three of the number, and six of each action with two or four in front of the effect and of
+/// its field.
+static APPLICATIONS: [(usize, usize, usize); 5] = [
+    (3, 1, 22),
+    (3, 4096, 24598),
+    (3, 4097, TOO_LONG),
+    (LARGEST_FILE - 22, 0, LARGEST_FILE),
+    (LARGEST_FILE - 21, 0, TOO_LONG),
 ];
 
 /// How many members a token group has, how many slots each, and whether it is written.
-static MEMBERS_WRITTEN: [(u32, u32, bool); 4] = [
+static TOKEN_GROUPS: [(u32, u32, bool); 4] = [
     (4096, 0, true),
     (4097, 0, false),
     (1, 4096, true),
@@ -209,15 +212,11 @@ static MEMBERS_WRITTEN: [(u32, u32, bool); 4] = [
 #[test]
 fn writes_short_lists(rt: HostRuntime) {
     let alloc = rt.alloc();
-    for (actions, length) in &ACTIONS {
-        let found = written_length(alloc, application(alloc, 3, *actions));
-        assert!(rt; found == *length, "{actions}");
+    for (letters, actions, length) in &APPLICATIONS {
+        let found = written_length(alloc, application(alloc, *letters, *actions));
+        assert!(rt; found == *length, "{letters} with {actions}");
     }
-    for (letters, length) in &LETTERS {
-        let found = written_length(alloc, application(alloc, *letters, 0));
-        assert!(rt; found == *length, "{letters}");
-    }
-    for (members, slots, is_written) in &MEMBERS_WRITTEN {
+    for (members, slots, is_written) in &TOKEN_GROUPS {
         let found = written_length(alloc, token_group(alloc, *members, *slots));
         assert!(rt;
             found > 0 && (found < TOO_LONG) == *is_written,
@@ -230,6 +229,11 @@ fn writes_short_lists(rt: HostRuntime) {
 #[test]
 fn reads_short_files(rt: HostRuntime) {
     let alloc = rt.alloc();
-    assert!(rt; refusal_of_octets(alloc, LARGEST_FILE + 1, b"\x00", &[]) == (13, 0));
-    assert!(rt; refusal_of_octets(alloc, LARGEST_FILE, b"\x00", &[]) == (10, 0));
+    assert!(rt;
+        are(
+            reading_of_list(alloc, LARGEST_FILE + 1, b"\x00", &[]),
+            b"13 0"
+        )
+    );
+    assert!(rt; are(reading_of_list(alloc, LARGEST_FILE, b"\x00", &[]), b"10 0"));
 }

@@ -1,120 +1,116 @@
 //! Services: names that come twice, many groups, and what objects hold.
-use crate::playing::File;
-use crate::service::{APP, SCENE, last_letter, refusal};
+use crate::cases::{Question, all_hold, are, number, said, word};
+use crate::service::{Named, all_named, answer, named};
 use mh_base::{GroupName, ObjRef, Seq, Value};
-use mh_group::{Attribute, Group};
+use mh_group::Attribute;
 use mh_model::{Fixed, FixedPart, Held, Target};
 use mh_service::{Service, double_name, resolving};
-use mh_text::read_group;
 use std::alloc::Global;
 
 /// Names of one letter, and the first that came before.
-static LETTERS: [(&[u8], u8); 5] = [
-    (b"", b'-'),
-    (b"abc", b'-'),
-    (b"aa", b'a'),
-    (b"abcb", b'b'),
-    (b"abcba", b'b'),
-];
+static LETTERS: &str = r#"
+ => -;; abc => -;; aa => a;; abcb => b;; abcba => b"#;
 
-fn file(alloc: Global, path: &[u8], text: &[u8]) -> Option<(GroupName, Group)> {
-    let name = GroupName::of_path(alloc, path).ok()?;
-    Some((name, read_group(alloc, text).ok()?))
+/// A scene at this path.
+fn scene(alloc: Global, path: &str) -> Option<Named> {
+    let file = format!(in alloc; "{path} {SCENE}").ok()?;
+    named(alloc, file.as_str())
 }
 
-/// The letter of the first name that came before, or a dash.
-fn letter_twice(alloc: Global, letters: &[u8]) -> Option<u8> {
+const SCENE: &str = r#"{:Scene ("~/other" 0) :OnStartUp () :Items () }"#;
+
+/// Scenes of these letters.
+fn scenes(alloc: Global, letters: &str) -> Option<Vec<Named>> {
     let mut files = Vec::new(alloc);
-    for letter in letters {
-        files.push(file(alloc, &[*letter], SCENE)?).ok()?;
+    for letter in letters.chars() {
+        let path = format!(in alloc; "{letter}").ok()?;
+        files.push(scene(alloc, path.as_str())?).ok()?;
     }
-    match double_name(alloc, files.as_slice()).ok()? {
-        Some(name) => Some(last_letter(name)),
-        None => Some(b'-'),
+    Some(files)
+}
+
+/// The first name that came before, or a dash.
+fn name_twice(alloc: Global, files: &[Named]) -> Option<Vec<u8>> {
+    match double_name(alloc, files).ok()? {
+        Some(name) => said(alloc, name.as_bytes()),
+        None => said(alloc, b"-"),
+    }
+}
+
+struct Letters;
+
+impl Question for Letters {
+    fn answer(alloc: Global, asked: &str, _: &[u8]) -> Option<Vec<u8>> {
+        name_twice(alloc, scenes(alloc, asked)?.as_slice())
     }
 }
 
 #[test]
 fn finds_names_that_came_before(rt: HostRuntime) {
-    for (letters, letter) in &LETTERS {
-        assert!(rt;
-            letter_twice(rt.alloc(), *letters) == Some(*letter),
-            "{letters:?}"
-        );
-    }
+    all_hold::<Letters>(&rt, rt.alloc(), LETTERS);
 }
 
 /// An application and so many scenes.
-fn crowd(alloc: Global, count: u32) -> Option<Vec<(GroupName, Group)>> {
+fn crowd(alloc: Global, count: u32) -> Option<Vec<Named>> {
     let mut files = Vec::new(alloc);
-    files.push(file(alloc, b"a", APP)?).ok()?;
+    files.push(named(alloc, APPLICATION)?).ok()?;
     for i in 0..count {
         let path = format!(in alloc; "s{i}").ok()?;
-        files.push(file(alloc, path.as_bytes(), SCENE)?).ok()?;
+        files.push(scene(alloc, path.as_str())?).ok()?;
     }
     Some(files)
+}
+
+const APPLICATION: &str = r#"a {:Application ("~/other" 0) :OnStartUp () :Items () }"#;
+
+fn answer_of_crowd(alloc: Global, count: u32) -> Option<Vec<u8>> {
+    answer(alloc, crowd(alloc, count)?, "made")
 }
 
 #[test]
 fn counts_groups(rt: HostRuntime) {
     // the second scene in order of name is s1, the last one s255
-    for (count, wanted) in [(255, (36, b'1')), (256, (34, b'5'))] {
-        let found = crowd(rt.alloc(), count).and_then(|files| refusal(rt.alloc(), files));
-        assert!(rt; found == Some(wanted), "{count} scenes");
-    }
+    assert!(rt; are(answer_of_crowd(rt.alloc(), 255), b"36 s1"));
+    assert!(rt; are(answer_of_crowd(rt.alloc(), 256), b"34 s255"));
 }
 
-/// A rectangle, a variable and a link.
-const SHOWN: &[u8] = br#"{:Scene ("~/other" 0) :OnStartUp () :Items (
-    {:Rectangle 10 :OrigBoxSize 24 32 :OrigRefFillColour '=FF=01=02=03'}
-    {:IntegerVar 20 :OrigValue 0}
-    {:Link 5000 :EventSource ("x" 0) :EventType UserInput :LinkEffect (:Add(20 1))} ) }"#;
+/// An application, and a scene with a rectangle, a variable and a link.
+static SMALL: &str = r#"a {:Application ("~/other" 0) :OnStartUp () :Items () }
+@d/s {:Scene ("~/other" 0) :OnStartUp () :Items ( {:Rectangle 10 :OrigBoxSize 24 32
+:OrigRefFillColour '=FF=01=02=03'} {:IntegerVar 20 :OrigValue 0} {:Link 5000 :EventSource ("x" 0)
+:EventType UserInput :LinkEffect (:Add(20 1))} ) }"#;
 
-/// The service of these files that starts with the application `a`.
-pub fn service_of(alloc: Global, texts: &[File]) -> Option<Service> {
-    let mut files = Vec::new(alloc);
-    for (path, text) in texts {
-        files.push(file(alloc, path.as_bytes(), *text)?).ok()?;
-    }
-    let start = GroupName::of_path(alloc, b"a").ok()?;
-    Service::of_files(alloc, files, start).ok()
-}
+/// References and what is asked of the object there, and the answer: the number of its class, if there is
+/// an object; the colour of a rectangle; of a link the path of the group of its source and the number of
+/// the target of its first action.
+static FOUND: &str = r#"
+a 0 class => 0;; d/s 0 class => 1;; d/s 10 class => 8;; d/s 5000 class => 2;; d/s 12 class => none;;
+a 10 class => none;; s 10 class => none"#;
 
-static SMALL: [File; 2] = [("a", APP), ("d/s", SHOWN)];
+static HELD: &str = r#"
+d/s 5000 link => d/x 20;; d/s 10 colour => 255 1 2 3"#;
 
-fn at(alloc: Global, path: &[u8], number: u32) -> Option<ObjRef> {
-    let group = GroupName::of_path(alloc, path).ok()?;
+fn at(alloc: Global, path: &str, number: u32) -> Option<ObjRef> {
+    let group = GroupName::of_path(alloc, path.as_bytes()).ok()?;
     Some(ObjRef { group, number })
 }
 
-/// References, and the numbers of the classes of what is there, or 99.
-static FOUND: [(&[u8], u32, u32); 7] = [
-    (b"a", 0, 0),
-    (b"d/s", 0, 1),
-    (b"d/s", 10, 8),
-    (b"d/s", 5000, 2),
-    (b"d/s", 12, 99),
-    (b"a", 10, 99),
-    (b"s", 10, 99),
-];
-
-fn class_at(alloc: Global, service: &Service, path: &[u8], number: u32) -> Option<u32> {
-    match service.find(&at(alloc, path, number)?) {
-        Some(object) => Some(object.class.number()),
-        None => Some(99),
+/// What is answered of an object of the service.
+pub fn inside(alloc: Global, service: &Service, asked: &str) -> Option<Vec<u8>> {
+    let at = at(alloc, word(asked, 0), number(asked, 1)?)?;
+    match service.find(&at) {
+        Some(object) => of_object(alloc, object, word(asked, 2)),
+        None => said(alloc, b"none"),
     }
 }
 
-#[test]
-fn finds_objects(rt: HostRuntime) {
-    match service_of(rt.alloc(), &SMALL) {
-        Some(service) => {
-            for (path, number, class) in &FOUND {
-                let found = class_at(rt.alloc(), &service, *path, *number);
-                assert!(rt; found == Some(*class), "{number}");
-            }
-        }
-        None => assert!(rt; false, "no service"),
+fn of_object(alloc: Global, object: &Fixed, asked: &str) -> Option<Vec<u8>> {
+    let class = object.class.number();
+    match asked {
+        "class" => Some(format!(in alloc; "{class}").ok()?.into_bytes()),
+        "link" => of_link(alloc, object),
+        "colour" => of_colour(alloc, object),
+        _ => None,
     }
 }
 
@@ -140,22 +136,45 @@ fn target(link: &Fixed) -> Option<u32> {
     }
 }
 
-fn is_the_link(object: &Fixed) -> bool {
-    match source(object) {
-        Some(path) => path == b"d/x".as_slice() && target(object) == Some(20),
-        None => false,
+fn of_link(alloc: Global, link: &Fixed) -> Option<Vec<u8>> {
+    let number = target(link)?;
+    let mut told = said(alloc, source(link)?)?;
+    told.extend_from_slice(format!(in alloc; " {number}").ok()?.as_bytes())
+        .ok()?;
+    Some(told)
+}
+
+fn of_colour(alloc: Global, object: &Fixed) -> Option<Vec<u8>> {
+    match object.properties.get(Attribute::OrigRefFillColour) {
+        Some(Held::Colour(colour)) => {
+            let (red, green, blue) = (colour.red, colour.green, colour.blue);
+            let last = colour.transparency;
+            Some(
+                format!(in alloc; "{red} {green} {blue} {last}")
+                    .ok()?
+                    .into_bytes(),
+            )
+        }
+        _ => None,
     }
 }
 
-/// Whether the colour is that of the rectangle.
-fn is_filled(object: &Fixed) -> bool {
-    match object.properties.get(Attribute::OrigRefFillColour) {
-        Some(Held::Colour(colour)) => {
-            [colour.red, colour.green, colour.blue, colour.transparency] == [255, 1, 2, 3]
-        }
-        _ => false,
+struct Found;
+
+impl Question for Found {
+    fn answer(alloc: Global, asked: &str, _: &[u8]) -> Option<Vec<u8>> {
+        answer(alloc, all_named(alloc, SMALL)?, asked)
     }
 }
+
+#[test]
+fn finds_objects(rt: HostRuntime) {
+    all_hold::<Found>(&rt, rt.alloc(), FOUND);
+    all_hold::<Found>(&rt, rt.alloc(), HELD);
+}
+
+/// A variable whose value is as long as a colour.
+const OCTETS: &str = r#"s {:Scene ("~/s" 0) :Items ( {:OStringVar 1 :OrigValue "abcd"} ) }"#;
 
 /// Whether the value is octets, though there are four as of a colour.
 fn has_octets(object: &Fixed) -> bool {
@@ -165,35 +184,6 @@ fn has_octets(object: &Fixed) -> bool {
     }
 }
 
-fn holds_link(service: &Service, at: &ObjRef) -> bool {
-    match service.find(at) {
-        Some(object) => is_the_link(object),
-        None => false,
-    }
-}
-
-fn holds_rectangle(service: &Service, at: &ObjRef) -> bool {
-    match service.find(at) {
-        Some(object) => is_filled(object),
-        None => false,
-    }
-}
-
-fn holds_both(alloc: Global) -> Option<bool> {
-    let link = at(alloc, b"d/s", 5000)?;
-    let rectangle = at(alloc, b"d/s", 10)?;
-    let service = service_of(alloc, &SMALL)?;
-    Some(holds_link(&service, &link) && holds_rectangle(&service, &rectangle))
-}
-
-#[test]
-fn objects_hold_what_is_written(rt: HostRuntime) {
-    assert!(rt; holds_both(rt.alloc()) == Some(true));
-}
-
-/// A variable whose value is as long as a colour.
-const OCTETS: &[u8] = br#"{:Scene ("~/s" 0) :Items ( {:OStringVar 1 :OrigValue "abcd"} ) }"#;
-
 fn holds_octets(objects: &[FixedPart]) -> bool {
     match objects {
         [_, variable] => has_octets(variable.get()),
@@ -201,8 +191,8 @@ fn holds_octets(objects: &[FixedPart]) -> bool {
     }
 }
 
-fn resolved(alloc: Global, text: &[u8]) -> Option<Seq<FixedPart>> {
-    let (name, group) = file(alloc, b"s", text)?;
+fn resolved(alloc: Global, file: &str) -> Option<Seq<FixedPart>> {
+    let (name, group) = named(alloc, file)?;
     resolving::parts(alloc, &name, group.written()).ok()
 }
 

@@ -1,16 +1,6 @@
-//! Octets as the tables write them, and elements around them.
-use hex::FromHexError;
+//! Elements around octets.
 use mh_der::{SEQUENCE, Tag, TagClass, write_element};
 use std::alloc::{AllocError, Global};
-
-/// The octets of hexadecimal words. Each word is an element, or the front of one that holds elements.
-pub fn octets(alloc: Global, words: &str) -> Result<Vec<u8>, FromHexError> {
-    let mut octets = Vec::new(alloc);
-    for word in words.split_whitespace() {
-        octets.extend_from_slice(hex::decode(alloc, word)?.as_slice())?;
-    }
-    Ok(octets)
-}
 
 /// A front, so many times the same, and what stands behind it.
 pub fn repeated(

@@ -1,41 +1,12 @@
 //! Written objects, whatever the tables say of them.
 use crate::building::{members, written_name};
+use crate::cases::{number, word};
 use mh_base::{Colour, EventType, Octets, Seq};
 use mh_group::{
     Action, ActionName, Attribute, Class, Content, EventData, Field, Generic, Ingredient, Number,
     Parameter, Ref, Setting, Typed, Written,
 };
 use std::alloc::Global;
-
-/// A value to be written.
-#[derive(Clone, Copy)]
-pub enum Plain {
-    Bool(bool),
-    Int(i32),
-    Pair(i32, i32),
-    /// So many octets.
-    Octets(usize),
-    /// Black.
-    Colour,
-    /// The data of an event.
-    Truth(bool),
-    Number(i32),
-    /// So many octets as content, and the name of a content file as such.
-    Included(usize),
-    Referenced,
-    Source,
-    Event,
-    /// The name of a content file.
-    Name,
-    /// So many members, each with so many empty slots.
-    Members(u32, u32),
-    Positions,
-    /// An action with so many integers, and behind them so many values with their kind.
-    Action(ActionName, u32, u32),
-}
-
-/// An attribute and its value.
-pub type Plainly = (Attribute, Plain);
 
 fn effect(alloc: Global, name: ActionName, integers: u32, typed: u32) -> Option<Setting> {
     let mut parameters = Seq::new(alloc);
@@ -55,6 +26,26 @@ fn effect(alloc: Global, name: ActionName, integers: u32, typed: u32) -> Option<
     Some(Setting::Effect(Seq::from_vec(vec![in alloc; action].ok()?)))
 }
 
+/// The integer at this place.
+fn int(field: &str, at: usize) -> Option<i32> {
+    word(field, at).parse::<i32>().ok()
+}
+
+/// A value of one piece.
+fn plain_setting(field: &str) -> Option<Setting> {
+    match word(field, 1) {
+        "bool" => Some(Setting::Bool(word(field, 2) == "true")),
+        "int" => Some(Setting::Int(int(field, 2)?)),
+        "pair" => Some(Setting::Pair(int(field, 2)?, int(field, 3)?)),
+        "colour" => Some(Setting::Colour(BLACK)),
+        "truth" => Some(Setting::Data(EventData::Bool(word(field, 2) == "true"))),
+        "number" => Some(Setting::Data(EventData::Int(int(field, 2)?))),
+        "source" => Some(Setting::Ref(Ref::Here(Number::new(0)?))),
+        "event" => Some(Setting::Event(EventType::UserInput)),
+        _ => None,
+    }
+}
+
 const BLACK: Colour = Colour {
     red: 0,
     green: 0,
@@ -62,46 +53,56 @@ const BLACK: Colour = Colour {
     transparency: 0,
 };
 
-fn octets(alloc: Global, count: usize) -> Option<Octets> {
-    let octets = vec![in alloc; 0u8; count].ok()?;
+fn octets(alloc: Global, field: &str) -> Option<Octets> {
+    let octets = vec![in alloc; 0u8; number(field, 2)? as usize].ok()?;
     Octets::from_vec(alloc, octets).ok()
 }
 
-fn setting(alloc: Global, plain: Plain) -> Option<Setting> {
-    Some(match plain {
-        Plain::Bool(truth) => Setting::Bool(truth),
-        Plain::Int(value) => Setting::Int(value),
-        Plain::Pair(first, second) => Setting::Pair(first, second),
-        Plain::Octets(count) => Setting::Octets(octets(alloc, count)?),
-        Plain::Colour => Setting::Colour(BLACK),
-        Plain::Truth(truth) => Setting::Data(EventData::Bool(truth)),
-        Plain::Number(value) => Setting::Data(EventData::Int(value)),
-        Plain::Included(count) => Setting::Content(Content::Included(octets(alloc, count)?)),
-        Plain::Referenced => { Setting::Content(Content::Referenced(written_name(alloc, b"~/a")?)) }
-        Plain::Source => Setting::Ref(Ref::Here(Number::new(0)?)),
-        Plain::Event => Setting::Event(EventType::UserInput),
-        Plain::Name => Setting::ContentRef(written_name(alloc, b"~/a")?),
-        Plain::Members(count, slots) => Setting::Members(members(alloc, count, slots)?),
-        Plain::Positions => Setting::Positions(Seq::new(alloc)),
-        Plain::Action(name, integers, typed) => effect(alloc, name, integers, typed)?,
-    })
+/// A value of many pieces: so many octets, also as content, the name of a content file, also as content,
+/// so many members with so many empty slots, positions, or an action with so many integers and behind
+/// them so many values with their kind.
+fn large_setting(alloc: Global, field: &str) -> Option<Setting> {
+    match word(field, 1) {
+        "octets" => Some(Setting::Octets(octets(alloc, field)?)),
+        "included" => Some(Setting::Content(Content::Included(octets(alloc, field)?))),
+        "referenced" => {
+            Some(Setting::Content(Content::Referenced(written_name(alloc, b"~/a")?)))
+        }
+        "name" => Some(Setting::ContentRef(written_name(alloc, b"~/a")?)),
+        "members" => {
+            Some(Setting::Members(members(alloc, number(field, 2)?, number(field, 3)?)?))
+        }
+        "positions" => Some(Setting::Positions(Seq::new(alloc))),
+        "action" => {
+            let name = ActionName::of_word(word(field, 2).as_bytes())?;
+            effect(alloc, name, number(field, 3)?, number(field, 4)?)
+        }
+        _ => None,
+    }
 }
 
-fn fields(alloc: Global, plain: &[Plainly]) -> Option<Seq<Field>> {
+/// A field: an attribute and its value.
+fn field(alloc: Global, field: &str) -> Option<Field> {
+    let attribute = Attribute::of_word(word(field, 0).as_bytes())?;
+    let setting = match plain_setting(field) {
+        Some(setting) => setting,
+        None => large_setting(alloc, field)?,
+    };
+    Some(Field { attribute, setting })
+}
+
+fn fields(alloc: Global, written: &str) -> Option<Seq<Field>> {
     let mut fields = Seq::new(alloc);
-    for (attribute, value) in plain {
-        let setting = setting(alloc, *value)?;
-        let field = Field {
-            attribute: *attribute,
-            setting,
-        };
-        fields.push(field).ok()?;
+    if !written.is_empty() {
+        for one in written.split("; ") {
+            fields.push(field(alloc, one)?).ok()?;
+        }
     }
     Some(fields)
 }
 
 /// What is written where a group has these fields and one ingredient.
-pub fn written(alloc: Global, class: Class, own: &[Plainly], item: Ingredient) -> Option<Written> {
+pub fn written(alloc: Global, class: Class, own: &str, item: Ingredient) -> Option<Written> {
     Some(Written {
         class,
         identifier: written_name(alloc, b"~/a")?,
@@ -110,15 +111,10 @@ pub fn written(alloc: Global, class: Class, own: &[Plainly], item: Ingredient) -
     })
 }
 
-pub fn ingredient(
-    alloc: Global,
-    class: Class,
-    number: u32,
-    plain: &[Plainly],
-) -> Option<Ingredient> {
+pub fn ingredient(alloc: Global, class: Class, number: u32, own: &str) -> Option<Ingredient> {
     Some(Ingredient {
         class,
         number: Number::new(number)?,
-        fields: fields(alloc, plain)?,
+        fields: fields(alloc, own)?,
     })
 }

@@ -1,124 +1,128 @@
 //! What is written of small services: checks, plays and conversions, each answered by its bytes.
+//!
+//! A case is a block of lines: what it shows; what is done; and behind an `@` each file, with its path
+//! and what it holds, or with the name of a shared one. What is done is `check`, `play` with a script,
+//! `lenient` with a script that is played whatever the verifier would say, `start` with the path to
+//! start with and a script, and `text` or `octets` for a conversion. What is written ends in a line with
+//! the exit status.
 ghost use Rattle.std.specs.Prelude.{◌≡◌, ◌-◌, ◌<◌, ◌^◌};
 
+use crate::cases::{Question, bytes};
+use crate::examples::path_and_text;
 use mh_base::GroupName;
 use mh_report::{
     ListSink, Notation, Options, PlayError, Sink, Status, check_bytes, convert_bytes, play_bytes,
 };
-use std::alloc::{AllocError, Global};
+use std::alloc::Global;
 
 /// A file: its path and what it holds.
-pub type File = (&'static str, &'static [u8]);
+pub type File = (GroupName, Vec<u8>);
 
-/// What is done with files.
-#[derive(Clone, Copy)]
-pub enum Task {
-    Check,
-    /// Plays a script where the verifier accepts the service.
-    Play(&'static [u8]),
-    /// Plays a script whatever the verifier would say.
-    PlayLeniently(&'static [u8]),
-    /// Converts the one file.
-    Convert(Notation),
+fn source(alloc: Global, file: &str) -> Option<File> {
+    let (path, text) = path_and_text(file)?;
+    let held = bytes(alloc, text)?;
+    Some((GroupName::of_path(alloc, path.as_bytes()).ok()?, held))
 }
 
-/// What a case shows, what is done, with which files, and what is written: in the end a line with the
-/// exit status.
-pub type Case = (&'static str, Task, &'static [File], &'static [u8]);
-
-fn sources(alloc: Global, files: &[File]) -> Result<Vec<(GroupName, Vec<u8>)>, PlayError> {
+pub fn sources(alloc: Global, files: &str) -> Option<Vec<File>> {
     let mut sources = Vec::new(alloc);
-    for (path, bytes) in files {
-        let Ok(name) = GroupName::of_path(alloc, path.as_bytes()) else {
-            return Err(PlayError::NoMemory);
-        };
-        let bytes = Vec::from_slice(alloc, *bytes)?;
-        if sources.push((name, bytes)).is_err() {
-            return Err(PlayError::NoMemory);
-        }
+    for file in files.split('@') {
+        sources.push(source(alloc, file)?).ok()?;
     }
-    Ok(sources)
-}
-
-/// Plays into the sink.
-pub fn play<S: Sink>(
-    alloc: Global,
-    files: &[File],
-    script: &[u8],
-    options: &Options,
-    sink: &mut S,
-) -> Result<Status, PlayError>
-    requires { S.failures sink.old < 2 ^ 64 - 1 }
-{
-    let files = sources(alloc, files)?;
-    play_bytes(alloc, files.as_slice(), script, options, sink)
+    Some(sources)
 }
 
 /// The choices of a play that starts with this application.
-pub fn options(alloc: Global, start: &str, lenient: bool) -> Result<Options, PlayError> {
-    Ok(Options {
-        start: Vec::from_slice(alloc, start.as_bytes())?,
-        lenient,
-    })
+fn options(alloc: Global, start: &str, lenient: bool) -> Option<Options> {
+    let start = Vec::from_slice(alloc, start.as_bytes()).ok()?;
+    Some(Options { start, lenient })
 }
 
-fn do_task(
+/// Plays into the sink: with which application the play starts, its script, and whether it is lenient.
+pub fn play<S: Sink>(
     alloc: Global,
-    task: Task,
     files: &[File],
-    sink: &mut ListSink,
-) -> Result<Status, PlayError>
-    requires { sink.old.failures < 2 ^ 64 - 1 }
+    how: (&str, &str, bool),
+    sink: &mut S,
+) -> Option<Result<Status, PlayError>>
+    requires { S.failures sink.old < 2 ^ 64 - 1 }
 {
-    match task {
-        Task::Check => {
-            let options = options(alloc, "a", false)?;
-            let files = sources(alloc, files)?;
-            check_bytes(alloc, files.as_slice(), &options, sink)
-        }
-        Task::Play(script) => play(alloc, files, script, &options(alloc, "a", false)?, sink),
-        Task::PlayLeniently(script) => {
-            play(alloc, files, script, &options(alloc, "a", true)?, sink)
-        }
-        Task::Convert(to) => match files {
-            [(name, bytes)] => convert_bytes(alloc, name.as_bytes(), *bytes, to, sink),
-            _ => Err(PlayError::Write),
-        },
-    }
+    let (start, script, lenient) = how;
+    let options = options(alloc, start, lenient)?;
+    let script = bytes(alloc, script)?;
+    Some(play_bytes(alloc, files, script.as_slice(), &options, sink))
 }
 
-/// Puts a last line behind what was written, which tells the exit status.
-pub fn ended(alloc: Global, sink: ListSink, status: Status) -> Result<Vec<u8>, AllocError> {
-    let mut bytes = sink.bytes;
-    let line = format!(in alloc; "exit {}\n", status.code())?;
-    bytes.extend_from_slice(line.as_bytes())?;
-    Ok(bytes)
+/// What was written, with a last line that tells the exit status.
+fn ended(alloc: Global, written: Vec<u8>, code: u8) -> Option<Vec<u8>> {
+    let mut bytes = written;
+    bytes
+        .extend_from_slice(format!(in alloc; "exit {code}\n").ok()?.as_bytes())
+        .ok()?;
+    Some(bytes)
 }
 
-pub fn empty_sink(alloc: Global) -> ListSink
-    ensures { result.failures ≡ 0 }
-{
-    ListSink {
+/// What a play writes.
+fn played(alloc: Global, files: &[File], how: (&str, &str, bool)) -> Option<Vec<u8>> {
+    let mut sink = ListSink {
         bytes: Vec::new(alloc),
         failures: 0,
+    };
+    let status = play(alloc, files, how, &mut sink)?.ok()?;
+    ended(alloc, sink.bytes, status.code())
+}
+
+/// What the verifier writes.
+fn checked(alloc: Global, files: &[File]) -> Option<Vec<u8>> {
+    let options = options(alloc, "a", false)?;
+    let mut sink = ListSink {
+        bytes: Vec::new(alloc),
+        failures: 0,
+    };
+    let status = check_bytes(alloc, files, &options, &mut sink).ok()?;
+    ended(alloc, sink.bytes, status.code())
+}
+
+/// What the conversion of a file writes.
+pub fn converted(alloc: Global, name: &[u8], bytes: &[u8], to: Notation) -> Option<Vec<u8>> {
+    let mut sink = ListSink {
+        bytes: Vec::new(alloc),
+        failures: 0,
+    };
+    let status = convert_bytes(alloc, name, bytes, to, &mut sink).ok()?;
+    ended(alloc, sink.bytes, status.code())
+}
+
+fn conversion(alloc: Global, files: &[File], to: Notation) -> Option<Vec<u8>> {
+    let (name, bytes) = files.first()?;
+    converted(alloc, name.as_bytes(), bytes.as_slice(), to)
+}
+
+/// What is written where this is done with the files.
+pub fn outcome(alloc: Global, task: &str, files: &str) -> Option<Vec<u8>> {
+    let files = sources(alloc, files)?;
+    let (word, rest) = task.split_once(' ').unwrap_or((task, ""));
+    match word {
+        "check" => checked(alloc, files.as_slice()),
+        "text" => conversion(alloc, files.as_slice(), Notation::Textual),
+        "octets" => conversion(alloc, files.as_slice(), Notation::Binary),
+        "play" => played(alloc, files.as_slice(), ("a", rest, false)),
+        "lenient" => played(alloc, files.as_slice(), ("a", rest, true)),
+        "start" => {
+            let (start, script) = rest.split_once(' ')?;
+            played(alloc, files.as_slice(), (start, script, true))
+        }
+        _ => None,
     }
 }
 
-pub fn outcome(alloc: Global, task: Task, files: &[File]) -> Result<Vec<u8>, PlayError> {
-    let mut sink = empty_sink(alloc);
-    let status = do_task(alloc, task, files, &mut sink)?;
-    Ok(ended(alloc, sink, status)?)
-}
+/// What is done with files, as a block tells it.
+pub struct Task;
 
-/// Whether these bytes are written.
-pub fn are(written: Result<Vec<u8>, PlayError>, wanted: &[u8]) -> bool {
-    match written {
-        Ok(written) => written.as_slice() == wanted,
-        Err(_) => false,
+impl Question for Task {
+    fn answer(alloc: Global, asked: &str, _: &[u8]) -> Option<Vec<u8>> {
+        let (front, files) = asked.split_once('@')?;
+        let (_, task) = front.trim_end().split_once('\n')?;
+        outcome(alloc, task, files)
     }
-}
-
-pub fn holds(alloc: Global, case: &Case) -> bool {
-    let (_, task, files, wanted) = case;
-    are(outcome(alloc, *task, *files), *wanted)
 }

@@ -1,278 +1,171 @@
 //! Reports: what is written of services and scripts, and from which start.
-use crate::examples::{
-    ABSENT, APPLICATION, APPLICATION_OCTETS, EMPTY, FRAMES, MOVES, OPEN, OUTSIDE, SCENE,
-    SCENE_OCTETS,
-};
-use crate::playing::{Case, File, Task, are, empty_sink, ended, holds, options, play};
-use mh_report::PlayError;
+use crate::cases::{Question, all_hold};
+use crate::playing::{Task, outcome};
 use std::alloc::Global;
 
-const NO_GROUP: File = ("note", b"nothing that begins a group");
+static PLAYS: &str = r#"
+a red box that moves
+lenient run|show|key red|run|show| @application @scene
+=> did 11 idle|frame 1|row 01: 1-2 000000/ff0000 ""|row 02: 1-2 000000/ff0000 ""|did 2 idle|frame 2|row
+01: 2-3 000000/ff0000 ""|row 02: 2-3 000000/ff0000 ""|total 13|exit 0|;;
+a file that is no group
+lenient run|show|key red|run|show| @application @note nothing that begins a group @scene
+=> did 11 idle|frame 1|row 01: 1-2 000000/ff0000 ""|row 02: 1-2 000000/ff0000 ""|did 2 idle|frame 2|row
+01: 2-3 000000/ff0000 ""|row 02: 2-3 000000/ff0000 ""|total 13|exit 0|;;
+a scene in octets
+lenient run|show|key red|run|show| @application @scene-octets
+=> did 11 idle|frame 1|row 01: 1-2 000000/ff0000 ""|row 02: 1-2 000000/ff0000 ""|did 2 idle|frame 2|row
+01: 2-3 000000/ff0000 ""|row 02: 2-3 000000/ff0000 ""|total 13|exit 0|;;
+an application in octets
+lenient run|show|key red|run|show| @application-octets @scene
+=> did 11 idle|frame 1|row 01: 1-2 000000/ff0000 ""|row 02: 1-2 000000/ff0000 ""|did 2 idle|frame 2|row
+01: 2-3 000000/ff0000 ""|row 02: 2-3 000000/ff0000 ""|total 13|exit 0|;;
+both in octets
+lenient run|show|key red|run|show| @application-octets @scene-octets
+=> did 11 idle|frame 1|row 01: 1-2 000000/ff0000 ""|row 02: 1-2 000000/ff0000 ""|did 2 idle|frame 2|row
+01: 2-3 000000/ff0000 ""|row 02: 2-3 000000/ff0000 ""|total 13|exit 0|;;
+octets that were cut off
+lenient run|show|key red|run|show| @a \a01b300804037e2f61\ @scene
+=> file a 1 0|exit 2|;;
+an open length
+lenient run|show|key red|run|show| @application @s \a0800000\
+=> file s 4 0|exit 2|;;
+an empty application
+lenient run|show @empty
+=> did 2 idle|frame 1|total 2|exit 0|;;
+a name that leads outside
+lenient run @outside
+=> service 35 a|exit 2|;;
+a group without an end
+lenient run @open
+=> file a 21 23|exit 2|;;
+a file before the script
+lenient walk @open
+=> file a 21 23|exit 2|;;
+no application
+lenient run @scene
+=> service 31 a|exit 2|;;
+a group twice
+lenient run @empty @empty
+=> service 30 a|exit 2|;;
+an absent object
+play run|show|key red|run|show| @application @absent
+=> refused V1 s 11 1 SetPosition|config a s|object s 99|exit 1|;;
+a red box, seen by the verifier
+check @application @scene
+=> accepted|exit 0|;;
+an empty application, seen by it
+check @empty
+=> accepted|exit 0|;;
+a box that is a scene
+check @application
+@s {:Scene ("~/s" 0) :OnCloseDown ( :SetPosition (0 24 16) ) :Items ( {:Link 11 :EventSource 12
+:EventType IsRunning :LinkEffect ( :SetPosition (99 24 16) ) } ) }
+=> refused V2 s 0 1 SetPosition|config a s|object s 0|exit 1|;;
+a scene that is never reached
+check @empty
+@s {:Scene ("~/s" 0) :OnCloseDown ( :SetPosition (0 24 16) ) :Items ( {:Link 11 :EventSource 12
+:EventType IsRunning :LinkEffect ( :SetPosition (99 24 16) ) } ) }
+=> accepted|exit 0|;;
+no application to look at
+check @scene
+=> service 31 a|exit 2|"#;
 
-const WRONG_CLASS: File = (
-    "s",
-    br#"{:Scene ("~/s" 0) :OnCloseDown ( :SetPosition (0 24 16) ) :Items (
-    {:Link 11 :EventSource 12 :EventType IsRunning :LinkEffect ( :SetPosition (99 24 16) ) } ) }"#,
-);
+/// Applications that are not played yet, or that name what lies above the folder, and what is said.
+static UNPLAYED: &str = r#"
+application {:Application ("a" 0) :Items ( {:Text 1 :OrigBoxSize 1 1 } ) } => service 36 a|exit 2|;;
+application {:Application ("a" 0) :OnStartUp ( :Quit (0) ) } => service 36 a|exit 2|;;
+application {:Application ("a" 0) :OnStartUp ( :LockScreen (0) ) } => service 36 a|exit 2|;;
+application {:Application ("a" 0) :OnStartUp ( :SetTimer (0 1 5) ) } => service 36 a|exit 2|;;
+application {:Application ("a" 0) :OnStartUp ( :Add (1 :IndirectRef 1) ) } => total 0|exit 0|;;
+application {:Application ("a" 0) :OnStartUp ( :SetVariable (1 :GBoolean true) ) } => total 0|exit 0|;;
+application {:Application ("a" 0) :Items ( {:ContentRefVar 1 :OrigValue :ContentRef ("..") } ) } => service 35 a|exit 2|;;
+application {:Application ("a" 0) :OnStartUp ( :Call (1 2 ( :GObjectRef (".." 1) )) ) } => service 35 a|exit 2|;;
+application {:Application ("a" 0) :OnStartUp ( :SetData (1 :ContentRef ("../t")) ) } => service 35 a|exit 2|;;
+application {:Application ("a" 0) :Items ( {:TokenGroup 1 :TokenGroupItems ( ( 2 ( :Run ((".." 1)) ) ) ) } ) } => service 35 a|exit 2|;;
+application {:Application ("a" 0) :CHook 3 :ObjectInfo 'four' :NextScenes ( ( ".." 1 ) ) } => total 0|exit 0| -- names of scenes that may come next are only kept"#;
 
-const APPLICATION_IN_OCTETS: File = ("a", APPLICATION_OCTETS);
+/// Scripts, and what they write on an empty application.
+static SCRIPTS: &str = r#"
+script  => total 0|exit 0|;; script # only a comment||| => total 0|exit 0|;;
+script step 0 => did 0 more|total 0|exit 0|;;
+script step 1|step 001 => did 1 more|did 1 idle|total 2|exit 0|;;
+script step 4294967295 => did 2 idle|total 2|exit 0|;;
+script show|show => frame 1|frame 2|total 0|exit 0|;; script step 4294967296 => script 1|exit 2|;;
+script step => script 1|exit 2|;; script step  => script 1|exit 2|;;
+script step -1 => script 1|exit 2|;; script step +1 => script 1|exit 2|;;
+script run|key purple => script 2|exit 2|;; script key  red => script 1|exit 2|;;
+script key red  => script 1|exit 2|;; script  run => script 1|exit 2|;;
+script run\0d\| => script 1|exit 2|;; script #||Run| => script 3|exit 2|"#;
 
-const SCENE_IN_OCTETS: File = ("s", SCENE_OCTETS);
+static KEYS: &str = r#"
+script run|key up|run => did 2 idle|did 1 idle|total 3|exit 0|;;
+script run|key down|run => did 2 idle|did 1 idle|total 3|exit 0|;;
+script run|key left|run => did 2 idle|did 1 idle|total 3|exit 0|;;
+script run|key right|run => did 2 idle|did 1 idle|total 3|exit 0|;;
+script run|key 0|run => did 2 idle|did 1 idle|total 3|exit 0|;;
+script run|key 1|run => did 2 idle|did 1 idle|total 3|exit 0|;;
+script run|key 2|run => did 2 idle|did 1 idle|total 3|exit 0|;;
+script run|key 3|run => did 2 idle|did 1 idle|total 3|exit 0|;;
+script run|key 4|run => did 2 idle|did 1 idle|total 3|exit 0|;;
+script run|key 5|run => did 2 idle|did 1 idle|total 3|exit 0|;;
+script run|key 6|run => did 2 idle|did 1 idle|total 3|exit 0|;;
+script run|key 7|run => did 2 idle|did 1 idle|total 3|exit 0|;;
+script run|key 8|run => did 2 idle|did 1 idle|total 3|exit 0|;;
+script run|key 9|run => did 2 idle|did 1 idle|total 3|exit 0|;;
+script run|key select|run => did 2 idle|did 1 idle|total 3|exit 0|;;
+script run|key cancel|run => did 2 idle|did 1 idle|total 3|exit 0|;;
+script run|key red|run => did 2 idle|did 1 idle|total 3|exit 0|;;
+script run|key green|run => did 2 idle|did 1 idle|total 3|exit 0|;;
+script run|key yellow|run => did 2 idle|did 1 idle|total 3|exit 0|;;
+script run|key blue|run => did 2 idle|did 1 idle|total 3|exit 0|;;
+script run|key text|run => did 2 idle|did 1 idle|total 3|exit 0|"#;
 
-const LENIENTLY: Task = Task::PlayLeniently(MOVES);
+/// With which application a play starts, its files, and what is said.
+static STARTS: &str = r#"
+started with b
+start b run @scene @empty
+=> service 31 b|exit 2|;;
+started with s
+start s run @scene @empty
+=> service 33 s|exit 2|;;
+started with nothing
+start  run @scene @empty
+=> service 31 |exit 2|;;
+started with ../a
+start ../a run @scene @empty
+=> service 31 ../a|exit 2|;;
+started with ../a
+start ../a run @empty @empty
+=> service 30 a|exit 2|;;
+started with b
+start b run @empty @empty
+=> service 30 a|exit 2|"#;
 
-static PLAYS: [Case; 19] = [
-    (
-        "a red box that moves",
-        LENIENTLY,
-        &[APPLICATION, SCENE],
-        FRAMES,
-    ),
-    (
-        "a file that is no group",
-        LENIENTLY,
-        &[APPLICATION, NO_GROUP, SCENE],
-        FRAMES,
-    ),
-    (
-        "a scene in octets",
-        LENIENTLY,
-        &[APPLICATION, SCENE_IN_OCTETS],
-        FRAMES,
-    ),
-    (
-        "an application in octets",
-        LENIENTLY,
-        &[APPLICATION_IN_OCTETS, SCENE],
-        FRAMES,
-    ),
-    (
-        "both in octets",
-        LENIENTLY,
-        &[APPLICATION_IN_OCTETS, SCENE_IN_OCTETS],
-        FRAMES,
-    ),
-    (
-        "octets that were cut off",
-        LENIENTLY,
-        &[("a", b"\xa0\x1b\x30\x08\x04\x03~/a"), SCENE],
-        b"file a 1 0\nexit 2\n",
-    ),
-    (
-        "an open length",
-        LENIENTLY,
-        &[APPLICATION, ("s", b"\xa0\x80\x00\x00")],
-        b"file s 4 0\nexit 2\n",
-    ),
-    (
-        "an empty application",
-        Task::PlayLeniently(b"run\nshow"),
-        &[EMPTY],
-        b"did 2 idle\nframe 1\ntotal 2\nexit 0\n",
-    ),
-    (
-        "a name that leads outside",
-        Task::PlayLeniently(b"run"),
-        &[OUTSIDE],
-        b"service 35 a\nexit 2\n",
-    ),
-    (
-        "a group without an end",
-        Task::PlayLeniently(b"run"),
-        &[OPEN],
-        b"file a 21 23\nexit 2\n",
-    ),
-    (
-        "a file before the script",
-        Task::PlayLeniently(b"walk"),
-        &[OPEN],
-        b"file a 21 23\nexit 2\n",
-    ),
-    (
-        "no application",
-        Task::PlayLeniently(b"run"),
-        &[SCENE],
-        b"service 31 a\nexit 2\n",
-    ),
-    (
-        "a group twice",
-        Task::PlayLeniently(b"run"),
-        &[EMPTY, EMPTY],
-        b"service 30 a\nexit 2\n",
-    ),
-    (
-        "an absent object",
-        Task::Play(MOVES),
-        &[APPLICATION, ABSENT],
-        b"refused V1 s 11 1 SetPosition\nconfig a s\nobject s 99\nexit 1\n",
-    ),
-    (
-        "a red box, seen by the verifier",
-        Task::Check,
-        &[APPLICATION, SCENE],
-        b"accepted\nexit 0\n",
-    ),
-    (
-        "an empty application, seen by it",
-        Task::Check,
-        &[EMPTY],
-        b"accepted\nexit 0\n",
-    ),
-    (
-        "a box that is a scene",
-        Task::Check,
-        &[APPLICATION, WRONG_CLASS],
-        b"refused V2 s 0 1 SetPosition\nconfig a s\nobject s 0\nexit 1\n",
-    ),
-    (
-        "a scene that is never reached",
-        Task::Check,
-        &[EMPTY, WRONG_CLASS],
-        b"accepted\nexit 0\n",
-    ),
-    (
-        "no application to look at",
-        Task::Check,
-        &[SCENE],
-        b"service 31 a\nexit 2\n",
-    ),
-];
+/// A play of an application without a script, or of a script on an empty application.
+struct Play;
+
+impl Question for Play {
+    fn answer(alloc: Global, asked: &str, _: &[u8]) -> Option<Vec<u8>> {
+        let (kind, played) = asked.split_once(' ')?;
+        if kind == "script" {
+            let task = format!(in alloc; "lenient {played}").ok()?;
+            return outcome(alloc, task.as_str(), "empty");
+        }
+        let file = format!(in alloc; "a {played}").ok()?;
+        outcome(alloc, "lenient ", file.as_str())
+    }
+}
 
 #[test]
 fn plays_and_checks(rt: HostRuntime) {
-    for case in &PLAYS {
-        assert!(rt; holds(rt.alloc(), case), "{}", case.0);
-    }
-}
-
-/// Applications that are not played yet, or that name what lies above the folder, and what is said.
-static UNPLAYED: [(&[u8], &[u8]); 9] = [
-    (
-        br#"{:Application ("a" 0) :Items ( {:Text 1 :OrigBoxSize 1 1 } ) }"#,
-        b"service 36 a\nexit 2\n",
-    ),
-    (
-        br#"{:Application ("a" 0) :OnStartUp ( :Quit (0) ) }"#,
-        b"service 36 a\nexit 2\n",
-    ),
-    (
-        br#"{:Application ("a" 0) :OnStartUp ( :Add (1 :IndirectRef 1) ) }"#,
-        b"service 36 a\nexit 2\n",
-    ),
-    (
-        br#"{:Application ("a" 0) :OnStartUp ( :SetVariable (1 :GBoolean true) ) }"#,
-        b"service 36 a\nexit 2\n",
-    ),
-    (
-        br#"{:Application ("a" 0) :Items ( {:ContentRefVar 1 :OrigValue :ContentRef ("..") } ) }"#,
-        b"service 35 a\nexit 2\n",
-    ),
-    (
-        br#"{:Application ("a" 0) :OnStartUp ( :Call (1 2 ( :GObjectRef (".." 1) )) ) }"#,
-        b"service 35 a\nexit 2\n",
-    ),
-    (
-        br#"{:Application ("a" 0) :OnStartUp ( :SetData (1 :ContentRef ("../t")) ) }"#,
-        b"service 35 a\nexit 2\n",
-    ),
-    (
-        br#"{:Application ("a" 0) :Items ( {:TokenGroup 1 :TokenGroupItems ( ( 2 ( :Run ((".." 1)) ) ) ) } ) }"#,
-        b"service 35 a\nexit 2\n",
-    ),
-    // names of scenes that may come next are only kept
-    (
-        br#"{:Application ("a" 0) :CHook 3 :ObjectInfo 'four' :NextScenes ( ( ".." 1 ) ) }"#,
-        b"total 0\nexit 0\n",
-    ),
-];
-
-/// Scripts, and what they write on an empty application.
-static SCRIPTS: [(&[u8], &[u8]); 17] = [
-    (b"", b"total 0\nexit 0\n"),
-    (b"# only a comment\n\n\n", b"total 0\nexit 0\n"),
-    (b"step 0", b"did 0 more\ntotal 0\nexit 0\n"),
-    (
-        b"step 1\nstep 001",
-        b"did 1 more\ndid 1 idle\ntotal 2\nexit 0\n",
-    ),
-    (b"step 4294967295", b"did 2 idle\ntotal 2\nexit 0\n"),
-    (b"show\nshow", b"frame 1\nframe 2\ntotal 0\nexit 0\n"),
-    (b"step 4294967296", b"script 1\nexit 2\n"),
-    (b"step", b"script 1\nexit 2\n"),
-    (b"step ", b"script 1\nexit 2\n"),
-    (b"step -1", b"script 1\nexit 2\n"),
-    (b"step +1", b"script 1\nexit 2\n"),
-    (b"run\nkey purple", b"script 2\nexit 2\n"),
-    (b"key  red", b"script 1\nexit 2\n"),
-    (b"key red ", b"script 1\nexit 2\n"),
-    (b" run", b"script 1\nexit 2\n"),
-    (b"run\r\n", b"script 1\nexit 2\n"),
-    (b"#\n\nRun\n", b"script 3\nexit 2\n"),
-];
-
-/// What a lenient play of a script writes.
-fn played(alloc: Global, files: &[File], start: &str, script: &[u8]) -> Result<Vec<u8>, PlayError> {
-    let mut sink = empty_sink(alloc);
-    let options = options(alloc, start, true)?;
-    let status = play(alloc, files, script, &options, &mut sink)?;
-    Ok(ended(alloc, sink, status)?)
+    all_hold::<Task>(&rt, rt.alloc(), PLAYS);
+    all_hold::<Task>(&rt, rt.alloc(), STARTS);
 }
 
 #[test]
-fn reads_what_it_does_not_play_yet(rt: HostRuntime) {
-    for (text, wanted) in &UNPLAYED {
-        let files = [("a", *text)];
-        assert!(rt;
-            are(played(rt.alloc(), &files, "a", b""), *wanted),
-            "{text:?}"
-        );
-    }
-}
-
-#[test]
-fn reads_scripts(rt: HostRuntime) {
-    for (script, wanted) in &SCRIPTS {
-        assert!(rt;
-            are(played(rt.alloc(), &[EMPTY], "a", *script), *wanted),
-            "{script:?}"
-        );
-    }
-}
-
-static KEYS: [&str; 21] = [
-    "up", "down", "left", "right", "0", "1", "2", "3", "4", "5", "6", "7", "8", "9", "select",
-    "cancel", "red", "green", "yellow", "blue", "text",
-];
-
-fn played_key(alloc: Global, name: &str) -> Result<Vec<u8>, PlayError> {
-    let script = format!(in alloc; "run\nkey {name}\nrun")?;
-    played(alloc, &[EMPTY], "a", script.as_bytes())
-}
-
-#[test]
-fn knows_all_keys(rt: HostRuntime) {
-    for name in &KEYS {
-        let wanted = b"did 2 idle\ndid 1 idle\ntotal 3\nexit 0\n";
-        assert!(rt; are(played_key(rt.alloc(), *name), wanted), "{name}");
-    }
-}
-
-/// With which application a play starts, its files, and what is said.
-static STARTS: [(&str, &[File], &[u8]); 6] = [
-    ("b", &[SCENE, EMPTY], b"service 31 b\nexit 2\n"),
-    ("s", &[SCENE, EMPTY], b"service 33 s\nexit 2\n"),
-    ("", &[SCENE, EMPTY], b"service 31 \nexit 2\n"),
-    ("../a", &[SCENE, EMPTY], b"service 31 ../a\nexit 2\n"),
-    ("../a", &[EMPTY, EMPTY], b"service 30 a\nexit 2\n"),
-    ("b", &[EMPTY, EMPTY], b"service 30 a\nexit 2\n"),
-];
-
-#[test]
-fn starts_where_it_is_told(rt: HostRuntime) {
-    for (start, files, wanted) in &STARTS {
-        assert!(rt;
-            are(played(rt.alloc(), *files, *start, b"run"), *wanted),
-            "{start}"
-        );
-    }
+fn reads_applications_and_scripts(rt: HostRuntime) {
+    all_hold::<Play>(&rt, rt.alloc(), UNPLAYED);
+    all_hold::<Play>(&rt, rt.alloc(), SCRIPTS);
+    all_hold::<Play>(&rt, rt.alloc(), KEYS);
 }

@@ -1,14 +1,23 @@
 //! Sinks that fail, and sinks over writers: what they took is a beginning of what is meant.
 use crate::cutting_sink::CuttingSink;
-use crate::examples::{APPLICATION, FRAMES, MOVES, SCENE};
-use crate::playing::{options, play};
+use crate::playing::{File, play, sources};
 use mh_report::{Notation, PlayError, Status, WriterSink, convert_bytes};
 use std::alloc::Global;
 
-/// What `MOVES` writes.
-fn report() -> &'static [u8] {
-    FRAMES.strip_suffix(b"exit 0\n").unwrap_or(b"")
-}
+/// The red rectangle that a key moves, what is done with it, and what is written.
+const FILES: &str = "application @scene";
+
+const MOVES: (&str, &str, bool) = ("a", "run|show|key red|run|show|", true);
+
+static REPORT: &[u8] = b"did 11 idle\n\
+    frame 1\n\
+    row 01: 1-2 000000/ff0000 \"\"\n\
+    row 02: 1-2 000000/ff0000 \"\"\n\
+    did 2 idle\n\
+    frame 2\n\
+    row 01: 2-3 000000/ff0000 \"\"\n\
+    row 02: 2-3 000000/ff0000 \"\"\n\
+    total 13\n";
 
 /// How many bytes were taken. None where they are no beginning of what is meant, or not all of it after a
 /// status, or where another than the last write failed.
@@ -30,33 +39,33 @@ fn taken(
 }
 
 /// Plays into a sink that takes so many writes of so many bytes.
-fn taken_of_a_play(alloc: Global, writes: usize, most: usize) -> Option<usize> {
+fn taken_of_a_play(alloc: Global, files: &[File], writes: usize, most: usize) -> Option<usize> {
     let mut sink = CuttingSink {
         bytes: Vec::new(alloc),
         failures: 0,
         writes,
         most,
     };
-    let options = options(alloc, "a", true).ok()?;
-    let ended = play(alloc, &[APPLICATION, SCENE], MOVES, &options, &mut sink);
-    taken(ended, &sink, report())
+    let ended = play(alloc, files, MOVES, &mut sink)?;
+    taken(ended, &sink, REPORT)
+}
+
+/// Whether a beginning is taken in any number of writes, and all of it in enough of them.
+fn leaves_beginnings(alloc: Global, most: usize) -> Option<bool> {
+    let files = sources(alloc, FILES)?;
+    for writes in 0..REPORT.len() {
+        if taken_of_a_play(alloc, files.as_slice(), writes, most)? == REPORT.len() {
+            break;
+        }
+    }
+    let all = taken_of_a_play(alloc, files.as_slice(), REPORT.len(), most)?;
+    Some(all == REPORT.len())
 }
 
 #[test]
 fn a_failed_write_leaves_a_beginning(rt: HostRuntime) {
-    let whole = Some(report().len());
     for most in [1, 7, 1000] {
-        for writes in 0..report().len() {
-            let taken = taken_of_a_play(rt.alloc(), writes, most);
-            assert!(rt; taken.is_some(), "{writes} of {most}");
-            if taken == whole {
-                break;
-            }
-        }
-        assert!(rt;
-            taken_of_a_play(rt.alloc(), report().len(), most) == whole,
-            "{most}"
-        );
+        assert!(rt; leaves_beginnings(rt.alloc(), most) == Some(true), "{most}");
     }
 }
 
@@ -78,27 +87,27 @@ fn taken_of_a_conversion(alloc: Global, writes: usize) -> Option<usize> {
 
 #[test]
 fn a_conversion_leaves_a_beginning(rt: HostRuntime) {
-    for writes in 0..SMALL.len() {
+    for writes in 0..SMALL.len() + 1 {
         assert!(rt;
             taken_of_a_conversion(rt.alloc(), writes) == Some(writes),
             "{writes}"
         );
     }
-    assert!(rt; taken_of_a_conversion(rt.alloc(), SMALL.len()) == Some(SMALL.len()));
 }
 
 /// Whether a sink over a writer of memory holds the whole report.
-fn is_held(alloc: Global) -> Result<bool, PlayError> {
+fn is_held(alloc: Global) -> Option<bool> {
+    let files = sources(alloc, FILES)?;
     let mut sink = WriterSink {
         writer: Vec::new(alloc),
         failures: 0,
     };
-    let options = options(alloc, "a", true)?;
-    let status = play(alloc, &[APPLICATION, SCENE], MOVES, &options, &mut sink)?;
-    Ok(status == Status::Good && sink.failures == 0 && sink.writer.as_slice() == report())
+    let ended = play(alloc, files.as_slice(), MOVES, &mut sink)?;
+    let is_whole = sink.failures == 0 && sink.writer.as_slice() == REPORT;
+    Some(ended == Ok(Status::Good) && is_whole)
 }
 
 #[test]
 fn a_writer_holds_the_report(rt: HostRuntime) {
-    assert!(rt; is_held(rt.alloc()) == Ok(true));
+    assert!(rt; is_held(rt.alloc()) == Some(true));
 }

@@ -1,201 +1,78 @@
 //! The verifier: which services it accepts, and what it says first of the others.
-use crate::examples::APPLICATION;
-use crate::objects::service_of;
-use crate::playing::{Case, File, Task, holds};
+use crate::cases::{all_hold, said};
+use crate::playing::Task;
+use crate::service::Asked;
 use mh_service::Service;
-use mh_verify::{Accepted, RefusalKind, verify};
+use mh_verify::{Accepted, Refusal, RefusalKind, verify};
 use std::alloc::Global;
 
-static SCENES: [Case; 8] = [
-    (
-        "a link that moves a rectangle",
-        Task::Check,
-        &[
-            APPLICATION,
-            (
-                "s",
-                br#"{:Scene ("~/s" 0) :Items ( {:Rectangle 10 :OrigBoxSize 24 32}
-                {:Link 11 :EventSource 0 :EventType UserInput :LinkEffect (:SetPosition(10 1 1))} ) }"#,
-            ),
-        ],
-        b"accepted\nexit 0\n",
-    ),
-    (
-        "a link that moves what is not there",
-        Task::Check,
-        &[
-            APPLICATION,
-            (
-                "s",
-                br#"{:Scene ("~/s" 0) :Items ( {:Rectangle 10 :OrigBoxSize 24 32}
-                {:Link 11 :EventSource 0 :EventType UserInput :LinkEffect (:SetPosition(99 1 1))} ) }"#,
-            ),
-        ],
-        b"refused V1 s 11 1 SetPosition\nconfig a s\nobject s 99\nexit 1\n",
-    ),
-    (
-        "a close-down that names what is not there, behind a start-up",
-        Task::Check,
-        &[
-            APPLICATION,
-            (
-                "s",
-                br#"{:Scene ("~/s" 0) :OnStartUp (:Add(20 1)) :OnCloseDown (:SetVariable(21 :GInteger 1))
-                :Items ( {:IntegerVar 20 :OrigValue 0} ) }"#,
-            ),
-        ],
-        b"refused V1 s 0 2 SetVariable\nconfig a s\nobject s 21\nexit 1\n",
-    ),
-    (
-        "a variable is not moved",
-        Task::Check,
-        &[
-            APPLICATION,
-            (
-                "s",
-                br#"{:Scene ("~/s" 0) :OnStartUp (:SetPosition(20 1 1))
-                :Items ( {:IntegerVar 20 :OrigValue 0} ) }"#,
-            ),
-        ],
-        b"refused V2 s 0 1 SetPosition\nconfig a s\nobject s 20\nexit 1\n",
-    ),
-    (
-        "two links, the second with the lesser number",
-        Task::Check,
-        &[
-            APPLICATION,
-            (
-                "s",
-                br#"{:Scene ("~/s" 0) :Items (
-                {:Link 12 :EventSource 0 :EventType UserInput :LinkEffect (:SetPosition(98 1 1))}
-                {:Link 11 :EventSource 0 :EventType UserInput
-                    :LinkEffect (:TransitionTo(0) :SetPosition(99 1 1))} ) }"#,
-            ),
-        ],
-        b"refused V1 s 11 2 SetPosition\nconfig a s\nobject s 99\nexit 1\n",
-    ),
-    (
-        "a link whose source is not there",
-        Task::Check,
-        &[
-            APPLICATION,
-            (
-                "s",
-                br#"{:Scene ("~/s" 0) :Items (
-                {:Link 11 :EventSource 5 :EventType UserInput :LinkEffect (:SetPosition(99 1 1))} ) }"#,
-            ),
-        ],
-        b"accepted\nexit 0\n",
-    ),
-    (
-        "a transition to an application",
-        Task::Check,
-        &[
-            APPLICATION,
-            (
-                "s",
-                br#"{:Scene ("~/s" 0) :OnStartUp (:TransitionTo(("~/a" 0))) }"#,
-            ),
-        ],
-        b"refused V2 s 0 1 TransitionTo\nconfig a s\nobject a 0\nexit 1\n",
-    ),
-    (
-        "a scene that is not reached",
-        Task::Check,
-        &[("a", br#"{:Application ("~/a" 0) }"#), WRONG],
-        b"accepted\nexit 0\n",
-    ),
-];
+static SCENES: &str = r#"
+a link that moves a rectangle
+check @application
+@s {:Scene ("~/s" 0) :Items ( {:Rectangle 10 :OrigBoxSize 24 32} {:Link 11 :EventSource 0 :EventType
+UserInput :LinkEffect (:SetPosition(10 1 1))} ) }
+=> accepted|exit 0|;;
+a link that moves what is not there
+check @application
+@s {:Scene ("~/s" 0) :Items ( {:Rectangle 10 :OrigBoxSize 24 32} {:Link 11 :EventSource 0 :EventType
+UserInput :LinkEffect (:SetPosition(99 1 1))} ) }
+=> refused V1 s 11 1 SetPosition|config a s|object s 99|exit 1|;;
+a close-down that names what is not there, behind a start-up
+check @application
+@s {:Scene ("~/s" 0) :OnStartUp (:Add(20 1)) :OnCloseDown (:SetVariable(21 :GInteger 1)) :Items (
+{:IntegerVar 20 :OrigValue 0} ) }
+=> refused V1 s 0 2 SetVariable|config a s|object s 21|exit 1|;;
+a variable is not moved
+check @application
+@s {:Scene ("~/s" 0) :OnStartUp (:SetPosition(20 1 1)) :Items ( {:IntegerVar 20 :OrigValue 0} ) }
+=> refused V2 s 0 1 SetPosition|config a s|object s 20|exit 1|;;
+two links, the second with the lesser number
+check @application
+@s {:Scene ("~/s" 0) :Items ( {:Link 12 :EventSource 0 :EventType UserInput :LinkEffect (:SetPosition(98
+1 1))} {:Link 11 :EventSource 0 :EventType UserInput :LinkEffect (:TransitionTo(0) :SetPosition(99 1
+1))} ) }
+=> refused V1 s 11 2 SetPosition|config a s|object s 99|exit 1|;;
+a link whose source is not there
+check @application
+@s {:Scene ("~/s" 0) :Items ( {:Link 11 :EventSource 5 :EventType UserInput :LinkEffect (:SetPosition(99
+1 1))} ) }
+=> accepted|exit 0|;;
+a transition to an application
+check @application @s {:Scene ("~/s" 0) :OnStartUp (:TransitionTo(("~/a" 0))) }
+=> refused V2 s 0 1 TransitionTo|config a s|object a 0|exit 1|;;
+a scene that is not reached
+check @a {:Application ("~/a" 0) } @s {:Scene ("~/s" 0) :OnStartUp (:SetPosition(99 1 1)) }
+=> accepted|exit 0|"#;
 
-/// Moves what is not there.
-const WRONG: File = (
-    "s",
-    br#"{:Scene ("~/s" 0) :OnStartUp (:SetPosition(99 1 1)) }"#,
-);
-
-/// A rectangle and a variable.
-const FULL: File = (
-    "s",
-    br#"{:Scene ("~/s" 0) :Items (
-    {:Rectangle 10 :OrigBoxSize 24 32} {:IntegerVar 20 :OrigValue 0} ) }"#,
-);
-
-static APPLICATIONS: [Case; 5] = [
-    (
-        "what is in the scene is not there before",
-        Task::Check,
-        &[
-            (
-                "a",
-                br#"{:Application ("~/a" 0)
-                :OnStartUp (:TransitionTo(("~/s" 0)) :SetPosition(("~/s" 10) 1 1)) }"#,
-            ),
-            FULL,
-        ],
-        b"refused V1 a 0 2 SetPosition\nconfig a -\nobject s 10\nexit 1\n",
-    ),
-    (
-        "a link of the application hears the scene alone",
-        Task::Check,
-        &[
-            (
-                "a",
-                br#"{:Application ("~/a" 0) :OnStartUp (:TransitionTo(("~/s" 0))) :Items (
-                {:Link 5 :EventSource ("~/s" 0) :EventType UserInput
-                    :LinkEffect (:SetPosition(("~/s" 10) 1 1) :Add(("~/s" 10) 1))} ) }"#,
-            ),
-            FULL,
-        ],
-        b"refused V2 a 5 2 Add\nconfig a s\nobject s 10\nexit 1\n",
-    ),
-    (
-        "absent comes before a wrong class at one place",
-        Task::Check,
-        &[
-            (
-                "a",
-                br#"{:Application ("~/a" 0)
-                :OnStartUp (:TransitionTo(("~/s" 0)) :Add(("~/s" 10) 1)) }"#,
-            ),
-            FULL,
-        ],
-        b"refused V1 a 0 2 Add\nconfig a -\nobject s 10\nexit 1\n",
-    ),
-    (
-        "no such scene",
-        Task::Check,
-        &[
-            (
-                "a",
-                br#"{:Application ("~/a" 0) :OnStartUp (:TransitionTo(("~/x" 0))) }"#,
-            ),
-            FULL,
-        ],
-        b"refused V1 a 0 1 TransitionTo\nconfig a -\nobject x 0\nexit 1\n",
-    ),
-    (
-        "an object of the application is there in each configuration",
-        Task::Check,
-        &[
-            (
-                "a",
-                br#"{:Application ("~/a" 0) :OnStartUp (:Add(30 1) :TransitionTo(("~/s" 0)))
-                :OnCloseDown (:SetVariable(30 :GInteger 1)) :Items ( {:IntegerVar 30 :OrigValue 0} ) }"#,
-            ),
-            FULL,
-        ],
-        b"accepted\nexit 0\n",
-    ),
-];
+static APPLICATIONS: &str = r#"
+what is in the scene is not there before
+check @a {:Application ("~/a" 0) :OnStartUp (:TransitionTo(("~/s" 0)) :SetPosition(("~/s" 10) 1 1)) }
+@s {:Scene ("~/s" 0) :Items ( {:Rectangle 10 :OrigBoxSize 24 32} {:IntegerVar 20 :OrigValue 0} ) }
+=> refused V1 a 0 2 SetPosition|config a -|object s 10|exit 1|;;
+a link of the application hears the scene alone
+check
+@a {:Application ("~/a" 0) :OnStartUp (:TransitionTo(("~/s" 0))) :Items ( {:Link 5 :EventSource ("~/s"
+0) :EventType UserInput :LinkEffect (:SetPosition(("~/s" 10) 1 1) :Add(("~/s" 10) 1))} ) }
+@s {:Scene ("~/s" 0) :Items ( {:Rectangle 10 :OrigBoxSize 24 32} {:IntegerVar 20 :OrigValue 0} ) }
+=> refused V2 a 5 2 Add|config a s|object s 10|exit 1|;;
+absent comes before a wrong class at one place
+check @a {:Application ("~/a" 0) :OnStartUp (:TransitionTo(("~/s" 0)) :Add(("~/s" 10) 1)) }
+@s {:Scene ("~/s" 0) :Items ( {:Rectangle 10 :OrigBoxSize 24 32} {:IntegerVar 20 :OrigValue 0} ) }
+=> refused V1 a 0 2 Add|config a -|object s 10|exit 1|;;
+no such scene
+check @a {:Application ("~/a" 0) :OnStartUp (:TransitionTo(("~/x" 0))) }
+@s {:Scene ("~/s" 0) :Items ( {:Rectangle 10 :OrigBoxSize 24 32} {:IntegerVar 20 :OrigValue 0} ) }
+=> refused V1 a 0 1 TransitionTo|config a -|object x 0|exit 1|;;
+an object of the application is there in each configuration
+check @a {:Application ("~/a" 0) :OnStartUp (:Add(30 1) :TransitionTo(("~/s" 0))) :OnCloseDown
+(:SetVariable(30 :GInteger 1)) :Items ( {:IntegerVar 30 :OrigValue 0} ) }
+@s {:Scene ("~/s" 0) :Items ( {:Rectangle 10 :OrigBoxSize 24 32} {:IntegerVar 20 :OrigValue 0} ) }
+=> accepted|exit 0|"#;
 
 #[test]
 fn judges(rt: HostRuntime) {
-    for case in &SCENES {
-        assert!(rt; holds(rt.alloc(), case), "{}", case.0);
-    }
-    for case in &APPLICATIONS {
-        assert!(rt; holds(rt.alloc(), case), "{}", case.0);
-    }
+    all_hold::<Task>(&rt, rt.alloc(), SCENES);
+    all_hold::<Task>(&rt, rt.alloc(), APPLICATIONS);
 }
 
 fn starts_with_a(service: &Service) -> bool {
@@ -208,28 +85,35 @@ fn comes_together(accepted: Accepted) -> bool {
     starts_with_a(rest.join(service).service())
 }
 
-fn is_accepted(alloc: Global, service: Service) -> bool {
-    match verify(alloc, service) {
-        Ok(accepted) => comes_together(accepted),
-        Err(_) => false,
+/// Whether the service is handed back.
+fn is_handed_back(refusal: &Refusal) -> bool {
+    refusal.kind == RefusalKind::AbsentObject && starts_with_a(&refusal.service)
+}
+
+/// Whether the service is accepted and kept, or refused and handed back.
+pub fn verdict(alloc: Global, service: Service) -> Option<Vec<u8>> {
+    let (word, is_kept) = match verify(alloc, service) {
+        Ok(accepted) => ("accepted", comes_together(accepted)),
+        Err(refusal) => ("refused", is_handed_back(&refusal)),
+    };
+    if is_kept {
+        said(alloc, word.as_bytes())
+    } else {
+        None
     }
 }
 
-/// Whether the service is refused and handed back.
-fn is_refused(alloc: Global, service: Service) -> bool {
-    match verify(alloc, service) {
-        Ok(_) => false,
-        Err(refusal) => {
-            refusal.kind == RefusalKind::AbsentObject && starts_with_a(&refusal.service)
-        }
-    }
-}
+static KEPT: &str = r#"
+a good service
+verdict @application
+@s {:Scene ("~/s" 0) :Items ( {:Rectangle 10 :OrigBoxSize 24 32} {:IntegerVar 20 :OrigValue 0} ) }
+=> accepted;;
+a service that moves what is not there
+verdict @application
+@s {:Scene ("~/s" 0) :OnStartUp (:SetPosition(99 1 1)) }
+=> refused"#;
 
 #[test]
 fn keeps_the_service(rt: HostRuntime) {
-    let alloc = rt.alloc();
-    let good = service_of(alloc, &[APPLICATION, FULL]);
-    assert!(rt; good.map_or(false, |service| is_accepted(alloc, service)));
-    let wrong = service_of(alloc, &[APPLICATION, WRONG]);
-    assert!(rt; wrong.map_or(false, |service| is_refused(alloc, service)));
+    all_hold::<Asked>(&rt, rt.alloc(), KEPT);
 }

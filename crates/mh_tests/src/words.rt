@@ -1,6 +1,10 @@
 //! The words and the numbers of the tables, and what the tables say of actions.
-use mh_base::{EventType, Kind};
-use mh_group::{ActionName, Attribute, Class, Justification, Need, Number, event_of_word};
+use crate::cases::{Question, all_hold, number, word};
+use mh_base::Kind;
+use mh_group::{
+    ActionName, Attribute, Class, Justification, Need, Number, event_of_word, event_word,
+};
+use std::alloc::Global;
 
 #[test]
 fn takes_numbers_of_31_bits(rt: HostRuntime) {
@@ -9,82 +13,101 @@ fn takes_numbers_of_31_bits(rt: HostRuntime) {
 }
 
 /// Words, and the numbers of what they name: a class, an attribute, an action, and a type of events.
-static WORDS: [(&[u8], [u32; 4]); 5] = [
-    (b"Rectangle", [8, 99, 99, 99]),
-    (b"Shared", [99, 7, 99, 99]),
-    (b"SetPosition", [99, 99, 26, 99]),
-    (b"TestEvent", [99, 99, 99, 23]),
-    (b"add", [99, 99, 99, 99]),
-];
+static WORDS: &str = r#"
+Rectangle => 8 99 99 99;; Shared => 99 7 99 99;; SetPosition => 99 99 26 99;;
+TestEvent => 99 99 99 23;; add => 99 99 99 99"#;
 
-fn numbers_of(word: &[u8]) -> [u32; 4] {
-    [
-        Class::of_word(word).map_or(99, |x| x.number()),
-        Attribute::of_word(word).map_or(99, |x| x.number()),
-        ActionName::of_word(word).map_or(99, |x| x.number()),
-        event_of_word(word).map_or(99, |x| x.number()),
-    ]
+struct Word;
+
+impl Question for Word {
+    fn answer(alloc: Global, _: &str, word: &[u8]) -> Option<Vec<u8>> {
+        let class = Class::of_word(word).map_or(99, |x| x.number());
+        let attribute = Attribute::of_word(word).map_or(99, |x| x.number());
+        let action = ActionName::of_word(word).map_or(99, |x| x.number());
+        let event = event_of_word(word).map_or(99, |x| x.number());
+        let numbers = format!(in alloc; "{class} {attribute} {action} {event}").ok()?;
+        Some(numbers.into_bytes())
+    }
 }
 
 #[test]
 fn finds_words(rt: HostRuntime) {
-    for (word, numbers) in &WORDS {
-        assert!(rt; numbers_of(*word) == *numbers, "{word:?}");
-    }
+    all_hold::<Word>(&rt, rt.alloc(), WORDS);
 }
 
 /// Numbers, and the words of the class, the attribute and the action that have them.
-static NUMBERS: [(u32, &[u8], &[u8], &[u8]); 7] = [
-    (0, b"Application", b"", b"Run"),
-    (1, b"Scene", b"OnStartUp", b"Stop"),
-    (16, b"Stream", b"OrigRefLineColour", b"SetVariable"),
-    (17, b"", b"OrigRefFillColour", b"TestVariable"),
-    (38, b"", b"NextScenes", b"DrawLine"),
-    (39, b"", b"", b"DrawRectangle"),
-    (69, b"", b"", b"GetCellItem"),
-];
+static NUMBERS: &str = r#"
+0 => Application - Run;; 1 => Scene OnStartUp Stop;; 16 => Stream OrigRefLineColour SetVariable;;
+17 => - OrigRefFillColour TestVariable;; 38 => - NextScenes DrawLine;; 39 => - - DrawRectangle;;
+69 => - - GetCellItem;; 70 => - - -"#;
 
 fn class_word(number: u32) -> &'static [u8] {
     match Class::of_number(number) {
         Some(class) => class.word(),
-        None => b"",
+        None => b"-",
     }
 }
 
 fn attribute_word(number: u32) -> &'static [u8] {
     match Attribute::of_number(number) {
         Some(attribute) => attribute.word(),
-        None => b"",
+        None => b"-",
     }
 }
 
 fn action_word(number: u32) -> &'static [u8] {
     match ActionName::of_number(number) {
         Some(name) => name.word(),
-        None => b"",
+        None => b"-",
+    }
+}
+
+/// The words, with a space behind each but the last.
+fn joined(alloc: Global, words: &[&'static [u8]]) -> Option<Vec<u8>> {
+    let mut joined = Vec::new(alloc);
+    for word in words {
+        if !joined.is_empty() {
+            joined.push(b' ').ok()?;
+        }
+        joined.extend_from_slice(*word).ok()?;
+    }
+    Some(joined)
+}
+
+struct OfNumber;
+
+impl Question for OfNumber {
+    fn answer(alloc: Global, asked: &str, _: &[u8]) -> Option<Vec<u8>> {
+        let at = number(asked, 0)?;
+        joined(
+            alloc,
+            &[class_word(at), attribute_word(at), action_word(at)],
+        )
     }
 }
 
 #[test]
 fn finds_numbers(rt: HostRuntime) {
-    for (number, class, attribute, action) in &NUMBERS {
-        assert!(rt; class_word(*number) == *class, "{number}");
-        assert!(rt; attribute_word(*number) == *attribute, "{number}");
-        assert!(rt; action_word(*number) == *action, "{number}");
-    }
-    assert!(rt; ActionName::of_number(70).is_none());
+    all_hold::<OfNumber>(&rt, rt.alloc(), NUMBERS);
 }
 
-static JUSTIFICATIONS: [(&[u8], u32); 3] = [(b"start", 1), (b"end", 2), (b"centre", 3)];
+/// Words, the numbers of what they name, and the numbers of what has these numbers.
+static JUSTIFICATIONS: &str = r#"
+start => 1 1;; end => 2 2;; centre => 3 3"#;
+
+struct JustificationWord;
+
+impl Question for JustificationWord {
+    fn answer(alloc: Global, _: &str, word: &[u8]) -> Option<Vec<u8>> {
+        let number = Justification::of_word(word)?.number();
+        let back = Justification::of_number(number)?.number();
+        Some(format!(in alloc; "{number} {back}").ok()?.into_bytes())
+    }
+}
 
 #[test]
 fn finds_justifications(rt: HostRuntime) {
-    for (word, number) in &JUSTIFICATIONS {
-        let found = Justification::of_word(*word).map_or(0, |x| x.number());
-        assert!(rt; found == *number, "{number}");
-        let found = Justification::of_number(*number).map_or(0, |x| x.number());
-        assert!(rt; found == *number, "{number}");
-    }
+    all_hold::<JustificationWord>(&rt, rt.alloc(), JUSTIFICATIONS);
     assert!(rt; Justification::of_number(0).is_none());
 }
 
@@ -117,49 +140,29 @@ fn tells_what_actions_need(rt: HostRuntime) {
 }
 
 /// What an action can emit on an object of the class.
-static EMITTED: [(ActionName, Class, &[EventType]); 10] = [
-    (
-        ActionName::Run,
-        Class::Text,
-        &[
-            EventType::IsAvailable,
-            EventType::ContentAvailable,
-            EventType::IsRunning,
-        ],
-    ),
-    (ActionName::Run, Class::Link, &[]),
-    (
-        ActionName::Activate,
-        Class::Link,
-        &[EventType::IsAvailable, EventType::IsRunning],
-    ),
-    (ActionName::TestVariable, Class::Rectangle, &[]),
-    (
-        ActionName::TestVariable,
-        Class::OStringVar,
-        &[EventType::TestEvent],
-    ),
-    (ActionName::SetPosition, Class::Rectangle, &[]),
-    (
-        ActionName::TransitionTo,
-        Class::Scene,
-        &[EventType::IsRunning],
-    ),
-    (
-        ActionName::Launch,
-        Class::Application,
-        &[EventType::IsRunning],
-    ),
-    (ActionName::Quit, Class::Application, &[]),
-    (ActionName::Quit, Class::Scene, &[]),
-];
+static EMITTED: &str = r#"
+Run Text => IsAvailable ContentAvailable IsRunning;; Run Link => ;;
+Activate Link => IsAvailable IsRunning;; TestVariable Rectangle => ;;
+TestVariable OStringVar => TestEvent;; SetPosition Rectangle => ;; TransitionTo Scene => IsRunning;;
+Launch Application => IsRunning;; Quit Application => ;; Quit Scene => "#;
+
+struct Emitted;
+
+impl Question for Emitted {
+    fn answer(alloc: Global, asked: &str, _: &[u8]) -> Option<Vec<u8>> {
+        let name = ActionName::of_word(word(asked, 0).as_bytes())?;
+        let class = Class::of_word(word(asked, 1).as_bytes())?;
+        let mut words = Vec::new(alloc);
+        for event in name.may_emit(class) {
+            words.push(event_word(*event)).ok()?;
+        }
+        joined(alloc, words.as_slice())
+    }
+}
 
 #[test]
 fn tells_what_actions_emit(rt: HostRuntime) {
-    for (name, class, events) in &EMITTED {
-        let word = name.word();
-        assert!(rt; name.may_emit(*class) == *events, "{word:?}");
-    }
+    all_hold::<Emitted>(&rt, rt.alloc(), EMITTED);
 }
 
 /// The types of events that can be sent: all of them.

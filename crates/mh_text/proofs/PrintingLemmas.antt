@@ -1,5 +1,5 @@
 -- What the printer rests on: lists in two parts, octets, and groups that pass a limit.
-use Rattle.std.proofs.Common.{◌≡◌, ℕ, ◌+◌, ◌<◌, ◌≤◌, Bool, true, false, ◌&&◌, ◌||◌, not, nat_lt, List, ◌∷◌, ◌++◌, length, get_or, drop, Result, Ok, Err, IfErr, refl, ap, sym, ◌∙◌, arith, append_assoc, append-nil}
+use Rattle.std.proofs.Common.{◌≡◌, ℕ, ◌+◌, ◌<◌, ◌≤◌, Bool, true, false, ◌&&◌, ◌||◌, not, nat_lt, List, ◌∷◌, ◌++◌, length, get_or, drop, Result, Ok, Err, OnOk, IfErr, refl, ap, sym, ◌∙◌, arith, append_assoc, append-nil}
 use Rattle.std.specs.List.{list_all, flat_map}
 use Rattle.std.proofs.lemmas.Bool.Decides.{nat_tests}
 use Rattle.std.proofs.lemmas.List.{drop_all}
@@ -7,12 +7,19 @@ use Rattle.mh_base.specs.Limits.{largest_file}
 use Rattle.mh_group.specs.declared.written.Written.{Written}
 use Rattle.mh_group.specs.Holdable.{is_holdable}
 use Rattle.mh_text.specs.declared.text_error.TextError.{TextError}
-use Rattle.mh_text.specs.Printed.{printed, passes_limit, Refuses}
+use Rattle.mh_text.specs.Printed.{printed, passes_limit, Refuses, Puts}
 use Rattle.mh_text.proofs.ListLemmas.{at_place}
 
-pub whole_refused : {X : Type 0} (r : Result X TextError) (front behind others : Bool) → front ≡ true → IfErr r (Refuses behind) → IfErr r (Refuses ((front && behind) && others))
-whole_refused (Ok x) front behind others f b = tt
-whole_refused (Err e) front behind others f b = λ other. ((b other).0, rw (f, (b other).1) refl)
+-- where the part in front fits, the whole fits or is refused as the part behind is
+pub whole_fits : {X : Type 0} (r : Result X TextError) (old new printed : List ℕ) (front behind : Bool) → front ≡ true → Puts r old new printed behind
+    → OnOk r ((front && behind) ≡ true)
+whole_fits (Ok x) old new printed front behind f b = rw (f, b.1) refl
+whole_fits (Err e) old new printed front behind f b = tt
+
+pub whole_refused : {X : Type 0} (r : Result X TextError) (old new printed : List ℕ) (front behind others : Bool) → front ≡ true → Puts r old new printed behind
+    → IfErr r (Refuses ((front && behind) && others))
+whole_refused (Ok x) old new printed front behind others f b = tt
+whole_refused (Err e) old new printed front behind others f b = λ other. ((b other).0, rw (f, (b other).1) refl)
 
 -- one more of the members was printed
 pub one_printed : {A : Type 0} (f : A → List ℕ) (xs : List A) (i : ℕ) (x d : A) (before after all : List ℕ) → i < length xs → x ≡ get_or xs i d → after ≡ before ++ f x

@@ -4,7 +4,17 @@ use Rattle.std.specs.Prelude.{ℕ, ◌+◌, Bool, true, false, ◌&&◌, not, �
 use Rattle.std.specs.List.{prefix_len}
 use Rattle.mh_text.specs.declared.token_kind.TokenKind.{TokenKind}
 use Rattle.mh_text.specs.declared.token_kind.TokenKind.TheVariants.{OpenBrace, CloseBrace, OpenParenthesis, CloseParenthesis, Keyword, Word, Integer, Text, Quoted}
+use Rattle.mh_text.specs.declared.lexing.ByteSet.{ByteSet}
+use Rattle.mh_text.specs.declared.lexing.ByteSet.TheVariants as set
 use Rattle.mh_text.specs.Bytes.{is_space, is_letter, is_digit, is_letter_or_digit, is_hexadecimal, is_text_byte, is_quoted_byte, begins_with}
+
+-- the byte may stand in a row of such bytes
+abbrev pub is_in : ByteSet → ℕ → Bool
+is_in set.Letters = is_letter
+is_in set.Digits = is_digit
+is_in set.LettersAndDigits = is_letter_or_digit
+is_in set.Text = is_text_byte
+is_in set.Quoted = is_quoted_byte
 
 -- how many bytes of white space and comments stand at the front; within a comment if the flag is set
 abbrev pub gap_length : Bool → List ℕ → ℕ

@@ -1,6 +1,6 @@
 -- The printed form of a group: its words in the order of the grammar, the first at the beginning, each other
 -- behind one space, and a line feed at the end. Every part below stands behind its space.
-use Rattle.std.specs.Prelude.{◌≡◌, ◌≢◌, ℕ, ◌+◌, ◌/◌, ◌%◌, ℤ, pos, Bool, false, ◌&&◌, ◌||◌, not, ◌==◌, nat_lt, if◌then◌else◌, List, [], ◌∷◌, ◌++◌, length, take, drop, Option, Some, None, codes}
+use Rattle.std.specs.Prelude.{◌≡◌, ◌≢◌, ℕ, ◌+◌, ◌/◌, ◌%◌, ℤ, pos, Bool, true, false, ◌&&◌, ◌||◌, not, ◌==◌, nat_lt, if◌then◌else◌, List, [], ◌∷◌, ◌++◌, length, take, drop, Option, Some, None, Result, Ok, Err, codes}
 use Rattle.std.specs.List.{flat_map}
 use Rattle.std.specs.Fmt.{signed_decimal}
 use Rattle.mh_base.specs.declared.colour.Colour.{Colour}
@@ -195,3 +195,9 @@ passes_limit g = not (is_holdable g) || nat_lt largest_file (length (printed g))
 -- unless memory ran out, the error is that of a limit and the test of what was to be printed fails
 abbrev pub Refuses : Bool → TextError → Type 0
 Refuses fits e = e ≢ NoMemory → (e ≡ At Limit 0) × (fits ≡ false)
+
+-- What a printer did: behind what the buffer held stands what is printed of a value that fits, or the
+-- value is refused.
+abbrev pub Puts : {X : Type 0} → Result X TextError → List ℕ → List ℕ → List ℕ → Bool → Type 0
+Puts (Ok _) old new printed fits = (new ≡ old ++ printed) × (fits ≡ true)
+Puts (Err e) old new printed fits = Refuses fits e

@@ -518,6 +518,13 @@ class_of wanted p = named p.sign
     named (sign.Class c) = if is_same (is_group_class c) wanted then Ok c else refused_at Syntax p
     named _ = refused_at Syntax p
 
+-- the rest of an ingredient, behind its class and number
+abbrev pub ingredient_with : Class → ℕ → Left → Result (Ingredient × Left) Refusal
+ingredient_with class number left = do
+  x ← fields class longest_list [] left
+  done ← complete class x.0 x.1
+  Ok (record { class = class; number = number; fields = done }, x.2)
+
 -- the ingredient that begins with this token
 unfoldable pub ingredient : Piece → Left → Result (Ingredient × Left) Refusal
 ingredient p left = if is_open_brace p.sign then described else refused_at Syntax p
@@ -528,9 +535,7 @@ ingredient p left = if is_open_brace p.sign then described else refused_at Synta
       class ← class_of false a.0
       b ← next a.1
       number ← ingredient_number_of b.0
-      x ← fields class longest_list [] b.1
-      done ← complete class x.0 x.1
-      Ok (record { class = class; number = number; fields = done }, x.2)
+      ingredient_with class number b.1
 
 unfoldable pub items : Left → Result (List Ingredient × Left) Refusal
 items left = next left >>= λ a. list ingredient longest_list a.0 a.1
@@ -546,14 +551,25 @@ identifier left = do
   behind ← (if number == 0 then closed c.1 else refused_at Range c.0)
   Ok (name, behind)
 
+-- the items, and the fields behind them among those before
+abbrev pub items_and_fields : Class → List Field → Left → Result (List Field × Option (List Ingredient) × Piece × Left) Refusal
+items_and_fields c before left = do
+  y ← items left
+  z ← fields_behind_items c before y.1
+  Ok (z.0, Some y.0, z.1, z.2)
+
 -- what stands between a group's identifier and its closing brace
 unfoldable pub body : Class → Left → Result (List Field × Option (List Ingredient) × Piece × Left) Refusal
 body c left = fields c longest_list [] left >>= λ x.
-    if is_items c x.1.sign then (do
-      y ← items x.2
-      z ← fields_behind_items c x.0 y.1
-      Ok (z.0, Some y.0, z.1, z.2))
+    if is_items c x.1.sign then items_and_fields c x.0 x.2
     else Ok (x.0, None, x.1, x.2)
+
+-- the rest of a group, behind its class and identifier
+abbrev pub group_with : Class → List ℕ → Left → Result (Written × Left) Refusal
+group_with class identifier left = do
+  x ← body class left
+  done ← complete class x.0 x.2
+  Ok (record { class = class; identifier = identifier; fields = done; items = x.1 }, x.3)
 
 unfoldable pub group : Left → Result (Written × Left) Refusal
 group left = do
@@ -561,9 +577,7 @@ group left = do
   b ← next a
   class ← class_of true b.0
   identity ← identifier b.1
-  x ← body class identity.1
-  done ← complete class x.0 x.2
-  Ok (record { class = class; identifier = identity.0; fields = done; items = x.1 }, x.3)
+  group_with class identity.0 identity.1
 
 -- the group that the text writes, or the first refusal from the left
 unfoldable pub read : List ℕ → Result Written Refusal

@@ -4,10 +4,10 @@ ghost use Rattle.std.specs.Prelude.{◌≡◌, ◌&&◌, [], nat_le};
 ghost use Rattle.mh_text.specs.Gives.{Gives};
 ghost use Rattle.mh_text.specs.Reading.{is_close, action, action_name_of as action_name_of_lem, parameters as parameters_lem, parameter as parameter_lem, generic_parameter as generic_parameter_lem, typed as typed_lem, value_of as value_of_lem};
 
-use crate::form::{Form, generic, list};
+use crate::form::{Form, generic, list, made};
 use crate::place::{Piece, Place};
 use crate::sign::Sign;
-use crate::value::{event_of, reference};
+use crate::value::event_of;
 use crate::value_form::{AnyContent, AnyReference, ContentName, Data, Integer, OctetText, Truth};
 use crate::{TextError, Why};
 use mh_base::{Kind, LONGEST_LIST, Seq};
@@ -98,17 +98,13 @@ fn parameter<'a>(
 {
     match need {
         Need::Event => Ok((Parameter::Event(event_of(piece)?), place)),
-        Need::Receiver(_) => {
-            let (variable, place) = reference(alloc, piece, place)?;
-            Ok((Parameter::Receiver(variable), place))
-        }
-        Need::Typed => {
-            let (value, place) = typed(alloc, piece, place)?;
-            Ok((Parameter::Typed(value), place))
-        }
+        Need::Receiver(_) => made(AnyReference::read(alloc, piece, place), Parameter::Receiver),
+        Need::Typed => made(TypedValue::read(alloc, piece, place), Parameter::Typed),
         Need::Arguments => {
-            let (values, place) = list::<TypedValue>(alloc, LONGEST_LIST, piece, place)?;
-            Ok((Parameter::Arguments(values), place))
+            made(
+                list::<TypedValue>(alloc, LONGEST_LIST, piece, place),
+                Parameter::Arguments,
+            )
         }
         _ => generic_parameter(alloc, need, piece, place),
     }
@@ -125,30 +121,15 @@ fn generic_parameter<'a>(
     ensures { Gives (λ x. x) result (generic_parameter_lem need piece.now place.entry) }
 {
     match need {
-        Need::Bool => {
-            let (value, place) = generic::<Truth>(alloc, piece, place)?;
-            Ok((Parameter::Bool(value), place))
-        }
-        Need::Int => {
-            let (value, place) = generic::<Integer>(alloc, piece, place)?;
-            Ok((Parameter::Int(value), place))
-        }
-        Need::Octets => {
-            let (value, place) = generic::<OctetText>(alloc, piece, place)?;
-            Ok((Parameter::Octets(value), place))
-        }
-        Need::Ref => {
-            let (value, place) = generic::<AnyReference>(alloc, piece, place)?;
-            Ok((Parameter::Ref(value), place))
-        }
-        Need::Content => {
-            let (value, place) = generic::<AnyContent>(alloc, piece, place)?;
-            Ok((Parameter::Content(value), place))
-        }
-        Need::Data => {
-            let (value, place) = generic::<Data>(alloc, piece, place)?;
-            Ok((Parameter::Data(value), place))
-        }
+        Need::Bool => made(generic::<Truth>(alloc, piece, place), Parameter::Bool),
+        Need::Int => made(generic::<Integer>(alloc, piece, place), Parameter::Int),
+        Need::Octets => made(generic::<OctetText>(alloc, piece, place), Parameter::Octets),
+        Need::Ref => made(generic::<AnyReference>(alloc, piece, place), Parameter::Ref),
+        Need::Content => made(
+            generic::<AnyContent>(alloc, piece, place),
+            Parameter::Content,
+        ),
+        Need::Data => made(generic::<Data>(alloc, piece, place), Parameter::Data),
         _ => Err(piece.refused(Why::Syntax)),
     }
 }
@@ -161,29 +142,18 @@ impl Form for TypedValue {
 
     ghost reading = { typed_lem };
 
+    #[tactic(auto, unfolding(crate::specs::Reading::typed))]
     fn read<'a>(
         alloc: Global,
         piece: &Piece<'_>,
         place: Place<'a>,
     ) -> Result<(Typed, Place<'a>), TextError> {
-        typed(alloc, piece, place)
+        let Sign::Kind(kind) = piece.sign() else {
+            return Err(piece.refused(Why::Syntax));
+        };
+        let (piece, place) = place.next()?;
+        value_of(alloc, kind, &piece, place)
     }
-}
-
-/// The value that begins with this token, the keyword of its kind.
-#[tactic(auto, unfolding(crate::specs::Reading::typed))]
-fn typed<'a>(
-    alloc: Global,
-    piece: &Piece<'_>,
-    place: Place<'a>,
-) -> Result<(Typed, Place<'a>), TextError>
-    ensures { Gives (λ x. x) result (typed_lem piece.now place.entry) }
-{
-    let Sign::Kind(kind) = piece.sign() else {
-        return Err(piece.refused(Why::Syntax));
-    };
-    let (piece, place) = place.next()?;
-    value_of(alloc, kind, &piece, place)
 }
 
 /// The value that begins with this token, which stands behind the keyword of its kind.
@@ -197,25 +167,13 @@ fn value_of<'a>(
     ensures { Gives (λ x. x) result (value_of_lem kind piece.now place.entry) }
 {
     match kind {
-        Kind::Bool => {
-            let (value, place) = generic::<Truth>(alloc, piece, place)?;
-            Ok((Typed::Bool(value), place))
-        }
-        Kind::Int => {
-            let (value, place) = generic::<Integer>(alloc, piece, place)?;
-            Ok((Typed::Int(value), place))
-        }
-        Kind::Octets => {
-            let (value, place) = generic::<OctetText>(alloc, piece, place)?;
-            Ok((Typed::Octets(value), place))
-        }
-        Kind::Object => {
-            let (value, place) = generic::<AnyReference>(alloc, piece, place)?;
-            Ok((Typed::Ref(value), place))
-        }
-        Kind::Content => {
-            let (value, place) = generic::<ContentName>(alloc, piece, place)?;
-            Ok((Typed::ContentRef(value), place))
-        }
+        Kind::Bool => made(generic::<Truth>(alloc, piece, place), Typed::Bool),
+        Kind::Int => made(generic::<Integer>(alloc, piece, place), Typed::Int),
+        Kind::Octets => made(generic::<OctetText>(alloc, piece, place), Typed::Octets),
+        Kind::Object => made(generic::<AnyReference>(alloc, piece, place), Typed::Ref),
+        Kind::Content => made(
+            generic::<ContentName>(alloc, piece, place),
+            Typed::ContentRef,
+        ),
     }
 }

@@ -86,11 +86,11 @@ pub(crate) fn fields_behind_items<'a>(
 ) -> Result<(Seq<Field>, Piece<'a>, Place<'a>), TextError>
     ensures { Gives (λ x. x) result (fields_behind_items_lem class before place.entry) }
 {
-    let (fields, end, place) = fields(alloc, class, before, place)?;
-    if is_items(class, end.sign()) {
-        return Err(end.refused(Why::Syntax));
+    let read = fields(alloc, class, before, place)?;
+    if is_items(class, read.1.sign()) {
+        return Err(read.1.refused(Why::Syntax));
     }
-    Ok((fields, end, place))
+    Ok(read)
 }
 
 /// The attribute that this token names, where the class takes it and it has not come before.
@@ -132,18 +132,13 @@ fn smaller(fields: &[Field], number: u32) -> usize
         .count()
 }
 
-/// The fields, where all are there with which the class has to be written; if not, the closing brace
-/// is refused.
+/// The closing brace is refused where a field is missing with which the class has to be written.
 #[tactic(auto, unfolding(crate::specs::Reading::complete))]
-pub(crate) fn complete(
-    class: Class,
-    fields: Seq<Field>,
-    end: &Piece<'_>,
-) -> Result<Seq<Field>, TextError>
-    ensures { Gives (λ x. x) result (complete_lem class fields end.now) }
+pub(crate) fn complete(class: Class, fields: &[Field], end: &Piece<'_>) -> Result<(), TextError>
+    ensures { Gives (λ x. fields.now) result (complete_lem class fields.now end.now) }
 {
-    if has_required(class, fields.as_slice()) {
-        Ok(fields)
+    if has_required(class, fields) {
+        Ok(())
     } else {
         Err(end.refused(Why::Syntax))
     }

@@ -2,11 +2,11 @@
 //! values, and values that a variable may hold.
 ghost use Rattle.std.specs.Prelude.{[], Result};
 ghost use Rattle.mh_text.specs.Rest.{Left, Piece as PieceValue};
-ghost use Rattle.mh_text.specs.Gives.{Gives, Refusal};
+ghost use Rattle.mh_text.specs.Gives.{Gives, Made, Refusal};
 ghost use Rattle.mh_text.specs.Reading.{generic as generic_lem, list as list_lem, listed, next_member};
 
 use crate::place::{Piece, Place};
-use crate::value::reference;
+use crate::value_form::AnyReference;
 use crate::{TextError, Why};
 use mh_base::Seq;
 use mh_group::Generic;
@@ -28,6 +28,20 @@ pub(crate) trait Form {
         ensures { Gives (λ x. x) result (reading piece.now place.entry) };
 }
 
+/// What was read, as a part of what is made of it.
+pub(crate) fn made<'a, A, B, F: FnOnce(A) -> B>(
+    read: Result<(A, Place<'a>), TextError>,
+    make: F,
+) -> Result<(B, Place<'a>), TextError>
+    requires { F.IsAlwaysCallable make }
+    ensures { Made (F.post make) read.entry result }
+{
+    match read {
+        Ok((value, place)) => Ok((make(value), place)),
+        Err(error) => Err(error),
+    }
+}
+
 /// A value that is written directly, or the reference of the variable that holds it.
 #[tactic(auto, unfolding(crate::specs::Reading::generic))]
 pub(crate) fn generic<'a, F: Form>(
@@ -39,11 +53,10 @@ pub(crate) fn generic<'a, F: Form>(
 {
     if piece.sign().is_indirect() {
         let (piece, place) = place.next()?;
-        let (variable, place) = reference(alloc, &piece, place)?;
+        let (variable, place) = AnyReference::read(alloc, &piece, place)?;
         return Ok((Generic::Indirect(variable), place));
     }
-    let (value, place) = F::read(alloc, piece, place)?;
-    Ok((Generic::Direct(value), place))
+    made(F::read(alloc, piece, place), Generic::Direct)
 }
 
 /// A list between parentheses, of which this token is the first. It has at most so many members.
@@ -97,6 +110,5 @@ fn next_member<'a, F: Form>(
     if piece.sign().is_close() {
         return Ok((None, place));
     }
-    let (member, place) = F::read(alloc, &piece, place)?;
-    Ok((Some(member), place))
+    made(F::read(alloc, &piece, place), Some)
 }

@@ -2,8 +2,8 @@
 //! which token begins behind it. Where a token stands is left to `token`.
 ghost use Rattle.std.specs.Prelude.{◌≡◌, ◌+◌, ◌≤◌, ◌<◌, length, IfSome, false};
 ghost use Rattle.std.specs.List.{prefix_len};
-ghost use Rattle.mh_text.specs.Bytes.{is_space as is_space_lem, is_letter as is_letter_lem, is_digit as is_digit_lem, is_letter_or_digit as is_letter_or_digit_lem, is_hexadecimal as is_hexadecimal_lem, is_text_byte as is_text_byte_lem, is_quoted_byte as is_quoted_byte_lem, begins_with as begins_with_lem};
-ghost use Rattle.mh_text.specs.Lexing.{gap_length as gap_length_lem, token_at as token_at_lem, bare_token_at as bare_token_at_lem, number_length as number_length_lem, keyword_length as keyword_length_lem, text_length as text_length_lem, quoted_length as quoted_length_lem, is_escaped as is_escaped_lem};
+ghost use Rattle.mh_text.specs.Bytes.{is_space as is_space_lem, is_letter as is_letter_lem, is_digit as is_digit_lem, is_hexadecimal as is_hexadecimal_lem, is_text_byte as is_text_byte_lem, is_quoted_byte as is_quoted_byte_lem, begins_with as begins_with_lem};
+ghost use Rattle.mh_text.specs.Lexing.{gap_length as gap_length_lem, token_at as token_at_lem, bare_token_at as bare_token_at_lem, number_length as number_length_lem, keyword_length as keyword_length_lem, text_length as text_length_lem, quoted_length as quoted_length_lem, is_escaped as is_escaped_lem, is_in as is_in_lem};
 
 use crate::TokenKind;
 
@@ -23,12 +23,6 @@ pub(crate) fn is_digit(byte: u8) -> bool
     ensures { result ≡ is_digit_lem byte }
 {
     matches!(byte, b'0'..=b'9')
-}
-
-fn is_letter_or_digit(byte: u8) -> bool
-    ensures { result ≡ is_letter_or_digit_lem byte }
-{
-    is_letter(byte) || is_digit(byte)
 }
 
 pub(crate) fn is_hexadecimal(byte: u8) -> bool
@@ -111,57 +105,41 @@ fn bare_token_at(bytes: &[u8]) -> Option<(TokenKind, usize)>
     if let Some(length) = number_length(bytes) {
         return Some((TokenKind::Integer, length));
     }
-    let length = letters_length(bytes);
+    let length = prefix_length(ByteSet::Letters, bytes);
     if length == 0 {
         return None;
     }
     Some((TokenKind::Word, length))
 }
 
-/// How many letters stand at the front.
-fn letters_length(bytes: &[u8]) -> usize
-    ensures exact { result ≡ prefix_len is_letter_lem bytes.now }
-    ensures within { result ≤ length bytes.now }
-{
-    bytes.iter().take_while(|byte| is_letter(**byte)).count()
+/// The bytes that may stand in a row in a token.
+#[derive(Clone, Copy)]
+enum ByteSet {
+    Letters,
+    Digits,
+    LettersAndDigits,
+    Text,
+    Quoted,
 }
 
-/// How many digits stand at the front.
-fn digits_length(bytes: &[u8]) -> usize
-    ensures exact { result ≡ prefix_len is_digit_lem bytes.now }
-    ensures within { result ≤ length bytes.now }
+fn is_in(set: ByteSet, byte: u8) -> bool
+    ensures { result ≡ is_in_lem set byte }
 {
-    bytes.iter().take_while(|byte| is_digit(**byte)).count()
+    match set {
+        ByteSet::Letters => is_letter(byte),
+        ByteSet::Digits => is_digit(byte),
+        ByteSet::LettersAndDigits => is_letter(byte) || is_digit(byte),
+        ByteSet::Text => is_text_byte(byte),
+        ByteSet::Quoted => is_quoted_byte(byte),
+    }
 }
 
-/// How many letters and digits stand at the front.
-fn name_length(bytes: &[u8]) -> usize
-    ensures exact { result ≡ prefix_len is_letter_or_digit_lem bytes.now }
+/// How many bytes of the set stand at the front.
+fn prefix_length(set: ByteSet, bytes: &[u8]) -> usize
+    ensures exact { result ≡ prefix_len (is_in_lem set) bytes.now }
     ensures within { result ≤ length bytes.now }
 {
-    bytes
-        .iter()
-        .take_while(|byte| is_letter_or_digit(**byte))
-        .count()
-}
-
-/// How many bytes stand at the front that a string between `"` may hold.
-fn text_bytes_length(bytes: &[u8]) -> usize
-    ensures exact { result ≡ prefix_len is_text_byte_lem bytes.now }
-    ensures within { result ≤ length bytes.now }
-{
-    bytes.iter().take_while(|byte| is_text_byte(**byte)).count()
-}
-
-/// How many bytes stand at the front that a string between `'` may hold.
-fn quoted_bytes_length(bytes: &[u8]) -> usize
-    ensures exact { result ≡ prefix_len is_quoted_byte_lem bytes.now }
-    ensures within { result ≤ length bytes.now }
-{
-    bytes
-        .iter()
-        .take_while(|byte| is_quoted_byte(**byte))
-        .count()
+    bytes.iter().take_while(|byte| is_in(set, **byte)).count()
 }
 
 /// The length of a number at the front, if a digit stands there.
@@ -171,7 +149,7 @@ fn number_length(bytes: &[u8]) -> Option<usize>
     ensures within { IfSome result (λ found. found ≤ length bytes.now) }
     ensures some { IfSome result (λ found. 0 < found) }
 {
-    let length = digits_length(bytes);
+    let length = prefix_length(ByteSet::Digits, bytes);
     if length == 0 {
         return None;
     }
@@ -185,7 +163,7 @@ fn keyword_length(bytes: &[u8]) -> Option<usize>
     ensures within { IfSome result (λ found. found ≤ length bytes.now) }
 {
     match bytes {
-        [first, ..] if is_letter(*first) => Some(name_length(bytes)),
+        [first, ..] if is_letter(*first) => Some(prefix_length(ByteSet::LettersAndDigits, bytes)),
         _ => None,
     }
 }
@@ -196,7 +174,7 @@ fn text_length(bytes: &[u8]) -> Option<usize>
     ensures exact { result ≡ text_length_lem bytes.now }
     ensures within { IfSome result (λ found. found ≤ length bytes.now) }
 {
-    let inner = text_bytes_length(bytes);
+    let inner = prefix_length(ByteSet::Text, bytes);
     match &bytes[inner..] {
         [b'"', ..] => Some(inner + 1),
         _ => None,
@@ -210,7 +188,7 @@ fn quoted_length(bytes: &[u8]) -> Option<usize>
     ensures exact { result ≡ quoted_length_lem bytes.now }
     ensures within { IfSome result (λ found. found ≤ length bytes.now) }
 {
-    let inner = quoted_bytes_length(bytes);
+    let inner = prefix_length(ByteSet::Quoted, bytes);
     match &bytes[inner..] {
         [b'\'', ..] if is_escaped(&bytes[..inner]) => Some(inner + 1),
         _ => None,

@@ -3,7 +3,7 @@ ghost use Rattle.std.specs.Prelude.{◌≡◌, ◌≢◌, false, true, IfOk, IfE
 ghost use Rattle.mh_text.specs.Gives.{Gives};
 ghost use Rattle.mh_text.specs.Spelling.{Spells, SpellsNone, SpellsNoOther};
 ghost use Rattle.mh_text.specs.Lexing.{behind_gap as behind_gap_lem, begins_group as begins_group_lem};
-ghost use Rattle.mh_text.specs.Reading.{read, group as group_lem, body as body_lem, class_of as class_of_lem, identifier as identifier_lem, items as items_lem, ingredient};
+ghost use Rattle.mh_text.specs.Reading.{read, group as group_lem, body as body_lem, class_of as class_of_lem, identifier as identifier_lem, items as items_lem, ingredient, group_with as group_with_lem, items_and_fields as items_and_fields_lem, ingredient_with as ingredient_with_lem};
 
 use crate::field::{complete, fields, fields_behind_items, is_items};
 use crate::form::{Form, list};
@@ -13,7 +13,7 @@ use crate::sign::Sign;
 use crate::value::{ingredient_number_of, name_of, number_of};
 use crate::{TextError, Why};
 use mh_base::{LARGEST_FILE, LONGEST_LIST, Seq};
-use mh_group::{Class, Field, Group, Ingredient, Written, WrittenName};
+use mh_group::{Class, Field, Group, Ingredient, Number, Written, WrittenName};
 use std::alloc::Global;
 
 /// Whether the bytes begin as a group does: with `{` and `:`, white space and comments passed over
@@ -64,8 +64,20 @@ fn group<'a>(alloc: Global, place: Place<'a>) -> Result<(Written, Place<'a>), Te
     let (piece, place) = place.next()?;
     let class = class_of(true, &piece)?;
     let (identifier, place) = identifier(alloc, place)?;
+    group_with(alloc, class, identifier, place)
+}
+
+/// The rest of a group, behind its class and identifier.
+fn group_with<'a>(
+    alloc: Global,
+    class: Class,
+    identifier: WrittenName,
+    place: Place<'a>,
+) -> Result<(Written, Place<'a>), TextError>
+    ensures { Gives (λ x. x) result (group_with_lem class identifier place.entry) }
+{
     let (fields, items, end, place) = body(alloc, class, place)?;
-    let fields = complete(class, fields, &end)?;
+    complete(class, fields.as_slice(), &end)?;
     Ok((
         Written {
             class,
@@ -91,8 +103,20 @@ fn body<'a>(
     if !is_items(class, end.sign()) {
         return Ok((fields, None, end, place));
     }
+    items_and_fields(alloc, class, fields, place)
+}
+
+/// The items, and the fields behind them put in order among those before them.
+fn items_and_fields<'a>(
+    alloc: Global,
+    class: Class,
+    before: Seq<Field>,
+    place: Place<'a>,
+) -> Result<(Seq<Field>, Option<Seq<Ingredient>>, Piece<'a>, Place<'a>), TextError>
+    ensures { Gives (λ x. x) result (items_and_fields_lem class before place.entry) }
+{
     let (items, place) = items(alloc, place)?;
-    let (fields, end, place) = fields_behind_items(alloc, class, fields, place)?;
+    let (fields, end, place) = fields_behind_items(alloc, class, before, place)?;
     Ok((fields, Some(items), end, place))
 }
 
@@ -102,13 +126,7 @@ fn class_of(is_group: bool, piece: &Piece<'_>) -> Result<Class, TextError>
     ensures { Gives (λ x. x) result (class_of_lem is_group piece.now) }
 {
     match piece.sign() {
-        Sign::Class(class) => {
-            if class.is_group() == is_group {
-                Ok(class)
-            } else {
-                Err(piece.refused(Why::Syntax))
-            }
-        }
+        Sign::Class(class) if class.is_group() == is_group => Ok(class),
         _ => Err(piece.refused(Why::Syntax)),
     }
 }
@@ -160,15 +178,27 @@ impl Form for AnyIngredient {
         let class = class_of(false, &piece)?;
         let (piece, place) = place.next()?;
         let number = ingredient_number_of(&piece)?;
-        let (fields, end, place) = fields(alloc, class, Seq::new(alloc), place)?;
-        let fields = complete(class, fields, &end)?;
-        Ok((
-            Ingredient {
-                class,
-                number,
-                fields,
-            },
-            place,
-        ))
+        ingredient_with(alloc, class, number, place)
     }
+}
+
+/// The rest of an ingredient, behind its class and number.
+fn ingredient_with<'a>(
+    alloc: Global,
+    class: Class,
+    number: Number,
+    place: Place<'a>,
+) -> Result<(Ingredient, Place<'a>), TextError>
+    ensures { Gives (λ x. x) result (ingredient_with_lem class number place.entry) }
+{
+    let (fields, end, place) = fields(alloc, class, Seq::new(alloc), place)?;
+    complete(class, fields.as_slice(), &end)?;
+    Ok((
+        Ingredient {
+            class,
+            number,
+            fields,
+        },
+        place,
+    ))
 }

@@ -4,7 +4,7 @@
 ghost use Rattle.std.specs.Prelude.{◌≡◌, ◌++◌, true, OnOk, IfErr};
 ghost use Rattle.std.specs.List.{list_all, flat_map};
 ghost use Rattle.mh_group.specs.Holdable.{is_reference, is_generic, is_list};
-ghost use Rattle.mh_text.specs.Printed.{opening, closing, keyword, word as word_lem, list, generic, reference as reference_lem, indirect_word as indirect_word_lem, Refuses};
+ghost use Rattle.mh_text.specs.Printed.{opening, closing, keyword, word as word_lem, list, generic, reference as reference_lem, indirect_word as indirect_word_lem, Puts};
 
 use crate::{TextError, Why};
 use mh_base::{LONGEST_LIST, Seq};
@@ -26,9 +26,7 @@ pub(crate) trait Printable {
     ghost is_good: { Self → Bool };
 
     fn print(&self, alloc: Global, out: &mut Vec<u8>) -> Result<(), TextError>
-        ensures printed { OnOk result (out.new.items ≡ out.old.items ++ printed self.now) }
-        ensures fits { OnOk result (is_good self.now ≡ true) }
-        ensures limit { IfErr result (Refuses (is_good self.now)) };
+        ensures { Puts result out.old.items out.new.items (printed self.now) (is_good self.now) };
 }
 
 /// A list of what can be printed, between parentheses.
@@ -65,9 +63,8 @@ fn print_generic<T: Printable>(
     out: &mut Vec<u8>,
     value: &Generic<T>,
 ) -> Result<(), TextError>
-    ensures printed { OnOk result (out.new.items ≡ out.old.items ++ generic T.printed value.now) }
-    ensures fits { OnOk result (is_generic T.is_good value.now ≡ true) }
-    ensures limit { IfErr result (Refuses (is_generic T.is_good value.now)) }
+    ensures { Puts result out.old.items out.new.items
+        (generic T.printed value.now) (is_generic T.is_good value.now) }
 {
     match value {
         Generic::Direct(value) => value.print(alloc, out),
@@ -77,9 +74,8 @@ fn print_generic<T: Printable>(
 
 /// Prints the reference of a variable that holds a value.
 fn print_variable(alloc: Global, out: &mut Vec<u8>, variable: &Ref) -> Result<(), TextError>
-    ensures printed { OnOk result (out.new.items ≡ out.old.items ++ (keyword indirect_word_lem ++ reference_lem variable.now)) }
-    ensures fits { OnOk result (is_reference variable.now ≡ true) }
-    ensures limit { IfErr result (Refuses (is_reference variable.now)) }
+    ensures { Puts result out.old.items out.new.items
+        (keyword indirect_word_lem ++ reference_lem variable.now) (is_reference variable.now) }
 {
     put_keyword(out, indirect_word())?;
     variable.print(alloc, out)
@@ -99,9 +95,8 @@ pub(crate) fn print_list<T: Printable>(
     out: &mut Vec<u8>,
     members: &[T],
 ) -> Result<(), TextError>
-    ensures printed { OnOk result (out.new.items ≡ out.old.items ++ list T.printed members.now) }
-    ensures fits { OnOk result (is_list T.is_good members.now ≡ true) }
-    ensures limit { IfErr result (Refuses (is_list T.is_good members.now)) }
+    ensures { Puts result out.old.items out.new.items
+        (list T.printed members.now) (is_list T.is_good members.now) }
 {
     if members.len() > LONGEST_LIST {
         return Err(PAST_LIMIT);
@@ -118,9 +113,8 @@ pub(crate) fn print_several<T: Printable>(
     out: &mut Vec<u8>,
     members: &[T],
 ) -> Result<(), TextError>
-    ensures printed { OnOk result (out.new.items ≡ out.old.items ++ flat_map T.printed members.now) }
-    ensures fits { OnOk result (list_all T.is_good members.now ≡ true) }
-    ensures limit { IfErr result (Refuses (list_all T.is_good members.now)) }
+    ensures { Puts result out.old.items out.new.items
+        (flat_map T.printed members.now) (list_all T.is_good members.now) }
 {
     for member in members {
         member.print(alloc, out)?;

@@ -4,7 +4,7 @@ ghost use Rattle.mh_group.specs.Holdable.{is_list, has_settings, is_ingredient, 
 ghost use Rattle.mh_group.specs.Fit.{written_items};
 ghost use Rattle.mh_text.specs.declared.text_error.Why.{Why};
 ghost use Rattle.mh_text.specs.Spelling.{Spells};
-ghost use Rattle.mh_text.specs.Printed.{items as items_lem, body as body_lem, printed, passes_limit, Refuses};
+ghost use Rattle.mh_text.specs.Printed.{items as items_lem, body as body_lem, printed, passes_limit, Refuses, Puts};
 
 use crate::TextError;
 use crate::printable::{PAST_LIMIT, Printable, print_list, print_several, put_keyword, put_word};
@@ -33,9 +33,7 @@ pub fn print_group(alloc: Global, group: &Group) -> Result<Vec<u8>, TextError>
 
 #[tactic(auto, unfolding(crate::specs::Printed::printed, mh_group::specs::Holdable::is_holdable))]
 fn print_written(alloc: Global, out: &mut Vec<u8>, group: &Written) -> Result<(), TextError>
-    ensures printed { OnOk result (out.new.items ≡ out.old.items ++ printed group.now) }
-    ensures fits { OnOk result (is_holdable group.now ≡ true) }
-    ensures limit { IfErr result (Refuses (is_holdable group.now)) }
+    ensures { Puts result out.old.items out.new.items (printed group.now) (is_holdable group.now) }
 {
     out.extend_from_slice(b"{")?;
     put_keyword(out, group.class.word())?;
@@ -71,9 +69,8 @@ fn print_body(
 
 #[tactic(auto, unfolding(crate::specs::Printed::items))]
 fn print_items(alloc: Global, out: &mut Vec<u8>, items: &[Ingredient]) -> Result<(), TextError>
-    ensures printed { OnOk result (out.new.items ≡ out.old.items ++ items_lem items.now) }
-    ensures fits { OnOk result (is_list is_ingredient items.now ≡ true) }
-    ensures limit { IfErr result (Refuses (is_list is_ingredient items.now)) }
+    ensures { Puts result out.old.items out.new.items
+        (items_lem items.now) (is_list is_ingredient items.now) }
 {
     put_keyword(out, Attribute::Items.word())?;
     print_list(alloc, out, items)

@@ -2,12 +2,14 @@
 ghost use Rattle.mh_text.specs.Gives.{Gives};
 ghost use Rattle.mh_text.specs.Reading.{setting as setting_lem, setting_at as setting_at_lem, single as single_lem, pair as pair_lem, part as part_lem};
 
+use crate::form::{Form, made};
 use crate::place::{Piece, Place};
 use crate::several::several;
 use crate::value::{
-    colour_of, content, content_name, data_of, event_of, field_length_of, fixed_of, integer_of,
-    justification_of, natural_of, octets_of, reference, truth_of,
+    colour_of, data_of, event_of, field_length_of, fixed_of, integer_of, justification_of,
+    natural_of, octets_of, truth_of,
 };
+use crate::value_form::{AnyContent, AnyReference, ContentName};
 use crate::{TextError, Why};
 use mh_group::{Setting, Shape};
 use std::alloc::Global;
@@ -36,19 +38,10 @@ fn setting_at<'a>(
     ensures { Gives (λ x. x) result (setting_at_lem shape piece.now place.entry) }
 {
     match shape {
-        Shape::Ref => {
-            let (reference, place) = reference(alloc, piece, place)?;
-            Ok((Setting::Ref(reference), place))
-        }
+        Shape::Ref => made(AnyReference::read(alloc, piece, place), Setting::Ref),
         Shape::Pair | Shape::Size | Shape::Screen => pair(shape, piece, place),
-        Shape::Content => {
-            let (content, place) = content(alloc, piece, place)?;
-            Ok((Setting::Content(content), place))
-        }
-        Shape::ContentRef => {
-            let (name, place) = content_name(alloc, piece, place)?;
-            Ok((Setting::ContentRef(name), place))
-        }
+        Shape::Content => made(AnyContent::read(alloc, piece, place), Setting::Content),
+        Shape::ContentRef => made(ContentName::read(alloc, piece, place), Setting::ContentRef),
         Shape::Effect
         | Shape::MovementTable
         | Shape::Members
@@ -68,15 +61,15 @@ fn single(alloc: Global, shape: Shape, piece: &Piece<'_>) -> Result<Setting, Tex
     ensures { Gives (λ x. x) result (single_lem shape piece.now) }
 {
     match shape {
-        Shape::Bool => Ok(Setting::Bool(truth_of(piece)?)),
-        Shape::Int => Ok(Setting::Int(integer_of(piece)?)),
-        Shape::Natural => Ok(Setting::Int(natural_of(piece)?)),
-        Shape::Length => Ok(Setting::Int(field_length_of(piece)?)),
-        Shape::Event => Ok(Setting::Event(event_of(piece)?)),
-        Shape::Data => Ok(Setting::Data(data_of(piece)?)),
-        Shape::Octets => Ok(Setting::Octets(octets_of(alloc, piece)?)),
-        Shape::Colour => Ok(Setting::Colour(colour_of(alloc, piece)?)),
-        Shape::Justification => Ok(Setting::Justification(justification_of(piece)?)),
+        Shape::Bool => truth_of(piece).map(Setting::Bool),
+        Shape::Int => integer_of(piece).map(Setting::Int),
+        Shape::Natural => natural_of(piece).map(Setting::Int),
+        Shape::Length => field_length_of(piece).map(Setting::Int),
+        Shape::Event => event_of(piece).map(Setting::Event),
+        Shape::Data => data_of(piece).map(Setting::Data),
+        Shape::Octets => octets_of(alloc, piece).map(Setting::Octets),
+        Shape::Colour => colour_of(alloc, piece).map(Setting::Colour),
+        Shape::Justification => justification_of(piece).map(Setting::Justification),
         _ => Err(piece.refused(Why::Syntax)),
     }
 }

@@ -3,10 +3,10 @@ ghost use Rattle.mh_text.specs.Gives.{Gives};
 ghost use Rattle.mh_text.specs.Reading.{several as several_lem, effect, row, member, list_item, position, next_scene};
 
 use crate::effect::ElementaryAction;
-use crate::form::{Form, list, members};
+use crate::form::{Form, list, made, members};
 use crate::place::{Piece, Place};
-use crate::value::{integer_of, name_of, reference};
-use crate::value_form::Integer;
+use crate::value::{integer_of, name_of};
+use crate::value_form::{AnyReference, Integer};
 use crate::{TextError, Why};
 use mh_base::{LONGEST_LIST, Seq};
 use mh_group::group::MOST_LIST_ITEMS;
@@ -25,28 +25,40 @@ pub(crate) fn several<'a>(
 {
     match shape {
         Shape::Effect => {
-            let (actions, place) = list::<ElementaryAction>(alloc, LONGEST_LIST, piece, place)?;
-            Ok((Setting::Effect(actions), place))
+            made(
+                list::<ElementaryAction>(alloc, LONGEST_LIST, piece, place),
+                Setting::Effect,
+            )
         }
         Shape::MovementTable => {
-            let (rows, place) = list::<Row>(alloc, LONGEST_LIST, piece, place)?;
-            Ok((Setting::MovementTable(rows), place))
+            made(
+                list::<Row>(alloc, LONGEST_LIST, piece, place),
+                Setting::MovementTable,
+            )
         }
         Shape::Members => {
-            let (members, place) = list::<SlottedMember>(alloc, LONGEST_LIST, piece, place)?;
-            Ok((Setting::Members(members), place))
+            made(
+                list::<SlottedMember>(alloc, LONGEST_LIST, piece, place),
+                Setting::Members,
+            )
         }
         Shape::ListItems => {
-            let (items, place) = list::<ListItem>(alloc, MOST_LIST_ITEMS, piece, place)?;
-            Ok((Setting::Members(items), place))
+            made(
+                list::<ListItem>(alloc, MOST_LIST_ITEMS, piece, place),
+                Setting::Members,
+            )
         }
         Shape::Positions => {
-            let (positions, place) = list::<CellPosition>(alloc, LONGEST_LIST, piece, place)?;
-            Ok((Setting::Positions(positions), place))
+            made(
+                list::<CellPosition>(alloc, LONGEST_LIST, piece, place),
+                Setting::Positions,
+            )
         }
         Shape::NextScenes => {
-            let (scenes, place) = list::<Scene>(alloc, LONGEST_LIST, piece, place)?;
-            Ok((Setting::NextScenes(scenes), place))
+            made(
+                list::<Scene>(alloc, LONGEST_LIST, piece, place),
+                Setting::NextScenes,
+            )
         }
         _ => Err(piece.refused(Why::Syntax)),
     }
@@ -104,7 +116,7 @@ impl Form for SlottedMember {
             return Err(piece.refused(Why::Syntax));
         }
         let (piece, place) = place.next()?;
-        let (object, place) = reference(alloc, &piece, place)?;
+        let (object, place) = AnyReference::read(alloc, &piece, place)?;
         let (slots, place) = members::<Slot>(alloc, LONGEST_LIST, place)?;
         Ok((Member { object, slots }, place))
     }
@@ -128,7 +140,7 @@ impl Form for ListItem {
             return Err(piece.refused(Why::Syntax));
         }
         let (piece, place) = place.next()?;
-        let (object, place) = reference(alloc, &piece, place)?;
+        let (object, place) = AnyReference::read(alloc, &piece, place)?;
         let place = place.closed()?;
         let slots = Seq::new(alloc);
         Ok((Member { object, slots }, place))

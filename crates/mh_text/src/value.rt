@@ -1,15 +1,15 @@
-//! Readers of values that fit a few tokens: names, numbers, truth values, octets, references, contents.
+//! Readers of values that are one token, or nearly so: names, numbers, truth values, octets, colours.
 //! Each takes the token at which the value begins, and the place behind that token where it reads on.
 ghost use Rattle.std.specs.Prelude.{◌≡◌, pos, ◌≤ℤ◌, IfOk};
 ghost use Rattle.mh_text.specs.Gives.{Gives};
-ghost use Rattle.mh_text.specs.Reading.{name_of as name_of_lem, integer_of as integer_of_lem, natural_of as natural_of_lem, field_length_of as field_length_of_lem, fixed_of as fixed_of_lem, number_of as number_of_lem, ingredient_number_of as ingredient_number_of_lem, truth_of as truth_of_lem, event_of as event_of_lem, justification_of as justification_of_lem, data_of as data_of_lem, octets_of as octets_of_lem, colour_of as colour_of_lem, reference as reference_lem, named_reference as named_reference_lem, truth, integer, octets, content_name as content_name_lem, content as content_lem};
+ghost use Rattle.mh_text.specs.Reading.{name_of as name_of_lem, integer_of as integer_of_lem, natural_of as natural_of_lem, field_length_of as field_length_of_lem, fixed_of as fixed_of_lem, number_of as number_of_lem, ingredient_number_of as ingredient_number_of_lem, truth_of as truth_of_lem, event_of as event_of_lem, justification_of as justification_of_lem, data_of as data_of_lem, octets_of as octets_of_lem, colour_of as colour_of_lem, named_reference as named_reference_lem};
 
 use crate::octet_text::unescaped;
 use crate::place::{Piece, Place};
 use crate::sign::Sign;
 use crate::{TextError, Why};
 use mh_base::{Colour, EventType, Octets};
-use mh_group::{Content, EventData, Justification, Number, Ref, WrittenName};
+use mh_group::{EventData, Justification, Number, Ref, WrittenName};
 use std::alloc::Global;
 
 #[tactic(auto, unfolding(crate::specs::Reading::name_of))]
@@ -167,28 +167,12 @@ pub(crate) fn colour_of(alloc: Global, piece: &Piece<'_>) -> Result<Colour, Text
     })
 }
 
-/// A reference that begins with this token.
-#[tactic(auto, unfolding(crate::specs::Reading::reference))]
-pub(crate) fn reference<'a>(
-    alloc: Global,
-    piece: &Piece<'_>,
-    place: Place<'a>,
-) -> Result<(Ref, Place<'a>), TextError>
-    ensures { Gives (λ x. x) result (reference_lem piece.now place.entry) }
-{
-    match piece.sign() {
-        Sign::Integer(_) => {
-            let number = number_of(piece)?;
-            Ok((Ref::Here(number), place))
-        }
-        Sign::OpenParenthesis => named_reference(alloc, place),
-        _ => Err(piece.refused(Why::Syntax)),
-    }
-}
-
 /// What stands behind the opening parenthesis of a reference with a name.
 #[tactic(auto, unfolding(crate::specs::Reading::named_reference))]
-fn named_reference<'a>(alloc: Global, place: Place<'a>) -> Result<(Ref, Place<'a>), TextError>
+pub(crate) fn named_reference<'a>(
+    alloc: Global,
+    place: Place<'a>,
+) -> Result<(Ref, Place<'a>), TextError>
     ensures { Gives (λ x. x) result (named_reference_lem place.entry) }
 {
     let (piece, place) = place.next()?;
@@ -197,40 +181,4 @@ fn named_reference<'a>(alloc: Global, place: Place<'a>) -> Result<(Ref, Place<'a
     let number = number_of(&piece)?;
     let place = place.closed()?;
     Ok((Ref::In(name, number), place))
-}
-
-/// The name of a content file, behind its keyword.
-#[tactic(auto, unfolding(crate::specs::Reading::content_name))]
-pub(crate) fn content_name<'a>(
-    alloc: Global,
-    piece: &Piece<'_>,
-    place: Place<'a>,
-) -> Result<(WrittenName, Place<'a>), TextError>
-    ensures { Gives (λ x. x) result (content_name_lem piece.now place.entry) }
-{
-    if !piece.sign().is_content_ref() {
-        return Err(piece.refused(Why::Syntax));
-    }
-    let place = place.opened()?;
-    let (piece, place) = place.next()?;
-    let name = name_of(alloc, &piece)?;
-    let place = place.closed()?;
-    Ok((name, place))
-}
-
-/// Content: octets, or the name of a content file.
-#[tactic(auto, unfolding(crate::specs::Reading::content))]
-pub(crate) fn content<'a>(
-    alloc: Global,
-    piece: &Piece<'_>,
-    place: Place<'a>,
-) -> Result<(Content, Place<'a>), TextError>
-    ensures { Gives (λ x. x) result (content_lem piece.now place.entry) }
-{
-    if piece.sign().is_content_ref() {
-        let (name, place) = content_name(alloc, piece, place)?;
-        return Ok((Content::Referenced(name), place));
-    }
-    let octets = octets_of(alloc, piece)?;
-    Ok((Content::Included(octets), place))
 }

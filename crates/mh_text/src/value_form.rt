@@ -1,10 +1,11 @@
-//! The forms of the values that fit a few tokens.
+//! The forms of the values that fit a few tokens, and the readers of references and contents.
 ghost use Rattle.mh_text.specs.Reading.{reference as reference_lem, truth, integer, octets, event_data, content_name as content_name_lem, content as content_lem};
 
-use crate::TextError;
-use crate::form::Form;
+use crate::form::{Form, made};
 use crate::place::{Piece, Place};
-use crate::value::{content, content_name, data_of, integer_of, octets_of, reference, truth_of};
+use crate::sign::Sign;
+use crate::value::{data_of, integer_of, name_of, named_reference, number_of, octets_of, truth_of};
+use crate::{TextError, Why};
 use mh_base::Octets;
 use mh_group::{Content, EventData, Ref, WrittenName};
 use std::alloc::Global;
@@ -85,12 +86,20 @@ impl Form for AnyReference {
 
     ghost reading = { reference_lem };
 
+    #[tactic(auto, unfolding(crate::specs::Reading::reference))]
     fn read<'a>(
         alloc: Global,
         piece: &Piece<'_>,
         place: Place<'a>,
     ) -> Result<(Ref, Place<'a>), TextError> {
-        reference(alloc, piece, place)
+        match piece.sign() {
+            Sign::Integer(_) => {
+                let number = number_of(piece)?;
+                Ok((Ref::Here(number), place))
+            }
+            Sign::OpenParenthesis => named_reference(alloc, place),
+            _ => Err(piece.refused(Why::Syntax)),
+        }
     }
 }
 
@@ -102,12 +111,20 @@ impl Form for ContentName {
 
     ghost reading = { content_name_lem };
 
+    #[tactic(auto, unfolding(crate::specs::Reading::content_name))]
     fn read<'a>(
         alloc: Global,
         piece: &Piece<'_>,
         place: Place<'a>,
     ) -> Result<(WrittenName, Place<'a>), TextError> {
-        content_name(alloc, piece, place)
+        if !piece.sign().is_content_ref() {
+            return Err(piece.refused(Why::Syntax));
+        }
+        let place = place.opened()?;
+        let (piece, place) = place.next()?;
+        let name = name_of(alloc, &piece)?;
+        let place = place.closed()?;
+        Ok((name, place))
     }
 }
 
@@ -119,11 +136,16 @@ impl Form for AnyContent {
 
     ghost reading = { content_lem };
 
+    #[tactic(auto, unfolding(crate::specs::Reading::content))]
     fn read<'a>(
         alloc: Global,
         piece: &Piece<'_>,
         place: Place<'a>,
     ) -> Result<(Content, Place<'a>), TextError> {
-        content(alloc, piece, place)
+        if piece.sign().is_content_ref() {
+            return made(ContentName::read(alloc, piece, place), Content::Referenced);
+        }
+        let octets = octets_of(alloc, piece)?;
+        Ok((Content::Included(octets), place))
     }
 }

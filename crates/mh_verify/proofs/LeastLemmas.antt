@@ -1,18 +1,17 @@
 -- The first of two lists is the first of the second and of the first of the first.
 use Rattle.std.proofs.Common.{◌≡◌, ℕ, ◌+◌, Bool, List, [], ◌∷◌, ◌++◌, length, filter, Option, Some, refl, sym, ap, ◌∙◌, arith}
 use Rattle.std.specs.List.{flat_map}
-use Rattle.std.specs.Option.{option_map, option_to_list}
+use Rattle.std.specs.Option.{option_to_list}
 use Rattle.std.proofs.lemmas.List.Concat.{flat_map-append}
 use Rattle.mh_base.specs.declared.obj_ref.ObjRef.{ObjRef}
 use Rattle.mh_model.specs.declared.act.Act.{Act}
 use Rattle.mh_model.specs.declared.config.Config.{Config}
 use Rattle.mh_model.specs.declared.object.Fixed.{Fixed}
-use Rattle.mh_model.specs.Active.{fault_of}
 use Rattle.mh_model.specs.Service.{Service}
 use Rattle.mh_verify.proofs.ListLemmas.{filter_append}
 use Rattle.mh_verify.specs.declared.refusal.Found.{Found}
 use Rattle.mh_verify.specs.Least.{least_of, lesser}
-use Rattle.mh_verify.specs.Refusals.{found_at, wrong_from}
+use Rattle.mh_verify.specs.Refusals.{refused_at, wrong_from}
 
 pub least_append : (b : Option Found) (xs ys : List Found) → least_of b (xs ++ ys) ≡ least_of (least_of b xs) ys
 least_append b [] ys = refl
@@ -31,7 +30,7 @@ least_counted s ps c key b n m [] ys e =
     let same : m ≡ n = omega (arith, e) in
     ap (λ (k : ℕ). least_of b (wrong_from s ps c key (k + 1) ys)) same
 least_counted s ps c key b n m (x ∷ xs) ys e =
-    let here = option_to_list (option_map (found_at c key (n + 1)) (fault_of s ps x)) in
+    let here = option_to_list (refused_at s ps c key (n + 1) x) in
     let counted : m ≡ (n + 1) + length xs = omega (arith, e) in
     ap (λ o. least_of o (wrong_from s ps c key (m + 1) ys)) (least_append b here (wrong_from s ps c key (n + 1 + 1) xs))
     ∙ least_counted s ps c key (least_of b here) (n + 1) m xs ys counted

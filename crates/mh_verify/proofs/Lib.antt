@@ -7,3 +7,4 @@ pub mod OrderLemmas
 pub mod RefusalLemmas
 pub mod TakenLemmas
 pub mod ListedLemmas
+pub mod DirectLemmas

@@ -13,7 +13,7 @@ use Rattle.mh_model.specs.declared.act.Target.{Target}
 use Rattle.mh_model.specs.declared.act.Target.TheVariants as target
 use Rattle.mh_model.specs.declared.object.Fixed.{Fixed}
 use Rattle.mh_model.specs.Service.{Service, part_at, group_ref}
-use Rattle.mh_model.specs.Stuck.{is_transition}
+use Rattle.mh_model.specs.Faults.{is_transition}
 use Rattle.mh_model.specs.Configuration.{is_service, is_group_of, is_group_list, names, with_scenes, configurations}
 use Rattle.mh_model.specs.Active.{leads_to}
 use Rattle.mh_model.specs.Acceptable.{IsReached, start, led}

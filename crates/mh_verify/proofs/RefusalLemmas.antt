@@ -1,7 +1,7 @@
 -- A configuration has no refusals exactly where it is free; so what is found says what the contract says.
-use Rattle.std.proofs.Common.{◌≡◌, inl, inr, ℕ, ◌+◌, Bool, true, ◌&&◌, List, [], ◌∷◌, ◌++◌, filter, Option, Some, None, refl, ap, sym, subst}
+use Rattle.std.proofs.Common.{◌≡◌, inl, inr, ℕ, ◌+◌, Bool, true, false, ◌&&◌, List, [], ◌∷◌, ◌++◌, filter, Option, Some, None, refl, ap, sym, subst}
 use Rattle.std.specs.List.{Contains, list_all, flat_map}
-use Rattle.std.specs.Option.{option_map, option_to_list, option_map_or}
+use Rattle.std.specs.Option.{option_to_list, option_map_or}
 use Rattle.mh_base.specs.declared.obj_ref.ObjRef.{ObjRef}
 use Rattle.mh_model.specs.declared.act.Act.{Act}
 use Rattle.mh_model.specs.declared.config.Config.{Config}
@@ -9,10 +9,10 @@ use Rattle.mh_model.specs.declared.fault.Fault.{Fault}
 use Rattle.mh_model.specs.declared.object.Fixed.{Fixed}
 use Rattle.mh_model.specs.Service.{Service}
 use Rattle.mh_model.specs.Configuration.{present, is_among}
-use Rattle.mh_model.specs.Active.{actions, is_active, active_actions, fault_of}
-use Rattle.mh_model.specs.Acceptable.{IsReached, start, led, IsClosed, is_free, is_none, leads_into}
+use Rattle.mh_model.specs.Active.{actions, is_active, active_actions, fault_of, is_direct, is_none, is_good}
+use Rattle.mh_model.specs.Acceptable.{IsReached, start, led, IsClosed, is_free, leads_into}
 use Rattle.mh_verify.specs.declared.refusal.Found.{Found}
-use Rattle.mh_verify.specs.Refusals.{found_at, wrong_from, wrong_with, refusals_in, RefusedIsNot}
+use Rattle.mh_verify.specs.Refusals.{found_at, not_yet_at, refused_for, wrong_from, wrong_with, refusals_in, RefusedIsNot}
 use Rattle.mh_verify.specs.Order.{IsFirst}
 use Rattle.mh_verify.specs.Least.{least_of}
 use Rattle.mh_verify.specs.Free.{AreFree}
@@ -21,24 +21,23 @@ use Rattle.mh_verify.proofs.ContainsLemmas.{all_append, all_front, all_back, no_
 use Rattle.mh_verify.proofs.ConfigLemmas.{member_of, among_of}
 use Rattle.mh_verify.proofs.OrderLemmas.{first_of, none_of}
 
-abbrev is_good : Service → List Fixed → Act → Bool
-is_good s ps a = is_none (fault_of s ps a)
-
 nothing_wrong : (s : Service) (ps : List Fixed) (c : Config) (key : ObjRef) (n : ℕ) (acts : List Act) → list_all (is_good s ps) acts ≡ true → wrong_from s ps c key n acts ≡ []
 nothing_wrong s ps c key n [] h = refl
-nothing_wrong s ps c key n (a ∷ acts) h = by (fault_of s ps a) h (nothing_wrong s ps c key (n + 1) acts)
+nothing_wrong s ps c key n (a ∷ acts) h = by (fault_of s ps a) (is_direct a) h (nothing_wrong s ps c key (n + 1) acts)
   where
-    by : (f : Option Fault) → (is_none f && list_all (is_good s ps) acts) ≡ true → (list_all (is_good s ps) acts ≡ true → wrong_from s ps c key (n + 1) acts ≡ []) → option_to_list (option_map (found_at c key n) f) ++ wrong_from s ps c key (n + 1) acts ≡ []
-    by None h ih = ih h
-    by (Some f) h ih = cc
+    by : (f : Option Fault) (d : Bool) → ((is_none f && d) && list_all (is_good s ps) acts) ≡ true → (list_all (is_good s ps) acts ≡ true → wrong_from s ps c key (n + 1) acts ≡ []) → option_to_list (refused_for c key n a f d) ++ wrong_from s ps c key (n + 1) acts ≡ []
+    by None true h ih = ih h
+    by None false h ih = cc
+    by (Some f) d h ih = cc
 
 all_good : (s : Service) (ps : List Fixed) (c : Config) (key : ObjRef) (n : ℕ) (acts : List Act) → wrong_from s ps c key n acts ≡ [] → list_all (is_good s ps) acts ≡ true
 all_good s ps c key n [] h = refl
-all_good s ps c key n (a ∷ acts) h = by (fault_of s ps a) h (all_good s ps c key (n + 1) acts)
+all_good s ps c key n (a ∷ acts) h = by (fault_of s ps a) (is_direct a) h (all_good s ps c key (n + 1) acts)
   where
-    by : (f : Option Fault) → option_to_list (option_map (found_at c key n) f) ++ wrong_from s ps c key (n + 1) acts ≡ [] → (wrong_from s ps c key (n + 1) acts ≡ [] → list_all (is_good s ps) acts ≡ true) → (is_none f && list_all (is_good s ps) acts) ≡ true
-    by None h ih = ih h
-    by (Some f) h ih = cc
+    by : (f : Option Fault) (d : Bool) → option_to_list (refused_for c key n a f d) ++ wrong_from s ps c key (n + 1) acts ≡ [] → (wrong_from s ps c key (n + 1) acts ≡ [] → list_all (is_good s ps) acts ≡ true) → ((is_none f && d) && list_all (is_good s ps) acts) ≡ true
+    by None true h ih = ih h
+    by None false h ih = cc
+    by (Some f) d h ih = cc
 
 nil_append : {X : Type 0} (xs ys : List X) → xs ≡ [] → ys ≡ [] → xs ++ ys ≡ []
 nil_append [] ys h k = k
@@ -71,11 +70,12 @@ free_where_none s c h = all_good_with s (present s c) c (filter (is_active (pres
 
 config_from : (s : Service) (ps : List Fixed) (c : Config) (key : ObjRef) (n : ℕ) (acts : List Act) (x : Found) → Contains (wrong_from s ps c key n acts) x → x.config ≡ c
 config_from s ps c key n [] x m = absurd (no_member x m)
-config_from s ps c key n (a ∷ acts) x m = by (fault_of s ps a) m (config_from s ps c key (n + 1) acts x)
+config_from s ps c key n (a ∷ acts) x m = by (fault_of s ps a) (is_direct a) m (config_from s ps c key (n + 1) acts x)
   where
-    by : (f : Option Fault) → Contains (option_to_list (option_map (found_at c key n) f) ++ wrong_from s ps c key (n + 1) acts) x → (Contains (wrong_from s ps c key (n + 1) acts) x → x.config ≡ c) → x.config ≡ c
-    by None m ih = ih m
-    by (Some f) m ih = elim (first_or_behind (found_at c key n f) (wrong_from s ps c key (n + 1) acts) x m) [ inl same ↦ sym (ap (λ (y : Found). y.config) same) | inr k ↦ ih k ]
+    by : (f : Option Fault) (d : Bool) → Contains (option_to_list (refused_for c key n a f d) ++ wrong_from s ps c key (n + 1) acts) x → (Contains (wrong_from s ps c key (n + 1) acts) x → x.config ≡ c) → x.config ≡ c
+    by None true m ih = ih m
+    by None false m ih = elim (first_or_behind (not_yet_at c key n a) (wrong_from s ps c key (n + 1) acts) x m) [ inl same ↦ sym (ap (λ (y : Found). y.config) same) | inr k ↦ ih k ]
+    by (Some f) d m ih = elim (first_or_behind (found_at c key n f) (wrong_from s ps c key (n + 1) acts) x m) [ inl same ↦ sym (ap (λ (y : Found). y.config) same) | inr k ↦ ih k ]
 
 config_of : (s : Service) (c : Config) (x : Found) → Contains (refusals_in s c) x → x.config ≡ c
 config_of s c x m =

@@ -8,10 +8,11 @@ use Rattle.mh_verify.specs.declared.refusal.RefusalKind.TheVariants as kind
 abbrev pub kind_number : RefusalKind → Option ℕ
 kind_number kind.AbsentObject = Some 1
 kind_number kind.WrongClass = Some 2
+kind_number kind.WrongKind = Some 3
 kind_number kind.NotYet = Some 10
 kind_number kind.NoMemory = None
 
 abbrev pub kind_of : FaultKind → RefusalKind
 kind_of fault.Absent = kind.AbsentObject
 kind_of fault.WrongClass = kind.WrongClass
-kind_of fault.WrongKind = kind.NotYet
+kind_of fault.WrongKind = kind.WrongKind

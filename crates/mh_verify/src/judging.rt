@@ -3,7 +3,9 @@ ghost use Rattle.std.specs.Prelude.{◌≡◌, ◌+◌, None, IfOk, length, filt
 ghost use Rattle.std.specs.List.{flat_map};
 ghost use Rattle.mh_model.specs.Active.{is_active};
 ghost use Rattle.mh_model.specs.Configuration.{present};
-ghost use Rattle.mh_verify.specs.Refusals.{found_at as found_at_lem, wrong_from, wrong_with, refusals_in};
+ghost use Rattle.mh_verify.specs.Refusals.{refusal_at as refusal_at_lem, found_at as found_at_lem};
+ghost use Rattle.mh_verify.specs.Refusals.{not_yet_at as not_yet_at_lem, refused_at as refused_at_lem};
+ghost use Rattle.mh_verify.specs.Refusals.{wrong_from, wrong_with, refusals_in};
 ghost use Rattle.mh_verify.specs.Order.{by_place as by_place_lem, by_config as by_config_lem, order as order_lem};
 ghost use Rattle.std.specs.Option.{option_cmp};
 ghost use Rattle.std.specs.Ordering.{nat_cmp};
@@ -11,9 +13,10 @@ ghost use Rattle.std.specs.Cmp.Lexicographic.{slice_cmp};
 ghost use Rattle.mh_verify.specs.Kinds.{kind_number};
 ghost use Rattle.mh_verify.specs.Least.{lesser as lesser_lem, least_of};
 
-use crate::present::{Present, effects};
+use crate::present::{Present, effects, is_direct, written_at};
 use crate::{Found, Place, RefusalKind};
 use mh_base::{GroupName, ObjRef};
+use mh_group::ActionName;
 use mh_model::{Act, Config, Fault, Fixed, FixedPart};
 use mh_service::Service;
 use std::alloc::AllocError;
@@ -86,20 +89,68 @@ fn lesser(best: Option<Found>, found: Found) -> Found
     }
 }
 
-fn found_at(config: &Config, key: &ObjRef, index: usize, fault: Fault) -> Result<Found, AllocError>
-    ensures { IfOk result (λ found. found ≡ found_at_lem config.now key.now index fault) }
+fn refusal_at(
+    scope: &Scope<'_>,
+    key: &ObjRef,
+    index: usize,
+    kind: RefusalKind,
+    action: ActionName,
+    object: ObjRef,
+) -> Result<Found, AllocError>
+    ensures { IfOk result (λ found. found
+        ≡ refusal_at_lem scope.now.config.now key.now index kind action object) }
 {
     Ok(Found {
-        kind: RefusalKind::of_fault(fault.what),
+        kind,
         place: Place {
             group: key.group.clone()?,
             object: key.number,
             index,
         },
-        action: fault.action,
-        object: fault.at,
-        config: config.clone()?,
+        action,
+        object,
+        config: scope.config.clone()?,
     })
+}
+
+/// What is wrong with the action.
+fn found_at(
+    scope: &Scope<'_>,
+    key: &ObjRef,
+    index: usize,
+    fault: Fault,
+) -> Result<Found, AllocError>
+    ensures { IfOk result (λ found. found
+        ≡ found_at_lem scope.now.config.now key.now index fault) }
+{
+    let kind = RefusalKind::of_fault(fault.what);
+    refusal_at(scope, key, index, kind, fault.action, fault.at)
+}
+
+/// It is not verified yet what the action is done to.
+fn not_yet_at(scope: &Scope<'_>, key: &ObjRef, index: usize, act: &Act) -> Result<Found, AllocError>
+    ensures { IfOk result (λ found. found
+        ≡ not_yet_at_lem scope.now.config.now key.now index act.now) }
+{
+    let target = written_at(&act.target).clone()?;
+    refusal_at(scope, key, index, RefusalKind::NotYet, act.name, target)
+}
+
+/// Why the action with this number of an object is refused, if it is.
+fn refused_at(
+    scope: &Scope<'_>,
+    key: &ObjRef,
+    index: usize,
+    act: &Act,
+) -> Result<Option<Found>, AllocError>
+    ensures { IfOk result (λ found. found ≡ refused_at_lem scope.now.service.now scope.now.present
+        scope.now.config.now key.now index act.now) }
+{
+    match scope.present.fault_of(scope.service, act)? {
+        Some(fault) => Ok(Some(found_at(scope, key, index, fault)?)),
+        None if is_direct(act) => Ok(None),
+        None => Ok(Some(not_yet_at(scope, key, index, act)?)),
+    }
 }
 
 /// The number of the next action. More than can be counted have no room in memory.
@@ -127,8 +178,8 @@ fn least_of_actions(
     let mut index = counted;
     for act in acts {
         index = next_number(index)?;
-        if let Some(fault) = scope.present.fault_of(scope.service, act)? {
-            best = Some(lesser(best, found_at(scope.config, key, index, fault)?));
+        if let Some(found) = refused_at(scope, key, index, act)? {
+            best = Some(lesser(best, found));
         }
     }
     Ok((best, index))

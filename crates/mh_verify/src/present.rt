@@ -1,19 +1,24 @@
 //! What is present in a configuration, what can come to be done there, and what is wrong with it.
 //!
 //! Promise: each function answers what the definition of the same name in `mh_model` says.
-ghost use Rattle.std.specs.Prelude.{◌≡◌, ◌++◌, Some, IfOk};
+ghost use Rattle.std.specs.Prelude.{◌≡◌, ◌++◌, IfOk};
 ghost use Rattle.std.specs.Option.{option_copied, option_map};
-ghost use Rattle.mh_model.specs.Active.{actions, has_source, is_active as is_active_lem, fault_of as fault_of_lem, leads as leads_lem};
+ghost use Rattle.mh_model.specs.Active.{actions, has_source, is_active as is_active_lem};
+ghost use Rattle.mh_model.specs.Active.{fault_of as fault_of_lem, leads as leads_lem};
+ghost use Rattle.mh_model.specs.Active.{is_direct as is_direct_lem, are_direct as are_direct_lem};
+ghost use Rattle.mh_model.specs.Active.{is_direct_target as is_direct_target_lem};
+ghost use Rattle.mh_model.specs.Active.{is_direct_argument as is_direct_argument_lem};
 ghost use Rattle.mh_model.specs.Configuration.{present, scene_parts as scene_parts_lem};
 ghost use Rattle.mh_model.specs.Property.{held, as_value};
 ghost use Rattle.mh_model.specs.Service.{part_at as part_at_lem};
-ghost use Rattle.mh_model.specs.Stuck.{class_for as class_for_lem, stuck_at as stuck_at_lem};
+ghost use Rattle.mh_model.specs.Faults.{written_at as written_at_lem};
 
 use mh_base::{GroupName, ObjRef, Value};
-use mh_group::{ActionName, Attribute, Class};
+use mh_group::{Attribute, Class, Need};
 use mh_model::held::as_value;
+use mh_model::known::{Known, fault_known};
 use mh_model::parts::{effect_of, is_transition, part_at};
-use mh_model::{Act, Config, Fault, FaultKind, Fixed, FixedPart, Properties, Target};
+use mh_model::{Act, Argument, Config, Fault, Fixed, FixedPart, Properties, Target};
 use mh_service::Service;
 use std::alloc::AllocError;
 use std::marker::Model;
@@ -94,26 +99,44 @@ impl<'a> Present<'a> {
         }
     }
 
-    /// What is wrong with the action, if anything is. Of a target through a variable nothing is known
-    /// yet.
+    /// What is wrong with the action, as far as the files tell, if anything is.
     pub fn fault_of(&self, service: &Service, act: &Act) -> Result<Option<Fault>, AllocError>
         ensures { IfOk result (λ fault. fault ≡ fault_of_lem service.now self.now act.now) }
     {
-        match &act.target {
-            Target::Direct(at) => stuck_at(act.name, at, self.class_for(service, act.name, at)),
-            Target::Through(variable) => fault(FaultKind::WrongKind, act.name, variable),
-        }
+        let before = Before {
+            service,
+            present: self,
+        };
+        fault_known(&before, act)
+    }
+}
+
+/// What the files say where these parts of a service are present: of what variables hold, nothing.
+#[derive(Drop)]
+struct Before<'a> {
+    service: &'a Service,
+    present: &'a Present<'a>,
+}
+
+impl<'a> Known for Before<'a> {
+    ghost use Rattle.mh_model.specs.Known.{known_before};
+
+    ghost known = { λ b. known_before b.service.now b.present.now };
+
+    fn class_of(&self, at: &ObjRef) -> Option<Class> {
+        class_of(self.present.find(at))
     }
 
-    /// The class of the target. To a transition each group of the service is there.
-    fn class_for(&self, service: &Service, name: ActionName, at: &ObjRef) -> Option<Class>
-        ensures { result ≡ class_for_lem service.now self.now name at.now }
-    {
-        if is_transition(name) && at.number == 0 {
-            class_of(service.find(at))
-        } else {
-            class_of(self.find(at))
-        }
+    fn group_class(&self, at: &ObjRef) -> Option<Class> {
+        class_of(self.service.find(at))
+    }
+
+    fn refers(&self, _variable: &ObjRef) -> Option<&ObjRef> {
+        None
+    }
+
+    fn number(&self, _variable: &ObjRef) -> Option<i32> {
+        None
     }
 }
 
@@ -126,35 +149,51 @@ fn class_of(part: Option<&Fixed>) -> Option<Class>
     }
 }
 
-/// What is wrong with such an action where its target is of this class, or is absent.
-fn stuck_at(
-    name: ActionName,
-    at: &ObjRef,
-    class: Option<Class>,
-) -> Result<Option<Fault>, AllocError>
-    ensures { IfOk result (λ fault. fault ≡ stuck_at_lem name at.now class) }
+/// Whether the target and the objects among the parameters are named themselves. One that is named through a
+/// variable is not known beforehand.
+pub fn is_direct(act: &Act) -> bool
+    ensures { result ≡ is_direct_lem act.now }
 {
-    match class {
-        None => fault(FaultKind::Absent, name, at),
-        Some(class) => {
-            if class.admits(name) {
-                Ok(None)
-            } else {
-                fault(FaultKind::WrongClass, name, at)
-            }
-        }
-    }
+    is_direct_target(&act.target) && are_direct(act.name.needs(), act.arguments.as_slice())
 }
 
-fn fault(what: FaultKind, action: ActionName, at: &ObjRef) -> Result<Option<Fault>, AllocError>
-    ensures { IfOk result (λ fault. fault
-        ≡ Some (record { what = what; action = action; at = at.now })) }
+fn is_direct_target(target: &Target) -> bool
+    ensures { result ≡ is_direct_target_lem target.now }
 {
-    Ok(Some(Fault {
-        what,
-        action,
-        at: at.clone()?,
-    }))
+    matches!(target, Target::Direct(_))
+}
+
+/// Each argument, by what is needed at its place.
+fn are_direct(needs: &[Need], arguments: &[Argument]) -> bool
+    ensures { result ≡ are_direct_lem needs.now arguments.now }
+{
+    let mut arguments = arguments;
+    for need in needs {
+        let [argument, others @ ..] = arguments else {
+            return true;
+        };
+        if !is_direct_argument(*need, argument) {
+            return false;
+        }
+        arguments = others;
+    }
+    true
+}
+
+fn is_direct_argument(need: Need, argument: &Argument) -> bool
+    ensures { result ≡ is_direct_argument_lem need argument.now }
+{
+    !(matches!(need, Need::Ref) && matches!(argument, Argument::Through(_, _)))
+}
+
+/// The reference that is written as a target.
+pub fn written_at(target: &Target) -> &ObjRef
+    ensures { result.now ≡ written_at_lem target.now }
+{
+    match target {
+        Target::Direct(at) => at,
+        Target::Through(variable) => variable,
+    }
 }
 
 /// The configuration to which the action leads, if it leads anywhere.

@@ -15,6 +15,8 @@ pub enum RefusalKind {
     AbsentObject,
     #[error("V2: the action has no rule for objects of the class")]
     WrongClass,
+    #[error("V3: a value or a variable is of another kind")]
+    WrongKind,
     #[error("V10: this is not verified yet")]
     NotYet,
     #[error("memory was refused")]
@@ -29,6 +31,7 @@ impl RefusalKind {
         match self {
             RefusalKind::AbsentObject => Some(1),
             RefusalKind::WrongClass => Some(2),
+            RefusalKind::WrongKind => Some(3),
             RefusalKind::NotYet => Some(10),
             RefusalKind::NoMemory => None,
         }
@@ -41,7 +44,7 @@ impl RefusalKind {
         match fault {
             FaultKind::Absent => RefusalKind::AbsentObject,
             FaultKind::WrongClass => RefusalKind::WrongClass,
-            FaultKind::WrongKind => RefusalKind::NotYet,
+            FaultKind::WrongKind => RefusalKind::WrongKind,
         }
     }
 }
@@ -61,7 +64,7 @@ pub struct Found {
     pub kind: RefusalKind,
     pub place: Place,
     pub action: ActionName,
-    /// The reference at the place that is wrong.
+    /// The reference at the place that is wrong; the target's, of an action that is not verified yet.
     pub object: ObjRef,
     /// The configuration in which it is wrong.
     pub config: Config,

@@ -12,4 +12,4 @@ returns-clause-spelled c =
     let short : length c.print_written.new.out.items ≤ largest_file = omega (arith, c.if-len-gt-LARGEST_FILE.false, c.len.ensures) in
     let allowed = subst (λ (g : Written). is_group g ≡ true) (sym c.written.ensures.same) c.written.ensures.fits in
     subst (λ (g : Written). Spells c.print_written.new.out.items g) c.written.ensures.same
-    (buffer_spells c.print_written.new.out.items _ c.written.result.now c.in_ok-print_written.ensures.printed c.new-out.ensures.items allowed c.in_ok-print_written.ensures.fits short)
+    (buffer_spells c.print_written.new.out.items _ c.written.result.now c.in_ok-print_written.ensures.0 c.new-out.ensures.items allowed c.in_ok-print_written.ensures.1 short)

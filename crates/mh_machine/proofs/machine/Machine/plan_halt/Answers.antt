@@ -1,8 +1,19 @@
 use Rattle.std.specs.Option.{option_copied}
-use Rattle.std.proofs.Common.{rules, ◌∙◌, ap}
-use Rattle.mh_machine.specs.Pieces.{written}
+use Rattle.std.proofs.Common.{rules, ap, ◌∙◌, subst}
+use Rattle.mh_model.specs.Arguments.{values, receivers}
+use Rattle.mh_model.specs.Bodies.{changed_by}
+use Rattle.mh_model.specs.State.{all}
+use Rattle.mh_base.specs.declared.value.Value.{Value}
+use Rattle.std.specs.Prelude.{List}
+use Rattle.mh_model.specs.declared.edit.Edit.TheVariants as edit
+use Rattle.mh_machine.specs.declared.plan.Change.TheVariants as change
+use Rattle.mh_machine.specs.declared.plan.Stacking.TheVariants as stacking
+use Rattle.mh_machine.specs.declared.plan.Plan.{Plan}
+use Rattle.mh_machine.specs.Plans.{committed, Makes}
 use Rattle.mh_machine.proofs.PlanLemmas.{halt_planned}
 use Rattle.mh_machine.proofs.machine.Machine.plan_halt.Goals as goal
 
 pub returns : goal.returns
-returns c = halt_planned c.args.self.now c.args.at.now (option_copied c.get-found.result) c.in_ok-halting.field-0 c.from_vec.result (search rules) c.in_ok-halting.ensures (ap written c.from_vec.ensures ∙ c.in_ok-pieces.ensures)
+returns c =
+    ap (λ (p : Plan). committed p c.args.self.now) c.of.ensures
+    ∙ halt_planned c.args.self.now c.args.at.now (option_copied c.get.result) (change.Edit c.in_ok-clone.field-0 edit.Halt) c.in_ok-pieces.pieces.items (search rules) (search rules) c.in_ok-pieces.ensures

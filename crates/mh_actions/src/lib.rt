@@ -1,0 +1,16 @@
+//! What an action comes to: the values of its arguments, what is wrong with it, what it makes of
+//! one object, what that answers, and what it puts.
+//!
+//! Promise: each is what the definitions of `mh_model` say, exactly, for every action and every
+//! state. Nothing is changed here: `mh_store` carries a change out, and the machine puts items in
+//! their place and fills receivers.
+#![tactic(auto)]
+
+pub mod answers;
+pub mod arguments;
+pub mod changes;
+pub mod judging;
+mod numerals;
+mod present;
+pub mod putting;
+mod variables;

@@ -1,0 +1,19 @@
+use Rattle.std.specs.Prelude.{◌≡◌, List}
+use Rattle.std.specs.Option.{option_copied}
+use Rattle.std.proofs.Common.{rules, ◌∙◌, ap, subst}
+use Rattle.mh_base.specs.declared.value.Value.{Value}
+use Rattle.mh_model.specs.Arguments.{values}
+use Rattle.mh_model.specs.Bodies.{changed_by}
+use Rattle.mh_model.specs.Rules.{changed}
+use Rattle.mh_model.specs.State.{Objects, all}
+use Rattle.mh_machine.specs.Plans.{changed_as, change_at, taken_from}
+use Rattle.mh_machine.proofs.machine.Machine.do_change.Goals as goal
+
+pub returns-clause-done : goal.returns-clause-done
+returns-clause-done c =
+    let given : c.as_slice-2.result.now ≡ values (all c.args.self.now.objects) c.args.act.now.arguments = search rules in
+    let objects : changed_as (change_at c.args.at.now c.in_ok-edit.edit) c.args.self.now.objects ≡ changed (changed_by c.args.act.now.name c.as_slice-2.result.now) c.args.at.now c.args.self.now.objects =
+    c.in_ok-edit.ensures c.args.at.now c.args.self.now.objects (search rules) in
+    let same : changed (changed_by c.args.act.now.name c.as_slice-2.result.now) c.args.at.now c.args.self.now.objects ≡ changed (changed_by c.args.act.now.name (values (all c.args.self.now.objects) c.args.act.now.arguments)) c.args.at.now c.args.self.now.objects =
+    ap (λ (vs : List Value). changed (changed_by c.args.act.now.name vs) c.args.at.now c.args.self.now.objects) given in
+    c.in_ok-commit_change.ensures.done ∙ ap (λ (os : Objects). record (taken_from c.args.self.now) { objects = os }) (objects ∙ same)

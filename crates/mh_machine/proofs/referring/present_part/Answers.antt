@@ -1,9 +1,0 @@
-use Rattle.std.specs.Option.{option_map}
-use Rattle.std.proofs.Common.{◌∙◌, ap, sym}
-use Rattle.mh_model.specs.declared.object.Object.{Object}
-use Rattle.mh_model.specs.State.{all}
-use Rattle.mh_model.proofs.PartLemmas.{part_at-parts}
-use Rattle.mh_machine.proofs.referring.present_part.Goals as goal
-
-pub returns : goal.returns
-returns c = c.fixed_of.ensures ∙ ap (option_map (λ (o : Object). o.fixed)) c.get.ensures ∙ sym (part_at-parts c.args.at.now (all c.args.objects.now))

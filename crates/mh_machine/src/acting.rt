@@ -1,0 +1,174 @@
+//! What events, entrances and actions do. What an action does to its target is said by `mh_actions`.
+ghost use Rattle.std.specs.Prelude.{◌≡◌, ◌+◌, ◌<◌, ◌^◌, IfOk, OnOk, OnErr, Some};
+ghost use Rattle.std.specs.Option.{option_copied};
+ghost use Rattle.mh_model.specs.State.{all};
+ghost use Rattle.mh_model.specs.Step.{done};
+ghost use Rattle.mh_model.specs.Arguments as said;
+ghost use Rattle.mh_model.specs.Bodies.{changed_by};
+ghost use Rattle.mh_model.specs.Rules.{act_on, change_rule, ask_rule, put_rule, transition_rule};
+ghost use Rattle.mh_machine.specs.Plans.{taken_from, MakesFound};
+ghost use Rattle.mh_machine.specs.Pieces.{written};
+
+use crate::machine::Machine;
+use crate::piece::Piece;
+use crate::plan::Plan;
+use crate::puts::{entering, push};
+use mh_actions::arguments::{referred, values};
+use mh_actions::changes::edit_by;
+use mh_actions::putting::put_items;
+use mh_base::{GroupName, ObjRef, Value};
+use mh_group::ActionName;
+use mh_model::parts::is_transition;
+use mh_model::sort::{Sort, sort_of};
+use mh_model::{Act, Edit, Event, Item, Object};
+use std::alloc::{AllocError, Global};
+
+impl Machine {
+    /// An event: the actions of all links that hear it, at once or when it is taken from the queue.
+    pub(crate) fn do_emit(&mut self, event: &Event) -> Result<(), AllocError>
+        requires { self.old.taken + 1 < 2 ^ 64 }
+        ensures done { OnOk result (self.new ≡ done (Item.Emit event.now) self.old) }
+        ensures kept { OnErr result (self.new ≡ self.old) }
+    {
+        if event.kind.is_sync() {
+            let pieces = self.links.heard(self.alloc, event, &self.objects)?;
+            self.commit_pieces(pieces)
+        } else {
+            let event = event.clone()?;
+            self.commit(Plan::waiting(self.alloc, event))
+        }
+    }
+
+    /// A group whose objects are there is entered.
+    pub(crate) fn do_enter(&mut self, group: &GroupName) -> Result<(), AllocError>
+        requires { self.old.taken + 1 < 2 ^ 64 }
+        ensures done { OnOk result (self.new ≡ done (Item.Enter group.now) self.old) }
+        ensures kept { OnErr result (self.new ≡ self.old) }
+    {
+        let pieces = entering(self.alloc, group, self.service.parts(group))?;
+        self.commit_pieces(pieces)
+    }
+
+    /// An action that is not stuck.
+    pub(crate) fn do_act(&mut self, act: &Act) -> Result<(), AllocError>
+        requires { self.old.taken + 1 < 2 ^ 64 }
+        ensures done { OnOk result (self.new ≡ done (Item.Act act.now) self.old) }
+        ensures kept { OnErr result (self.new ≡ self.old) }
+    {
+        match copied(referred(&self.objects, &act.target))? {
+            None => self.commit_pieces(Vec::new(self.alloc)),
+            Some(at) => self.do_at(act, &at),
+        }
+    }
+
+    /// An action whose target comes to this reference.
+    fn do_at(&mut self, act: &Act, at: &ObjRef) -> Result<(), AllocError>
+        requires { self.old.taken + 1 < 2 ^ 64 }
+        ensures done { let values = said.values (all self.old.objects) act.now.arguments in
+            OnOk result (self.new
+            ≡ act_on (Some at.now) act.now.name values (said.receivers act.now.arguments)
+            (taken_from self.old)) }
+        ensures kept { OnErr result (self.new ≡ self.old) }
+    {
+        match sort_of(act.name) {
+            Sort::Change => self.do_change(act, at),
+            Sort::Ask => self.do_ask(act, at),
+            Sort::Put => self.do_put(act, at),
+            Sort::Whole if is_transition(act.name) => self.do_transition(at),
+            Sort::Whole | Sort::Order => self.commit_pieces(Vec::new(self.alloc)),
+        }
+    }
+
+    /// An action that changes the body of its target.
+    fn do_change(&mut self, act: &Act, at: &ObjRef) -> Result<(), AllocError>
+        requires { self.old.taken + 1 < 2 ^ 64 }
+        ensures done { let values = said.values (all self.old.objects) act.now.arguments in
+            OnOk result (self.new
+            ≡ change_rule act.now.name values at.now (taken_from self.old)) }
+        ensures kept { OnErr result (self.new ≡ self.old) }
+    {
+        let values = values(self.alloc, &self.objects, act.arguments.as_slice())?;
+        let found = self.objects.get(at);
+        let edit = edit_of(self.alloc, act.name, values.as_slice(), found)?;
+        self.commit_change(at, edit)?;
+        Ok(())
+    }
+
+    /// An action that asks its target.
+    #[inline(never)]
+    fn do_ask(&mut self, act: &Act, at: &ObjRef) -> Result<(), AllocError>
+        requires { self.old.taken + 1 < 2 ^ 64 }
+        ensures done { let values = said.values (all self.old.objects) act.now.arguments in
+            OnOk result (self.new
+            ≡ ask_rule act.now.name values (said.receivers act.now.arguments) at.now
+            (taken_from self.old)) }
+        ensures kept { OnErr result (self.new ≡ self.old) }
+    {
+        let plan = self.plan_ask(act, at)?;
+        self.commit(plan)
+    }
+
+    /// An action that puts items.
+    fn do_put(&mut self, act: &Act, at: &ObjRef) -> Result<(), AllocError>
+        requires { self.old.taken + 1 < 2 ^ 64 }
+        ensures done { let values = said.values (all self.old.objects) act.now.arguments in
+            OnOk result (self.new
+            ≡ put_rule act.now.name values at.now (taken_from self.old)) }
+        ensures kept { OnErr result (self.new ≡ self.old) }
+    {
+        let values = values(self.alloc, &self.objects, act.arguments.as_slice())?;
+        let found = self.objects.get(at);
+        let items = put_items(self.alloc, act.name, values.as_slice(), at, found)?;
+        let pieces = as_pieces(self.alloc, items)?;
+        self.commit_pieces(pieces)?;
+        Ok(())
+    }
+
+    /// A transition to another scene.
+    #[inline(never)]
+    fn do_transition(&mut self, at: &ObjRef) -> Result<(), AllocError>
+        requires { self.old.taken + 1 < 2 ^ 64 }
+        ensures done { OnOk result (self.new ≡ transition_rule at.now (taken_from self.old)) }
+        ensures kept { OnErr result (self.new ≡ self.old) }
+    {
+        let plan = self.plan_transition(&at.group)?;
+        self.commit(plan)
+    }
+}
+
+fn copied(at: Option<&ObjRef>) -> Result<Option<ObjRef>, AllocError>
+    ensures { IfOk result (λ copy. copy ≡ option_copied at.entry) }
+{
+    match at {
+        Some(at) => Ok(Some(at.clone()?)),
+        None => Ok(None),
+    }
+}
+
+/// What an action changes of its target, where that is there.
+fn edit_of(
+    alloc: Global,
+    name: ActionName,
+    values: &[Value],
+    found: Option<&Object>,
+) -> Result<Option<Edit>, AllocError>
+    ensures { IfOk result (λ edit.
+        MakesFound edit (changed_by name values.now) (option_copied found.entry)) }
+{
+    let Some(object) = found else {
+        return Ok(None);
+    };
+    let edit = edit_by(alloc, name, values, object)?;
+    Ok(edit)
+}
+
+/// The items, each as a piece of its own.
+fn as_pieces(alloc: Global, items: Vec<Item>) -> Result<Vec<Piece>, AllocError>
+    ensures { IfOk result (λ pieces. written pieces.items ≡ items.items) }
+{
+    let mut pieces = Vec::new(alloc);
+    for item in items {
+        push(&mut pieces, Piece::One(item))?;
+    }
+    Ok(pieces)
+}

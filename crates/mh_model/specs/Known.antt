@@ -1,0 +1,47 @@
+-- What is known where an action is judged: in a state all of it, beforehand less.
+use Rattle.std.specs.Prelude.{List, Option, Some, None, ℤ}
+use Rattle.std.specs.Option.{option_map}
+use Rattle.mh_base.specs.declared.obj_ref.ObjRef.{ObjRef}
+use Rattle.mh_base.specs.declared.value.Value.{Value}
+use Rattle.mh_base.specs.declared.value.Value.TheVariants as value
+use Rattle.mh_group.specs.declared.class.Class.{Class}
+use Rattle.mh_model.specs.declared.object.Fixed.{Fixed}
+use Rattle.mh_model.specs.declared.object.Object.{Object}
+use Rattle.mh_model.specs.Arguments.{held_by}
+use Rattle.mh_model.specs.Property.{as_reference}
+use Rattle.mh_model.specs.Service.{Service, part_at, object_at, parts, group_parts}
+
+pub record Known : Type 0 where
+  -- the class of an object that is present
+  pub class_of : ObjRef → Option Class
+  -- the class of a group of the service, present or not
+  pub group_class : ObjRef → Option Class
+  -- the object to which a variable refers
+  pub refers : ObjRef → Option ObjRef
+  -- the number that a variable holds
+  pub number : ObjRef → Option ℤ
+
+abbrev pub class_at : ObjRef → List Fixed → Option Class
+class_at r ps = option_map (λ p. p.class) (part_at r ps)
+
+-- what the files say, where these parts are present: of what a variable holds, nothing
+abbrev pub known_before : Service → List Fixed → Known
+known_before s ps = record {
+  class_of = λ r. class_at r ps;
+  group_class = λ r. class_at r (group_parts s r.group);
+  refers = λ v. None;
+  number = λ v. None;
+}
+
+abbrev pub as_integer : Option Value → Option ℤ
+as_integer (Some (value.Int n)) = Some n
+as_integer _ = None
+
+-- what is known where these objects are present
+abbrev pub known_in : Service → List Object → Known
+known_in s os = record {
+  class_of = λ r. class_at r (parts os);
+  group_class = λ r. class_at r (group_parts s r.group);
+  refers = λ v. as_reference (held_by (object_at v os));
+  number = λ v. as_integer (held_by (object_at v os));
+}

@@ -1,0 +1,68 @@
+-- What an action says: the answers for its receivers, and the items that it puts.
+use Rattle.std.specs.Prelude.{List, [], ◌∷◌, slice_get, Option, Some, None, ℤ, pos, negsuc}
+use Rattle.mh_base.specs.declared.obj_ref.ObjRef.{ObjRef}
+use Rattle.mh_base.specs.declared.value.Value.{Value}
+use Rattle.mh_base.specs.declared.value.Value.TheVariants as value
+use Rattle.mh_base.specs.declared.event.EventType.{EventType}
+use Rattle.mh_base.specs.declared.event.EventType.TheVariants as event
+use Rattle.mh_base.specs.Event.{event_of}
+use Rattle.mh_group.specs.declared.action_name.ActionName.{ActionName}
+use Rattle.mh_group.specs.declared.action_name.ActionName.TheVariants as action
+use Rattle.mh_group.specs.declared.attribute.Attribute.TheVariants as attribute
+use Rattle.mh_model.specs.declared.item.Item.{Item}
+use Rattle.mh_model.specs.declared.item.Item.TheVariants as item
+use Rattle.mh_model.specs.declared.object.Object.{Object}
+use Rattle.mh_model.specs.declared.operator.Operator.{Operator}
+use Rattle.mh_model.specs.Property.{read, as_pair, value_held}
+use Rattle.mh_model.specs.Variables.{operator_of, test}
+
+-- Answers
+
+abbrev pub both : ℤ × ℤ → List Value
+both (x, y) = value.Int x ∷ value.Int y ∷ []
+
+-- what the object answers to the action
+abbrev pub answers : ActionName → List Value → Object → List Value
+answers action.GetAvailabilityStatus vs o = value.Bool o.body.available ∷ []
+answers action.GetRunningStatus vs o = value.Bool o.body.running ∷ []
+answers action.GetPosition vs o = both (as_pair (read attribute.OrigPosition o))
+answers _ vs o = []
+
+abbrev pub answers_at : ActionName → List Value → Option Object → List Value
+answers_at n vs None = []
+answers_at n vs (Some o) = answers n vs o
+
+-- Items
+
+-- the type of events with the number
+abbrev pub event_numbered : ℤ → Option EventType
+event_numbered (pos n) = event_of n
+event_numbered (negsuc n) = None
+
+-- an event of the source, with the data if there is any
+abbrev pub sent : ObjRef → Option EventType → List Value → List Item
+sent source None data_given = []
+sent source (Some kind) data_given =
+    item.Emit (record { source = source; kind = kind; «data» = slice_get data_given 0 }) ∷ []
+
+-- the event that says how the test went
+abbrev pub tested : ObjRef → Option Operator → Option Value → Value → List Item
+tested r (Some o) (Some held) v =
+    item.Emit (record { source = r; kind = event.TestEvent; «data» = Some (value.Bool (test o held v)) }) ∷ []
+tested r _ _ v = []
+
+-- what the action puts, done to the object at this reference
+abbrev pub put_items : ActionName → List Value → ObjRef → Object → List Item
+put_items action.Run vs r o = item.Run r ∷ []
+put_items action.Stop vs r o = item.Halt r ∷ []
+put_items action.Preload vs r o = item.Prepare r ∷ []
+put_items action.Unload vs r o = item.Halt r ∷ item.Drop r ∷ []
+put_items action.Activate vs r o = item.Run r ∷ []
+put_items action.Deactivate vs r o = item.Halt r ∷ []
+put_items action.SendEvent (value.Object source ∷ value.Int kind ∷ more) r o = sent source (event_numbered kind) more
+put_items action.TestVariable (value.Int n ∷ v ∷ []) r o = tested r (operator_of n) (value_held o.fixed o.body) v
+put_items _ vs r o = []
+
+abbrev pub put_items_at : ActionName → List Value → ObjRef → Option Object → List Item
+put_items_at n vs r None = []
+put_items_at n vs r (Some o) = put_items n vs r o

@@ -1,0 +1,255 @@
+//! What is wrong with an argument of an action, by what is needed at its place.
+//!
+//! Each function is given the best so far, and answers the one that is named of it and of its own.
+ghost use Rattle.std.specs.Prelude.{◌≡◌};
+ghost use Rattle.mh_model.specs.Faults as spec;
+ghost use Rattle.mh_model.specs.Faults.{least_fault};
+
+use crate::fit::{ComparedBy, Fit, GoesWith, OfContent, OfData};
+use crate::kinds::kind_of;
+use crate::known::Known;
+use crate::places::{named, untaken, untaken_through, variable, written_at};
+use crate::wrong::{Best, found, unless};
+use crate::{Act, Argument, FaultKind, Operator};
+use mh_base::{Kind, ObjRef, Value};
+use mh_group::{ActionName, Need};
+
+/// All arguments, each by what is needed at its place, while there are both.
+#[tactic(auto, using(crate::proofs::FaultLemmas::least_fault_append))]
+pub(crate) fn arguments<'a, K: Known>(
+    best: Best<'a>,
+    known: &'a K,
+    act: &'a Act,
+    needs: &[Need],
+    arguments: &'a [Argument],
+) -> Best<'a>
+    ensures { let k = K.known known.now in
+        result ≡ least_fault best.entry (spec.arguments_faults k act.now needs.now arguments.now) }
+{
+    let mut best = best;
+    let mut needs = needs;
+    let mut arguments = arguments;
+    while let Some((need, needs_behind)) = needs.split_first() {
+        let Some((argument, arguments_behind)) = arguments.split_first() else {
+            return best;
+        };
+        best = needed(best, known, act, *need, argument);
+        needs = needs_behind;
+        arguments = arguments_behind;
+    }
+    best
+}
+
+/// An argument where this is needed. What a program is called with is not looked at yet.
+fn needed<'a, K: Known>(
+    best: Best<'a>,
+    known: &'a K,
+    act: &'a Act,
+    need: Need,
+    argument: &'a Argument,
+) -> Best<'a>
+    ensures { let k = K.known known.now in
+        result ≡ least_fault best.entry (spec.argument_faults k act.now need argument.now) }
+{
+    match need {
+        Need::Bool => value(best, known, act, &Kind::Bool, argument),
+        Need::Int => integer(best, known, act, argument),
+        Need::Octets => value(best, known, act, &Kind::Octets, argument),
+        Need::Ref => reference(best, known, act, argument),
+        Need::Content => value(best, known, act, &OfContent, argument),
+        Need::Data => value(best, known, act, &OfData, argument),
+        Need::Event => value(best, known, act, &Kind::Int, argument),
+        Need::Receiver(kind) => receiver(best, known, act, kind, argument),
+        Need::Typed => typed(best, known, act, argument),
+        Need::Arguments => best,
+    }
+}
+
+/// A value of a kind that passes.
+fn value<'a, K: Known, F: Fit>(
+    best: Best<'a>,
+    known: &K,
+    act: &'a Act,
+    fit: &F,
+    argument: &'a Argument,
+) -> Best<'a>
+    ensures { let fits = F.fits fit.now in
+        let k = K.known known.now in
+        result ≡ least_fault best.entry (spec.value_faults fits k act.now argument.now) }
+{
+    match argument {
+        Argument::Direct(value) => {
+            let fits = fit.fits(kind_of(value));
+            unless(
+                best,
+                fits,
+                FaultKind::WrongKind,
+                act.name,
+                written_at(&act.target),
+            )
+        }
+        Argument::Through(at, _) => variable(best, fit, act.name, at, known.class_of(at)),
+        Argument::Receiver(at) => found(best, FaultKind::WrongKind, act.name, at),
+    }
+}
+
+/// A variable that receives an answer of the kind.
+fn receiver<'a, K: Known>(
+    best: Best<'a>,
+    known: &K,
+    act: &'a Act,
+    kind: Kind,
+    argument: &'a Argument,
+) -> Best<'a>
+    ensures { let k = K.known known.now in
+        result ≡ least_fault best.entry (spec.receiver_faults kind k act.now argument.now) }
+{
+    match argument {
+        Argument::Direct(_) => found(
+            best,
+            FaultKind::WrongKind,
+            act.name,
+            written_at(&act.target),
+        ),
+        Argument::Through(at, _) => found(best, FaultKind::WrongKind, act.name, at),
+        Argument::Receiver(at) => variable(best, &kind, act.name, at, known.class_of(at)),
+    }
+}
+
+/// The reference of an object. A variable comes before what it holds.
+fn reference<'a, K: Known>(
+    best: Best<'a>,
+    known: &'a K,
+    act: &'a Act,
+    argument: &'a Argument,
+) -> Best<'a>
+    ensures { let k = K.known known.now in
+        result ≡ least_fault best.entry (spec.reference_faults k act.now argument.now) }
+{
+    match argument {
+        Argument::Direct(Value::Object(at)) => named(best, known, act.name, at),
+        Argument::Direct(_) => found(
+            best,
+            FaultKind::WrongKind,
+            act.name,
+            written_at(&act.target),
+        ),
+        Argument::Through(at, _) => {
+            let best = variable(best, &Kind::Object, act.name, at, known.class_of(at));
+            match known.refers(at) {
+                Some(at) => named(best, known, act.name, at),
+                None => best,
+            }
+        }
+        Argument::Receiver(at) => found(best, FaultKind::WrongKind, act.name, at),
+    }
+}
+
+/// A value with its kind, which has to go with that of the target.
+#[tactic(auto, using(crate::proofs::FaultLemmas::least_fault_append))]
+fn typed<'a, K: Known>(
+    best: Best<'a>,
+    known: &'a K,
+    act: &'a Act,
+    argument: &'a Argument,
+) -> Best<'a>
+    ensures { let k = K.known known.now in
+        result ≡ least_fault best.entry (spec.typed_faults k act.now argument.now) }
+{
+    match argument {
+        Argument::Direct(value) => untaken(
+            best,
+            known,
+            act,
+            &GoesWith {
+                action: act.name,
+                from: kind_of(value),
+            },
+        ),
+        Argument::Through(at, Some(kind)) => {
+            let best = variable(best, kind, act.name, at, known.class_of(at));
+            untaken_through(
+                best,
+                known,
+                act,
+                &GoesWith {
+                    action: act.name,
+                    from: *kind,
+                },
+                at,
+            )
+        }
+        Argument::Through(at, None) => found(best, FaultKind::WrongKind, act.name, at),
+        Argument::Receiver(at) => found(best, FaultKind::WrongKind, act.name, at),
+    }
+}
+
+/// A number. That of a test is its operator.
+#[tactic(auto, using(crate::proofs::FaultLemmas::least_fault_append))]
+fn integer<'a, K: Known>(
+    best: Best<'a>,
+    known: &'a K,
+    act: &'a Act,
+    argument: &'a Argument,
+) -> Best<'a>
+    ensures { let k = K.known known.now in
+        result ≡ least_fault best.entry (spec.integer_faults k act.now argument.now) }
+{
+    let best = value(best, known, act, &Kind::Int, argument);
+    if is_test(act.name) {
+        operator(best, known, act, argument)
+    } else {
+        best
+    }
+}
+
+fn is_test(action: ActionName) -> bool
+    ensures { result ≡ spec.is_test action }
+{
+    matches!(action, ActionName::TestVariable)
+}
+
+/// An operator, which the variable that is tested has to have.
+fn operator<'a, K: Known>(
+    best: Best<'a>,
+    known: &'a K,
+    act: &'a Act,
+    argument: &'a Argument,
+) -> Best<'a>
+    ensures { let k = K.known known.now in
+        result ≡ least_fault best.entry (spec.operator_faults k act.now argument.now) }
+{
+    match argument {
+        Argument::Direct(Value::Int(number)) => untaken(
+            best,
+            known,
+            act,
+            &ComparedBy(Operator::of_number(*number)),
+        ),
+        Argument::Through(at, _) => operator_through(best, known, act, at, known.number(at)),
+        _ => best,
+    }
+}
+
+/// The operator that a variable holds. One of which nothing is known is wrong.
+fn operator_through<'a, K: Known>(
+    best: Best<'a>,
+    known: &K,
+    act: &Act,
+    at: &'a ObjRef,
+    number: Option<i32>,
+) -> Best<'a>
+    ensures { let k = K.known known.now in
+        result ≡ least_fault best.entry (spec.unfit_through k act.now at.now number) }
+{
+    match number {
+        Some(number) => untaken_through(
+            best,
+            known,
+            act,
+            &ComparedBy(Operator::of_number(number)),
+            at,
+        ),
+        None => found(best, FaultKind::WrongKind, act.name, at),
+    }
+}

@@ -1,0 +1,99 @@
+//! Tests of the kind of a value, where a place of an action takes more than one.
+ghost use Rattle.std.specs.Prelude.{◌≡◌};
+ghost use Rattle.mh_model.specs.Faults as spec;
+
+use crate::Operator;
+use crate::kinds::{compares, converts, same_kind};
+use mh_base::Kind;
+use mh_group::ActionName;
+
+/// A test of kinds.
+pub(crate) trait Fit {
+    ghost use Rattle.std.specs.Prelude.{Bool};
+    ghost use Rattle.mh_base.specs.declared.value.Kind.{Kind as KindLem};
+
+    /// Which kinds pass.
+    ghost fits: { Self → KindLem → Bool };
+
+    /// Whether the kind passes.
+    fn fits(&self, kind: Kind) -> bool
+        ensures { result ≡ fits self.now kind };
+}
+
+/// A kind alone.
+impl Fit for Kind {
+    ghost use Rattle.mh_model.specs.Variables.{same_kind};
+
+    ghost fits = { same_kind };
+
+    fn fits(&self, kind: Kind) -> bool {
+        same_kind(*self, kind)
+    }
+}
+
+/// What a visible can show.
+#[derive(Clone, Copy)]
+pub(crate) struct OfContent;
+
+impl Fit for OfContent {
+    ghost use Rattle.mh_model.specs.Faults.{is_content_kind};
+
+    ghost fits = { λ _ kind. is_content_kind kind };
+
+    fn fits(&self, kind: Kind) -> bool {
+        matches!(kind, Kind::Octets | Kind::Content)
+    }
+}
+
+/// The data of events.
+#[derive(Clone, Copy)]
+pub(crate) struct OfData;
+
+impl Fit for OfData {
+    ghost use Rattle.mh_model.specs.Faults.{is_data_kind};
+
+    ghost fits = { λ _ kind. is_data_kind kind };
+
+    fn fits(&self, kind: Kind) -> bool {
+        matches!(kind, Kind::Bool | Kind::Int)
+    }
+}
+
+/// The kinds of variables with which an action does what it does by a value of this kind.
+#[derive(Clone, Copy)]
+pub(crate) struct GoesWith {
+    pub(crate) action: ActionName,
+    pub(crate) from: Kind,
+}
+
+impl Fit for GoesWith {
+    ghost use Rattle.mh_model.specs.Faults.{goes_with};
+
+    ghost fits = { λ it to. goes_with it.action to it.from };
+
+    fn fits(&self, kind: Kind) -> bool {
+        match self.action {
+            ActionName::SetVariable => converts(kind, self.from),
+            _ => same_kind(kind, self.from),
+        }
+    }
+}
+
+/// The kinds whose values are compared by this operator; none, if it is no operator.
+#[derive(Clone, Copy)]
+pub(crate) struct ComparedBy(pub(crate) Option<Operator>);
+
+impl Fit for ComparedBy {
+    ghost use Rattle.std.specs.Prelude.{false};
+    ghost use Rattle.std.specs.Option.{option_map_or};
+    ghost use Rattle.mh_model.specs.Variables.{compares};
+
+    ghost fits = { λ it kind. option_map_or (compares kind) it.0 false };
+
+    fn fits(&self, kind: Kind) -> bool {
+        match self.0 {
+            Some(operator) => compares(kind, operator),
+            None => false,
+        }
+    }
+}

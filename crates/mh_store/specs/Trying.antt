@@ -1,0 +1,34 @@
+-- What comes of a change that is given to a group which may have the object, or not.
+use Rattle.std.specs.Prelude.{List, [], Option, Some, None, unwrap_or}
+use Rattle.mh_base.specs.declared.obj_ref.ObjRef.{ObjRef}
+use Rattle.mh_base.specs.declared.value.Value.{Value}
+use Rattle.mh_group.specs.Table.{is_visible}
+use Rattle.mh_model.specs.declared.edit.Edit.{Edit}
+use Rattle.mh_model.specs.declared.object.Object.{Object}
+use Rattle.mh_model.specs.Bodies.{given}
+use Rattle.mh_model.specs.Edits.{edited}
+use Rattle.mh_model.specs.Rules.{changed_in}
+use Rattle.mh_store.specs.declared.tried.Tried.{Tried}
+use Rattle.mh_store.specs.declared.tried.Tried.TheVariants as trying
+
+-- where the object is there, whether it is a visible; else the change
+abbrev pub tried : Edit → Option Object → Tried
+tried e None = trying.Left e
+tried e (Some o) = trying.Done (is_visible o.fixed.class)
+
+-- what is left of what was given: all of it, where there is no such object
+abbrev pub left_over : {X : Type 0} → X → Option Object → Option X
+left_over x None = Some x
+left_over x (Some o) = None
+
+-- the objects of a scene, if there is one
+abbrev pub of_scene : Option (List Object) → List Object
+of_scene os = unwrap_or os []
+
+-- the objects with the change carried out on the one at the reference
+abbrev pub edited_in : Edit → ObjRef → List Object → List Object
+edited_in e r os = changed_in (λ _ b. edited e b) r os
+
+-- the objects with the value given to the one at the reference
+abbrev pub given_in : Value → ObjRef → List Object → List Object
+given_in v r os = changed_in (λ _ b. given v b) r os

@@ -1,0 +1,114 @@
+//! Tables of cases. A table is a text: each case is a question of one or more lines, `=> ` and its answer,
+//! and perhaps ` -- ` and what is said of it, with one space or a line's end in front of the case and of
+//! the sign; and behind each case but the last stands `;;`.
+//!
+//! Where a table writes bytes, `|` is a line feed, a line's end is a space, and what stands between
+//! backslashes is hexadecimal.
+use hex::FromHexError;
+use std::alloc::Global;
+use std::process::Abort;
+
+/// How questions of a kind are answered.
+pub trait Question {
+    /// The answer to what is asked, which is also given as bytes. None where the question cannot be read.
+    fn answer(alloc: Global, asked: &str, bytes: &[u8]) -> Option<Vec<u8>>;
+}
+
+fn put_octets(alloc: Global, bytes: &mut Vec<u8>, words: &str) -> Result<(), FromHexError> {
+    for word in words.split_whitespace() {
+        bytes.extend_from_slice(hex::decode(alloc, word)?.as_slice())?;
+    }
+    Ok(())
+}
+
+fn put_text(bytes: &mut Vec<u8>, text: &str) -> Option<()> {
+    for byte in text.as_bytes() {
+        let byte = match *byte {
+            b'|' => b'\n',
+            b'\n' => b' ',
+            other => other,
+        };
+        bytes.push(byte).ok()?;
+    }
+    Some(())
+}
+
+/// The bytes that a table writes so.
+pub fn bytes(alloc: Global, written: &str) -> Option<Vec<u8>> {
+    let mut bytes = Vec::new(alloc);
+    let mut is_text = true;
+    for piece in written.split('\\') {
+        if is_text {
+            put_text(&mut bytes, piece)?;
+        } else {
+            put_octets(alloc, &mut bytes, piece).ok()?;
+        }
+        is_text = !is_text;
+    }
+    Some(bytes)
+}
+
+/// An answer of these bytes.
+pub fn said(alloc: Global, answer: &[u8]) -> Option<Vec<u8>> {
+    Vec::from_slice(alloc, answer).ok()
+}
+
+/// An answer of a number and a place.
+pub fn placed(alloc: Global, number: u32, place: usize) -> Option<Vec<u8>> {
+    Some(format!(in alloc; "{number} {place}").ok()?.into_bytes())
+}
+
+/// The word at this place of a question.
+pub fn word(asked: &str, at: usize) -> &str {
+    asked.split(' ').nth(at).unwrap_or("")
+}
+
+/// The number at this place of a question.
+pub fn number(asked: &str, at: usize) -> Option<u32> {
+    word(asked, at).parse::<u32>().ok()
+}
+
+/// The bytes of a question behind its first word.
+pub fn behind<'a>(asked: &str, bytes: &'a [u8]) -> Option<&'a [u8]> {
+    bytes.get(word(asked, 0).len() + 1..)
+}
+
+pub fn are(found: Option<Vec<u8>>, wanted: &[u8]) -> bool {
+    match found {
+        Some(found) => found.as_slice() == wanted,
+        None => false,
+    }
+}
+
+/// The case without what is said of it in the end.
+fn bare(case: &str) -> &str {
+    match case.split_once(" -- ") {
+        Some((case, _)) => case,
+        None => case,
+    }
+}
+
+fn is_answered<Q: Question>(alloc: Global, case: &str) -> Option<bool> {
+    let (asked, wanted) = bare(case.get(1..)?).split_once("=> ")?;
+    let asked = asked.get(..asked.len().checked_sub(1)?)?;
+    let question = bytes(alloc, asked)?;
+    let wanted = bytes(alloc, wanted)?;
+    let found = Q::answer(alloc, asked, question.as_slice());
+    Some(are(found, wanted.as_slice()))
+}
+
+/// The first case with another answer, or nothing.
+fn first_wrong<Q: Question>(alloc: Global, table: &'static str) -> &'static str {
+    for case in table.split(";;") {
+        if is_answered::<Q>(alloc, case) != Some(true) {
+            return case;
+        }
+    }
+    ""
+}
+
+/// Asserts that each question of the table has its answer.
+pub fn all_hold<Q: Question>(rt: &impl Abort, alloc: Global, table: &'static str) {
+    let wrong = first_wrong::<Q>(alloc, table);
+    assert!(rt; wrong.is_empty(), "{wrong}");
+}
