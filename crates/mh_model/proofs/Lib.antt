@@ -5,5 +5,6 @@ pub mod PaintingLemmas
 pub mod PartLemmas
 pub mod ServiceLemmas
 pub mod FaultLemmas
+pub mod DescribingLemmas
 pub mod WorkLemmas
 pub mod SafeLemmas

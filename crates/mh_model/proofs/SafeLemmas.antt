@@ -1,6 +1,6 @@
 -- A safe state stays safe, and in a safe state nothing is stuck.
-use Rattle.std.specs.Prelude.{◌≡◌, ℕ, ◌+◌, ◌==◌, Bool, true, false, if◌then◌else◌, cond, List, [], ◌∷◌, ◌++◌, drop, filter, slice_get, Option, Some, None, refl}
-use Rattle.std.specs.List.{list_all}
+use Rattle.std.specs.Prelude.{◌≡◌, ℕ, ◌+◌, ◌==◌, Bool, true, false, ◌||◌, if◌then◌else◌, cond, List, [], ◌∷◌, ◌++◌, drop, filter, slice_get, Option, Some, None, refl}
+use Rattle.std.specs.List.{list_all, list_any}
 use Rattle.std.specs.Option.{option_map, option_map_or, option_or}
 use Rattle.std.specs.Str.{bytes_eq}
 use Rattle.std.proofs.Common.{inl, inr, ap, ◌∙◌, sym, subst, append_assoc, append-nil}
@@ -36,23 +36,23 @@ use Rattle.mh_model.specs.declared.item.Item.{Item}
 use Rattle.mh_model.specs.declared.item.Item.TheVariants as item
 use Rattle.mh_model.specs.declared.object.Fixed.{Fixed}
 use Rattle.mh_model.specs.declared.object.Object.{Object}
-use Rattle.mh_model.specs.declared.operator.Operator.{Operator}
 use Rattle.mh_model.specs.declared.sort.Sort.{Sort}
 use Rattle.mh_model.specs.declared.sort.Sort.TheVariants as sort
 use Rattle.mh_model.specs.Key.{passes}
-use Rattle.mh_model.specs.Property.{value_held, as_reference}
+use Rattle.mh_model.specs.Property.{as_reference}
 use Rattle.mh_model.specs.Service.{Service, same_ref, part_at, object_at, parts, group_ref, group_parts, with_parts, is_in}
 use Rattle.mh_model.specs.State.{State, Objects, all, begun}
 use Rattle.mh_model.specs.Items.{heard, leaving}
 use Rattle.mh_model.specs.Lifecycle.{emit_if, is_available_at, is_running_at, is_unavailable_at, is_stopped_at, is_unprepared_at}
-use Rattle.mh_model.specs.Variables.{operator_of}
 use Rattle.mh_model.specs.Known.{Known, known_before, class_at, as_integer}
 use Rattle.mh_model.specs.Faults.{is_transition, admitted_faults, named_faults, takes_object, arguments_faults, faults, fault_known}
 use Rattle.mh_model.specs.Stuck.{stuck}
 use Rattle.mh_model.specs.Sort.{sort_of}
 use Rattle.mh_model.specs.Arguments.{values, receivers, held_by}
 use Rattle.mh_model.specs.Bodies.{prepared, started, halted, dropped, given, changed_by}
-use Rattle.mh_model.specs.Saying.{answers_at, event_numbered, sent, tested, put_items, put_items_at}
+use Rattle.mh_model.specs.Saying.{answers_at, put_items, put_items_at}
+use Rattle.mh_model.specs.Describing.{Piece, is_sent, can_put, IsOf, IsOneOf, AreOf}
+use Rattle.mh_model.specs.Describing as piece
 use Rattle.mh_model.specs.Rules.{changed, filled, rule_by, transition_rule, emitted, stays, rule}
 use Rattle.mh_model.specs.Step.{register_of, key_event, key_items, took, done, did, step_by, step, is_full, posted, most_steps, stepped, moved, run}
 use Rattle.mh_model.specs.Configuration.{is_group_of, is_service, scene_parts, present, is_among}
@@ -60,6 +60,7 @@ use Rattle.mh_model.specs.Active.{active_actions, is_none, is_direct, are_direct
 use Rattle.mh_model.specs.Acceptable.{IsAcceptable, leads_into}
 use Rattle.mh_model.specs.Safe.{config_of, is_there, is_fine, IsPartOf, IsSafeItem, behind, IsSafeWork, IsSafe, is_scene_if_any, has_origin}
 use Rattle.mh_model.specs.Headline.{fault_at, front_fault, IsFaultless, NeverStuck}
+use Rattle.mh_model.proofs.DescribingLemmas.{puts_of}
 use Rattle.mh_model.proofs.FaultLemmas.{none_wrong, empty_left, empty_right, fit_object, knowing, direct_free}
 use Rattle.mh_model.proofs.PartLemmas.{found_there, parts-fresh, parts-all, changed-own, changed-others}
 use Rattle.mh_model.proofs.ServiceLemmas.{and_left, and_right, all_both, all_joined, found, same_ref-same, is_there_left, is_there_right, group_is_there, group_parts_in, group_parts_whole, present_whole}
@@ -173,57 +174,54 @@ named_there v ps n r e =
     by None c e = absurd cc
     by (Some p) c e = refl
 
-safe_sent : (v : Service) (cs : List Config) (c : Config) (source r : ObjRef) (o : Object) (more : List Value) (rest : List Item) → is_there source (present v c) ≡ true → IsSafeWork v cs c rest → IsSafeWork v cs c (put_items action.SendEvent (value.Object source ∷ more) r o ++ rest)
-safe_sent v cs c source r o [] rest there_it k = k
-safe_sent v cs c source r o (value.Int kind ∷ more) rest there_it k = by (event_numbered kind)
-  where
-    by : (m : Option EventType) → IsSafeWork v cs c (sent source m more ++ rest)
-    by None = k
-    by (Some e) = (there_it, k)
-safe_sent v cs c source r o (value.Bool b ∷ more) rest there_it k = k
-safe_sent v cs c source r o (value.Octets b ∷ more) rest there_it k = k
-safe_sent v cs c source r o (value.Object b ∷ more) rest there_it k = k
-safe_sent v cs c source r o (value.Content b ∷ more) rest there_it k = k
+-- what is written first is there, where an event of it is sent
+first_there : (v : Service) (c : Config) (os : List Object) (a : Act) (xs : List Argument) (q : ObjRef) → are_direct (need.Ref ∷ need.Event ∷ need.Data ∷ []) xs ≡ true → arguments_faults (known_before v (present v c)) a (need.Ref ∷ need.Event ∷ need.Data ∷ []) xs ≡ [] → slice_get (values os xs) 0 ≡ Some (value.Object q) → is_there q (present v c) ≡ true
+first_there v c os a [] q d e first = absurd cc
+first_there v c os a (argument.Direct (value.Object x) ∷ xs) q d e first =
+    subst (λ (y : ObjRef). is_there y (present v c) ≡ true) (ap (λ (m : Option Value). option_map_or (λ (y : ObjRef). y) (as_reference m) x) first)
+    (named_there v (present v c) a.name x (empty_left _ (arguments_faults (known_before v (present v c)) a (need.Event ∷ need.Data ∷ []) xs) e))
+first_there v c os a (argument.Direct (value.Bool b) ∷ xs) q d e first = absurd cc
+first_there v c os a (argument.Direct (value.Int b) ∷ xs) q d e first = absurd cc
+first_there v c os a (argument.Direct (value.Octets b) ∷ xs) q d e first = absurd cc
+first_there v c os a (argument.Direct (value.Content b) ∷ xs) q d e first = absurd cc
+first_there v c os a (argument.Through x t ∷ xs) q d e first = absurd cc
+first_there v c os a (argument.Receiver x ∷ xs) q d e first = absurd cc
 
--- an event that is sent, by what is written first
-safe_send : (v : Service) (cs : List Config) (c : Config) (os : List Object) (r : ObjRef) (o : Object) (a : Act) (xs : List Argument) (rest : List Item) → are_direct (need.Ref ∷ need.Event ∷ need.Data ∷ []) xs ≡ true → arguments_faults (known_before v (present v c)) a (need.Ref ∷ need.Event ∷ need.Data ∷ []) xs ≡ [] → IsSafeWork v cs c rest → IsSafeWork v cs c (put_items action.SendEvent (values os xs) r o ++ rest)
-safe_send v cs c os r o a [] rest d e k = k
-safe_send v cs c os r o a (argument.Direct (value.Object q) ∷ xs) rest d e k =
-    safe_sent v cs c q r o (values os xs) rest (named_there v (present v c) a.name q (empty_left _ (arguments_faults (known_before v (present v c)) a (need.Event ∷ need.Data ∷ []) xs) e)) k
-safe_send v cs c os r o a (argument.Direct (value.Bool b) ∷ xs) rest d e k = absurd cc
-safe_send v cs c os r o a (argument.Direct (value.Int b) ∷ xs) rest d e k = absurd cc
-safe_send v cs c os r o a (argument.Direct (value.Octets b) ∷ xs) rest d e k = absurd cc
-safe_send v cs c os r o a (argument.Direct (value.Content b) ∷ xs) rest d e k = absurd cc
-safe_send v cs c os r o a (argument.Through q t ∷ xs) rest d e k = absurd cc
-safe_send v cs c os r o a (argument.Receiver q ∷ xs) rest d e k = absurd cc
+named_first : (v : Service) (c : Config) (os : List Object) (n : ActionName) (a : Act) (xs : List Argument) (q : ObjRef) → are_direct (needs_of n) xs ≡ true → arguments_faults (known_before v (present v c)) a (needs_of n) xs ≡ [] → list_any is_sent (can_put n) ≡ true → slice_get (values os xs) 0 ≡ Some (value.Object q) → is_there q (present v c) ≡ true
+named_first v c os action.SendEvent a xs q d e sends first = first_there v c os a xs q d e first
+named_first v c os _ a xs q d e sends first = absurd cc
 
--- the event of a test comes from what is tested
-safe_tested : (v : Service) (cs : List Config) (c : Config) (r : ObjRef) (m : Option Operator) (held : Option Value) (x : Value) (rest : List Item) → is_there r (present v c) ≡ true → IsSafeWork v cs c rest → IsSafeWork v cs c (tested r m held x ++ rest)
-safe_tested v cs c r None held x rest there_it k = k
-safe_tested v cs c r (Some o) None x rest there_it k = k
-safe_tested v cs c r (Some o) (Some h) x rest there_it k = (there_it, k)
+-- an item of a piece, in front of safe work
+safe_piece : (v : Service) (cs : List Config) (c : Config) (r : ObjRef) (vs : List Value) (p : Piece) (i : Item) (rest : List Item) → IsOf r vs p i → is_there r (present v c) ≡ true → (is_sent p ≡ true → (q : ObjRef) → slice_get vs 0 ≡ Some (value.Object q) → is_there q (present v c) ≡ true) → IsSafeWork v cs c rest → IsSafeWork v cs c (i ∷ rest)
+safe_piece v cs c r vs piece.Prepares (item.Prepare x) rest of here_it named k = (tt, k)
+safe_piece v cs c r vs piece.Runs (item.Run x) rest of here_it named k = (tt, k)
+safe_piece v cs c r vs piece.Halts (item.Halt x) rest of here_it named k = (tt, k)
+safe_piece v cs c r vs piece.Drops (item.Drop x) rest of here_it named k = (tt, k)
+safe_piece v cs c r vs (piece.Tells kind) (item.Emit e) rest of here_it named k = (subst (λ (x : ObjRef). is_there x (present v c) ≡ true) (sym of.0) here_it, k)
+safe_piece v cs c r vs piece.Sends (item.Emit e) rest of here_it named k = (named refl e.source of, k)
+safe_piece v cs c r vs _ _ rest of here_it named k = absurd cc
 
-safe_test : (v : Service) (cs : List Config) (c : Config) (r : ObjRef) (o : Object) (vs : List Value) (rest : List Item) → is_there r (present v c) ≡ true → IsSafeWork v cs c rest → IsSafeWork v cs c (put_items action.TestVariable vs r o ++ rest)
-safe_test v cs c r o [] rest there_it k = k
-safe_test v cs c r o (value.Int n ∷ []) rest there_it k = k
-safe_test v cs c r o (value.Int n ∷ x ∷ []) rest there_it k = safe_tested v cs c r (operator_of n) (value_held o.fixed o.body) x rest there_it k
-safe_test v cs c r o (value.Int n ∷ x ∷ y ∷ vs) rest there_it k = k
-safe_test v cs c r o (value.Bool b ∷ vs) rest there_it k = k
-safe_test v cs c r o (value.Octets b ∷ vs) rest there_it k = k
-safe_test v cs c r o (value.Object b ∷ vs) rest there_it k = k
-safe_test v cs c r o (value.Content b ∷ vs) rest there_it k = k
+or_first : (a b : Bool) → a ≡ true → (a || b) ≡ true
+or_first true b h = refl
+or_first false b h = absurd cc
+
+or_second : (a b : Bool) → b ≡ true → (a || b) ≡ true
+or_second true b h = refl
+or_second false b h = h
+
+safe_one : (v : Service) (cs : List Config) (c : Config) (r : ObjRef) (vs : List Value) (ps : List Piece) (i : Item) (rest : List Item) → IsOneOf r vs ps i → is_there r (present v c) ≡ true → (list_any is_sent ps ≡ true → (q : ObjRef) → slice_get vs 0 ≡ Some (value.Object q) → is_there q (present v c) ≡ true) → IsSafeWork v cs c rest → IsSafeWork v cs c (i ∷ rest)
+safe_one v cs c r vs [] i rest of here_it named k = absurd cc
+safe_one v cs c r vs (p ∷ ps) i rest (inl of) here_it named k = safe_piece v cs c r vs p i rest of here_it (λ h. named (or_first (is_sent p) (list_any is_sent ps) h)) k
+safe_one v cs c r vs (p ∷ ps) i rest (inr of) here_it named k = safe_one v cs c r vs ps i rest of here_it (λ h. named (or_second (is_sent p) (list_any is_sent ps) h)) k
+
+safe_all : (v : Service) (cs : List Config) (c : Config) (r : ObjRef) (vs : List Value) (ps : List Piece) (is rest : List Item) → AreOf r vs ps is → is_there r (present v c) ≡ true → (list_any is_sent ps ≡ true → (q : ObjRef) → slice_get vs 0 ≡ Some (value.Object q) → is_there q (present v c) ≡ true) → IsSafeWork v cs c rest → IsSafeWork v cs c (is ++ rest)
+safe_all v cs c r vs ps [] rest of here_it named k = k
+safe_all v cs c r vs ps (i ∷ is) rest of here_it named k = safe_one v cs c r vs ps i (is ++ rest) of.0 here_it named (safe_all v cs c r vs ps is rest of.1 here_it named k)
 
 -- what an action puts that is done to an object that is there
 safe_put : (v : Service) (cs : List Config) (c : Config) (os : List Object) (r : ObjRef) (o : Object) (n : ActionName) (a : Act) (xs : List Argument) (rest : List Item) → are_direct (needs_of n) xs ≡ true → arguments_faults (known_before v (present v c)) a (needs_of n) xs ≡ [] → is_there r (present v c) ≡ true → IsSafeWork v cs c rest → IsSafeWork v cs c (put_items n (values os xs) r o ++ rest)
-safe_put v cs c os r o action.Run a xs rest d e there_it k = (tt, k)
-safe_put v cs c os r o action.Stop a xs rest d e there_it k = (tt, k)
-safe_put v cs c os r o action.Preload a xs rest d e there_it k = (tt, k)
-safe_put v cs c os r o action.Unload a xs rest d e there_it k = (tt, (tt, k))
-safe_put v cs c os r o action.Activate a xs rest d e there_it k = (tt, k)
-safe_put v cs c os r o action.Deactivate a xs rest d e there_it k = (tt, k)
-safe_put v cs c os r o action.SendEvent a xs rest d e there_it k = safe_send v cs c os r o a xs rest d e k
-safe_put v cs c os r o action.TestVariable a xs rest d e there_it k = safe_test v cs c r o (values os xs) rest there_it k
-safe_put v cs c os r o _ a xs rest d e there_it k = k
+safe_put v cs c os r o n a xs rest d e here_it k =
+    safe_all v cs c r (values os xs) (can_put n) (put_items n (values os xs) r o) rest (puts_of n (values os xs) r o) here_it (λ sends q. named_first v c os n a xs q d e sends) k
 
 -- an action with which nothing is wrong, by what kind of thing it does
 safe_by_sort : (s : State) (k : IsSafe s) (o : Sort) (a : Act) (r : ObjRef) (rest : List Item) (n : ℕ) → are_direct (needs_of a.name) a.arguments ≡ true → admitted_faults (known_before s.service (present s.service (config_of s))) a.name r ≡ [] → arguments_faults (known_before s.service (present s.service (config_of s))) a (needs_of a.name) a.arguments ≡ [] → option_map_or (is_among k.accepted.reached) (leads_to s.service (config_of s) a.name (target.Direct r)) true ≡ true → IsSafeWork s.service k.accepted.reached (config_of s) rest → IsSafe (rule_by o a.name (values (all s.objects) a.arguments) (receivers a.arguments) r (record s { work = rest; taken = n }))

@@ -14,6 +14,7 @@ pub mod Bodies
 pub mod Edits
 pub mod Lifecycle
 pub mod Saying
+pub mod Describing
 pub mod Rules
 pub mod Step
 pub mod Planes

@@ -1,4 +1,7 @@
 //! Elementary actions as they are written, with their names resolved.
+ghost use Rattle.std.specs.Prelude.{◌≡◌};
+ghost use Rattle.mh_model.specs.Faults as spec;
+
 use mh_base::{Kind, ObjRef, Shared, Value};
 use mh_group::ActionName;
 
@@ -8,6 +11,18 @@ pub enum Target {
     Direct(ObjRef),
     /// The object to which this variable refers when the action is done.
     Through(ObjRef),
+}
+
+impl Target {
+    /// The reference that is written: of the object, or of the variable.
+    pub fn written_at(&self) -> &ObjRef
+        ensures { result.now ≡ spec.written_at self.now }
+    {
+        match self {
+            Target::Direct(at) => at,
+            Target::Through(variable) => variable,
+        }
+    }
 }
 
 /// A parameter of an action.

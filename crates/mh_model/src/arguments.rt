@@ -8,7 +8,7 @@ ghost use Rattle.mh_model.specs.Faults.{least_fault};
 use crate::fit::{ComparedBy, Fit, GoesWith, OfContent, OfData};
 use crate::kinds::kind_of;
 use crate::known::Known;
-use crate::places::{named, untaken, untaken_through, variable, written_at};
+use crate::places::{named, untaken, untaken_through, variable};
 use crate::wrong::{Best, found, unless};
 use crate::{Act, Argument, FaultKind, Operator};
 use mh_base::{Kind, ObjRef, Value};
@@ -85,7 +85,7 @@ fn value<'a, K: Known, F: Fit>(
                 fits,
                 FaultKind::WrongKind,
                 act.name,
-                written_at(&act.target),
+                act.target.written_at(),
             )
         }
         Argument::Through(at, _) => variable(best, fit, act.name, at, known.class_of(at)),
@@ -109,7 +109,7 @@ fn receiver<'a, K: Known>(
             best,
             FaultKind::WrongKind,
             act.name,
-            written_at(&act.target),
+            act.target.written_at(),
         ),
         Argument::Through(at, _) => found(best, FaultKind::WrongKind, act.name, at),
         Argument::Receiver(at) => variable(best, &kind, act.name, at, known.class_of(at)),
@@ -132,7 +132,7 @@ fn reference<'a, K: Known>(
             best,
             FaultKind::WrongKind,
             act.name,
-            written_at(&act.target),
+            act.target.written_at(),
         ),
         Argument::Through(at, _) => {
             let best = variable(best, &Kind::Object, act.name, at, known.class_of(at));
@@ -157,27 +157,12 @@ fn typed<'a, K: Known>(
         result ≡ least_fault best.entry (spec.typed_faults k act.now argument.now) }
 {
     match argument {
-        Argument::Direct(value) => untaken(
-            best,
-            known,
-            act,
-            &GoesWith {
-                action: act.name,
-                from: kind_of(value),
-            },
-        ),
+        Argument::Direct(value) => {
+            untaken(best, known, act, &GoesWith(act.name, kind_of(value)))
+        }
         Argument::Through(at, Some(kind)) => {
             let best = variable(best, kind, act.name, at, known.class_of(at));
-            untaken_through(
-                best,
-                known,
-                act,
-                &GoesWith {
-                    action: act.name,
-                    from: *kind,
-                },
-                at,
-            )
+            untaken_through(best, known, act, &GoesWith(act.name, *kind), at)
         }
         Argument::Through(at, None) => found(best, FaultKind::WrongKind, act.name, at),
         Argument::Receiver(at) => found(best, FaultKind::WrongKind, act.name, at),

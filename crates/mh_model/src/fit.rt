@@ -61,20 +61,17 @@ impl Fit for OfData {
 
 /// The kinds of variables with which an action does what it does by a value of this kind.
 #[derive(Clone, Copy)]
-pub(crate) struct GoesWith {
-    pub(crate) action: ActionName,
-    pub(crate) from: Kind,
-}
+pub(crate) struct GoesWith(pub(crate) ActionName, pub(crate) Kind);
 
 impl Fit for GoesWith {
     ghost use Rattle.mh_model.specs.Faults.{goes_with};
 
-    ghost fits = { λ it to. goes_with it.action to it.from };
+    ghost fits = { λ it to. goes_with it.0 to it.1 };
 
     fn fits(&self, kind: Kind) -> bool {
-        match self.action {
-            ActionName::SetVariable => converts(kind, self.from),
-            _ => same_kind(kind, self.from),
+        match self.0 {
+            ActionName::SetVariable => converts(kind, self.1),
+            _ => same_kind(kind, self.1),
         }
     }
 }

@@ -8,6 +8,7 @@ pub mod act;
 mod arguments;
 pub mod cell;
 pub mod config;
+pub mod describing;
 pub mod edit;
 pub mod event;
 pub mod example;

@@ -190,13 +190,3 @@ fn target_at<'a, K: Known>(known: &'a K, target: &'a Target) -> Option<&'a ObjRe
         Target::Through(at) => known.refers(at),
     }
 }
-
-/// The reference that is written as a target.
-pub(crate) fn written_at(target: &Target) -> &ObjRef
-    ensures { result.now ≡ spec.written_at target.now }
-{
-    match target {
-        Target::Direct(at) => at,
-        Target::Through(at) => at,
-    }
-}

@@ -13,7 +13,7 @@ ghost use Rattle.std.specs.Cmp.Lexicographic.{slice_cmp};
 ghost use Rattle.mh_verify.specs.Kinds.{kind_number};
 ghost use Rattle.mh_verify.specs.Least.{lesser as lesser_lem, least_of};
 
-use crate::present::{Present, effects, is_direct, written_at};
+use crate::present::{Present, effects, is_direct};
 use crate::{Found, Place, RefusalKind};
 use mh_base::{GroupName, ObjRef};
 use mh_group::ActionName;
@@ -132,7 +132,7 @@ fn not_yet_at(scope: &Scope<'_>, key: &ObjRef, index: usize, act: &Act) -> Resul
     ensures { IfOk result (λ found. found
         ≡ not_yet_at_lem scope.now.config.now key.now index act.now) }
 {
-    let target = written_at(&act.target).clone()?;
+    let target = act.target.written_at().clone()?;
     refusal_at(scope, key, index, RefusalKind::NotYet, act.name, target)
 }
 

@@ -11,7 +11,6 @@ ghost use Rattle.mh_model.specs.Active.{is_direct_argument as is_direct_argument
 ghost use Rattle.mh_model.specs.Configuration.{present, scene_parts as scene_parts_lem};
 ghost use Rattle.mh_model.specs.Property.{held, as_value};
 ghost use Rattle.mh_model.specs.Service.{part_at as part_at_lem};
-ghost use Rattle.mh_model.specs.Faults.{written_at as written_at_lem};
 
 use mh_base::{GroupName, ObjRef, Value};
 use mh_group::{Attribute, Class, Need};
@@ -184,16 +183,6 @@ fn is_direct_argument(need: Need, argument: &Argument) -> bool
     ensures { result ≡ is_direct_argument_lem need argument.now }
 {
     !(matches!(need, Need::Ref) && matches!(argument, Argument::Through(_, _)))
-}
-
-/// The reference that is written as a target.
-pub fn written_at(target: &Target) -> &ObjRef
-    ensures { result.now ≡ written_at_lem target.now }
-{
-    match target {
-        Target::Direct(at) => at,
-        Target::Through(variable) => variable,
-    }
 }
 
 /// The configuration to which the action leads, if it leads anywhere.

@@ -1,0 +1,8 @@
+use Rattle.mh_model.proofs.DescribingLemmas.{gives_said, answers_plain}
+use Rattle.mh_model.proofs.describing.gives_what_it_says.Goals as goal
+
+pub returns-clause-given : goal.returns-clause-given
+returns-clause-given c = gives_said
+
+pub returns-clause-answered : goal.returns-clause-answered
+returns-clause-answered c = answers_plain

@@ -1,0 +1,21 @@
+//! What follows from an action beforehand, against its rule.
+ghost use Rattle.mh_model.specs.Describing.{PutsWhatItCan, GivesWhatItSays, AnswersNoReference};
+ghost use Rattle.mh_model.specs.Describing.{EmitsWhatIsListed, ListsWhatIsEmitted};
+
+/// The law that what an action puts is of the pieces that its description lists.
+pub fn puts_what_it_can()
+    ensures { PutsWhatItCan }
+{}
+
+/// The law that an action hands on no reference but those that its description says, and answers none.
+pub fn gives_what_it_says()
+    ensures given { GivesWhatItSays }
+    ensures answered { AnswersNoReference }
+{}
+
+/// The law that the events which the table lists for an action and a class are those that come of it:
+/// each that comes is listed, and each that is listed can come.
+pub fn emits_what_is_listed()
+    ensures each { EmitsWhatIsListed }
+    ensures all { ListsWhatIsEmitted }
+{}
