@@ -1,12 +1,15 @@
 //! Whether an action can be done where these objects are present.
-ghost use Rattle.std.specs.Prelude.{◌≡◌, IfOk};
+ghost use Rattle.std.specs.Prelude.{◌≡◌, IfOk, Some};
 ghost use Rattle.mh_model.specs.Faults.{fault_known as fault_known_lem};
 ghost use Rattle.mh_model.specs.Known.{known_in};
 ghost use Rattle.mh_model.specs.State.{all};
+ghost use Rattle.mh_model.specs.Stuck.{member_fault};
 
-use crate::present::Present;
+use crate::present::{Present, present_class};
+use mh_base::ObjRef;
+use mh_group::ActionName;
 use mh_model::known::fault_known;
-use mh_model::{Act, Fault};
+use mh_model::{Act, Fault, FaultKind};
 use mh_service::Service;
 use mh_store::Objects;
 use std::alloc::AllocError;
@@ -21,4 +24,28 @@ pub fn why_stuck(
         ≡ fault_known_lem (known_in service.now (all objects.now)) act.now) }
 {
     fault_known(&Present { service, objects }, act)
+}
+
+/// What is wrong with running or stopping this member of a group of objects, if anything is. The action
+/// is the one that a fault names.
+pub fn why_member_stuck(
+    objects: &Objects,
+    action: ActionName,
+    at: &ObjRef,
+) -> Result<Option<Fault>, AllocError>
+    ensures { IfOk result (λ fault. fault ≡ member_fault action at.now (all objects.now)) }
+{
+    match present_class(objects, at) {
+        Some(class) if class.is_visible() => Ok(None),
+        Some(_) => fault(FaultKind::WrongClass, action, at),
+        None => fault(FaultKind::Absent, action, at),
+    }
+}
+
+fn fault(what: FaultKind, action: ActionName, at: &ObjRef) -> Result<Option<Fault>, AllocError>
+    ensures { IfOk result (λ fault. fault
+        ≡ Some (record { what = what; action = action; at = at.now })) }
+{
+    let at = at.clone()?;
+    Ok(Some(Fault { what, action, at }))
 }

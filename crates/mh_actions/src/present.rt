@@ -43,7 +43,8 @@ impl Known for Present<'_> {
     }
 }
 
-fn present_class(objects: &Objects, at: &ObjRef) -> Option<Class>
+/// The class of an object, if it is there.
+pub(crate) fn present_class(objects: &Objects, at: &ObjRef) -> Option<Class>
     ensures { result ≡ class_at at.now (parts (all objects.now)) }
 {
     object_class(objects.get(at))

@@ -1,5 +1,5 @@
 //! `Machine`: the state of the object machine, with the picture that it shows.
-ghost use Rattle.std.specs.Prelude.{◌≡◌, ◌+◌, ◌++◌, ◌∷◌, ◌<◌, ◌^◌, [], true, false, Some, None, if◌then◌else◌, IfOk, IfErr, OnOk, OnErr, map};
+ghost use Rattle.std.specs.Prelude.{◌≡◌, ◌+◌, ◌++◌, ◌∷◌, ◌<◌, ◌^◌, [], true, false, Some, None, if◌then◌else◌, IfOk, IfErr, OnOk, OnErr, Ok, map, vec_len};
 ghost use Rattle.mh_model.specs.Service.{group_parts, fresh, parts};
 ghost use Rattle.mh_model.specs.State.{begun, all};
 ghost use Rattle.mh_model.specs.Step.{posted, inputs, is_full as is_full_lem, is_idle as is_idle_lem};
@@ -181,13 +181,15 @@ fn prepare(alloc: Global, service: &Service) -> Result<Beginning, AllocError>
 {
     let application = service.start().clone()?;
     let parts = service.parts(&application);
-    let links = Links::of(alloc, parts, &[])?;
-    let objects = Objects::new(Group::fresh(alloc, &application, parts)?);
-    let work = Work::of_pieces(alloc, entrance(alloc, &application)?)?;
-    let picture = first_picture(alloc, &objects)?;
+    let entered = both(
+        Links::of(alloc, parts, &[]),
+        Group::fresh(alloc, &application, parts),
+    );
+    let shown = both(first_work(alloc, &application), first_picture(alloc));
+    let ((links, group), (work, picture)) = both(entered, shown)?;
     Ok(Beginning {
         application,
-        objects,
+        objects: Objects::new(group),
         links,
         work,
         picture,
@@ -204,17 +206,36 @@ fn waiting_inputs(queue: &VecDeque<Waiting>) -> usize
         .count()
 }
 
-fn first_picture(alloc: Global, objects: &Objects) -> Result<Picture, AllocError>
-    ensures { IfOk result (λ first. first ≡ picture_lem (all objects.now) []) }
+/// Both, where neither was refused memory.
+pub(crate) fn both<A: Drop, B: Drop>(
+    first: Result<A, AllocError>,
+    second: Result<B, AllocError>,
+) -> Result<(A, B), AllocError>
+    ensures { IfOk result (λ pair. (first ≡ Ok pair.0) × (second ≡ Ok pair.1)) }
 {
-    let mut picture = Picture::black(alloc)?;
-    paint(&mut picture, objects, &[]);
+    Ok((first?, second?))
+}
+
+/// The picture where nothing is on the display stack.
+fn first_picture(alloc: Global) -> Result<Picture, AllocError>
+    ensures { IfOk result (λ first. first ≡ picture_lem [] []) }
+{
+    let picture = Picture::black(alloc)?;
     Ok(picture)
+}
+
+/// The work at the start: the group is entered.
+fn first_work(alloc: Global, group: &GroupName) -> Result<Work, AllocError>
+    ensures { IfOk result (λ work. work.items ≡ Item.Enter group.now ∷ []) }
+{
+    let pieces = entrance(alloc, group)?;
+    Work::of_pieces(alloc, pieces)
 }
 
 /// What enters a group.
 pub(crate) fn entrance(alloc: Global, group: &GroupName) -> Result<Vec<Piece>, AllocError>
-    ensures { IfOk result (λ pieces. written pieces.items ≡ Item.Enter group.now ∷ []) }
+    ensures item { IfOk result (λ pieces. written pieces.items ≡ Item.Enter group.now ∷ []) }
+    ensures one { IfOk result (λ pieces. vec_len pieces ≡ 1) }
 {
     let mut pieces = Vec::new(alloc);
     pieces.push(Piece::One(Item::Enter(group.clone()?)))?;

@@ -13,13 +13,14 @@ ghost use Rattle.mh_machine.specs.Pieces.{written};
 use crate::Stepped;
 use crate::inputs::input_pieces;
 use crate::links::Links;
-use crate::machine::{Machine, entrance};
+use crate::machine::{Machine, both, entrance};
 use crate::painting::paint;
 use crate::piece::Piece;
 use crate::plan::Plan;
 use crate::work::Work;
-use mh_actions::judging::why_stuck;
+use mh_actions::judging::{why_member_stuck, why_stuck};
 use mh_base::{GroupName, ObjRef};
+use mh_group::ActionName;
 use mh_model::{Fault, Item, Waiting};
 use mh_store::Group;
 use std::alloc::AllocError;
@@ -83,6 +84,8 @@ impl Machine {
     {
         match item {
             Item::Act(act) => why_stuck(&self.service, &self.objects, act),
+            Item::RunMember(at) => why_member_stuck(&self.objects, ActionName::Run, at),
+            Item::HaltMember(at) => why_member_stuck(&self.objects, ActionName::Stop, at),
             _ => Ok(None),
         }
     }
@@ -107,8 +110,8 @@ impl Machine {
             Item::Emit(event) => return self.do_emit(event),
             Item::Enter(group) => return self.do_enter(group),
             Item::Prepare(at) => self.plan_prepare(at)?,
-            Item::Run(at) => self.plan_run(at)?,
-            Item::Halt(at) => self.plan_halt(at)?,
+            Item::Run(at) | Item::RunMember(at) => self.plan_run(at)?,
+            Item::Halt(at) | Item::HaltMember(at) => self.plan_halt(at)?,
             Item::Drop(at) => self.plan_drop(at)?,
             Item::Exchange(group) => return self.exchange(group),
         };
@@ -122,12 +125,14 @@ impl Machine {
         ensures done { OnOk result (self.new ≡ done (Item.Exchange group.now) self.old) }
         ensures kept { OnErr result (self.new ≡ self.old) }
     {
-        let scene = group.clone()?;
+        self.work.reserve(1)?;
         let parts = self.service.parts(group);
-        let links = Links::of(self.alloc, self.service.parts(&self.application), parts)?;
-        let objects = Group::fresh(self.alloc, group, parts)?;
-        let pieces = entrance(self.alloc, group)?;
-        self.work.reserve(pieces.len())?;
+        let entered = both(
+            Links::of(self.alloc, self.service.parts(&self.application), parts),
+            Group::fresh(self.alloc, group, parts),
+        );
+        let named = both(group.clone(), entrance(self.alloc, group));
+        let ((links, objects), (scene, pieces)) = both(entered, named)?;
         self.work.put_for_first(pieces);
         set_scene(&mut self.scene, scene);
         self.objects.exchange(objects);

@@ -17,7 +17,7 @@ use Rattle.mh_group.specs.declared.action_name.ActionName.{ActionName}
 use Rattle.mh_group.specs.declared.action_name.ActionName.TheVariants as action
 use Rattle.mh_group.specs.declared.class.Class.{Class}
 use Rattle.mh_group.specs.declared.shape.Need.TheVariants as need
-use Rattle.mh_group.specs.Table.{is_scene, is_application, needs_of}
+use Rattle.mh_group.specs.Table.{is_scene, is_application, is_visible, needs_of}
 use Rattle.mh_model.specs.declared.act.Act.{Act}
 use Rattle.mh_model.specs.declared.act.Argument.{Argument}
 use Rattle.mh_model.specs.declared.act.Argument.TheVariants as argument
@@ -25,6 +25,7 @@ use Rattle.mh_model.specs.declared.act.Target.{Target}
 use Rattle.mh_model.specs.declared.act.Target.TheVariants as target
 use Rattle.mh_model.specs.declared.config.Config.{Config}
 use Rattle.mh_model.specs.declared.event.Event.{Event}
+use Rattle.mh_model.specs.declared.fault.Fault.{Fault}
 use Rattle.mh_model.specs.declared.fault.Fault.{Fault}
 use Rattle.mh_model.specs.declared.input.Input.{Input}
 use Rattle.mh_model.specs.declared.input.Input.TheVariants as input
@@ -45,8 +46,8 @@ use Rattle.mh_model.specs.State.{State, Objects, all, begun}
 use Rattle.mh_model.specs.Items.{heard, leaving}
 use Rattle.mh_model.specs.Lifecycle.{emit_if, is_available_at, is_running_at, is_unavailable_at, is_stopped_at, is_unprepared_at}
 use Rattle.mh_model.specs.Known.{Known, known_before, class_at, as_integer}
-use Rattle.mh_model.specs.Faults.{is_transition, admitted_faults, named_faults, takes_object, arguments_faults, faults, fault_known}
-use Rattle.mh_model.specs.Stuck.{stuck}
+use Rattle.mh_model.specs.Faults.{is_transition, object_faults, admitted_faults, named_faults, takes_object, arguments_faults, faults, fault_known}
+use Rattle.mh_model.specs.Stuck.{member_fault, stuck}
 use Rattle.mh_model.specs.Sort.{sort_of}
 use Rattle.mh_model.specs.Arguments.{values, receivers, held_by}
 use Rattle.mh_model.specs.Bodies.{prepared, started, halted, dropped, given, changed_by}
@@ -358,6 +359,8 @@ safe_rule s k (item.Act a) rest n here_it behind_it = safe_action s k a rest n h
 safe_rule s k (item.Prepare r) rest n here_it behind_it = safe_prepare_item s k r rest n behind_it
 safe_rule s k (item.Run r) rest n here_it behind_it = safe_run_item s k r rest n behind_it
 safe_rule s k (item.Halt r) rest n here_it behind_it = safe_halt_item s k r rest n behind_it
+safe_rule s k (item.RunMember r) rest n here_it behind_it = safe_run_item s k r rest n behind_it
+safe_rule s k (item.HaltMember r) rest n here_it behind_it = safe_halt_item s k r rest n behind_it
 safe_rule s k (item.Drop r) rest n here_it behind_it = safe_drop_item s k r rest n behind_it
 safe_rule s k (item.Emit e) rest n here_it behind_it = safe_emitted s k e rest n here_it behind_it
 safe_rule s k (item.Enter g) rest n here_it behind_it =
@@ -365,6 +368,12 @@ safe_rule s k (item.Enter g) rest n here_it behind_it =
 safe_rule s k (item.Exchange g) rest n here_it behind_it = safe_exchange s k g rest n here_it behind_it
 
 -- Steps
+
+-- a member that is present and a visible
+free_member : (s : State) (k : IsSafe s) (n : ActionName) (r : ObjRef) → object_faults is_visible n r (class_at r (present s.service (config_of s))) ≡ [] → member_fault n r (all s.objects) ≡ None
+free_member s k n r h =
+    ap (λ (ps : List Fixed). slice_get (object_faults is_visible n r (class_at r ps)) 0) (parts_present s k)
+    ∙ ap (λ (fs : List Fault). slice_get fs 0) h
 
 -- an item that is safe in the configuration of a safe state is not stuck
 safe_item_free : (s : State) (k : IsSafe s) (i : Item) → IsSafeItem s.service k.accepted.reached (config_of s) i → stuck i s ≡ None
@@ -376,6 +385,8 @@ safe_item_free s k (item.Act a) h =
     ∙ direct_free s.service before (λ v. as_reference (held_by (object_at v now))) (λ v. as_integer (held_by (object_at v now))) a
     (and_right (is_none (fault_of s.service before a)) (is_direct a) good) (and_left (is_none (fault_of s.service before a)) (is_direct a) good)
 safe_item_free s k (item.Prepare r) h = refl
+safe_item_free s k (item.RunMember r) h = free_member s k action.Run r h
+safe_item_free s k (item.HaltMember r) h = free_member s k action.Stop r h
 safe_item_free s k (item.Drop r) h = refl
 safe_item_free s k (item.Run r) h = refl
 safe_item_free s k (item.Halt r) h = refl

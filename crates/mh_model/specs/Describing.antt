@@ -116,6 +116,8 @@ abbrev pub emits_of : ObjRef → Object → Item → List EventType
 emits_of r o (item.Prepare x) = kinds (prepare_items r (Some o))
 emits_of r o (item.Run x) = kinds (run_items r (Some o))
 emits_of r o (item.Halt x) = kinds (halt_items r (Some o))
+emits_of r o (item.RunMember x) = kinds (run_items r (Some o))
+emits_of r o (item.HaltMember x) = kinds (halt_items r (Some o))
 emits_of r o (item.Drop x) = kinds (drop_items r (Some o))
 emits_of r o (item.Emit e) = e.kind ∷ []
 emits_of r o i = []

@@ -116,6 +116,19 @@ exchange_rule g s = record s {
   work = item.Enter g ∷ s.work;
 }
 
+abbrev pub run_rule : ObjRef → State → State
+run_rule r s = record s {
+  objects = changed (λ p b. started b) r s.objects;
+  stack = with_risen (is_unprepared_at (object_at r (all s.objects))) r (object_at r (all s.objects)) s.stack;
+  work = run_items r (object_at r (all s.objects)) ++ s.work;
+}
+
+abbrev pub halt_rule : ObjRef → State → State
+halt_rule r s = record s {
+  objects = changed (λ p b. halted b) r s.objects;
+  work = halt_items r (object_at r (all s.objects)) ++ s.work;
+}
+
 abbrev pub rule : Item → State → State
 rule (item.Act a) s = act_rule a s
 rule (item.Prepare r) s = record s {
@@ -123,15 +136,10 @@ rule (item.Prepare r) s = record s {
   stack = with_risen (is_unavailable_at (object_at r (all s.objects))) r (object_at r (all s.objects)) s.stack;
   work = prepare_items r (object_at r (all s.objects)) ++ s.work;
 }
-rule (item.Run r) s = record s {
-  objects = changed (λ p b. started b) r s.objects;
-  stack = with_risen (is_unprepared_at (object_at r (all s.objects))) r (object_at r (all s.objects)) s.stack;
-  work = run_items r (object_at r (all s.objects)) ++ s.work;
-}
-rule (item.Halt r) s = record s {
-  objects = changed (λ p b. halted b) r s.objects;
-  work = halt_items r (object_at r (all s.objects)) ++ s.work;
-}
+rule (item.Run r) s = run_rule r s
+rule (item.Halt r) s = halt_rule r s
+rule (item.RunMember r) s = run_rule r s
+rule (item.HaltMember r) s = halt_rule r s
 rule (item.Drop r) s = record s {
   objects = changed (λ p b. dropped b) r s.objects;
   stack = without r s.stack;

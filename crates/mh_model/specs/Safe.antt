@@ -3,7 +3,8 @@ use Rattle.std.specs.Prelude.{◌≡◌, ◌⊎◌, ℕ, Bool, true, false, ◌&
 use Rattle.std.specs.List.{list_all}
 use Rattle.std.specs.Option.{option_map_or}
 use Rattle.mh_base.specs.declared.obj_ref.ObjRef.{ObjRef}
-use Rattle.mh_group.specs.Table.{is_scene, is_application}
+use Rattle.mh_group.specs.declared.action_name.ActionName.TheVariants as action
+use Rattle.mh_group.specs.Table.{is_scene, is_application, is_visible}
 use Rattle.mh_model.specs.declared.act.Act.{Act}
 use Rattle.mh_model.specs.declared.config.Config.{Config}
 use Rattle.mh_model.specs.declared.input.Waiting.{Waiting}
@@ -12,6 +13,8 @@ use Rattle.mh_model.specs.declared.item.Item.{Item}
 use Rattle.mh_model.specs.declared.item.Item.TheVariants as item
 use Rattle.mh_model.specs.declared.object.Fixed.{Fixed}
 use Rattle.mh_model.specs.Service.{Service, part_at, parts, group_parts}
+use Rattle.mh_model.specs.Faults.{object_faults}
+use Rattle.mh_model.specs.Known.{class_at}
 use Rattle.mh_model.specs.State.{State}
 use Rattle.mh_model.specs.Configuration.{is_group_of, scene_parts, present, is_among}
 use Rattle.mh_model.specs.Active.{is_good}
@@ -38,6 +41,8 @@ IsSafeItem v cs c (item.Act a) = is_fine v cs c a ≡ true
 IsSafeItem v cs c (item.Prepare r) = Unit {0}
 IsSafeItem v cs c (item.Run r) = Unit {0}
 IsSafeItem v cs c (item.Halt r) = Unit {0}
+IsSafeItem v cs c (item.RunMember r) = object_faults is_visible action.Run r (class_at r (present v c)) ≡ []
+IsSafeItem v cs c (item.HaltMember r) = object_faults is_visible action.Stop r (class_at r (present v c)) ≡ []
 IsSafeItem v cs c (item.Drop r) = Unit {0}
 IsSafeItem v cs c (item.Emit e) = is_there e.source (present v c) ≡ true
 IsSafeItem v cs c (item.Enter g) = IsPartOf c g
@@ -49,6 +54,8 @@ behind c (item.Act a) = c
 behind c (item.Prepare r) = c
 behind c (item.Run r) = c
 behind c (item.Halt r) = c
+behind c (item.RunMember r) = c
+behind c (item.HaltMember r) = c
 behind c (item.Drop r) = c
 behind c (item.Emit e) = c
 behind c (item.Enter g) = c

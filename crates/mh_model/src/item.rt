@@ -13,6 +13,10 @@ pub enum Item {
     Run(ObjRef),
     /// The object stops.
     Halt(ObjRef),
+    /// Run, put by a group of objects for this member of it.
+    RunMember(ObjRef),
+    /// Halt, put by a group of objects for this member of it.
+    HaltMember(ObjRef),
     /// The object is no longer available.
     Drop(ObjRef),
     /// The event is dealt with.

@@ -5,7 +5,7 @@ use Rattle.mh_machine.proofs.ChangeLemmas.{begun_parts, begun_own}
 use Rattle.mh_machine.proofs.machine.prepare.Goals as goal
 
 pub returns-clause-links : goal.returns-clause-links
-returns-clause-links c = subst (IsIndex c.in_ok-links.links) (sym (begun_parts c.parts-parts.result.now c.new-objects.result (search rules))) c.in_ok-links.ensures
+returns-clause-links c = subst (IsIndex c.in_ok-links.links) (sym (begun_parts c.parts-parts.result.now c.new.result (search rules))) (search rules)
 
 pub returns-clause-own : goal.returns-clause-own
-returns-clause-own c = begun_own (group_parts c.args.service.now c.args.service.now.start) c.new-objects.result (search rules)
+returns-clause-own c = begun_own (group_parts c.args.service.now c.args.service.now.start) c.new.result (search rules)

@@ -12,7 +12,7 @@ pub invariant_of-self-2 : goal.invariant_of-self-2
 invariant_of-self-2 c =
     exchanged _ _ c.self.inside.objects c.exchange.new.self c.parts-parts.result.now c.parts.result.now
     c.keep_places.new.stack.items c.as_slice.result.now c.in_ok-links.links c.paint.new.picture
-    (search rules) c.self.invariant.own c.parts.ensures.parts c.in_ok-links.ensures (sym c.as_slice.ensures.value) c.paint.ensures
+    (search rules) c.self.invariant.own c.parts.ensures.parts (search rules) (sym c.as_slice.ensures.value) c.paint.ensures
 
 pub returns-clause-done : goal.returns-clause-done
 returns-clause-done c =
