@@ -6,13 +6,13 @@
 ghost use Rattle.std.specs.Prelude.{◌≡◌, ◌-◌, ◌<◌, ◌^◌, false, Ok, IfOk, OnOk, OnErr, IsErrOf};
 ghost use Rattle.std.specs.Io.KnownBytes.{Appends};
 ghost use Rattle.mh_report.specs.Sink.{IsBeginning};
-ghost use Rattle.mh_report.specs.Report.{opening, script_lines, ended, status_of};
+ghost use Rattle.mh_report.specs.Report.{Session, opening, script_lines, ended, status_of};
 ghost use Rattle.mh_report.specs.Verdict.{refusal_lines};
 ghost use Rattle.mh_report.specs.Played.{complaint, readied, Plays, HasWritten, HasBegun};
 
 use crate::options::Options;
 use crate::play_error::PlayError;
-use crate::player::Player;
+use crate::player::{Player, Plays};
 use crate::reading::ready;
 use crate::saying::{complaint_text, refusal_text};
 use crate::script::Command;
@@ -22,7 +22,7 @@ use crate::unplayable::Unplayable;
 use mh_base::GroupName;
 use mh_service::Service;
 use mh_verify::{Accepted, Refusal, RefusalKind, verify};
-use std::alloc::Global;
+use std::alloc::{AllocError, Global};
 
 /// Plays a script on the service of these files, and writes the report to the sink. After an error a
 /// beginning of the report was written, or nothing.
@@ -102,8 +102,7 @@ fn play_service<S: Sink>(
     ensures cut { OnErr result (IsBeginning (S.written sink.old) (S.written sink.new) (script_lines commands.now (opening service))) }
     ensures write { IsErrOf result PlayError.Write → S.failures sink.old < S.failures sink.new }
 {
-    let mut player = Player::of_service(alloc, service)?;
-    player.play(commands, sink)
+    play_on(Player::of_service(alloc, service), commands, sink)
 }
 
 /// Plays the commands on a service that the verifier accepts.
@@ -119,8 +118,29 @@ fn play_accepted<S: Sink>(
     ensures cut { OnErr result (IsBeginning (S.written sink.old) (S.written sink.new) (script_lines commands.now (opening accepted))) }
     ensures write { IsErrOf result PlayError.Write → S.failures sink.old < S.failures sink.new }
 {
-    let mut player = Player::of_accepted(alloc, accepted)?;
-    player.play(commands, sink)
+    play_on(Player::of_accepted(alloc, accepted), commands, sink)
+}
+
+/// Plays the commands, where there was memory for a player.
+fn play_on<P: Plays, S: Sink>(
+    player: Result<P, AllocError>,
+    commands: &[Command],
+    sink: &mut S,
+) -> Result<Status, PlayError>
+    requires count { IfOk player (λ p. (P.session p).frames ≡ 0) }
+    requires room { S.failures sink.old < 2 ^ 64 - 1 }
+    ensures report { (s : Session) → IfOk player (λ p. P.session p ≡ s) →
+        OnOk result (Appends (S.written sink.old) (S.written sink.new) (script_lines commands.now s)) }
+    ensures status { (s : Session) → IfOk player (λ p. P.session p ≡ s) →
+        IfOk result (λ status. status ≡ status_of (ended commands.now s).state.faults) }
+    ensures cut { (s : Session) → IfOk player (λ p. P.session p ≡ s) →
+        OnErr result (IsBeginning (S.written sink.old) (S.written sink.new) (script_lines commands.now s)) }
+    ensures write { IsErrOf result PlayError.Write → S.failures sink.old < S.failures sink.new }
+{
+    match player {
+        Ok(mut player) => player.play_all(commands, sink),
+        Err(_) => Err(PlayError::NoMemory),
+    }
 }
 
 /// Says what cannot be read.

@@ -173,6 +173,46 @@ impl Player {
     }
 }
 
+/// What plays the commands of a script. A contract sees the session. What is generic in it does not
+/// speak of how an engine is dropped.
+pub(crate) trait Plays: Drop {
+    ghost use Rattle.std.specs.Prelude.{◌≡◌, ◌-◌, ◌<◌, ◌^◌, OnOk, OnErr, IfOk, IsErrOf};
+    ghost use Rattle.std.specs.Io.KnownBytes.{Appends};
+    ghost use Rattle.mh_report.specs.Sink.{IsBeginning};
+    ghost use Rattle.mh_report.specs.Report.{Session, script_lines, ended, status_of};
+
+    /// The session.
+    ghost session: { Self → Session };
+
+    /// Does the commands in order, and tells the steps taken at the end.
+    fn play_all<S: Sink>(
+        &mut self,
+        commands: &[Command],
+        sink: &mut S,
+    ) -> Result<Status, PlayError>
+        requires count { (session self.old).frames ≡ 0 }
+        requires room { S.failures sink.old < 2 ^ 64 - 1 }
+        ensures whole { let lines = script_lines commands.now (session self.old) in
+            OnOk result (Appends (S.written sink.old) (S.written sink.new) lines) }
+        ensures status { let after = ended commands.now (session self.old) in
+            IfOk result (λ status. status ≡ status_of after.state.faults) }
+        ensures cut { let lines = script_lines commands.now (session self.old) in
+            OnErr result (IsBeginning (S.written sink.old) (S.written sink.new) lines) }
+        ensures write { IsErrOf result PlayError.Write → S.failures sink.old < S.failures sink.new };
+}
+
+impl Plays for Player {
+    ghost session = { λ p. p };
+
+    fn play_all<S: Sink>(
+        &mut self,
+        commands: &[Command],
+        sink: &mut S,
+    ) -> Result<Status, PlayError> {
+        self.play(commands, sink)
+    }
+}
+
 #[tactic(auto, unfolding(crate::specs::Report::refused_line))]
 /// The line on a refused post. An engine stops only where memory was refused.
 fn refusal(alloc: Global, why: RefusedWhy) -> Result<Text, AllocError>
