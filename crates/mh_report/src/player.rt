@@ -185,11 +185,7 @@ pub(crate) trait Plays: Drop {
     ghost session: { Self → Session };
 
     /// Does the commands in order, and tells the steps taken at the end.
-    fn play_all<S: Sink>(
-        &mut self,
-        commands: &[Command],
-        sink: &mut S,
-    ) -> Result<Status, PlayError>
+    fn play_all<S: Sink>(&mut self, commands: &[Command], sink: &mut S) -> Result<Status, PlayError>
         requires count { (session self.old).frames ≡ 0 }
         requires room { S.failures sink.old < 2 ^ 64 - 1 }
         ensures whole { let lines = script_lines commands.now (session self.old) in
