@@ -7,6 +7,7 @@ ghost use Rattle.mh_model.specs.Property.{as_reference};
 ghost use Rattle.mh_model.specs.Service.{object_at};
 ghost use Rattle.mh_model.specs.State.{all};
 
+use crate::few::Few;
 use mh_base::{ObjRef, Value};
 use mh_model::{Argument, Object, Target};
 use mh_store::Objects;
@@ -43,8 +44,51 @@ pub(crate) fn held_by(found: Option<&Object>) -> Option<&Value>
     }
 }
 
-/// The values of the arguments that come to one.
+/// The values of the arguments that come to one. Those of one or two arguments take no memory.
 pub fn values(
+    alloc: Global,
+    objects: &Objects,
+    arguments: &[Argument],
+) -> Result<Few<Value>, AllocError>
+    ensures { IfOk result (λ values. values ≡ spec.values (all objects.now) arguments.now) }
+{
+    match arguments {
+        [] => Ok(Few::none()),
+        [argument] => value_of(objects, argument),
+        [first, second] => values_of_two(objects, first, second),
+        _ => Ok(Few::from_vec(values_of_many(alloc, objects, arguments)?)),
+    }
+}
+
+fn value_of(objects: &Objects, argument: &Argument) -> Result<Few<Value>, AllocError>
+    ensures { let found = spec.value_in (all objects.now) argument.now in
+        IfOk result (λ values. values ≡ cons_option found []) }
+{
+    match value_in(objects, argument) {
+        Some(value) => Ok(Few::one(value.clone()?)),
+        None => Ok(Few::none()),
+    }
+}
+
+fn values_of_two(
+    objects: &Objects,
+    first: &Argument,
+    second: &Argument,
+) -> Result<Few<Value>, AllocError>
+    ensures { let found = spec.value_in (all objects.now) in
+        IfOk result (λ values. values
+        ≡ cons_option (found first.now) (cons_option (found second.now) [])) }
+{
+    let Some(value) = value_in(objects, first) else {
+        return value_of(objects, second);
+    };
+    match value_in(objects, second) {
+        Some(behind) => Ok(Few::two(value.clone()?, behind.clone()?)),
+        None => Ok(Few::one(value.clone()?)),
+    }
+}
+
+fn values_of_many(
     alloc: Global,
     objects: &Objects,
     arguments: &[Argument],
@@ -83,8 +127,21 @@ fn value_in<'a>(objects: &'a Objects, argument: &'a Argument) -> Option<&'a Valu
     }
 }
 
-/// The variables that receive answers, in written order.
-pub fn receivers(alloc: Global, arguments: &[Argument]) -> Result<Vec<ObjRef>, AllocError>
+/// The variables that receive answers, in written order. One or two take no memory.
+pub fn receivers(alloc: Global, arguments: &[Argument]) -> Result<Few<ObjRef>, AllocError>
+    ensures { IfOk result (λ rs. rs ≡ spec.receivers arguments.now) }
+{
+    match arguments {
+        [] => Ok(Few::none()),
+        [Argument::Receiver(at)] => Ok(Few::one(at.clone()?)),
+        [Argument::Receiver(first), Argument::Receiver(second)] => {
+            Ok(Few::two(first.clone()?, second.clone()?))
+        }
+        _ => Ok(Few::from_vec(receivers_of_many(alloc, arguments)?)),
+    }
+}
+
+fn receivers_of_many(alloc: Global, arguments: &[Argument]) -> Result<Vec<ObjRef>, AllocError>
     ensures { IfOk result (λ rs. rs.items ≡ spec.receivers arguments.now) }
 {
     let mut receivers = Vec::new(alloc);

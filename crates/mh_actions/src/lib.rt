@@ -9,6 +9,7 @@
 pub mod answers;
 pub mod arguments;
 pub mod changes;
+pub mod few;
 pub mod judging;
 mod numerals;
 mod present;

@@ -1,64 +1,58 @@
 //! What an action puts in front of the work.
 ghost use Rattle.std.specs.Prelude.{◌≡◌, ◌∷◌, [], IfOk, slice_get, Some};
 ghost use Rattle.std.specs.Option.{option_copied};
+ghost use Rattle.mh_actions.specs.Listed.{listed};
 ghost use Rattle.mh_model.specs.Saying as spec;
 
 use mh_base::{EventType, ObjRef, Value};
 use mh_group::ActionName;
 use mh_model::kinds::test;
 use mh_model::{Event, Item, Object, Operator};
-use std::alloc::{AllocError, Global};
+use std::alloc::AllocError;
 
-/// What the action puts, done to the object at this reference; nothing where there is none.
+/// What one action puts.
+#[derive(Drop)]
+pub enum Put {
+    Nothing,
+    One(Item),
+    /// The first one in front.
+    Two(Item, Item),
+}
+
+/// What the action puts, done to the object at this reference; nothing where there is none. It takes
+/// no memory.
 pub fn put_items(
-    alloc: Global,
     name: ActionName,
     values: &[Value],
     at: &ObjRef,
     found: Option<&Object>,
-) -> Result<Vec<Item>, AllocError>
-    ensures { IfOk result (λ items. items.items
+) -> Result<Put, AllocError>
+    ensures { IfOk result (λ put. listed put
         ≡ spec.put_items_at name values.now at.now (option_copied found.entry)) }
 {
     let Some(object) = found else {
-        return Ok(Vec::new(alloc));
+        return Ok(Put::Nothing);
     };
     match (name, values) {
-        (ActionName::Run | ActionName::Activate, _) => one(alloc, Item::Run(at.clone()?)),
-        (ActionName::Stop | ActionName::Deactivate, _) => one(alloc, Item::Halt(at.clone()?)),
-        (ActionName::Preload, _) => one(alloc, Item::Prepare(at.clone()?)),
-        (ActionName::Unload, _) => unloading(alloc, at),
+        (ActionName::Run | ActionName::Activate, _) => Ok(Put::One(Item::Run(at.clone()?))),
+        (ActionName::Stop | ActionName::Deactivate, _) => { Ok(Put::One(Item::Halt(at.clone()?))) }
+        (ActionName::Preload, _) => Ok(Put::One(Item::Prepare(at.clone()?))),
+        (ActionName::Unload, _) => unloading(at),
         (ActionName::SendEvent, [Value::Object(source), Value::Int(kind), more @ ..]) => {
-            sent(alloc, source, event_numbered(*kind), more)
+            sent(source, event_numbered(*kind), more)
         }
         (ActionName::TestVariable, [Value::Int(number), value]) => {
-            tested(
-                alloc,
-                at,
-                Operator::of_number(*number),
-                object.value(),
-                value,
-            )
+            tested(at, Operator::of_number(*number), object.value(), value)
         }
-        _ => Ok(Vec::new(alloc)),
+        _ => Ok(Put::Nothing),
     }
 }
 
-fn one(alloc: Global, item: Item) -> Result<Vec<Item>, AllocError>
-    ensures { IfOk result (λ items. items.items ≡ item ∷ []) }
-{
-    let mut items = Vec::new(alloc);
-    items.push(item)?;
-    Ok(items)
-}
-
 /// An object stops before it is no longer available.
-fn unloading(alloc: Global, at: &ObjRef) -> Result<Vec<Item>, AllocError>
-    ensures { IfOk result (λ items. items.items ≡ Item.Halt at.now ∷ Item.Drop at.now ∷ []) }
+fn unloading(at: &ObjRef) -> Result<Put, AllocError>
+    ensures { IfOk result (λ put. listed put ≡ Item.Halt at.now ∷ Item.Drop at.now ∷ []) }
 {
-    let mut items = one(alloc, Item::Halt(at.clone()?))?;
-    items.push(Item::Drop(at.clone()?))?;
-    Ok(items)
+    Ok(Put::Two(Item::Halt(at.clone()?), Item::Drop(at.clone()?)))
 }
 
 /// The type of events with the number.
@@ -73,20 +67,15 @@ fn event_numbered(number: i32) -> Option<EventType>
 }
 
 /// An event of the source, with the data if there is any.
-fn sent(
-    alloc: Global,
-    source: &ObjRef,
-    kind: Option<EventType>,
-    data: &[Value],
-) -> Result<Vec<Item>, AllocError>
-    ensures { IfOk result (λ items. items.items ≡ spec.sent source.now kind «data».now) }
+fn sent(source: &ObjRef, kind: Option<EventType>, data: &[Value]) -> Result<Put, AllocError>
+    ensures { IfOk result (λ put. listed put ≡ spec.sent source.now kind «data».now) }
 {
     let Some(kind) = kind else {
-        return Ok(Vec::new(alloc));
+        return Ok(Put::Nothing);
     };
     let source = source.clone()?;
     let data = first(data)?;
-    one(alloc, Item::Emit(Event { source, kind, data }))
+    Ok(Put::One(Item::Emit(Event { source, kind, data })))
 }
 
 fn first(values: &[Value]) -> Result<Option<Value>, AllocError>
@@ -100,18 +89,17 @@ fn first(values: &[Value]) -> Result<Option<Value>, AllocError>
 
 /// The event that says how the test went. A variable that holds nothing is not tested.
 fn tested(
-    alloc: Global,
     at: &ObjRef,
     operator: Option<Operator>,
     held: Option<&Value>,
     given: &Value,
-) -> Result<Vec<Item>, AllocError>
-    ensures { IfOk result (λ items. items.items
+) -> Result<Put, AllocError>
+    ensures { IfOk result (λ put. listed put
         ≡ spec.tested at.now operator (option_copied held.entry) given.now) }
 {
     match (operator, held) {
-        (Some(operator), Some(held)) => { one(alloc, test_event(at, test(operator, held, given))?) }
-        _ => Ok(Vec::new(alloc)),
+        (Some(operator), Some(held)) => Ok(Put::One(test_event(at, test(operator, held, given))?)),
+        _ => Ok(Put::Nothing),
     }
 }
 

@@ -3,5 +3,9 @@ pub mod CountLemmas
 pub mod FrameLemmas
 pub mod LinkLemmas
 pub mod PlanLemmas
+pub mod PutLemmas
+pub mod RepairLemmas
 pub mod RowLemmas
-pub mod UnseenLemmas
+pub mod SeenLemmas
+pub mod WindowLemmas
+mod GivenLemmas

@@ -1,10 +1,9 @@
 -- What a plan makes of a state is what the rule of its item makes.
-use Rattle.std.specs.Prelude.{◌≡◌, ◌+◌, Bool, true, false, ◌&&◌, if◌then◌else◌, List, [], ◌∷◌, ◌++◌, drop, Option, Some, None, refl}
+use Rattle.std.specs.Prelude.{◌≡◌, ◌+◌, Bool, true, false, ◌&&◌, if◌then◌else◌, List, [], ◌∷◌, ◌++◌, drop, Option, None, refl}
 use Rattle.std.proofs.Common.{ap, ◌∙◌}
 use Rattle.mh_base.specs.declared.obj_ref.ObjRef.{ObjRef}
 use Rattle.mh_base.specs.declared.value.Value.{Value}
 use Rattle.mh_group.specs.declared.action_name.ActionName.{ActionName}
-use Rattle.mh_model.specs.declared.edit.Edit.{Edit}
 use Rattle.mh_model.specs.declared.edit.Edit.TheVariants as edit
 use Rattle.mh_model.specs.declared.item.Item.{Item}
 use Rattle.mh_model.specs.declared.item.Item.TheVariants as item

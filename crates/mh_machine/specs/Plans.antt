@@ -1,5 +1,5 @@
 -- Plans: what an item does, worked out before anything is changed.
-use Rattle.std.specs.Prelude.{◌≡◌, ℕ, ◌+◌, Bool, true, false, if◌then◌else◌, List, [], ◌∷◌, ◌++◌, length, drop, Option, Some, None}
+use Rattle.std.specs.Prelude.{◌≡◌, ℕ, ◌+◌, true, if◌then◌else◌, List, [], ◌∷◌, ◌++◌, length, drop, Option, Some, None}
 use Rattle.mh_base.specs.declared.obj_ref.ObjRef.{ObjRef}
 use Rattle.mh_model.specs.declared.edit.Edit.{Edit}
 use Rattle.mh_model.specs.declared.event.Event.{Event}
@@ -13,7 +13,7 @@ use Rattle.mh_model.specs.declared.object.Object.{Object}
 use Rattle.mh_base.specs.declared.value.Value.{Value}
 use Rattle.mh_model.specs.Bodies.{given}
 use Rattle.mh_model.specs.Edits.{edited}
-use Rattle.mh_model.specs.Lifecycle.{is_visible_at, without}
+use Rattle.mh_model.specs.Lifecycle.{without}
 use Rattle.mh_model.specs.Rules.{changed}
 use Rattle.mh_model.specs.Service.{object_at}
 use Rattle.mh_model.specs.State.{State, Objects, all}
@@ -77,17 +77,6 @@ worked (puts.Instead w) work = w.items
 abbrev pub room_for : Puts → ℕ
 room_for (puts.InFront ps) = length ps
 room_for (puts.Instead w) = 0
-
--- whether what changes can be seen: the value of a variable cannot
-abbrev pub is_seen : Change → List Object → Bool
-is_seen change.Nothing os = false
-is_seen (change.Edit r e) os = is_visible_at (object_at r os)
-is_seen (change.Give gs) os = false
-
-abbrev pub is_moved : Stacking → Bool
-is_moved stacking.Same = false
-is_moved (stacking.Rise r) = true
-is_moved (stacking.Fall r) = true
 
 -- the state when the plan is carried out
 abbrev pub committed : Plan → State → State

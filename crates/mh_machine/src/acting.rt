@@ -1,5 +1,5 @@
 //! What events, entrances and actions do. What an action does to its target is said by `mh_actions`.
-ghost use Rattle.std.specs.Prelude.{◌≡◌, ◌+◌, ◌<◌, ◌^◌, IfOk, OnOk, OnErr, Some};
+ghost use Rattle.std.specs.Prelude.{◌≡◌, ◌∷◌, ◌++◌, [], ◌+◌, ◌<◌, ◌^◌, IfOk, OnOk, OnErr, Some};
 ghost use Rattle.std.specs.Option.{option_copied};
 ghost use Rattle.mh_model.specs.State.{all};
 ghost use Rattle.mh_model.specs.Step.{done};
@@ -7,12 +7,10 @@ ghost use Rattle.mh_model.specs.Arguments as said;
 ghost use Rattle.mh_model.specs.Bodies.{changed_by};
 ghost use Rattle.mh_model.specs.Rules.{act_on, change_rule, ask_rule, put_rule, transition_rule};
 ghost use Rattle.mh_machine.specs.Plans.{taken_from, MakesFound};
-ghost use Rattle.mh_machine.specs.Pieces.{written};
 
 use crate::machine::Machine;
-use crate::piece::Piece;
 use crate::plan::Plan;
-use crate::puts::{entering, push};
+use crate::puts::entering;
 use mh_actions::arguments::{referred, values};
 use mh_actions::changes::edit_by;
 use mh_actions::putting::put_items;
@@ -20,7 +18,7 @@ use mh_base::{GroupName, ObjRef, Value};
 use mh_group::ActionName;
 use mh_model::parts::is_transition;
 use mh_model::sort::{Sort, sort_of};
-use mh_model::{Act, Edit, Event, Item, Object};
+use mh_model::{Act, Edit, Event, Item, Object, Target, Waiting};
 use std::alloc::{AllocError, Global};
 
 impl Machine {
@@ -34,12 +32,24 @@ impl Machine {
             let pieces = self.links.heard(self.alloc, event, &self.objects)?;
             self.commit_pieces(pieces)
         } else {
-            let event = event.clone()?;
-            self.commit(Plan::waiting(self.alloc, event))
+            self.do_wait(event)
         }
     }
 
+    /// An event that is taken from the queue later.
+    #[inline(never)]
+    fn do_wait(&mut self, event: &Event) -> Result<(), AllocError>
+        requires { self.old.taken + 1 < 2 ^ 64 }
+        ensures done { let queue = self.old.queue ++ Waiting.Event event.now ∷ [] in
+            OnOk result (self.new ≡ record (taken_from self.old) { queue = queue }) }
+        ensures kept { OnErr result (self.new ≡ self.old) }
+    {
+        let event = event.clone()?;
+        self.commit(Plan::waiting(self.alloc, event))
+    }
+
     /// A group whose objects are there is entered.
+    #[inline(never)]
     pub(crate) fn do_enter(&mut self, group: &GroupName) -> Result<(), AllocError>
         requires { self.old.taken + 1 < 2 ^ 64 }
         ensures done { OnOk result (self.new ≡ done (Item.Enter group.now) self.old) }
@@ -55,9 +65,25 @@ impl Machine {
         ensures done { OnOk result (self.new ≡ done (Item.Act act.now) self.old) }
         ensures kept { OnErr result (self.new ≡ self.old) }
     {
+        match &act.target {
+            Target::Direct(at) => self.do_at(act, at),
+            Target::Through(_) => self.do_through(act),
+        }
+    }
+
+    /// An action whose target is found through a variable, or not at all.
+    #[inline(never)]
+    fn do_through(&mut self, act: &Act) -> Result<(), AllocError>
+        requires { self.old.taken + 1 < 2 ^ 64 }
+        ensures done { OnOk result (self.new ≡ done (Item.Act act.now) self.old) }
+        ensures kept { OnErr result (self.new ≡ self.old) }
+    {
         match copied(referred(&self.objects, &act.target))? {
-            None => self.commit_pieces(Vec::new(self.alloc)),
             Some(at) => self.do_at(act, &at),
+            None => {
+                self.pass();
+                Ok(())
+            }
         }
     }
 
@@ -75,7 +101,10 @@ impl Machine {
             Sort::Ask => self.do_ask(act, at),
             Sort::Put => self.do_put(act, at),
             Sort::Whole if is_transition(act.name) => self.do_transition(at),
-            Sort::Whole | Sort::Order => self.commit_pieces(Vec::new(self.alloc)),
+            Sort::Whole | Sort::Order => {
+                self.pass();
+                Ok(())
+            }
         }
     }
 
@@ -118,9 +147,8 @@ impl Machine {
     {
         let values = values(self.alloc, &self.objects, act.arguments.as_slice())?;
         let found = self.objects.get(at);
-        let items = put_items(self.alloc, act.name, values.as_slice(), at, found)?;
-        let pieces = as_pieces(self.alloc, items)?;
-        self.commit_pieces(pieces)?;
+        let put = put_items(act.name, values.as_slice(), at, found)?;
+        self.commit_put(put)?;
         Ok(())
     }
 
@@ -160,15 +188,4 @@ fn edit_of(
     };
     let edit = edit_by(alloc, name, values, object)?;
     Ok(edit)
-}
-
-/// The items, each as a piece of its own.
-fn as_pieces(alloc: Global, items: Vec<Item>) -> Result<Vec<Piece>, AllocError>
-    ensures { IfOk result (λ pieces. written pieces.items ≡ items.items) }
-{
-    let mut pieces = Vec::new(alloc);
-    for item in items {
-        push(&mut pieces, Piece::One(item))?;
-    }
-    Ok(pieces)
 }

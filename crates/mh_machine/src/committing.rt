@@ -1,32 +1,39 @@
 //! A plan is carried out: room is made first, then bodies are changed, and behind that nothing can fail.
 //!
 //! What most steps do has a shorter way: pieces that are put, and one body that is changed, need no plan.
-ghost use Rattle.std.specs.Prelude.{◌≡◌, ◌+◌, ◌<◌, ◌≤◌, ◌^◌, ◌||◌, IfOk, OnOk, OnErr, vec_len, vec_capacity};
+ghost use Rattle.std.specs.Prelude.{◌≡◌, ◌+◌, ◌<◌, ◌≤◌, ◌^◌, ◌∷◌, [], IfOk, OnOk, OnErr, vec_len, vec_capacity};
 ghost use Rattle.std.specs.VecDeque.{deque_len, deque_capacity};
+ghost use Rattle.mh_actions.specs.Listed.{listed};
 ghost use Rattle.mh_model.specs.Lifecycle.{without};
 ghost use Rattle.mh_model.specs.Bodies.{given};
 ghost use Rattle.mh_model.specs.Edits.{edited};
 ghost use Rattle.mh_model.specs.Rules.{changed};
 ghost use Rattle.mh_model.specs.Service.{parts};
 ghost use Rattle.mh_model.specs.State.{all};
+ghost use Rattle.mh_machine.specs.Repair.{AreSameBeside, IsSameBeside};
 ghost use Rattle.mh_machine.specs.Pieces.{written};
-ghost use Rattle.mh_machine.specs.Plans as spec;
 ghost use Rattle.mh_machine.specs.Plans.{change_at, committed, put_for_first, taken_from, changed_as, given_all, restacked, queued, worked, noted, room_for};
 
 use crate::machine::Machine;
-use crate::painting::repaint;
+use crate::painting::{repaint, window_of};
 use crate::piece::Piece;
 use crate::plan::{Change, Gift, Plan, Puts, Stacking};
+use crate::window::Window;
 use crate::work::Work;
-use mh_base::ObjRef;
+use mh_actions::putting::Put;
+use mh_base::{ObjRef, Value};
 use mh_model::parts::same_ref;
 use mh_model::{Edit, Event, Fault, Waiting};
 use mh_store::Objects;
 use std::alloc::AllocError;
 use std::collections::VecDeque;
 
+/// The most items that one action puts.
+const MOST_PUT: usize = 2;
+
 impl Machine {
     /// Carries out a plan for the first item.
+    #[inline(never)]
     pub(crate) fn commit(&mut self, plan: Plan) -> Result<(), AllocError>
         requires { self.old.taken + 1 < 2 ^ 64 }
         ensures done { OnOk result (self.new ≡ committed plan self.old) }
@@ -40,12 +47,15 @@ impl Machine {
             begins,
             fault,
         } = plan;
-        make_room(&mut self.work, &puts)?;
-        self.stack.reserve(1)?;
-        self.queue.reserve(1)?;
-        self.faults.reserve(1)?;
-        let is_seen = apply(&mut self.objects, change)?;
-        let is_moved = restack(&mut self.stack, stacking);
+        make_room(
+            &mut self.work,
+            &mut self.stack,
+            &mut self.queue,
+            &mut self.faults,
+            &puts,
+        )?;
+        let seen = apply(&mut self.objects, change)?;
+        let moved = restack(&mut self.stack, &self.objects, stacking);
         put(&mut self.work, puts);
         wait(&mut self.queue, waits);
         note(&mut self.faults, fault);
@@ -55,7 +65,7 @@ impl Machine {
             &mut self.picture,
             &self.objects,
             self.stack.as_slice(),
-            either(is_seen, is_moved),
+            &[seen.before, seen.after, moved],
         );
         Ok(())
     }
@@ -74,6 +84,27 @@ impl Machine {
         Ok(())
     }
 
+    /// Puts what an action puts in the place of the first item.
+    pub(crate) fn commit_put(&mut self, put: Put) -> Result<(), AllocError>
+        requires { self.old.taken + 1 < 2 ^ 64 }
+        ensures done { OnOk result (self.new ≡ put_for_first (listed put) self.old) }
+        ensures kept { OnErr result (self.new ≡ self.old) }
+    {
+        self.work.reserve(MOST_PUT)?;
+        self.work.put_by_act(put);
+        self.taken += 1;
+        Ok(())
+    }
+
+    /// Takes the first item off, and does nothing else.
+    pub(crate) fn pass(&mut self)
+        requires { self.old.taken + 1 < 2 ^ 64 }
+        ensures { self.new ≡ taken_from self.old }
+    {
+        self.work.take_first();
+        self.taken += 1;
+    }
+
     /// Changes the body of the object at this reference, if anything is changed.
     pub(crate) fn commit_change(
         &mut self,
@@ -86,38 +117,69 @@ impl Machine {
         ensures kept { OnErr result (self.new ≡ self.old) }
     {
         match edit {
-            Some(edit) => self.commit_edit(at, edit),
-            None => self.commit_pieces(Vec::new(self.alloc)),
+            Some(Edit::Give(value)) => self.commit_give(at, value),
+            Some(edit) => return self.commit_edit(at, edit),
+            None => self.pass(),
         }
+        Ok(())
+    }
+
+    /// Gives the variable at this reference a value, and takes the first item off. No variable is
+    /// seen, so the picture stays as it is.
+    fn commit_give(&mut self, at: &ObjRef, value: Value)
+        requires { self.old.taken + 1 < 2 ^ 64 }
+        ensures { let after = changed (λ _ b. given value b) at.now self.old.objects in
+            self.new ≡ record (taken_from self.old) { objects = after } }
+    {
+        self.objects.give(at, value);
+        self.pass();
     }
 
     /// Changes the body of the object at this reference, and takes the first item off.
+    #[inline(never)]
     pub(crate) fn commit_edit(&mut self, at: &ObjRef, edit: Edit) -> Result<(), AllocError>
         requires { self.old.taken + 1 < 2 ^ 64 }
         ensures done { let after = changed (λ _ b. edited edit b) at.now self.old.objects in
             OnOk result (self.new ≡ record (taken_from self.old) { objects = after }) }
         ensures kept { OnErr result (self.new ≡ self.old) }
     {
-        let is_seen = self.objects.edit(at, edit)?;
-        self.work.put_for_first(Vec::new(self.alloc));
+        let seen = edit_seen(&mut self.objects, at, edit)?;
+        self.work.take_first();
         self.taken += 1;
         repaint(
             &mut self.picture,
             &self.objects,
             self.stack.as_slice(),
-            is_seen,
+            &[seen.before, seen.after],
         );
         Ok(())
     }
 }
 
-fn either(first: bool, second: bool) -> bool
-    ensures { result ≡ (first || second) }
+/// Makes room for all that a plan may put.
+fn make_room(
+    work: &mut Work,
+    stack: &mut Vec<ObjRef>,
+    queue: &mut VecDeque<Waiting>,
+    faults: &mut Vec<Fault>,
+    puts: &Puts,
+) -> Result<(), AllocError>
+    ensures work { work.new.items ≡ work.old.items }
+    ensures stack { stack.new.items ≡ stack.old.items }
+    ensures queue { queue.new.items ≡ queue.old.items }
+    ensures faults { faults.new.items ≡ faults.old.items }
+    ensures pieces { OnOk result (room_for puts.now ≤ work.new.room) }
+    ensures place { OnOk result (vec_len stack.new + 1 ≤ vec_capacity stack.new) }
+    ensures event { OnOk result (deque_len queue.new + 1 ≤ deque_capacity queue.new) }
+    ensures fault { OnOk result (vec_len faults.new + 1 ≤ vec_capacity faults.new) }
 {
-    first || second
+    stack.reserve(1)?;
+    queue.reserve(1)?;
+    faults.reserve(1)?;
+    make_work_room(work, puts)
 }
 
-fn make_room(work: &mut Work, puts: &Puts) -> Result<(), AllocError>
+fn make_work_room(work: &mut Work, puts: &Puts) -> Result<(), AllocError>
     ensures same { work.new.items ≡ work.old.items }
     ensures room { OnOk result (room_for puts.now ≤ work.new.room) }
 {
@@ -127,22 +189,75 @@ fn make_room(work: &mut Work, puts: &Puts) -> Result<(), AllocError>
     }
 }
 
-/// Changes bodies. Whether what changes can be seen.
-fn apply(objects: &mut Objects, change: Change) -> Result<bool, AllocError>
+/// The windows in which a change of bodies can be seen.
+#[derive(Clone, Copy)]
+struct Seen {
+    /// Of what was painted before the change.
+    before: Window,
+    /// Of what is painted behind it.
+    after: Window,
+}
+
+impl Seen {
+    /// Of a change that cannot be seen.
+    fn nothing() -> Seen {
+        Seen {
+            before: Window::nothing(),
+            after: Window::nothing(),
+        }
+    }
+}
+
+/// Changes bodies, and answers where that can be seen.
+fn apply(objects: &mut Objects, change: Change) -> Result<Seen, AllocError>
     ensures changed { OnOk result (objects.new ≡ changed_as change objects.old) }
-    ensures seen { IfOk result (λ seen. seen ≡ spec.is_seen change (all objects.old)) }
+    ensures seen { IfOk result (λ seen. AreSameBeside (seen.before ∷ seen.after ∷ [])
+        (all objects.old) (all objects.new)) }
     ensures own { parts objects.new.application ≡ parts objects.old.application }
     ensures others { parts objects.new.scene ≡ parts objects.old.scene }
     ensures kept { OnErr result (objects.new ≡ objects.old) }
 {
     match change {
-        Change::Nothing => Ok(false),
-        Change::Edit(at, edit) => objects.edit(&at, edit),
+        Change::Nothing => Ok(Seen::nothing()),
+        Change::Edit(at, edit) => edit_seen(objects, &at, edit),
         Change::Give(gifts) => {
             give(objects, gifts.into_vec());
-            Ok(false)
+            Ok(Seen::nothing())
         }
     }
+}
+
+/// Changes the body of one object, and answers where that can be seen: the value of a variable nowhere.
+fn edit_seen(objects: &mut Objects, at: &ObjRef, edit: Edit) -> Result<Seen, AllocError>
+    ensures changed { OnOk result (objects.new ≡ changed (λ _ b. edited edit b) at.now objects.old) }
+    ensures seen { IfOk result (λ seen. AreSameBeside (seen.before ∷ seen.after ∷ [])
+        (all objects.old) (all objects.new)) }
+    ensures own { parts objects.new.application ≡ parts objects.old.application }
+    ensures others { parts objects.new.scene ≡ parts objects.old.scene }
+    ensures kept { OnErr result (objects.new ≡ objects.old) }
+{
+    match edit {
+        Edit::Give(value) => {
+            objects.give(at, value);
+            Ok(Seen::nothing())
+        }
+        other => edit_body(objects, at, other),
+    }
+}
+
+/// Changes the body of one object, whose boxes before and behind the change are where it can be seen.
+fn edit_body(objects: &mut Objects, at: &ObjRef, edit: Edit) -> Result<Seen, AllocError>
+    ensures changed { OnOk result (objects.new ≡ changed (λ _ b. edited edit b) at.now objects.old) }
+    ensures seen { IfOk result (λ seen. AreSameBeside (seen.before ∷ seen.after ∷ [])
+        (all objects.old) (all objects.new)) }
+    ensures own { parts objects.new.application ≡ parts objects.old.application }
+    ensures others { parts objects.new.scene ≡ parts objects.old.scene }
+    ensures kept { OnErr result (objects.new ≡ objects.old) }
+{
+    let before = window_of(objects.get(at));
+    objects.edit(at, edit)?;
+    let after = window_of(objects.get(at));
+    Ok(Seen { before, after })
 }
 
 /// Gives variables their values, one after another.
@@ -165,21 +280,22 @@ fn give_one(objects: &mut Objects, gift: Gift)
     objects.give(&at, value);
 }
 
-/// Changes the display stack, which has room for one more. Whether it changes.
-fn restack(stack: &mut Vec<ObjRef>, stacking: Stacking) -> bool
+/// Changes the display stack, which has room for one more, and answers the window in which that can be seen.
+fn restack(stack: &mut Vec<ObjRef>, objects: &Objects, stacking: Stacking) -> Window
     requires { vec_len stack.old + 1 ≤ vec_capacity stack.old }
     ensures stack { stack.new.items ≡ restacked stacking stack.old.items }
-    ensures moved { result ≡ spec.is_moved stacking }
+    ensures moved { IsSameBeside result (all objects.now) stack.old.items stack.new.items }
 {
     match stacking {
-        Stacking::Same => false,
+        Stacking::Same => Window::nothing(),
         Stacking::Rise(top) => {
+            let moved = window_of(objects.get(&top));
             stack.push_reserved(top);
-            true
+            moved
         }
         Stacking::Fall(at) => {
             fall(stack, &at);
-            true
+            window_of(objects.get(&at))
         }
     }
 }

@@ -1,50 +1,33 @@
 //! Which cells a box covers, and what a visible puts behind them.
 ghost use Rattle.std.specs.Prelude.{◌≡◌, ◌<◌, ◌≤ℤ◌, ◌+◌, ◌*◌, Some, None, pos};
-ghost use Rattle.mh_model.specs.Picture.{within as within_lem, is_edge as is_edge_lem, covers_beside as covers_beside_lem, covers_above_and_below as covers_above_and_below_lem, ground_of as ground_of_lem, x_of as x_of_lem, y_of as y_of_lem};
-ghost use Rattle.mh_machine.specs.Screen.{IsOnScreen};
+ghost use Rattle.mh_model.specs.Picture.{within as within_lem, is_edge as is_edge_lem, covers_beside as covers_beside_lem, covers_above_and_below as covers_above_and_below_lem, ground_of as ground_of_lem};
+ghost use Rattle.mh_machine.specs.Screen.{IsOnScreen, ground_at as ground_at_lem};
 
 use mh_base::Area;
 use mh_model::Visible;
 
-/// The unit in the upper edge of a row.
-pub fn top_of(row: usize) -> i64
-    requires { row < 36 }
-    ensures { result ≡ pos (16 * row) }
+/// The colour that a visible puts behind the cell in this row and column, if it puts one there.
+pub fn ground_of(visible: &Visible, row: usize, column: usize) -> Option<u32>
+    requires low { row < 36 }
+    requires wide { column < 60 }
+    ensures { result ≡ ground_of_lem visible.now (60 * row + column) }
 {
-    (16 * row) as i64
+    ground_at(visible, (12 * column) as i64, (16 * row) as i64)
 }
 
-/// The colour that a visible puts behind a cell, if it puts one there.
-pub fn ground_of(visible: &Visible, at: usize) -> Option<u32>
-    requires { at < 2160 }
-    ensures { result ≡ ground_of_lem visible.now at }
+/// The colour that a visible puts behind the cell at these units, if it puts one there.
+fn ground_at(visible: &Visible, x: i64, y: i64) -> Option<u32>
+    requires right { IsOnScreen x }
+    requires down { IsOnScreen y }
+    ensures { result ≡ ground_at_lem visible.now x y }
 {
-    // most cells of a row lie beside the box, so its columns are asked first
-    if !covers_column(&visible.area, x_of(at)) || !covers_row(&visible.area, y_of(at)) {
+    if !covers_column(&visible.area, x) || !covers_row(&visible.area, y) {
         return None;
     }
-    if visible.has_line && is_edge(&visible.area, x_of(at), y_of(at)) {
+    if visible.has_line && is_edge(&visible.area, x, y) {
         return visible.line;
     }
     visible.fill
-}
-
-/// The unit in the left edge of a cell.
-fn x_of(at: usize) -> i64
-    requires { at < 2160 }
-    ensures place { result ≡ x_of_lem at }
-    ensures near { IsOnScreen result }
-{
-    (12 * (at % 60)) as i64
-}
-
-/// The unit in the upper edge of a cell.
-fn y_of(at: usize) -> i64
-    requires { at < 2160 }
-    ensures place { result ≡ y_of_lem at }
-    ensures near { IsOnScreen result }
-{
-    (16 * (at / 60)) as i64
 }
 
 /// Whether a stretch of this size from the start on has the unit.
@@ -87,7 +70,7 @@ fn covers_column(area: &Area, x: i64) -> bool
     within(area.x, area.width, x)
 }
 
-pub fn covers_row(area: &Area, y: i64) -> bool
+fn covers_row(area: &Area, y: i64) -> bool
     ensures { result ≡ within_lem area.now.y area.now.height y }
 {
     within(area.y, area.height, y)

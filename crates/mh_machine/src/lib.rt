@@ -20,6 +20,7 @@ pub mod rest;
 pub mod stepped;
 mod stepping;
 pub mod unstarted;
+mod window;
 mod work;
 
 pub use machine::Machine;

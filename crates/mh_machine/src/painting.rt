@@ -1,17 +1,19 @@
 //! The picture: each visible painted from the bottom of the display stack up.
-ghost use Rattle.std.specs.Prelude.{◌≡◌, ◌<◌, ◌+◌, ◌*◌, Some, None, false};
+//!
+//! Where a change can show, windows tell; what lies outside them is right already and is left as it is.
+ghost use Rattle.std.specs.Prelude.{◌≡◌, ◌<◌, ◌≤◌, ◌+◌, ◌*◌, Some, None};
 ghost use Rattle.std.specs.Option.{option_copied};
 ghost use Rattle.mh_model.specs.State.{all};
-ghost use Rattle.mh_model.specs.Service.{object_at as object_at_lem};
-ghost use Rattle.mh_model.specs.Picture.{picture as picture_lem, paint_of as paint_of_lem, visible_of as visible_of_lem, painted as painted_lem};
-ghost use Rattle.mh_model.specs.Painting.{painted_over};
-ghost use Rattle.mh_machine.specs.Rows.{IsPaintedBetween};
+ghost use Rattle.mh_model.specs.Picture.{picture as picture_lem, ground_of as ground_of_lem, paint_of as paint_of_lem, visible_of as visible_of_lem, painted as painted_lem};
+ghost use Rattle.mh_machine.specs.Repair.{IsStale, IsWindowOf, maybe_in};
+ghost use Rattle.mh_machine.specs.Rows.{IsPutBetween};
+ghost use Rattle.mh_machine.specs.Windows.{IsOf, put_in, put_in_all};
 
-use crate::covering::{covers_row, ground_of, top_of};
+use crate::covering::ground_of;
+use crate::window::{Window, are_empty};
 use mh_base::{Area, Colour, ObjRef};
 use mh_group::Attribute;
 use mh_model::held::{as_colour, as_int, as_pair};
-use mh_model::picture::ROWS;
 use mh_model::{Object, Picture, Visible};
 use mh_store::Objects;
 
@@ -20,20 +22,60 @@ pub fn paint(picture: &mut Picture, objects: &Objects, stack: &[ObjRef])
     ensures { picture.new ≡ picture_lem (all objects.now) stack.now }
 {
     picture.clear();
+    repaint(picture, objects, stack, &[Window::whole()]);
+}
+
+/// Paints the objects on this display stack again within the windows, outside of which the picture is right.
+pub fn repaint(picture: &mut Picture, objects: &Objects, stack: &[ObjRef], windows: &[Window])
+    requires { IsStale (all objects.now) stack.now windows.now picture.old }
+    ensures { picture.new ≡ picture_lem (all objects.now) stack.now }
+{
+    let _ = picture.cells();
+    if are_empty(windows) {
+        return;
+    }
+    paint_over(picture, &BACKDROP, windows);
     for at in stack {
-        if let Some(visible) = painted(objects.get(at)) {
-            paint_over(picture, &visible);
-        }
+        paint_object(picture, objects.get(at), windows);
+    }
+    let _ = picture.cells();
+}
+
+/// The window of what is painted for the object; one of no cells where nothing is.
+pub fn window_of(found: Option<&Object>) -> Window
+    ensures { IsWindowOf (painted_lem (option_copied found.entry)) result }
+{
+    match painted(found) {
+        Some(visible) => window_of_visible(&visible),
+        None => Window::nothing(),
     }
 }
 
-/// Paints the objects on this display stack again, where one that can be seen has changed.
-pub fn repaint(picture: &mut Picture, objects: &Objects, stack: &[ObjRef], is_seen: bool)
-    requires { is_seen ≡ false → picture.old ≡ picture_lem (all objects.now) stack.now }
-    ensures { picture.new ≡ picture_lem (all objects.now) stack.now }
+fn window_of_visible(visible: &Visible) -> Window
+    ensures { IsWindowOf (Some visible.now) result }
 {
-    if is_seen {
-        paint(picture, objects, stack);
+    Window::of(&visible.area)
+}
+
+/// What lies below all visibles: the whole screen in black.
+const BACKDROP: Visible = Visible {
+    area: Area {
+        x: 0,
+        y: 0,
+        width: 720,
+        height: 576,
+    },
+    has_line: false,
+    line: None,
+    fill: Some(0),
+};
+
+/// Paints the object over what lies below it, if it is painted at all.
+fn paint_object(picture: &mut Picture, found: Option<&Object>, windows: &[Window])
+    ensures { picture.new ≡ maybe_in (painted_lem (option_copied found.entry)) windows.now picture.old }
+{
+    if let Some(visible) = painted(found) {
+        paint_over(picture, &visible, windows);
     }
 }
 
@@ -104,36 +146,46 @@ fn paint_of(colour: Colour) -> Option<u32>
     }
 }
 
-/// Paints a visible over what lies below it.
-fn paint_over(picture: &mut Picture, visible: &Visible)
-    ensures { picture.new ≡ painted_over visible.now picture.old }
+/// Paints a visible over what lies below it, within the windows.
+fn paint_over(picture: &mut Picture, visible: &Visible, windows: &[Window])
+    ensures { picture.new ≡ put_in_all (ground_of_lem visible.now) windows.now picture.old }
 {
-    let _ = picture.cells();
-    for row in 0..ROWS {
-        paint_row(picture, visible, row);
+    let own = Window::of(&visible.area);
+    for window in windows {
+        paint_shared(picture, visible, &own, window);
     }
 }
 
-/// Paints one row of a visible. A row that its box does not reach is passed over.
-fn paint_row(picture: &mut Picture, visible: &Visible, row: usize)
-    requires { row < 36 }
-    ensures { IsPaintedBetween visible.now picture.old picture.new (60 * row) (60 * row + 60) }
+/// Paints a visible, whose own window this is, over the cells that it shares with another one.
+fn paint_shared(picture: &mut Picture, visible: &Visible, own: &Window, window: &Window)
+    requires { IsOf visible.now.area own.now }
+    ensures { picture.new ≡ put_in (ground_of_lem visible.now) window.now picture.old }
+{
+    paint_rows(picture, visible, &own.meet(window));
+}
+
+/// Paints a visible over all cells of a window.
+fn paint_rows(picture: &mut Picture, visible: &Visible, window: &Window)
+    requires low { window.now.bottom ≤ 36 }
+    requires wide { window.now.right ≤ 60 }
+    ensures { picture.new ≡ put_in (ground_of_lem visible.now) window.now picture.old }
 {
     let _ = picture.cells();
-    if covers_row(&visible.area, top_of(row)) {
-        paint_cells(picture, visible, row);
+    for row in window.top..window.bottom {
+        paint_row(picture, visible, row, window);
     }
 }
 
-/// Paints those cells of a row that the visible gives a colour.
-fn paint_cells(picture: &mut Picture, visible: &Visible, row: usize)
-    requires { row < 36 }
-    ensures { IsPaintedBetween visible.now picture.old picture.new (60 * row) (60 * row + 60) }
+/// Paints a visible over those cells of a row that the window has.
+fn paint_row(picture: &mut Picture, visible: &Visible, row: usize, window: &Window)
+    requires low { row < 36 }
+    requires wide { window.now.right ≤ 60 }
+    ensures { IsPutBetween (ground_of_lem visible.now) picture.old picture.new (60 * row + window.now.left) (60 * row + window.now.right) }
 {
     let _ = picture.cells();
-    for at in 60 * row..60 * row + 60 {
-        if let Some(back) = ground_of(visible, at) {
-            picture.set_back(at, back);
+    for column in window.left..window.right {
+        if let Some(back) = ground_of(visible, row, column) {
+            picture.set_back(60 * row + column, back);
         }
     }
 }

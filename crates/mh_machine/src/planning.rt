@@ -1,8 +1,8 @@
 //! What an item does that changes more than one body or the work list alone, as a plan.
 //!
-//! Each kind of plan is a call of its own: taken together into one function they would make its frame so
-//! large that every step pays for all of them.
-ghost use Rattle.std.specs.Prelude.{◌≡◌, ◌∷◌, ◌++◌, [], IfOk, OnOk, Some};
+//! Each kind of plan is made and carried out in a call of its own: taken together into one function they
+//! would make its frame so large that every step pays for all of them.
+ghost use Rattle.std.specs.Prelude.{◌≡◌, ◌∷◌, ◌++◌, ◌+◌, ◌<◌, ◌^◌, [], IfOk, OnOk, OnErr, Some};
 ghost use Rattle.mh_model.specs.State.{all};
 ghost use Rattle.mh_model.specs.Step.{done};
 ghost use Rattle.mh_model.specs.Arguments as said;
@@ -27,7 +27,16 @@ use std::alloc::{AllocError, Global};
 impl Machine {
     /// An object becomes available.
     #[inline(never)]
-    pub(crate) fn plan_prepare(&self, at: &ObjRef) -> Result<Plan, AllocError>
+    pub(crate) fn do_prepare(&mut self, at: &ObjRef) -> Result<(), AllocError>
+        requires { self.old.taken + 1 < 2 ^ 64 }
+        ensures done { OnOk result (self.new ≡ done (Item.Prepare at.now) self.old) }
+        ensures kept { OnErr result (self.new ≡ self.old) }
+    {
+        let plan = self.plan_prepare(at)?;
+        self.commit(plan)
+    }
+
+    fn plan_prepare(&self, at: &ObjRef) -> Result<Plan, AllocError>
         ensures { IfOk result (λ plan. committed plan self.now
             ≡ done (Item.Prepare at.now) self.now) }
     {
@@ -40,7 +49,16 @@ impl Machine {
 
     /// An object runs.
     #[inline(never)]
-    pub(crate) fn plan_run(&self, at: &ObjRef) -> Result<Plan, AllocError>
+    pub(crate) fn do_run(&mut self, at: &ObjRef) -> Result<(), AllocError>
+        requires { self.old.taken + 1 < 2 ^ 64 }
+        ensures done { OnOk result (self.new ≡ done (Item.Run at.now) self.old) }
+        ensures kept { OnErr result (self.new ≡ self.old) }
+    {
+        let plan = self.plan_run(at)?;
+        self.commit(plan)
+    }
+
+    fn plan_run(&self, at: &ObjRef) -> Result<Plan, AllocError>
         ensures { IfOk result (λ plan. committed plan self.now
             ≡ done (Item.Run at.now) self.now) }
     {
@@ -53,7 +71,16 @@ impl Machine {
 
     /// An object stops.
     #[inline(never)]
-    pub(crate) fn plan_halt(&self, at: &ObjRef) -> Result<Plan, AllocError>
+    pub(crate) fn do_halt(&mut self, at: &ObjRef) -> Result<(), AllocError>
+        requires { self.old.taken + 1 < 2 ^ 64 }
+        ensures done { OnOk result (self.new ≡ done (Item.Halt at.now) self.old) }
+        ensures kept { OnErr result (self.new ≡ self.old) }
+    {
+        let plan = self.plan_halt(at)?;
+        self.commit(plan)
+    }
+
+    fn plan_halt(&self, at: &ObjRef) -> Result<Plan, AllocError>
         ensures { IfOk result (λ plan. committed plan self.now
             ≡ done (Item.Halt at.now) self.now) }
     {
@@ -64,7 +91,16 @@ impl Machine {
 
     /// An object is no longer available.
     #[inline(never)]
-    pub(crate) fn plan_drop(&self, at: &ObjRef) -> Result<Plan, AllocError>
+    pub(crate) fn do_drop(&mut self, at: &ObjRef) -> Result<(), AllocError>
+        requires { self.old.taken + 1 < 2 ^ 64 }
+        ensures done { OnOk result (self.new ≡ done (Item.Drop at.now) self.old) }
+        ensures kept { OnErr result (self.new ≡ self.old) }
+    {
+        let plan = self.plan_drop(at)?;
+        self.commit(plan)
+    }
+
+    fn plan_drop(&self, at: &ObjRef) -> Result<Plan, AllocError>
         ensures { IfOk result (λ plan. committed plan self.now
             ≡ done (Item.Drop at.now) self.now) }
     {
@@ -82,7 +118,7 @@ impl Machine {
     {
         let values = values(self.alloc, &self.objects, act.arguments.as_slice())?;
         let found = self.objects.get(at);
-        let told = answers(self.alloc, act.name, values.as_slice(), found)?;
+        let told = answers(act.name, values.as_slice(), found);
         let receivers = receivers(self.alloc, act.arguments.as_slice())?;
         let gifts = gifts_of(self.alloc, receivers.as_slice(), told.as_slice())?;
         Ok(Plan::changing(self.alloc, Change::Give(Seq::from_vec(gifts))))

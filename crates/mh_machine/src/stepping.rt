@@ -91,6 +91,7 @@ impl Machine {
     }
 
     /// Removes the first item, which is stuck, and notes its fault.
+    #[inline(never)]
     fn note(&mut self, fault: Fault) -> Result<(), AllocError>
         requires { self.old.taken + 1 < 2 ^ 64 }
         ensures done { OnOk result (self.new ≡ faulted fault self.old) }
@@ -105,17 +106,16 @@ impl Machine {
         ensures done { OnOk result (self.new ≡ done item.now self.old) }
         ensures kept { OnErr result (self.new ≡ self.old) }
     {
-        let plan = match item {
-            Item::Act(act) => return self.do_act(act),
-            Item::Emit(event) => return self.do_emit(event),
-            Item::Enter(group) => return self.do_enter(group),
-            Item::Prepare(at) => self.plan_prepare(at)?,
-            Item::Run(at) | Item::RunMember(at) => self.plan_run(at)?,
-            Item::Halt(at) | Item::HaltMember(at) => self.plan_halt(at)?,
-            Item::Drop(at) => self.plan_drop(at)?,
-            Item::Exchange(group) => return self.exchange(group),
-        };
-        self.commit(plan)
+        match item {
+            Item::Act(act) => self.do_act(act),
+            Item::Emit(event) => self.do_emit(event),
+            Item::Enter(group) => self.do_enter(group),
+            Item::Prepare(at) => self.do_prepare(at),
+            Item::Run(at) | Item::RunMember(at) => self.do_run(at),
+            Item::Halt(at) | Item::HaltMember(at) => self.do_halt(at),
+            Item::Drop(at) => self.do_drop(at),
+            Item::Exchange(group) => self.exchange(group),
+        }
     }
 
     /// Exchanges the current scene for another.

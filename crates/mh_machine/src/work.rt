@@ -1,8 +1,9 @@
 //! The work list, as a stack of frames: looking at its first item, and putting pieces in the place of
 //! that item, cost the same however long the list is.
-ghost use Rattle.std.specs.Prelude.{◌≡◌, ◌++◌, ◌+◌, ◌<◌, ◌≤◌, true, drop, slice_get, vec_len};
+ghost use Rattle.std.specs.Prelude.{◌≡◌, ◌∷◌, ◌++◌, ◌+◌, ◌<◌, ◌≤◌, true, drop, slice_get, vec_len};
 ghost use Rattle.std.specs.Prelude.{IfOk, OnOk};
 ghost use Rattle.std.specs.VecDeque.{deque_len, deque_capacity};
+ghost use Rattle.mh_actions.specs.Listed.{listed};
 ghost use Rattle.mh_model.specs.Items.{acts};
 ghost use Rattle.mh_model.specs.Step.{is_empty as is_empty_lem};
 ghost use Rattle.mh_machine.specs.Pieces.{items_of, written};
@@ -10,6 +11,7 @@ ghost use Rattle.mh_machine.specs.Frames.{AreLive, flat, goes_on, has_more, is_l
 ghost use Rattle.mh_machine.specs.Frames.{passed, passed_first};
 
 use crate::piece::Piece;
+use mh_actions::putting::Put;
 use mh_model::{Act, Effect, Item};
 use std::alloc::{AllocError, Global};
 use std::collections::VecDeque;
@@ -75,6 +77,30 @@ impl Work {
         ensures room { OnOk result (count ≤ self.new.room) }
     {
         self.frames.reserve(count)
+    }
+
+    /// Takes the first item away, if there is one. It takes no memory.
+    pub fn take_first(&mut self)
+        ensures { self.new.items ≡ drop 1 self.old.items }
+    {
+        drop_first(&mut self.frames);
+    }
+
+    /// Puts what an action puts in the place of the first item. There is room for as much as one
+    /// action can put, and it takes no memory.
+    pub fn put_by_act(&mut self, put: Put)
+        requires { 2 ≤ self.old.room }
+        ensures { self.new.items ≡ listed put ++ drop 1 self.old.items }
+    {
+        drop_first(&mut self.frames);
+        match put {
+            Put::Nothing => {}
+            Put::One(item) => put_item(&mut self.frames, item),
+            Put::Two(first, second) => {
+                put_item(&mut self.frames, second);
+                put_item(&mut self.frames, first);
+            }
+        }
     }
 
     /// Puts these pieces, for which there is room, in the place of the first item. It takes no
@@ -204,8 +230,19 @@ fn put_piece(frames: &mut VecDeque<Frame>, piece: Piece)
 {
     match piece {
         Piece::Acts(effect) => put_effect(frames, effect),
-        Piece::One(item) => frames.push_front_reserved(Frame::One(item)),
+        Piece::One(item) => put_item(frames, item),
     }
+}
+
+fn put_item(frames: &mut VecDeque<Frame>, item: Item)
+    requires live { AreLive frames.old.items }
+    requires room { deque_len frames.old < deque_capacity frames.old }
+    ensures items { flat frames.new.items ≡ item ∷ flat frames.old.items }
+    ensures live { AreLive frames.new.items }
+    ensures len { deque_len frames.new ≡ deque_len frames.old + 1 }
+    ensures capacity { deque_capacity frames.new ≡ deque_capacity frames.old }
+{
+    frames.push_front_reserved(Frame::One(item));
 }
 
 /// An effect without actions makes no frame, so that the first item stands in the first frame.

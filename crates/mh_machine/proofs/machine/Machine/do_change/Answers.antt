@@ -1,6 +1,5 @@
 use Rattle.std.specs.Prelude.{◌≡◌, List}
-use Rattle.std.specs.Option.{option_copied}
-use Rattle.std.proofs.Common.{rules, ◌∙◌, ap, subst}
+use Rattle.std.proofs.Common.{rules, ◌∙◌, ap}
 use Rattle.mh_base.specs.declared.value.Value.{Value}
 use Rattle.mh_model.specs.Arguments.{values}
 use Rattle.mh_model.specs.Bodies.{changed_by}

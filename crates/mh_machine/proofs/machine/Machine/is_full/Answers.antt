@@ -1,5 +1,5 @@
-use Rattle.std.specs.Prelude.{◌≡◌, ◌<◌, length}
-use Rattle.std.proofs.Common.{arith, rules}
+use Rattle.std.specs.Prelude.{◌<◌, length}
+use Rattle.std.proofs.Common.{rules}
 use Rattle.mh_machine.proofs.CountLemmas.{not_full}
 use Rattle.mh_machine.proofs.machine.Machine.is_full.Goals as goal
 

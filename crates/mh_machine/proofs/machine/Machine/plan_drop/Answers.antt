@@ -1,15 +1,10 @@
 use Rattle.std.specs.Option.{option_copied}
-use Rattle.std.proofs.Common.{rules, ap, ◌∙◌, subst}
-use Rattle.mh_model.specs.Arguments.{values, receivers}
-use Rattle.mh_model.specs.Bodies.{changed_by}
-use Rattle.mh_model.specs.State.{all}
-use Rattle.mh_base.specs.declared.value.Value.{Value}
-use Rattle.std.specs.Prelude.{List}
+use Rattle.std.proofs.Common.{rules, ap, ◌∙◌}
 use Rattle.mh_model.specs.declared.edit.Edit.TheVariants as edit
 use Rattle.mh_machine.specs.declared.plan.Change.TheVariants as change
 use Rattle.mh_machine.specs.declared.plan.Stacking.TheVariants as stacking
 use Rattle.mh_machine.specs.declared.plan.Plan.{Plan}
-use Rattle.mh_machine.specs.Plans.{committed, Makes}
+use Rattle.mh_machine.specs.Plans.{committed}
 use Rattle.mh_machine.proofs.PlanLemmas.{drop_planned}
 use Rattle.mh_machine.proofs.machine.Machine.plan_drop.Goals as goal
 

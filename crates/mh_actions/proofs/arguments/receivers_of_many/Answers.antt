@@ -1,6 +1,6 @@
 use Rattle.mh_model.specs.Arguments.{receiver_of}
 use Rattle.mh_actions.proofs.FilterLemmas.{kept}
-use Rattle.mh_actions.proofs.arguments.receivers.Goals as goal
+use Rattle.mh_actions.proofs.arguments.receivers_of_many.Goals as goal
 
 pub loop-argument-preserved : goal.loop-argument-preserved
 loop-argument-preserved c =

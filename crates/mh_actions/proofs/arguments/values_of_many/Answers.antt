@@ -1,7 +1,7 @@
 use Rattle.mh_model.specs.State.{all}
 use Rattle.mh_model.specs.Arguments.{value_in}
 use Rattle.mh_actions.proofs.FilterLemmas.{kept}
-use Rattle.mh_actions.proofs.arguments.values.Goals as goal
+use Rattle.mh_actions.proofs.arguments.values_of_many.Goals as goal
 
 pub loop-argument-preserved : goal.loop-argument-preserved
 loop-argument-preserved c =
