@@ -68,6 +68,30 @@ impl Picture {
         self.backs.len()
     }
 
+    /// The characters of the cells, row by row: code points of Unicode.
+    pub fn scalars(&self) -> &[u32]
+        ensures plane { result.now ≡ self.now.scalars }
+        ensures whole { length result.now ≡ 2160 }
+    {
+        self.scalars.as_slice()
+    }
+
+    /// The colours of the characters, row by row: numbers of 24 bits, red in the highest eight.
+    pub fn fores(&self) -> &[u32]
+        ensures plane { result.now ≡ self.now.fores }
+        ensures whole { length result.now ≡ 2160 }
+    {
+        self.fores.as_slice()
+    }
+
+    /// The colours behind the characters, row by row, in the same form.
+    pub fn backs(&self) -> &[u32]
+        ensures plane { result.now ≡ self.now.backs }
+        ensures whole { length result.now ≡ 2160 }
+    {
+        self.backs.as_slice()
+    }
+
     /// Puts the colour behind a cell.
     pub fn set_back(&mut self, at: usize, back: u32)
         requires { at < 2160 }

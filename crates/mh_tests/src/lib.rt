@@ -24,6 +24,8 @@ mod der;
 #[cfg(test)]
 mod der_values;
 #[cfg(test)]
+mod display;
+#[cfg(test)]
 mod engine;
 #[cfg(test)]
 mod examples;

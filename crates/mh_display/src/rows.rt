@@ -1,0 +1,48 @@
+//! Which rows of two pictures differ.
+ghost use Rattle.std.specs.Prelude.{◌≡◌, ◌+◌, ◌<◌, ◌≤◌, ℕ, false, length, not, slice_index_or};
+ghost use Rattle.mh_display.specs.Rows.{same_row as same_row_lem, same_stretch as same_stretch_lem};
+
+use mh_model::Picture;
+
+/// The columns of the picture.
+const COLUMNS: usize = 60;
+
+/// The rows of the picture.
+const ROWS: usize = 36;
+
+/// Which rows of the picture (from the top, 36 rows of 60 cells) differ in a cell: in its character, in its
+/// colour, or in the colour behind it.
+pub fn changed_rows(before: &Picture, after: &Picture) -> [bool; 36]
+    ensures all { length result ≡ 36 }
+    ensures each { (j : ℕ) → j < 36 → slice_index_or result j false ≡ not (same_row_lem before.now after.now j) }
+{
+    let mut changed = [false; ROWS];
+    for row in 0..ROWS {
+        changed[row] = !same_row(before, after, row);
+    }
+    changed
+}
+
+/// Whether the cells of a row are the same in both pictures.
+fn same_row(before: &Picture, after: &Picture, row: usize) -> bool
+    requires { row < 36 }
+    ensures { result ≡ same_row_lem before.now after.now row }
+{
+    let start = COLUMNS * row;
+    if !same_stretch(before.scalars(), after.scalars(), start) {
+        return false;
+    }
+    if !same_stretch(before.fores(), after.fores(), start) {
+        return false;
+    }
+    same_stretch(before.backs(), after.backs(), start)
+}
+
+/// Whether the numbers of a row, from this place on, are the same in both planes.
+fn same_stretch(before: &[u32], after: &[u32], start: usize) -> bool
+    requires long { start + 60 ≤ length before.now }
+    requires same { start + 60 ≤ length after.now }
+    ensures { result ≡ same_stretch_lem before.now after.now start }
+{
+    before[start..start + COLUMNS] == after[start..start + COLUMNS]
+}

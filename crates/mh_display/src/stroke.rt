@@ -1,0 +1,124 @@
+//! `Stroke`: a drawn line, by the cells of its two ends.
+//!
+//! Cells are counted from the upper left cell of the drawing's box. The profile's drawings stay within
+//! 10,000 units of it, so 16 bits hold each number, and no sum or product here overflows 64 bits.
+ghost use Rattle.std.specs.Prelude.{◌≡◌, ◌≤◌, ◌^◌, ◌*◌, ◌*ℤ◌, ◌-ℤ◌, pos};
+ghost use Rattle.mh_display.specs.Boxes.{IsNear};
+ghost use Rattle.mh_display.specs.Drawn.{across as across_lem, comes_to as comes_to_lem, comes_to_column as comes_to_column_lem, comes_to_row as comes_to_row_lem, down as down_lem, goes_through as goes_through_lem, gone as gone_lem, step_to as step_to_lem, steps as steps_lem};
+
+/// The column and the row of a cell.
+#[derive(Clone, Copy)]
+pub struct Spot {
+    pub column: i16,
+    pub row: i16,
+}
+
+/// A line from one cell to another (LineArt of ISO/IEC 13522-5).
+#[derive(Clone, Copy)]
+pub struct Stroke {
+    pub first: Spot,
+    pub last: Spot,
+}
+
+/// Whether the line goes through the cell in this column and row. It goes in as many equal steps as there
+/// are cells in its longer direction, and in the other one to the nearest cell; from the middle between two,
+/// to the one with the higher number.
+pub fn goes_through(stroke: &Stroke, column: i32, row: i32) -> bool
+    ensures { result ≡ goes_through_lem stroke.now column row }
+{
+    let step = step_to(stroke, column, row);
+    step <= steps(stroke) && comes_to(stroke, column, row, step)
+}
+
+/// The one number of steps that can come to the cell: in the longer direction each goes on by one.
+fn step_to(stroke: &Stroke, column: i32, row: i32) -> u64
+    ensures { result ≡ step_to_lem stroke.now column row }
+{
+    if across(stroke).unsigned_abs() <= down(stroke).unsigned_abs() {
+        to_row(stroke, row).unsigned_abs()
+    } else {
+        to_column(stroke, column).unsigned_abs()
+    }
+}
+
+/// Whether so many steps come to the cell.
+fn comes_to(stroke: &Stroke, column: i32, row: i32, step: u64) -> bool
+    requires { step ≤ steps_lem stroke.now }
+    ensures { result ≡ comes_to_lem stroke.now column row step }
+{
+    comes_to_column(stroke, column, step) && comes_to_row(stroke, row, step)
+}
+
+fn comes_to_column(stroke: &Stroke, column: i32, step: u64) -> bool
+    requires { step ≤ steps_lem stroke.now }
+    ensures { result ≡ comes_to_column_lem stroke.now column step }
+{
+    gone(steps(stroke), across(stroke), step) == to_column(stroke, column)
+}
+
+fn comes_to_row(stroke: &Stroke, row: i32, step: u64) -> bool
+    requires { step ≤ steps_lem stroke.now }
+    ensures { result ≡ comes_to_row_lem stroke.now row step }
+{
+    gone(steps(stroke), down(stroke), step) == to_row(stroke, row)
+}
+
+/// How far so many of the steps over a distance go.
+fn gone(steps: u64, distance: i64, step: u64) -> i64
+    requires few { steps ≤ 2 ^ 16 }
+    requires near { IsNear 0xFFFF distance }
+    requires on_the_way { step ≤ steps }
+    ensures { result ≡ gone_lem steps distance step }
+{
+    if steps == 0 {
+        return 0;
+    }
+    (twice(step, distance) + steps as i64).div_euclid((2 * steps) as i64)
+}
+
+/// Twice the product.
+fn twice(step: u64, distance: i64) -> i64
+    requires few { step ≤ 2 ^ 16 }
+    requires near { IsNear 0xFFFF distance }
+    ensures number { result ≡ pos (2 * step) *ℤ distance }
+    ensures near { IsNear (2 ^ 33) result }
+{
+    (2 * step) as i64 * distance
+}
+
+/// How far the column is from the first cell.
+fn to_column(stroke: &Stroke, column: i32) -> i64
+    ensures { result ≡ column -ℤ stroke.now.first.column }
+{
+    i64::from(column) - i64::from(stroke.first.column)
+}
+
+/// How far the row is from the first cell.
+fn to_row(stroke: &Stroke, row: i32) -> i64
+    ensures { result ≡ row -ℤ stroke.now.first.row }
+{
+    i64::from(row) - i64::from(stroke.first.row)
+}
+
+fn steps(stroke: &Stroke) -> u64
+    ensures number { result ≡ steps_lem stroke.now }
+    ensures few { result ≤ 2 ^ 16 }
+{
+    let across = across(stroke).unsigned_abs();
+    let down = down(stroke).unsigned_abs();
+    if across <= down { down } else { across }
+}
+
+fn across(stroke: &Stroke) -> i64
+    ensures number { result ≡ across_lem stroke.now }
+    ensures near { IsNear 0xFFFF result }
+{
+    i64::from(stroke.last.column) - i64::from(stroke.first.column)
+}
+
+fn down(stroke: &Stroke) -> i64
+    ensures number { result ≡ down_lem stroke.now }
+    ensures near { IsNear 0xFFFF result }
+{
+    i64::from(stroke.last.row) - i64::from(stroke.first.row)
+}

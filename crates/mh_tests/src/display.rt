@@ -1,0 +1,102 @@
+//! Texts as they are laid out in their boxes.
+use crate::cases::{Question, all_hold, bytes, said, word};
+use mh_base::Area;
+use mh_display::{Line, character_at, lay_out};
+use mh_group::Justification;
+use std::alloc::Global;
+
+/// A justification, whether lines are wrapped, and a box by its place and its size in units; then a text,
+/// and its lines, each behind the column of the box at which it begins.
+static LAID: &str = r#"
+start wrap 0 0 120 64: one two three\0d\abcdefghijklm \1b 43 04 00 ff 00 00\x\ff\y
+=> 0 one two|0 three|0 abcdefghij|0 klm x\ef bf bd\y|;;
+end wrap -5 3 120 32: one two three\0d\abc => 3 one two|5 three| -- the third is below the box;;
+centre cut 0 0 120 64: one two three\0d\abcdefghijklm => 0 one two th|0 abcdefghij|;;
+centre wrap 0 0 120 64:  => 5 | -- an empty text is an empty paragraph;;
+centre wrap 0 0 120 64: a\0d 0d 1b\ => 4 a|5 |5 |;;
+start wrap 0 0 11 640: a b  c => 0 a|0 b|0  |0 c| -- a column alone;;
+start wrap 1 0 11 640: a b  c =>  -- no column, with wrapping;;
+start cut 1 0 11 640: a b\0d\c => 0 |0 | -- no column, without it;;
+start cut 0 0 120 16: a\1b 61\b\1b 20\c\1b 43 01\ => 0 ab c| -- escapes, the last one cut"#;
+
+fn area_of(form: &str) -> Option<Area> {
+    Some(Area {
+        x: word(form, 2).parse::<i32>().ok()?,
+        y: word(form, 3).parse::<i32>().ok()?,
+        width: word(form, 4).parse::<i32>().ok()?,
+        height: word(form, 5).parse::<i32>().ok()?,
+    })
+}
+
+fn justification_of(form: &str) -> Justification {
+    match word(form, 0) {
+        "end" => Justification::End,
+        "centre" => Justification::Centre,
+        _ => Justification::Start,
+    }
+}
+
+/// The lines of the text in this form.
+fn lines_of(alloc: Global, form: &str, text: &[u8]) -> Option<Vec<Line>> {
+    let area = area_of(form)?;
+    let wraps = word(form, 1) == "wrap";
+    lay_out(alloc, text, &area, wraps, justification_of(form)).ok()
+}
+
+fn put_line(alloc: Global, told: &mut Vec<u8>, line: &Line) -> Option<()> {
+    let column = line.column;
+    told.extend_from_slice(format!(in alloc; "{column} ").ok()?.as_bytes())
+        .ok()?;
+    for scalar in line.scalars.as_slice() {
+        let scalar = char::from_u32(*scalar)?;
+        told.extend_from_slice(format!(in alloc; "{scalar}").ok()?.as_bytes())
+            .ok()?;
+    }
+    told.push(b'\n').ok()
+}
+
+struct Laid;
+
+impl Question for Laid {
+    fn answer(alloc: Global, asked: &str, _: &[u8]) -> Option<Vec<u8>> {
+        let (form, text) = asked.split_once(": ")?;
+        let text = bytes(alloc, text)?;
+        let mut told = Vec::new(alloc);
+        for line in &lines_of(alloc, form, text.as_slice())? {
+            put_line(alloc, &mut told, line)?;
+        }
+        Some(told)
+    }
+}
+
+#[test]
+fn lays_texts_out(rt: HostRuntime) {
+    all_hold::<Laid>(&rt, rt.alloc(), LAID);
+}
+
+/// A column and a row of the screen, and the character that a text at the right of a box shows there.
+static SHOWN: &str = r#"
+3 1 => o;; 6 1 => none;; 9 1 => o;; 10 1 => none;; 3 0 => none;; 5 2 => t;; 4 2 => none;; 5 3 => none"#;
+
+struct Shown;
+
+impl Question for Shown {
+    fn answer(alloc: Global, asked: &str, _: &[u8]) -> Option<Vec<u8>> {
+        let form = "end wrap -5 3 120 32";
+        let lines = lines_of(alloc, form, b"one two three\rx")?;
+        let column = word(asked, 0).parse::<u32>().ok()?;
+        let row = word(asked, 1).parse::<u32>().ok()?;
+        match character_at(lines.as_slice(), &area_of(form)?, column, row) {
+            Some(scalar) => {
+                let scalar = char::from_u32(scalar)?;
+                Some(format!(in alloc; "{scalar}").ok()?.into_bytes())
+            }
+            None => said(alloc, b"none"),
+        }
+    }
+}
+
+#[test]
+fn shows_characters_in_cells(rt: HostRuntime) {
+    all_hold::<Shown>(&rt, rt.alloc(), SHOWN);
+}
