@@ -3,7 +3,8 @@ use Rattle.std.specs.Prelude.{◌≡◌, ◌↔◌, ◌&&◌, IsTrue, ℤ, pos, 
 use Rattle.std.specs.Int.{int_div_euclid}
 use Rattle.std.proofs.Common.{arith}
 use Rattle.std.proofs.lemmas.Int.{ints, by_lt_z}
-use Rattle.mh_display.specs.Boxes.{within, column_from, row_from, or_zero}
+use Rattle.mh_model.specs.Picture.{within}
+use Rattle.mh_display.specs.Boxes.{column_from, row_from, or_zero}
 use Rattle.mh_display.specs.Laws.{ColumnsAreCovered, RowsAreCovered}
 
 -- two tests, and what they say

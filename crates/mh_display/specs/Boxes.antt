@@ -1,11 +1,7 @@
 -- Boxes and the cells that they cover. A cell is 12 units wide and 16 high; its place is the unit in its upper left corner.
-use Rattle.std.specs.Prelude.{ℕ, Bool, ◌&&◌, ℤ, pos, negsuc, ◌+ℤ◌, ◌-ℤ◌, int_le, int_lt, ◌≤ℤ◌}
+use Rattle.std.specs.Prelude.{ℕ, ℤ, pos, negsuc, ◌+ℤ◌, ◌-ℤ◌, ◌≤ℤ◌}
 use Rattle.std.specs.Int.{int_div_euclid}
 use Rattle.mh_base.specs.declared.area.Area.{Area}
-
--- a stretch of the size from the start on has this unit
-abbrev pub within : ℤ → ℤ → ℤ → Bool
-within start size at = int_le start at && int_lt at (start +ℤ size)
 
 -- the number of the first column, and of the first row, that begins at the unit or behind it
 abbrev pub column_from : ℤ → ℤ

@@ -1,7 +1,8 @@
 -- The laws of the lay-out.
 use Rattle.std.specs.Prelude.{◌≡◌, ◌↔◌, ℕ, ◌<◌, List, IsTrue, ℤ, pos, ◌+ℤ◌, ◌*ℤ◌, ◌≤ℤ◌, ◌<ℤ◌}
 use Rattle.mh_base.specs.declared.area.Area.{Area}
-use Rattle.mh_display.specs.Boxes.{within, first_column, first_row, columns_of, rows_of}
+use Rattle.mh_model.specs.Picture.{within}
+use Rattle.mh_display.specs.Boxes.{first_column, first_row, columns_of, rows_of}
 use Rattle.mh_display.specs.Lines.{AreLines, lines_of}
 
 -- for w above 0 a paragraph has one division into lines

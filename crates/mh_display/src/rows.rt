@@ -3,12 +3,7 @@ ghost use Rattle.std.specs.Prelude.{◌≡◌, ◌+◌, ◌<◌, ◌≤◌, ℕ,
 ghost use Rattle.mh_display.specs.Rows.{same_row as same_row_lem, same_stretch as same_stretch_lem};
 
 use mh_model::Picture;
-
-/// The columns of the picture.
-const COLUMNS: usize = 60;
-
-/// The rows of the picture.
-const ROWS: usize = 36;
+use mh_model::picture::{COLUMNS, ROWS};
 
 /// Which rows of the picture (from the top, 36 rows of 60 cells) differ in a cell: in its character, in its
 /// colour, or in the colour behind it.

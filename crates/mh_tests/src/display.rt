@@ -1,7 +1,7 @@
 //! Texts as they are laid out in their boxes.
 use crate::cases::{Question, all_hold, bytes, said, word};
 use mh_base::Area;
-use mh_display::{Line, character_at, lay_out};
+use mh_display::{Line, Picture, Spot, Stroke, changed_rows, character_at, goes_through, lay_out};
 use mh_group::Justification;
 use std::alloc::Global;
 
@@ -99,4 +99,85 @@ impl Question for Shown {
 #[test]
 fn shows_characters_in_cells(rt: HostRuntime) {
     all_hold::<Shown>(&rt, rt.alloc(), SHOWN);
+}
+
+/// The first and the last cell of a drawn line, each by its column and row, and a cell; whether the line
+/// goes through it.
+static DRAWN: &str = r#"
+0 0 4 1 0 0 => yes;; 0 0 4 1 1 0 => yes;; 0 0 4 1 2 0 => no;; 0 0 4 1 2 1 => yes;;
+0 0 4 1 4 1 => yes;; 0 0 4 1 5 1 => no;; 0 0 4 1 -1 0 => no;; 4 1 0 0 2 1 => yes;; 4 1 0 0 1 0 => yes;;
+4 1 0 0 1 1 => no;; 0 0 1 -4 0 -1 => yes;; 0 0 1 -4 1 -2 => yes;; 0 0 1 -4 0 -2 => no;;
+3 3 3 3 3 3 => yes;; 3 3 3 3 3 4 => no"#;
+
+fn coordinate(asked: &str, at: usize) -> Option<i16> {
+    word(asked, at).parse::<i16>().ok()
+}
+
+fn spot_of(asked: &str, at: usize) -> Option<Spot> {
+    Some(Spot {
+        column: coordinate(asked, at)?,
+        row: coordinate(asked, at.checked_add(1)?)?,
+    })
+}
+
+struct Drawn;
+
+impl Question for Drawn {
+    fn answer(alloc: Global, asked: &str, _: &[u8]) -> Option<Vec<u8>> {
+        let stroke = Stroke {
+            first: spot_of(asked, 0)?,
+            last: spot_of(asked, 2)?,
+        };
+        let cell = spot_of(asked, 4)?;
+        if goes_through(&stroke, i32::from(cell.column), i32::from(cell.row)) {
+            said(alloc, b"yes")
+        } else {
+            said(alloc, b"no")
+        }
+    }
+}
+
+#[test]
+fn draws_lines_through_cells(rt: HostRuntime) {
+    all_hold::<Drawn>(&rt, rt.alloc(), DRAWN);
+}
+
+/// Cells that get another colour, and the rows that differ then.
+static CHANGED: &str = r#"
+0 => 0 ;; 59 => 0 ;; 60 => 1 ;; 59 60 => 0 1 ;; 2159 => 35 ;; 119 2100 2099 => 1 34 35 "#;
+
+/// Gives these cells of a picture another colour.
+fn recolour(picture: &mut Picture, cells: &str) -> Option<()> {
+    for cell in cells.split(' ') {
+        let at = cell.parse::<usize>().ok()?;
+        if at < 2160 {
+            picture.set_back(at, 255);
+        }
+    }
+    Some(())
+}
+
+struct Changed;
+
+impl Question for Changed {
+    fn answer(alloc: Global, asked: &str, _: &[u8]) -> Option<Vec<u8>> {
+        let before = Picture::black(alloc).ok()?;
+        let mut after = Picture::black(alloc).ok()?;
+        recolour(&mut after, asked)?;
+        let mut told = Vec::new(alloc);
+        let mut row = 0;
+        for differs in &changed_rows(&before, &after) {
+            if *differs {
+                told.extend_from_slice(format!(in alloc; "{row} ").ok()?.as_bytes())
+                    .ok()?;
+            }
+            row = u32::checked_add(row, 1)?;
+        }
+        Some(told)
+    }
+}
+
+#[test]
+fn tells_rows_that_changed(rt: HostRuntime) {
+    all_hold::<Changed>(&rt, rt.alloc(), CHANGED);
 }
