@@ -1,5 +1,5 @@
 //! What an action comes to: the values of its arguments, what is wrong with it, what it makes of
-//! one object, what that answers, and what it puts.
+//! one object and of the display stack, what that answers, and what it puts.
 //!
 //! Promise: each is what the definitions of `mh_model` say, exactly, for every action and every
 //! state. Nothing is changed here: `mh_store` carries a change out, and the machine puts items in
@@ -11,7 +11,9 @@ pub mod arguments;
 pub mod changes;
 pub mod few;
 pub mod judging;
+mod looks;
 mod numerals;
+pub mod ordering;
 mod present;
 pub mod putting;
 mod variables;

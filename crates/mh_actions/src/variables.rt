@@ -4,7 +4,7 @@ ghost use Rattle.std.specs.Prelude.{◌≡◌, ◌++◌, ◌+ℤ◌, ◌-ℤ◌,
 ghost use Rattle.mh_model.specs.Bodies as spec;
 ghost use Rattle.mh_model.specs.Bodies.{given_number, number_of as held_of};
 ghost use Rattle.mh_model.specs.Bodies.{given_octets, octets_of as held_octets};
-ghost use Rattle.mh_model.specs.Variables.{converted as converted_lem};
+ghost use Rattle.mh_model.specs.Variables.{converted as converted_lem, fits_octets};
 ghost use Rattle.mh_model.specs.Edits.{edited_if};
 
 use crate::numerals::{decimal, number_in};
@@ -15,6 +15,13 @@ use std::alloc::{AllocError, Global};
 
 /// The most octets of one string.
 const MOST_OCTETS: usize = 65535;
+
+/// The octets are not too many for one string.
+pub fn fits(octets: &[u8]) -> bool
+    ensures { result ≡ fits_octets octets.now }
+{
+    octets.len() <= MOST_OCTETS
+}
 
 /// The number that a variable holds, or 0.
 fn number_of(object: &Object) -> i32
@@ -38,7 +45,7 @@ fn octets_of(object: &Object) -> &[u8]
 
 /// The sum of what the variable holds and the term.
 pub fn added(object: &Object, term: i32) -> Option<Edit>
-    ensures { edited_if result object.now.body
+    ensures { edited_if result object.now.fixed object.now.body
         ≡ given_number (held_of object.now.fixed object.now.body +ℤ term) object.now.body }
 {
     match number_of(object).checked_add(term) {
@@ -49,7 +56,7 @@ pub fn added(object: &Object, term: i32) -> Option<Edit>
 
 /// What the variable holds less the term.
 pub fn subtracted(object: &Object, term: i32) -> Option<Edit>
-    ensures { edited_if result object.now.body
+    ensures { edited_if result object.now.fixed object.now.body
         ≡ given_number (held_of object.now.fixed object.now.body -ℤ term) object.now.body }
 {
     match number_of(object).checked_sub(term) {
@@ -60,7 +67,7 @@ pub fn subtracted(object: &Object, term: i32) -> Option<Edit>
 
 /// The product of what the variable holds and the factor.
 pub fn multiplied(object: &Object, factor: i32) -> Option<Edit>
-    ensures { edited_if result object.now.body
+    ensures { edited_if result object.now.fixed object.now.body
         ≡ given_number (held_of object.now.fixed object.now.body *ℤ factor) object.now.body }
 {
     match number_of(object).checked_mul(factor) {
@@ -71,7 +78,7 @@ pub fn multiplied(object: &Object, factor: i32) -> Option<Edit>
 
 /// The quotient, rounded towards zero. A zero divisor leaves the variable as it is.
 pub fn divided(object: &Object, divisor: i32) -> Option<Edit>
-    ensures { edited_if result object.now.body
+    ensures { edited_if result object.now.fixed object.now.body
         ≡ spec.divided int_div (held_of object.now.fixed object.now.body) divisor object.now.body }
 {
     match number_of(object).checked_div(divisor) {
@@ -83,7 +90,7 @@ pub fn divided(object: &Object, divisor: i32) -> Option<Edit>
 /// What the division leaves, with the sign of the number that is divided. A zero divisor leaves the
 /// variable as it is; the least number divided by -1 leaves 0, though its quotient is out of range.
 pub fn left_over(object: &Object, divisor: i32) -> Option<Edit>
-    ensures { edited_if result object.now.body
+    ensures { edited_if result object.now.fixed object.now.body
         ≡ spec.divided int_rem (held_of object.now.fixed object.now.body) divisor object.now.body }
 {
     if divisor == 0 {
@@ -95,7 +102,7 @@ pub fn left_over(object: &Object, divisor: i32) -> Option<Edit>
 
 /// What the variable holds with these octets behind it.
 pub fn appended(alloc: Global, object: &Object, more: &[u8]) -> Result<Option<Edit>, AllocError>
-    ensures { IfOk result (λ edit. edited_if edit object.now.body
+    ensures { IfOk result (λ edit. edited_if edit object.now.fixed object.now.body
         ≡ given_octets (held_octets object.now.fixed object.now.body ++ more.now) object.now.body) }
 {
     let held = octets_of(object);
@@ -123,7 +130,7 @@ fn converted(alloc: Global, class: Class, value: &Value) -> Result<Value, AllocE
 
 /// The value itself. Octets that are too long leave the variable as it is.
 fn stored(value: Value, object: &Object) -> Option<Edit>
-    ensures { edited_if result object.now.body ≡ spec.stored value object.now.body }
+    ensures { edited_if result object.now.fixed object.now.body ≡ spec.stored value object.now.body }
 {
     match &value {
         Value::Octets(octets) if octets.as_slice().len() > MOST_OCTETS => None,
@@ -133,7 +140,7 @@ fn stored(value: Value, object: &Object) -> Option<Edit>
 
 /// The value, as the variable holds it.
 pub fn set(alloc: Global, object: &Object, value: &Value) -> Result<Option<Edit>, AllocError>
-    ensures { IfOk result (λ edit. edited_if edit object.now.body
+    ensures { IfOk result (λ edit. edited_if edit object.now.fixed object.now.body
         ≡ spec.stored (converted_lem object.now.fixed.class value.now) object.now.body) }
 {
     let value = converted(alloc, object.fixed.get().class, value)?;

@@ -1,6 +1,10 @@
-pub mod LineLemmas
-pub mod TextLemmas
-pub mod ScalarLemmas
-pub mod DivisionLemmas
-pub mod BoxLemmas
+mod ArtLemmas
+mod CellLemmas
+mod DownLemmas
 mod DrawnLemmas
+mod NearLemmas
+mod PaintLemmas
+mod RowLemmas
+mod SpoilLemmas
+mod StackLemmas
+mod WindowLemmas

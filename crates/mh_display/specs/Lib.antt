@@ -1,7 +1,8 @@
-pub mod Scalars
-pub mod Lines
-pub mod Boxes
-pub mod Layout
-pub mod Laws
+pub mod Painting
+pub mod Panels
 pub mod Rows
-pub mod Drawn
+pub mod Shelf
+pub mod Strokes
+pub mod Surface
+pub mod Texts
+pub mod Windows

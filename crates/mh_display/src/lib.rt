@@ -1,22 +1,30 @@
-//! What a text looks like: its scalars, its lines in its box, and the character that each cell shows; which
-//! cells a drawn line goes through; and in which rows two pictures differ.
+//! The display: the stack of visibles, and the picture that is kept and painted anew where it has changed.
 //!
-//! Promise: the lines are those of the profile's rules, which `specs/` says, and a paragraph has one
-//! division into lines only. In which order texts and other visibles are painted is left to the machine.
+//! Promise: after a repaint the picture is that of `mh_model`'s definitions, cell by cell. How a text's lines
+//! are laid out is left to the store, and when to paint to the machine.
 #![tactic(auto)]
 
-mod boxes;
-mod laws;
-mod layout;
-pub mod line;
+mod art;
+mod characters;
+mod frame;
+mod looks;
+mod marked;
+mod painting;
+mod panel;
+mod panels;
 mod rows;
-mod scalars;
+pub mod screen;
+mod spoiling;
+pub mod stack;
 pub mod stroke;
-mod wrapping;
+mod strokes;
+mod texts;
+mod window;
 
-pub use laws::{columns_are_covered, one_division, rows_are_covered};
-pub use layout::{character_at, lay_out};
-pub use line::Line;
+pub use characters::character_at;
 pub use mh_model::Picture;
+pub use mh_store::{columns_are_covered, lay_out, one_division, rows_are_covered};
 pub use rows::changed_rows;
-pub use stroke::{Spot, Stroke, goes_through};
+pub use screen::Screen;
+pub use stack::Stack;
+pub use stroke::{goes_through, stroke_of};

@@ -1,29 +1,72 @@
-//! `Stroke`: a drawn line, by the cells of its two ends.
+//! Drawn lines, by the cells of their two ends (LineArt of ISO/IEC 13522-5).
 //!
-//! Cells are counted from the upper left cell of the drawing's box. The profile's drawings stay within
-//! 10,000 units of it, so 16 bits hold each number, and no sum or product here overflows 64 bits.
-ghost use Rattle.std.specs.Prelude.{◌≡◌, ◌≤◌, ◌^◌, ◌*◌, ◌*ℤ◌, ◌-ℤ◌, pos};
-ghost use Rattle.mh_display.specs.Boxes.{IsNear};
-ghost use Rattle.mh_display.specs.Drawn.{across as across_lem, comes_to as comes_to_lem, comes_to_column as comes_to_column_lem, comes_to_row as comes_to_row_lem, down as down_lem, goes_through as goes_through_lem, gone as gone_lem, step_to as step_to_lem, steps as steps_lem};
+//! The points of a drawing are told in 16 bits from one corner, so the cells of its ends are near one another,
+//! and no sum or product here overflows 64 bits.
+ghost use Rattle.std.specs.Prelude.{◌≡◌, ◌≤◌, ◌^◌, ◌*◌, ◌*ℤ◌, ◌+ℤ◌, ◌-ℤ◌, pos};
+ghost use Rattle.std.specs.Int.{int_div_euclid};
+ghost use Rattle.mh_model.specs.Boxes.{IsNear};
+ghost use Rattle.mh_model.specs.Drawn.{across as across_lem, comes_to as comes_to_lem, comes_to_column as comes_to_column_lem, comes_to_row as comes_to_row_lem, down as down_lem, goes_through as goes_through_lem, gone as gone_lem, spot_of as spot_of_lem, steps as steps_lem, stroke_of as stroke_of_lem};
+ghost use Rattle.mh_display.specs.Strokes.{IsInReach, IsShort, step_to as step_to_lem};
 
-/// The column and the row of a cell.
-#[derive(Clone, Copy)]
-pub struct Spot {
-    pub column: i16,
-    pub row: i16,
+use mh_base::Area;
+use mh_model::{Drawing, Point, Spot, Stroke};
+
+/// The line of a drawing in a box.
+pub fn stroke_of(area: &Area, drawing: &Drawing) -> Stroke
+    ensures stroke { result ≡ stroke_of_lem area.now drawing.now }
+    ensures short { IsShort result }
+{
+    Stroke {
+        first: spot_of(area, &drawing.from),
+        last: spot_of(area, &drawing.to),
+    }
 }
 
-/// A line from one cell to another (LineArt of ISO/IEC 13522-5).
-#[derive(Clone, Copy)]
-pub struct Stroke {
-    pub first: Spot,
-    pub last: Spot,
+/// The cell in which a point of a drawing lies.
+fn spot_of(area: &Area, point: &Point) -> Spot
+    ensures spot { result ≡ spot_of_lem area.now point.now }
+    ensures column { IsNear (2 ^ 33) result.column }
+    ensures row { IsNear (2 ^ 33) result.row }
+    ensures near { IsInReach point.now }
+{
+    Spot {
+        column: column_at(place(area.x, point.x)),
+        row: row_at(place(area.y, point.y)),
+    }
+}
+
+/// The unit so far from the start.
+fn place(start: i32, offset: i16) -> i64
+    ensures number { result ≡ start +ℤ offset }
+    ensures near { IsNear (2 ^ 33) result }
+    ensures reach { IsNear 0x8000 offset }
+{
+    i64::from(start) + i64::from(offset)
+}
+
+/// The column of cells that has the unit.
+fn column_at(unit: i64) -> i64
+    requires { IsNear (2 ^ 33) unit }
+    ensures number { result ≡ int_div_euclid unit (pos 12) }
+    ensures near { IsNear (2 ^ 33) result }
+{
+    unit.div_euclid(12)
+}
+
+/// The row of cells that has the unit.
+fn row_at(unit: i64) -> i64
+    requires { IsNear (2 ^ 33) unit }
+    ensures number { result ≡ int_div_euclid unit (pos 16) }
+    ensures near { IsNear (2 ^ 33) result }
+{
+    unit.div_euclid(16)
 }
 
 /// Whether the line goes through the cell in this column and row. It goes in as many equal steps as there
 /// are cells in its longer direction, and in the other one to the nearest cell; from the middle between two,
 /// to the one with the higher number.
 pub fn goes_through(stroke: &Stroke, column: i32, row: i32) -> bool
+    requires short { IsShort stroke.now }
     ensures { result ≡ goes_through_lem stroke.now column row }
 {
     let step = step_to(stroke, column, row);
@@ -32,6 +75,7 @@ pub fn goes_through(stroke: &Stroke, column: i32, row: i32) -> bool
 
 /// The one number of steps that can come to the cell: in the longer direction each goes on by one.
 fn step_to(stroke: &Stroke, column: i32, row: i32) -> u64
+    requires short { IsShort stroke.now }
     ensures { result ≡ step_to_lem stroke.now column row }
 {
     if across(stroke).unsigned_abs() <= down(stroke).unsigned_abs() {
@@ -43,21 +87,24 @@ fn step_to(stroke: &Stroke, column: i32, row: i32) -> u64
 
 /// Whether so many steps come to the cell.
 fn comes_to(stroke: &Stroke, column: i32, row: i32, step: u64) -> bool
-    requires { step ≤ steps_lem stroke.now }
+    requires short { IsShort stroke.now }
+    requires on_the_way { step ≤ steps_lem stroke.now }
     ensures { result ≡ comes_to_lem stroke.now column row step }
 {
     comes_to_column(stroke, column, step) && comes_to_row(stroke, row, step)
 }
 
 fn comes_to_column(stroke: &Stroke, column: i32, step: u64) -> bool
-    requires { step ≤ steps_lem stroke.now }
+    requires short { IsShort stroke.now }
+    requires on_the_way { step ≤ steps_lem stroke.now }
     ensures { result ≡ comes_to_column_lem stroke.now column step }
 {
     gone(steps(stroke), across(stroke), step) == to_column(stroke, column)
 }
 
 fn comes_to_row(stroke: &Stroke, row: i32, step: u64) -> bool
-    requires { step ≤ steps_lem stroke.now }
+    requires short { IsShort stroke.now }
+    requires on_the_way { step ≤ steps_lem stroke.now }
     ensures { result ≡ comes_to_row_lem stroke.now row step }
 {
     gone(steps(stroke), down(stroke), step) == to_row(stroke, row)
@@ -88,19 +135,22 @@ fn twice(step: u64, distance: i64) -> i64
 
 /// How far the column is from the first cell.
 fn to_column(stroke: &Stroke, column: i32) -> i64
+    requires short { IsShort stroke.now }
     ensures { result ≡ column -ℤ stroke.now.first.column }
 {
-    i64::from(column) - i64::from(stroke.first.column)
+    i64::from(column) - stroke.first.column
 }
 
 /// How far the row is from the first cell.
 fn to_row(stroke: &Stroke, row: i32) -> i64
+    requires short { IsShort stroke.now }
     ensures { result ≡ row -ℤ stroke.now.first.row }
 {
-    i64::from(row) - i64::from(stroke.first.row)
+    i64::from(row) - stroke.first.row
 }
 
 fn steps(stroke: &Stroke) -> u64
+    requires short { IsShort stroke.now }
     ensures number { result ≡ steps_lem stroke.now }
     ensures few { result ≤ 2 ^ 16 }
 {
@@ -110,15 +160,17 @@ fn steps(stroke: &Stroke) -> u64
 }
 
 fn across(stroke: &Stroke) -> i64
+    requires short { IsShort stroke.now }
     ensures number { result ≡ across_lem stroke.now }
     ensures near { IsNear 0xFFFF result }
 {
-    i64::from(stroke.last.column) - i64::from(stroke.first.column)
+    stroke.last.column - stroke.first.column
 }
 
 fn down(stroke: &Stroke) -> i64
+    requires short { IsShort stroke.now }
     ensures number { result ≡ down_lem stroke.now }
     ensures near { IsNear 0xFFFF result }
 {
-    i64::from(stroke.last.row) - i64::from(stroke.first.row)
+    stroke.last.row - stroke.first.row
 }

@@ -1,15 +1,16 @@
 -- Engines whose service was accepted.
-use Rattle.std.specs.Prelude.{◌≡◌, true, false, List, Option, Some, None, slice_get, refl}
+use Rattle.std.specs.Prelude.{◌≡◌, ℕ, zero, suc, true, false, List, Option, Some, None, slice_get, refl}
 use Rattle.std.proofs.Common.{ap, sym, subst}
 use Rattle.mh_model.specs.declared.input.Waiting.{Waiting}
 use Rattle.mh_model.specs.declared.item.Item.{Item}
 use Rattle.mh_model.specs.declared.input.Move.{Move}
 use Rattle.mh_model.specs.State.{State}
-use Rattle.mh_model.specs.Step.{run}
+use Rattle.mh_model.specs.Step.{run, stepped, advanced}
 use Rattle.mh_model.specs.Safe.{IsSafe}
 use Rattle.mh_model.specs.Headline.{fault_at, front_fault, IsFaultless}
-use Rattle.mh_model.proofs.SafeLemmas.{safe_front, safe_run, safe_faultless}
+use Rattle.mh_model.proofs.SafeLemmas.{safe_front, safe_run, safe_stepped, safe_faultless}
 use Rattle.mh_engine.specs.Play.{Play}
+use Rattle.mh_machine.specs.Working.{IsPartly}
 use Rattle.mh_machine.specs.Rest.{is_faulted, judged, answer_by, answer_of}
 
 -- where the first item is not stuck, no step answers that it was
@@ -31,3 +32,15 @@ kept_front p keeps accepted = safe_front p.state (keeps accepted)
 -- however an engine whose service was accepted is run, no item is stuck then and no fault was noted
 pub kept_run : (p : Play) → KeepsSafe p → (ms : List Move) (s : State) → s ≡ run ms p.state → p.accepted ≡ true → IsFaultless s
 kept_run p keeps ms s is accepted = subst IsFaultless (sym is) (safe_faultless (run ms p.state) (safe_run ms p.state (keeps accepted)))
+
+-- and so it is behind so many steps, or some of them
+safe_advanced : (n : ℕ) (s : State) → IsSafe s → IsSafe (advanced n s)
+unfolding advanced
+safe_advanced zero s k = k
+safe_advanced (suc n) s k = safe_advanced n (stepped s) (safe_stepped s k)
+
+pub advanced_safe : (n : ℕ) (s after : State) → after ≡ advanced n s → IsSafe s → IsSafe after
+advanced_safe n s after is k = subst IsSafe (sym is) (safe_advanced n s k)
+
+pub partly_safe : (n : ℕ) (s after : State) → IsPartly n s after → IsSafe s → IsSafe after
+partly_safe n s after some k = advanced_safe some.made s after some.after_them k

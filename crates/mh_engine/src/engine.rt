@@ -1,10 +1,12 @@
 //! `Engine`: a machine that can be refused memory, and runs of it.
 ghost use Rattle.std.specs.Prelude.{◌≡◌, ◌+◌, ◌<◌, ◌^◌, true, false, None, [], length, take, slice_get, Some, IfOk, IfErr, OnOk, OnErr, IsErrOf, IsErrAnd, MatchOption};
 ghost use Rattle.mh_model.specs.State.{begun};
-ghost use Rattle.mh_model.specs.Step.{step as step_lem, stepped, posted, is_full, is_idle, moved, run as run_lem, most_steps};
+ghost use Rattle.mh_model.specs.Step.{step as step_lem, stepped, posted, is_full, is_idle, moved, advanced, run as run_lem, most_steps};
 ghost use Rattle.mh_model.specs.Headline.{front_fault};
+ghost use Rattle.mh_model.specs.Safe.{IsSafe};
 ghost use Rattle.mh_model.specs.Picture.{shown};
 ghost use Rattle.mh_machine.specs.Rest.{answer_of, is_faulted, rest_of};
+ghost use Rattle.mh_machine.specs.Working.{IsPartly};
 ghost use Rattle.mh_engine.specs.Answer.{is_counted, are_counted, step_refusal, post_refusal, stopped_after};
 
 use crate::refusal::{Refused, RefusedWhy, RunEnd, StepError, Unaccepted};
@@ -123,6 +125,43 @@ impl Engine {
         }
     }
 
+    /// Makes so many steps, or as many as there is something to do and as are counted; the picture is
+    /// painted once, behind the last of them. Where memory is refused some of the steps were made, and the
+    /// engine makes no further one.
+    pub fn advance(&mut self, most: u32) -> Result<(), StepError>
+        ensures all { OnOk result (self.new ≡ record self.old { state = advanced most self.old.state }) }
+        ensures running { OnOk result (self.old.stopped ≡ false) }
+        ensures stopped { IsErrOf result StepError.Stopped → (self.old.stopped ≡ true) × (self.new ≡ self.old) }
+        ensures some { IsErrOf result StepError.NoMemory → IsPartly most self.old.state self.new.state }
+        ensures flag { IsErrOf result StepError.NoMemory → (self.old.stopped ≡ false) × (self.new.stopped ≡ true) }
+        ensures same { self.new.accepted ≡ self.old.accepted }
+        ensures others { IsErrOf result StepError.CountFull → ⊥ }
+    {
+        if self.stopped {
+            Err(StepError::Stopped)
+        } else {
+            self.make_steps(most)
+        }
+    }
+
+    /// So many steps of an engine that has not stopped.
+    fn make_steps(&mut self, most: u32) -> Result<(), StepError>
+        requires { self.old.stopped ≡ false }
+        ensures all { OnOk result (self.new ≡ record self.old { state = advanced most self.old.state }) }
+        ensures some { OnErr result (IsPartly most self.old.state self.new.state) }
+        ensures flag { OnErr result (self.new.stopped ≡ true) }
+        ensures same { self.new.accepted ≡ self.old.accepted }
+        ensures why { IfErr result (λ why. why ≡ StepError.NoMemory) }
+    {
+        match advance_by(&mut self.machine, self.accepted, most) {
+            Ok(()) => Ok(()),
+            Err(_) => {
+                self.stopped = true;
+                Err(StepError::NoMemory)
+            }
+        }
+    }
+
     /// The picture that is shown.
     pub fn picture(&self) -> &Picture
         ensures { result.now ≡ shown self.now.state }
@@ -165,6 +204,19 @@ fn advance(machine: &mut Machine, accepted: bool) -> Result<Stepped, AllocError>
         machine.step_free()
     } else {
         machine.step()
+    }
+}
+
+/// So many steps of a machine. For a service that was accepted nothing is asked of an item.
+fn advance_by(machine: &mut Machine, accepted: bool, most: u32) -> Result<(), AllocError>
+    requires safe { accepted ≡ true → IsSafe machine.old }
+    ensures all { OnOk result (machine.new ≡ advanced most machine.old) }
+    ensures some { OnErr result (IsPartly most machine.old machine.new) }
+{
+    if accepted {
+        machine.advance_free(most)
+    } else {
+        machine.advance(most)
     }
 }
 

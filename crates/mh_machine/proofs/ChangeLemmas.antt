@@ -1,5 +1,5 @@
 -- Changing the body of an object that was found.
-use Rattle.std.specs.Prelude.{◌≡◌, ℕ, Bool, true, false, ◌||◌, if◌then◌else◌, cond, List, [], ◌∷◌, ◌++◌, map, Option, Some, None, refl}
+use Rattle.std.specs.Prelude.{◌≡◌, ℕ, ◌≤◌, Bool, true, false, ◌||◌, if◌then◌else◌, cond, List, [], ◌∷◌, ◌++◌, map, Option, Some, None, refl}
 use Rattle.std.specs.List.{list_any}
 use Rattle.std.specs.Option.{option_map_or}
 use Rattle.std.proofs.Common.{ap, ◌∙◌, sym, subst}
@@ -7,8 +7,6 @@ use Rattle.mh_base.specs.declared.obj_ref.ObjRef.{ObjRef}
 use Rattle.mh_model.specs.declared.object.Body.{Body}
 use Rattle.mh_model.specs.declared.object.Fixed.{Fixed}
 use Rattle.mh_model.specs.declared.object.Object.{Object}
-use Rattle.mh_model.specs.Planes.{Planes}
-use Rattle.mh_model.specs.Picture.{picture}
 use Rattle.mh_model.specs.Service.{Service, object_at, group_parts, parts, fresh}
 use Rattle.mh_model.specs.State.{Objects, all}
 use Rattle.mh_model.specs.Rules.{is_at, on_body, changed_in, changed}
@@ -118,9 +116,9 @@ idle r os =
 pub makes_none : (f : Fixed → Body → Body) (r : ObjRef) → Makes change.Nothing f r None
 makes_none f r os e = unchanged f r os e
 
-pub makes_edit : (f : Fixed → Body → Body) (r : ObjRef) (o : Object) (m : Option Edit) → edited_if m o.body ≡ f o.fixed o.body → Makes (change_at r m) f r (Some o)
+pub makes_edit : (f : Fixed → Body → Body) (r : ObjRef) (o : Object) (m : Option Edit) → edited_if m o.fixed o.body ≡ f o.fixed o.body → Makes (change_at r m) f r (Some o)
 makes_edit f r o None same os e = sym (idle r os) ∙ agreeing f (λ p b. b) r os o e same
-makes_edit f r o (Some x) same os e = agreeing f (λ p b. edited x b) r os o e same
+makes_edit f r o (Some x) same os e = agreeing f (edited x) r os o e same
 
 -- no change touches what the files say
 pub same_parts : (f : Fixed → Body → Body) (r : ObjRef) (os : Objects) → parts (all (changed f r os)) ≡ parts (all os)
@@ -139,10 +137,10 @@ pub begun_own : (ps : List Fixed) (os : Objects) → os ≡ record { application
 begun_own ps os e = ap (λ (x : Objects). parts x.application) e ∙ parts-fresh ps
 
 -- what a machine keeps, when the scene has been exchanged
-pub exchanged : (v : Service) (app : List ℕ) (os after : Objects) (ps own : List Fixed) (stack places : List ObjRef) (links : List (ObjRef × List ℕ)) (shown : Planes)
+pub exchanged : (v : Service) (app : List ℕ) (os after : Objects) (ps own : List Fixed) (links : List (ObjRef × List ℕ)) (locks taken : ℕ)
     → after ≡ record os { scene = map fresh ps } → parts os.application ≡ group_parts v app → own ≡ group_parts v app → IsIndex links (own ++ ps)
-    → stack ≡ places → shown ≡ picture (all after) places → Holds v app after stack links shown
-exchanged v app os after ps own stack places links shown e kept is_own index same painted =
+    → locks ≤ taken → Holds v app after links locks taken
+exchanged v app os after ps own links locks taken e kept is_own index counted =
     let first : parts after.application ≡ group_parts v app = ap (λ (x : Objects). parts x.application) e ∙ kept in
     let second : parts after.scene ≡ ps = ap (λ (x : Objects). parts x.scene) e ∙ parts-fresh ps in
     let whole : parts (all after) ≡ own ++ ps =
@@ -150,11 +148,14 @@ exchanged v app os after ps own stack places links shown e kept is_own index sam
     record {
       own = first;
       index = subst (IsIndex links) (sym whole) index;
-      painted = painted ∙ ap (picture (all after)) (sym same);
+      counted = counted;
     }
 
--- the same objects and the same stack
-pub holds_same : (v : Service) (app : List ℕ) (os after : Objects) (stack places : List ObjRef) (links : List (ObjRef × List ℕ)) (shown : Planes) → after ≡ os → places ≡ stack → Holds v app os stack links shown → Holds v app after places links shown
-holds_same v app os after stack places links shown e f k =
-    subst (λ (x : Objects). Holds v app x places links shown) (sym e)
-    (subst (λ (x : List ObjRef). Holds v app os x links shown) (sym f) k)
+-- what a machine keeps, when bodies have changed
+pub holds_changed : (v : Service) (app : List ℕ) (os after : Objects) (links : List (ObjRef × List ℕ)) (locks taken more : ℕ)
+    → parts after.application ≡ parts os.application → parts after.scene ≡ parts os.scene → locks ≤ more → Holds v app os links locks taken → Holds v app after links locks more
+holds_changed v app os after links locks taken more own others counted k = record {
+  own = own ∙ k.own;
+  index = subst (IsIndex links) (sym (parts-all after ∙ ap (λ (t : List Fixed). t ++ parts after.scene) own ∙ ap (λ (t : List Fixed). parts os.application ++ t) others ∙ sym (parts-all os))) k.index;
+  counted = counted;
+}

@@ -3,8 +3,6 @@ pub mod Holds
 pub mod Links
 pub mod Pieces
 pub mod Plans
-pub mod Repair
 pub mod Rest
-pub mod Rows
-pub mod Screen
-pub mod Windows
+pub mod Stage
+pub mod Working

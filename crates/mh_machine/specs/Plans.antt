@@ -11,6 +11,7 @@ use Rattle.mh_model.specs.declared.object.Body.{Body}
 use Rattle.mh_model.specs.declared.object.Fixed.{Fixed}
 use Rattle.mh_model.specs.declared.object.Object.{Object}
 use Rattle.mh_base.specs.declared.value.Value.{Value}
+use Rattle.mh_actions.specs.Moved.{moved}
 use Rattle.mh_model.specs.Bodies.{given}
 use Rattle.mh_model.specs.Edits.{edited}
 use Rattle.mh_model.specs.Lifecycle.{without}
@@ -40,7 +41,7 @@ gifts (r ∷ rs) (v ∷ vs) = record { at = r; value = v } ∷ gifts rs vs
 
 abbrev pub changed_as : Change → Objects → Objects
 changed_as change.Nothing os = os
-changed_as (change.Edit r e) os = changed (λ p b. edited e b) r os
+changed_as (change.Edit r e) os = changed (edited e) r os
 changed_as (change.Give gs) os = given_all gs os
 
 -- the change of the object at the reference, if there is one
@@ -60,6 +61,7 @@ abbrev pub restacked : Stacking → List ObjRef → List ObjRef
 restacked stacking.Same stack = stack
 restacked (stacking.Rise r) stack = stack ++ r ∷ []
 restacked (stacking.Fall r) stack = without r stack
+restacked (stacking.Move r how) stack = moved how r stack
 
 abbrev pub queued : Option Event → List Waiting → List Waiting
 queued None queue = queue

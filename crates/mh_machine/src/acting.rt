@@ -5,12 +5,12 @@ ghost use Rattle.mh_model.specs.State.{all};
 ghost use Rattle.mh_model.specs.Step.{done};
 ghost use Rattle.mh_model.specs.Arguments as said;
 ghost use Rattle.mh_model.specs.Bodies.{changed_by};
-ghost use Rattle.mh_model.specs.Rules.{act_on, change_rule, ask_rule, put_rule, transition_rule};
+ghost use Rattle.mh_model.specs.Rules.{act_on, change_rule, ask_rule, put_rule, order_rule, transition_rule, lock_rule, locked, unlocked};
 ghost use Rattle.mh_machine.specs.Plans.{taken_from, MakesFound};
 
-use crate::machine::Machine;
 use crate::plan::Plan;
 use crate::puts::entering;
+use crate::works::Works;
 use mh_actions::arguments::{referred, values};
 use mh_actions::changes::edit_by;
 use mh_actions::putting::put_items;
@@ -21,15 +21,15 @@ use mh_model::sort::{Sort, sort_of};
 use mh_model::{Act, Edit, Event, Item, Object, Target, Waiting};
 use std::alloc::{AllocError, Global};
 
-impl Machine {
+impl Works {
     /// An event: the actions of all links that hear it, at once or when it is taken from the queue.
     pub(crate) fn do_emit(&mut self, event: &Event) -> Result<(), AllocError>
-        requires { self.old.taken + 1 < 2 ^ 64 }
-        ensures done { OnOk result (self.new ≡ done (Item.Emit event.now) self.old) }
-        ensures kept { OnErr result (self.new ≡ self.old) }
+        requires { self.old.state.taken + 1 < 2 ^ 64 }
+        ensures done { OnOk result (self.new.state ≡ done (Item.Emit event.now) self.old.state) }
+        ensures kept { OnErr result (self.new.state ≡ self.old.state) }
     {
         if event.kind.is_sync() {
-            let pieces = self.links.heard(self.alloc, event, &self.objects)?;
+            let pieces = self.links.heard(self.alloc, event, self.stage.objects())?;
             self.commit_pieces(pieces)
         } else {
             self.do_wait(event)
@@ -39,10 +39,10 @@ impl Machine {
     /// An event that is taken from the queue later.
     #[inline(never)]
     fn do_wait(&mut self, event: &Event) -> Result<(), AllocError>
-        requires { self.old.taken + 1 < 2 ^ 64 }
-        ensures done { let queue = self.old.queue ++ Waiting.Event event.now ∷ [] in
-            OnOk result (self.new ≡ record (taken_from self.old) { queue = queue }) }
-        ensures kept { OnErr result (self.new ≡ self.old) }
+        requires { self.old.state.taken + 1 < 2 ^ 64 }
+        ensures done { let queue = self.old.state.queue ++ Waiting.Event event.now ∷ [] in
+            OnOk result (self.new.state ≡ record (taken_from self.old.state) { queue = queue }) }
+        ensures kept { OnErr result (self.new.state ≡ self.old.state) }
     {
         let event = event.clone()?;
         self.commit(Plan::waiting(self.alloc, event))
@@ -51,9 +51,9 @@ impl Machine {
     /// A group whose objects are there is entered.
     #[inline(never)]
     pub(crate) fn do_enter(&mut self, group: &GroupName) -> Result<(), AllocError>
-        requires { self.old.taken + 1 < 2 ^ 64 }
-        ensures done { OnOk result (self.new ≡ done (Item.Enter group.now) self.old) }
-        ensures kept { OnErr result (self.new ≡ self.old) }
+        requires { self.old.state.taken + 1 < 2 ^ 64 }
+        ensures done { OnOk result (self.new.state ≡ done (Item.Enter group.now) self.old.state) }
+        ensures kept { OnErr result (self.new.state ≡ self.old.state) }
     {
         let pieces = entering(self.alloc, group, self.service.parts(group))?;
         self.commit_pieces(pieces)
@@ -61,9 +61,9 @@ impl Machine {
 
     /// An action that is not stuck.
     pub(crate) fn do_act(&mut self, act: &Act) -> Result<(), AllocError>
-        requires { self.old.taken + 1 < 2 ^ 64 }
-        ensures done { OnOk result (self.new ≡ done (Item.Act act.now) self.old) }
-        ensures kept { OnErr result (self.new ≡ self.old) }
+        requires { self.old.state.taken + 1 < 2 ^ 64 }
+        ensures done { OnOk result (self.new.state ≡ done (Item.Act act.now) self.old.state) }
+        ensures kept { OnErr result (self.new.state ≡ self.old.state) }
     {
         match &act.target {
             Target::Direct(at) => self.do_at(act, at),
@@ -74,11 +74,11 @@ impl Machine {
     /// An action whose target is found through a variable, or not at all.
     #[inline(never)]
     fn do_through(&mut self, act: &Act) -> Result<(), AllocError>
-        requires { self.old.taken + 1 < 2 ^ 64 }
-        ensures done { OnOk result (self.new ≡ done (Item.Act act.now) self.old) }
-        ensures kept { OnErr result (self.new ≡ self.old) }
+        requires { self.old.state.taken + 1 < 2 ^ 64 }
+        ensures done { OnOk result (self.new.state ≡ done (Item.Act act.now) self.old.state) }
+        ensures kept { OnErr result (self.new.state ≡ self.old.state) }
     {
-        match copied(referred(&self.objects, &act.target))? {
+        match copied(referred(self.stage.objects(), &act.target))? {
             Some(at) => self.do_at(act, &at),
             None => {
                 self.pass();
@@ -89,20 +89,21 @@ impl Machine {
 
     /// An action whose target comes to this reference.
     fn do_at(&mut self, act: &Act, at: &ObjRef) -> Result<(), AllocError>
-        requires { self.old.taken + 1 < 2 ^ 64 }
-        ensures done { let values = said.values (all self.old.objects) act.now.arguments in
-            OnOk result (self.new
+        requires { self.old.state.taken + 1 < 2 ^ 64 }
+        ensures done { let values = said.values (all self.old.state.objects) act.now.arguments in
+            OnOk result (self.new.state
             ≡ act_on (Some at.now) act.now.name values (said.receivers act.now.arguments)
-            (taken_from self.old)) }
-        ensures kept { OnErr result (self.new ≡ self.old) }
+            (taken_from self.old.state)) }
+        ensures kept { OnErr result (self.new.state ≡ self.old.state) }
     {
         match sort_of(act.name) {
             Sort::Change => self.do_change(act, at),
             Sort::Ask => self.do_ask(act, at),
             Sort::Put => self.do_put(act, at),
+            Sort::Order => self.do_order(act, at),
             Sort::Whole if is_transition(act.name) => self.do_transition(at),
-            Sort::Whole | Sort::Order => {
-                self.pass();
+            Sort::Whole => {
+                self.do_lock(act.name);
                 Ok(())
             }
         }
@@ -110,14 +111,14 @@ impl Machine {
 
     /// An action that changes the body of its target.
     fn do_change(&mut self, act: &Act, at: &ObjRef) -> Result<(), AllocError>
-        requires { self.old.taken + 1 < 2 ^ 64 }
-        ensures done { let values = said.values (all self.old.objects) act.now.arguments in
-            OnOk result (self.new
-            ≡ change_rule act.now.name values at.now (taken_from self.old)) }
-        ensures kept { OnErr result (self.new ≡ self.old) }
+        requires { self.old.state.taken + 1 < 2 ^ 64 }
+        ensures done { let values = said.values (all self.old.state.objects) act.now.arguments in
+            OnOk result (self.new.state
+            ≡ change_rule act.now.name values at.now (taken_from self.old.state)) }
+        ensures kept { OnErr result (self.new.state ≡ self.old.state) }
     {
-        let values = values(self.alloc, &self.objects, act.arguments.as_slice())?;
-        let found = self.objects.get(at);
+        let values = values(self.alloc, self.stage.objects(), act.arguments.as_slice())?;
+        let found = self.stage.objects().get(at);
         let edit = edit_of(self.alloc, act.name, values.as_slice(), found)?;
         self.commit_change(at, edit)?;
         Ok(())
@@ -126,38 +127,85 @@ impl Machine {
     /// An action that asks its target.
     #[inline(never)]
     fn do_ask(&mut self, act: &Act, at: &ObjRef) -> Result<(), AllocError>
-        requires { self.old.taken + 1 < 2 ^ 64 }
-        ensures done { let values = said.values (all self.old.objects) act.now.arguments in
-            OnOk result (self.new
+        requires { self.old.state.taken + 1 < 2 ^ 64 }
+        ensures done { let values = said.values (all self.old.state.objects) act.now.arguments in
+            OnOk result (self.new.state
             ≡ ask_rule act.now.name values (said.receivers act.now.arguments) at.now
-            (taken_from self.old)) }
-        ensures kept { OnErr result (self.new ≡ self.old) }
+            (taken_from self.old.state)) }
+        ensures kept { OnErr result (self.new.state ≡ self.old.state) }
     {
         let plan = self.plan_ask(act, at)?;
         self.commit(plan)
     }
 
-    /// An action that puts items.
+    /// An action that puts items, and may change the body of its target.
     fn do_put(&mut self, act: &Act, at: &ObjRef) -> Result<(), AllocError>
-        requires { self.old.taken + 1 < 2 ^ 64 }
-        ensures done { let values = said.values (all self.old.objects) act.now.arguments in
-            OnOk result (self.new
-            ≡ put_rule act.now.name values at.now (taken_from self.old)) }
-        ensures kept { OnErr result (self.new ≡ self.old) }
+        requires { self.old.state.taken + 1 < 2 ^ 64 }
+        ensures done { let values = said.values (all self.old.state.objects) act.now.arguments in
+            OnOk result (self.new.state
+            ≡ put_rule act.now.name values at.now (taken_from self.old.state)) }
+        ensures kept { OnErr result (self.new.state ≡ self.old.state) }
     {
-        let values = values(self.alloc, &self.objects, act.arguments.as_slice())?;
-        let found = self.objects.get(at);
+        let values = values(self.alloc, self.stage.objects(), act.arguments.as_slice())?;
+        let found = self.stage.objects().get(at);
         let put = put_items(act.name, values.as_slice(), at, found)?;
-        self.commit_put(put)?;
+        let edit = edit_of(self.alloc, act.name, values.as_slice(), found)?;
+        self.commit_either(at, edit, put)?;
         Ok(())
+    }
+
+    /// An action that moves its target in the display stack.
+    #[inline(never)]
+    fn do_order(&mut self, act: &Act, at: &ObjRef) -> Result<(), AllocError>
+        requires { self.old.state.taken + 1 < 2 ^ 64 }
+        ensures done { let values = said.values (all self.old.state.objects) act.now.arguments in
+            OnOk result (self.new.state
+            ≡ order_rule act.now.name values at.now (taken_from self.old.state)) }
+        ensures kept { OnErr result (self.new.state ≡ self.old.state) }
+    {
+        let plan = self.plan_order(act, at)?;
+        self.commit(plan)
+    }
+
+    /// The lock of the screen. The first one keeps the picture that is there.
+    fn do_lock(&mut self, name: ActionName)
+        requires { self.old.state.taken + 1 < 2 ^ 64 }
+        ensures { self.new.state ≡ lock_rule name (taken_from self.old.state) }
+    {
+        match name {
+            ActionName::LockScreen => self.lock(),
+            ActionName::UnlockScreen => self.unlock(),
+            _ => self.pass(),
+        }
+    }
+
+    fn lock(&mut self)
+        requires { self.old.state.taken + 1 < 2 ^ 64 }
+        ensures { self.new.state ≡ locked (taken_from self.old.state) }
+    {
+        if self.locks == 0 {
+            self.stage.settle();
+            self.frozen.copy_from(self.stage.picture());
+        }
+        self.locks += 1;
+        self.work.take_first();
+        self.taken += 1;
+    }
+
+    fn unlock(&mut self)
+        requires { self.old.state.taken + 1 < 2 ^ 64 }
+        ensures { self.new.state ≡ unlocked (taken_from self.old.state) }
+    {
+        self.pass();
+        self.locks = self.locks.saturating_sub(1);
     }
 
     /// A transition to another scene.
     #[inline(never)]
     fn do_transition(&mut self, at: &ObjRef) -> Result<(), AllocError>
-        requires { self.old.taken + 1 < 2 ^ 64 }
-        ensures done { OnOk result (self.new ≡ transition_rule at.now (taken_from self.old)) }
-        ensures kept { OnErr result (self.new ≡ self.old) }
+        requires { self.old.state.taken + 1 < 2 ^ 64 }
+        ensures done { OnOk result (self.new.state ≡ transition_rule at.now (taken_from self.old.state)) }
+        ensures kept { OnErr result (self.new.state ≡ self.old.state) }
     {
         let plan = self.plan_transition(&at.group)?;
         self.commit(plan)

@@ -1,43 +1,37 @@
 //! A plan is carried out: room is made first, then bodies are changed, and behind that nothing can fail.
 //!
 //! What most steps do has a shorter way: pieces that are put, and one body that is changed, need no plan.
-ghost use Rattle.std.specs.Prelude.{◌≡◌, ◌+◌, ◌<◌, ◌≤◌, ◌^◌, ◌∷◌, [], IfOk, OnOk, OnErr, vec_len, vec_capacity};
+ghost use Rattle.std.specs.Prelude.{◌≡◌, ◌+◌, ◌<◌, ◌≤◌, ◌^◌, OnOk, OnErr, vec_len, vec_capacity};
 ghost use Rattle.std.specs.VecDeque.{deque_len, deque_capacity};
 ghost use Rattle.mh_actions.specs.Listed.{listed};
-ghost use Rattle.mh_model.specs.Lifecycle.{without};
 ghost use Rattle.mh_model.specs.Bodies.{given};
 ghost use Rattle.mh_model.specs.Edits.{edited};
 ghost use Rattle.mh_model.specs.Rules.{changed};
 ghost use Rattle.mh_model.specs.Service.{parts};
-ghost use Rattle.mh_model.specs.State.{all};
-ghost use Rattle.mh_machine.specs.Repair.{AreSameBeside, IsSameBeside};
 ghost use Rattle.mh_machine.specs.Pieces.{written};
-ghost use Rattle.mh_machine.specs.Plans.{change_at, committed, put_for_first, taken_from, changed_as, given_all, restacked, queued, worked, noted, room_for};
+ghost use Rattle.mh_machine.specs.Plans.{change_at, committed, put_for_first, taken_from, changed_as, given_all, queued, worked, noted, room_for};
 
-use crate::machine::Machine;
-use crate::painting::{repaint, window_of};
 use crate::piece::Piece;
-use crate::plan::{Change, Gift, Plan, Puts, Stacking};
-use crate::window::Window;
+use crate::plan::{Change, Gift, Plan, Puts};
+use crate::stage::Stage;
 use crate::work::Work;
+use crate::works::Works;
 use mh_actions::putting::Put;
 use mh_base::{ObjRef, Value};
-use mh_model::parts::same_ref;
 use mh_model::{Edit, Event, Fault, Waiting};
-use mh_store::Objects;
 use std::alloc::AllocError;
 use std::collections::VecDeque;
 
 /// The most items that one action puts.
 const MOST_PUT: usize = 2;
 
-impl Machine {
+impl Works {
     /// Carries out a plan for the first item.
     #[inline(never)]
     pub(crate) fn commit(&mut self, plan: Plan) -> Result<(), AllocError>
-        requires { self.old.taken + 1 < 2 ^ 64 }
-        ensures done { OnOk result (self.new ≡ committed plan self.old) }
-        ensures kept { OnErr result (self.new ≡ self.old) }
+        requires { self.old.state.taken + 1 < 2 ^ 64 }
+        ensures done { OnOk result (self.new.state ≡ committed plan self.old.state) }
+        ensures kept { OnErr result (self.new.state ≡ self.old.state) }
     {
         let Plan {
             change,
@@ -49,34 +43,26 @@ impl Machine {
         } = plan;
         make_room(
             &mut self.work,
-            &mut self.stack,
+            &mut self.stage,
             &mut self.queue,
             &mut self.faults,
             &puts,
         )?;
-        let seen = apply(&mut self.objects, change)?;
-        let moved = restack(&mut self.stack, &self.objects, stacking);
+        apply(&mut self.stage, change)?;
+        self.stage.restack(stacking);
         put(&mut self.work, puts);
         wait(&mut self.queue, waits);
         note(&mut self.faults, fault);
         self.transition = self.transition || begins;
         self.taken += 1;
-        repaint(
-            &mut self.picture,
-            &self.objects,
-            self.stack.as_slice(),
-            &[seen.before, seen.after, moved],
-        );
         Ok(())
     }
-}
 
-impl Machine {
     /// Puts these pieces in the place of the first item.
     pub(crate) fn commit_pieces(&mut self, pieces: Vec<Piece>) -> Result<(), AllocError>
-        requires { self.old.taken + 1 < 2 ^ 64 }
-        ensures done { OnOk result (self.new ≡ put_for_first (written pieces.items) self.old) }
-        ensures kept { OnErr result (self.new ≡ self.old) }
+        requires { self.old.state.taken + 1 < 2 ^ 64 }
+        ensures done { OnOk result (self.new.state ≡ put_for_first (written pieces.items) self.old.state) }
+        ensures kept { OnErr result (self.new.state ≡ self.old.state) }
     {
         self.work.reserve(pieces.len())?;
         self.work.put_for_first(pieces);
@@ -86,9 +72,9 @@ impl Machine {
 
     /// Puts what an action puts in the place of the first item.
     pub(crate) fn commit_put(&mut self, put: Put) -> Result<(), AllocError>
-        requires { self.old.taken + 1 < 2 ^ 64 }
-        ensures done { OnOk result (self.new ≡ put_for_first (listed put) self.old) }
-        ensures kept { OnErr result (self.new ≡ self.old) }
+        requires { self.old.state.taken + 1 < 2 ^ 64 }
+        ensures done { OnOk result (self.new.state ≡ put_for_first (listed put) self.old.state) }
+        ensures kept { OnErr result (self.new.state ≡ self.old.state) }
     {
         self.work.reserve(MOST_PUT)?;
         self.work.put_by_act(put);
@@ -96,10 +82,44 @@ impl Machine {
         Ok(())
     }
 
+    /// Puts what an action puts, and changes the body of the object at this reference, if anything of it
+    /// is changed.
+    pub(crate) fn commit_either(
+        &mut self,
+        at: &ObjRef,
+        edit: Option<Edit>,
+        put: Put,
+    ) -> Result<(), AllocError>
+        requires { self.old.state.taken + 1 < 2 ^ 64 }
+        ensures done { let after = changed_as (change_at at.now edit) self.old.state.objects in
+            OnOk result (self.new.state ≡ record (put_for_first (listed put) self.old.state) { objects = after }) }
+        ensures kept { OnErr result (self.new.state ≡ self.old.state) }
+    {
+        match edit {
+            Some(edit) => self.commit_both(at, edit, put),
+            None => self.commit_put(put),
+        }
+    }
+
+    /// Changes the body of the object at this reference, and puts what the action puts.
+    #[inline(never)]
+    fn commit_both(&mut self, at: &ObjRef, edit: Edit, put: Put) -> Result<(), AllocError>
+        requires { self.old.state.taken + 1 < 2 ^ 64 }
+        ensures done { let after = changed (edited edit) at.now self.old.state.objects in
+            OnOk result (self.new.state ≡ record (put_for_first (listed put) self.old.state) { objects = after }) }
+        ensures kept { OnErr result (self.new.state ≡ self.old.state) }
+    {
+        self.work.reserve(MOST_PUT)?;
+        self.stage.edit(at, edit)?;
+        self.work.put_by_act(put);
+        self.taken += 1;
+        Ok(())
+    }
+
     /// Takes the first item off, and does nothing else.
     pub(crate) fn pass(&mut self)
-        requires { self.old.taken + 1 < 2 ^ 64 }
-        ensures { self.new ≡ taken_from self.old }
+        requires { self.old.state.taken + 1 < 2 ^ 64 }
+        ensures { self.new.state ≡ taken_from self.old.state }
     {
         self.work.take_first();
         self.taken += 1;
@@ -111,10 +131,10 @@ impl Machine {
         at: &ObjRef,
         edit: Option<Edit>,
     ) -> Result<(), AllocError>
-        requires { self.old.taken + 1 < 2 ^ 64 }
-        ensures done { let after = changed_as (change_at at.now edit) self.old.objects in
-            OnOk result (self.new ≡ record (taken_from self.old) { objects = after }) }
-        ensures kept { OnErr result (self.new ≡ self.old) }
+        requires { self.old.state.taken + 1 < 2 ^ 64 }
+        ensures done { let after = changed_as (change_at at.now edit) self.old.state.objects in
+            OnOk result (self.new.state ≡ record (taken_from self.old.state) { objects = after }) }
+        ensures kept { OnErr result (self.new.state ≡ self.old.state) }
     {
         match edit {
             Some(Edit::Give(value)) => self.commit_give(at, value),
@@ -127,31 +147,25 @@ impl Machine {
     /// Gives the variable at this reference a value, and takes the first item off. No variable is
     /// seen, so the picture stays as it is.
     fn commit_give(&mut self, at: &ObjRef, value: Value)
-        requires { self.old.taken + 1 < 2 ^ 64 }
-        ensures { let after = changed (λ _ b. given value b) at.now self.old.objects in
-            self.new ≡ record (taken_from self.old) { objects = after } }
+        requires { self.old.state.taken + 1 < 2 ^ 64 }
+        ensures { let after = changed (λ _ b. given value b) at.now self.old.state.objects in
+            self.new.state ≡ record (taken_from self.old.state) { objects = after } }
     {
-        self.objects.give(at, value);
+        self.stage.give(at, value);
         self.pass();
     }
 
     /// Changes the body of the object at this reference, and takes the first item off.
     #[inline(never)]
     pub(crate) fn commit_edit(&mut self, at: &ObjRef, edit: Edit) -> Result<(), AllocError>
-        requires { self.old.taken + 1 < 2 ^ 64 }
-        ensures done { let after = changed (λ _ b. edited edit b) at.now self.old.objects in
-            OnOk result (self.new ≡ record (taken_from self.old) { objects = after }) }
-        ensures kept { OnErr result (self.new ≡ self.old) }
+        requires { self.old.state.taken + 1 < 2 ^ 64 }
+        ensures done { let after = changed (edited edit) at.now self.old.state.objects in
+            OnOk result (self.new.state ≡ record (taken_from self.old.state) { objects = after }) }
+        ensures kept { OnErr result (self.new.state ≡ self.old.state) }
     {
-        let seen = edit_seen(&mut self.objects, at, edit)?;
+        self.stage.edit(at, edit)?;
         self.work.take_first();
         self.taken += 1;
-        repaint(
-            &mut self.picture,
-            &self.objects,
-            self.stack.as_slice(),
-            &[seen.before, seen.after],
-        );
         Ok(())
     }
 }
@@ -159,21 +173,22 @@ impl Machine {
 /// Makes room for all that a plan may put.
 fn make_room(
     work: &mut Work,
-    stack: &mut Vec<ObjRef>,
+    stage: &mut Stage,
     queue: &mut VecDeque<Waiting>,
     faults: &mut Vec<Fault>,
     puts: &Puts,
 ) -> Result<(), AllocError>
     ensures work { work.new.items ≡ work.old.items }
-    ensures stack { stack.new.items ≡ stack.old.items }
+    ensures objects { stage.new.objects ≡ stage.old.objects }
+    ensures stack { stage.new.stack ≡ stage.old.stack }
     ensures queue { queue.new.items ≡ queue.old.items }
     ensures faults { faults.new.items ≡ faults.old.items }
     ensures pieces { OnOk result (room_for puts.now ≤ work.new.room) }
-    ensures place { OnOk result (vec_len stack.new + 1 ≤ vec_capacity stack.new) }
+    ensures place { OnOk result (1 ≤ stage.new.room) }
     ensures event { OnOk result (deque_len queue.new + 1 ≤ deque_capacity queue.new) }
     ensures fault { OnOk result (vec_len faults.new + 1 ≤ vec_capacity faults.new) }
 {
-    stack.reserve(1)?;
+    stage.reserve()?;
     queue.reserve(1)?;
     faults.reserve(1)?;
     make_work_room(work, puts)
@@ -189,121 +204,47 @@ fn make_work_room(work: &mut Work, puts: &Puts) -> Result<(), AllocError>
     }
 }
 
-/// The windows in which a change of bodies can be seen.
-#[derive(Clone, Copy)]
-struct Seen {
-    /// Of what was painted before the change.
-    before: Window,
-    /// Of what is painted behind it.
-    after: Window,
-}
-
-impl Seen {
-    /// Of a change that cannot be seen.
-    fn nothing() -> Seen {
-        Seen {
-            before: Window::nothing(),
-            after: Window::nothing(),
-        }
-    }
-}
-
-/// Changes bodies, and answers where that can be seen.
-fn apply(objects: &mut Objects, change: Change) -> Result<Seen, AllocError>
-    ensures changed { OnOk result (objects.new ≡ changed_as change objects.old) }
-    ensures seen { IfOk result (λ seen. AreSameBeside (seen.before ∷ seen.after ∷ [])
-        (all objects.old) (all objects.new)) }
-    ensures own { parts objects.new.application ≡ parts objects.old.application }
-    ensures others { parts objects.new.scene ≡ parts objects.old.scene }
-    ensures kept { OnErr result (objects.new ≡ objects.old) }
+/// Changes bodies.
+fn apply(stage: &mut Stage, change: Change) -> Result<(), AllocError>
+    ensures changed { OnOk result (stage.new.objects ≡ changed_as change stage.old.objects) }
+    ensures stack { stage.new.stack ≡ stage.old.stack }
+    ensures room { stage.new.room ≡ stage.old.room }
+    ensures own { parts stage.new.objects.application ≡ parts stage.old.objects.application }
+    ensures others { parts stage.new.objects.scene ≡ parts stage.old.objects.scene }
+    ensures kept { OnErr result (stage.new.objects ≡ stage.old.objects) }
 {
     match change {
-        Change::Nothing => Ok(Seen::nothing()),
-        Change::Edit(at, edit) => edit_seen(objects, &at, edit),
+        Change::Nothing => Ok(()),
+        Change::Edit(at, edit) => stage.edit(&at, edit),
         Change::Give(gifts) => {
-            give(objects, gifts.into_vec());
-            Ok(Seen::nothing())
+            give(stage, gifts.into_vec());
+            Ok(())
         }
     }
-}
-
-/// Changes the body of one object, and answers where that can be seen: the value of a variable nowhere.
-fn edit_seen(objects: &mut Objects, at: &ObjRef, edit: Edit) -> Result<Seen, AllocError>
-    ensures changed { OnOk result (objects.new ≡ changed (λ _ b. edited edit b) at.now objects.old) }
-    ensures seen { IfOk result (λ seen. AreSameBeside (seen.before ∷ seen.after ∷ [])
-        (all objects.old) (all objects.new)) }
-    ensures own { parts objects.new.application ≡ parts objects.old.application }
-    ensures others { parts objects.new.scene ≡ parts objects.old.scene }
-    ensures kept { OnErr result (objects.new ≡ objects.old) }
-{
-    match edit {
-        Edit::Give(value) => {
-            objects.give(at, value);
-            Ok(Seen::nothing())
-        }
-        other => edit_body(objects, at, other),
-    }
-}
-
-/// Changes the body of one object, whose boxes before and behind the change are where it can be seen.
-fn edit_body(objects: &mut Objects, at: &ObjRef, edit: Edit) -> Result<Seen, AllocError>
-    ensures changed { OnOk result (objects.new ≡ changed (λ _ b. edited edit b) at.now objects.old) }
-    ensures seen { IfOk result (λ seen. AreSameBeside (seen.before ∷ seen.after ∷ [])
-        (all objects.old) (all objects.new)) }
-    ensures own { parts objects.new.application ≡ parts objects.old.application }
-    ensures others { parts objects.new.scene ≡ parts objects.old.scene }
-    ensures kept { OnErr result (objects.new ≡ objects.old) }
-{
-    let before = window_of(objects.get(at));
-    objects.edit(at, edit)?;
-    let after = window_of(objects.get(at));
-    Ok(Seen { before, after })
 }
 
 /// Gives variables their values, one after another.
-fn give(objects: &mut Objects, gifts: Vec<Gift>)
-    ensures given { objects.new ≡ given_all gifts.items objects.old }
-    ensures own { parts objects.new.application ≡ parts objects.old.application }
-    ensures others { parts objects.new.scene ≡ parts objects.old.scene }
+fn give(stage: &mut Stage, gifts: Vec<Gift>)
+    ensures given { stage.new.objects ≡ given_all gifts.items stage.old.objects }
+    ensures stack { stage.new.stack ≡ stage.old.stack }
+    ensures room { stage.new.room ≡ stage.old.room }
+    ensures own { parts stage.new.objects.application ≡ parts stage.old.objects.application }
+    ensures others { parts stage.new.objects.scene ≡ parts stage.old.objects.scene }
 {
     for gift in gifts {
-        give_one(objects, gift);
+        give_one(stage, gift);
     }
 }
 
-fn give_one(objects: &mut Objects, gift: Gift)
-    ensures given { objects.new ≡ changed (λ _ b. given gift.value b) gift.at objects.old }
-    ensures own { parts objects.new.application ≡ parts objects.old.application }
-    ensures others { parts objects.new.scene ≡ parts objects.old.scene }
+fn give_one(stage: &mut Stage, gift: Gift)
+    ensures given { stage.new.objects ≡ changed (λ _ b. given gift.value b) gift.at stage.old.objects }
+    ensures stack { stage.new.stack ≡ stage.old.stack }
+    ensures room { stage.new.room ≡ stage.old.room }
+    ensures own { parts stage.new.objects.application ≡ parts stage.old.objects.application }
+    ensures others { parts stage.new.objects.scene ≡ parts stage.old.objects.scene }
 {
     let Gift { at, value } = gift;
-    objects.give(&at, value);
-}
-
-/// Changes the display stack, which has room for one more, and answers the window in which that can be seen.
-fn restack(stack: &mut Vec<ObjRef>, objects: &Objects, stacking: Stacking) -> Window
-    requires { vec_len stack.old + 1 ≤ vec_capacity stack.old }
-    ensures stack { stack.new.items ≡ restacked stacking stack.old.items }
-    ensures moved { IsSameBeside result (all objects.now) stack.old.items stack.new.items }
-{
-    match stacking {
-        Stacking::Same => Window::nothing(),
-        Stacking::Rise(top) => {
-            let moved = window_of(objects.get(&top));
-            stack.push_reserved(top);
-            moved
-        }
-        Stacking::Fall(at) => {
-            fall(stack, &at);
-            window_of(objects.get(&at))
-        }
-    }
-}
-
-fn fall(stack: &mut Vec<ObjRef>, at: &ObjRef)
-    ensures { stack.new.items ≡ without at.now stack.old.items }
-{
-    stack.retain(|other| !same_ref(at, other));
+    stage.give(&at, value);
 }
 
 fn put(work: &mut Work, puts: Puts)

@@ -5,23 +5,24 @@
 #![tactic(auto)]
 
 mod acting;
+mod advancing;
 mod committing;
-mod covering;
 mod inputs;
 mod lifecycle;
 mod links;
 pub mod machine;
-mod painting;
+mod pair;
 mod piece;
 mod plan;
 mod planning;
 mod puts;
 pub mod rest;
+mod stage;
 pub mod stepped;
 mod stepping;
 pub mod unstarted;
-mod window;
 mod work;
+mod works;
 
 pub use machine::Machine;
 pub use rest::Rest;

@@ -1,15 +1,17 @@
 //! What is put, and what becomes of the display stack, when an object is prepared, runs, stops and is
 //! dropped.
 ghost use Rattle.std.specs.Prelude.{◌≡◌, ◌&&◌, ◌++◌, IfOk, OnOk, if◌then◌else◌};
-ghost use Rattle.std.specs.Option.{option_copied};
+ghost use Rattle.std.specs.Option.{is_some, option_copied};
+ghost use Rattle.mh_model.specs.Bodies.{included};
 ghost use Rattle.mh_model.specs.Lifecycle as spec;
 ghost use Rattle.mh_machine.specs.Pieces.{written};
 
 use crate::piece::Piece;
 use crate::plan::Stacking;
 use crate::puts::plain_event;
-use mh_base::{EventType, ObjRef};
-use mh_model::Object;
+use mh_base::{EventType, ObjRef, Value};
+use mh_group::Attribute;
+use mh_model::{Held, Object};
 use std::alloc::{AllocError, Global};
 
 pub fn is_available(found: Option<&Object>) -> bool
@@ -97,6 +99,47 @@ fn push_event_if(
     Ok(())
 }
 
+/// Whether the object has content that is loaded when it becomes available.
+fn loads(found: Option<&Object>) -> bool
+    ensures { result ≡ spec.loads_at (option_copied found.entry) }
+{
+    match found {
+        Some(object) => {
+            let has_content = object.fixed.get().class.has_content();
+            is_included(object.read(Attribute::OrigContent), has_content)
+        }
+        None => false,
+    }
+}
+
+/// Whether octets are held, where the class has content.
+fn is_included(held: Option<&Held>, has_content: bool) -> bool
+    ensures { result ≡ is_some (included (option_copied held.entry) has_content) }
+{
+    match held {
+        Some(Held::Value(Value::Octets(_))) => has_content,
+        _ => false,
+    }
+}
+
+/// Puts behind these pieces that the object becomes available, if it does, and that its content is there.
+fn push_rise(
+    pieces: &mut Vec<Piece>,
+    becomes: bool,
+    loads: bool,
+    at: &ObjRef,
+) -> Result<(), AllocError>
+    ensures { OnOk result (written pieces.new.items
+        ≡ written pieces.old.items ++ (spec.emit_if becomes at.now EventType.IsAvailable
+        ++ spec.emit_if (becomes && loads) at.now EventType.ContentAvailable)) }
+{
+    if !becomes {
+        return Ok(());
+    }
+    push_event_if(pieces, true, at, EventType::IsAvailable)?;
+    push_event_if(pieces, loads, at, EventType::ContentAvailable)
+}
+
 /// What is put when the object is to become available.
 pub fn prepare_pieces(
     alloc: Global,
@@ -107,12 +150,7 @@ pub fn prepare_pieces(
         ≡ spec.prepare_items at.now (option_copied found.entry)) }
 {
     let mut pieces = Vec::new(alloc);
-    push_event_if(
-        &mut pieces,
-        is_unavailable(found),
-        at,
-        EventType::IsAvailable,
-    )?;
+    push_rise(&mut pieces, is_unavailable(found), loads(found), at)?;
     Ok(pieces)
 }
 
@@ -126,12 +164,7 @@ pub fn run_pieces(
         ≡ spec.run_items at.now (option_copied found.entry)) }
 {
     let mut pieces = Vec::new(alloc);
-    push_event_if(
-        &mut pieces,
-        is_unprepared(found),
-        at,
-        EventType::IsAvailable,
-    )?;
+    push_rise(&mut pieces, is_unprepared(found), loads(found), at)?;
     push_event_if(&mut pieces, is_stopped(found), at, EventType::IsRunning)?;
     Ok(pieces)
 }

@@ -3,6 +3,7 @@ ghost use Rattle.std.specs.Prelude.{◌≡◌, false, [], Some, None};
 
 use crate::piece::Piece;
 use crate::work::Work;
+use mh_actions::ordering::Reorder;
 use mh_base::{ObjRef, Seq, Value};
 use mh_model::{Edit, Event, Fault};
 use std::alloc::Global;
@@ -32,6 +33,8 @@ pub enum Stacking {
     Rise(ObjRef),
     /// The object goes off.
     Fall(ObjRef),
+    /// An action moves the object.
+    Move(ObjRef, Reorder),
 }
 
 /// What is put.

@@ -6,41 +6,43 @@ ghost use Rattle.std.specs.Prelude.{◌≡◌, ◌∷◌, ◌++◌, ◌+◌, ◌
 ghost use Rattle.mh_model.specs.State.{all};
 ghost use Rattle.mh_model.specs.Step.{done};
 ghost use Rattle.mh_model.specs.Arguments as said;
-ghost use Rattle.mh_model.specs.Rules.{ask_rule, transition_rule};
+ghost use Rattle.mh_model.specs.Rules.{ask_rule, order_rule, transition_rule};
 ghost use Rattle.mh_model.specs.Items.{leaving as leaving_lem};
 ghost use Rattle.mh_model.specs.Service.{group_parts, with_parts};
 ghost use Rattle.mh_machine.specs.Plans.{committed, gifts, taken_from};
 
 use crate::lifecycle::{
-    drop_pieces, halt_pieces, is_unavailable, is_unprepared, prepare_pieces, rising, run_pieces,
+    drop_pieces, halt_pieces, is_available, is_unavailable, is_unprepared, prepare_pieces, rising,
+    run_pieces,
 };
-use crate::machine::Machine;
 use crate::plan::{Change, Gift, Plan, Puts, Stacking};
 use crate::puts::leaving;
 use crate::work::Work;
+use crate::works::Works;
 use mh_actions::answers::answers;
 use mh_actions::arguments::{receivers, values};
+use mh_actions::ordering::reorder_by;
 use mh_base::{GroupName, ObjRef, Seq, Value};
 use mh_model::{Act, Edit, Item};
 use std::alloc::{AllocError, Global};
 
-impl Machine {
+impl Works {
     /// An object becomes available.
     #[inline(never)]
     pub(crate) fn do_prepare(&mut self, at: &ObjRef) -> Result<(), AllocError>
-        requires { self.old.taken + 1 < 2 ^ 64 }
-        ensures done { OnOk result (self.new ≡ done (Item.Prepare at.now) self.old) }
-        ensures kept { OnErr result (self.new ≡ self.old) }
+        requires { self.old.state.taken + 1 < 2 ^ 64 }
+        ensures done { OnOk result (self.new.state ≡ done (Item.Prepare at.now) self.old.state) }
+        ensures kept { OnErr result (self.new.state ≡ self.old.state) }
     {
         let plan = self.plan_prepare(at)?;
         self.commit(plan)
     }
 
     fn plan_prepare(&self, at: &ObjRef) -> Result<Plan, AllocError>
-        ensures { IfOk result (λ plan. committed plan self.now
-            ≡ done (Item.Prepare at.now) self.now) }
+        ensures { IfOk result (λ plan. committed plan self.now.state
+            ≡ done (Item.Prepare at.now) self.now.state) }
     {
-        let found = self.objects.get(at);
+        let found = self.stage.objects().get(at);
         let pieces = prepare_pieces(self.alloc, at, found)?;
         let stacking = rising(is_unavailable(found), at, found)?;
         let change = Change::Edit(at.clone()?, Edit::Prepare);
@@ -50,19 +52,19 @@ impl Machine {
     /// An object runs.
     #[inline(never)]
     pub(crate) fn do_run(&mut self, at: &ObjRef) -> Result<(), AllocError>
-        requires { self.old.taken + 1 < 2 ^ 64 }
-        ensures done { OnOk result (self.new ≡ done (Item.Run at.now) self.old) }
-        ensures kept { OnErr result (self.new ≡ self.old) }
+        requires { self.old.state.taken + 1 < 2 ^ 64 }
+        ensures done { OnOk result (self.new.state ≡ done (Item.Run at.now) self.old.state) }
+        ensures kept { OnErr result (self.new.state ≡ self.old.state) }
     {
         let plan = self.plan_run(at)?;
         self.commit(plan)
     }
 
     fn plan_run(&self, at: &ObjRef) -> Result<Plan, AllocError>
-        ensures { IfOk result (λ plan. committed plan self.now
-            ≡ done (Item.Run at.now) self.now) }
+        ensures { IfOk result (λ plan. committed plan self.now.state
+            ≡ done (Item.Run at.now) self.now.state) }
     {
-        let found = self.objects.get(at);
+        let found = self.stage.objects().get(at);
         let pieces = run_pieces(self.alloc, at, found)?;
         let stacking = rising(is_unprepared(found), at, found)?;
         let change = Change::Edit(at.clone()?, Edit::Start);
@@ -72,19 +74,19 @@ impl Machine {
     /// An object stops.
     #[inline(never)]
     pub(crate) fn do_halt(&mut self, at: &ObjRef) -> Result<(), AllocError>
-        requires { self.old.taken + 1 < 2 ^ 64 }
-        ensures done { OnOk result (self.new ≡ done (Item.Halt at.now) self.old) }
-        ensures kept { OnErr result (self.new ≡ self.old) }
+        requires { self.old.state.taken + 1 < 2 ^ 64 }
+        ensures done { OnOk result (self.new.state ≡ done (Item.Halt at.now) self.old.state) }
+        ensures kept { OnErr result (self.new.state ≡ self.old.state) }
     {
         let plan = self.plan_halt(at)?;
         self.commit(plan)
     }
 
     fn plan_halt(&self, at: &ObjRef) -> Result<Plan, AllocError>
-        ensures { IfOk result (λ plan. committed plan self.now
-            ≡ done (Item.Halt at.now) self.now) }
+        ensures { IfOk result (λ plan. committed plan self.now.state
+            ≡ done (Item.Halt at.now) self.now.state) }
     {
-        let pieces = halt_pieces(self.alloc, at, self.objects.get(at))?;
+        let pieces = halt_pieces(self.alloc, at, self.stage.objects().get(at))?;
         let change = Change::Edit(at.clone()?, Edit::Halt);
         Ok(Plan::of(change, Stacking::Same, pieces))
     }
@@ -92,42 +94,58 @@ impl Machine {
     /// An object is no longer available.
     #[inline(never)]
     pub(crate) fn do_drop(&mut self, at: &ObjRef) -> Result<(), AllocError>
-        requires { self.old.taken + 1 < 2 ^ 64 }
-        ensures done { OnOk result (self.new ≡ done (Item.Drop at.now) self.old) }
-        ensures kept { OnErr result (self.new ≡ self.old) }
+        requires { self.old.state.taken + 1 < 2 ^ 64 }
+        ensures done { OnOk result (self.new.state ≡ done (Item.Drop at.now) self.old.state) }
+        ensures kept { OnErr result (self.new.state ≡ self.old.state) }
     {
         let plan = self.plan_drop(at)?;
         self.commit(plan)
     }
 
     fn plan_drop(&self, at: &ObjRef) -> Result<Plan, AllocError>
-        ensures { IfOk result (λ plan. committed plan self.now
-            ≡ done (Item.Drop at.now) self.now) }
+        ensures { IfOk result (λ plan. committed plan self.now.state
+            ≡ done (Item.Drop at.now) self.now.state) }
     {
-        let pieces = drop_pieces(self.alloc, at, self.objects.get(at))?;
+        let pieces = drop_pieces(self.alloc, at, self.stage.objects().get(at))?;
         let change = Change::Edit(at.clone()?, Edit::Drop);
         Ok(Plan::of(change, Stacking::Fall(at.clone()?), pieces))
     }
 
     /// An action that asks its target.
     pub(crate) fn plan_ask(&self, act: &Act, at: &ObjRef) -> Result<Plan, AllocError>
-        ensures { let values = said.values (all self.now.objects) act.now.arguments in
-            IfOk result (λ plan. committed plan self.now
+        ensures { let values = said.values (all self.now.state.objects) act.now.arguments in
+            IfOk result (λ plan. committed plan self.now.state
             ≡ ask_rule act.now.name values (said.receivers act.now.arguments) at.now
-            (taken_from self.now)) }
+            (taken_from self.now.state)) }
     {
-        let values = values(self.alloc, &self.objects, act.arguments.as_slice())?;
-        let found = self.objects.get(at);
-        let told = answers(act.name, values.as_slice(), found);
+        let values = values(self.alloc, self.stage.objects(), act.arguments.as_slice())?;
+        let found = self.stage.objects().get(at);
+        let told = answers(self.alloc, act.name, values.as_slice(), found)?;
         let receivers = receivers(self.alloc, act.arguments.as_slice())?;
         let gifts = gifts_of(self.alloc, receivers.as_slice(), told.as_slice())?;
         Ok(Plan::changing(self.alloc, Change::Give(Seq::from_vec(gifts))))
     }
 
+    /// An action that moves its target in the display stack.
+    pub(crate) fn plan_order(&self, act: &Act, at: &ObjRef) -> Result<Plan, AllocError>
+        ensures { let values = said.values (all self.now.state.objects) act.now.arguments in
+            IfOk result (λ plan. committed plan self.now.state
+            ≡ order_rule act.now.name values at.now (taken_from self.now.state)) }
+    {
+        let objects = self.stage.objects();
+        if !is_available(objects.get(at)) {
+            return Ok(Plan::putting(Vec::new(self.alloc)));
+        }
+        let values = values(self.alloc, objects, act.arguments.as_slice())?;
+        let how = reorder_by(act.name, values.as_slice(), at, objects)?;
+        let stacking = Stacking::Move(at.clone()?, how);
+        Ok(Plan::of(Change::Nothing, stacking, Vec::new(self.alloc)))
+    }
+
     /// A transition to another scene; nothing where one has begun.
     pub(crate) fn plan_transition(&self, target: &GroupName) -> Result<Plan, AllocError>
         ensures { (r : _) → r.group ≡ target.now → IfOk result
-            (λ plan. committed plan self.now ≡ transition_rule r (taken_from self.now)) }
+            (λ plan. committed plan self.now.state ≡ transition_rule r (taken_from self.now.state)) }
     {
         if self.transition {
             return Ok(Plan::putting(Vec::new(self.alloc)));
@@ -145,8 +163,8 @@ impl Machine {
     /// The work list that leaves the configuration for another scene.
     fn way_out(&self, target: &GroupName) -> Result<Work, AllocError>
         ensures { IfOk result (λ work. work.items
-            ≡ leaving_lem (group_parts self.now.service self.now.application)
-            (with_parts self.now.service self.now.scene) target.now) }
+            ≡ leaving_lem (group_parts self.now.state.service self.now.state.application)
+            (with_parts self.now.state.service self.now.state.scene) target.now) }
     {
         let own = self.service.parts(&self.application);
         let pieces = match &self.scene {

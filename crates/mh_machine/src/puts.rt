@@ -1,6 +1,6 @@
 //! What is put when a group is entered, and when a scene is left, told by the parts of the groups
 //! alone. An effect is put as one piece, which shares its actions.
-ghost use Rattle.std.specs.Prelude.{◌≡◌, ◌++◌, IfOk, OnOk, filter};
+ghost use Rattle.std.specs.Prelude.{◌≡◌, ◌++◌, ◌∷◌, [], IfOk, OnOk, filter, vec_len};
 ghost use Rattle.std.specs.Option.{option_map};
 ghost use Rattle.mh_model.specs.Items.{acts, runs, plain_event as plain_event_lem};
 ghost use Rattle.mh_model.specs.Items.{is_initially_active as is_initially_active_lem};
@@ -157,4 +157,14 @@ fn push_application_halts(pieces: &mut Vec<Piece>, parts: &[FixedPart]) -> Resul
         }
     }
     Ok(())
+}
+
+/// What enters a group.
+pub fn entrance(alloc: Global, group: &GroupName) -> Result<Vec<Piece>, AllocError>
+    ensures item { IfOk result (λ pieces. written pieces.items ≡ Item.Enter group.now ∷ []) }
+    ensures one { IfOk result (λ pieces. vec_len pieces ≡ 1) }
+{
+    let mut pieces = Vec::new(alloc);
+    pieces.push(Piece::One(Item::Enter(group.clone()?)))?;
+    Ok(pieces)
 }

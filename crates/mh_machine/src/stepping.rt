@@ -13,11 +13,12 @@ ghost use Rattle.mh_machine.specs.Pieces.{written};
 use crate::Stepped;
 use crate::inputs::input_pieces;
 use crate::links::Links;
-use crate::machine::{Machine, both, entrance};
-use crate::painting::paint;
+use crate::pair::both;
 use crate::piece::Piece;
 use crate::plan::Plan;
+use crate::puts::entrance;
 use crate::work::Work;
+use crate::works::Works;
 use mh_actions::judging::{why_member_stuck, why_stuck};
 use mh_base::{GroupName, ObjRef};
 use mh_group::ActionName;
@@ -26,14 +27,14 @@ use mh_store::Group;
 use std::alloc::AllocError;
 use std::collections::VecDeque;
 
-impl Machine {
+impl Works {
     /// One step: the first item of the work list, or the first input where there is no work. Where memory
     /// is refused, everything stays as it was.
     pub fn step(&mut self) -> Result<Stepped, AllocError>
-        requires { self.old.taken + 1 < 2 ^ 64 }
-        ensures step { OnOk result (self.new ≡ step self.old) }
-        ensures answer { IfOk result (λ a. a ≡ answer_of self.old) }
-        ensures kept { OnErr result (self.new ≡ self.old) }
+        requires { self.old.state.taken + 1 < 2 ^ 64 }
+        ensures step { OnOk result (self.new.state ≡ step self.old.state) }
+        ensures answer { IfOk result (λ a. a ≡ answer_of self.old.state) }
+        ensures kept { OnErr result (self.new.state ≡ self.old.state) }
     {
         match self.work.first()? {
             Some(item) => self.work_on(&item),
@@ -43,11 +44,11 @@ impl Machine {
 
     /// The same where the first item is not stuck: nothing is asked of it.
     pub fn step_free(&mut self) -> Result<Stepped, AllocError>
-        requires room { self.old.taken + 1 < 2 ^ 64 }
-        requires free { front_fault self.old ≡ None }
-        ensures step { OnOk result (self.new ≡ step self.old) }
-        ensures answer { IfOk result (λ a. a ≡ answer_of self.old) }
-        ensures kept { OnErr result (self.new ≡ self.old) }
+        requires room { self.old.state.taken + 1 < 2 ^ 64 }
+        requires free { front_fault self.old.state ≡ None }
+        ensures step { OnOk result (self.new.state ≡ step self.old.state) }
+        ensures answer { IfOk result (λ a. a ≡ answer_of self.old.state) }
+        ensures kept { OnErr result (self.new.state ≡ self.old.state) }
     {
         match self.work.first()? {
             Some(item) => {
@@ -60,10 +61,10 @@ impl Machine {
 
     /// Does the first item, or removes it where it is stuck.
     fn work_on(&mut self, item: &Item) -> Result<Stepped, AllocError>
-        requires { self.old.taken + 1 < 2 ^ 64 }
-        ensures done { OnOk result (self.new ≡ did (stuck item.now self.old) item.now self.old) }
-        ensures answer { IfOk result (λ a. a ≡ judged (stuck item.now self.old)) }
-        ensures kept { OnErr result (self.new ≡ self.old) }
+        requires { self.old.state.taken + 1 < 2 ^ 64 }
+        ensures done { OnOk result (self.new.state ≡ did (stuck item.now self.old.state) item.now self.old.state) }
+        ensures answer { IfOk result (λ a. a ≡ judged (stuck item.now self.old.state)) }
+        ensures kept { OnErr result (self.new.state ≡ self.old.state) }
     {
         match self.why_stuck(item)? {
             Some(fault) => {
@@ -80,12 +81,12 @@ impl Machine {
 
     /// Why the item cannot be done, if it cannot.
     fn why_stuck(&self, item: &Item) -> Result<Option<Fault>, AllocError>
-        ensures { IfOk result (λ fault. fault ≡ stuck item.now self.now) }
+        ensures { IfOk result (λ fault. fault ≡ stuck item.now self.now.state) }
     {
         match item {
-            Item::Act(act) => why_stuck(&self.service, &self.objects, act),
-            Item::RunMember(at) => why_member_stuck(&self.objects, ActionName::Run, at),
-            Item::HaltMember(at) => why_member_stuck(&self.objects, ActionName::Stop, at),
+            Item::Act(act) => why_stuck(&self.service, self.stage.objects(), act),
+            Item::RunMember(at) => why_member_stuck(self.stage.objects(), ActionName::Run, at),
+            Item::HaltMember(at) => why_member_stuck(self.stage.objects(), ActionName::Stop, at),
             _ => Ok(None),
         }
     }
@@ -93,18 +94,18 @@ impl Machine {
     /// Removes the first item, which is stuck, and notes its fault.
     #[inline(never)]
     fn note(&mut self, fault: Fault) -> Result<(), AllocError>
-        requires { self.old.taken + 1 < 2 ^ 64 }
-        ensures done { OnOk result (self.new ≡ faulted fault self.old) }
-        ensures kept { OnErr result (self.new ≡ self.old) }
+        requires { self.old.state.taken + 1 < 2 ^ 64 }
+        ensures done { OnOk result (self.new.state ≡ faulted fault self.old.state) }
+        ensures kept { OnErr result (self.new.state ≡ self.old.state) }
     {
         self.commit(Plan::noting(self.alloc, fault))
     }
 
     /// Does an item that is not stuck.
     fn do_item(&mut self, item: &Item) -> Result<(), AllocError>
-        requires { self.old.taken + 1 < 2 ^ 64 }
-        ensures done { OnOk result (self.new ≡ done item.now self.old) }
-        ensures kept { OnErr result (self.new ≡ self.old) }
+        requires { self.old.state.taken + 1 < 2 ^ 64 }
+        ensures done { OnOk result (self.new.state ≡ done item.now self.old.state) }
+        ensures kept { OnErr result (self.new.state ≡ self.old.state) }
     {
         match item {
             Item::Act(act) => self.do_act(act),
@@ -121,9 +122,9 @@ impl Machine {
     /// Exchanges the current scene for another.
     #[inline(never)]
     fn exchange(&mut self, group: &GroupName) -> Result<(), AllocError>
-        requires { self.old.taken + 1 < 2 ^ 64 }
-        ensures done { OnOk result (self.new ≡ done (Item.Exchange group.now) self.old) }
-        ensures kept { OnErr result (self.new ≡ self.old) }
+        requires { self.old.state.taken + 1 < 2 ^ 64 }
+        ensures done { OnOk result (self.new.state ≡ done (Item.Exchange group.now) self.old.state) }
+        ensures kept { OnErr result (self.new.state ≡ self.old.state) }
     {
         self.work.reserve(1)?;
         let parts = self.service.parts(group);
@@ -135,22 +136,20 @@ impl Machine {
         let ((links, objects), (scene, pieces)) = both(entered, named)?;
         self.work.put_for_first(pieces);
         set_scene(&mut self.scene, scene);
-        self.objects.exchange(objects);
+        self.stage.exchange(objects, &self.application);
         self.links = links;
-        keep_places(&mut self.stack, &self.application);
         keep_waiting(&mut self.queue, &self.application);
         self.transition = false;
         self.taken += 1;
-        paint(&mut self.picture, &self.objects, self.stack.as_slice());
         Ok(())
     }
 
     /// Takes what waits first in the queue, if anything does.
     fn take_first(&mut self) -> Result<Stepped, AllocError>
-        requires { self.old.taken + 1 < 2 ^ 64 }
-        ensures done { OnOk result (self.new ≡ step_by None (slice_get self.old.queue 0) self.old) }
-        ensures answer { IfOk result (λ a. a ≡ answer_by None (slice_get self.old.queue 0) self.old) }
-        ensures kept { OnErr result (self.new ≡ self.old) }
+        requires { self.old.state.taken + 1 < 2 ^ 64 }
+        ensures done { OnOk result (self.new.state ≡ step_by None (slice_get self.old.state.queue 0) self.old.state) }
+        ensures answer { IfOk result (λ a. a ≡ answer_by None (slice_get self.old.state.queue 0) self.old.state) }
+        ensures kept { OnErr result (self.new.state ≡ self.old.state) }
     {
         match first_waiting(&self.queue)? {
             Some(waiting) => self.take(&waiting),
@@ -160,10 +159,10 @@ impl Machine {
 
     /// Takes this, which waits first, from the queue.
     fn take(&mut self, waiting: &Waiting) -> Result<Stepped, AllocError>
-        requires { self.old.taken + 1 < 2 ^ 64 }
-        ensures done { OnOk result (self.new ≡ took waiting.now self.old) }
+        requires { self.old.state.taken + 1 < 2 ^ 64 }
+        ensures done { OnOk result (self.new.state ≡ took waiting.now self.old.state) }
         ensures answer { IfOk result (λ a. a ≡ Stepped.Did) }
-        ensures kept { OnErr result (self.new ≡ self.old) }
+        ensures kept { OnErr result (self.new.state ≡ self.old.state) }
     {
         let pieces = self.pieces_of(waiting)?;
         self.work = Work::of_pieces(self.alloc, pieces)?;
@@ -173,15 +172,15 @@ impl Machine {
     }
 }
 
-impl Machine {
+impl Works {
     /// What is put when this is taken.
     fn pieces_of(&self, waiting: &Waiting) -> Result<Vec<Piece>, AllocError>
-        ensures { let scene = with_parts self.now.service self.now.scene in
+        ensures { let scene = with_parts self.now.state.service self.now.state.scene in
             IfOk result (λ pieces. written pieces.items
-            ≡ waiting_items waiting.now scene (all self.now.objects)) }
+            ≡ waiting_items waiting.now scene (all self.now.state.objects)) }
     {
         match (waiting, &self.scene) {
-            (Waiting::Event(event), _) => self.links.heard(self.alloc, event, &self.objects),
+            (Waiting::Event(event), _) => self.links.heard(self.alloc, event, self.stage.objects()),
             (Waiting::Input(_), None) => Ok(Vec::new(self.alloc)),
             (Waiting::Input(input), Some(scene)) => input_pieces(
                 self.alloc,
@@ -189,7 +188,7 @@ impl Machine {
                 scene,
                 self.service.parts(scene),
                 &self.links,
-                &self.objects,
+                self.stage.objects(),
             ),
         }
     }
@@ -215,13 +214,6 @@ fn set_scene(scene: &mut Option<GroupName>, group: GroupName)
     ensures { scene.new ≡ Some group }
 {
     *scene = Some(group);
-}
-
-/// The stack places that an exchange leaves: those of the application.
-fn keep_places(stack: &mut Vec<ObjRef>, application: &GroupName)
-    ensures { stack.new.items ≡ filter (λ r. bytes_eq r.group application.now) stack.old.items }
-{
-    stack.retain(|at| at.group == *application);
 }
 
 /// What waits on when a scene is exchanged: inputs, and the events of the application.

@@ -1,7 +1,6 @@
 pub mod FirstLemmas
 pub mod PropertyLemmas
 pub mod PlanesLemmas
-pub mod PaintingLemmas
 pub mod PartLemmas
 pub mod ServiceLemmas
 pub mod FaultLemmas

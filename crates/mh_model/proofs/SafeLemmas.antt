@@ -1,5 +1,5 @@
 -- A safe state stays safe, and in a safe state nothing is stuck.
-use Rattle.std.specs.Prelude.{◌≡◌, ℕ, ◌+◌, ◌==◌, Bool, true, false, ◌||◌, if◌then◌else◌, cond, List, [], ◌∷◌, ◌++◌, drop, filter, slice_get, Option, Some, None, refl}
+use Rattle.std.specs.Prelude.{◌≡◌, ℕ, ◌+◌, ◌-◌, ◌==◌, Bool, true, false, ◌&&◌, ◌||◌, if◌then◌else◌, cond, List, [], ◌∷◌, ◌++◌, drop, filter, slice_get, Option, Some, None, refl}
 use Rattle.std.specs.List.{list_all, list_any}
 use Rattle.std.specs.Option.{option_map, option_map_or, option_or}
 use Rattle.std.specs.Str.{bytes_eq}
@@ -44,7 +44,7 @@ use Rattle.mh_model.specs.Property.{as_reference}
 use Rattle.mh_model.specs.Service.{Service, same_ref, part_at, object_at, parts, group_ref, group_parts, with_parts, is_in}
 use Rattle.mh_model.specs.State.{State, Objects, all, begun}
 use Rattle.mh_model.specs.Items.{heard, leaving}
-use Rattle.mh_model.specs.Lifecycle.{emit_if, is_available_at, is_running_at, is_unavailable_at, is_stopped_at, is_unprepared_at}
+use Rattle.mh_model.specs.Lifecycle.{emit_if, rise_items, loads_if, is_available_at, is_running_at, is_unavailable_at, is_stopped_at, is_unprepared_at}
 use Rattle.mh_model.specs.Known.{Known, known_before, class_at, as_integer}
 use Rattle.mh_model.specs.Faults.{is_transition, object_faults, admitted_faults, named_faults, takes_object, arguments_faults, faults, fault_known}
 use Rattle.mh_model.specs.Stuck.{member_fault, stuck}
@@ -54,7 +54,9 @@ use Rattle.mh_model.specs.Bodies.{prepared, started, halted, dropped, given, cha
 use Rattle.mh_model.specs.Saying.{answers_at, put_items, put_items_at}
 use Rattle.mh_model.specs.Describing.{Piece, is_sent, can_put, IsOf, IsOneOf, AreOf}
 use Rattle.mh_model.specs.Describing as piece
-use Rattle.mh_model.specs.Rules.{changed, filled, rule_by, transition_rule, emitted, stays, rule}
+use Rattle.mh_model.specs.Picture.{looked}
+use Rattle.mh_model.specs.Planes.{Planes}
+use Rattle.mh_model.specs.Rules.{changed, filled, lock_rule, rule_by, transition_rule, emitted, stays, rule}
 use Rattle.mh_model.specs.Step.{register_of, key_event, key_items, took, done, did, step_by, step, is_full, posted, most_steps, stepped, moved, run}
 use Rattle.mh_model.specs.Configuration.{is_group_of, is_service, scene_parts, present, is_among}
 use Rattle.mh_model.specs.Active.{active_actions, is_none, is_direct, are_direct, is_good, fault_of, leads_to}
@@ -151,6 +153,25 @@ kept s k os stack queue work transition n own others safe from_present = record 
   faultless = k.faultless;
 }
 
+-- what is shown is no matter
+screened : (s : State) → IsSafe s → (n : ℕ) (p : Planes) → IsSafe (record s { locks = n; frozen = p })
+screened s k n p = record {
+  accepted = k.accepted;
+  application = k.application;
+  scene = k.scene;
+  among = k.among;
+  own = k.own;
+  others = k.others;
+  work = k.work;
+  queue = k.queue;
+  faultless = k.faultless;
+}
+
+safe_lock : (s : State) → IsSafe s → (n : ActionName) → IsSafe (lock_rule n s)
+safe_lock s k action.LockScreen = screened s k (s.locks + 1) (if s.locks == 0 then looked s else s.frozen)
+safe_lock s k action.UnlockScreen = screened s k (s.locks - 1) s.frozen
+safe_lock s k _ = k
+
 -- what receivers are given changes bodies alone
 
 filled-own : (rs : List ObjRef) (vs : List Value) (os : Objects) → parts (filled rs vs os).application ≡ parts os.application
@@ -232,12 +253,12 @@ safe_by_sort s k sort.Ask a r rest n d fit good led behind_it =
     let told : List Value = answers_at a.name (values (all s.objects) a.arguments) (object_at r (all s.objects)) in
     kept s k _ s.stack s.queue rest s.transition n (filled-own (receivers a.arguments) told s.objects) (filled-others (receivers a.arguments) told s.objects) behind_it k.queue
 safe_by_sort s k sort.Put a r rest n d fit good led behind_it =
-    kept s k s.objects s.stack s.queue _ s.transition n refl refl (by (object_at r (all s.objects)) refl) k.queue
+    kept s k _ s.stack s.queue _ s.transition n (changed-own (changed_by a.name (values (all s.objects) a.arguments)) r s.objects) (changed-others (changed_by a.name (values (all s.objects) a.arguments)) r s.objects) (by (object_at r (all s.objects)) refl) k.queue
   where
     by : (m : Option Object) → object_at r (all s.objects) ≡ m → IsSafeWork s.service k.accepted.reached (config_of s) (put_items_at a.name (values (all s.objects) a.arguments) r m ++ rest)
     by None e = behind_it
     by (Some o) e = safe_put s.service k.accepted.reached (config_of s) (all s.objects) r o a.name a a.arguments rest d good (there s k r (found_there r (all s.objects) o e)) behind_it
-safe_by_sort s k sort.Order a r rest n d fit good led behind_it = kept s k s.objects s.stack s.queue rest s.transition n refl refl behind_it k.queue
+safe_by_sort s k sort.Order a r rest n d fit good led behind_it = kept s k s.objects _ s.queue rest s.transition n refl refl behind_it k.queue
 safe_by_sort s k sort.Whole a r rest n d fit good led behind_it = by (is_transition a.name) refl
   where
     put : (b : Bool) → is_transition a.name ≡ true → IsSafeWork s.service k.accepted.reached (config_of s) (if b then rest else leaving (group_parts s.service s.application) (with_parts s.service s.scene) r.group)
@@ -246,9 +267,9 @@ safe_by_sort s k sort.Whole a r rest n d fit good led behind_it = by (is_transit
         safe_leaving s.service k.accepted.reached (config_of s) s.application s.scene r.group (fine_scene s k)
         (safe_transition s.service k.accepted.reached (config_of s) a.name r (present_whole s.service (config_of s) k.accepted.service) is fit led)
 
-    by : (b : Bool) → is_transition a.name ≡ b → IsSafe (if b then transition_rule r (record s { work = rest; taken = n }) else record s { work = rest; taken = n })
+    by : (b : Bool) → is_transition a.name ≡ b → IsSafe (if b then transition_rule r (record s { work = rest; taken = n }) else lock_rule a.name (record s { work = rest; taken = n }))
     by true is = kept s k s.objects s.stack s.queue _ true n refl refl (put s.transition is) k.queue
-    by false is = kept s k s.objects s.stack s.queue rest s.transition n refl refl behind_it k.queue
+    by false is = safe_lock (record s { work = rest; taken = n }) (kept s k s.objects s.stack s.queue rest s.transition n refl refl behind_it k.queue) a.name
 
 safe_action : (s : State) (k : IsSafe s) (a : Act) (rest : List Item) (n : ℕ) → IsSafeItem s.service k.accepted.reached (config_of s) (item.Act a) → IsSafeWork s.service k.accepted.reached (config_of s) rest → IsSafe (rule (item.Act a) (record s { work = rest; taken = n }))
 safe_action s k a rest n fine behind_it = by a.target fine
@@ -280,15 +301,22 @@ safe_emit s k r kind rest test_of none behind_it = by (object_at r (all s.object
     by None e = subst (λ (b : Bool). IsSafeWork s.service k.accepted.reached (config_of s) (emit_if b r kind ++ rest)) (sym none) behind_it
     by (Some o) e = safe_emits s.service k.accepted.reached (config_of s) (record { source = r; kind = kind; «data» = None }) (test_of (Some o)) rest (there s k r (found_there r (all s.objects) o e)) behind_it
 
+-- that an object becomes available, in front of safe work
+safe_rise : (s : State) (k : IsSafe s) (becomes : Option Object → Bool) (r : ObjRef) (rest : List Item) → becomes None ≡ false → IsSafeWork s.service k.accepted.reached (config_of s) rest → IsSafeWork s.service k.accepted.reached (config_of s) (rise_items becomes r (object_at r (all s.objects)) ++ rest)
+safe_rise s k becomes r rest none behind_it =
+    subst (IsSafeWork s.service k.accepted.reached (config_of s)) (sym (append_assoc (emit_if (becomes (object_at r (all s.objects))) r event.IsAvailable) (emit_if (loads_if becomes (object_at r (all s.objects))) r event.ContentAvailable) rest))
+    (safe_emit s k r event.IsAvailable _ becomes none
+    (safe_emit s k r event.ContentAvailable rest (loads_if becomes) (ap (λ (b : Bool). b && false) none) behind_it))
+
 safe_prepare_item : (s : State) (k : IsSafe s) (r : ObjRef) (rest : List Item) (n : ℕ) → IsSafeWork s.service k.accepted.reached (config_of s) rest → IsSafe (rule (item.Prepare r) (record s { work = rest; taken = n }))
 safe_prepare_item s k r rest n behind_it =
-    kept s k _ _ s.queue _ s.transition n (changed-own (λ p b. prepared b) r s.objects) (changed-others (λ p b. prepared b) r s.objects) (safe_emit s k r event.IsAvailable rest is_unavailable_at refl behind_it) k.queue
+    kept s k _ _ s.queue _ s.transition n (changed-own prepared r s.objects) (changed-others prepared r s.objects) (safe_rise s k is_unavailable_at r rest refl behind_it) k.queue
 
 safe_run_item : (s : State) (k : IsSafe s) (r : ObjRef) (rest : List Item) (n : ℕ) → IsSafeWork s.service k.accepted.reached (config_of s) rest → IsSafe (rule (item.Run r) (record s { work = rest; taken = n }))
 safe_run_item s k r rest n behind_it =
-    kept s k _ _ s.queue _ s.transition n (changed-own (λ p b. started b) r s.objects) (changed-others (λ p b. started b) r s.objects)
-    (subst (IsSafeWork s.service k.accepted.reached (config_of s)) (sym (append_assoc (emit_if (is_unprepared_at (object_at r (all s.objects))) r event.IsAvailable) (emit_if (is_stopped_at (object_at r (all s.objects))) r event.IsRunning) rest))
-    (safe_emit s k r event.IsAvailable _ is_unprepared_at refl (safe_emit s k r event.IsRunning rest is_stopped_at refl behind_it))) k.queue
+    kept s k _ _ s.queue _ s.transition n (changed-own started r s.objects) (changed-others started r s.objects)
+    (subst (IsSafeWork s.service k.accepted.reached (config_of s)) (sym (append_assoc (rise_items is_unprepared_at r (object_at r (all s.objects))) (emit_if (is_stopped_at (object_at r (all s.objects))) r event.IsRunning) rest))
+    (safe_rise s k is_unprepared_at r _ refl (safe_emit s k r event.IsRunning rest is_stopped_at refl behind_it))) k.queue
 
 safe_halt_item : (s : State) (k : IsSafe s) (r : ObjRef) (rest : List Item) (n : ℕ) → IsSafeWork s.service k.accepted.reached (config_of s) rest → IsSafe (rule (item.Halt r) (record s { work = rest; taken = n }))
 safe_halt_item s k r rest n behind_it =

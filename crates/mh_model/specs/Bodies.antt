@@ -1,5 +1,5 @@
 -- What is made of the body of one object.
-use Rattle.std.specs.Prelude.{true, false, if◌then◌else◌, List, [], ◌∷◌, ◌++◌, ℕ, ℤ, pos, ◌+ℤ◌, ◌-ℤ◌, ◌*ℤ◌, int_div, int_rem, Some}
+use Rattle.std.specs.Prelude.{Bool, true, false, ◌&&◌, if◌then◌else◌, List, [], ◌∷◌, ◌++◌, length, ℕ, nat_lt, ℤ, pos, negsuc, ◌+ℤ◌, ◌-ℤ◌, ◌*ℤ◌, int_div, int_rem, int_le, Option, Some, None, unwrap_or}
 use Rattle.std.specs.Ordering.{int_eq}
 use Rattle.mh_base.specs.declared.value.Value.{Value}
 use Rattle.mh_base.specs.declared.value.Value.TheVariants as value
@@ -7,27 +7,49 @@ use Rattle.mh_group.specs.declared.action_name.ActionName.{ActionName}
 use Rattle.mh_group.specs.declared.action_name.ActionName.TheVariants as action
 use Rattle.mh_group.specs.declared.attribute.Attribute.{Attribute}
 use Rattle.mh_group.specs.declared.attribute.Attribute.TheVariants as attribute
+use Rattle.mh_group.specs.Table.{has_content}
+use Rattle.mh_model.specs.declared.drawing.Drawing.{Drawing}
+use Rattle.mh_model.specs.declared.drawing.Figure.{Figure}
+use Rattle.mh_model.specs.declared.drawing.Figure.TheVariants as figure
 use Rattle.mh_model.specs.declared.held.Held.{Held}
 use Rattle.mh_model.specs.declared.held.Held.TheVariants as of
 use Rattle.mh_model.specs.declared.object.Body.{Body}
 use Rattle.mh_model.specs.declared.object.Fixed.{Fixed}
-use Rattle.mh_model.specs.Property.{with_held, value_held, as_number, as_octets}
+use Rattle.mh_model.specs.declared.object.Object.{Object}
+use Rattle.mh_model.specs.Looks.{has_line, line_of, fill_of}
+use Rattle.mh_model.specs.Property.{read_of, with_held, value_held, as_number, as_octets}
 use Rattle.mh_model.specs.Variables.{fits_int, fits_octets, converted}
+
+-- Content
+
+-- what is loaded of content: octets in the group's file, where the class has content
+abbrev pub included : Option Held → Bool → Option (List ℕ)
+included None has = None
+included (Some (of.Value (value.Octets os))) has = if has then Some os else None
+included (Some h) has = None
+
+-- what is loaded when an object becomes available
+abbrev pub loaded : Fixed → Body → Option (List ℕ)
+loaded p b = included (read_of attribute.OrigContent p b) (has_content p.class)
+
+-- the text that was loaded, or none
+abbrev pub text_of : Body → List ℕ
+text_of b = unwrap_or b.text []
 
 -- Running
 
-abbrev pub prepared : Body → Body
-prepared b = record b { available = true }
+abbrev pub prepared : Fixed → Body → Body
+prepared p b = if b.available then b else record b { available = true; text = loaded p b }
 
 -- one that runs stays as it is; another becomes available and runs
-abbrev pub started : Body → Body
-started b = record b { available = if b.running then b.available else true; running = true }
+abbrev pub started : Fixed → Body → Body
+started p b = if b.running then b else record (prepared p b) { running = true }
 
 abbrev pub halted : Body → Body
 halted b = record b { running = false }
 
 abbrev pub dropped : Body → Body
-dropped b = record b { available = false }
+dropped b = record b { available = false; text = None }
 
 -- Values and attributes
 
@@ -58,6 +80,65 @@ octets_of p b = as_octets (value_held p b)
 abbrev pub divided : (ℤ → ℤ → ℤ) → ℤ → ℤ → Body → Body
 divided by m n b = if int_eq n (pos 0) then b else given_number (by m n) b
 
+-- Content that is replaced is loaded at once where the object is available. What is too long changes nothing.
+
+abbrev pub replaced : Value → Fixed → Body → Body
+replaced v p b = record b {
+  changes = with_held attribute.OrigContent (of.Value v) b.changes;
+  text = if b.available then included (Some (of.Value v)) (has_content p.class) else b.text;
+}
+
+abbrev pub replaced_octets : List ℕ → Fixed → Body → Body
+replaced_octets os p b = if fits_octets os then replaced (value.Octets os) p b else b
+
+-- Looks. A negative size or width changes nothing, nor does a colour that has not four octets.
+
+abbrev pub sized : ℤ → ℤ → Body → Body
+sized w h b =
+    if int_le (pos 0) w && int_le (pos 0) h then put attribute.OrigBoxSize (of.Pair w h) b else b
+
+abbrev pub lined : ℤ → Body → Body
+lined n b = if int_le (pos 0) n then put attribute.OrigLineWidth (of.Value (value.Int n)) b else b
+
+abbrev pub coloured : Attribute → List ℕ → Body → Body
+coloured a (r ∷ g ∷ b ∷ t ∷ []) body =
+    put a (of.Colour (record { red = r; green = g; blue = b; transparency = t })) body
+coloured a _ body = body
+
+-- Drawings. One keeps the colours and the line width that there are when it is drawn.
+
+abbrev pub most_drawings : ℕ
+most_drawings = 256
+
+abbrev pub is_near : ℤ → Bool
+is_near n = int_le (negsuc 9999) n && int_le n (pos 10000)
+
+-- the points are near, and those of a rectangle in their order
+abbrev pub is_drawable : Figure → ℤ → ℤ → ℤ → ℤ → Bool
+is_drawable figure.Line x y u v = is_near x && is_near y && is_near u && is_near v
+is_drawable figure.Rectangle x y u v =
+    is_near x && is_near y && is_near u && is_near v && int_le x u && int_le y v
+
+abbrev pub drawing_of : Figure → ℤ → ℤ → ℤ → ℤ → Object → Drawing
+drawing_of f x y u v o = record {
+  figure = f;
+  from = record { x = x; y = y };
+  to = record { x = u; y = v };
+  has_line = has_line o;
+  line = line_of o;
+  fill = fill_of o;
+}
+
+-- a figure from (x, y) to (u, v) on top of what was drawn, where there is room for it
+abbrev pub drawn : Figure → ℤ → ℤ → ℤ → ℤ → Fixed → Body → Body
+drawn f x y u v p b =
+    if is_drawable f x y u v && nat_lt (length b.drawings) most_drawings
+    then record b { drawings = b.drawings ++ drawing_of f x y u v (record { fixed = p; body = b }) ∷ [] }
+    else b
+
+abbrev pub cleared : Body → Body
+cleared b = record b { drawings = [] }
+
 -- what the action makes of the body of its target
 abbrev pub changed_by : ActionName → List Value → Fixed → Body → Body
 changed_by action.SetVariable (v ∷ []) p b = stored (converted p.class v) b
@@ -68,4 +149,16 @@ changed_by action.Divide (value.Int n ∷ []) p b = divided int_div (number_of p
 changed_by action.Modulo (value.Int n ∷ []) p b = divided int_rem (number_of p b) n b
 changed_by action.Append (value.Octets os ∷ []) p b = given_octets (octets_of p b ++ os) b
 changed_by action.SetPosition (value.Int x ∷ value.Int y ∷ []) p b = put attribute.OrigPosition (of.Pair x y) b
+changed_by action.SetBoxSize (value.Int w ∷ value.Int h ∷ []) p b = sized w h b
+changed_by action.SetFillColour (value.Octets os ∷ []) p b = coloured attribute.OrigRefFillColour os b
+changed_by action.SetLineColour (value.Octets os ∷ []) p b = coloured attribute.OrigRefLineColour os b
+changed_by action.SetLineWidth (value.Int n ∷ []) p b = lined n b
+changed_by action.Clear vs p b = cleared b
+changed_by action.DrawLine (value.Int x ∷ value.Int y ∷ value.Int u ∷ value.Int v ∷ []) p b =
+    drawn figure.Line x y u v p b
+changed_by action.DrawRectangle (value.Int x ∷ value.Int y ∷ value.Int u ∷ value.Int v ∷ []) p b =
+    drawn figure.Rectangle x y u v p b
+changed_by action.SetData (value.Octets os ∷ []) p b = replaced_octets os p b
+changed_by action.SetData (value.Content name ∷ []) p b = replaced (value.Content name) p b
+changed_by action.SetTextColour (value.Octets os ∷ []) p b = coloured attribute.TextColour os b
 changed_by _ _ p b = b

@@ -1,7 +1,7 @@
 -- A second example, played by the definitions alone: a scene that computes. The red key sets a variable to 1 and
 -- tests it; the link that hears the test's truth multiplies by 3 before anything else is done; 1 is added, the
 -- next test fails, and the link that hears that adds 10. Then a rectangle moves to where the variable says.
-use Rattle.std.specs.Prelude.{◌≡◌, ℕ, Bool, true, false, List, [], ◌∷◌, Some, ℤ, pos}
+use Rattle.std.specs.Prelude.{◌≡◌, ℕ, Bool, true, false, List, [], ◌∷◌, Some, None, ℤ, pos}
 use Rattle.mh_base.specs.declared.obj_ref.ObjRef.{ObjRef}
 use Rattle.mh_base.specs.declared.value.Kind.TheVariants as kind
 use Rattle.mh_base.specs.declared.value.Value.{Value}
@@ -127,7 +127,7 @@ no_reference = pressed (moving_through (variable 1 (pos 0)))
 -- what the action makes of a variable that holds the one number, given the other
 abbrev pub summed : ActionName → ℤ → ℤ → ℤ
 summed n x y =
-    as_number (value_held (variable 1 x) (changed_by n (value.Int y ∷ []) (variable 1 x) (record { value = Some (value.Int x); changes = []; available = false; running = false })))
+    as_number (value_held (variable 1 x) (changed_by n (value.Int y ∷ []) (variable 1 x) (record { value = Some (value.Int x); changes = []; text = None; drawings = []; available = false; running = false })))
 
 pub record Computes : Type 0 where
   pub computed_taken : computed.taken ≡ 27

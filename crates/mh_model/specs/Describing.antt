@@ -48,6 +48,7 @@ can_put action.Activate = Runs ∷ []
 can_put action.Deactivate = Halts ∷ []
 can_put action.SendEvent = Sends ∷ []
 can_put action.TestVariable = Tells event.TestEvent ∷ []
+can_put action.SetData = Tells event.ContentAvailable ∷ []
 can_put _ = []
 
 -- the item is of the piece, where the action is done with these values to the object at the reference
@@ -143,9 +144,16 @@ pub record IsEmitted (n : ActionName) (c : Class) (e : EventType) : Type 0 where
   pub class : object.fixed.class ≡ c
   pub comes : is_listed (events_put n values object.fixed.key object) e ≡ true
 
--- what becomes available and runs, and emits no more than that
+-- what becomes available and runs, perhaps with content, and emits no more than that
+
+abbrev pub is_plain_event : EventType → Bool
+is_plain_event event.IsAvailable = true
+is_plain_event event.ContentAvailable = true
+is_plain_event event.IsRunning = true
+is_plain_event _ = false
+
 abbrev pub is_plain : Class → Bool
-is_plain c = length (run_events c) == 2
+is_plain c = list_all is_plain_event (run_events c)
 
 abbrev pub puts_some : List Piece → Bool
 puts_some [] = false

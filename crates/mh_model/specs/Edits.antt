@@ -1,19 +1,23 @@
 -- What is changed of a body, as what is carried out.
-use Rattle.std.specs.Prelude.{Option, Some, None}
+use Rattle.std.specs.Prelude.{List, [], ◌∷◌, ◌++◌, Option, Some, None}
 use Rattle.mh_model.specs.declared.edit.Edit.{Edit}
 use Rattle.mh_model.specs.declared.edit.Edit.TheVariants as edit
 use Rattle.mh_model.specs.declared.object.Body.{Body}
-use Rattle.mh_model.specs.Bodies.{prepared, started, halted, dropped, given, put}
+use Rattle.mh_model.specs.declared.object.Fixed.{Fixed}
+use Rattle.mh_model.specs.Bodies.{prepared, started, halted, dropped, given, put, replaced, cleared}
 
-abbrev pub edited : Edit → Body → Body
-edited (edit.Give v) b = given v b
-edited (edit.Put a h) b = put a h b
-edited edit.Prepare b = prepared b
-edited edit.Start b = started b
-edited edit.Halt b = halted b
-edited edit.Drop b = dropped b
+abbrev pub edited : Edit → Fixed → Body → Body
+edited (edit.Give v) p b = given v b
+edited (edit.Put a h) p b = put a h b
+edited (edit.Load v) p b = replaced v p b
+edited (edit.Draw d) p b = record b { drawings = b.drawings ++ d ∷ [] }
+edited edit.Clear p b = cleared b
+edited edit.Prepare p b = prepared p b
+edited edit.Start p b = started p b
+edited edit.Halt p b = halted b
+edited edit.Drop p b = dropped b
 
 -- where there is nothing to change, the body stays as it is
-abbrev pub edited_if : Option Edit → Body → Body
-edited_if None b = b
-edited_if (Some e) b = edited e b
+abbrev pub edited_if : Option Edit → Fixed → Body → Body
+edited_if None p b = b
+edited_if (Some e) p b = edited e p b

@@ -21,9 +21,7 @@ use Rattle.mh_model.specs.declared.key.Key.TheVariants as key
 use Rattle.mh_model.specs.Service.{Service, group_ref}
 use Rattle.mh_model.specs.State.{State, all, begun}
 use Rattle.mh_model.specs.Step.{run, is_idle}
-use Rattle.mh_model.specs.declared.visible.Visible.{Visible}
-use Rattle.mh_model.specs.Picture.{visibles, back_at}
-use Rattle.std.specs.Prelude.{reverse}
+use Rattle.mh_model.specs.Picture.{cell_at}
 
 abbrev pub a : List ℕ
 a = 97 ∷ []
@@ -92,25 +90,21 @@ moved_on = run (move.Post (input.Key key.Red) ∷ steps 2) settled
 
 -- the colour behind a cell
 abbrev pub back_of : State → ℕ → ℕ
-back_of x c = back_at (reverse (visibles (all x.objects) x.stack)) c
-
--- what is seen, the topmost first
-abbrev pub seen_in : State → List Visible
-seen_in x = reverse (visibles (all x.objects) x.stack)
+back_of x c = (cell_at (all x.objects) x.stack c).back
 
 -- of the 60 by 36 cells, counted row by row, exactly these are red, and all others are black
-abbrev pub shows_red : List ℕ → List Visible → Bool
-shows_red cells vs = list_all (λ c. back_at vs c == (if list_any (λ x. x == c) cells then 16711680 else 0)) (range_with_len 0 2160)
+abbrev pub shows_red : List ℕ → State → Bool
+shows_red cells x = list_all (λ c. back_of x c == (if list_any (λ y. y == c) cells then 16711680 else 0)) (range_with_len 0 2160)
 
 -- it settles after 11 steps with the cells (1, 1) to (2, 2) red, and 2 steps after the red key with those one
 -- to the right
 pub record PlaysFirst : Type 0 where
   pub eleven : settled.taken ≡ 11
   pub idle : is_idle settled ≡ true
-  pub frame : shows_red (61 ∷ 62 ∷ 121 ∷ 122 ∷ []) (seen_in settled) ≡ true
+  pub frame : shows_red (61 ∷ 62 ∷ 121 ∷ 122 ∷ []) settled ≡ true
   pub two : moved_on.taken ≡ 13
   pub idle_again : is_idle moved_on ≡ true
-  pub next_frame : shows_red (62 ∷ 63 ∷ 122 ∷ 123 ∷ []) (seen_in moved_on) ≡ true
+  pub next_frame : shows_red (62 ∷ 63 ∷ 122 ∷ 123 ∷ []) moved_on ≡ true
   pub faultless : moved_on.faults ≡ []
 
 -- An application that does nothing: 2 steps.

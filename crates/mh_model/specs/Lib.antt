@@ -2,6 +2,7 @@ pub mod First
 pub mod Key
 pub mod Property
 pub mod Service
+pub mod Planes
 pub mod State
 pub mod Items
 pub mod Variables
@@ -10,16 +11,20 @@ pub mod Known
 pub mod Faults
 pub mod Stuck
 pub mod Sort
+pub mod Boxes
+pub mod Scalars
+pub mod Lines
+pub mod Layout
+pub mod Drawn
+pub mod Looks
 pub mod Bodies
 pub mod Edits
 pub mod Lifecycle
 pub mod Saying
 pub mod Describing
+pub mod Picture
 pub mod Rules
 pub mod Step
-pub mod Planes
-pub mod Picture
-pub mod Painting
 pub mod Configuration
 pub mod Active
 pub mod Acceptable
@@ -27,3 +32,4 @@ pub mod Safe
 pub mod Headline
 pub mod Example
 pub mod Computing
+pub mod Showing

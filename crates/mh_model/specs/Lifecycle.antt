@@ -1,14 +1,19 @@
 -- What is put, and what becomes of the display stack, when an object is prepared, runs, stops and is dropped.
 use Rattle.std.specs.Prelude.{Bool, false, ◌&&◌, not, if◌then◌else◌, List, [], ◌∷◌, ◌++◌, filter, Option}
-use Rattle.std.specs.Option.{option_map_or}
+use Rattle.std.specs.Option.{option_map_or, is_some}
 use Rattle.mh_base.specs.declared.obj_ref.ObjRef.{ObjRef}
+use Rattle.mh_base.specs.declared.value.Value.{Value}
+use Rattle.mh_base.specs.declared.value.Value.TheVariants as value
 use Rattle.mh_base.specs.declared.event.EventType.{EventType}
 use Rattle.mh_base.specs.declared.event.EventType.TheVariants as event
+use Rattle.mh_group.specs.declared.action_name.ActionName.{ActionName}
+use Rattle.mh_group.specs.declared.action_name.ActionName.TheVariants as action
 use Rattle.mh_group.specs.Table.{is_visible}
 use Rattle.mh_model.specs.declared.item.Item.{Item}
 use Rattle.mh_model.specs.declared.object.Object.{Object}
+use Rattle.mh_model.specs.Bodies.{loaded}
 use Rattle.mh_model.specs.Items.{plain_event}
-use Rattle.mh_model.specs.Service.{same_ref}
+use Rattle.mh_model.specs.Service.{same_ref, object_at}
 
 abbrev pub is_available_at : Option Object → Bool
 is_available_at o = option_map_or (λ x. x.body.available) o false
@@ -27,6 +32,14 @@ is_stopped_at o = option_map_or (λ x. not x.body.running) o false
 abbrev pub is_unprepared_at : Option Object → Bool
 is_unprepared_at o = option_map_or (λ x. not x.body.running && not x.body.available) o false
 
+-- the object has content that is loaded when it becomes available
+abbrev pub loads_at : Option Object → Bool
+loads_at o = option_map_or (λ x. is_some (loaded x.fixed x.body)) o false
+
+-- it loads it now
+abbrev pub loads_if : (Option Object → Bool) → Option Object → Bool
+loads_if becomes o = becomes o && loads_at o
+
 abbrev pub is_visible_at : Option Object → Bool
 is_visible_at o = option_map_or (λ x. is_visible x.fixed.class) o false
 
@@ -34,12 +47,17 @@ is_visible_at o = option_map_or (λ x. is_visible x.fixed.class) o false
 abbrev pub emit_if : Bool → ObjRef → EventType → List Item
 emit_if b r kind = if b then plain_event r kind ∷ [] else []
 
+-- that it becomes available, if it does, and that its content is there
+abbrev pub rise_items : (Option Object → Bool) → ObjRef → Option Object → List Item
+rise_items becomes r o =
+    emit_if (becomes o) r event.IsAvailable ++ emit_if (loads_if becomes o) r event.ContentAvailable
+
 abbrev pub prepare_items : ObjRef → Option Object → List Item
-prepare_items r o = emit_if (is_unavailable_at o) r event.IsAvailable
+prepare_items r o = rise_items is_unavailable_at r o
 
 -- that it became available, if it did, and that it runs
 abbrev pub run_items : ObjRef → Option Object → List Item
-run_items r o = emit_if (is_unprepared_at o) r event.IsAvailable ++ emit_if (is_stopped_at o) r event.IsRunning
+run_items r o = rise_items is_unprepared_at r o ++ emit_if (is_stopped_at o) r event.IsRunning
 
 abbrev pub halt_items : ObjRef → Option Object → List Item
 halt_items r o = emit_if (is_running_at o) r event.IsStopped
@@ -54,3 +72,33 @@ with_risen b r o stack = if b && is_visible_at o then stack ++ r ∷ [] else sta
 -- one that is dropped goes off it
 abbrev pub without : ObjRef → List ObjRef → List ObjRef
 without r stack = filter (λ x. not (same_ref r x)) stack
+
+-- Actions that move an object in the stack. They do nothing where it is not available, or where the object
+-- beside which it is put is not, or is the same.
+
+abbrev pub brought_to_front : ObjRef → List ObjRef → List ObjRef
+brought_to_front r stack = without r stack ++ r ∷ []
+
+abbrev pub sent_to_back : ObjRef → List ObjRef → List ObjRef
+sent_to_back r stack = r ∷ without r stack
+
+-- r just above q, in a stack without it
+abbrev pub just_above : ObjRef → ObjRef → List ObjRef → List ObjRef
+just_above r q [] = r ∷ []
+just_above r q (x ∷ xs) = if same_ref q x then x ∷ r ∷ xs else x ∷ just_above r q xs
+
+abbrev pub just_below : ObjRef → ObjRef → List ObjRef → List ObjRef
+just_below r q [] = r ∷ []
+just_below r q (x ∷ xs) = if same_ref q x then r ∷ x ∷ xs else x ∷ just_below r q xs
+
+abbrev pub are_two : ObjRef → ObjRef → List Object → Bool
+are_two r q os = is_available_at (object_at q os) && not (same_ref r q)
+
+abbrev pub reordered : ActionName → List Value → ObjRef → List Object → List ObjRef → List ObjRef
+reordered action.BringToFront vs r os stack = brought_to_front r stack
+reordered action.SendToBack vs r os stack = sent_to_back r stack
+reordered action.PutBefore (value.Object q ∷ []) r os stack =
+    if are_two r q os then just_above r q (without r stack) else stack
+reordered action.PutBehind (value.Object q ∷ []) r os stack =
+    if are_two r q os then just_below r q (without r stack) else stack
+reordered _ vs r os stack = stack

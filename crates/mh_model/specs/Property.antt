@@ -1,8 +1,9 @@
 -- What an object holds under an attribute: what was changed, else what was written, else the default of the
 -- tables.
-use Rattle.std.specs.Prelude.{ℕ, Bool, ◌==◌, List, [], Option, Some, None, ℤ, pos}
+use Rattle.std.specs.Prelude.{ℕ, Bool, ◌==◌, if◌then◌else◌, List, [], Option, Some, None, ℤ, pos}
 use Rattle.std.specs.List.{find}
 use Rattle.std.specs.Option.{option_map, option_or}
+use Rattle.std.specs.Ordering.{int_eq}
 use Rattle.mh_base.specs.declared.obj_ref.ObjRef.{ObjRef}
 use Rattle.mh_base.specs.declared.value.Value.{Value}
 use Rattle.mh_base.specs.declared.value.Value.TheVariants as value
@@ -10,6 +11,8 @@ use Rattle.mh_base.specs.declared.colour.Colour.{Colour}
 use Rattle.mh_base.specs.declared.event.EventType.{EventType}
 use Rattle.mh_group.specs.declared.attribute.Attribute.{Attribute}
 use Rattle.mh_group.specs.declared.attribute.Attribute.TheVariants as attribute
+use Rattle.mh_group.specs.declared.justification.Justification.{Justification}
+use Rattle.mh_group.specs.declared.justification.Justification.TheVariants as justification
 use Rattle.mh_group.specs.Table.{attribute_number}
 use Rattle.mh_model.specs.declared.act.Act.{Act}
 use Rattle.mh_model.specs.declared.held.Held.{Held}
@@ -73,6 +76,16 @@ as_pair _ = (pos 0, pos 0)
 abbrev pub as_colour : Colour → Option Held → Colour
 as_colour d (Some (of.Colour c)) = c
 as_colour d _ = d
+
+-- a justification is held as its number
+abbrev pub justified : ℤ → Justification
+justified n =
+    if int_eq n (pos 2) then justification.End
+    else (if int_eq n (pos 3) then justification.Centre else justification.Start)
+
+abbrev pub as_justification : Option Held → Justification
+as_justification (Some (of.Value (value.Int n))) = justified n
+as_justification _ = justification.Start
 
 abbrev pub as_effect : Option Held → List Act
 as_effect (Some (of.Effect e)) = e

@@ -1,11 +1,12 @@
 -- One rule for each item and each action. A rule finds its item taken from the work list.
-use Rattle.std.specs.Prelude.{ℕ, Bool, true, false, if◌then◌else◌, List, [], ◌∷◌, ◌++◌, filter, Option, Some, None}
+use Rattle.std.specs.Prelude.{ℕ, ◌+◌, ◌-◌, ◌==◌, Bool, true, false, if◌then◌else◌, List, [], ◌∷◌, ◌++◌, filter, Option, Some, None}
 use Rattle.std.specs.List.{list_any}
 use Rattle.std.specs.Str.{bytes_eq}
 use Rattle.mh_base.specs.declared.obj_ref.ObjRef.{ObjRef}
 use Rattle.mh_base.specs.declared.value.Value.{Value}
 use Rattle.mh_base.specs.Event.{is_sync}
 use Rattle.mh_group.specs.declared.action_name.ActionName.{ActionName}
+use Rattle.mh_group.specs.declared.action_name.ActionName.TheVariants as action
 use Rattle.mh_model.specs.declared.act.Act.{Act}
 use Rattle.mh_model.specs.declared.event.Event.{Event}
 use Rattle.mh_model.specs.declared.input.Waiting.{Waiting}
@@ -25,7 +26,8 @@ use Rattle.mh_model.specs.Faults.{is_transition}
 use Rattle.mh_model.specs.Sort.{sort_of}
 use Rattle.mh_model.specs.Arguments.{values, receivers, referred}
 use Rattle.mh_model.specs.Bodies.{prepared, started, halted, dropped, given, changed_by}
-use Rattle.mh_model.specs.Lifecycle.{prepare_items, run_items, halt_items, drop_items, is_unavailable_at, is_unprepared_at, with_risen, without}
+use Rattle.mh_model.specs.Lifecycle.{prepare_items, run_items, halt_items, drop_items, is_available_at, is_unavailable_at, is_unprepared_at, with_risen, without, reordered}
+use Rattle.mh_model.specs.Picture.{looked}
 use Rattle.mh_model.specs.Saying.{answers_at, put_items_at}
 
 -- A rule changes the body of an object; what its file says of it stays.
@@ -62,9 +64,33 @@ abbrev pub ask_rule : ActionName → List Value → List ObjRef → ObjRef → S
 ask_rule n vs rs r s =
     record s { objects = filled rs (answers_at n vs (object_at r (all s.objects))) s.objects }
 
--- items are put
+-- the body of what it is done to is changed, perhaps, and items are put
 abbrev pub put_rule : ActionName → List Value → ObjRef → State → State
-put_rule n vs r s = record s { work = put_items_at n vs r (object_at r (all s.objects)) ++ s.work }
+put_rule n vs r s = record s {
+  objects = changed (changed_by n vs) r s.objects;
+  work = put_items_at n vs r (object_at r (all s.objects)) ++ s.work;
+}
+
+-- an object that is available is moved in the display stack
+abbrev pub order_rule : ActionName → List Value → ObjRef → State → State
+order_rule n vs r s = record s {
+  stack =
+      if is_available_at (object_at r (all s.objects)) then reordered n vs r (all s.objects) s.stack
+      else s.stack;
+}
+
+-- The lock. The first one keeps the picture that is there, and while it is above 0 that one is shown.
+
+abbrev pub locked : State → State
+locked s = record s { locks = s.locks + 1; frozen = if s.locks == 0 then looked s else s.frozen }
+
+abbrev pub unlocked : State → State
+unlocked s = record s { locks = s.locks - 1 }
+
+abbrev pub lock_rule : ActionName → State → State
+lock_rule action.LockScreen s = locked s
+lock_rule action.UnlockScreen s = unlocked s
+lock_rule _ s = s
 
 -- a transition replaces the whole work list, unless one has begun
 abbrev pub transition_rule : ObjRef → State → State
@@ -79,8 +105,8 @@ abbrev pub rule_by : Sort → ActionName → List Value → List ObjRef → ObjR
 rule_by sort.Change n vs rs r s = change_rule n vs r s
 rule_by sort.Ask n vs rs r s = ask_rule n vs rs r s
 rule_by sort.Put n vs rs r s = put_rule n vs r s
-rule_by sort.Order n vs rs r s = s
-rule_by sort.Whole n vs rs r s = if is_transition n then transition_rule r s else s
+rule_by sort.Order n vs rs r s = order_rule n vs r s
+rule_by sort.Whole n vs rs r s = if is_transition n then transition_rule r s else lock_rule n s
 
 -- an action whose target comes to nothing does nothing
 abbrev pub act_on : Option ObjRef → ActionName → List Value → List ObjRef → State → State
@@ -118,7 +144,7 @@ exchange_rule g s = record s {
 
 abbrev pub run_rule : ObjRef → State → State
 run_rule r s = record s {
-  objects = changed (λ p b. started b) r s.objects;
+  objects = changed started r s.objects;
   stack = with_risen (is_unprepared_at (object_at r (all s.objects))) r (object_at r (all s.objects)) s.stack;
   work = run_items r (object_at r (all s.objects)) ++ s.work;
 }
@@ -132,7 +158,7 @@ halt_rule r s = record s {
 abbrev pub rule : Item → State → State
 rule (item.Act a) s = act_rule a s
 rule (item.Prepare r) s = record s {
-  objects = changed (λ p b. prepared b) r s.objects;
+  objects = changed prepared r s.objects;
   stack = with_risen (is_unavailable_at (object_at r (all s.objects))) r (object_at r (all s.objects)) s.stack;
   work = prepare_items r (object_at r (all s.objects)) ++ s.work;
 }

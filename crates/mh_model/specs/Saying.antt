@@ -1,5 +1,5 @@
 -- What an action says: the answers for its receivers, and the items that it puts.
-use Rattle.std.specs.Prelude.{List, [], ◌∷◌, slice_get, Option, Some, None, ℤ, pos, negsuc}
+use Rattle.std.specs.Prelude.{◌&&◌, if◌then◌else◌, List, [], ◌∷◌, slice_get, Option, Some, None, ℤ, pos, negsuc}
 use Rattle.mh_base.specs.declared.obj_ref.ObjRef.{ObjRef}
 use Rattle.mh_base.specs.declared.value.Value.{Value}
 use Rattle.mh_base.specs.declared.value.Value.TheVariants as value
@@ -13,8 +13,10 @@ use Rattle.mh_model.specs.declared.item.Item.{Item}
 use Rattle.mh_model.specs.declared.item.Item.TheVariants as item
 use Rattle.mh_model.specs.declared.object.Object.{Object}
 use Rattle.mh_model.specs.declared.operator.Operator.{Operator}
+use Rattle.mh_model.specs.Bodies.{text_of}
+use Rattle.mh_model.specs.Lifecycle.{emit_if}
 use Rattle.mh_model.specs.Property.{read, as_pair, value_held}
-use Rattle.mh_model.specs.Variables.{operator_of, test}
+use Rattle.mh_model.specs.Variables.{fits_octets, operator_of, test}
 
 -- Answers
 
@@ -26,6 +28,8 @@ abbrev pub answers : ActionName → List Value → Object → List Value
 answers action.GetAvailabilityStatus vs o = value.Bool o.body.available ∷ []
 answers action.GetRunningStatus vs o = value.Bool o.body.running ∷ []
 answers action.GetPosition vs o = both (as_pair (read attribute.OrigPosition o))
+answers action.GetBoxSize vs o = both (as_pair (read attribute.OrigBoxSize o))
+answers action.GetTextData vs o = if fits_octets (text_of o.body) then value.Octets (text_of o.body) ∷ [] else []
 answers _ vs o = []
 
 abbrev pub answers_at : ActionName → List Value → Option Object → List Value
@@ -61,6 +65,8 @@ put_items action.Activate vs r o = item.Run r ∷ []
 put_items action.Deactivate vs r o = item.Halt r ∷ []
 put_items action.SendEvent (value.Object source ∷ value.Int kind ∷ more) r o = sent source (event_numbered kind) more
 put_items action.TestVariable (value.Int n ∷ v ∷ []) r o = tested r (operator_of n) (value_held o.fixed o.body) v
+put_items action.SetData (value.Octets os ∷ []) r o =
+    emit_if (o.body.available && fits_octets os) r event.ContentAvailable
 put_items _ vs r o = []
 
 abbrev pub put_items_at : ActionName → List Value → ObjRef → Option Object → List Item

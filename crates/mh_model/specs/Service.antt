@@ -37,7 +37,7 @@ with_parts s scene = option_map (λ g. (g, group_parts s g)) scene
 
 -- an object when its group is entered: nothing is changed, and it is neither available nor running
 abbrev pub fresh : Fixed → Object
-fresh p = record { fixed = p; body = record { value = None; changes = []; available = false; running = false } }
+fresh p = record { fixed = p; body = record { value = None; changes = []; text = None; drawings = []; available = false; running = false } }
 
 abbrev pub group_objects : Service → List ℕ → List Object
 group_objects s g = map fresh (group_parts s g)

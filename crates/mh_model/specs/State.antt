@@ -6,6 +6,7 @@ use Rattle.mh_model.specs.declared.item.Item.{Item}
 use Rattle.mh_model.specs.declared.item.Item.TheVariants as item
 use Rattle.mh_model.specs.declared.input.Waiting.{Waiting}
 use Rattle.mh_model.specs.declared.fault.Fault.{Fault}
+use Rattle.mh_model.specs.Planes.{Planes, blank}
 use Rattle.mh_model.specs.Service.{Service, group_objects}
 
 -- the objects that are present: those of the active application, and those of the current scene, each group
@@ -33,6 +34,9 @@ pub record State : Type 0 where
   pub work : List Item
   -- a transition has begun, and its exchange is still to come
   pub transition : Bool
+  -- how often the screen is locked, and the picture that it shows while it is
+  pub locks : ℕ
+  pub frozen : Planes
   -- the steps taken, and the faults met
   pub taken : ℕ
   pub faults : List Fault
@@ -48,6 +52,8 @@ begun s = record {
   queue = [];
   work = item.Enter s.start ∷ [];
   transition = false;
+  locks = 0;
+  frozen = blank;
   taken = 0;
   faults = [];
 }

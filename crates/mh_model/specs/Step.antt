@@ -1,5 +1,5 @@
 -- Taking, steps, posts and runs.
-use Rattle.std.specs.Prelude.{ℕ, ◌+◌, ◌==◌, ◌&&◌, Bool, true, false, not, nat_lt, if◌then◌else◌, List, [], ◌∷◌, ◌++◌, length, filter, drop, slice_get, Option, Some, None, ℤ, pos}
+use Rattle.std.specs.Prelude.{ℕ, zero, suc, ◌+◌, ◌==◌, ◌&&◌, Bool, true, false, not, nat_lt, if◌then◌else◌, List, [], ◌∷◌, ◌++◌, length, filter, drop, slice_get, Option, Some, None, ℤ, pos}
 use Rattle.mh_base.specs.declared.value.Value.TheVariants as value
 use Rattle.mh_base.specs.declared.event.EventType.TheVariants as event
 use Rattle.mh_group.specs.declared.attribute.Attribute.TheVariants as attribute
@@ -108,6 +108,11 @@ most_steps = 18446744073709551615
 -- a step move of a run: with all steps counted nothing changes
 abbrev pub stepped : State → State
 stepped s = if s.taken == most_steps then s else step s
+
+-- so many steps; where there is nothing to do, a step changes nothing
+unfoldable pub advanced : ℕ → State → State
+advanced zero s = s
+advanced (suc n) s = advanced n (stepped s)
 
 abbrev pub moved : Move → State → State
 moved (move.Post i) s = posted i s

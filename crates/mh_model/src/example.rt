@@ -1,6 +1,7 @@
 //! The first example, played by the definitions alone.
 ghost use Rattle.mh_model.specs.Computing.{Computes};
 ghost use Rattle.mh_model.specs.Example.{PlaysFirst, PlaysOthers};
+ghost use Rattle.mh_model.specs.Showing.{Shows};
 
 /// The law that the definitions play the first example as its report says: 11 steps, then 2, with the
 /// rectangle where it should be.
@@ -18,4 +19,10 @@ pub fn plays_others()
 /// the limits, numbers written in octets, and objects that are named through variables.
 pub fn computes()
     ensures { Computes }
+{}
+
+/// The law that the definitions show what their reports say: a text of four lines, a drawn line in five
+/// cells, and, while the screen is locked, the picture that was there before.
+pub fn shows()
+    ensures { Shows }
 {}

@@ -2,11 +2,11 @@
 ghost use Rattle.std.specs.Prelude.{◌≡◌, OnOk, OnErr, IfOk, ◌++◌, ◌∷◌, [], ◌<◌, vec_len, slice_set};
 ghost use Rattle.std.specs.Option.{option_copied};
 ghost use Rattle.std.specs.List.{position};
-ghost use Rattle.mh_model.specs.Property.{held, with_held, is_of, as_bool as as_bool_lem, as_int as as_int_lem, as_pair as as_pair_lem, as_colour as as_colour_lem, as_effect as as_effect_lem, as_event as as_event_lem, as_value as as_value_lem};
+ghost use Rattle.mh_model.specs.Property.{held, with_held, is_of, as_bool as as_bool_lem, as_int as as_int_lem, as_pair as as_pair_lem, as_colour as as_colour_lem, as_effect as as_effect_lem, as_event as as_event_lem, as_justification as as_justification_lem, justified as justified_lem, as_value as as_value_lem};
 
 use crate::{Act, Effect};
 use mh_base::{Colour, EventType, Value};
-use mh_group::Attribute;
+use mh_group::{Attribute, Justification};
 use std::alloc::{AllocError, Global};
 use std::marker::Model;
 
@@ -59,6 +59,29 @@ pub fn as_colour(held: Option<&Held>, default: Colour) -> Colour
     match held {
         Some(Held::Colour(colour)) => *colour,
         _ => default,
+    }
+}
+
+/// The justification that is held, or the default one.
+pub fn as_justification(held: Option<&Held>) -> Justification
+    ensures { result ≡ as_justification_lem (option_copied held.entry) }
+{
+    match held {
+        Some(Held::Value(Value::Int(number))) => justified(*number),
+        _ => Justification::Start,
+    }
+}
+
+fn justified(number: i32) -> Justification
+    ensures { result ≡ justified_lem number }
+{
+    if number == 2 {
+        return Justification::End;
+    }
+    if number == 3 {
+        Justification::Centre
+    } else {
+        Justification::Start
     }
 }
 

@@ -3,10 +3,11 @@ ghost use Rattle.std.specs.Prelude.{◌≡◌, ◌==◌, ◌&&◌, IfOk, [], Som
 ghost use Rattle.std.specs.Option.{option_copied};
 ghost use Rattle.mh_model.specs.Property.{read as read_lem, value_held};
 ghost use Rattle.mh_model.specs.Service.{fresh as fresh_lem};
+ghost use Rattle.mh_model.specs.Bodies.{text_of};
 
 use crate::held::as_value;
-use crate::{Held, Properties};
-use mh_base::{ObjRef, Value};
+use crate::{Drawings, Held, Properties};
+use mh_base::{ObjRef, Octets, Value};
 use mh_group::{Attribute, Class};
 use std::alloc::{AllocError, Global};
 use std::marker::Model;
@@ -67,8 +68,32 @@ pub struct Body {
     pub value: Option<Value>,
     /// The attributes that were changed, which stand above the written ones.
     pub changes: Properties,
+    /// The text that was loaded, if any was.
+    pub text: Option<Octets>,
+    /// What was drawn, in order.
+    pub drawings: Drawings,
     pub available: bool,
     pub running: bool,
+}
+
+impl Body {
+    /// A copy, which shares octets with it.
+    pub fn copy(&self, alloc: Global) -> Result<Body, AllocError>
+        ensures { IfOk result (λ copy. copy ≡ self.now) }
+    {
+        let value = self.value.clone()?;
+        let text = self.text.clone()?;
+        let changes = self.changes.copy(alloc)?;
+        let drawings = self.drawings.copy(alloc)?;
+        Ok(Body {
+            value,
+            changes,
+            text,
+            drawings,
+            available: self.available,
+            running: self.running,
+        })
+    }
 }
 
 /// An object that is present.
@@ -88,10 +113,22 @@ impl Object {
             body: Body {
                 value: None,
                 changes: Properties::new(alloc),
+                text: None,
+                drawings: Drawings::new(alloc),
                 available: false,
                 running: false,
             },
         })
+    }
+
+    /// The text that was loaded, or none.
+    pub fn text(&self) -> &[u8]
+        ensures { result.now ≡ text_of self.now.body }
+    {
+        match &self.body.text {
+            Some(text) => text.as_slice(),
+            None => &[],
+        }
     }
 
     /// The value that a variable holds: what it was given, else its original value.

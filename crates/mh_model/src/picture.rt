@@ -100,6 +100,24 @@ impl Picture {
         self.backs[at] = back;
     }
 
+    /// Puts the character of a cell, with its colour.
+    pub fn set_mark(&mut self, at: usize, scalar: u32, fore: u32)
+        requires { at < 2160 }
+        ensures { self.new ≡ record self.old { scalars = slice_set self.old.scalars at scalar; fores = slice_set self.old.fores at fore } }
+    {
+        self.scalars[at] = scalar;
+        self.fores[at] = fore;
+    }
+
+    /// Makes every cell what it is in another picture. It takes no memory.
+    pub fn copy_from(&mut self, other: &Picture)
+        ensures { self.new ≡ other.now }
+    {
+        copy_plane(&mut self.scalars, &other.scalars);
+        copy_plane(&mut self.fores, &other.fores);
+        copy_plane(&mut self.backs, &other.backs);
+    }
+
     /// Makes every cell a black space.
     #[tactic(auto, unfolding(crate::specs::Planes::flat))]
     pub fn clear(&mut self)
@@ -124,4 +142,12 @@ fn fill(plane: &mut Vec<u32>, number: u32)
     ensures { plane.new.items ≡ flat number }
 {
     plane.as_mut_slice().fill(number);
+}
+
+fn copy_plane(plane: &mut Vec<u32>, other: &Vec<u32>)
+    requires whole { vec_len plane.old ≡ 2160 }
+    requires same { vec_len other.now ≡ 2160 }
+    ensures { plane.new.items ≡ other.now.items }
+{
+    plane.as_mut_slice().copy_from_slice(other.as_slice());
 }

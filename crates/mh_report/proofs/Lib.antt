@@ -1,7 +1,6 @@
 pub mod ScriptLemmas
 pub mod SinkLemmas
 pub mod FrameLemmas
-pub mod StepLemmas
 pub mod PlayLemmas
 pub mod WrittenLemmas
 pub mod ConvertLemmas

@@ -1,5 +1,5 @@
 -- The report of a play: the bytes that it writes, as a function of the machine's states.
-use Rattle.std.specs.Prelude.{ℕ, ◌+◌, ◌-◌, if◌then◌else◌, List, [], ◌∷◌, ◌++◌, length, drop, suc, zero, codes}
+use Rattle.std.specs.Prelude.{ℕ, ◌+◌, ◌-◌, if◌then◌else◌, List, [], ◌∷◌, ◌++◌, length, drop, codes}
 use Rattle.std.specs.List.{flat_map}
 use Rattle.std.specs.Fmt.{decimal}
 use Rattle.mh_group.specs.Words.{action_word}
@@ -10,7 +10,7 @@ use Rattle.mh_model.specs.Planes.{Planes, blank}
 use Rattle.mh_model.specs.Picture.{shown}
 use Rattle.mh_model.specs.Service.{Service}
 use Rattle.mh_model.specs.State.{State, begun}
-use Rattle.mh_model.specs.Step.{posted, stepped, is_full}
+use Rattle.mh_model.specs.Step.{advanced, posted, is_full}
 use Rattle.mh_machine.specs.Rest.{rest_of}
 use Rattle.mh_machine.specs.declared.rest.Rest.{Rest}
 use Rattle.mh_machine.specs.declared.rest.Rest.TheVariants as rest
@@ -30,11 +30,6 @@ pub record Session : Type 0 where
 -- before the first command: the machine has begun, and the frame before the first one is black
 abbrev pub opening : Service → Session
 opening service = record { state = begun service; frame = blank; frames = 0 }
-
--- so many steps of the machine; where it has nothing to do, a step changes nothing
-unfoldable pub advanced : ℕ → State → State
-advanced zero s = s
-advanced (suc n) s = advanced n (stepped s)
 
 -- what a command makes of the session
 abbrev pub played : Command → Session → Session

@@ -2,10 +2,10 @@
 //! what the report says of each.
 ghost use Rattle.std.specs.Prelude.{◌≡◌, ◌-◌, ◌<◌, ◌^◌, ◌++◌, false, drop, OnOk, OnErr, IfOk, IsErrOf};
 ghost use Rattle.std.specs.List.{flat_map};
-ghost use Rattle.mh_model.specs.Step.{stepped};
+ghost use Rattle.mh_model.specs.Step.{advanced};
 ghost use Rattle.std.specs.Io.KnownBytes.{Appends};
 ghost use Rattle.mh_report.specs.Sink.{IsBeginning};
-ghost use Rattle.mh_report.specs.Report.{advanced, played, opening, fault_word as fault_word_lem, rest_word as rest_word_lem, fault_line, progress_since, refused_line, total_line, command_lines, script_lines, ended, status_of};
+ghost use Rattle.mh_report.specs.Report.{played, opening, fault_word as fault_word_lem, rest_word as rest_word_lem, fault_line, progress_since, refused_line, total_line, command_lines, script_lines, ended, status_of};
 
 use crate::play_error::PlayError;
 use crate::report::frame_text;
@@ -13,7 +13,7 @@ use crate::script::Command;
 use crate::sink::{Sink, write_all};
 use crate::status::Status;
 use crate::text::Text;
-use mh_engine::{Engine, RefusedWhy, Rest, StepError, Stepped};
+use mh_engine::{Engine, RefusedWhy, Rest};
 use mh_model::{Fault, FaultKind, Input, Picture};
 use mh_service::Service;
 use mh_verify::Accepted;
@@ -256,32 +256,14 @@ fn rest_word(rest: Rest) -> &'static [u8]
     }
 }
 
-#[tactic(auto, using(crate::proofs::StepLemmas::advanced_more, crate::proofs::StepLemmas::advanced_still))]
-/// Makes so many steps, or as many as there is something to do.
+/// Makes so many steps, or as many as there is something to do. An engine stops only where memory was
+/// refused.
 fn make_steps(engine: &mut Engine, limit: u32) -> Result<(), AllocError>
     ensures { OnOk result (engine.new.state ≡ advanced limit engine.old.state) }
 {
-    for made in 0..limit {
-        if !make_step(engine)? {
-            break;
-        }
-    }
-    Ok(())
-}
-
-#[tactic(auto, using(crate::proofs::StepLemmas::stepped_room, crate::proofs::StepLemmas::stepped_on_idle, crate::proofs::StepLemmas::step_on_idle, crate::proofs::StepLemmas::stepped_full))]
-/// Makes a step, and tells whether another one may change anything.
-fn make_step(engine: &mut Engine) -> Result<bool, AllocError>
-    ensures made { OnOk result (engine.new.state ≡ stepped engine.old.state) }
-    ensures over { IfOk result (λ more. more ≡ false → stepped engine.new.state ≡ engine.new.state) }
-{
-    match engine.step() {
-        Ok(Stepped::Did) => Ok(true),
-        Ok(Stepped::Faulted(_)) => Ok(true),
-        Ok(Stepped::Idle) => Ok(false),
-        Err(StepError::CountFull) => Ok(false),
-        Err(StepError::NoMemory) => Err(AllocError),
-        Err(StepError::Stopped) => Err(AllocError),
+    match engine.advance(limit) {
+        Ok(()) => Ok(()),
+        Err(_) => Err(AllocError),
     }
 }
 

@@ -82,6 +82,8 @@ bad_reference files = first_named (λ f. not (group_leads f.0 f.1)) files
 abbrev pub is_played_class : Class → Bool
 is_played_class class.Link = true
 is_played_class class.Rectangle = true
+is_played_class class.Text = true
+is_played_class class.DynamicLineArt = true
 is_played_class c = is_group_class c || is_variable c
 
 abbrev pub is_played_name : ActionName → Bool
@@ -105,6 +107,23 @@ is_played_name action.Modulo = true
 is_played_name action.Append = true
 is_played_name action.SetPosition = true
 is_played_name action.GetPosition = true
+is_played_name action.LockScreen = true
+is_played_name action.UnlockScreen = true
+is_played_name action.SetBoxSize = true
+is_played_name action.GetBoxSize = true
+is_played_name action.BringToFront = true
+is_played_name action.SendToBack = true
+is_played_name action.PutBefore = true
+is_played_name action.PutBehind = true
+is_played_name action.SetFillColour = true
+is_played_name action.SetLineColour = true
+is_played_name action.SetLineWidth = true
+is_played_name action.Clear = true
+is_played_name action.DrawLine = true
+is_played_name action.DrawRectangle = true
+is_played_name action.SetData = true
+is_played_name action.GetTextData = true
+is_played_name action.SetTextColour = true
 is_played_name _ = false
 
 abbrev pub is_played_setting : Setting → Bool

@@ -214,7 +214,11 @@ fn is_played_ingredient(ingredient: &Ingredient) -> bool
 fn is_played_class(class: Class) -> bool
     ensures { result ≡ is_played_class_lem class }
 {
-    matches!(class, Class::Link | Class::Rectangle) || class.is_group() || class.is_variable()
+    matches!(
+        class,
+        Class::Link | Class::Rectangle | Class::Text | Class::DynamicLineArt
+    ) || class.is_group()
+        || class.is_variable()
 }
 
 fn is_played_name(name: ActionName) -> bool
@@ -242,6 +246,23 @@ fn is_played_name(name: ActionName) -> bool
             | ActionName::Append
             | ActionName::SetPosition
             | ActionName::GetPosition
+            | ActionName::LockScreen
+            | ActionName::UnlockScreen
+            | ActionName::SetBoxSize
+            | ActionName::GetBoxSize
+            | ActionName::BringToFront
+            | ActionName::SendToBack
+            | ActionName::PutBefore
+            | ActionName::PutBehind
+            | ActionName::SetFillColour
+            | ActionName::SetLineColour
+            | ActionName::SetLineWidth
+            | ActionName::Clear
+            | ActionName::DrawLine
+            | ActionName::DrawRectangle
+            | ActionName::SetData
+            | ActionName::GetTextData
+            | ActionName::SetTextColour
     )
 }
 

@@ -87,39 +87,39 @@ back-nowhere x back (Some o) is = absurd cc
 
 -- what an edit promises of the objects as they were, and of what became of them
 pub record IsEdited {E : Type 0} (e : Edit) (r : ObjRef) (os after : Objects) (answer : Result Bool E) : Type 0 where
-  pub done : OnOk answer (after ≡ changed (λ _ b. edited e b) r os)
+  pub done : OnOk answer (after ≡ changed (edited e) r os)
   pub seen : IfOk answer (λ seen. seen ≡ is_visible_at (object_at r (all os)))
   pub own : parts after.application ≡ parts os.application
   pub others : parts after.scene ≡ parts os.scene
   pub kept : OnErr answer (after ≡ os)
 
 -- each part of it, where the change was carried out
-changed-edited : {E : Type 0} (e : Edit) (r : ObjRef) (os after : Objects) (seen : Bool) → after ≡ changed (λ _ b. edited e b) r os → seen ≡ is_visible_at (object_at r (all os)) → IsEdited {E = E} e r os after (Ok seen)
+changed-edited : {E : Type 0} (e : Edit) (r : ObjRef) (os after : Objects) (seen : Bool) → after ≡ changed (edited e) r os → seen ≡ is_visible_at (object_at r (all os)) → IsEdited {E = E} e r os after (Ok seen)
 changed-edited e r os after seen is told = record {
   done = is;
   seen = told;
-  own = ap (λ (x : Objects). parts x.application) is ∙ changed-own (λ _ b. edited e b) r os;
-  others = ap (λ (x : Objects). parts x.scene) is ∙ changed-others (λ _ b. edited e b) r os;
+  own = ap (λ (x : Objects). parts x.application) is ∙ changed-own (edited e) r os;
+  others = ap (λ (x : Objects). parts x.scene) is ∙ changed-others (edited e) r os;
   kept = tt;
 }
 
-pub edited-first : (e : Edit) (r : ObjRef) (os : Objects) (own : List Object) (seen : Bool) → trying.Done seen ≡ tried e (object_at r os.application) → own ≡ changed_in (λ _ b. edited e b) r os.application → IsEdited {E = Unit {0}} e r os (record os { application = own }) (Ok seen)
+pub edited-first : (e : Edit) (r : ObjRef) (os : Objects) (own : List Object) (seen : Bool) → trying.Done seen ≡ tried e (object_at r os.application) → own ≡ changed_in (edited e) r os.application → IsEdited {E = Unit {0}} e r os (record os { application = own }) (Ok seen)
 edited-first e r os own seen told is =
     let there = done-there e seen (object_at r os.application) told in
-    changed-edited e r os (record os { application = own }) seen (changed-first (λ _ b. edited e b) r os own there.0 is) (there.1 ∙ by (object_at r os.application) there.0 ∙ ap is_visible_at (sym (object_at-all r os)))
+    changed-edited e r os (record os { application = own }) seen (changed-first (edited e) r os own there.0 is) (there.1 ∙ by (object_at r os.application) there.0 ∙ ap is_visible_at (sym (object_at-all r os)))
   where
     by : (m : Option Object) → is_some m ≡ true → is_visible_at m ≡ is_visible_at (option_or m (object_at r os.scene))
     by None h = absurd cc
     by (Some o) h = refl
 
-pub edited-behind : {E : Type 0} (answer : Result Bool E) (e back : Edit) (r : ObjRef) (os : Objects) (own others : List Object) → trying.Left back ≡ tried e (object_at r os.application) → own ≡ changed_in (λ _ b. edited e b) r os.application → OnOk answer (others ≡ changed_in (λ _ b. edited back b) r os.scene) → IfOk answer (λ seen. seen ≡ is_visible_at (object_at r os.scene)) → OnErr answer (others ≡ os.scene) → IsEdited e r os (record { application = own; scene = others }) answer
+pub edited-behind : {E : Type 0} (answer : Result Bool E) (e back : Edit) (r : ObjRef) (os : Objects) (own others : List Object) → trying.Left back ≡ tried e (object_at r os.application) → own ≡ changed_in (edited e) r os.application → OnOk answer (others ≡ changed_in (edited back) r os.scene) → IfOk answer (λ seen. seen ≡ is_visible_at (object_at r os.scene)) → OnErr answer (others ≡ os.scene) → IsEdited e r os (record { application = own; scene = others }) answer
 edited-behind (Ok seen) e back r os own others told is behind saw kept =
     let left = left-nowhere e back (object_at r os.application) told in
-    let there : others ≡ changed_in (λ _ b. edited e b) r os.scene = behind ∙ ap (λ (x : Edit). changed_in (λ _ b. edited x b) r os.scene) left.1 in
-    changed-edited e r os (record { application = own; scene = others }) seen (changed-behind (λ _ b. edited e b) r os own others left.0 is there) (saw ∙ ap is_visible_at (found_behind r os (object_at r os.scene) (sym left.0) refl))
+    let there : others ≡ changed_in (edited e) r os.scene = behind ∙ ap (λ (x : Edit). changed_in (edited x) r os.scene) left.1 in
+    changed-edited e r os (record { application = own; scene = others }) seen (changed-behind (edited e) r os own others left.0 is there) (saw ∙ ap is_visible_at (found_behind r os (object_at r os.scene) (sym left.0) refl))
 edited-behind (Err why) e back r os own others told is behind saw kept =
     let left = left-nowhere e back (object_at r os.application) told in
-    let same : own ≡ os.application = is ∙ sym (changed_in-nowhere (λ _ b. edited e b) r os.application left.0) in
+    let same : own ≡ os.application = is ∙ sym (changed_in-nowhere (edited e) r os.application left.0) in
     record {
       done = tt;
       seen = tt;

@@ -1,3 +1,9 @@
 pub mod TableLemmas
 pub mod FreshLemmas
 pub mod BothLemmas
+pub mod KeepingLemmas
+mod LineLemmas
+mod TextLemmas
+mod ScalarLemmas
+mod DivisionLemmas
+mod BoxLemmas

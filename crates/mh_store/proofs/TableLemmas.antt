@@ -6,6 +6,7 @@ use Rattle.std.specs.Str.{bytes_eq}
 use Rattle.mh_base.specs.declared.obj_ref.ObjRef.{ObjRef}
 use Rattle.mh_model.specs.declared.edit.Edit.{Edit}
 use Rattle.mh_model.specs.declared.object.Body.{Body}
+use Rattle.mh_model.specs.declared.object.Fixed.{Fixed}
 use Rattle.mh_model.specs.declared.object.Object.{Object}
 use Rattle.mh_model.specs.Rules.{is_at, on_body, changed_in}
 use Rattle.mh_model.specs.Service.{same_ref, object_at}
@@ -15,7 +16,7 @@ use Rattle.mh_store.specs.Trying.{tried}
 
 -- What is written back under a number
 
-pub set_value-found : (f : Body → Body) (n : ℕ) (es : List (ℕ × Object)) (o : Object) → Some o ≡ lookup (nat_eq n) es → set_value (nat_eq n) es (with_body f o) ≡ changed_at f n es
+pub set_value-found : (f : Fixed → Body → Body) (n : ℕ) (es : List (ℕ × Object)) (o : Object) → Some o ≡ lookup (nat_eq n) es → set_value (nat_eq n) es (with_body f o) ≡ changed_at f n es
 set_value-found f n [] o is = refl
 set_value-found f n (e ∷ es) o is = by (nat_eq n e.0) (set_value-found f n es o) is
   where
@@ -25,7 +26,7 @@ set_value-found f n (e ∷ es) o is = by (nat_eq n e.0) (set_value-found f n es 
         ap (λ (x : Object). (e.0, with_body f x) ∷ es) it
     by false below same = ap (λ (t : List (ℕ × Object)). e ∷ t) (below same)
 
-pub none-under : (f : Body → Body) (n : ℕ) (es : List (ℕ × Object)) → None ≡ lookup (nat_eq n) es → es ≡ changed_at f n es
+pub none-under : (f : Fixed → Body → Body) (n : ℕ) (es : List (ℕ × Object)) → None ≡ lookup (nat_eq n) es → es ≡ changed_at f n es
 none-under f n [] is = refl
 none-under f n (e ∷ es) is = by (nat_eq n e.0) (none-under f n es) is
   where
@@ -34,7 +35,7 @@ none-under f n (e ∷ es) is = by (nat_eq n e.0) (none-under f n es) is
     by false below same = ap (λ (t : List (ℕ × Object)). e ∷ t) (below same)
 
 -- a change of a body keeps each object under its number
-pub keyed-changed : (f : Body → Body) (n : ℕ) (g : List ℕ) (es : List (ℕ × Object)) → IsKeyed g es → IsKeyed g (changed_at f n es)
+pub keyed-changed : (f : Fixed → Body → Body) (n : ℕ) (g : List ℕ) (es : List (ℕ × Object)) → IsKeyed g es → IsKeyed g (changed_at f n es)
 keyed-changed f n g [] keyed = tt
 keyed-changed f n g (e ∷ es) keyed = by (nat_eq n e.0) (keyed-changed f n g es keyed.1)
   where
@@ -60,11 +61,11 @@ pub lookup-object_at : (r : ObjRef) (g : List ℕ) (es : List (ℕ × Object)) �
 lookup-object_at r g [] own keyed = refl
 lookup-object_at r g (e ∷ es) own keyed = rw (is_at-keyed r g e keyed.0, own, lookup-object_at r g es own keyed.1) refl
 
-pub changed_at-changed_in : (f : Body → Body) (r : ObjRef) (g : List ℕ) (es : List (ℕ × Object)) → bytes_eq r.group g ≡ true → IsKeyed g es → objects_of (changed_at f r.number es) ≡ changed_in (λ _ b. f b) r (objects_of es)
+pub changed_at-changed_in : (f : Fixed → Body → Body) (r : ObjRef) (g : List ℕ) (es : List (ℕ × Object)) → bytes_eq r.group g ≡ true → IsKeyed g es → objects_of (changed_at f r.number es) ≡ changed_in f r (objects_of es)
 changed_at-changed_in f r g [] own keyed = refl
 changed_at-changed_in f r g (e ∷ es) own keyed = rw (is_at-keyed r g e keyed.0, own) (by (nat_eq r.number e.0) (changed_at-changed_in f r g es own keyed.1))
   where
-    by : (t : Bool) → objects_of (changed_at f r.number es) ≡ changed_in (λ _ b. f b) r (objects_of es) → objects_of (if t then (e.0, with_body f e.1) ∷ es else e ∷ changed_at f r.number es) ≡ (if t then on_body (λ _ b. f b) e.1 ∷ objects_of es else e.1 ∷ changed_in (λ _ b. f b) r (objects_of es))
+    by : (t : Bool) → objects_of (changed_at f r.number es) ≡ changed_in f r (objects_of es) → objects_of (if t then (e.0, with_body f e.1) ∷ es else e ∷ changed_at f r.number es) ≡ (if t then on_body f e.1 ∷ objects_of es else e.1 ∷ changed_in f r (objects_of es))
     by true below = refl
     by false below = ap (λ (t : List Object). e.1 ∷ t) below
 
@@ -73,7 +74,7 @@ pub object_at-elsewhere : (r : ObjRef) (g : List ℕ) (es : List (ℕ × Object)
 object_at-elsewhere r g [] other keyed = refl
 object_at-elsewhere r g (e ∷ es) other keyed = rw (is_at-keyed r g e keyed.0, other) (object_at-elsewhere r g es other keyed.1)
 
-pub changed_in-elsewhere : (f : Body → Body) (r : ObjRef) (g : List ℕ) (es : List (ℕ × Object)) → bytes_eq r.group g ≡ false → IsKeyed g es → objects_of es ≡ changed_in (λ _ b. f b) r (objects_of es)
+pub changed_in-elsewhere : (f : Fixed → Body → Body) (r : ObjRef) (g : List ℕ) (es : List (ℕ × Object)) → bytes_eq r.group g ≡ false → IsKeyed g es → objects_of es ≡ changed_in f r (objects_of es)
 changed_in-elsewhere f r g [] other keyed = refl
 changed_in-elsewhere f r g (e ∷ es) other keyed = rw (is_at-keyed r g e keyed.0, other) (ap (λ (t : List Object). e.1 ∷ t) (changed_in-elsewhere f r g es other keyed.1))
 
@@ -83,11 +84,11 @@ pub on_error : {T E : Type 0} {X : Type 0} (answer : Result T E) → X → OnErr
 on_error (Ok x) h = tt
 on_error (Err y) h = h
 
-pub keyed-tried : {T E : Type 0} (answer : Result T E) (f : Body → Body) (n : ℕ) (g : List ℕ) (es after : List (ℕ × Object)) → OnOk answer (after ≡ changed_at f n es) → OnErr answer (after ≡ es) → IsKeyed g es → IsKeyed g after
+pub keyed-tried : {T E : Type 0} (answer : Result T E) (f : Fixed → Body → Body) (n : ℕ) (g : List ℕ) (es after : List (ℕ × Object)) → OnOk answer (after ≡ changed_at f n es) → OnErr answer (after ≡ es) → IsKeyed g es → IsKeyed g after
 keyed-tried (Ok x) f n g es after done kept keyed = subst (IsKeyed g) (sym done) (keyed-changed f n g es keyed)
 keyed-tried (Err y) f n g es after done kept keyed = subst (IsKeyed g) (sym kept) keyed
 
-pub done-tried : {T E : Type 0} (answer : Result T E) (f : Body → Body) (r : ObjRef) (g : List ℕ) (es after : List (ℕ × Object)) → bytes_eq r.group g ≡ true → IsKeyed g es → OnOk answer (after ≡ changed_at f r.number es) → OnOk answer (objects_of after ≡ changed_in (λ _ b. f b) r (objects_of es))
+pub done-tried : {T E : Type 0} (answer : Result T E) (f : Fixed → Body → Body) (r : ObjRef) (g : List ℕ) (es after : List (ℕ × Object)) → bytes_eq r.group g ≡ true → IsKeyed g es → OnOk answer (after ≡ changed_at f r.number es) → OnOk answer (objects_of after ≡ changed_in f r (objects_of es))
 done-tried (Ok x) f r g es after own keyed done = ap objects_of done ∙ changed_at-changed_in f r g es own keyed
 done-tried (Err y) f r g es after own keyed done = done
 

@@ -1,2 +1,4 @@
 pub mod Table
 pub mod Trying
+pub mod Laws
+pub mod Keeping

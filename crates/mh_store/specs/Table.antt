@@ -21,11 +21,11 @@ IsKeyed g [] = Unit {0}
 IsKeyed g (e ∷ es) = (e.1.fixed.key ≡ key_of g e.0) × IsKeyed g es
 
 -- the object with its body changed
-abbrev pub with_body : (Body → Body) → Object → Object
-with_body f o = record o { body = f o.body }
+abbrev pub with_body : (Fixed → Body → Body) → Object → Object
+with_body f o = record o { body = f o.fixed o.body }
 
 -- the entries with the body of the object under this number changed
-abbrev pub changed_at : (Body → Body) → ℕ → List (ℕ × Object) → List (ℕ × Object)
+abbrev pub changed_at : (Fixed → Body → Body) → ℕ → List (ℕ × Object) → List (ℕ × Object)
 changed_at f n [] = []
 changed_at f n (e ∷ es) = if nat_eq n e.0 then (e.0, with_body f e.1) ∷ es else e ∷ changed_at f n es
 

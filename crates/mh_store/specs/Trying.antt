@@ -27,7 +27,7 @@ of_scene os = unwrap_or os []
 
 -- the objects with the change carried out on the one at the reference
 abbrev pub edited_in : Edit → ObjRef → List Object → List Object
-edited_in e r os = changed_in (λ _ b. edited e b) r os
+edited_in e r os = changed_in (edited e) r os
 
 -- the objects with the value given to the one at the reference
 abbrev pub given_in : Value → ObjRef → List Object → List Object

@@ -10,6 +10,7 @@ ghost use Rattle.mh_model.specs.Service.{object_at, is_in, fresh as fresh_lem};
 ghost use Rattle.mh_store.specs.Table.{changed_at, entry_of, is_new};
 ghost use Rattle.mh_store.specs.Trying.{tried, left_over, edited_in, given_in};
 
+use crate::kept::Kept;
 use crate::tried::Tried;
 use indexmap::IndexMap;
 use mh_base::{GroupName, ObjRef, Value};
@@ -21,9 +22,10 @@ use std::marker::Model;
 /// order in which the group's file has them.
 #[derive(Drop)]
 pub struct Group {
+    alloc: Global,
     name: GroupName,
     /// Each object stands under its own number.
-    table: IndexMap<u32, Object>,
+    table: IndexMap<u32, Kept>,
 }
 
 impl Model for Group {
@@ -47,11 +49,21 @@ impl Group {
     {
         let table = entered(alloc, name, parts)?;
         let name = name.clone()?;
-        Ok(Group { name, table })
+        Ok(Group { alloc, name, table })
     }
 
     /// The object to which the reference leads, if it is here.
     pub(crate) fn get(&self, at: &ObjRef) -> Option<&Object>
+        ensures { option_copied result ≡ object_at at.now self.now }
+    {
+        match self.kept(at) {
+            Some(kept) => Some(kept.object()),
+            None => None,
+        }
+    }
+
+    /// The object to which the reference leads, with its lines, if it is here.
+    pub(crate) fn kept(&self, at: &ObjRef) -> Option<&Kept>
         ensures { option_copied result ≡ object_at at.now self.now }
     {
         if at.group != self.name {
@@ -65,7 +77,7 @@ impl Group {
         ensures { option_copied result ≡ slice_get self.now place }
     {
         match self.table.get_index(place) {
-            Some((_, object)) => Some(object),
+            Some((_, kept)) => Some(kept.object()),
             None => None,
         }
     }
@@ -87,7 +99,7 @@ impl Group {
         if at.group != self.name {
             return Ok(Tried::Left(edit));
         }
-        edit_under(&mut self.table, at.number, edit)
+        edit_under(self.alloc, &mut self.table, at.number, edit)
     }
 
     /// Gives the variable at this reference a value. Where there is none the value comes back.
@@ -103,28 +115,33 @@ impl Group {
 }
 
 /// Changes the body of the object under this number. Where there is none the change comes back.
-fn edit_under(table: &mut IndexMap<u32, Object>, at: u32, edit: Edit) -> Result<Tried, AllocError>
+fn edit_under(
+    alloc: Global,
+    table: &mut IndexMap<u32, Kept>,
+    at: u32,
+    edit: Edit,
+) -> Result<Tried, AllocError>
     ensures done { OnOk result (table.new.entries ≡ changed_at (edited edit) at table.old.entries) }
     ensures told { IfOk result (λ told. told ≡ tried edit (lookup (nat_eq at) table.old.entries)) }
     ensures kept { OnErr result (table.new.entries ≡ table.old.entries) }
 {
     match table.get_mut(&at) {
-        Some(object) => {
-            object.body.edit(edit)?;
-            Ok(Tried::Done(object.fixed.get().class.is_visible()))
+        Some(kept) => {
+            kept.edit(alloc, edit)?;
+            Ok(Tried::Done(kept.object().fixed.get().class.is_visible()))
         }
         None => Ok(Tried::Left(edit)),
     }
 }
 
 /// Gives the variable under this number a value. Where there is none the value comes back.
-fn give_under(table: &mut IndexMap<u32, Object>, at: u32, value: Value) -> Option<Value>
-    ensures done { table.new.entries ≡ changed_at (given value) at table.old.entries }
+fn give_under(table: &mut IndexMap<u32, Kept>, at: u32, value: Value) -> Option<Value>
+    ensures done { table.new.entries ≡ changed_at (λ _ b. given value b) at table.old.entries }
     ensures back { result ≡ left_over value (lookup (nat_eq at) table.old.entries) }
 {
     match table.get_mut(&at) {
         Some(variable) => {
-            variable.body.give(value);
+            variable.give(value);
             None
         }
         None => Some(value),
@@ -136,7 +153,7 @@ fn entered(
     alloc: Global,
     name: &GroupName,
     parts: &[FixedPart],
-) -> Result<IndexMap<u32, Object>, AllocError>
+) -> Result<IndexMap<u32, Kept>, AllocError>
     requires apart { are_apart parts.now ≡ true }
     requires own { list_all (is_in name.now) parts.now ≡ true }
     ensures { IfOk result (λ table. table.entries ≡ map entry_of parts.now) }
@@ -149,12 +166,12 @@ fn entered(
 }
 
 /// Puts the object of the part at the end.
-fn add(alloc: Global, table: &mut IndexMap<u32, Object>, part: &FixedPart) -> Result<(), AllocError>
+fn add(alloc: Global, table: &mut IndexMap<u32, Kept>, part: &FixedPart) -> Result<(), AllocError>
     requires { is_new part.now.key.number table.old.entries ≡ true }
     ensures { OnOk result (table.new.entries ≡ table.old.entries ++ entry_of part.now ∷ []) }
 {
     let number = part.get().key.number;
-    let object = Object::fresh(alloc, part)?;
+    let object = Kept::fresh(alloc, part)?;
     table.insert(number, object)?;
     Ok(())
 }

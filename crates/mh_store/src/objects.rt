@@ -9,8 +9,8 @@ ghost use Rattle.mh_model.specs.Service.{object_at, parts};
 ghost use Rattle.mh_model.specs.State.{all};
 ghost use Rattle.mh_store.specs.Trying.{of_scene, edited_in, given_in};
 
-use crate::Group;
 use crate::tried::Tried;
+use crate::{Group, Kept};
 use mh_base::{ObjRef, Value};
 use mh_model::{Edit, Object};
 use std::alloc::AllocError;
@@ -53,6 +53,16 @@ impl Objects {
         }
     }
 
+    /// The object to which the reference leads, with its lines, if it is present.
+    pub fn kept(&self, at: &ObjRef) -> Option<&Kept>
+        ensures { option_copied result ≡ object_at at.now (all self.now) }
+    {
+        match self.application.kept(at) {
+            Some(kept) => Some(kept),
+            None => kept_in(&self.scene, at),
+        }
+    }
+
     /// The object at this place in the one list, the application's first.
     pub fn at(&self, place: usize) -> Option<&Object>
         ensures { option_copied result ≡ slice_get (all self.now) place }
@@ -68,7 +78,7 @@ impl Objects {
     /// Changes the body of the object at this reference; where there is none, nothing. It answers
     /// whether the object is a visible.
     pub fn edit(&mut self, at: &ObjRef, edit: Edit) -> Result<bool, AllocError>
-        ensures done { OnOk result (self.new ≡ changed (λ _ b. edited edit b) at.now self.old) }
+        ensures done { OnOk result (self.new ≡ changed (edited edit) at.now self.old) }
         ensures seen { IfOk result (λ seen. seen ≡ is_visible_at (object_at at.now (all self.old))) }
         ensures own { parts self.new.application ≡ parts self.old.application }
         ensures others { parts self.new.scene ≡ parts self.old.scene }
@@ -105,6 +115,16 @@ fn get_in<'a>(scene: &'a Option<Group>, at: &ObjRef) -> Option<&'a Object>
 {
     match scene {
         Some(group) => group.get(at),
+        None => None,
+    }
+}
+
+/// The same with its lines.
+fn kept_in<'a>(scene: &'a Option<Group>, at: &ObjRef) -> Option<&'a Kept>
+    ensures { option_copied result ≡ object_at at.now (of_scene scene.now) }
+{
+    match scene {
+        Some(group) => group.kept(at),
         None => None,
     }
 }

@@ -1,8 +1,9 @@
-//! Texts as they are laid out in their boxes.
+//! Texts as they are laid out in their boxes, the cells of drawn lines, and rows of pictures.
 use crate::cases::{Question, all_hold, bytes, said, word};
 use mh_base::Area;
-use mh_display::{Line, Picture, Spot, Stroke, changed_rows, character_at, goes_through, lay_out};
+use mh_display::{Picture, changed_rows, character_at, goes_through, lay_out, stroke_of};
 use mh_group::Justification;
+use mh_model::{Drawing, Figure, Line, Point};
 use std::alloc::Global;
 
 /// A justification, whether lines are wrapped, and a box by its place and its size in units; then a text,
@@ -17,7 +18,19 @@ centre wrap 0 0 120 64: a\0d 0d 1b\ => 4 a|5 |5 |;;
 start wrap 0 0 11 640: a b  c => 0 a|0 b|0  |0 c| -- a column alone;;
 start wrap 1 0 11 640: a b  c =>  -- no column, with wrapping;;
 start cut 1 0 11 640: a b\0d\c => 0 |0 | -- no column, without it;;
-start cut 0 0 120 16: a\1b 61\b\1b 20\c\1b 43 01\ => 0 ab c| -- escapes, the last one cut"#;
+start cut 0 0 120 16: a\1b 61\b\1b 20\c\1b 43 01\ => 0 ab c| -- escapes, the last one cut;;
+start wrap 0 0 36 640: ab  cd   e => 0 ab |0 cd |0  e| -- two spaces, and three;;
+start wrap 0 0 36 640:  abcdefg => 0  ab|0 cde|0 fg| -- a space in front, and a word that is cut;;
+start wrap 0 0 36 640: abc de fgh ij => 0 abc|0 de|0 fgh|0 ij| -- a space behind a full line;;
+start wrap 0 0 36 640: a b c d => 0 a b|0 c d| -- the last space of a line;;
+end wrap 0 0 36 640: abc\0d\d efg\0d\ => 0 abc|2 d|0 efg|3 |;;
+centre cut 0 0 48 48: a\0d\ab\0d\abc\0d\abcd => 1 a|1 ab|0 abc| -- the fourth is below the box;;
+start cut 0 0 240 16: a\09 0a\b\7f c2 80 c2 9f c2 a0\c => 0 ab\c2 a0\c| -- controls take no cell;;
+start cut 0 0 240 16: \c0 80 ed a0 80 f4 90 80 80 e2 82\a\e2 82 ac f0 9f 98 80 80\
+=> 0 \ef bf bd ef bf bd ef bf bd ef bf bd ef bf bd ef bf bd ef bf bd ef bf bd ef bf bd ef bf bd
+ef bf bd\a\e2 82 ac f0 9f 98 80 ef bf bd\| -- wrong bytes;;
+start cut 0 0 240 16: a\1b 5e 02 0d 1b\b\1b 5f\c\1b 7e\d\1b 7f\e\1b 40 00\f\1b 40 7f 0d 41\
+=> 0 ab_cdef| -- escapes to the end"#;
 
 fn area_of(form: &str) -> Option<Area> {
     Some(Area {
@@ -101,35 +114,53 @@ fn shows_characters_in_cells(rt: HostRuntime) {
     all_hold::<Shown>(&rt, rt.alloc(), SHOWN);
 }
 
-/// The first and the last cell of a drawn line, each by its column and row, and a cell; whether the line
-/// goes through it.
+/// The two ends of a drawn line in units, and a cell by its column and row; whether the line goes through it.
 static DRAWN: &str = r#"
-0 0 4 1 0 0 => yes;; 0 0 4 1 1 0 => yes;; 0 0 4 1 2 0 => no;; 0 0 4 1 2 1 => yes;;
-0 0 4 1 4 1 => yes;; 0 0 4 1 5 1 => no;; 0 0 4 1 -1 0 => no;; 4 1 0 0 2 1 => yes;; 4 1 0 0 1 0 => yes;;
-4 1 0 0 1 1 => no;; 0 0 1 -4 0 -1 => yes;; 0 0 1 -4 1 -2 => yes;; 0 0 1 -4 0 -2 => no;;
-3 3 3 3 3 3 => yes;; 3 3 3 3 3 4 => no"#;
+0 0 48 16 0 0 => yes;; 0 0 48 16 1 0 => yes;; 0 0 48 16 2 0 => no;; 0 0 48 16 2 1 => yes;;
+0 0 48 16 4 1 => yes;; 0 0 48 16 5 1 => no;; 0 0 48 16 -1 0 => no;; 48 16 0 0 2 1 => yes;;
+48 16 0 0 1 0 => yes;; 48 16 0 0 1 1 => no;; 0 0 12 -64 0 -1 => yes;; 0 0 12 -64 1 -2 => yes;;
+0 0 12 -64 0 -2 => no;; 36 48 36 48 3 3 => yes;; 36 48 36 48 3 4 => no;; -1 -1 -1 -1 -1 -1 => yes;;
+-1 -1 0 0 0 0 => yes;; 11 15 0 0 0 0 => yes;; -10000 0 10000 0 59 0 => yes"#;
 
 fn coordinate(asked: &str, at: usize) -> Option<i16> {
     word(asked, at).parse::<i16>().ok()
 }
 
-fn spot_of(asked: &str, at: usize) -> Option<Spot> {
-    Some(Spot {
-        column: coordinate(asked, at)?,
-        row: coordinate(asked, at.checked_add(1)?)?,
+fn point_of(asked: &str, at: usize) -> Option<Point> {
+    Some(Point {
+        x: coordinate(asked, at)?,
+        y: coordinate(asked, at.checked_add(1)?)?,
     })
 }
+
+/// The drawing of a line.
+fn line_of(asked: &str) -> Option<Drawing> {
+    Some(Drawing {
+        figure: Figure::Line,
+        from: point_of(asked, 0)?,
+        to: point_of(asked, 2)?,
+        has_line: true,
+        line: Some(0),
+        fill: None,
+    })
+}
+
+/// A box at the upper left corner of the screen.
+const CORNER: Area = Area {
+    x: 0,
+    y: 0,
+    width: 720,
+    height: 576,
+};
 
 struct Drawn;
 
 impl Question for Drawn {
     fn answer(alloc: Global, asked: &str, _: &[u8]) -> Option<Vec<u8>> {
-        let stroke = Stroke {
-            first: spot_of(asked, 0)?,
-            last: spot_of(asked, 2)?,
-        };
-        let cell = spot_of(asked, 4)?;
-        if goes_through(&stroke, i32::from(cell.column), i32::from(cell.row)) {
+        let stroke = stroke_of(&CORNER, &line_of(asked)?);
+        let column = word(asked, 4).parse::<i32>().ok()?;
+        let row = word(asked, 5).parse::<i32>().ok()?;
+        if goes_through(&stroke, column, row) {
             said(alloc, b"yes")
         } else {
             said(alloc, b"no")

@@ -13,6 +13,15 @@ absent: s {:Scene ("~/s" 0) :InputEventReg 3 :SceneCS 720 576 :Items ( {:Rectang
 24 32 :OrigPosition 12 16 :OrigLineWidth 0 :OrigRefFillColour '=FF=00=00=00' } {:Link 11
 :EventSource 0 :EventType UserInput :EventData 100 :LinkEffect ( :SetPosition (99 24 16) ) } ) }
 
+locks: s {:Scene ("~/s" 0) :InputEventReg 3 :Items ( {:IntegerVar 1 :OrigValue 0 } {:Rectangle 10
+:OrigBoxSize 12 16 :OrigRefLineColour '=FF=00=00=00' } {:Link 11 :EventSource 0 :EventType UserInput
+:EventData 100 :LinkEffect ( :LockScreen (("~/a" 0)) ) } {:Link 12 :EventSource 0 :EventType UserInput
+:EventData 101 :LinkEffect ( :UnlockScreen (("~/a" 0)) ) } {:Link 13 :EventSource 0 :EventType
+UserInput :EventData 102 :LinkEffect ( :Add (1 12) :SetPosition (10 :IndirectRef 1 0) ) } {:Link 14
+:EventSource 0 :EventType UserInput :EventData 103 :LinkEffect ( :TransitionTo (0) ) } {:Link 15
+:EventSource 0 :EventType UserInput :EventData 104 :LinkEffect ( :LockScreen (("~/a" 0)) :Add (1 12)
+:SetPosition (10 :IndirectRef 1 0) :UnlockScreen (("~/a" 0)) ) } ) }
+
 empty: a {:Application ("~/a" 0) :Items ( ) }
 
 outside: a {:Application ("~/a" 0) :OnStartUp ( :TransitionTo (("~/../x" 0)) ) }

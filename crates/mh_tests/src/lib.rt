@@ -64,6 +64,8 @@ mod variables;
 #[cfg(test)]
 mod verify;
 #[cfg(test)]
+mod visibles;
+#[cfg(test)]
 mod whole;
 #[cfg(test)]
 mod words;

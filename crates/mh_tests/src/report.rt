@@ -73,9 +73,9 @@ check @scene
 
 /// Applications that are not played yet, or that name what lies above the folder, and what is said.
 static UNPLAYED: &str = r#"
-application {:Application ("a" 0) :Items ( {:Text 1 :OrigBoxSize 1 1 } ) } => service 36 a|exit 2|;;
+application {:Application ("a" 0) :Items ( {:EntryField 1 :OrigBoxSize 1 1 } ) } => service 36 a|exit 2|;;
 application {:Application ("a" 0) :OnStartUp ( :Quit (0) ) } => service 36 a|exit 2|;;
-application {:Application ("a" 0) :OnStartUp ( :LockScreen (0) ) } => service 36 a|exit 2|;;
+application {:Application ("a" 0) :OnStartUp ( :Launch (0) ) } => service 36 a|exit 2|;;
 application {:Application ("a" 0) :OnStartUp ( :SetTimer (0 1 5) ) } => service 36 a|exit 2|;;
 application {:Application ("a" 0) :OnStartUp ( :Add (1 :IndirectRef 1) ) } => total 0|exit 0|;;
 application {:Application ("a" 0) :OnStartUp ( :SetVariable (1 :GBoolean true) ) } => total 0|exit 0|;;

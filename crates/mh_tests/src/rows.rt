@@ -50,7 +50,26 @@ play file x 0| @application @scene
 => script 1|exit 2|;;
 no steps
 play step 0|step 1| @application @scene
-=> did 0 more|did 1 more|total 1|exit 0|"#;
+=> did 0 more|did 1 more|total 1|exit 0|;;
+a text with paragraphs, an escape and a wrong byte
+play run|show|
+@a {:Application ("~/a" 0)  :Items ( {:Text 1 :OrigBoxSize 120 64 :OrigContent
+'one two three=0Dabcdefghijklm =1BC=04=00=FF=00=00x=FFy' :TextWrapping true } ) }
+=> did 7 idle|frame 1|row 00: 0-2 ffffff/000000 "one" 4-6 ffffff/000000 "two"|row 01: 0-4 ffffff/000000
+"three"|row 02: 0-9 ffffff/000000 "abcdefghij"|row 03: 0-2 ffffff/000000 "klm" 4-6 ffffff/000000
+"x\ef bf bd\y"|total 7|exit 0|;;
+a screen that is locked before a rectangle moves
+play run|show|key red|run|show| @application
+@s {:Scene ("~/s" 0) :InputEventReg 3 :SceneCS 720 576 :Items ( {:Rectangle 10 :OrigBoxSize 24 32
+:OrigPosition 12 16 :OrigLineWidth 0 :OrigRefFillColour '=FF=00=00=00' } {:Link 11 :EventSource 0 :EventType
+UserInput :EventData 100 :LinkEffect ( :LockScreen (("~/a" 0)) :SetPosition (10 24 16) ) } ) }
+=> did 11 idle|frame 1|row 01: 1-2 000000/ff0000 ""|row 02: 1-2 000000/ff0000 ""|did 3 idle|frame 2|total
+14|exit 0|;;
+a drawn line
+play run|show|
+@a {:Application ("~/a" 0)  :Items ( {:DynamicLineArt 1 :OrigBoxSize 60 32 :OrigRefLineColour '=00=FF=00=00' }
+{:Link 2 :EventSource 0 :EventType IsRunning :LinkEffect ( :DrawLine (1 0 0 48 16) ) } ) }
+=> did 9 idle|frame 1|row 00: 0-1 000000/00ff00 ""|row 01: 2-4 000000/00ff00 ""|total 9|exit 0|"#;
 
 static FILES: &str = r#"
 a length in its long form

@@ -154,7 +154,7 @@ made @a 0 0 {:Application ("~/other" 0) :Items ( {:TokenGroup 6000 :TokenGroupIt
 (:TransitionTo(("x" 0))))) } ) }
 => 36 a;;
 an action
-made @a 0 0 {:Application ("~/other" 0) :OnStartUp (:LockScreen(("x" 0))) }
+made @a 0 0 {:Application ("~/other" 0) :OnStartUp (:SetLabel(("x" 0) 'y')) }
 => 36 a;;
 an action of the scene
 made @a 0 0 {:Application ("~/other" 0) :OnStartUp () :Items () }

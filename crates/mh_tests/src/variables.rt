@@ -6,7 +6,8 @@ use std::alloc::Global;
 
 /// What a variable is at first, what is done, and an operator with a value; the answer says whether the
 /// variable then passes the test. A rectangle runs where it does. Beside the variable, which has
-/// number 1, stand Rectangle 10, Link 4, which does not run, and ObjectRefVar 5, which refers to it.
+/// number 1, stand Rectangle 10, Link 4 and Text 6, which do not run, and ObjectRefVar 5, which refers to
+/// the variable.
 struct Computed;
 
 impl Question for Computed {
@@ -16,6 +17,7 @@ impl Question for Computed {
         let (class, value) = variable.split_once(' ')?;
         let items = format!(in alloc;
             "{{:{class} 1 :OrigValue {value} }} {{:ObjectRefVar 5 :OrigValue 1 }} \
+             {{:Text 6 :InitiallyActive false :OrigBoxSize 12 16 :OrigContent 'ab=1B' }} \
              {{:Rectangle 10 :InitiallyActive false :OrigBoxSize 12 16 :OrigLineWidth 0 \
              :OrigRefFillColour '=FF=FF=FF=00' }} \
              {{:Link 4 :InitiallyActive false :EventSource 0 :EventType IsStopped :LinkEffect () }}"
@@ -117,7 +119,19 @@ BooleanVar true / :Activate (4) :Deactivate (4) :GetRunningStatus (4 1) / 1 :GBo
 BooleanVar false / :Activate (4) :Deactivate (4) :GetAvailabilityStatus (4 1) / 1 :GBoolean true => yes;;
 IntegerVar 6 / :Add (:IndirectRef 5 3) / 1 :GInteger 9 => yes;;
 IntegerVar 6 / :Add (1 :IndirectRef 1) / 1 :GInteger 12 => yes;;
-IntegerVar 6 / :SetVariable (5 :GObjectRef 10) :Add (:IndirectRef 5 3) / 1 :GInteger 6 => yes -- a fault"#;
+IntegerVar 6 / :SetVariable (5 :GObjectRef 10) :Add (:IndirectRef 5 3) / 1 :GInteger 6 => yes -- a fault;;
+IntegerVar 0 / :SetBoxSize (10 24 48) :GetBoxSize (10 1 1) / 1 :GInteger 48 => yes;;
+IntegerVar 0 / :SetBoxSize (10 -1 48) :GetBoxSize (10 1 1) / 1 :GInteger 16 => yes -- as it was;;
+IntegerVar 0 / :SetBoxSize (10 24 -1) :GetBoxSize (10 1 1) / 1 :GInteger 16 => yes;;
+IntegerVar 9 / :SetBoxSize (10 0 0) :GetBoxSize (10 1 1) :SetBoxSize (10 12 16) / 1 :GInteger 0 => yes;;
+OStringVar 'x' / :GetTextData (6 1) / 1 :GOctetString '' => yes -- nothing is loaded;;
+OStringVar 'x' / :Preload (6) :GetTextData (6 1) / 1 :GOctetString 'ab=1B' => yes;;
+OStringVar 'x' / :SetData (6 'cd') :GetTextData (6 1) / 1 :GOctetString '' => yes;;
+OStringVar 'x' / :SetData (6 'cd') :Preload (6) :GetTextData (6 1) / 1 :GOctetString 'cd' => yes;;
+OStringVar 'x' / :Preload (6) :SetData (6 'cd') :GetTextData (6 1) / 1 :GOctetString 'cd' => yes;;
+OStringVar 'x' / :Preload (6) :Unload (6) :GetTextData (6 1) / 1 :GOctetString '' => yes;;
+OStringVar 'x' / :Preload (6) :SetData (6 :ContentRef ("t")) :GetTextData (6 1) / 1 :GOctetString '' => yes;;
+OStringVar 'x' / :Preload (6) :SetData (6 :IndirectRef 1) :Append (1 'y') :GetTextData (6 1) / 1 :GOctetString 'x' => yes"#;
 
 /// A scene that computes, and what is wrong with one that does not.
 static PLAYS: &str = r#"
@@ -185,6 +199,14 @@ a target through a variable of numbers
 check @a {:Application ("~/a" 0) :OnStartUp ( :Add (:IndirectRef 1 1) ) :Items ( {:IntegerVar 1 :OrigValue
 0 } ) }
 => refused V3 a 0 1 Add|config a -|object a 1|exit 1|;;
+an object that is not known beforehand
+check @a {:Application ("~/a" 0) :OnStartUp ( :PutBefore (1 :IndirectRef 2) ) :Items ( {:Text 1 :OrigBoxSize 12
+16 } {:ObjectRefVar 2 :OrigValue 1 } ) }
+=> refused V10 a 0 1 PutBefore|exit 1|;;
+a colour through a variable of numbers
+check @a {:Application ("~/a" 0) :OnStartUp ( :SetTextColour (1 :IndirectRef 2) ) :Items ( {:Text 1
+:OrigBoxSize 12 16 } {:IntegerVar 2 :OrigValue 1 } ) }
+=> refused V3 a 0 1 SetTextColour|config a -|object a 2|exit 1|;;
 an event of an object that is not there
 check @a {:Application ("~/a" 0) :OnStartUp ( :SendEvent (0 9 IsRunning) ) }
 => refused V1 a 0 1 SendEvent|config a -|object a 9|exit 1|"#;

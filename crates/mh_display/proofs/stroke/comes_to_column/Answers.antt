@@ -1,7 +1,7 @@
 use Rattle.std.proofs.Common.{◌≡◌, ◌-ℤ◌, ◌+ℤ◌, ℤ, refl, ap, ◌∙◌, SFits, w64}
 use Rattle.std.specs.Ordering.{int_eq}
 use Rattle.std.proofs.Math.Facts.{to_z-of_z}
-use Rattle.mh_display.specs.Drawn.{across, gone, steps}
+use Rattle.mh_model.specs.Drawn.{across, gone, steps}
 use Rattle.mh_display.proofs.DrawnLemmas.{same_so_far}
 use Rattle.mh_display.proofs.stroke.comes_to_column.Goals as goal
 

@@ -1,6 +1,7 @@
 use Rattle.std.proofs.Common.{◌≡◌, rules, refl, ◌∙◌}
 use Rattle.std.proofs.Math.Facts.{to_z-of_z}
-use Rattle.mh_display.specs.Drawn.{comes_to, step_to}
+use Rattle.mh_model.specs.Drawn.{comes_to}
+use Rattle.mh_display.specs.Strokes.{step_to}
 use Rattle.mh_display.proofs.DrawnLemmas.{is_reached, is_too_far}
 use Rattle.mh_display.proofs.stroke.goes_through.Goals as goal
 

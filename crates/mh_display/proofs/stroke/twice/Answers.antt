@@ -1,7 +1,7 @@
 use Rattle.std.proofs.Common.{◌≡◌, ℕ, w64, arith, pos, ◌*◌, ◌*ℤ◌, ◌≤◌, ℤ, to_z, FitsSigned}
 use Rattle.std.proofs.Math.Facts.{to_z-of_z}
 use Rattle.std.proofs.lemmas.Int.{fits_signed_from_abs, ints}
-use Rattle.mh_display.specs.Boxes.{IsNear}
+use Rattle.mh_model.specs.Boxes.{IsNear}
 use Rattle.mh_display.proofs.DrawnLemmas.{doubled, is_near}
 use Rattle.mh_display.proofs.stroke.twice.Goals as goal
 

@@ -9,7 +9,7 @@ use Rattle.mh_store.proofs.group.Group.give.Goals as goal
 pub returns-then-ne-clause-done : goal.returns-then-ne-clause-done
 returns-then-ne-clause-done c =
     let other = is_other (bytes_eq c.args.at.now.group c.self.inside.name) c.if-ne.ensures in
-    rw (← c.self.view_is) (changed_in-elsewhere (given c.args.value) c.args.at.now c.self.inside.name c.self.inside.table.entries other c.self.invariant)
+    rw (← c.self.view_is) (changed_in-elsewhere (λ _ b. given c.args.value b) c.args.at.now c.self.inside.name c.self.inside.table.entries other c.self.invariant)
 
 pub returns-then-ne-clause-back : goal.returns-then-ne-clause-back
 returns-then-ne-clause-back c =
@@ -17,12 +17,12 @@ returns-then-ne-clause-back c =
     rw (← c.self.view_is) (ap (left_over c.args.value) (object_at-elsewhere c.args.at.now c.self.inside.name c.self.inside.table.entries other c.self.invariant))
 
 pub invariant_of-self : goal.invariant_of-self
-invariant_of-self c = rw c.give_under.ensures.done (keyed-changed (given c.args.value) c.args.at.now.number c.self.inside.name c.self.inside.table.entries c.self.invariant)
+invariant_of-self c = rw c.give_under.ensures.done (keyed-changed (λ _ b. given c.args.value b) c.args.at.now.number c.self.inside.name c.self.inside.table.entries c.self.invariant)
 
 pub returns-clause-done : goal.returns-clause-done
 returns-clause-done c =
     let own = is_own (bytes_eq c.args.at.now.group c.self.inside.name) c.if-ne.ensures in
-    rw (← c.self.view_is) (ap objects_of c.give_under.ensures.done ∙ changed_at-changed_in (given c.args.value) c.args.at.now c.self.inside.name c.self.inside.table.entries own c.self.invariant)
+    rw (← c.self.view_is) (ap objects_of c.give_under.ensures.done ∙ changed_at-changed_in (λ _ b. given c.args.value b) c.args.at.now c.self.inside.name c.self.inside.table.entries own c.self.invariant)
 
 pub returns-clause-back : goal.returns-clause-back
 returns-clause-back c =

@@ -1,0 +1,89 @@
+-- Looking down the display stack, visible by visible.
+use Rattle.std.specs.Prelude.{◌≡◌, ℕ, ◌+◌, ◌<◌, ◌≤◌, ◌==◌, Bool, true, false, not, List, [], ◌∷◌, ◌++◌, length, map, reverse, take, Option, slice_index_or, if◌then◌else◌, refl}
+use Rattle.std.proofs.Common.{ap, ◌∙◌, sym, arith, subst}
+use Rattle.std.proofs.lemmas.List.{take_all, take_more, reverse-append}
+use Rattle.mh_base.specs.declared.obj_ref.ObjRef.{ObjRef}
+use Rattle.mh_model.specs.declared.object.Object.{Object}
+use Rattle.mh_model.specs.Looks.{Paint}
+use Rattle.mh_model.specs.Picture.{cell_at, paint_at, painted, picture}
+use Rattle.mh_model.specs.Service.{object_at}
+use Rattle.mh_model.proofs.PlanesLemmas.{is_picture}
+use Rattle.mh_display.specs.declared.marked.Marked.{Marked}
+use Rattle.mh_display.specs.Painting.{IsAll, IsComplete, IsDown, IsPainted, marked_at, put, renewed, seen, settled}
+use Rattle.mh_display.specs.Surface.{Surface, IsClean, IsRight, is_stale}
+use Rattle.mh_display.proofs.CellLemmas.{seen_below}
+
+-- all are left
+pub all_left : (os : List Object) (stack : List ObjRef) (n : ℕ) (s : Surface) → length stack ≤ n → IsDown os (reverse stack) (reverse (take n stack)) s s
+all_left os stack n s most = record {
+  each = λ c inside. ap (λ (rs : List ObjRef). seen (marked_at s c) (map (paint_at os c) (reverse rs))) (take_all n stack most);
+}
+
+-- the topmost of those that are left is painted
+pub next_down : (os : List Object) (rs stack : List ObjRef) (left n : ℕ) (top : ObjRef) (found : Option Object) (old mid new : Surface) → left ≤ length stack → left ≡ n + 1
+    → top ≡ slice_index_or stack n top → found ≡ object_at top os → IsDown os rs (reverse (take left stack)) old mid → IsPainted (λ c. painted c found) mid new
+    → IsDown os rs (reverse (take n stack)) old new
+next_down os rs stack left n top found old mid new inside is here there done one = record {
+  each = λ c in_it.
+      seen_below (paint_at os c top) (marked_at mid c) (marked_at new c) (map (paint_at os c) (reverse (take n stack)))
+      (one.each c in_it ∙ ap (λ (o : Option Object). put (painted c o) (marked_at mid c)) there)
+      ∙ ap (λ (qs : List ObjRef). seen (marked_at mid c) (map (paint_at os c) qs)) (sym turned)
+      ∙ done.each c in_it;
+}
+  where
+    turned : reverse (take left stack) ≡ top ∷ reverse (take n stack)
+    turned =
+        ap (λ (k : ℕ). reverse (take k stack)) is
+        ∙ ap (λ (qs : List ObjRef). reverse qs) (take_more stack n top (omega (arith, inside, is)) ∙ ap (λ (r : ObjRef). take n stack ++ r ∷ []) (sym here))
+        ∙ reverse-append (take n stack) (top ∷ [])
+
+-- none is left
+pub none_left : (os : List Object) (rs stack : List ObjRef) (left : ℕ) (old new : Surface) → left ≤ 0 → IsDown os rs (reverse (take left stack)) old new → IsDown os rs [] old new
+none_left os rs stack left old new most done =
+    let none : left ≡ 0 = omega (arith, most) in
+    subst (λ (k : ℕ). IsDown os rs (reverse (take k stack)) old new) none done
+
+not_not : (b : Bool) → not b ≡ false → b ≡ true
+not_not true e = refl
+not_not false e = sym e
+
+-- a cell that is right is what it is, whatever is below
+seen_right : (k : Marked) (ps : List Paint) → (k.mark == 0) ≡ true → seen k ps ≡ k.cell
+seen_right k ps e = rw e refl
+
+right_at : (s : Surface) (c : ℕ) → is_stale s.marks c ≡ false → ((marked_at s c).mark == 0) ≡ true
+right_at s c e = not_not ((marked_at s c).mark == 0) e
+
+-- no cell is left
+pub nothing_left : (os : List Object) (rs left : List ObjRef) (old new : Surface) → IsClean new.marks → IsDown os rs left old new → IsDown os rs [] old new
+nothing_left os rs left old new clean done = record {
+  each = λ c inside.
+      let right : ((marked_at new c).mark == 0) ≡ true = right_at new c (clean c inside) in
+      seen_right (marked_at new c) [] right ∙ sym (seen_right (marked_at new c) (map (paint_at os c) left) right) ∙ done.each c inside;
+}
+
+-- what is found by looking down the whole stack is the picture
+sought : (os : List Object) (stack : List ObjRef) (old : Surface) (c : ℕ) → c < 2160 → IsRight os stack old → seen (renewed (marked_at old c)) (map (paint_at os c) (reverse stack)) ≡ cell_at os stack c
+sought os stack old c inside right = by ((marked_at old c).mark == 0) refl
+  where
+    by : (b : Bool) → ((marked_at old c).mark == 0) ≡ b → seen (renewed (marked_at old c)) (map (paint_at os c) (reverse stack)) ≡ cell_at os stack c
+    by true e =
+        let fine : is_stale old.marks c ≡ false = ap not e in
+        ap (λ (b : Bool). seen (if b then marked_at old c else record { mark = 2; cell = (marked_at old c).cell }) (map (paint_at os c) (reverse stack))) e
+        ∙ seen_right (marked_at old c) (map (paint_at os c) (reverse stack)) e ∙ right c inside fine
+    by false e = ap (λ (b : Bool). seen (if b then marked_at old c else record { mark = 2; cell = (marked_at old c).cell }) (map (paint_at os c) (reverse stack))) e
+
+pub repainted : (os : List Object) (stack : List ObjRef) (old mid down new : Surface) → IsRight os stack old → IsAll (λ c. renewed) (marked_at old) (marked_at mid)
+    → IsDown os (reverse stack) [] mid down → IsAll (λ c. settled) (marked_at down) (marked_at new) → IsComplete new → new.planes ≡ picture os stack
+repainted os stack old mid down new right first walk last whole =
+    is_picture (cell_at os stack) new.planes whole.planes (λ c inside.
+    ap (λ (k : Marked). k.cell) (last.each c inside)
+    ∙ walk.each c inside
+    ∙ ap (λ (k : Marked). seen k (map (paint_at os c) (reverse stack))) (first.each c inside)
+    ∙ sought os stack old c inside right)
+
+pub clean_after : (down new : Surface) → IsAll (λ c. settled) (marked_at down) (marked_at new) → IsClean new.marks
+clean_after down new last c inside = ap (λ (k : Marked). not (k.mark == 0)) (last.each c inside)
+
+pub right_already : (os : List Object) (stack : List ObjRef) (s : Surface) → IsRight os stack s → IsClean s.marks → IsComplete s → s.planes ≡ picture os stack
+right_already os stack s right clean whole = is_picture (cell_at os stack) s.planes whole.planes (λ c inside. right c inside (clean c inside))

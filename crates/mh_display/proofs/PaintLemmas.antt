@@ -1,0 +1,102 @@
+-- What is painted into cells, and into those of windows.
+use Rattle.std.specs.Prelude.{◌≡◌, ℕ, ◌+◌, ◌*◌, ◌<◌, ◌==◌, Bool, true, false, not, List, [], replicate, ◌&&◌, if◌then◌else◌, Option, None, slice_index, ℤ, pos, ◌-ℤ◌, refl}
+use Rattle.std.proofs.Common.{ap, ◌∙◌, sym, arith, subst}
+use Rattle.std.proofs.lemmas.List.{get_or-set_same, get_or-set_other, get_or-replicate}
+use Rattle.std.proofs.lemmas.Bool.{eqb-true}
+use Rattle.mh_base.specs.declared.area.Area.{Area}
+use Rattle.mh_model.specs.declared.drawing.Stroke.{Stroke}
+use Rattle.mh_model.specs.declared.line.Line.{Line}
+use Rattle.mh_model.specs.Boxes.{column_of, row_of, covers, first_column, first_row, is_edge, x_of, y_of}
+use Rattle.mh_model.specs.Drawn.{goes_through}
+use Rattle.mh_model.specs.Layout.{character_at, character_in, member_at}
+use Rattle.mh_model.specs.Looks.{Paint, marked, nothing, text_paint}
+use Rattle.mh_display.specs.declared.marked.Marked.{Marked}
+use Rattle.mh_display.specs.declared.panel.Panel.{Panel}
+use Rattle.mh_display.specs.declared.texts.Ink.{Ink}
+use Rattle.mh_display.specs.declared.window.Window.{Window}
+use Rattle.mh_display.specs.Painting.{IsComplete, IsSet, IsPainted, IsPaintedIn, marked_at, with_marked, put, renewed, seen, settled}
+use Rattle.mh_display.specs.Panels.{area_of_frame, inner_paint, panel_paint}
+use Rattle.mh_display.specs.Strokes.{stroke_paint}
+use Rattle.mh_display.specs.Surface.{Surface, IsClean}
+use Rattle.mh_display.specs.Texts.{letter_paint}
+use Rattle.mh_display.specs.Windows.{has, IsOf, IsMeet}
+use Rattle.mh_display.proofs.CellLemmas.{put_nothing, row_of_cell, column_of_cell}
+
+-- a cell that is put is there, and the others stay
+pub is_set : (s : Surface) (at : ℕ) (k : Marked) (after : Surface) → IsComplete s → at < 2160 → after ≡ with_marked s at k → IsSet (marked_at s) (marked_at after) at k
+is_set s at k after whole inside is = subst (λ (t : Surface). IsSet (marked_at s) (marked_at t) at k) (sym is) (record {
+  here = rw (get_or-set_same s.marks at k.mark 0 (omega (arith, inside, whole.marks)), get_or-set_same s.planes.scalars at k.cell.scalar 0 (omega (arith, inside, whole.planes.scalars)), get_or-set_same s.planes.fores at k.cell.fore 0 (omega (arith, inside, whole.planes.fores)), get_or-set_same s.planes.backs at k.cell.back 0 (omega (arith, inside, whole.planes.backs))) refl;
+  others = λ c apart. rw (get_or-set_other s.marks at c k.mark 0 apart, get_or-set_other s.planes.scalars at c k.cell.scalar 0 apart, get_or-set_other s.planes.fores at c k.cell.fore 0 apart, get_or-set_other s.planes.backs at c k.cell.back 0 apart) refl;
+})
+
+pub settled_stays : (p : Paint) (k : Marked) → (k.mark == 0) ≡ true → k ≡ put p k
+settled_stays p k e = rw e refl
+
+pub renewed_stays : (k : Marked) → (k.mark == 0) ≡ true → k ≡ renewed k
+renewed_stays k e = ap (λ (b : Bool). if b then k else record { mark = 2; cell = k.cell }) (sym e)
+
+pub settled_already : (k : Marked) → (k.mark == 0) ≡ true → k ≡ settled k
+settled_already k e =
+    let right : seen k [] ≡ k.cell = rw e refl in
+    λ i. record { mark = eqb-true k.mark 0 e i; cell = sym right i }
+
+pub is_set_already : {X : Type 0} (old : ℕ → X) (at : ℕ) (x : X) → old at ≡ x → IsSet old old at x
+is_set_already old at x is = record { here = is; others = λ c apart. refl }
+
+-- what a panel paints into a cell that it covers, and beside
+panel_inside : (p : Panel) (c : ℕ) → covers (area_of_frame p.frame) (x_of c) (y_of c) ≡ true → inner_paint p c ≡ panel_paint p c
+panel_inside p c on = ap (λ (b : Bool). record { back = if b then (if p.has_line && is_edge (area_of_frame p.frame) (x_of c) (y_of c) then p.line else p.fill) else None; mark = None }) (sym on)
+
+panel_beside : (p : Panel) (c : ℕ) → covers (area_of_frame p.frame) (x_of c) (y_of c) ≡ false → nothing ≡ panel_paint p c
+panel_beside p c off = ap (λ (b : Bool). record { back = if b then (if p.has_line && is_edge (area_of_frame p.frame) (x_of c) (y_of c) then p.line else p.fill) else None; mark = None }) (sym off)
+
+-- what is painted into the cells that a panel shares with a window is painted in the window
+pub shared : (p : Panel) (own w meet : Window) (old new : Surface) → IsOf (area_of_frame p.frame) own → IsMeet own w meet → IsPaintedIn (inner_paint p) meet old new → IsPaintedIn (panel_paint p) w old new
+shared p own w meet old new is_own is_meet done = record {
+  each = λ c inside.
+      done.each c inside
+      ∙ ap (λ (b : Bool). if b then put (inner_paint p c) (marked_at old c) else marked_at old c) (is_meet.both c)
+      ∙ by c inside (has own c) refl (has w c);
+}
+  where
+    by : (c : ℕ) → c < 2160 → (a : Bool) → has own c ≡ a → (b : Bool)
+        → (if a && b then put (inner_paint p c) (marked_at old c) else marked_at old c) ≡ (if b then put (panel_paint p c) (marked_at old c) else marked_at old c)
+    by c inside true e true = ap (λ (q : Paint). put q (marked_at old c)) (panel_inside p c (sym (is_own.covered c inside) ∙ e))
+    by c inside true e false = refl
+    by c inside false e true = sym (put_nothing (marked_at old c)) ∙ ap (λ (q : Paint). put q (marked_at old c)) (panel_beside p c (sym (is_own.covered c inside) ∙ e))
+    by c inside false e false = refl
+
+pub clean_at_first : (marks : List ℕ) → marks ≡ replicate 2160 0 → IsClean marks
+clean_at_first marks is c inside = ap (λ (n : ℕ). not (n == 0)) (ap (λ (ns : List ℕ). slice_index ns c) is ∙ get_or-replicate {A = ℕ} 2160 c 0 0 inside)
+
+-- what a window of its own leaves out of something is nothing
+pub whole_of : (g inner : ℕ → Paint) (a : Area) (own : Window) (old new : Surface) → IsOf a own
+    → ((c : ℕ) → covers a (x_of c) (y_of c) ≡ true → inner c ≡ g c) → ((c : ℕ) → covers a (x_of c) (y_of c) ≡ false → nothing ≡ g c)
+    → IsPaintedIn inner own old new → IsPainted g old new
+whole_of g inner a own old new is_own on off done = record { each = λ c inside. done.each c inside ∙ by c inside (has own c) refl }
+  where
+    by : (c : ℕ) → c < 2160 → (b : Bool) → has own c ≡ b → (if b then put (inner c) (marked_at old c) else marked_at old c) ≡ put (g c) (marked_at old c)
+    by c inside true e = ap (λ (q : Paint). put q (marked_at old c)) (on c (sym (is_own.covered c inside) ∙ e))
+    by c inside false e = sym (put_nothing (marked_at old c)) ∙ ap (λ (q : Paint). put q (marked_at old c)) (off c (sym (is_own.covered c inside) ∙ e))
+
+pub text_in_box : (a b : Area) (ink : Ink) (lines : List Line) (own : Window) (old new : Surface) → b ≡ a → IsOf b own
+    → IsPaintedIn (letter_paint ink a lines) own old new → IsPainted (text_paint a ink.background ink.colour lines) old new
+text_in_box a b ink lines own old new same is_own done =
+    whole_of (text_paint a ink.background ink.colour lines) (letter_paint ink a lines) a own old new (subst (λ (x : Area). IsOf x own) same is_own)
+    (λ c on. rw on refl) (λ c off. rw off refl) done
+
+-- a line goes through the cell in this row and column or not
+pub goes_there : (s : Stroke) (line : Option ℕ) (row column : ℕ) (b : Bool) → column < 60 → b ≡ goes_through s (pos column) (pos row)
+    → (if b then line else None) ≡ (stroke_paint s line (60 * row + column)).back
+goes_there s line row column b inside is =
+    ap (λ (t : Bool). if t then line else None) (is ∙ (λ i. goes_through s (pos (sym (column_of_cell row column inside) i)) (pos (sym (row_of_cell row column inside) i))))
+
+-- the letter of the cell in this row and column
+pub letter_set : (ink : Ink) (a : Area) (lines : List Line) (row column : ℕ) (line : Option Line) (x : ℤ) (old new : ℕ → Marked) → column < 60
+    → line ≡ member_at lines (pos row -ℤ first_row a) → x ≡ pos column -ℤ first_column a
+    → IsSet old new (60 * row + column) (put (record { back = ink.background; mark = marked ink.colour (character_in line x) }) (old (60 * row + column)))
+    → IsSet old new (60 * row + column) (put (letter_paint ink a lines (60 * row + column)) (old (60 * row + column)))
+letter_set ink a lines row column line x old new inside is there set =
+    let mine : character_in line x ≡ character_at lines a (column_of (60 * row + column)) (row_of (60 * row + column)) =
+    λ i. character_in ((is ∙ (λ j. member_at lines (pos (sym (row_of_cell row column inside) j) -ℤ first_row a))) i) ((there ∙ (λ j. pos (sym (column_of_cell row column inside) j) -ℤ first_column a)) i) in
+    subst (λ (m : Option ℕ). IsSet old new (60 * row + column) (put (record { back = ink.background; mark = marked ink.colour m }) (old (60 * row + column)))) mine set

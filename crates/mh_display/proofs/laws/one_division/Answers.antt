@@ -1,5 +1,0 @@
-use Rattle.mh_display.proofs.DivisionLemmas.{one_division}
-use Rattle.mh_display.proofs.laws.one_division.Goals as goal
-
-pub returns : goal.returns
-returns c = one_division

@@ -1,0 +1,21 @@
+-- What texts and drawings paint into the cells of their boxes.
+use Rattle.std.specs.Prelude.{ℕ, List, None}
+use Rattle.mh_base.specs.declared.area.Area.{Area}
+use Rattle.mh_model.specs.declared.drawing.Drawing.{Drawing}
+use Rattle.mh_model.specs.declared.line.Line.{Line}
+use Rattle.mh_model.specs.Boxes.{column_of, row_of}
+use Rattle.mh_model.specs.Drawn.{drawing_back, drawn_over}
+use Rattle.mh_model.specs.Layout.{character_at}
+use Rattle.mh_model.specs.Looks.{Paint, marked}
+use Rattle.mh_display.specs.declared.texts.Ink.{Ink}
+
+-- a text, in a cell that its box covers
+abbrev pub letter_paint : Ink → Area → List Line → ℕ → Paint
+letter_paint ink a lines c = record { back = ink.background; mark = marked ink.colour (character_at lines a (column_of c) (row_of c)) }
+
+-- one drawing, and several, the last on top
+abbrev pub drawing_paint : Area → Drawing → ℕ → Paint
+drawing_paint a d c = record { back = drawing_back a d c; mark = None }
+
+abbrev pub drawn_paint : Area → List Drawing → ℕ → Paint
+drawn_paint a ds c = record { back = drawn_over a ds c None; mark = None }

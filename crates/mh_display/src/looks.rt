@@ -1,0 +1,168 @@
+//! What an object that is seen paints, by its class.
+ghost use Rattle.std.specs.Prelude.{◌≡◌, ◌<◌, Some, ℕ};
+ghost use Rattle.std.specs.Option.{option_copied};
+ghost use Rattle.mh_model.specs.Looks as spec;
+ghost use Rattle.mh_model.specs.Looks.{art_paint, paint_in, rectangle_paint, text_paint};
+ghost use Rattle.mh_model.specs.Picture.{painted};
+ghost use Rattle.mh_model.specs.Property.{read, as_int as as_int_lem};
+ghost use Rattle.mh_group.specs.declared.attribute.Attribute.TheVariants as attribute;
+ghost use Rattle.mh_display.specs.Painting.{IsPainted};
+ghost use Rattle.mh_display.specs.Panels.{IsFrame, area_of_frame};
+
+use crate::art::paint_art;
+use crate::frame::Frame;
+use crate::panel::Panel;
+use crate::panels::paint_panel;
+use crate::screen::Screen;
+use crate::spoiling::is_seen;
+use crate::texts::{Ink, paint_text};
+use crate::window::Window;
+use mh_base::Colour;
+use mh_group::{Attribute, Class};
+use mh_model::held::{as_colour, as_int};
+use mh_model::{Line, Object};
+use mh_store::Kept;
+use mh_store::looks::area_of;
+
+/// Paints what was found for a reference, if it is painted at all.
+pub(crate) fn paint_found(screen: &mut Screen, found: Option<&Kept>)
+    ensures { IsPainted (λ c. painted c (option_copied found.entry)) screen.old screen.new }
+{
+    if let Some(kept) = found {
+        paint_seen(screen, kept.object(), kept.lines());
+    }
+}
+
+/// Paints an object if it is available and runs.
+fn paint_seen(screen: &mut Screen, object: &Object, lines: &[Line])
+    requires { lines.now ≡ spec.lines_of object.now }
+    ensures { IsPainted (λ c. painted c (Some object.now)) screen.old screen.new }
+{
+    if is_seen(object) {
+        paint_object(screen, object, lines);
+    }
+}
+
+/// Paints an object, of whose text these are the lines.
+fn paint_object(screen: &mut Screen, object: &Object, lines: &[Line])
+    requires { lines.now ≡ spec.lines_of object.now }
+    ensures { IsPainted (paint_in object.now) screen.old screen.new }
+{
+    match object.fixed.get().class {
+        Class::Rectangle => paint_rectangle(screen, object),
+        Class::DynamicLineArt => paint_drawn(screen, object),
+        _ => paint_letters(screen, object, lines),
+    }
+}
+
+fn paint_rectangle(screen: &mut Screen, object: &Object)
+    ensures { let o = object.now in
+        IsPainted (rectangle_paint (spec.area_of o) (spec.has_line o) (spec.line_of o) (spec.fill_of o)) screen.old screen.new }
+{
+    paint_panel(screen, &panel_of(object), &Window::whole());
+}
+
+fn panel_of(object: &Object) -> Panel
+    ensures near { IsFrame result.frame }
+    ensures whole { let o = object.now in
+        result ≡ record { frame = result.frame; has_line = spec.has_line o; line = spec.line_of o; fill = spec.fill_of o } }
+    ensures frame { area_of_frame result.frame ≡ spec.area_of object.now }
+{
+    Panel {
+        frame: Frame::of(&area_of(object)),
+        has_line: has_line(object),
+        line: colour_of(object, Attribute::OrigRefLineColour, OPAQUE_BLACK),
+        fill: colour_of(object, Attribute::OrigRefFillColour, TRANSPARENT_BLACK),
+    }
+}
+
+fn has_line(object: &Object) -> bool
+    ensures { result ≡ spec.has_line object.now }
+{
+    0 < as_int(object.read(Attribute::OrigLineWidth), 1)
+}
+
+fn paint_drawn(screen: &mut Screen, object: &Object)
+    ensures { let o = object.now in IsPainted (art_paint (spec.area_of o) (spec.ground_of o) o.body.drawings) screen.old screen.new }
+{
+    let area = area_of(object);
+    paint_art(
+        screen,
+        &area,
+        ground_of(object),
+        object.body.drawings.as_slice(),
+    );
+}
+
+/// The fill colour that is written.
+fn ground_of(object: &Object) -> Option<u32>
+    ensures { result ≡ spec.ground_of object.now }
+{
+    let properties = &object.fixed.get().properties;
+    paint_of(as_colour(
+        properties.get(Attribute::OrigRefFillColour),
+        TRANSPARENT_BLACK,
+    ))
+}
+
+fn paint_letters(screen: &mut Screen, object: &Object, lines: &[Line])
+    ensures { let o = object.now in
+        let background = spec.colour_of attribute.BackgroundColour spec.transparent_black o in
+        let colour = spec.colour_of attribute.TextColour spec.opaque_white o in
+        IsPainted (text_paint (spec.area_of o) background colour lines.now) screen.old screen.new }
+{
+    let area = area_of(object);
+    paint_text(screen, &area, ink_of(object), lines);
+}
+
+fn ink_of(object: &Object) -> Ink
+    ensures { let o = object.now in
+        result ≡ record {
+          background = spec.colour_of attribute.BackgroundColour spec.transparent_black o;
+          colour = spec.colour_of attribute.TextColour spec.opaque_white o;
+        } }
+{
+    Ink {
+        background: colour_of(object, Attribute::BackgroundColour, TRANSPARENT_BLACK),
+        colour: colour_of(object, Attribute::TextColour, OPAQUE_WHITE),
+    }
+}
+
+/// The colour under the attribute; none where it paints nothing.
+fn colour_of(object: &Object, attribute: Attribute, default: Colour) -> Option<u32>
+    ensures { result ≡ spec.colour_of attribute default object.now }
+{
+    paint_of(as_colour(object.read(attribute), default))
+}
+
+/// The colour as a number of 24 bits; none where it paints nothing.
+fn paint_of(colour: Colour) -> Option<u32>
+    ensures { result ≡ spec.paint_of colour }
+{
+    if colour.transparency == 255 {
+        None
+    } else {
+        Some(u32::from(colour.red) * 65536 + u32::from(colour.green) * 256 + u32::from(colour.blue))
+    }
+}
+
+const OPAQUE_BLACK: Colour = Colour {
+    red: 0,
+    green: 0,
+    blue: 0,
+    transparency: 0,
+};
+
+const OPAQUE_WHITE: Colour = Colour {
+    red: 255,
+    green: 255,
+    blue: 255,
+    transparency: 0,
+};
+
+const TRANSPARENT_BLACK: Colour = Colour {
+    red: 0,
+    green: 0,
+    blue: 0,
+    transparency: 255,
+};

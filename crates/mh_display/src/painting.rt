@@ -1,0 +1,99 @@
+//! The picture is painted anew where it is stale, looking down the display stack.
+//!
+//! The visibles are painted from the top down, each into the cells alone of which something is still sought; so
+//! the walk ends where all cells are settled, and no cell is painted twice.
+ghost use Rattle.std.specs.Prelude.{◌≡◌, ◌<◌, [], reverse};
+ghost use Rattle.mh_model.specs.Picture.{picture as picture_lem};
+ghost use Rattle.mh_model.specs.State.{all};
+ghost use Rattle.mh_display.specs.Painting.{IsAll, IsComplete, IsDown, IsSet, marked_at, renewed as renewed_lem, settled as settled_lem};
+ghost use Rattle.mh_display.specs.Surface.{IsClean, IsRight};
+
+use crate::looks::paint_found;
+use crate::marked::{Marked, settled};
+use crate::screen::Screen;
+use mh_base::ObjRef;
+use mh_store::Objects;
+
+impl Screen {
+    /// Paints the stale cells, each by looking down the display stack. It takes no memory.
+    pub fn repaint(&mut self, objects: &Objects, stack: &[ObjRef])
+        requires { IsRight (all objects.now) stack.now self.old }
+        ensures right { self.new.planes ≡ picture_lem (all objects.now) stack.now }
+        ensures clean { IsClean self.new.marks }
+    {
+        let _ = self.cells();
+        if self.is_clean() {
+            return;
+        }
+        renew(self);
+        paint_down(self, objects, stack);
+        settle(self);
+    }
+}
+
+/// Of the stale cells nothing is settled.
+fn renew(screen: &mut Screen)
+    ensures { IsAll (λ c. renewed_lem) (marked_at screen.old) (marked_at screen.new) }
+{
+    for at in 0..screen.cells() {
+        renew_cell(screen, at);
+    }
+}
+
+fn renew_cell(screen: &mut Screen, at: usize)
+    requires { at < 2160 }
+    ensures { IsSet (marked_at screen.old) (marked_at screen.new) at (renewed_lem (marked_at screen.old at)) }
+{
+    if screen.is_settled(at) {
+        return;
+    }
+    screen.set(at, renewed(screen.at(at)));
+}
+
+fn renewed(old: Marked) -> Marked
+    ensures { result ≡ renewed_lem old }
+{
+    if old.mark == 0 {
+        old
+    } else {
+        Marked {
+            mark: 2,
+            cell: old.cell,
+        }
+    }
+}
+
+/// Paints one visible below another, as long as a cell is stale. That is tested once for every eight visibles.
+fn paint_down(screen: &mut Screen, objects: &Objects, stack: &[ObjRef])
+    ensures { IsDown (all objects.now) (reverse stack.now) [] screen.old screen.new }
+{
+    let mut left = stack.len();
+    while 0 < left {
+        if left % 8 == 0 && screen.is_clean() {
+            return;
+        }
+        left -= 1;
+        paint_found(screen, objects.kept(&stack[left]));
+    }
+}
+
+/// There is nothing below.
+fn settle(screen: &mut Screen)
+    ensures settled { IsAll (λ c. settled_lem) (marked_at screen.old) (marked_at screen.new) }
+    ensures whole { IsComplete screen.new }
+{
+    for at in 0..screen.cells() {
+        settle_cell(screen, at);
+    }
+    let _ = screen.cells();
+}
+
+fn settle_cell(screen: &mut Screen, at: usize)
+    requires { at < 2160 }
+    ensures { IsSet (marked_at screen.old) (marked_at screen.new) at (settled_lem (marked_at screen.old at)) }
+{
+    if screen.is_settled(at) {
+        return;
+    }
+    screen.set(at, settled(screen.at(at)));
+}

@@ -1,0 +1,53 @@
+//! Panels are painted row by row, into the cells alone that they cover and that are stale.
+ghost use Rattle.std.specs.Prelude.{◌≡◌, ◌<◌, ◌≤◌, ◌+◌, ◌*◌};
+ghost use Rattle.mh_display.specs.Painting.{IsSet, IsBetween, IsPaintedIn, marked_at, put as put_lem};
+ghost use Rattle.mh_display.specs.Panels.{IsFrame, inner_paint, panel_paint};
+
+use crate::panel::{Panel, colour_of};
+use crate::screen::Screen;
+use crate::window::Window;
+
+/// Paints a panel into the cells that it shares with the window.
+pub(crate) fn paint_panel(screen: &mut Screen, panel: &Panel, window: &Window)
+    requires { IsFrame panel.now.frame }
+    ensures { IsPaintedIn (panel_paint panel.now) window.now screen.old screen.new }
+{
+    let own = Window::of(&panel.frame);
+    paint_rows(screen, panel, &own.meet(window));
+}
+
+/// Paints a panel into the cells of the window, which it covers.
+fn paint_rows(screen: &mut Screen, panel: &Panel, window: &Window)
+    requires near { IsFrame panel.now.frame }
+    requires low { window.now.bottom ≤ 36 }
+    requires wide { window.now.right ≤ 60 }
+    ensures { IsPaintedIn (inner_paint panel.now) window.now screen.old screen.new }
+{
+    for row in window.top..window.bottom {
+        paint_row(screen, panel, row, window);
+    }
+}
+
+fn paint_row(screen: &mut Screen, panel: &Panel, row: usize, window: &Window)
+    requires near { IsFrame panel.now.frame }
+    requires low { row < 36 }
+    requires wide { window.now.right ≤ 60 }
+    ensures { IsBetween (λ c. put_lem (inner_paint panel.now c)) (marked_at screen.old) (marked_at screen.new) (60 * row + window.now.left) (60 * row + window.now.right) }
+{
+    for column in window.left..window.right {
+        paint_cell(screen, panel, row, column);
+    }
+}
+
+fn paint_cell(screen: &mut Screen, panel: &Panel, row: usize, column: usize)
+    requires near { IsFrame panel.now.frame }
+    requires low { row < 36 }
+    requires wide { column < 60 }
+    ensures { IsSet (marked_at screen.old) (marked_at screen.new) (60 * row + column) (put_lem (inner_paint panel.now (60 * row + column)) (marked_at screen.old (60 * row + column))) }
+{
+    let at = 60 * row + column;
+    if screen.is_settled(at) {
+        return;
+    }
+    screen.put(at, colour_of(panel, row, column), None);
+}

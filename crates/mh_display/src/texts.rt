@@ -1,0 +1,96 @@
+//! Texts are painted row by row; the line of a row is found once.
+ghost use Rattle.std.specs.Prelude.{◌≡◌, ◌<◌, ◌≤◌, ◌+◌, ◌*◌, ◌^◌, ◌-ℤ◌, pos};
+ghost use Rattle.std.specs.Option.{option_copied};
+ghost use Rattle.mh_model.specs.Boxes.{IsNear, first_column as first_column_lem, first_row as first_row_lem};
+ghost use Rattle.mh_model.specs.Layout.{character_in as character_in_lem, member_at};
+ghost use Rattle.mh_model.specs.Looks.{marked, text_paint};
+ghost use Rattle.mh_display.specs.Painting.{IsBetween, IsPainted, IsPaintedIn, IsSet, marked_at, put as put_lem};
+ghost use Rattle.mh_display.specs.Texts.{letter_paint};
+
+use crate::characters::{character_in, line_at};
+use crate::frame::Frame;
+use crate::screen::Screen;
+use crate::window::Window;
+use mh_base::Area;
+use mh_model::Line;
+use mh_model::boxes::{first_column, first_row};
+
+/// The colours of a text: behind its characters, and of them. Where one is missing that part paints nothing.
+#[derive(Clone, Copy)]
+pub struct Ink {
+    pub background: Option<u32>,
+    pub colour: Option<u32>,
+}
+
+/// Paints a text with these lines.
+pub(crate) fn paint_text(screen: &mut Screen, area: &Area, ink: Ink, lines: &[Line])
+    ensures { IsPainted (text_paint area.now ink.background ink.colour lines.now) screen.old screen.new }
+{
+    let own = Window::of(&Frame::of(area));
+    paint_rows(screen, area, ink, lines, &own);
+}
+
+/// Paints a text into the cells of the window, which it covers.
+fn paint_rows(screen: &mut Screen, area: &Area, ink: Ink, lines: &[Line], window: &Window)
+    requires low { window.now.bottom ≤ 36 }
+    requires wide { window.now.right ≤ 60 }
+    ensures { IsPaintedIn (letter_paint ink area.now lines.now) window.now screen.old screen.new }
+{
+    for row in window.top..window.bottom {
+        let line = line_at(lines, beside(row, first_row(area)));
+        paint_row(screen, area, ink, lines, line, row, window);
+    }
+}
+
+fn paint_row(
+    screen: &mut Screen,
+    area: &Area,
+    ink: Ink,
+    lines: &[Line],
+    line: Option<&Line>,
+    row: usize,
+    window: &Window,
+)
+    requires low { row < 36 }
+    requires wide { window.now.right ≤ 60 }
+    requires line { option_copied line ≡ member_at lines.now (pos row -ℤ first_row_lem area.now) }
+    ensures { IsBetween (λ c. put_lem (letter_paint ink area.now lines.now c)) (marked_at screen.old) (marked_at screen.new) (60 * row + window.now.left) (60 * row + window.now.right) }
+{
+    let _ = lines.len();
+    let first = first_column(area);
+    for column in window.left..window.right {
+        paint_cell(screen, ink, line, 60 * row + column, beside(column, first));
+    }
+}
+
+/// Paints a cell with the character of the line in this column of the box.
+fn paint_cell(screen: &mut Screen, ink: Ink, line: Option<&Line>, at: usize, column: i64)
+    requires inside { at < 2160 }
+    requires near { IsNear (2 ^ 33) column }
+    ensures { IsSet (marked_at screen.old) (marked_at screen.new) at (put_lem (record { back = ink.background; mark = marked ink.colour (character_in_lem (option_copied line.entry) column) }) (marked_at screen.old at)) }
+{
+    if screen.is_settled(at) {
+        return;
+    }
+    screen.put(at, ink.background, mark_in(ink, line, column));
+}
+
+/// The character of a line in this column of the box, with its colour.
+fn mark_in(ink: Ink, line: Option<&Line>, column: i64) -> Option<(u32, u32)>
+    requires { IsNear (2 ^ 33) column }
+    ensures { result ≡ marked ink.colour (character_in_lem (option_copied line.entry) column) }
+{
+    let colour = ink.colour?;
+    let scalar = character_in(line?, column)?;
+    Some((scalar, colour))
+}
+
+/// How far a row or a column of the screen is behind the first one of a box.
+fn beside(place: usize, first: i64) -> i64
+    requires inside { place < 60 }
+    requires near { IsNear (2 ^ 29) first }
+    ensures number { result ≡ pos place -ℤ first }
+    ensures near { IsNear (2 ^ 33) result }
+{
+    place as i64 - first
+}

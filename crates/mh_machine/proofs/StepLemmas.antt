@@ -1,0 +1,86 @@
+-- Steps of the machine, and so many of them.
+use Rattle.std.specs.Prelude.{◌≡◌, ℕ, ◌+◌, ◌-◌, ◌<◌, ◌≤◌, ◌==◌, Bool, true, false, ◌&&◌, cond, List, [], ◌∷◌, Option, Some, None, slice_get, suc, zero, refl}
+use Rattle.std.proofs.Common.{ap, ◌∙◌, sym, arith, inl, inr}
+use Rattle.std.proofs.lemmas.Bool.Decides.{eqb_tells}
+use Rattle.mh_model.specs.declared.fault.Fault.{Fault}
+use Rattle.mh_model.specs.declared.item.Item.{Item}
+use Rattle.mh_model.specs.Stuck.{stuck}
+use Rattle.mh_machine.specs.declared.stepped.Stepped.TheVariants.{Idle}
+use Rattle.mh_machine.specs.Rest.{judged, answer_by, answer_of}
+use Rattle.mh_model.specs.State.{State}
+use Rattle.mh_model.specs.declared.input.Waiting.{Waiting}
+use Rattle.mh_model.specs.Step.{step, step_by, stepped, is_empty, is_idle, most_steps, advanced}
+
+cond_same : {X : Type 0} (b : Bool) (x : X) → cond b x x ≡ x
+cond_same true x = refl
+cond_same false x = refl
+
+first_true : (a b : Bool) → (a && b) ≡ true → a ≡ true
+first_true true b both = refl
+first_true false b both = both
+
+second_true : (a b : Bool) → (a && b) ≡ true → b ≡ true
+second_true true b both = both
+second_true false b both = cc
+
+empty_get : {X : Type 0} (xs : List X) → is_empty xs ≡ true → slice_get xs 0 ≡ None
+empty_get [] empty = refl
+empty_get (x ∷ xs) empty = cc
+
+-- with all steps counted a step changes nothing
+pub stepped_full : (s : State) → s.taken ≡ most_steps → stepped s ≡ s
+stepped_full s full = rw full refl
+
+judged_not_idle : (f : Option Fault) → judged f ≡ Idle → ⊥
+judged_not_idle None idle = cc
+judged_not_idle (Some f) idle = cc
+
+idle_by : (w : Option Item) (q : Option Waiting) (s : State) → answer_by w q s ≡ Idle → step_by w q s ≡ s
+idle_by (Some i) q s idle = absurd (judged_not_idle (stuck i s) idle)
+idle_by None (Some i) s idle = cc
+idle_by None None s idle = refl
+
+-- with nothing to do a step changes nothing
+pub step_on_idle : (s : State) → answer_of s ≡ Idle → step s ≡ s
+step_on_idle s idle = idle_by (slice_get s.work 0) (slice_get s.queue 0) s idle
+
+pub stepped_on_idle : (s : State) → answer_of s ≡ Idle → stepped s ≡ s
+stepped_on_idle s idle = rw (step_on_idle s idle) (cond_same (s.taken == most_steps) s)
+
+step_idle : (s : State) → is_idle s ≡ true → step s ≡ s
+step_idle s idle = rw (empty_get s.work (first_true _ _ idle), empty_get s.queue (second_true (is_empty s.work) _ idle)) refl
+
+-- where all steps are counted only with nothing to do, a step of the run is a step
+pub stepped_room : (s : State) → (s.taken ≡ most_steps → is_idle s ≡ true) → stepped s ≡ step s
+stepped_room s room = elim (eqb_tells s.taken most_steps) [
+  | inl same ↦ stepped_full s same.1 ∙ sym (step_idle s (room same.1))
+  | inr other ↦ rw other.0 refl
+]
+
+-- one step is made, and the others are left
+pub advanced_more : (i n : ℕ) (s : State) → i < n → advanced (n - i) s ≡ advanced (n - (i + 1)) (stepped s)
+unfolding advanced
+advanced_more i n s less = let next : n - i ≡ suc (n - (i + 1)) = omega arith in rw next refl
+
+-- no step is left
+pub advanced_end : (i n : ℕ) (s : State) → n ≤ i → advanced (n - i) s ≡ s
+unfolding advanced
+advanced_end i n s over = let none : n - i ≡ 0 = omega arith in rw none refl
+
+-- once a step changes nothing, none does
+pub advanced_still : (n : ℕ) (s : State) → stepped s ≡ s → advanced n s ≡ s
+unfolding advanced
+advanced_still zero s still = refl
+advanced_still (suc n) s still = ap (advanced n) still ∙ advanced_still n s still
+
+-- one step more
+stepped_behind : (n : ℕ) (s : State) → advanced n (stepped s) ≡ stepped (advanced n s)
+unfolding advanced
+stepped_behind zero s = refl
+stepped_behind (suc n) s = stepped_behind n (stepped s)
+
+pub advanced_behind : (n : ℕ) (s : State) → advanced (n + 1) s ≡ stepped (advanced n s)
+unfolding advanced
+advanced_behind n s =
+    let next : n + 1 ≡ suc n = omega arith in
+    ap (λ (k : ℕ). advanced k s) next ∙ stepped_behind n s

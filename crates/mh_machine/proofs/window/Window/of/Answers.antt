@@ -1,9 +1,0 @@
-use Rattle.std.proofs.Common.{rules}
-use Rattle.std.proofs.Math.Facts.{to_z-of_z}
-use Rattle.mh_machine.proofs.WindowLemmas.{window_of}
-use Rattle.mh_machine.proofs.window.Window.of.Goals as goal
-
-pub returns : goal.returns
-returns c =
-    window_of c.args.area.now _ (search rules) (search rules) (λ k h. search (rules, to_z-of_z)) (λ k h. search (rules, to_z-of_z))
-    (λ k h. search (rules, to_z-of_z)) (λ k h. search (rules, to_z-of_z))

@@ -1,0 +1,74 @@
+//! Many steps at once.
+ghost use Rattle.std.specs.Prelude.{◌≡◌, false, IfOk, OnOk, OnErr};
+ghost use Rattle.mh_model.specs.Safe.{IsSafe};
+ghost use Rattle.mh_model.specs.Step.{advanced, stepped};
+ghost use Rattle.mh_machine.specs.Working.{IsPartly};
+
+use crate::Stepped;
+use crate::works::Works;
+use std::alloc::AllocError;
+
+impl Works {
+    /// Makes so many steps, or as many as there is something to do and as are counted.
+    pub(crate) fn advance(&mut self, most: u32) -> Result<(), AllocError>
+        ensures all { OnOk result (self.new.state ≡ advanced most self.old.state) }
+        ensures some { OnErr result (IsPartly most self.old.state self.new.state) }
+    {
+        for made in 0..most {
+            if !self.go_on()? {
+                break;
+            }
+        }
+        Ok(())
+    }
+
+    /// The same from a safe state.
+    pub(crate) fn advance_free(&mut self, most: u32) -> Result<(), AllocError>
+        requires { IsSafe self.old.state }
+        ensures all { OnOk result (self.new.state ≡ advanced most self.old.state) }
+        ensures some { OnErr result (IsPartly most self.old.state self.new.state) }
+    {
+        for made in 0..most {
+            if !self.go_on_free()? {
+                break;
+            }
+        }
+        Ok(())
+    }
+
+    #[tactic(auto, using(crate::proofs::StepLemmas::stepped_room, crate::proofs::StepLemmas::stepped_on_idle, crate::proofs::StepLemmas::step_on_idle, crate::proofs::StepLemmas::stepped_full))]
+    /// Makes a step, if another is counted, and tells whether one more may change anything.
+    fn go_on(&mut self) -> Result<bool, AllocError>
+        ensures made { OnOk result (self.new.state ≡ stepped self.old.state) }
+        ensures over { IfOk result (λ more. more ≡ false → stepped self.new.state ≡ self.new.state) }
+        ensures kept { OnErr result (self.new.state ≡ self.old.state) }
+    {
+        if self.taken == u64::MAX {
+            return Ok(false);
+        }
+        let answer = self.step()?;
+        Ok(goes_on(&answer))
+    }
+
+    #[tactic(auto, using(crate::proofs::StepLemmas::stepped_room, crate::proofs::StepLemmas::stepped_on_idle, crate::proofs::StepLemmas::step_on_idle, crate::proofs::StepLemmas::stepped_full))]
+    /// The same from a safe state, which stays safe.
+    fn go_on_free(&mut self) -> Result<bool, AllocError>
+        requires { IsSafe self.old.state }
+        ensures made { OnOk result (self.new.state ≡ stepped self.old.state) }
+        ensures over { IfOk result (λ more. more ≡ false → stepped self.new.state ≡ self.new.state) }
+        ensures safe { OnOk result (IsSafe self.new.state) }
+        ensures kept { OnErr result (self.new.state ≡ self.old.state) }
+    {
+        if self.taken == u64::MAX {
+            return Ok(false);
+        }
+        let answer = self.step_free()?;
+        Ok(goes_on(&answer))
+    }
+}
+
+fn goes_on(answer: &Stepped) -> bool
+    ensures { result ≡ false → answer.now ≡ Stepped.Idle }
+{
+    !matches!(answer, Stepped::Idle)
+}

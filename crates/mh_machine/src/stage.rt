@@ -1,0 +1,198 @@
+//! `Stage`: the objects, the display stack and the screen, which change together.
+//!
+//! What a change can be seen in is marked, and painted when the picture is wanted.
+ghost use Rattle.std.specs.Prelude.{◌≡◌, ◌≤◌, [], filter, IfOk, OnOk, OnErr};
+ghost use Rattle.std.specs.Str.{bytes_eq};
+ghost use Rattle.mh_display.specs.Surface.{IsClean};
+ghost use Rattle.mh_model.specs.Bodies.{given};
+ghost use Rattle.mh_model.specs.Edits.{edited};
+ghost use Rattle.mh_model.specs.Picture.{picture as picture_lem};
+ghost use Rattle.mh_model.specs.Rules.{changed};
+ghost use Rattle.mh_model.specs.Service.{parts};
+ghost use Rattle.mh_model.specs.State.{all};
+ghost use Rattle.mh_machine.specs.Plans.{restacked};
+
+use crate::plan::Stacking;
+use mh_actions::ordering::Reorder;
+use mh_base::{GroupName, ObjRef, Value};
+use mh_display::{Screen, Stack};
+use mh_model::{Edit, Picture};
+use mh_store::{Group, Objects};
+use std::alloc::{AllocError, Global};
+use std::marker::Model;
+
+/// The objects that are present, those of them that can be seen in their order, and what is shown of
+/// them. A contract sees the objects, the stack, its room, and the marks of the cells.
+#[derive(Drop)]
+pub struct Stage {
+    objects: Objects,
+    stack: Stack,
+    screen: Screen,
+}
+
+impl Model for Stage {
+    ghost use Rattle.mh_display.specs.Surface.{IsRight};
+    ghost use Rattle.mh_model.specs.State.{all};
+    ghost use Rattle.mh_machine.specs.Stage.{Staged};
+
+    ghost Value = { Staged };
+
+    ghost view = { λ s. record {
+      objects = s.objects;
+      stack = s.stack.places;
+      room = s.stack.room;
+      marks = s.screen.marks;
+    } };
+
+    ghost invariant = { λ s. IsRight (all s.objects) s.stack.places s.screen };
+}
+
+impl Stage {
+    /// The objects of an application, with nothing on the display stack.
+    pub fn new(alloc: Global, application: Group) -> Result<Stage, AllocError>
+        ensures objects { IfOk result (λ s. s.objects ≡ record { application = application; scene = [] }) }
+        ensures stack { IfOk result (λ s. s.stack ≡ []) }
+        ensures clean { IfOk result (λ s. IsClean s.marks) }
+    {
+        let screen = Screen::new(alloc)?;
+        Ok(Stage {
+            objects: Objects::new(application),
+            stack: Stack::new(alloc),
+            screen,
+        })
+    }
+
+    pub fn objects(&self) -> &Objects
+        ensures { result.now ≡ self.now.objects }
+    {
+        &self.objects
+    }
+
+    /// Makes room for one more on the stack.
+    pub fn reserve(&mut self) -> Result<(), AllocError>
+        ensures objects { self.new.objects ≡ self.old.objects }
+        ensures stack { self.new.stack ≡ self.old.stack }
+        ensures room { OnOk result (1 ≤ self.new.room) }
+    {
+        self.stack.reserve()
+    }
+
+    /// Changes the body of an object.
+    pub fn edit(&mut self, at: &ObjRef, edit: Edit) -> Result<(), AllocError>
+        ensures done { OnOk result (self.new.objects ≡ changed (edited edit) at.now self.old.objects) }
+        ensures stack { self.new.stack ≡ self.old.stack }
+        ensures room { self.new.room ≡ self.old.room }
+        ensures own { parts self.new.objects.application ≡ parts self.old.objects.application }
+        ensures others { parts self.new.objects.scene ≡ parts self.old.objects.scene }
+        ensures kept { OnErr result (self.new.objects ≡ self.old.objects) }
+    {
+        match edit {
+            Edit::Give(value) => {
+                self.give(at, value);
+                Ok(())
+            }
+            other => self.edit_seen(at, other),
+        }
+    }
+
+    /// Changes the body of an object. It can be seen in the box before the change, and in the one behind
+    /// it.
+    fn edit_seen(&mut self, at: &ObjRef, edit: Edit) -> Result<(), AllocError>
+        ensures done { OnOk result (self.new.objects ≡ changed (edited edit) at.now self.old.objects) }
+        ensures stack { self.new.stack ≡ self.old.stack }
+        ensures room { self.new.room ≡ self.old.room }
+        ensures own { parts self.new.objects.application ≡ parts self.old.objects.application }
+        ensures others { parts self.new.objects.scene ≡ parts self.old.objects.scene }
+        ensures kept { OnErr result (self.new.objects ≡ self.old.objects) }
+    {
+        self.screen.spoil(self.objects.get(at));
+        let _ = self.objects.edit(at, edit)?;
+        self.screen.spoil(self.objects.get(at));
+        Ok(())
+    }
+
+    /// Gives a variable a value, which is never seen.
+    pub fn give(&mut self, at: &ObjRef, value: Value)
+        ensures given { self.new.objects ≡ changed (λ _ b. given value b) at.now self.old.objects }
+        ensures stack { self.new.stack ≡ self.old.stack }
+        ensures room { self.new.room ≡ self.old.room }
+        ensures own { parts self.new.objects.application ≡ parts self.old.objects.application }
+        ensures others { parts self.new.objects.scene ≡ parts self.old.objects.scene }
+    {
+        self.objects.give(at, value);
+    }
+
+    /// Changes the display stack, which has room for one more. That can be seen in the box of the object
+    /// that moves.
+    pub fn restack(&mut self, stacking: Stacking)
+        requires { 1 ≤ self.old.room }
+        ensures objects { self.new.objects ≡ self.old.objects }
+        ensures stack { self.new.stack ≡ restacked stacking self.old.stack }
+    {
+        match stacking {
+            Stacking::Same => {}
+            Stacking::Rise(at) => {
+                self.screen.spoil(self.objects.get(&at));
+                self.stack.rise(at);
+            }
+            Stacking::Fall(at) => {
+                self.screen.spoil(self.objects.get(&at));
+                self.stack.fall(&at);
+            }
+            Stacking::Move(at, how) => self.reorder(at, how),
+        }
+    }
+
+    fn reorder(&mut self, at: ObjRef, how: Reorder)
+        requires { 1 ≤ self.old.room }
+        ensures objects { self.new.objects ≡ self.old.objects }
+        ensures stack { self.new.stack ≡ restacked (Stacking.Move at how) self.old.stack }
+    {
+        self.screen.spoil(self.objects.get(&at));
+        reorder(&mut self.stack, at, how);
+    }
+
+    /// Puts the objects of another scene in the place of those that are there. On the stack stays what is
+    /// the application's.
+    pub fn exchange(&mut self, scene: Group, application: &GroupName)
+        ensures objects { self.new.objects ≡ record self.old.objects { scene = scene } }
+        ensures stack { self.new.stack ≡ filter (λ r. bytes_eq r.group application.now) self.old.stack }
+    {
+        self.objects.exchange(scene);
+        self.stack.keep(application);
+        self.screen.spoil_all();
+    }
+
+    /// Paints what is to be painted.
+    pub fn settle(&mut self)
+        ensures objects { self.new.objects ≡ self.old.objects }
+        ensures stack { self.new.stack ≡ self.old.stack }
+        ensures clean { IsClean self.new.marks }
+    {
+        self.screen.repaint(&self.objects, self.stack.as_slice());
+    }
+
+    /// The picture, where all of it is painted.
+    pub fn picture(&self) -> &Picture
+        requires { IsClean self.now.marks }
+        ensures { result.now ≡ picture_lem (all self.now.objects) self.now.stack }
+    {
+        let picture = self.screen.picture();
+        let _ = picture.cells();
+        picture
+    }
+}
+
+/// What an action makes of the stack.
+fn reorder(stack: &mut Stack, at: ObjRef, how: Reorder)
+    requires { 1 ≤ stack.old.room }
+    ensures { stack.new.places ≡ restacked (Stacking.Move at how) stack.old.places }
+{
+    match how {
+        Reorder::Nothing => {}
+        Reorder::ToFront => stack.bring_to_front(at),
+        Reorder::ToBack => stack.send_to_back(at),
+        Reorder::Above(other) => stack.put_above(at, &other),
+        Reorder::Below(other) => stack.put_below(at, &other),
+    }
+}

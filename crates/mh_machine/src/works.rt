@@ -1,0 +1,226 @@
+//! `Works`: what a machine is made of, between two of its pictures.
+//!
+//! A step marks the cells in which it can be seen, and paints nothing; `settle` paints them. So a machine
+//! that makes many steps at once paints once.
+ghost use Rattle.std.specs.Prelude.{◌≡◌, ◌∷◌, [], ◌+◌, ◌<◌, ◌^◌, false, IfOk, IfErr, OnOk, OnErr, map};
+ghost use Rattle.mh_display.specs.Surface.{IsClean};
+ghost use Rattle.mh_model.specs.Service.{group_parts, fresh, parts};
+ghost use Rattle.mh_model.specs.State.{begun, all};
+ghost use Rattle.mh_model.specs.Step.{posted, inputs, is_full as is_full_lem, is_idle as is_idle_lem};
+ghost use Rattle.mh_model.specs.Picture.{shown};
+ghost use Rattle.mh_model.specs.Planes.{blank};
+ghost use Rattle.mh_machine.specs.Links.{IsIndex};
+
+use crate::Unstarted;
+use crate::links::Links;
+use crate::pair::both;
+use crate::puts::entrance;
+use crate::stage::Stage;
+use crate::work::Work;
+use mh_base::GroupName;
+use mh_model::{Fault, Input, Item, Picture, Waiting};
+use mh_service::Service;
+use mh_store::Group;
+use std::alloc::{AllocError, Global};
+use std::collections::VecDeque;
+use std::marker::Model;
+
+/// The works of a machine. A contract sees the state, and which cells are still to be painted.
+#[derive(Drop)]
+pub struct Works {
+    pub(crate) service: Service,
+    pub(crate) application: GroupName,
+    pub(crate) scene: Option<GroupName>,
+    pub(crate) stage: Stage,
+    pub(crate) links: Links,
+    pub(crate) queue: VecDeque<Waiting>,
+    pub(crate) work: Work,
+    pub(crate) transition: bool,
+    pub(crate) locks: u64,
+    pub(crate) frozen: Picture,
+    pub(crate) taken: u64,
+    pub(crate) faults: Vec<Fault>,
+    pub(crate) alloc: Global,
+}
+
+impl Model for Works {
+    ghost use Rattle.mh_machine.specs.Holds.{Holds};
+    ghost use Rattle.mh_machine.specs.Working.{Working};
+
+    ghost Value = { Working };
+
+    ghost view = { λ w. record {
+      state = record {
+        service = w.service;
+        application = w.application;
+        scene = w.scene;
+        objects = w.stage.objects;
+        stack = w.stage.stack;
+        queue = w.queue.items;
+        work = w.work.items;
+        transition = w.transition;
+        locks = w.locks;
+        frozen = w.frozen;
+        taken = w.taken;
+        faults = w.faults.items;
+      };
+      marks = w.stage.marks;
+    } };
+
+    ghost invariant = { λ w. Holds w.service w.application w.stage.objects w.links w.locks w.taken };
+}
+
+/// The most inputs that wait.
+const MOST_INPUTS: usize = 256;
+
+impl Works {
+    /// The works at the start: the start application is there, and is about to be entered. Where memory is
+    /// refused the service is handed back.
+    pub fn new(alloc: Global, service: Service) -> Result<Works, Unstarted>
+        ensures begun { IfOk result (λ works. works.state ≡ begun service) }
+        ensures clean { IfOk result (λ works. IsClean works.marks) }
+        ensures back { IfErr result (λ unstarted. unstarted.service ≡ service) }
+    {
+        match prepare(alloc, &service) {
+            Ok(beginning) => Ok(Works::of(alloc, service, beginning)),
+            Err(_) => Err(Unstarted { service }),
+        }
+    }
+
+    fn of(alloc: Global, service: Service, beginning: Beginning) -> Works
+        requires application { beginning.application ≡ service.start }
+        requires objects { beginning.stage.objects ≡ record { application = map fresh (group_parts service service.start); scene = [] } }
+        requires stack { beginning.stage.stack ≡ [] }
+        requires clean { IsClean beginning.stage.marks }
+        requires own { parts beginning.stage.objects.application ≡ group_parts service service.start }
+        requires links { IsIndex beginning.links (parts (all beginning.stage.objects)) }
+        requires work { beginning.work.items ≡ Item.Enter service.start ∷ [] }
+        requires frozen { beginning.frozen ≡ blank }
+        ensures begun { result.state ≡ begun service }
+        ensures clean { IsClean result.marks }
+    {
+        let Beginning {
+            application,
+            stage,
+            links,
+            work,
+            frozen,
+        } = beginning;
+        Works {
+            service,
+            application,
+            scene: None,
+            stage,
+            links,
+            queue: VecDeque::new(alloc),
+            work,
+            transition: false,
+            locks: 0,
+            frozen,
+            taken: 0,
+            faults: Vec::new(alloc),
+            alloc,
+        }
+    }
+
+    /// Whether as many inputs wait as may.
+    pub fn is_full(&self) -> bool
+        ensures { result ≡ is_full_lem self.now.state }
+    {
+        if self.queue.len() < MOST_INPUTS {
+            return false;
+        }
+        waiting_inputs(&self.queue) >= MOST_INPUTS
+    }
+
+    /// Adds an input at the end of the queue.
+    pub fn post(&mut self, input: Input) -> Result<(), AllocError>
+        requires { is_full_lem self.old.state ≡ false }
+        ensures posted { OnOk result (self.new.state ≡ posted input self.old.state) }
+        ensures kept { OnErr result (self.new.state ≡ self.old.state) }
+        ensures marks { self.new.marks ≡ self.old.marks }
+    {
+        self.queue.push_back(Waiting::Input(input))?;
+        Ok(())
+    }
+
+    /// Whether there is nothing to do.
+    pub fn is_idle(&self) -> bool
+        ensures { result ≡ is_idle_lem self.now.state }
+    {
+        self.work.is_empty() && self.queue.is_empty()
+    }
+
+    /// Paints what the steps so far have left to be painted.
+    pub fn settle(&mut self)
+        ensures same { self.new.state ≡ self.old.state }
+        ensures clean { IsClean self.new.marks }
+    {
+        self.stage.settle();
+    }
+
+    /// The picture that the state shows, where all of it is painted.
+    pub fn picture(&self) -> &Picture
+        requires { IsClean self.now.marks }
+        ensures { result.now ≡ shown self.now.state }
+    {
+        if self.locks == 0 {
+            self.stage.picture()
+        } else {
+            &self.frozen
+        }
+    }
+}
+
+/// What the works begin with that wants memory.
+#[derive(Drop)]
+struct Beginning {
+    application: GroupName,
+    stage: Stage,
+    links: Links,
+    work: Work,
+    frozen: Picture,
+}
+
+fn prepare(alloc: Global, service: &Service) -> Result<Beginning, AllocError>
+    ensures application { IfOk result (λ parts. parts.application ≡ service.now.start) }
+    ensures objects { IfOk result (λ found. found.stage.objects ≡ record { application = map fresh (group_parts service.now service.now.start); scene = [] }) }
+    ensures stack { IfOk result (λ found. found.stage.stack ≡ []) }
+    ensures clean { IfOk result (λ found. IsClean found.stage.marks) }
+    ensures own { IfOk result (λ found. parts found.stage.objects.application ≡ group_parts service.now service.now.start) }
+    ensures links { IfOk result (λ found. IsIndex found.links (parts (all found.stage.objects))) }
+    ensures work { IfOk result (λ parts. parts.work.items ≡ Item.Enter service.now.start ∷ []) }
+    ensures frozen { IfOk result (λ parts. parts.frozen ≡ blank) }
+{
+    let application = service.start().clone()?;
+    let parts = service.parts(&application);
+    let group = Group::fresh(alloc, &application, parts)?;
+    let set = both(Links::of(alloc, parts, &[]), Stage::new(alloc, group));
+    let first = both(first_work(alloc, &application), Picture::black(alloc));
+    let ((links, stage), (work, frozen)) = both(set, first)?;
+    Ok(Beginning {
+        application,
+        stage,
+        links,
+        work,
+        frozen,
+    })
+}
+
+/// How many inputs wait; events are not counted.
+fn waiting_inputs(queue: &VecDeque<Waiting>) -> usize
+    ensures { result ≡ inputs queue.now.items }
+{
+    queue
+        .iter()
+        .filter(|waiting| matches!(waiting, Waiting::Input(_)))
+        .count()
+}
+
+/// The work at the start: the group is entered.
+fn first_work(alloc: Global, group: &GroupName) -> Result<Work, AllocError>
+    ensures { IfOk result (λ work. work.items ≡ Item.Enter group.now ∷ []) }
+{
+    let pieces = entrance(alloc, group)?;
+    Work::of_pieces(alloc, pieces)
+}

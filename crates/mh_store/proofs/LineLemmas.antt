@@ -1,0 +1,145 @@
+-- A paragraph's lines, cut by cut.
+use Rattle.std.specs.Prelude.{◌≡◌, ◌≢◌, ℕ, zero, suc, ◌+◌, ◌-◌, ◌==◌, ◌<◌, ◌≤◌, nat_le, Bool, true, false, if◌then◌else◌, List, [], ◌∷◌, ◌++◌, length, take, drop, map, slice_index, refl}
+use Rattle.std.proofs.Common.{inl, inr, ap, ◌∙◌, sym, subst, append_assoc, arith, add-one}
+use Rattle.std.proofs.lemmas.Bool.{le-leb, lt-leb}
+use Rattle.std.proofs.lemmas.Bool.Decides.{eqb_tells}
+use Rattle.std.proofs.lemmas.List.{length-drop, get_or-drop, take-append-le}
+use Rattle.mh_model.specs.declared.line.Line.{Line}
+use Rattle.mh_model.specs.declared.line.Form.{Form}
+use Rattle.mh_model.specs.Layout.{placed}
+use Rattle.mh_model.specs.Lines.{last_space, cut_at, next_at, lines_in, lines_of}
+
+-- one more index
+pub last_space_more : (k : ℕ) (xs : List ℕ) → last_space (k + 1) xs ≡ (if slice_index xs (k + 1) == 0x20 then k + 1 else last_space k xs)
+last_space_more k xs = rw add-one refl
+
+-- a number tested against another one
+pub is_or_not : (P : Type 0) (a b : ℕ) → ((a == b) ≡ true → a ≡ b → P) → ((a == b) ≡ false → a ≢ b → P) → P
+is_or_not P a b same other = elim (eqb_tells a b) [ inl h ↦ same h.0 h.1 | inr h ↦ other h.0 h.1 ]
+
+-- where the last space lies
+pub last_space_within : (w : ℕ) (xs : List ℕ) → last_space w xs ≤ w
+last_space_within zero xs = omega arith
+last_space_within (suc k) xs = by_test (slice_index xs (suc k) == 0x20) (last_space_within k xs)
+  where
+    by_test : (b : Bool) → last_space k xs ≤ k → (if b then suc k else last_space k xs) ≤ suc k
+    by_test true h = omega arith
+    by_test false h = omega (arith, h)
+
+-- behind the last space there is none
+pub no_space_behind : (w : ℕ) (xs : List ℕ) (k : ℕ) → last_space w xs < k → k ≤ w → slice_index xs k ≢ 0x20
+no_space_behind zero xs k low high = absurd (omega (arith, low, high))
+no_space_behind (suc n) xs k low high =
+    is_or_not (slice_index xs k ≢ 0x20) (slice_index xs (suc n)) 0x20
+    (λ e same. let at : last_space (suc n) xs ≡ suc n = rw e refl in absurd (omega (arith, low, high, at)))
+    (λ e other.
+    let before : last_space (suc n) xs ≡ last_space n xs = rw e refl in
+    is_or_not (slice_index xs k ≢ 0x20) k (suc n)
+    (λ _ here. subst (λ (i : ℕ). slice_index xs i ≢ 0x20) (sym here) other)
+    (λ _ there. no_space_behind n xs k (omega (arith, low, before)) (omega (arith, high, there))))
+
+-- where there is no space, none is the last
+pub no_last_space : (n : ℕ) (xs : List ℕ) → ((k : ℕ) → 1 ≤ k → k ≤ n → slice_index xs k ≢ 0x20) → last_space n xs ≡ 0
+no_last_space zero xs none = refl
+no_last_space (suc n) xs none =
+    is_or_not (last_space (suc n) xs ≡ 0) (slice_index xs (suc n)) 0x20
+    (λ e same. absurd (none (suc n) (omega arith) (omega arith) same))
+    (λ e other.
+    let before : last_space (suc n) xs ≡ last_space n xs = rw e refl in
+    before ∙ no_last_space n xs (λ k low high. none k low (omega (arith, high))))
+
+-- the next line begins behind the first scalar, and not far behind the full line
+pub next_is_behind : (w space : ℕ) → 0 < w → 1 ≤ next_at w space
+next_is_behind w space wide = by_test (space == 0)
+  where
+    by_test : (b : Bool) → 1 ≤ (if b then w else space + 1)
+    by_test true = omega (arith, wide)
+    by_test false = omega arith
+
+pub cut_is_within : (w : ℕ) (xs : List ℕ) → cut_at w (last_space w xs) ≤ w
+cut_is_within w xs = by_test (last_space w xs == 0) (last_space_within w xs)
+  where
+    by_test : (b : Bool) → last_space w xs ≤ w → (if b then w else last_space w xs) ≤ w
+    by_test true h = omega arith
+    by_test false h = h
+
+pub next_is_within : (w : ℕ) (xs : List ℕ) → next_at w (last_space w xs) ≤ w + 1
+next_is_within w xs = by_test (last_space w xs == 0) (last_space_within w xs)
+  where
+    by_test : (b : Bool) → last_space w xs ≤ w → (if b then w else last_space w xs + 1) ≤ w + 1
+    by_test true h = omega arith
+    by_test false h = omega (arith, h)
+
+-- what was looked at behind the cut has no space
+pub none_is_seen : (w : ℕ) (xs : List ℕ) → last_space (w - next_at w (last_space w xs)) (drop (next_at w (last_space w xs)) xs) ≡ 0
+none_is_seen w xs = no_last_space (w - next_at w (last_space w xs)) (drop (next_at w (last_space w xs)) xs) (λ k low high.
+    let far : last_space w xs < next_at w (last_space w xs) + k = behind k low in
+    let at : slice_index (drop (next_at w (last_space w xs)) xs) k ≡ slice_index xs (next_at w (last_space w xs) + k) = get_or-drop (next_at w (last_space w xs)) xs k 0 in
+    let other : slice_index xs (next_at w (last_space w xs) + k) ≢ 0x20 = no_space_behind w xs (next_at w (last_space w xs) + k) far (omega (arith, low, high)) in
+    λ is. other (sym at ∙ is))
+  where
+    by_test : (space k : ℕ) (b : Bool) → (space == 0) ≡ b → space ≤ w → 1 ≤ k → space < (if b then w else space + 1) + k
+    by_test space k true e h low = omega (arith, h, low)
+    by_test space k false e h low = omega (arith, low)
+
+    behind : (k : ℕ) → 1 ≤ k → last_space w xs < next_at w (last_space w xs) + k
+    behind k low = by_test (last_space w xs) k (last_space w xs == 0) refl (last_space_within w xs) low
+
+-- a rest that is no longer than a line is one
+pub one_line_in : (n w : ℕ) (xs : List ℕ) → length xs ≤ w → lines_in n w xs ≡ xs ∷ []
+unfolding lines_in
+one_line_in zero w xs short = refl
+one_line_in (suc n) w xs short = rw (le-leb (length xs) w short) refl
+
+pub one_line : (w : ℕ) (xs : List ℕ) → length xs ≤ w → lines_of w xs ≡ xs ∷ []
+one_line w xs short = one_line_in (length xs) w xs short
+
+-- the cuts are enough
+enough : (n m w : ℕ) (xs : List ℕ) → 0 < w → length xs ≤ n → length xs ≤ m → lines_in n w xs ≡ lines_in m w xs
+unfolding lines_in
+enough zero m w xs wide few many = sym (one_line_in m w xs (omega (arith, few)))
+enough (suc n) zero w xs wide few many = one_line_in (suc n) w xs (omega (arith, many))
+enough (suc n) (suc m) w xs wide few many =
+    let next : 1 ≤ next_at w (last_space w xs) = next_is_behind w (last_space w xs) wide in
+    let shorter : length (drop (next_at w (last_space w xs)) xs) ≡ length xs - next_at w (last_space w xs) = length-drop (next_at w (last_space w xs)) xs in
+    ap (λ (t : List (List ℕ)). if nat_le (length xs) w then xs ∷ [] else (take (cut_at w (last_space w xs)) xs ∷ t))
+    (enough n m w (drop (next_at w (last_space w xs)) xs) wide (omega (arith, few, next, shorter)) (omega (arith, many, next, shorter)))
+
+-- a rest that is longer breaks
+pub breaks : (w : ℕ) (xs : List ℕ) → 0 < w → w < length xs → lines_of w xs ≡ take (cut_at w (last_space w xs)) xs ∷ lines_of w (drop (next_at w (last_space w xs)) xs)
+unfolding lines_in
+breaks w [] wide long = absurd (omega (arith, long))
+breaks w (x ∷ xs) wide long =
+    let next : 1 ≤ next_at w (last_space w (x ∷ xs)) = next_is_behind w (last_space w (x ∷ xs)) wide in
+    let shorter : length (drop (next_at w (last_space w (x ∷ xs))) (x ∷ xs)) ≡ suc (length xs) - next_at w (last_space w (x ∷ xs)) = length-drop (next_at w (last_space w (x ∷ xs))) (x ∷ xs) in
+    let rest : lines_in (length xs) w (drop (next_at w (last_space w (x ∷ xs))) (x ∷ xs)) ≡ lines_of w (drop (next_at w (last_space w (x ∷ xs))) (x ∷ xs)) =
+    enough (length xs) (length (drop (next_at w (last_space w (x ∷ xs))) (x ∷ xs))) w (drop (next_at w (last_space w (x ∷ xs))) (x ∷ xs)) wide (omega (arith, next, shorter)) (omega arith) in
+    rw (lt-leb (suc (length xs)) w long) (ap (λ (t : List (List ℕ)). take (cut_at w (last_space w (x ∷ xs))) (x ∷ xs) ∷ t) rest)
+
+-- a step of the wrapping: a line is put, and the rest behind it is left
+pub line_is_put : (f : Form) (xs rest : List ℕ) (space : ℕ) (done more all : List Line) (line : Line) → 0 < f.width → f.width < length xs → space ≡ last_space f.width xs → line ≡ placed f (take (cut_at f.width space) xs) → rest ≡ drop (next_at f.width space) xs → more ≡ done ++ line ∷ [] → done ++ map (placed f) (lines_of f.width xs) ≡ all → more ++ map (placed f) (lines_of f.width rest) ≡ all
+line_is_put f xs rest space done more all line wide long last here left put so_far =
+    let first : line ≡ placed f (take (cut_at f.width (last_space f.width xs)) xs) = here ∙ ap (λ (s : ℕ). placed f (take (cut_at f.width s) xs)) last in
+    let behind : rest ≡ drop (next_at f.width (last_space f.width xs)) xs = left ∙ ap (λ (s : ℕ). drop (next_at f.width s) xs) last in
+    ap (λ (t : List Line). t ++ map (placed f) (lines_of f.width rest)) put
+    ∙ append_assoc done (line ∷ []) (map (placed f) (lines_of f.width rest))
+    ∙ ap (λ (l : Line). done ++ l ∷ map (placed f) (lines_of f.width rest)) first
+    ∙ ap (λ (t : List ℕ). done ++ placed f (take (cut_at f.width (last_space f.width xs)) xs) ∷ map (placed f) (lines_of f.width t)) behind
+    ∙ ap (λ (t : List (List ℕ)). done ++ map (placed f) t) (sym (breaks f.width xs wide long))
+    ∙ so_far
+
+pub last_is_put : (f : Form) (xs : List ℕ) (done more all : List Line) (line : Line) → length xs ≤ f.width → line ≡ placed f xs → more ≡ done ++ line ∷ [] → done ++ map (placed f) (lines_of f.width xs) ≡ all → more ≡ all
+last_is_put f xs done more all line short here put so_far =
+    put ∙ ap (λ (l : Line). done ++ l ∷ []) here
+    ∙ ap (λ (t : List (List ℕ)). done ++ map (placed f) t) (sym (one_line f.width xs short))
+    ∙ so_far
+
+-- a step at which there are lines enough
+pub lines_are_enough : (n : ℕ) (done more all : List Line) → n ≤ length done → done ++ more ≡ all → take n done ≡ take n all
+lines_are_enough n done more all many so_far = sym (take-append-le n done more many) ∙ ap (take n) so_far
+
+pub none_is_known : (w : ℕ) (xs rest : List ℕ) (space seen : ℕ) → space ≡ last_space w xs → rest ≡ drop (next_at w space) xs → seen ≡ w - next_at w space → last_space seen rest ≡ 0
+none_is_known w xs rest space seen last left is =
+    let behind : rest ≡ drop (next_at w (last_space w xs)) xs = left ∙ ap (λ (s : ℕ). drop (next_at w s) xs) last in
+    let known : seen ≡ w - next_at w (last_space w xs) = is ∙ ap (λ (s : ℕ). w - next_at w s) last in
+    ap (λ (n : ℕ). last_space n rest) known ∙ ap (last_space (w - next_at w (last_space w xs))) behind ∙ none_is_seen w xs

@@ -1,0 +1,38 @@
+-- When the lines of an object's text stay as they are.
+use Rattle.std.specs.Prelude.{◌≡◌, Bool, true, false, ◌&&◌, ◌||◌, not}
+use Rattle.std.specs.Option.{is_none}
+use Rattle.mh_group.specs.declared.attribute.Attribute.TheVariants as attribute
+use Rattle.mh_group.specs.Table.{has_content}
+use Rattle.mh_model.specs.declared.edit.Edit.{Edit}
+use Rattle.mh_model.specs.declared.edit.Edit.TheVariants as edit
+use Rattle.mh_model.specs.declared.object.Object.{Object}
+use Rattle.mh_model.specs.Boxes.{columns_of, rows_of}
+use Rattle.mh_model.specs.Looks.{area_of}
+use Rattle.mh_model.specs.Property.{read, as_bool, as_justification}
+
+-- no text is loaded
+abbrev pub has_no_text : Object → Bool
+has_no_text o = is_none o.body.text
+
+-- no text is loaded, and none can be
+abbrev pub loads_no_text : Object → Bool
+loads_no_text o = not (has_content o.fixed.class) && is_none o.body.text
+
+-- the edit can be seen to leave the lines as they are, whatever is in it
+abbrev pub leaves_lines : Edit → Object → Bool
+leaves_lines (edit.Give v) o = true
+leaves_lines (edit.Put a h) o = has_no_text o
+leaves_lines (edit.Load v) o = loads_no_text o
+leaves_lines (edit.Draw d) o = true
+leaves_lines edit.Clear o = true
+leaves_lines edit.Prepare o = o.body.available || loads_no_text o
+leaves_lines edit.Start o = o.body.available || loads_no_text o
+leaves_lines edit.Halt o = true
+leaves_lines edit.Drop o = has_no_text o
+
+-- a text would be laid out alike in both
+pub record AreLaidAlike (o p : Object) : Type 0 where
+  pub columns : columns_of (area_of o) ≡ columns_of (area_of p)
+  pub rows : rows_of (area_of o) ≡ rows_of (area_of p)
+  pub wraps : as_bool false (read attribute.TextWrapping o) ≡ as_bool false (read attribute.TextWrapping p)
+  pub justification : as_justification (read attribute.HJustification o) ≡ as_justification (read attribute.HJustification p)

@@ -1,0 +1,94 @@
+//! When the lines of an object's text stay as they are, and what they are else.
+ghost use Rattle.std.specs.Prelude.{◌≡◌, true, IfOk};
+ghost use Rattle.mh_model.specs.Looks.{lines_of};
+ghost use Rattle.mh_store.specs.Keeping.{has_no_text as has_no_text_lem, loads_no_text as loads_no_text_lem, leaves_lines as leaves_lines_lem, AreLaidAlike};
+
+use crate::layout::lay_out;
+use crate::looks::{area_of, justification, wraps};
+use mh_base::Seq;
+use mh_model::boxes::{columns_of, rows_of};
+use mh_model::{Edit, Line, Object};
+use std::alloc::{AllocError, Global};
+
+/// Whether the edit leaves the lines as they are, as far as can be seen before it.
+pub fn leaves_lines(edit: &Edit, object: &Object) -> bool
+    ensures { result ≡ leaves_lines_lem edit.now object.now }
+{
+    match edit {
+        Edit::Give(_) | Edit::Draw(_) | Edit::Clear | Edit::Halt => true,
+        Edit::Put(_, _) | Edit::Drop => has_no_text(object),
+        Edit::Load(_) => loads_no_text(object),
+        Edit::Prepare | Edit::Start => object.body.available || loads_no_text(object),
+    }
+}
+
+fn has_no_text(object: &Object) -> bool
+    ensures { result ≡ has_no_text_lem object.now }
+{
+    object.body.text.is_none()
+}
+
+fn loads_no_text(object: &Object) -> bool
+    ensures { result ≡ loads_no_text_lem object.now }
+{
+    !object.fixed.get().class.has_content() && has_no_text(object)
+}
+
+/// Whether the lines are the same before a change and after it, as far as can be seen without laying
+/// them out.
+pub fn are_same_lines(before: &Object, after: &Object) -> bool
+    ensures { result ≡ true → lines_of before.now ≡ lines_of after.now }
+{
+    if !is_same_text(before, after) {
+        return false;
+    }
+    are_laid_alike(before, after)
+}
+
+fn is_same_text(before: &Object, after: &Object) -> bool
+    ensures { result ≡ true → before.now.body.text ≡ after.now.body.text }
+{
+    match (&before.body.text, &after.body.text) {
+        (Some(old), Some(new)) => old == new,
+        (None, None) => true,
+        _ => false,
+    }
+}
+
+/// Whether a text would be laid out alike in both.
+fn are_laid_alike(before: &Object, after: &Object) -> bool
+    ensures { result ≡ true → AreLaidAlike before.now after.now }
+{
+    let old = area_of(before);
+    let new = area_of(after);
+    if columns_of(&old) != columns_of(&new) {
+        return false;
+    }
+    if rows_of(&old) != rows_of(&new) {
+        return false;
+    }
+    if wraps(before) != wraps(after) {
+        return false;
+    }
+    justification(before) == justification(after)
+}
+
+/// The lines of the object's text; none, without memory, where no text is loaded.
+pub fn lines_for(alloc: Global, object: &Object) -> Result<Seq<Line>, AllocError>
+    ensures { IfOk result (λ lines. lines ≡ lines_of object.now) }
+{
+    match &object.body.text {
+        Some(text) => {
+            let area = area_of(object);
+            let lines = lay_out(
+                alloc,
+                text.as_slice(),
+                &area,
+                wraps(object),
+                justification(object),
+            )?;
+            Ok(Seq::from_vec(lines))
+        }
+        None => Ok(Seq::new(alloc)),
+    }
+}

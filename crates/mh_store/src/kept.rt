@@ -1,0 +1,110 @@
+//! `Kept`: an object with the lines of its text.
+ghost use Rattle.std.specs.Prelude.{◌≡◌, IfOk, OnOk, OnErr};
+ghost use Rattle.mh_model.specs.Bodies.{given};
+ghost use Rattle.mh_model.specs.Edits.{edited};
+ghost use Rattle.mh_model.specs.Looks.{lines_of as lines_of_lem};
+ghost use Rattle.mh_model.specs.Service.{fresh as fresh_lem};
+ghost use Rattle.mh_store.specs.Table.{with_body};
+
+use crate::keeping::{are_same_lines, leaves_lines, lines_for};
+use mh_base::{Seq, Value};
+use mh_model::{Edit, FixedPart, Line, Object};
+use std::alloc::{AllocError, Global};
+use std::marker::Model;
+
+/// An object with the lines of its text, laid out. A contract sees the object.
+#[derive(Drop)]
+pub struct Kept {
+    object: Object,
+    lines: Seq<Line>,
+}
+
+impl Model for Kept {
+    ghost use Rattle.std.specs.Prelude.{◌≡◌};
+    ghost use Rattle.mh_model.specs.declared.object.Object.{Object};
+    ghost use Rattle.mh_model.specs.Looks.{lines_of};
+
+    ghost Value = { Object };
+
+    ghost view = { λ k. k.object };
+
+    ghost invariant = { λ k. k.lines ≡ lines_of k.object };
+}
+
+impl Kept {
+    /// The object as it is when its group is entered. No text is loaded, so its lines take no memory.
+    pub(crate) fn fresh(alloc: Global, part: &FixedPart) -> Result<Kept, AllocError>
+        ensures { IfOk result (λ kept. kept ≡ fresh_lem part.now) }
+    {
+        let object = Object::fresh(alloc, part)?;
+        let lines = Seq::new(alloc);
+        Ok(Kept { object, lines })
+    }
+
+    pub fn object(&self) -> &Object
+        ensures { result.now ≡ self.now }
+    {
+        &self.object
+    }
+
+    /// The lines of the text that was loaded, the upper ones first; none where none was.
+    pub fn lines(&self) -> &[Line]
+        ensures { result.now ≡ lines_of_lem self.now }
+    {
+        self.lines.as_slice()
+    }
+
+    /// Gives a variable a value. It takes no memory.
+    pub(crate) fn give(&mut self, value: Value)
+        ensures { self.new ≡ with_body (λ _ b. given value b) self.old }
+    {
+        self.object.body.give(value);
+    }
+
+    /// Changes the body of the object, and lays its text out anew where its lines can differ.
+    pub(crate) fn edit(&mut self, alloc: Global, edit: Edit) -> Result<(), AllocError>
+        ensures done { OnOk result (self.new ≡ with_body (edited edit) self.old) }
+        ensures kept { OnErr result (self.new ≡ self.old) }
+    {
+        if leaves_lines(&edit, &self.object) {
+            return edit_object(&mut self.object, edit);
+        }
+        let after = edited_copy(alloc, &self.object, edit)?;
+        if !are_same_lines(&self.object, &after) {
+            let lines = lines_for(alloc, &after)?;
+            put_lines(&mut self.lines, lines);
+        }
+        put_object(&mut self.object, after);
+        Ok(())
+    }
+}
+
+/// Changes the body of an object in place.
+fn edit_object(object: &mut Object, edit: Edit) -> Result<(), AllocError>
+    ensures done { OnOk result (object.new ≡ with_body (edited edit) object.old) }
+    ensures kept { OnErr result (object.new ≡ object.old) }
+{
+    object.body.edit(object.fixed.get(), edit)
+}
+
+/// A copy of the object with its body changed. What never changes is shared with it.
+fn edited_copy(alloc: Global, object: &Object, edit: Edit) -> Result<Object, AllocError>
+    ensures { IfOk result (λ after. after ≡ with_body (edited edit) object.now) }
+{
+    let mut body = object.body.copy(alloc)?;
+    body.edit(object.fixed.get(), edit)?;
+    let fixed = object.fixed.clone()?;
+    Ok(Object { fixed, body })
+}
+
+fn put_lines(place: &mut Seq<Line>, lines: Seq<Line>)
+    ensures { place.new ≡ lines }
+{
+    *place = lines;
+}
+
+fn put_object(place: &mut Object, object: Object)
+    ensures { place.new ≡ object }
+{
+    *place = object;
+}
