@@ -38,6 +38,7 @@ pub fn edit_by(
         (ActionName::SetLineColour, _) => Ok(with_line_colour(values)),
         (ActionName::SetTextColour, _) => Ok(with_text_colour(values)),
         (ActionName::SetLineWidth, _) => Ok(with_line_width(values)),
+        (ActionName::SetInputRegister, _) => Ok(with_register(values)),
         (ActionName::SetData, _) => with_content(values),
         (ActionName::Clear, _) => Ok(Some(Edit::Clear)),
         (ActionName::DrawLine, _) => Ok(with_line(object, values)),
@@ -92,6 +93,19 @@ fn with_line_width(values: &[Value]) -> Option<Edit>
 {
     match values {
         [Value::Int(width)] => lined(*width),
+        _ => None,
+    }
+}
+
+fn with_register(values: &[Value]) -> Option<Edit>
+    ensures { (p : FixedValue) (b : BodyValue) → edited_if result p b
+        ≡ changed_by ActionName.SetInputRegister values.now p b }
+{
+    match values {
+        [Value::Int(register)] => {
+            let held = Held::Value(Value::Int(*register));
+            Some(Edit::Put(Attribute::InputEventReg, held))
+        }
         _ => None,
     }
 }

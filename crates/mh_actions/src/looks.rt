@@ -5,13 +5,12 @@ ghost use Rattle.mh_model.specs.declared.object.Body.{Body as BodyValue};
 ghost use Rattle.mh_model.specs.declared.object.Fixed.{Fixed as FixedValue};
 ghost use Rattle.mh_model.specs.Bodies as spec;
 ghost use Rattle.mh_model.specs.Edits.{edited_if};
-ghost use Rattle.mh_model.specs.Looks.{has_line as has_line_lem, line_of as line_of_lem, fill_of as fill_of_lem, paint_of as paint_of_lem};
 
 use crate::variables::fits;
 use mh_base::{Colour, Octets, Value};
 use mh_group::Attribute;
-use mh_model::held::{as_colour, as_int};
 use mh_model::{Drawing, Edit, Figure, Held, Object, Point};
+use mh_store::looks::{fill_of, has_line, line_of};
 use std::alloc::AllocError;
 
 /// The most drawings of one object.
@@ -148,47 +147,4 @@ fn narrow(unit: i32) -> i16
     ensures { result ≡ unit }
 {
     unit as i16
-}
-
-fn has_line(object: &Object) -> bool
-    ensures { result ≡ has_line_lem object.now }
-{
-    0 < as_int(object.read(Attribute::OrigLineWidth), 1)
-}
-
-fn line_of(object: &Object) -> Option<u32>
-    ensures { result ≡ line_of_lem object.now }
-{
-    paint_of(as_colour(object.read(Attribute::OrigRefLineColour), OPAQUE_BLACK))
-}
-
-fn fill_of(object: &Object) -> Option<u32>
-    ensures { result ≡ fill_of_lem object.now }
-{
-    paint_of(as_colour(object.read(Attribute::OrigRefFillColour), TRANSPARENT_BLACK))
-}
-
-const OPAQUE_BLACK: Colour = Colour {
-    red: 0,
-    green: 0,
-    blue: 0,
-    transparency: 0,
-};
-
-const TRANSPARENT_BLACK: Colour = Colour {
-    red: 0,
-    green: 0,
-    blue: 0,
-    transparency: 255,
-};
-
-/// The colour as a number of 24 bits; none where it paints nothing.
-fn paint_of(colour: Colour) -> Option<u32>
-    ensures { result ≡ paint_of_lem colour }
-{
-    if colour.transparency == 255 {
-        None
-    } else {
-        Some(u32::from(colour.red) * 65536 + u32::from(colour.green) * 256 + u32::from(colour.blue))
-    }
 }

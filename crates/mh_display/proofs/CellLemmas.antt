@@ -1,6 +1,8 @@
 -- Cells by their rows and columns, and what painting from the top down makes of them.
-use Rattle.std.specs.Prelude.{◌≡◌, ℕ, ◌+◌, ◌*◌, ◌/◌, ◌%◌, ◌<◌, ◌==◌, Bool, true, false, List, ◌∷◌, if◌then◌else◌, Option, Some, None, pos, refl}
+use Rattle.std.specs.Prelude.{◌≡◌, ℕ, ◌+◌, ◌*◌, ◌/◌, ◌%◌, ◌<◌, ◌≤◌, ◌-◌, ◌==◌, nat_lt, max, take, drop, Bool, true, false, List, ◌∷◌, length, slice_index, if◌then◌else◌, Option, Some, None, pos, refl}
 use Rattle.std.proofs.Common.{ap, ◌∙◌, sym, arith}
+use Rattle.std.proofs.lemmas.Bool.Decides.{nat_tests}
+use Rattle.std.proofs.lemmas.List.{get_or_past, places}
 use Rattle.mh_model.specs.declared.cell.Cell.{Cell}
 use Rattle.mh_model.specs.Looks.{Paint, nothing}
 use Rattle.mh_model.specs.Picture.{back_under, cell_under}
@@ -52,3 +54,30 @@ put_nothing k = by (k.mark == 0) (k.mark == 1)
     by true b = refl
     by false true = refl
     by false false = refl
+
+-- Where the highest mark is 0, each is.
+
+pub none_before : (marks : List ℕ) (i most more : ℕ) → more ≡ max most (slice_index marks i) → (most ≡ 0 → (c : ℕ) → c < i → slice_index marks c ≡ 0)
+    → more ≡ 0 → (c : ℕ) → c < i + 1 → slice_index marks c ≡ 0
+none_before marks i most more is before none c less = by (nat_lt c i) refl
+  where
+    by : (b : Bool) → nat_lt c i ≡ b → slice_index marks c ≡ 0
+    by true e = before (omega (arith, is, none)) c (grind (arith, nat_tests, e))
+    by false e =
+        let here : c ≡ i = grind (arith, nat_tests, e, less) in
+        let there : slice_index marks i ≡ 0 = omega (arith, is, none) in
+        ap (slice_index marks) here ∙ there
+
+pub none_at_all : (marks : List ℕ) (i most : ℕ) → length marks ≤ i → (most ≡ 0 → (c : ℕ) → c < i → slice_index marks c ≡ 0) → most ≡ 0 → (c : ℕ) → slice_index marks c ≡ 0
+none_at_all marks i most all before none c = by (nat_lt c i) refl
+  where
+    by : (b : Bool) → nat_lt c i ≡ b → slice_index marks c ≡ 0
+    by true e = before none c (grind (arith, nat_tests, e))
+    by false e = get_or_past marks c 0 (grind (arith, nat_tests, e, all))
+
+-- what holds of a stretch holds of the marks in it
+pub none_between : (marks whole : List ℕ) (first last : ℕ) → whole ≡ marks → ((c : ℕ) → slice_index (take (last - first) (drop first whole)) c ≡ 0)
+    → (c : ℕ) → first ≤ c → c < last → slice_index marks c ≡ 0
+none_between marks whole first last is none c low high =
+    let there : slice_index (take (last - first) (drop first whole)) (c - first) ≡ slice_index whole c = grind (arith, places, low, high) in
+    ap (λ (ns : List ℕ). slice_index ns c) (sym is) ∙ sym there ∙ none (c - first)

@@ -1,5 +1,5 @@
 -- What is painted into cells, and into those of windows.
-use Rattle.std.specs.Prelude.{◌≡◌, ℕ, ◌+◌, ◌*◌, ◌<◌, ◌==◌, Bool, true, false, not, List, [], replicate, ◌&&◌, if◌then◌else◌, Option, None, slice_index, ℤ, pos, ◌-ℤ◌, refl}
+use Rattle.std.specs.Prelude.{◌≡◌, ℕ, ◌+◌, ◌*◌, ◌<◌, ◌≤◌, ◌==◌, Bool, true, false, not, List, [], replicate, ◌&&◌, if◌then◌else◌, Option, None, slice_index, slice_set, ℤ, pos, ◌-ℤ◌, refl}
 use Rattle.std.proofs.Common.{ap, ◌∙◌, sym, arith, subst}
 use Rattle.std.proofs.lemmas.List.{get_or-set_same, get_or-set_other, get_or-replicate}
 use Rattle.std.proofs.lemmas.Bool.{eqb-true}
@@ -14,7 +14,7 @@ use Rattle.mh_display.specs.declared.marked.Marked.{Marked}
 use Rattle.mh_display.specs.declared.panel.Panel.{Panel}
 use Rattle.mh_display.specs.declared.texts.Ink.{Ink}
 use Rattle.mh_display.specs.declared.window.Window.{Window}
-use Rattle.mh_display.specs.Painting.{IsComplete, IsSet, IsPainted, IsPaintedIn, marked_at, with_marked, put, renewed, seen, settled}
+use Rattle.mh_display.specs.Painting.{IsBetween, IsComplete, IsSet, IsPainted, IsPaintedIn, marked_at, with_marked, put, renewed, seen, settled}
 use Rattle.mh_display.specs.Panels.{area_of_frame, inner_paint, panel_paint}
 use Rattle.mh_display.specs.Strokes.{stroke_paint}
 use Rattle.mh_display.specs.Surface.{Surface, IsClean}
@@ -29,8 +29,30 @@ is_set s at k after whole inside is = subst (λ (t : Surface). IsSet (marked_at 
   others = λ c apart. rw (get_or-set_other s.marks at c k.mark 0 apart, get_or-set_other s.planes.scalars at c k.cell.scalar 0 apart, get_or-set_other s.planes.fores at c k.cell.fore 0 apart, get_or-set_other s.planes.backs at c k.cell.back 0 apart) refl;
 })
 
+-- only the mark is changed
+pub is_marked : (s after : Surface) (at n : ℕ) → IsComplete s → at < 2160 → after ≡ record s { marks = slice_set s.marks at n } → IsSet (marked_at s) (marked_at after) at (record { mark = n; cell = (marked_at s at).cell })
+is_marked s after at n whole inside is = subst (λ (t : Surface). IsSet (marked_at s) (marked_at t) at (record { mark = n; cell = (marked_at s at).cell })) (sym is) (record {
+  here = rw (get_or-set_same s.marks at n 0 (omega (arith, inside, whole.marks))) refl;
+  others = λ c apart. rw (get_or-set_other s.marks at c n 0 apart) refl;
+})
+
+-- a cell that is not settled
+pub renewed_now : (old new : ℕ → Marked) (at : ℕ) → ((old at).mark == 0) ≡ false → IsSet old new at (record { mark = 2; cell = (old at).cell }) → IsSet old new at (renewed (old at))
+renewed_now old new at e set = record {
+  here = set.here ∙ ap (λ (b : Bool). if b then old at else record { mark = 2; cell = (old at).cell }) (sym e);
+  others = set.others;
+}
+
 pub settled_stays : (p : Paint) (k : Marked) → (k.mark == 0) ≡ true → k ≡ put p k
 settled_stays p k e = rw e refl
+
+-- a row with nothing to be painted stays
+pub settled_row : (g : ℕ → Paint) (s : Surface) (first last : ℕ) → ((c : ℕ) → first ≤ c → c < last → (marked_at s c).mark ≡ 0) → IsBetween (λ c. put (g c)) (marked_at s) (marked_at s) first last
+settled_row g s first last none = record {
+  inside = λ c low high. settled_stays (g c) (marked_at s c) (ap (λ (n : ℕ). n == 0) (none c low high));
+  before = λ c less. refl;
+  behind = λ c most. refl;
+}
 
 pub renewed_stays : (k : Marked) → (k.mark == 0) ≡ true → k ≡ renewed k
 renewed_stays k e = ap (λ (b : Bool). if b then k else record { mark = 2; cell = k.cell }) (sym e)

@@ -14,6 +14,14 @@ no_cell h old first = record {
   behind = λ c most. refl;
 }
 
+-- none between them
+pub no_cells : {X : Type 0} (h : ℕ → X → X) (old : ℕ → X) (first last : ℕ) → last ≤ first → IsBetween h old old first last
+no_cells h old first last most = record {
+  inside = λ c low high. absurd (omega (arith, low, high, most));
+  before = λ c less. refl;
+  behind = λ c most. refl;
+}
+
 -- one cell more
 pub next_cell : {X : Type 0} (h : ℕ → X → X) (old mid new : ℕ → X) (first at : ℕ) → first ≤ at → IsBetween h old mid first at → IsSet mid new at (h at (mid at)) → IsBetween h old new first (at + 1)
 next_cell {X} h old mid new first at low done one = record {

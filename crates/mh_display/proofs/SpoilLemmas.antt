@@ -1,7 +1,7 @@
 -- The cells that an object paints are stale.
-use Rattle.std.specs.Prelude.{◌≡◌, ℕ, ◌<◌, ◌==◌, Bool, true, false, not, if◌then◌else◌, List, length, Some, slice_index, slice_set, refl}
+use Rattle.std.specs.Prelude.{◌≡◌, ℕ, ◌≤◌, ◌-◌, ◌==◌, Bool, true, false, not, if◌then◌else◌, List, ◌++◌, length, replicate, take, drop, Some, slice_index, refl}
 use Rattle.std.proofs.Common.{ap, ◌∙◌, sym, arith, subst}
-use Rattle.std.proofs.lemmas.List.{get_or-set_same, get_or-set_other}
+use Rattle.std.proofs.lemmas.List.{places}
 use Rattle.mh_base.specs.declared.area.Area.{Area}
 use Rattle.mh_group.specs.declared.class.Class.{Class}
 use Rattle.mh_group.specs.declared.class.Class.TheVariants as class
@@ -11,16 +11,22 @@ use Rattle.mh_model.specs.Looks.{nothing, area_of, paint_by, paint_in}
 use Rattle.mh_model.specs.Picture.{is_seen, painted}
 use Rattle.mh_display.specs.declared.frame.Frame.{Frame}
 use Rattle.mh_display.specs.declared.window.Window.{Window}
-use Rattle.mh_display.specs.Painting.{IsIn, IsSet}
+use Rattle.mh_display.specs.Painting.{IsBetween, IsIn}
 use Rattle.mh_display.specs.Panels.{area_of_frame}
 use Rattle.mh_display.specs.Surface.{Spoils, is_stale}
 use Rattle.mh_display.specs.Windows.{has, IsOf}
 
-pub mark_set : (old new : List ℕ) (at : ℕ) → length old ≡ 2160 → at < 2160 → new ≡ slice_set old at 2 → IsSet (slice_index old) (slice_index new) at 2
-mark_set old new at whole inside is = subst (λ (ns : List ℕ). IsSet (slice_index old) (slice_index ns) at 2) (sym is) (record {
-  here = get_or-set_same old at 2 0 (omega (arith, inside, whole));
-  others = λ c apart. get_or-set_other old at c 2 0 apart;
-})
+-- a stretch of the marks is filled
+pub stretch_filled : (old part : List ℕ) (first last : ℕ) → first ≤ last → last ≤ length old → part ≡ replicate (length (take (last - first) (drop first old))) 2
+    → IsBetween (λ c n. 2) (slice_index old) (slice_index (take first old ++ (part ++ drop (last - first) (drop first old)))) first last
+stretch_filled old part first last order inside is =
+    let long : length (take (last - first) (drop first old)) ≡ last - first = grind (arith, places, order, inside) in
+    let all : part ≡ replicate (last - first) 2 = is ∙ ap (λ (n : ℕ). replicate n 2) long in
+    subst (λ (ns : List ℕ). IsBetween (λ c n. 2) (slice_index old) (slice_index (take first old ++ (ns ++ drop (last - first) (drop first old)))) first last) (sym all) (record {
+      inside = λ c low high. grind (arith, places, order, inside, low, high);
+      before = λ c less. grind (arith, places, order, inside, less);
+      behind = λ c most. grind (arith, places, order, inside, most);
+    })
 
 pub not_seen : (o : Object) (marks : List ℕ) → is_seen o ≡ false → Spoils (Some o) marks marks
 not_seen o marks unseen c inside right = (right, ap (λ (b : Bool). if b then paint_in o c else nothing) unseen)

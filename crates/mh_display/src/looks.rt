@@ -4,7 +4,6 @@ ghost use Rattle.std.specs.Option.{option_copied};
 ghost use Rattle.mh_model.specs.Looks as spec;
 ghost use Rattle.mh_model.specs.Looks.{art_paint, paint_in, rectangle_paint, text_paint};
 ghost use Rattle.mh_model.specs.Picture.{painted};
-ghost use Rattle.mh_model.specs.Property.{read, as_int as as_int_lem};
 ghost use Rattle.mh_group.specs.declared.attribute.Attribute.TheVariants as attribute;
 ghost use Rattle.mh_display.specs.Painting.{IsPainted};
 ghost use Rattle.mh_display.specs.Panels.{IsFrame, area_of_frame};
@@ -17,12 +16,13 @@ use crate::screen::Screen;
 use crate::spoiling::is_seen;
 use crate::texts::{Ink, paint_text};
 use crate::window::Window;
-use mh_base::Colour;
 use mh_group::{Attribute, Class};
-use mh_model::held::{as_colour, as_int};
+use mh_model::held::as_colour;
 use mh_model::{Line, Object};
 use mh_store::Kept;
-use mh_store::looks::area_of;
+use mh_store::looks::{
+    OPAQUE_WHITE, TRANSPARENT_BLACK, area_of, colour_of, fill_of, has_line, line_of, paint_of,
+};
 
 /// Paints what was found for a reference, if it is painted at all.
 pub(crate) fn paint_found(screen: &mut Screen, found: Option<&Kept>)
@@ -71,15 +71,9 @@ fn panel_of(object: &Object) -> Panel
     Panel {
         frame: Frame::of(&area_of(object)),
         has_line: has_line(object),
-        line: colour_of(object, Attribute::OrigRefLineColour, OPAQUE_BLACK),
-        fill: colour_of(object, Attribute::OrigRefFillColour, TRANSPARENT_BLACK),
+        line: line_of(object),
+        fill: fill_of(object),
     }
-}
-
-fn has_line(object: &Object) -> bool
-    ensures { result ≡ spec.has_line object.now }
-{
-    0 < as_int(object.read(Attribute::OrigLineWidth), 1)
 }
 
 fn paint_drawn(screen: &mut Screen, object: &Object)
@@ -127,42 +121,3 @@ fn ink_of(object: &Object) -> Ink
         colour: colour_of(object, Attribute::TextColour, OPAQUE_WHITE),
     }
 }
-
-/// The colour under the attribute; none where it paints nothing.
-fn colour_of(object: &Object, attribute: Attribute, default: Colour) -> Option<u32>
-    ensures { result ≡ spec.colour_of attribute default object.now }
-{
-    paint_of(as_colour(object.read(attribute), default))
-}
-
-/// The colour as a number of 24 bits; none where it paints nothing.
-fn paint_of(colour: Colour) -> Option<u32>
-    ensures { result ≡ spec.paint_of colour }
-{
-    if colour.transparency == 255 {
-        None
-    } else {
-        Some(u32::from(colour.red) * 65536 + u32::from(colour.green) * 256 + u32::from(colour.blue))
-    }
-}
-
-const OPAQUE_BLACK: Colour = Colour {
-    red: 0,
-    green: 0,
-    blue: 0,
-    transparency: 0,
-};
-
-const OPAQUE_WHITE: Colour = Colour {
-    red: 255,
-    green: 255,
-    blue: 255,
-    transparency: 0,
-};
-
-const TRANSPARENT_BLACK: Colour = Colour {
-    red: 0,
-    green: 0,
-    blue: 0,
-    transparency: 255,
-};

@@ -9,7 +9,7 @@ ghost use Rattle.mh_display.specs.Painting.{IsAll, IsComplete, IsDown, IsSet, ma
 ghost use Rattle.mh_display.specs.Surface.{IsClean, IsRight};
 
 use crate::looks::paint_found;
-use crate::marked::{Marked, settled};
+use crate::marked::settled;
 use crate::screen::Screen;
 use mh_base::ObjRef;
 use mh_store::Objects;
@@ -47,20 +47,7 @@ fn renew_cell(screen: &mut Screen, at: usize)
     if screen.is_settled(at) {
         return;
     }
-    screen.set(at, renewed(screen.at(at)));
-}
-
-fn renewed(old: Marked) -> Marked
-    ensures { result ≡ renewed_lem old }
-{
-    if old.mark == 0 {
-        old
-    } else {
-        Marked {
-            mark: 2,
-            cell: old.cell,
-        }
-    }
+    screen.unsettle(at);
 }
 
 /// Paints one visible below another, as long as a cell is stale. That is tested once for every eight visibles.

@@ -34,6 +34,9 @@ fn paint_row(screen: &mut Screen, panel: &Panel, row: usize, window: &Window)
     requires wide { window.now.right ≤ 60 }
     ensures { IsBetween (λ c. put_lem (inner_paint panel.now c)) (marked_at screen.old) (marked_at screen.new) (60 * row + window.now.left) (60 * row + window.now.right) }
 {
+    if screen.is_row_settled(row, window) {
+        return;
+    }
     for column in window.left..window.right {
         paint_cell(screen, panel, row, column);
     }

@@ -1,5 +1,5 @@
 //! `Screen`: the picture that is kept, and which of its cells are still to be painted.
-ghost use Rattle.std.specs.Prelude.{◌≡◌, ◌==◌, ◌<◌, ◌≤◌, IfOk, ℕ, true, not, slice_index, slice_set, vec_len};
+ghost use Rattle.std.specs.Prelude.{◌≡◌, ◌==◌, ◌<◌, ◌≤◌, ◌+◌, ◌*◌, IfOk, ℕ, true, not, slice_index, slice_set, vec_len};
 ghost use Rattle.std.specs.Option.{option_copied};
 ghost use Rattle.mh_model.specs.Planes.{blank};
 ghost use Rattle.mh_display.specs.Painting.{IsComplete, IsSet, marked_at, put as put_lem, with_marked};
@@ -7,6 +7,7 @@ ghost use Rattle.mh_display.specs.Surface.{IsClean, Spoils, is_stale};
 
 use crate::marked::{Marked, put};
 use crate::spoiling::spoil_found;
+use crate::window::Window;
 use mh_model::picture::CELLS;
 use mh_model::{Object, Picture};
 use std::alloc::{AllocError, Global};
@@ -63,7 +64,7 @@ impl Screen {
         ensures same { self.new.planes ≡ self.old.planes }
         ensures spoilt { Spoils (option_copied found.entry) self.old.marks self.new.marks }
     {
-        spoil_found(&mut self.marks, found);
+        spoil_found(self.marks.as_mut_slice(), found);
     }
 
     /// How many cells there are.
@@ -80,6 +81,19 @@ impl Screen {
         ensures { result ≡ ((marked_at self.now at).mark == 0) }
     {
         self.marks[at] == 0
+    }
+
+    /// Whether no cell of the window in this row is to be painted.
+    pub(crate) fn is_row_settled(&self, row: usize, window: &Window) -> bool
+        requires low { row < 36 }
+        requires wide { window.now.right ≤ 60 }
+        ensures { result ≡ true → (c : ℕ) → 60 * row + window.now.left ≤ c → c < 60 * row + window.now.right → (marked_at self.now c).mark ≡ 0 }
+    {
+        let start = 60 * row;
+        if window.right <= window.left {
+            return true;
+        }
+        has_none(&self.marks[start + window.left..start + window.right])
     }
 
     /// Whether no cell is to be painted.
@@ -108,6 +122,14 @@ impl Screen {
         }
     }
 
+    /// Of the cell nothing is settled.
+    pub(crate) fn unsettle(&mut self, at: usize)
+        requires { at < 2160 }
+        ensures { IsSet (marked_at self.old) (marked_at self.new) at (record { mark = 2; cell = (marked_at self.old at).cell }) }
+    {
+        self.marks[at] = 2;
+    }
+
     /// Puts a cell with its mark.
     pub(crate) fn set(&mut self, at: usize, new: Marked)
         requires { at < 2160 }
@@ -131,5 +153,16 @@ fn fill(marks: &mut Vec<u8>)
 fn has_none(marks: &[u8]) -> bool
     ensures { result ≡ true → (c : ℕ) → slice_index marks.now c ≡ 0 }
 {
-    marks.iter().all(|mark| *mark == 0)
+    most_of(marks) == 0
+}
+
+/// The highest mark, or 0. All are looked at, which many lanes do at once.
+fn most_of(marks: &[u8]) -> u8
+    ensures { result ≡ 0 → (c : ℕ) → slice_index marks.now c ≡ 0 }
+{
+    let mut most = 0;
+    for mark in marks {
+        most = most.max(*mark);
+    }
+    most
 }

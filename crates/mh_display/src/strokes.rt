@@ -26,6 +26,9 @@ fn paint_row(screen: &mut Screen, stroke: &Stroke, line: Option<u32>, row: usize
     requires wide { window.now.right ≤ 60 }
     ensures { IsBetween (λ c. put_lem (stroke_paint stroke.now line c)) (marked_at screen.old) (marked_at screen.new) (60 * row + window.now.left) (60 * row + window.now.right) }
 {
+    if screen.is_row_settled(row, window) {
+        return;
+    }
     for column in window.left..window.right {
         paint_cell(screen, stroke, line, row, column);
     }

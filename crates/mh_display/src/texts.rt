@@ -57,6 +57,9 @@ fn paint_row(
     ensures { IsBetween (λ c. put_lem (letter_paint ink area.now lines.now c)) (marked_at screen.old) (marked_at screen.new) (60 * row + window.now.left) (60 * row + window.now.right) }
 {
     let _ = lines.len();
+    if screen.is_row_settled(row, window) {
+        return;
+    }
     let first = first_column(area);
     for column in window.left..window.right {
         paint_cell(screen, ink, line, 60 * row + column, beside(column, first));

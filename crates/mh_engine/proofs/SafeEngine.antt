@@ -1,5 +1,5 @@
 -- Engines whose service was accepted.
-use Rattle.std.specs.Prelude.{◌≡◌, ℕ, zero, suc, true, false, List, Option, Some, None, slice_get, refl}
+use Rattle.std.specs.Prelude.{◌≡◌, ℕ, zero, suc, Bool, true, false, if◌then◌else◌, List, Option, Some, None, slice_get, refl}
 use Rattle.std.proofs.Common.{ap, sym, subst}
 use Rattle.mh_model.specs.declared.input.Waiting.{Waiting}
 use Rattle.mh_model.specs.declared.item.Item.{Item}
@@ -12,10 +12,15 @@ use Rattle.mh_model.proofs.SafeLemmas.{safe_front, safe_run, safe_stepped, safe_
 use Rattle.mh_engine.specs.Play.{Play}
 use Rattle.mh_machine.specs.Working.{IsPartly}
 use Rattle.mh_machine.specs.Rest.{is_faulted, judged, answer_by, answer_of}
+use Rattle.mh_machine.specs.declared.stepped.Stepped.TheVariants.{Ended}
 
 -- where the first item is not stuck, no step answers that it was
 pub unfaulted : (s : State) → front_fault s ≡ None → is_faulted (answer_of s) ≡ false
-unfaulted s free = by (slice_get s.work 0) (slice_get s.queue 0) free
+unfaulted s free =
+    elim s.ended as (λ (b : Bool). is_faulted (if b then Ended else answer_by (slice_get s.work 0) (slice_get s.queue 0) s) ≡ false) [
+      | true ↦ refl
+      | false ↦ by (slice_get s.work 0) (slice_get s.queue 0) free
+    ]
   where
     by : (m : Option Item) (next : Option Waiting) → fault_at m s ≡ None → is_faulted (answer_by m next s) ≡ false
     by (Some i) next e = ap (λ f. is_faulted (judged f)) e

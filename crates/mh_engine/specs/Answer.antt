@@ -3,7 +3,11 @@ use Rattle.std.specs.Prelude.{ℕ, Bool, true, false, not, ◌==◌, ◌||◌, �
 use Rattle.mh_model.specs.State.{State}
 use Rattle.mh_model.specs.declared.input.Move.{Move}
 use Rattle.mh_model.specs.declared.input.Move.TheVariants as move
-use Rattle.mh_model.specs.Step.{is_idle, is_full, moved, most_steps}
+use Rattle.std.specs.Option.{option_map}
+use Rattle.mh_model.specs.declared.input.Input.{Input}
+use Rattle.mh_model.specs.declared.input.Obstacle.{Obstacle}
+use Rattle.mh_model.specs.declared.input.Obstacle.TheVariants as obstacle
+use Rattle.mh_model.specs.Step.{is_settled, obstacle as obstacle_to, moved, most_steps}
 use Rattle.mh_engine.specs.Play.{Play}
 use Rattle.mh_engine.specs.declared.refusal.RefusedWhy.{RefusedWhy}
 use Rattle.mh_engine.specs.declared.refusal.RefusedWhy.TheVariants as refused
@@ -16,12 +20,19 @@ use Rattle.mh_engine.specs.declared.refusal.StepError.TheVariants as failed
 abbrev pub step_refusal : Play → Option StepError
 step_refusal p =
     if p.stopped then Some failed.Stopped
-    else (if is_idle p.state then None
+    else (if is_settled p.state then None
     else (if p.state.taken == most_steps then Some failed.CountFull else None))
 
--- why an engine takes no input, if it takes none: as many wait as may
-abbrev pub post_refusal : Play → Option RefusedWhy
-post_refusal p = if p.stopped then Some refused.Stopped else (if is_full p.state then Some refused.QueueFull else None)
+-- how an obstacle is told
+abbrev pub refusal_for : Obstacle → RefusedWhy
+refusal_for obstacle.Ended = refused.Ended
+refusal_for obstacle.TickRange = refused.TickRange
+refusal_for obstacle.ClockFull = refused.ClockFull
+refusal_for obstacle.QueueFull = refused.QueueFull
+
+-- why an engine does not take an input, if it does not
+abbrev pub post_refusal : Input → Play → Option RefusedWhy
+post_refusal i p = if p.stopped then Some refused.Stopped else option_map refusal_for (obstacle_to i p.state)
 
 -- whether an engine has stopped, after a move that could not be made: a step that was refused memory stops it
 abbrev pub stopped_after : StepError → Option Move → Bool → Bool
@@ -31,7 +42,7 @@ stopped_after _ _ before = before
 -- a step move is not counted where all steps are counted and there is something to do
 abbrev pub is_counted : Move → State → Bool
 is_counted (move.Post i) s = true
-is_counted move.Step s = not (s.taken == most_steps) || is_idle s
+is_counted move.Step s = not (s.taken == most_steps) || is_settled s
 
 -- each step move of a run is counted
 abbrev pub are_counted : List Move → State → Bool
@@ -43,6 +54,9 @@ are_counted (m ∷ ms) s = is_counted m s && are_counted ms (moved m s)
 abbrev pub refusal_number : RefusedWhy → Option ℕ
 refusal_number refused.NoMemory = None
 refusal_number refused.Stopped = Some 55
+refusal_number refused.Ended = Some 52
+refusal_number refused.TickRange = Some 54
+refusal_number refused.ClockFull = Some 53
 refusal_number refused.QueueFull = Some 51
 
 abbrev pub step_number : StepError → Option ℕ

@@ -1,17 +1,18 @@
-//! `Engine`: a machine that can be refused memory, and runs of it.
-ghost use Rattle.std.specs.Prelude.{◌≡◌, ◌+◌, ◌<◌, ◌^◌, true, false, None, [], length, take, slice_get, Some, IfOk, IfErr, OnOk, OnErr, IsErrOf, IsErrAnd, MatchOption};
+//! `Engine`: a machine that can be refused memory.
+ghost use Rattle.std.specs.Prelude.{◌≡◌, ◌+◌, ◌<◌, ◌^◌, true, false, None, Some, [], IfOk, IfErr, OnOk, OnErr, IsErrOf, IsErrAnd, MatchOption};
 ghost use Rattle.mh_model.specs.State.{begun};
-ghost use Rattle.mh_model.specs.Step.{step as step_lem, stepped, posted, is_full, is_idle, moved, advanced, run as run_lem, most_steps};
+ghost use Rattle.mh_model.specs.declared.input.Obstacle.{Obstacle};
+ghost use Rattle.mh_model.specs.Step.{step as step_lem, posted, obstacle, is_settled, advanced, most_steps};
 ghost use Rattle.mh_model.specs.Headline.{front_fault};
 ghost use Rattle.mh_model.specs.Safe.{IsSafe};
 ghost use Rattle.mh_model.specs.Picture.{shown};
 ghost use Rattle.mh_machine.specs.Rest.{answer_of, is_faulted, rest_of};
 ghost use Rattle.mh_machine.specs.Working.{IsPartly};
-ghost use Rattle.mh_engine.specs.Answer.{is_counted, are_counted, step_refusal, post_refusal, stopped_after};
+ghost use Rattle.mh_engine.specs.Answer.{refusal_for, step_refusal, post_refusal};
 
-use crate::refusal::{Refused, RefusedWhy, RunEnd, StepError, Unaccepted};
+use crate::refusal::{Refused, RefusedWhy, StepError, Unaccepted};
 use mh_machine::{Machine, Rest, Stepped, Unstarted};
-use mh_model::{Fault, Input, Move, Picture};
+use mh_model::{Fault, Input, Picture};
 use mh_service::Service;
 use mh_verify::Accepted;
 use std::alloc::{AllocError, Global};
@@ -24,7 +25,7 @@ use std::marker::Model;
 pub struct Engine {
     machine: Machine,
     stopped: bool,
-    accepted: bool,
+    pub(crate) accepted: bool,
 }
 
 impl Model for Engine {
@@ -74,18 +75,18 @@ impl Engine {
     /// Adds an input at the end of the queue. A refused one is handed back, and nothing changes.
     pub fn post(&mut self, input: Input) -> Result<(), Refused>
         ensures posted { OnOk result (self.new ≡ record self.old { state = posted input self.old.state }) }
-        ensures accepted { OnOk result ((self.old.stopped ≡ false) × (is_full self.old.state ≡ false)) }
+        ensures accepted { OnOk result ((self.old.stopped ≡ false) × (obstacle input self.old.state ≡ None)) }
         ensures stopped { IfErr result (λ refused. refused.why ≡ RefusedWhy.Stopped → self.old.stopped ≡ true) }
-        ensures full { IfErr result (λ refused. refused.why ≡ RefusedWhy.QueueFull → (self.old.stopped ≡ false) × (is_full self.old.state ≡ true)) }
+        ensures barred { IfErr result (λ refused. (o : Obstacle) → refused.why ≡ refusal_for o → (self.old.stopped ≡ false) × (obstacle input self.old.state ≡ Some o)) }
         ensures back { IfErr result (λ refused. refused.input ≡ input) }
         ensures kept { OnErr result (self.new ≡ self.old) }
-        ensures refused { MatchOption (post_refusal self.old) (IfErr result (λ refused. refused.why ≡ RefusedWhy.NoMemory)) (λ why. IsErrAnd result (λ refused. refused.why ≡ why)) }
+        ensures refused { MatchOption (post_refusal input self.old) (IfErr result (λ refused. refused.why ≡ RefusedWhy.NoMemory)) (λ why. IsErrAnd result (λ refused. refused.why ≡ why)) }
     {
         if self.stopped {
             return refuse(RefusedWhy::Stopped, input);
         }
-        if self.machine.is_full() {
-            return refuse(RefusedWhy::QueueFull, input);
+        if let Some(obstacle) = self.machine.obstacle(&input) {
+            return refuse(RefusedWhy::for_obstacle(obstacle), input);
         }
         match self.machine.post(input) {
             Ok(()) => Ok(()),
@@ -101,17 +102,19 @@ impl Engine {
         ensures never { self.old.accepted ≡ true → front_fault self.old.state ≡ None }
         ensures faultless { IfOk result (λ answer. self.old.accepted ≡ true → is_faulted answer ≡ false) }
         ensures running { OnOk result (self.old.stopped ≡ false) }
-        ensures room { OnOk result (self.old.state.taken ≡ most_steps → is_idle self.old.state ≡ true) }
+        ensures room { OnOk result (self.old.state.taken ≡ most_steps → is_settled self.old.state ≡ true) }
         ensures stopped { IsErrOf result StepError.Stopped → (self.old.stopped ≡ true) × (self.new ≡ self.old) }
-        ensures full { IsErrOf result StepError.CountFull → (self.old.state.taken ≡ most_steps) × (is_idle self.old.state ≡ false) × (self.new ≡ self.old) }
+        ensures full { IsErrOf result StepError.CountFull → (self.old.state.taken ≡ most_steps) × (is_settled self.old.state ≡ false) × (self.new ≡ self.old) }
         ensures no_memory { IsErrOf result StepError.NoMemory → self.new ≡ record self.old { stopped = true } }
-        ensures refused { MatchOption (step_refusal self.old) (IfErr result (λ why. (why ≡ StepError.NoMemory) × (is_idle self.old.state ≡ false))) (λ why. IsErrOf result why) }
+        ensures refused { MatchOption (step_refusal self.old) (IfErr result (λ why. (why ≡ StepError.NoMemory) × (is_settled self.old.state ≡ false))) (λ why. IsErrOf result why) }
     {
         if self.stopped {
             return Err(StepError::Stopped);
         }
-        if self.machine.is_idle() {
-            return Ok(Stepped::Idle);
+        match self.machine.rest() {
+            Rest::Ended => return Ok(Stepped::Ended),
+            Rest::Idle => return Ok(Stepped::Idle),
+            Rest::More => {}
         }
         if self.machine.taken() == u64::MAX {
             return Err(StepError::CountFull);
@@ -224,80 +227,4 @@ fn refuse(why: RefusedWhy, input: Input) -> Result<(), Refused>
     ensures { IsErrOf result (record { why = why; input = input }) }
 {
     Err(Refused { why, input })
-}
-
-/// One move of a run. A post that finds the queue full is passed over.
-fn make(engine: &mut Engine, next: &Move) -> Result<(), StepError>
-    ensures made { OnOk result (engine.new.state ≡ moved next.now engine.old.state) }
-    ensures counted { OnOk result (is_counted next.now engine.old.state ≡ true) }
-    ensures running { OnOk result ((engine.old.stopped ≡ false) × (engine.new.stopped ≡ false)) }
-    ensures kept { OnErr result (engine.new.state ≡ engine.old.state) }
-    ensures same { engine.new.accepted ≡ engine.old.accepted }
-    ensures stopped { IfErr result (λ why. why ≡ StepError.Stopped → engine.old.stopped ≡ true) }
-    ensures full { IfErr result (λ why. why ≡ StepError.CountFull → is_counted next.now engine.old.state ≡ false) }
-    ensures flag { IfErr result (λ why. engine.new.stopped ≡ stopped_after why (Some next.now) engine.old.stopped) }
-{
-    match next {
-        Move::Post(input) => post_or_pass(engine, *input),
-        Move::Step => step_on(engine),
-    }
-}
-
-fn step_on(engine: &mut Engine) -> Result<(), StepError>
-    ensures made { OnOk result (engine.new.state ≡ stepped engine.old.state) }
-    ensures counted { OnOk result (is_counted Move.Step engine.old.state ≡ true) }
-    ensures running { OnOk result ((engine.old.stopped ≡ false) × (engine.new.stopped ≡ false)) }
-    ensures kept { OnErr result (engine.new.state ≡ engine.old.state) }
-    ensures same { engine.new.accepted ≡ engine.old.accepted }
-    ensures stopped { IfErr result (λ why. why ≡ StepError.Stopped → engine.old.stopped ≡ true) }
-    ensures full { IfErr result (λ why. why ≡ StepError.CountFull → is_counted Move.Step engine.old.state ≡ false) }
-    ensures flag { IfErr result (λ why. engine.new.stopped ≡ stopped_after why (Some Move.Step) engine.old.stopped) }
-{
-    let _ = engine.step()?;
-    Ok(())
-}
-
-fn post_or_pass(engine: &mut Engine, input: Input) -> Result<(), StepError>
-    ensures made { OnOk result (engine.new.state ≡ posted input engine.old.state) }
-    ensures running { OnOk result ((engine.old.stopped ≡ false) × (engine.new.stopped ≡ false)) }
-    ensures kept { OnErr result (engine.new.state ≡ engine.old.state) }
-    ensures same { engine.new.accepted ≡ engine.old.accepted }
-    ensures stopped { IfErr result (λ why. why ≡ StepError.Stopped → engine.old.stopped ≡ true) }
-    ensures other { IfErr result (λ why. why ≡ StepError.CountFull → ⊥) }
-    ensures flag { engine.new.stopped ≡ engine.old.stopped }
-{
-    match engine.post(input) {
-        Ok(()) => Ok(()),
-        Err(refused) => match refused.why {
-            RefusedWhy::QueueFull => Ok(()),
-            RefusedWhy::Stopped => Err(StepError::Stopped),
-            RefusedWhy::NoMemory => Err(StepError::NoMemory),
-        },
-    }
-}
-
-/// Makes these moves in order. It ends early where memory is refused, where the engine has stopped, or
-/// where the count of steps is full, and then says how many moves were made.
-pub fn run(engine: &mut Engine, moves: &[Move]) -> Result<(), RunEnd>
-    ensures all { OnOk result (engine.new.state ≡ run_lem moves.now engine.old.state) }
-    ensures counted { OnOk result (are_counted moves.now engine.old.state ≡ true) }
-    ensures running { OnOk result (engine.old.stopped ≡ true → moves.now ≡ []) }
-    ensures part { IfErr result (λ end. engine.new.state ≡ run_lem (take end.made moves.now) engine.old.state) }
-    ensures before { IfErr result (λ end. are_counted (take end.made moves.now) engine.old.state ≡ true) }
-    ensures within { IfErr result (λ end. end.made < length moves.now) }
-    ensures stopped { IfErr result (λ end. end.why ≡ StepError.Stopped → (engine.old.stopped ≡ true) × (end.made ≡ 0)) }
-    ensures same { engine.new.accepted ≡ engine.old.accepted }
-    ensures never { engine.old.accepted ≡ true → front_fault engine.new.state ≡ None }
-    ensures faultless { engine.old.accepted ≡ true → engine.new.state.faults ≡ [] }
-    ensures full { IfErr result (λ end. end.why ≡ StepError.CountFull → are_counted (take (end.made + 1) moves.now) engine.old.state ≡ false) }
-    ensures flag { OnOk result (engine.new.stopped ≡ engine.old.stopped) }
-    ensures flag_after { IfErr result (λ end. engine.new.stopped ≡ stopped_after end.why (slice_get moves.now end.made) engine.old.stopped) }
-{
-    let _ = &engine.accepted;
-    for (made, next) in moves.iter().enumerate() {
-        if let Err(why) = make(engine, next) {
-            return Err(RunEnd { made, why });
-        }
-    }
-    Ok(())
 }

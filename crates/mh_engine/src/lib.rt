@@ -7,7 +7,9 @@
 
 pub mod engine;
 pub mod refusal;
+pub mod runs;
 
-pub use engine::{Engine, run};
+pub use engine::Engine;
 pub use mh_machine::{Rest, Stepped, Unstarted};
 pub use refusal::{Refused, RefusedWhy, RunEnd, StepError, Unaccepted};
+pub use runs::run;

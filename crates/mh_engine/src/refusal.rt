@@ -1,8 +1,8 @@
 //! Why the engine refuses a call.
 ghost use Rattle.std.specs.Prelude.{◌≡◌};
-ghost use Rattle.mh_engine.specs.Answer.{refusal_number, step_number};
+ghost use Rattle.mh_engine.specs.Answer.{refusal_number, refusal_for, step_number};
 
-use mh_model::Input;
+use mh_model::{Input, Obstacle};
 use mh_verify::Accepted;
 use std::alloc::AllocError;
 use thiserror::Error;
@@ -21,6 +21,15 @@ pub enum RefusedWhy {
     /// Number 55: a step of this engine was refused memory.
     #[error("55: the engine has stopped for want of memory")]
     Stopped,
+    /// Number 52: the application has quit.
+    #[error("52: the engine has ended")]
+    Ended,
+    /// Number 54: a tick is not of 1 to 60,000 milliseconds.
+    #[error("54: a tick is not of 1 to 60,000 milliseconds")]
+    TickRange,
+    /// Number 53: with the ticks that wait, the present would be past 4,294,967,295 milliseconds.
+    #[error("53: the clock is full")]
+    ClockFull,
     /// Number 51: as many inputs wait as may.
     #[error("51: the queue is full")]
     QueueFull,
@@ -34,7 +43,22 @@ impl RefusedWhy {
         match self {
             RefusedWhy::NoMemory => None,
             RefusedWhy::Stopped => Some(55),
+            RefusedWhy::Ended => Some(52),
+            RefusedWhy::TickRange => Some(54),
+            RefusedWhy::ClockFull => Some(53),
             RefusedWhy::QueueFull => Some(51),
+        }
+    }
+
+    /// How an obstacle is told.
+    pub(crate) fn for_obstacle(obstacle: Obstacle) -> RefusedWhy
+        ensures { result ≡ refusal_for obstacle }
+    {
+        match obstacle {
+            Obstacle::Ended => RefusedWhy::Ended,
+            Obstacle::TickRange => RefusedWhy::TickRange,
+            Obstacle::ClockFull => RefusedWhy::ClockFull,
+            Obstacle::QueueFull => RefusedWhy::QueueFull,
         }
     }
 }

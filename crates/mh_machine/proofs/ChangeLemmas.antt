@@ -151,6 +151,16 @@ exchanged v app os after ps own links locks taken e kept is_own index counted =
       counted = counted;
     }
 
+-- and when the application has been exchanged
+pub launched : (v : Service) (app : List ℕ) (after : Objects) (ps : List Fixed) (links : List (ObjRef × List ℕ)) (locks taken : ℕ)
+    → after ≡ record { application = map fresh ps; scene = [] } → ps ≡ group_parts v app → IsIndex links (ps ++ []) → locks ≤ taken
+    → Holds v app after links locks taken
+launched v app after ps links locks taken e own index counted = record {
+  own = begun_own ps after e ∙ own;
+  index = subst (IsIndex links) (sym (begun_parts ps after e)) index;
+  counted = counted;
+}
+
 -- what a machine keeps, when bodies have changed
 pub holds_changed : (v : Service) (app : List ℕ) (os after : Objects) (links : List (ObjRef × List ℕ)) (locks taken more : ℕ)
     → parts after.application ≡ parts os.application → parts after.scene ≡ parts os.scene → locks ≤ more → Holds v app os links locks taken → Holds v app after links locks more

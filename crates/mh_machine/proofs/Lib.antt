@@ -1,5 +1,5 @@
 pub mod ChangeLemmas
-pub mod CountLemmas
+pub mod TimeLemmas
 pub mod FrameLemmas
 pub mod LinkLemmas
 pub mod PlanLemmas

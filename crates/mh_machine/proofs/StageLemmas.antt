@@ -1,5 +1,5 @@
 -- Beside what has changed, the picture stays as it was.
-use Rattle.std.specs.Prelude.{◌≡◌, ℕ, ◌<◌, ◌==◌, Bool, true, false, not, if◌then◌else◌, List, [], ◌∷◌, ◌++◌, map, reverse, Option, Some, None, slice_index, refl}
+use Rattle.std.specs.Prelude.{◌≡◌, ℕ, ◌<◌, Bool, true, false, not, if◌then◌else◌, List, [], ◌∷◌, ◌++◌, map, reverse, Option, Some, None, refl}
 use Rattle.std.specs.Option.{option_map}
 use Rattle.std.proofs.Common.{ap, ◌∙◌, sym, subst, append_assoc, append-nil}
 use Rattle.std.proofs.lemmas.List.{reverse-append}
@@ -19,14 +19,13 @@ use Rattle.mh_model.specs.Lifecycle.{without, just_above, just_below}
 use Rattle.mh_group.specs.declared.attribute.Attribute.TheVariants as attribute
 use Rattle.mh_model.specs.declared.line.Line.{Line}
 use Rattle.mh_model.specs.Looks.{Paint, nothing, paint_by, text_paint, area_of, colour_of, transparent_black, opaque_white, lines_of_text}
-use Rattle.mh_model.specs.Picture.{cell_of, picture_of, back_or, back_under, mark_or, mark_under, cell_under, is_seen, painted, paint_at, cell_at, picture}
+use Rattle.mh_model.specs.Picture.{cell_of, back_or, back_under, mark_or, mark_under, is_seen, painted, paint_at, cell_at, picture}
 use Rattle.mh_model.specs.Planes.{Planes, IsWhole, blank}
 use Rattle.mh_model.specs.Rules.{is_at, on_body, changed_in, changed}
 use Rattle.mh_model.specs.Service.{same_ref, object_at}
 use Rattle.mh_model.specs.State.{Objects, all}
 use Rattle.mh_model.proofs.PlanesLemmas.{is_picture, cell_of-picture, blank-picture}
 use Rattle.mh_model.proofs.ServiceLemmas.{same_ref-same}
-use Rattle.mh_machine.specs.declared.plan.Stacking.{Stacking}
 use Rattle.mh_machine.specs.declared.plan.Stacking.TheVariants as stacking
 use Rattle.mh_machine.specs.Plans.{restacked}
 use Rattle.mh_machine.proofs.ChangeLemmas.{all_changed}

@@ -1,3 +1,4 @@
+pub mod Agenda
 pub mod Frames
 pub mod Holds
 pub mod Links
@@ -5,4 +6,5 @@ pub mod Pieces
 pub mod Plans
 pub mod Rest
 pub mod Stage
+pub mod Taking
 pub mod Working

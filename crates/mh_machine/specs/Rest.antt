@@ -20,15 +20,22 @@ answer_by (Some i) next s = judged (stuck i s)
 answer_by None (Some w) s = answer.Did
 answer_by None None s = answer.Idle
 
--- Idle where there is nothing to do, Faulted where the first item is stuck, else Did
+-- Ended where the engine has, Idle where there is nothing to do, Faulted where the first item is stuck, else Did
 abbrev pub answer_of : State → Stepped
-answer_of s = answer_by (slice_get s.work 0) (slice_get s.queue 0) s
+answer_of s = if s.ended then answer.Ended else answer_by (slice_get s.work 0) (slice_get s.queue 0) s
+
+-- there was nothing to do
+abbrev pub is_rest : Stepped → Bool
+is_rest answer.Idle = true
+is_rest answer.Ended = true
+is_rest _ = false
 
 abbrev pub is_faulted : Stepped → Bool
 is_faulted answer.Idle = false
+is_faulted answer.Ended = false
 is_faulted answer.Did = false
 is_faulted (answer.Faulted f) = true
 
 -- what is left to do
 abbrev pub rest_of : State → Rest
-rest_of s = if is_idle s then rest.Idle else rest.More
+rest_of s = if s.ended then rest.Ended else (if is_idle s then rest.Idle else rest.More)

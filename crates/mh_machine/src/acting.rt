@@ -5,7 +5,7 @@ ghost use Rattle.mh_model.specs.State.{all};
 ghost use Rattle.mh_model.specs.Step.{done};
 ghost use Rattle.mh_model.specs.Arguments as said;
 ghost use Rattle.mh_model.specs.Bodies.{changed_by};
-ghost use Rattle.mh_model.specs.Rules.{act_on, change_rule, ask_rule, put_rule, order_rule, transition_rule, lock_rule, locked, unlocked};
+ghost use Rattle.mh_model.specs.Rules.{act_on, change_rule, ask_rule, put_rule, order_rule, whole_rule, timer_rule, transition_rule, locked, unlocked, noted as noted_lem};
 ghost use Rattle.mh_machine.specs.Plans.{taken_from, MakesFound};
 
 use crate::plan::Plan;
@@ -16,7 +16,6 @@ use mh_actions::changes::edit_by;
 use mh_actions::putting::put_items;
 use mh_base::{GroupName, ObjRef, Value};
 use mh_group::ActionName;
-use mh_model::parts::is_transition;
 use mh_model::sort::{Sort, sort_of};
 use mh_model::{Act, Edit, Event, Item, Object, Target, Waiting};
 use std::alloc::{AllocError, Global};
@@ -56,7 +55,16 @@ impl Works {
         ensures kept { OnErr result (self.new.state ≡ self.old.state) }
     {
         let pieces = entering(self.alloc, group, self.service.parts(group))?;
-        self.commit_pieces(pieces)
+        self.commit_pieces(pieces)?;
+        self.note_entry(group);
+        Ok(())
+    }
+
+    /// Notes the moment in which a group is entered.
+    fn note_entry(&mut self, group: &GroupName)
+        ensures { self.new.state ≡ record self.old.state { moments = noted_lem group.now self.old.state } }
+    {
+        self.agenda.note_entry(&self.application, group);
     }
 
     /// An action that is not stuck.
@@ -101,11 +109,7 @@ impl Works {
             Sort::Ask => self.do_ask(act, at),
             Sort::Put => self.do_put(act, at),
             Sort::Order => self.do_order(act, at),
-            Sort::Whole if is_transition(act.name) => self.do_transition(at),
-            Sort::Whole => {
-                self.do_lock(act.name);
-                Ok(())
-            }
+            Sort::Whole => self.do_whole(act, at),
         }
     }
 
@@ -167,18 +171,41 @@ impl Works {
         self.commit(plan)
     }
 
-    /// The lock of the screen. The first one keeps the picture that is there.
-    fn do_lock(&mut self, name: ActionName)
+    /// An action that is a matter of the whole machine.
+    #[inline(never)]
+    fn do_whole(&mut self, act: &Act, at: &ObjRef) -> Result<(), AllocError>
         requires { self.old.state.taken + 1 < 2 ^ 64 }
-        ensures { self.new.state ≡ lock_rule name (taken_from self.old.state) }
+        ensures done { let values = said.values (all self.old.state.objects) act.now.arguments in
+            OnOk result (self.new.state
+            ≡ whole_rule act.now.name values at.now (taken_from self.old.state)) }
+        ensures kept { OnErr result (self.new.state ≡ self.old.state) }
     {
-        match name {
-            ActionName::LockScreen => self.lock(),
-            ActionName::UnlockScreen => self.unlock(),
-            _ => self.pass(),
+        match act.name {
+            ActionName::TransitionTo | ActionName::Launch | ActionName::Quit => {
+                self.do_transition(act.name, at)
+            }
+            ActionName::SetTimer => self.do_timer(act, at),
+            ActionName::LockScreen => Ok(self.lock()),
+            ActionName::UnlockScreen => Ok(self.unlock()),
+            _ => Ok(self.pass()),
         }
     }
 
+    /// A timer of the target is set or cancelled.
+    fn do_timer(&mut self, act: &Act, at: &ObjRef) -> Result<(), AllocError>
+        requires { self.old.state.taken + 1 < 2 ^ 64 }
+        ensures done { let values = said.values (all self.old.state.objects) act.now.arguments in
+            OnOk result (self.new.state ≡ timer_rule values at.now (taken_from self.old.state)) }
+        ensures kept { OnErr result (self.new.state ≡ self.old.state) }
+    {
+        let values = values(self.alloc, self.stage.objects(), act.arguments.as_slice())?;
+        self.agenda
+            .set_timers(values.as_slice(), &self.application, &at.group)?;
+        self.pass();
+        Ok(())
+    }
+
+    /// The first lock keeps the picture that is there.
     fn lock(&mut self)
         requires { self.old.state.taken + 1 < 2 ^ 64 }
         ensures { self.new.state ≡ locked (taken_from self.old.state) }
@@ -200,14 +227,13 @@ impl Works {
         self.locks = self.locks.saturating_sub(1);
     }
 
-    /// A transition to another scene.
-    #[inline(never)]
-    fn do_transition(&mut self, at: &ObjRef) -> Result<(), AllocError>
+    /// A transition to another scene or application, or to the end.
+    fn do_transition(&mut self, name: ActionName, at: &ObjRef) -> Result<(), AllocError>
         requires { self.old.state.taken + 1 < 2 ^ 64 }
-        ensures done { OnOk result (self.new.state ≡ transition_rule at.now (taken_from self.old.state)) }
+        ensures done { OnOk result (self.new.state ≡ transition_rule name at.now (taken_from self.old.state)) }
         ensures kept { OnErr result (self.new.state ≡ self.old.state) }
     {
-        let plan = self.plan_transition(&at.group)?;
+        let plan = self.plan_transition(name, &at.group)?;
         self.commit(plan)
     }
 }

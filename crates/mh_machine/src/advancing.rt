@@ -1,7 +1,8 @@
 //! Many steps at once.
-ghost use Rattle.std.specs.Prelude.{◌≡◌, false, IfOk, OnOk, OnErr};
+ghost use Rattle.std.specs.Prelude.{◌≡◌, false, true, IfOk, OnOk, OnErr};
 ghost use Rattle.mh_model.specs.Safe.{IsSafe};
 ghost use Rattle.mh_model.specs.Step.{advanced, stepped};
+ghost use Rattle.mh_machine.specs.Rest.{is_rest};
 ghost use Rattle.mh_machine.specs.Working.{IsPartly};
 
 use crate::Stepped;
@@ -36,7 +37,7 @@ impl Works {
         Ok(())
     }
 
-    #[tactic(auto, using(crate::proofs::StepLemmas::stepped_room, crate::proofs::StepLemmas::stepped_on_idle, crate::proofs::StepLemmas::step_on_idle, crate::proofs::StepLemmas::stepped_full))]
+    #[tactic(auto, using(crate::proofs::StepLemmas::stepped_room, crate::proofs::StepLemmas::stepped_at_rest, crate::proofs::StepLemmas::step_at_rest, crate::proofs::StepLemmas::stepped_full))]
     /// Makes a step, if another is counted, and tells whether one more may change anything.
     fn go_on(&mut self) -> Result<bool, AllocError>
         ensures made { OnOk result (self.new.state ≡ stepped self.old.state) }
@@ -50,7 +51,7 @@ impl Works {
         Ok(goes_on(&answer))
     }
 
-    #[tactic(auto, using(crate::proofs::StepLemmas::stepped_room, crate::proofs::StepLemmas::stepped_on_idle, crate::proofs::StepLemmas::step_on_idle, crate::proofs::StepLemmas::stepped_full))]
+    #[tactic(auto, using(crate::proofs::StepLemmas::stepped_room, crate::proofs::StepLemmas::stepped_at_rest, crate::proofs::StepLemmas::step_at_rest, crate::proofs::StepLemmas::stepped_full))]
     /// The same from a safe state, which stays safe.
     fn go_on_free(&mut self) -> Result<bool, AllocError>
         requires { IsSafe self.old.state }
@@ -68,7 +69,7 @@ impl Works {
 }
 
 fn goes_on(answer: &Stepped) -> bool
-    ensures { result ≡ false → answer.now ≡ Stepped.Idle }
+    ensures { result ≡ false → is_rest answer.now ≡ true }
 {
-    !matches!(answer, Stepped::Idle)
+    !matches!(answer, Stepped::Idle | Stepped::Ended)
 }

@@ -2,7 +2,6 @@
 //!
 //! What most steps do has a shorter way: pieces that are put, and one body that is changed, need no plan.
 ghost use Rattle.std.specs.Prelude.{◌≡◌, ◌+◌, ◌<◌, ◌≤◌, ◌^◌, OnOk, OnErr, vec_len, vec_capacity};
-ghost use Rattle.std.specs.VecDeque.{deque_len, deque_capacity};
 ghost use Rattle.mh_actions.specs.Listed.{listed};
 ghost use Rattle.mh_model.specs.Bodies.{given};
 ghost use Rattle.mh_model.specs.Edits.{edited};
@@ -11,6 +10,7 @@ ghost use Rattle.mh_model.specs.Service.{parts};
 ghost use Rattle.mh_machine.specs.Pieces.{written};
 ghost use Rattle.mh_machine.specs.Plans.{change_at, committed, put_for_first, taken_from, changed_as, given_all, queued, worked, noted, room_for};
 
+use crate::agenda::Agenda;
 use crate::piece::Piece;
 use crate::plan::{Change, Gift, Plan, Puts};
 use crate::stage::Stage;
@@ -18,9 +18,8 @@ use crate::work::Work;
 use crate::works::Works;
 use mh_actions::putting::Put;
 use mh_base::{ObjRef, Value};
-use mh_model::{Edit, Event, Fault, Waiting};
+use mh_model::{Edit, Event, Fault};
 use std::alloc::AllocError;
-use std::collections::VecDeque;
 
 /// The most items that one action puts.
 const MOST_PUT: usize = 2;
@@ -44,14 +43,14 @@ impl Works {
         make_room(
             &mut self.work,
             &mut self.stage,
-            &mut self.queue,
+            &mut self.agenda,
             &mut self.faults,
             &puts,
         )?;
         apply(&mut self.stage, change)?;
         self.stage.restack(stacking);
         put(&mut self.work, puts);
-        wait(&mut self.queue, waits);
+        wait(&mut self.agenda, waits);
         note(&mut self.faults, fault);
         self.transition = self.transition || begins;
         self.taken += 1;
@@ -174,22 +173,24 @@ impl Works {
 fn make_room(
     work: &mut Work,
     stage: &mut Stage,
-    queue: &mut VecDeque<Waiting>,
+    agenda: &mut Agenda,
     faults: &mut Vec<Fault>,
     puts: &Puts,
 ) -> Result<(), AllocError>
     ensures work { work.new.items ≡ work.old.items }
     ensures objects { stage.new.objects ≡ stage.old.objects }
     ensures stack { stage.new.stack ≡ stage.old.stack }
-    ensures queue { queue.new.items ≡ queue.old.items }
+    ensures moments { agenda.new.moments ≡ agenda.old.moments }
+    ensures timers { agenda.new.timers ≡ agenda.old.timers }
+    ensures queue { agenda.new.queue ≡ agenda.old.queue }
     ensures faults { faults.new.items ≡ faults.old.items }
     ensures pieces { OnOk result (room_for puts.now ≤ work.new.room) }
     ensures place { OnOk result (1 ≤ stage.new.room) }
-    ensures event { OnOk result (deque_len queue.new + 1 ≤ deque_capacity queue.new) }
+    ensures event { OnOk result (1 ≤ agenda.new.room) }
     ensures fault { OnOk result (vec_len faults.new + 1 ≤ vec_capacity faults.new) }
 {
     stage.reserve()?;
-    queue.reserve(1)?;
+    agenda.reserve(1)?;
     faults.reserve(1)?;
     make_work_room(work, puts)
 }
@@ -257,12 +258,14 @@ fn put(work: &mut Work, puts: Puts)
     }
 }
 
-fn wait(queue: &mut VecDeque<Waiting>, event: Option<Event>)
-    requires { deque_len queue.old + 1 ≤ deque_capacity queue.old }
-    ensures { queue.new.items ≡ queued event queue.old.items }
+fn wait(agenda: &mut Agenda, event: Option<Event>)
+    requires { 1 ≤ agenda.old.room }
+    ensures moments { agenda.new.moments ≡ agenda.old.moments }
+    ensures timers { agenda.new.timers ≡ agenda.old.timers }
+    ensures queue { agenda.new.queue ≡ queued event agenda.old.queue }
 {
     if let Some(event) = event {
-        queue.push_back_reserved(Waiting::Event(event));
+        agenda.add(event);
     }
 }
 

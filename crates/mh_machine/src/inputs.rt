@@ -1,78 +1,114 @@
-//! What an input puts when it is taken.
-ghost use Rattle.std.specs.Prelude.{◌≡◌, IfOk, Some};
+//! What comes of inputs when they are taken.
+ghost use Rattle.std.specs.Prelude.{◌≡◌, Some, IfOk, OnOk, ◌++◌, map, filter};
 ghost use Rattle.std.specs.Option.{option_copied};
 ghost use Rattle.mh_model.specs.Service.{parts};
 ghost use Rattle.mh_model.specs.State.{all};
-ghost use Rattle.mh_model.specs.Step.{key_items, waiting_items, register_of as register_of_lem, key_event as key_event_lem};
+ghost use Rattle.mh_model.specs.Step as spec;
 ghost use Rattle.mh_machine.specs.Links.{IsIndex};
+ghost use Rattle.mh_machine.specs.Taking.{told_by};
 ghost use Rattle.mh_machine.specs.Pieces.{written};
 
 use crate::links::Links;
 use crate::piece::Piece;
 use mh_base::{EventType, GroupName, ObjRef, Value};
-use mh_group::Attribute;
+use mh_group::{Attribute, Class};
 use mh_model::held::as_int;
-use mh_model::parts::{group_ref, part_at};
-use mh_model::{Event, Fixed, FixedPart, Input, Key, Waiting};
+use mh_model::parts::group_ref;
+use mh_model::{Event, Key, Object};
 use mh_store::Objects;
 use std::alloc::{AllocError, Global};
 
-/// What an input puts: the effects of the links that hear it. The current scene is given with its
-/// parts.
-pub fn input_pieces(
-    alloc: Global,
-    input: Input,
-    group: &GroupName,
-    group_parts: &[FixedPart],
-    links: &Links,
-    objects: &Objects,
-) -> Result<Vec<Piece>, AllocError>
-    requires { IsIndex links.now (parts (all objects.now)) }
-    ensures { let current = Some (group.now, group_parts.now) in
-        IfOk result (λ pieces. written pieces.items
-        ≡ waiting_items (Waiting.Input input) current (all objects.now)) }
-{
-    let Input::Key(key) = input;
-    key_pieces(alloc, key, group, group_parts, links, objects)
-}
-
-fn key_pieces(
+/// What a key puts: the effects of the links that hear it as an event of the scene.
+pub fn key_pieces(
     alloc: Global,
     key: Key,
-    group: &GroupName,
-    group_parts: &[FixedPart],
+    scene: &GroupName,
     links: &Links,
     objects: &Objects,
 ) -> Result<Vec<Piece>, AllocError>
     requires { IsIndex links.now (parts (all objects.now)) }
-    ensures { let current = Some (group.now, group_parts.now) in
-        IfOk result
-        (λ pieces. written pieces.items ≡ key_items key current (all objects.now)) }
+    ensures { IfOk result (λ pieces. written pieces.items
+        ≡ spec.key_items key (Some scene.now) (all objects.now)) }
 {
-    let source = group_ref(group)?;
-    if !key.passes(register_of(part_at(group_parts, &source))) {
+    let source = group_ref(scene)?;
+    if !key.passes(register_of(objects.get(&source))) {
         return Ok(Vec::new(alloc));
     }
     links.heard(alloc, &key_event(key, source), objects)
 }
 
 /// The register of a scene that says which keys it hears.
-fn register_of(scene: Option<&Fixed>) -> i32
-    ensures { result ≡ register_of_lem (option_copied scene.entry) }
+fn register_of(scene: Option<&Object>) -> i32
+    ensures { result ≡ spec.register_of (option_copied scene.entry) }
 {
     match scene {
-        Some(part) => as_int(part.properties.get(Attribute::InputEventReg), 4),
+        Some(object) => as_int(object.read(Attribute::InputEventReg), 4),
         None => 4,
     }
 }
 
 /// The event that a key is to a scene.
 fn key_event(key: Key, source: ObjRef) -> Event
-    ensures { result ≡ key_event_lem key source }
+    ensures { result ≡ spec.key_event key source }
 {
     Event {
         source,
         kind: EventType::UserInput,
         data: Some(Value::Int(key.number())),
     }
+}
+
+/// An event of the engine, as one of the active application.
+pub fn engine_event(number: i32, application: &GroupName) -> Result<Event, AllocError>
+    ensures { IfOk result (λ event. event ≡ spec.engine_event number application.now) }
+{
+    Ok(Event {
+        source: group_ref(application)?,
+        kind: EventType::EngineEvent,
+        data: Some(Value::Int(number)),
+    })
+}
+
+/// The events of all streams that run, in the order of the objects.
+pub fn stream_events(alloc: Global, tag: i32, objects: &Objects) -> Result<Vec<Event>, AllocError>
+    ensures { IfOk result (λ events. events.items
+        ≡ map (spec.stream_event tag) (filter spec.is_streaming (all objects.now))) }
+{
+    let mut events = Vec::new(alloc);
+    for place in 0..objects.len() {
+        push_stream_event(&mut events, tag, objects.at(place))?;
+    }
+    Ok(events)
+}
+
+fn push_stream_event(
+    events: &mut Vec<Event>,
+    tag: i32,
+    found: Option<&Object>,
+) -> Result<(), AllocError>
+    ensures { OnOk result (events.new.items ≡ events.old.items ++ told_by tag (option_copied found.entry)) }
+{
+    match found {
+        Some(object) if is_streaming(object) => {
+            events.push(stream_event(tag, object)?)?;
+            Ok(())
+        }
+        _ => Ok(()),
+    }
+}
+
+fn is_streaming(object: &Object) -> bool
+    ensures { result ≡ spec.is_streaming object.now }
+{
+    matches!(object.fixed.get().class, Class::Stream) && object.body.running
+}
+
+fn stream_event(tag: i32, object: &Object) -> Result<Event, AllocError>
+    ensures { IfOk result (λ event. event ≡ spec.stream_event tag object.now) }
+{
+    Ok(Event {
+        source: object.fixed.get().key.clone()?,
+        kind: EventType::StreamEvent,
+        data: Some(Value::Int(tag)),
+    })
 }

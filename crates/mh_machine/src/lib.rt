@@ -6,7 +6,9 @@
 
 mod acting;
 mod advancing;
+mod agenda;
 mod committing;
+mod exchanging;
 mod inputs;
 mod lifecycle;
 mod links;
@@ -20,6 +22,8 @@ pub mod rest;
 mod stage;
 pub mod stepped;
 mod stepping;
+mod taking;
+mod timing;
 pub mod unstarted;
 mod work;
 mod works;

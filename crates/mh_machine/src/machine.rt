@@ -4,13 +4,13 @@ ghost use Rattle.mh_model.specs.Headline.{front_fault};
 ghost use Rattle.mh_model.specs.Picture.{shown};
 ghost use Rattle.mh_model.specs.Safe.{IsSafe};
 ghost use Rattle.mh_model.specs.State.{begun};
-ghost use Rattle.mh_model.specs.Step.{advanced, posted, step as step_lem, is_full as is_full_lem, is_idle as is_idle_lem};
+ghost use Rattle.mh_model.specs.Step.{advanced, posted, step as step_lem, obstacle as obstacle_lem, is_settled as is_settled_lem};
 ghost use Rattle.mh_machine.specs.Rest.{answer_of, rest_of};
 ghost use Rattle.mh_machine.specs.Working.{IsPartly};
 
 use crate::works::Works;
 use crate::{Rest, Stepped, Unstarted};
-use mh_model::{Fault, Input, Picture};
+use mh_model::{Fault, Input, Obstacle, Picture};
 use mh_service::Service;
 use std::alloc::{AllocError, Global};
 use std::marker::Model;
@@ -43,24 +43,24 @@ impl Machine {
         Ok(Machine { works })
     }
 
-    /// Whether as many inputs wait as may.
-    pub fn is_full(&self) -> bool
-        ensures { result ≡ is_full_lem self.now }
+    /// Why an input cannot join the queue, if it cannot.
+    pub fn obstacle(&self, input: &Input) -> Option<Obstacle>
+        ensures { result ≡ obstacle_lem input.now self.now }
     {
-        self.works.is_full()
+        self.works.obstacle(input)
     }
 
     /// Adds an input at the end of the queue.
     pub fn post(&mut self, input: Input) -> Result<(), AllocError>
-        requires { is_full_lem self.old ≡ false }
+        requires { obstacle_lem input self.old ≡ None }
         ensures posted { OnOk result (self.new ≡ posted input self.old) }
         ensures kept { OnErr result (self.new ≡ self.old) }
     {
         self.works.post(input)
     }
 
-    /// One step: the first item of the work list, or the first input where there is no work. Where memory
-    /// is refused, everything stays as it was.
+    /// One step: the first item of the work list, or the first that waits where there is no work. Where
+    /// memory is refused, everything stays as it was.
     pub fn step(&mut self) -> Result<Stepped, AllocError>
         requires { self.old.taken + 1 < 2 ^ 64 }
         ensures step { OnOk result (self.new ≡ step_lem self.old) }
@@ -107,18 +107,20 @@ impl Machine {
         made
     }
 
-    /// Whether there is nothing to do.
-    pub fn is_idle(&self) -> bool
-        ensures { result ≡ is_idle_lem self.now }
+    /// Whether nothing is left to do.
+    pub fn is_settled(&self) -> bool
+        ensures { result ≡ is_settled_lem self.now }
     {
-        self.works.is_idle()
+        self.works.is_settled()
     }
 
     /// What is left to do.
     pub fn rest(&self) -> Rest
         ensures { result ≡ rest_of self.now }
     {
-        if self.is_idle() {
+        if self.works.ended {
+            Rest::Ended
+        } else if self.works.is_idle() {
             Rest::Idle
         } else {
             Rest::More

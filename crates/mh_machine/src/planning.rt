@@ -6,9 +6,9 @@ ghost use Rattle.std.specs.Prelude.{◌≡◌, ◌∷◌, ◌++◌, ◌+◌, ◌
 ghost use Rattle.mh_model.specs.State.{all};
 ghost use Rattle.mh_model.specs.Step.{done};
 ghost use Rattle.mh_model.specs.Arguments as said;
-ghost use Rattle.mh_model.specs.Rules.{ask_rule, order_rule, transition_rule};
-ghost use Rattle.mh_model.specs.Items.{leaving as leaving_lem};
-ghost use Rattle.mh_model.specs.Service.{group_parts, with_parts};
+ghost use Rattle.mh_model.specs.Rules.{ask_rule, order_rule, transition_rule, way_out as way_out_lem};
+ghost use Rattle.mh_model.specs.Service.{with_parts};
+ghost use Rattle.std.specs.Option.{option_map};
 ghost use Rattle.mh_machine.specs.Plans.{committed, gifts, taken_from};
 
 use crate::lifecycle::{
@@ -16,14 +16,15 @@ use crate::lifecycle::{
     run_pieces,
 };
 use crate::plan::{Change, Gift, Plan, Puts, Stacking};
-use crate::puts::leaving;
+use crate::puts::{leaving, quitting};
 use crate::work::Work;
 use crate::works::Works;
 use mh_actions::answers::answers;
 use mh_actions::arguments::{receivers, values};
 use mh_actions::ordering::reorder_by;
 use mh_base::{GroupName, ObjRef, Seq, Value};
-use mh_model::{Act, Edit, Item};
+use mh_group::ActionName;
+use mh_model::{Act, Edit, FixedPart, Item};
 use std::alloc::{AllocError, Global};
 
 impl Works {
@@ -142,10 +143,14 @@ impl Works {
         Ok(Plan::of(Change::Nothing, stacking, Vec::new(self.alloc)))
     }
 
-    /// A transition to another scene; nothing where one has begun.
-    pub(crate) fn plan_transition(&self, target: &GroupName) -> Result<Plan, AllocError>
-        ensures { (r : _) → r.group ≡ target.now → IfOk result
-            (λ plan. committed plan self.now.state ≡ transition_rule r (taken_from self.now.state)) }
+    /// A transition; nothing where one has begun.
+    pub(crate) fn plan_transition(
+        &self,
+        name: ActionName,
+        target: &GroupName,
+    ) -> Result<Plan, AllocError>
+        ensures { (r : _) → r.group ≡ target.now → IfOk result (λ plan. committed plan self.now.state
+            ≡ transition_rule name r (taken_from self.now.state)) }
     {
         if self.transition {
             return Ok(Plan::putting(Vec::new(self.alloc)));
@@ -153,30 +158,40 @@ impl Works {
         Ok(Plan {
             change: Change::Nothing,
             stacking: Stacking::Same,
-            puts: Puts::Instead(self.way_out(target)?),
+            puts: Puts::Instead(self.way_out(name, target)?),
             waits: None,
             begins: true,
             fault: None,
         })
     }
 
-    /// The work list that leaves the configuration for another scene.
-    fn way_out(&self, target: &GroupName) -> Result<Work, AllocError>
-        ensures { IfOk result (λ work. work.items
-            ≡ leaving_lem (group_parts self.now.state.service self.now.state.application)
-            (with_parts self.now.state.service self.now.state.scene) target.now) }
+    /// The work list that leaves the configuration.
+    fn way_out(&self, name: ActionName, target: &GroupName) -> Result<Work, AllocError>
+        ensures { (r : _) → r.group ≡ target.now → IfOk result (λ work. work.items
+            ≡ way_out_lem name r (taken_from self.now.state)) }
     {
         let own = self.service.parts(&self.application);
-        let pieces = match &self.scene {
-            None => leaving(self.alloc, own, None, target)?,
-            Some(scene) => leaving(
-                self.alloc,
-                own,
-                Some((scene, self.service.parts(scene))),
-                target,
-            )?,
+        let scene = self.current_scene();
+        let pieces = match name {
+            ActionName::TransitionTo => leaving(self.alloc, own, scene, target)?,
+            ActionName::Launch => {
+                let last = Item::Exchange(target.clone()?);
+                quitting(self.alloc, &self.application, own, scene, last)?
+            }
+            _ => quitting(self.alloc, &self.application, own, scene, Item::End)?,
         };
         Work::of_pieces(self.alloc, pieces)
+    }
+
+    /// The current scene with its parts, if there is one.
+    fn current_scene(&self) -> Option<(&GroupName, &[FixedPart])>
+        ensures { option_map (λ s. (s.0.now, s.1.now)) result
+            ≡ with_parts self.now.state.service self.now.state.scene }
+    {
+        match &self.scene {
+            None => None,
+            Some(scene) => Some((scene, self.service.parts(scene))),
+        }
     }
 }
 

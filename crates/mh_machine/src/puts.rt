@@ -7,8 +7,8 @@ ghost use Rattle.mh_model.specs.Items.{is_initially_active as is_initially_activ
 ghost use Rattle.mh_model.specs.Items.{is_shared as is_shared_lem};
 ghost use Rattle.mh_model.specs.Property.{as_effect, held};
 ghost use Rattle.mh_machine.specs.Pieces.{items_of, written};
-ghost use Rattle.mh_model.specs.Items.{application_halts, group_effect, scene_halts};
-ghost use Rattle.mh_model.specs.Items.{entering as entering_lem, leaving as leaving_lem};
+ghost use Rattle.mh_model.specs.Items.{unshared_halts, group_effect, all_halts, scene_closing, scene_halts};
+ghost use Rattle.mh_model.specs.Items.{entering as entering_lem, leaving as leaving_lem, quitting as quitting_lem};
 
 use crate::piece::Piece;
 use mh_base::{EventType, GroupName, ObjRef};
@@ -57,13 +57,60 @@ pub fn leaving(
         IfOk result (λ pieces. written pieces.items ≡ leaving_lem application.now left target.now) }
 {
     let mut pieces = Vec::new(alloc);
-    if let Some((name, parts)) = scene {
-        push_group_effect(&mut pieces, name, parts, Attribute::OnCloseDown)?;
-        push_scene_halts(&mut pieces, parts)?;
-    }
-    push_application_halts(&mut pieces, application)?;
+    push_scene_closing(&mut pieces, scene)?;
+    push_scene_halts(&mut pieces, scene)?;
+    push_unshared_halts(&mut pieces, application)?;
     push(&mut pieces, Piece::One(Item::Exchange(target.clone()?)))?;
     Ok(pieces)
+}
+
+/// What leaves the application, given with its parts, and the scene, and then puts the last item.
+pub fn quitting(
+    alloc: Global,
+    application: &GroupName,
+    parts: &[FixedPart],
+    scene: Option<(&GroupName, &[FixedPart])>,
+    last: Item,
+) -> Result<Vec<Piece>, AllocError>
+    ensures { let left = option_map (λ s. (s.0.now, s.1.now)) scene.entry in
+        IfOk result (λ pieces. written pieces.items
+        ≡ quitting_lem application.now parts.now left last) }
+{
+    let mut pieces = Vec::new(alloc);
+    push_scene_closing(&mut pieces, scene)?;
+    push_group_effect(&mut pieces, application, parts, Attribute::OnCloseDown)?;
+    push_scene_halts(&mut pieces, scene)?;
+    push_all_halts(&mut pieces, parts)?;
+    push(&mut pieces, Piece::One(last))?;
+    Ok(pieces)
+}
+
+/// Puts what the scene does when it closes down behind these pieces, if there is one.
+fn push_scene_closing(
+    pieces: &mut Vec<Piece>,
+    scene: Option<(&GroupName, &[FixedPart])>,
+) -> Result<(), AllocError>
+    ensures { let left = option_map (λ s. (s.0.now, s.1.now)) scene.entry in
+        OnOk result (written pieces.new.items ≡ written pieces.old.items ++ scene_closing left) }
+{
+    match scene {
+        Some((name, parts)) => push_group_effect(pieces, name, parts, Attribute::OnCloseDown),
+        None => Ok(()),
+    }
+}
+
+/// Puts a Halt of each part of the scene that can run behind these pieces, if there is one.
+fn push_scene_halts(
+    pieces: &mut Vec<Piece>,
+    scene: Option<(&GroupName, &[FixedPart])>,
+) -> Result<(), AllocError>
+    ensures { let left = option_map (λ s. (s.0.now, s.1.now)) scene.entry in
+        OnOk result (written pieces.new.items ≡ written pieces.old.items ++ scene_halts left) }
+{
+    match scene {
+        Some((_, parts)) => push_all_halts(pieces, parts),
+        None => Ok(()),
+    }
 }
 
 /// Puts the actions of an effect of the part behind these pieces.
@@ -131,9 +178,9 @@ fn push_runs(pieces: &mut Vec<Piece>, parts: &[FixedPart]) -> Result<(), AllocEr
     Ok(())
 }
 
-/// Puts a Halt of each part of the scene that can run behind these pieces, the last first.
-fn push_scene_halts(pieces: &mut Vec<Piece>, parts: &[FixedPart]) -> Result<(), AllocError>
-    ensures { let halted = scene_halts parts.now in
+/// Puts a Halt of each part that can run behind these pieces, the last first.
+fn push_all_halts(pieces: &mut Vec<Piece>, parts: &[FixedPart]) -> Result<(), AllocError>
+    ensures { let halted = all_halts parts.now in
         OnOk result (written pieces.new.items ≡ written pieces.old.items ++ halted) }
 {
     for part in parts.iter().rev() {
@@ -145,9 +192,9 @@ fn push_scene_halts(pieces: &mut Vec<Piece>, parts: &[FixedPart]) -> Result<(), 
     Ok(())
 }
 
-/// The same for the application, whose shared parts go on.
-fn push_application_halts(pieces: &mut Vec<Piece>, parts: &[FixedPart]) -> Result<(), AllocError>
-    ensures { let halted = application_halts parts.now in
+/// The same but for shared parts, which go on.
+fn push_unshared_halts(pieces: &mut Vec<Piece>, parts: &[FixedPart]) -> Result<(), AllocError>
+    ensures { let halted = unshared_halts parts.now in
         OnOk result (written pieces.new.items ≡ written pieces.old.items ++ halted) }
 {
     for part in parts.iter().rev() {

@@ -5,6 +5,8 @@
 pub enum Rest {
     /// The next step does something.
     More,
-    /// There is no work and no input.
+    /// There is no work and nothing that waits.
     Idle,
+    /// The application has quit.
+    Ended,
 }

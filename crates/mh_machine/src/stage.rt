@@ -152,6 +152,17 @@ impl Stage {
         reorder(&mut self.stack, at, how);
     }
 
+    /// Puts the objects of another application in the place of all that are there. On the stack stays
+    /// nothing.
+    pub fn launch(&mut self, alloc: Global, application: Group)
+        ensures objects { self.new.objects ≡ record { application = application; scene = [] } }
+        ensures stack { self.new.stack ≡ [] }
+    {
+        self.objects.launch(application);
+        self.stack = Stack::new(alloc);
+        self.screen.spoil_all();
+    }
+
     /// Puts the objects of another scene in the place of those that are there. On the stack stays what is
     /// the application's.
     pub fn exchange(&mut self, scene: Group, application: &GroupName)

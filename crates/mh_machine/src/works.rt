@@ -2,27 +2,27 @@
 //!
 //! A step marks the cells in which it can be seen, and paints nothing; `settle` paints them. So a machine
 //! that makes many steps at once paints once.
-ghost use Rattle.std.specs.Prelude.{◌≡◌, ◌∷◌, [], ◌+◌, ◌<◌, ◌^◌, false, IfOk, IfErr, OnOk, OnErr, map};
+ghost use Rattle.std.specs.Prelude.{◌≡◌, ◌∷◌, [], ◌+◌, ◌<◌, ◌^◌, None, IfOk, IfErr, OnOk, OnErr, map};
 ghost use Rattle.mh_display.specs.Surface.{IsClean};
 ghost use Rattle.mh_model.specs.Service.{group_parts, fresh, parts};
 ghost use Rattle.mh_model.specs.State.{begun, all};
-ghost use Rattle.mh_model.specs.Step.{posted, inputs, is_full as is_full_lem, is_idle as is_idle_lem};
+ghost use Rattle.mh_model.specs.Step.{posted, obstacle as obstacle_lem, is_past_the_last as is_past_the_last_lem, is_in_range as is_in_range_lem, is_idle as is_idle_lem, is_settled as is_settled_lem};
 ghost use Rattle.mh_model.specs.Picture.{shown};
 ghost use Rattle.mh_model.specs.Planes.{blank};
 ghost use Rattle.mh_machine.specs.Links.{IsIndex};
 
 use crate::Unstarted;
+use crate::agenda::Agenda;
 use crate::links::Links;
 use crate::pair::both;
 use crate::puts::entrance;
 use crate::stage::Stage;
 use crate::work::Work;
 use mh_base::GroupName;
-use mh_model::{Fault, Input, Item, Picture, Waiting};
+use mh_model::{Fault, Input, Item, Obstacle, Picture};
 use mh_service::Service;
 use mh_store::Group;
 use std::alloc::{AllocError, Global};
-use std::collections::VecDeque;
 use std::marker::Model;
 
 /// The works of a machine. A contract sees the state, and which cells are still to be painted.
@@ -33,9 +33,10 @@ pub struct Works {
     pub(crate) scene: Option<GroupName>,
     pub(crate) stage: Stage,
     pub(crate) links: Links,
-    pub(crate) queue: VecDeque<Waiting>,
+    pub(crate) agenda: Agenda,
     pub(crate) work: Work,
     pub(crate) transition: bool,
+    pub(crate) ended: bool,
     pub(crate) locks: u64,
     pub(crate) frozen: Picture,
     pub(crate) taken: u64,
@@ -56,9 +57,12 @@ impl Model for Works {
         scene = w.scene;
         objects = w.stage.objects;
         stack = w.stage.stack;
-        queue = w.queue.items;
+        timers = w.agenda.timers;
+        queue = w.agenda.queue;
         work = w.work.items;
+        moments = w.agenda.moments;
         transition = w.transition;
+        ended = w.ended;
         locks = w.locks;
         frozen = w.frozen;
         taken = w.taken;
@@ -70,8 +74,8 @@ impl Model for Works {
     ghost invariant = { λ w. Holds w.service w.application w.stage.objects w.links w.locks w.taken };
 }
 
-/// The most inputs that wait.
-const MOST_INPUTS: usize = 256;
+/// How long a tick may be, in milliseconds.
+const LONGEST_TICK: u32 = 60_000;
 
 impl Works {
     /// The works at the start: the start application is there, and is about to be entered. Where memory is
@@ -112,9 +116,10 @@ impl Works {
             scene: None,
             stage,
             links,
-            queue: VecDeque::new(alloc),
+            agenda: Agenda::new(alloc),
             work,
             transition: false,
+            ended: false,
             locks: 0,
             frozen,
             taken: 0,
@@ -123,32 +128,52 @@ impl Works {
         }
     }
 
-    /// Whether as many inputs wait as may.
-    pub fn is_full(&self) -> bool
-        ensures { result ≡ is_full_lem self.now.state }
+    /// Why an input cannot join the queue, if it cannot.
+    pub fn obstacle(&self, input: &Input) -> Option<Obstacle>
+        ensures { result ≡ obstacle_lem input.now self.now.state }
     {
-        if self.queue.len() < MOST_INPUTS {
-            return false;
+        if self.ended {
+            Some(Obstacle::Ended)
+        } else if !is_in_range(input) {
+            Some(Obstacle::TickRange)
+        } else if self.is_past_the_last(input) {
+            Some(Obstacle::ClockFull)
+        } else if self.agenda.is_full() {
+            Some(Obstacle::QueueFull)
+        } else {
+            None
         }
-        waiting_inputs(&self.queue) >= MOST_INPUTS
+    }
+
+    /// Whether a tick would lead past the last moment, behind all that wait.
+    fn is_past_the_last(&self, input: &Input) -> bool
+        ensures { result ≡ is_past_the_last_lem input.now self.now.state }
+    {
+        self.agenda.is_late(input)
     }
 
     /// Adds an input at the end of the queue.
     pub fn post(&mut self, input: Input) -> Result<(), AllocError>
-        requires { is_full_lem self.old.state ≡ false }
+        requires { obstacle_lem input self.old.state ≡ None }
         ensures posted { OnOk result (self.new.state ≡ posted input self.old.state) }
         ensures kept { OnErr result (self.new.state ≡ self.old.state) }
         ensures marks { self.new.marks ≡ self.old.marks }
     {
-        self.queue.push_back(Waiting::Input(input))?;
-        Ok(())
+        self.agenda.post(input)
     }
 
-    /// Whether there is nothing to do.
+    /// Whether there is no work and nothing that waits.
     pub fn is_idle(&self) -> bool
         ensures { result ≡ is_idle_lem self.now.state }
     {
-        self.work.is_empty() && self.queue.is_empty()
+        self.work.is_empty() && self.agenda.is_empty()
+    }
+
+    /// Whether nothing is left to do.
+    pub fn is_settled(&self) -> bool
+        ensures { result ≡ is_settled_lem self.now.state }
+    {
+        self.ended || self.is_idle()
     }
 
     /// Paints what the steps so far have left to be painted.
@@ -207,14 +232,14 @@ fn prepare(alloc: Global, service: &Service) -> Result<Beginning, AllocError>
     })
 }
 
-/// How many inputs wait; events are not counted.
-fn waiting_inputs(queue: &VecDeque<Waiting>) -> usize
-    ensures { result ≡ inputs queue.now.items }
+/// Whether a tick is as long as it may be.
+fn is_in_range(input: &Input) -> bool
+    ensures { result ≡ is_in_range_lem input.now }
 {
-    queue
-        .iter()
-        .filter(|waiting| matches!(waiting, Waiting::Input(_)))
-        .count()
+    match input {
+        Input::Tick(length) => 1 <= *length && *length <= LONGEST_TICK,
+        _ => true,
+    }
 }
 
 /// The work at the start: the group is entered.

@@ -248,6 +248,10 @@ data_kept (value.Octets os ∷ []) p b = if_kept (fits_octets os) _ b b refl ref
 data_kept (value.Content name ∷ []) p b = refl
 data_kept _ p b = refl
 
+register_kept : (vs : List Value) (p : Fixed) (b : Body) → (changed_by action.SetInputRegister vs p b).value ≡ b.value
+register_kept (value.Int n ∷ []) p b = refl
+register_kept _ p b = refl
+
 pub gives_said : GivesWhatItSays
 gives_said action.SetVariable vs p b q h = gives_set vs p b q h
 gives_said action.Add vs p b q h = gives_add vs p b q h
@@ -266,6 +270,7 @@ gives_said action.Clear vs p b q h = inl h
 gives_said action.DrawLine vs p b q h = by_kept action.DrawLine draw_line_kept vs p b q h
 gives_said action.DrawRectangle vs p b q h = by_kept action.DrawRectangle draw_box_kept vs p b q h
 gives_said action.SetData vs p b q h = by_kept action.SetData data_kept vs p b q h
+gives_said action.SetInputRegister vs p b q h = by_kept action.SetInputRegister register_kept vs p b q h
 gives_said _ vs p b q h = inl h
 
 pub answers_plain : AnswersNoReference
@@ -334,12 +339,6 @@ each_listed _ = refl
 one_comes : (p : EventType → Bool) (r : ObjRef) (kind : EventType) (b : Bool) → p kind ≡ true → list_all p (kinds (emit_if b r kind) ++ []) ≡ true
 one_comes p r kind true h = both_true h refl
 one_comes p r kind false h = refl
-
-both_come : (p : EventType → Bool) (r : ObjRef) (first second : EventType) (a b : Bool) → p first ≡ true → p second ≡ true → list_all p (kinds (emit_if a r first ++ emit_if b r second) ++ []) ≡ true
-both_come p r first second true true h k = both_true h (both_true k refl)
-both_come p r first second true false h k = both_true h refl
-both_come p r first second false true h k = both_true k refl
-both_come p r first second false false h k = refl
 
 either_comes : (p : EventType → Bool) (r : ObjRef) (first second : EventType) (a b : Bool) → p first ≡ true → p second ≡ true → list_all p (kinds (emit_if a r first) ++ (kinds (emit_if b r second) ++ [])) ≡ true
 either_comes p r first second true true h k = both_true h (both_true k refl)

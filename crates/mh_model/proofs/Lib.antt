@@ -6,4 +6,8 @@ pub mod ServiceLemmas
 pub mod FaultLemmas
 pub mod DescribingLemmas
 pub mod WorkLemmas
+pub mod StateLemmas
+pub mod TimeLemmas
+pub mod RuleLemmas
+pub mod TakenLemmas
 pub mod SafeLemmas

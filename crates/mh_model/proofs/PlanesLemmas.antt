@@ -1,22 +1,14 @@
 -- Planes, number by number.
-use Rattle.std.specs.Prelude.{◌≡◌, ℕ, ◌<◌, List, [], ◌++◌, length, take, drop, replicate, slice_index, refl}
-use Rattle.std.proofs.Common.{ap, ◌∙◌, arith, append-nil}
-use Rattle.std.proofs.Math.ListN.{drop_of_length-le}
-use Rattle.std.proofs.lemmas.List.{take_all, length-replicate, get_or-replicate}
-use Rattle.std.proofs.lemmas.List.FromFn.{fill_by_all, get_or-map-range_with_len, length-map-range_with_len}
+use Rattle.std.specs.Prelude.{◌≡◌, ℕ, ◌<◌, List, [], length, replicate, slice_index, refl}
+use Rattle.std.proofs.Common.{ap, arith}
+use Rattle.std.proofs.lemmas.List.{length-replicate, get_or-replicate}
+use Rattle.std.proofs.lemmas.List.FromFn.{fill_by_all, get_or-map-range_with_len}
 use Rattle.mh_model.specs.declared.cell.Cell.{Cell}
 use Rattle.mh_model.specs.Planes.{Planes, IsWhole, flat, blank}
 use Rattle.mh_model.specs.Picture.{plane, picture_of, cell_of, cell_at}
 
 pub same_planes : (a b c d e f : List ℕ) → a ≡ d → b ≡ e → c ≡ f → ◌≡◌ {A = Planes} (record { scalars = a; fores = b; backs = c }) (record { scalars = d; fores = e; backs = f })
 same_planes a b c d e f p q r = rw (p, q, r) refl
-
--- a plane that was lent whole comes back whole
-pub lent_whole : (xs ys : List ℕ) (n : ℕ) → length xs ≡ n → length ys ≡ n → take n (xs ++ drop (length xs) ys) ≡ xs
-lent_whole xs ys n all same =
-    let rest : drop (length xs) ys ≡ [] = drop_of_length-le ys (omega (arith, all, same)) in
-    let joined : xs ++ drop (length xs) ys ≡ xs = ap (λ (t : List ℕ). xs ++ t) rest ∙ append-nil xs in
-    ap (take n) joined ∙ take_all n xs (omega (arith, all))
 
 -- the number of a plane at a place
 pub slice_index-plane : (f : ℕ → ℕ) (c : ℕ) → c < 2160 → slice_index (plane f) c ≡ f c
@@ -27,14 +19,6 @@ slice_index-plane f c inside = get_or-map-range_with_len f 0 2160 c c 0 inside (
 pub is_plane : (f : ℕ → ℕ) (xs : List ℕ) → length xs ≡ 2160 → ((c : ℕ) → c < 2160 → slice_index xs c ≡ f c) → xs ≡ plane f
 unfolding plane
 is_plane f xs whole each = fill_by_all f xs 2160 0 whole each
-
-pub length-plane : (f : ℕ → ℕ) → length (plane f) ≡ 2160
-unfolding plane
-length-plane f = length-map-range_with_len f 0 2160
-
--- planes of functions that agree on the cells
-pub same_plane : (f g : ℕ → ℕ) → ((c : ℕ) → c < 2160 → f c ≡ g c) → plane f ≡ plane g
-same_plane f g each = is_plane g (plane f) (length-plane f) (λ c inside. slice_index-plane f c inside ∙ each c inside)
 
 -- planes with the cells of a picture are that picture
 pub is_picture : (f : ℕ → Cell) (p : Planes) → IsWhole p → ((c : ℕ) → c < 2160 → cell_of p c ≡ f c) → p ≡ picture_of f

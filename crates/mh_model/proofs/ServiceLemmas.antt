@@ -11,7 +11,7 @@ use Rattle.std.proofs.lemmas.Slice.Eq.{bytes_eq-Decides}
 use Rattle.mh_base.specs.declared.obj_ref.ObjRef.{ObjRef}
 use Rattle.mh_group.specs.declared.class.Class.{Class}
 use Rattle.mh_group.specs.declared.class.Class.TheVariants as class
-use Rattle.mh_group.specs.Table.{is_link, is_group_class, is_scene, is_application}
+use Rattle.mh_group.specs.Table.{is_link, is_group_class, is_application}
 use Rattle.mh_model.specs.declared.config.Config.{Config}
 use Rattle.mh_model.specs.declared.object.Fixed.{Fixed}
 use Rattle.mh_model.specs.Service.{Service, same_ref, part_at, group_ref, group_parts, is_in}
@@ -177,15 +177,15 @@ found_group g ps o h e =
     by class.Link is = absurd cc
     by _ is = refl
 
--- an object that is found under another number is no scene
-pub found_ingredient : (r : ObjRef) (ps : List Fixed) (o : Fixed) → (r.number == 0) ≡ false → list_all is_whole ps ≡ true → part_at r ps ≡ Some o → is_scene o.class ≡ false
-found_ingredient r ps o other h e =
-    let hit = found (λ (x : Fixed). same_ref r x.key) is_whole ps o h e in
-    let key : r ≡ o.key = same_ref-same r o.key hit.0 in
-    let numbered : (o.key.number == 0) ≡ false = ap (λ (k : ObjRef). k.number == 0) (sym key) ∙ other in
-    let no_group : not (is_group_class o.class) ≡ true = ap (λ (b : Bool). if b then is_group_class o.class else not (is_group_class o.class)) (sym numbered) ∙ hit.1 in
-    by o.class no_group
+-- a group that is found is found under number 0
+pub found_numbered : (r : ObjRef) (ps : List Fixed) (o : Fixed) → list_all is_whole ps ≡ true → part_at r ps ≡ Some o → is_group_class o.class ≡ true → (r.number == 0) ≡ true
+found_numbered r ps o h e is = by (o.key.number == 0) refl
   where
-    by : (k : Class) → not (is_group_class k) ≡ true → is_scene k ≡ false
-    by class.Scene is = absurd cc
-    by _ is = refl
+    hit : (same_ref r o.key ≡ true) × (is_whole o ≡ true)
+    hit = found (λ (x : Fixed). same_ref r x.key) is_whole ps o h e
+
+    by : (b : Bool) → (o.key.number == 0) ≡ b → (r.number == 0) ≡ true
+    by true numbered = ap (λ (k : ObjRef). k.number == 0) (same_ref-same r o.key hit.0) ∙ numbered
+    by false numbered =
+        let no_group : not (is_group_class o.class) ≡ true = ap (λ (b : Bool). if b then is_group_class o.class else not (is_group_class o.class)) (sym numbered) ∙ hit.1 in
+        absurd cc

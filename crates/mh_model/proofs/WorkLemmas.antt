@@ -11,10 +11,11 @@ use Rattle.mh_base.specs.declared.value.Value.{Value}
 use Rattle.mh_base.specs.declared.value.Value.TheVariants as value
 use Rattle.mh_base.specs.declared.event.EventType.TheVariants as event
 use Rattle.mh_group.specs.declared.class.Class.{Class}
+use Rattle.mh_group.specs.declared.class.Class.TheVariants as class
 use Rattle.mh_group.specs.declared.attribute.Attribute.TheVariants as attribute
 use Rattle.mh_group.specs.declared.action_name.ActionName.{ActionName}
 use Rattle.mh_group.specs.declared.action_name.ActionName.TheVariants as action
-use Rattle.mh_group.specs.Table.{is_link, is_scene, admits, is_runnable}
+use Rattle.mh_group.specs.Table.{is_link, is_scene, is_application, is_group_class, admits, is_runnable}
 use Rattle.mh_model.specs.declared.act.Act.{Act}
 use Rattle.mh_model.specs.declared.config.Config.{Config}
 use Rattle.mh_model.specs.declared.event.Event.{Event}
@@ -22,17 +23,16 @@ use Rattle.mh_model.specs.declared.item.Item.{Item}
 use Rattle.mh_model.specs.declared.item.Item.TheVariants as item
 use Rattle.mh_model.specs.declared.object.Fixed.{Fixed}
 use Rattle.mh_model.specs.declared.object.Object.{Object}
-use Rattle.mh_model.specs.declared.act.Target.TheVariants as target
 use Rattle.mh_model.specs.Property.{held, as_effect, as_value, as_event}
 use Rattle.mh_model.specs.Service.{Service, same_ref, part_at, parts, group_ref, group_parts, with_parts}
-use Rattle.mh_model.specs.Items.{hears_source, hears_type, hears_data, matches, acts, heard, plain_event, is_initially_active, runs, halts, effect_of, group_effect, entering, is_shared, closing, leaving}
+use Rattle.mh_model.specs.Items.{hears_source, hears_type, hears_data, matches, acts, heard, plain_event, is_initially_active, runs, halts, effect_of, group_effect, entering, is_shared, scene_closing, scene_halts, leaving, quitting}
 use Rattle.mh_model.specs.Faults.{is_transition, object_faults, admitted_faults}
 use Rattle.mh_model.specs.Known.{known_before, class_at}
 use Rattle.mh_model.specs.Configuration.{is_group_of, present, is_among}
 use Rattle.mh_model.specs.Active.{has_source, is_active, actions, leads_to}
 use Rattle.mh_model.specs.Safe.{is_there, is_fine, IsSafeItem, IsSafeWork}
 use Rattle.mh_model.proofs.FaultLemmas.{fit_object}
-use Rattle.mh_model.proofs.ServiceLemmas.{and_left, and_right, all_left, all_right, same_ref-same, is_whole, found_group, found_ingredient}
+use Rattle.mh_model.proofs.ServiceLemmas.{and_left, and_right, all_left, all_right, same_ref-same, is_whole, found_group, found_numbered}
 
 -- actions put in front of safe work
 pub safe_acts : (v : Service) (cs : List Config) (c : Config) (as_written : List Act) (rest : List Item) → list_all (is_fine v cs c) as_written ≡ true → IsSafeWork v cs c rest → IsSafeWork v cs c (acts as_written ++ rest)
@@ -179,64 +179,118 @@ safe_entering v cs c g rest is there k =
     let joined : (start ++ runs active ++ last) ++ rest ≡ start ++ (runs active ++ (last ++ rest)) = append_assoc (start ++ runs active) last rest ∙ append_assoc start (runs active) (last ++ rest) in
     subst (IsSafeWork v cs c) (sym joined) whole_list
 
--- what leaving a configuration for a scene puts
+-- Leaving
+
+-- items that are safe in front of all safe work
+abbrev pub IsSafeFront : Service → List Config → Config → List Item → Type 0
+IsSafeFront v cs c is = (rest : List Item) → IsSafeWork v cs c rest → IsSafeWork v cs c (is ++ rest)
+
+both_safe : (v : Service) (cs : List Config) (c : Config) (is js : List Item) → IsSafeFront v cs c is → IsSafeFront v cs c js → IsSafeFront v cs c (is ++ js)
+both_safe v cs c is js f g rest k = subst (IsSafeWork v cs c) (sym (append_assoc is js rest)) (f (js ++ rest) (g rest k))
 
 abbrev pub IsFineScene : Service → List Config → Config → Option (List ℕ) → Type 0
 IsFineScene v cs c None = Unit {0}
 IsFineScene v cs c (Some g) = IsFineGroup v cs c g
 
-safe_closing : (v : Service) (cs : List Config) (c : Config) (scene : Option (List ℕ)) (rest : List Item) → IsFineScene v cs c scene → IsSafeWork v cs c rest → IsSafeWork v cs c (closing (with_parts v scene) ++ rest)
-safe_closing v cs c None rest is k = k
-safe_closing v cs c (Some g) rest is k =
-    let start = group_effect g (group_parts v g) attribute.OnCloseDown in
-    let stopped : List Fixed = filter (λ p. is_runnable p.class) (reverse (group_parts v g)) in
-    subst (IsSafeWork v cs c) (sym (append_assoc start (halts stopped) rest)) (safe_close_down v cs c g (halts stopped ++ rest) is (safe_halts v cs c stopped rest k))
+safe_closing : (v : Service) (cs : List Config) (c : Config) (scene : Option (List ℕ)) → IsFineScene v cs c scene → IsSafeFront v cs c (scene_closing (with_parts v scene))
+safe_closing v cs c None is rest k = k
+safe_closing v cs c (Some g) is rest k = safe_close_down v cs c g rest is k
 
+safe_scene_halts : (v : Service) (cs : List Config) (c : Config) (scene : Option (List ℕ)) → IsSafeFront v cs c (scene_halts (with_parts v scene))
+safe_scene_halts v cs c None rest k = k
+safe_scene_halts v cs c (Some g) rest k = safe_halts v cs c (filter (λ p. is_runnable p.class) (reverse (group_parts v g))) rest k
+
+-- what leaving a configuration for a scene puts
 pub safe_leaving : (v : Service) (cs : List Config) (c : Config) (app : List ℕ) (scene : Option (List ℕ)) (target : List ℕ) → IsFineScene v cs c scene → IsSafeItem v cs c (item.Exchange target) → IsSafeWork v cs c (leaving (group_parts v app) (with_parts v scene) target)
 safe_leaving v cs c app scene target is k =
     let stopped : List Fixed = filter (λ p. is_runnable p.class && not (is_shared p)) (reverse (group_parts v app)) in
-    let last : List Item = item.Exchange target ∷ [] in
-    subst (IsSafeWork v cs c) (sym (append_assoc (closing (with_parts v scene)) (halts stopped) last)) (safe_closing v cs c scene (halts stopped ++ last) is (safe_halts v cs c stopped last (k, tt)))
+    let ends = both_safe v cs c (scene_closing (with_parts v scene)) (scene_halts (with_parts v scene)) (safe_closing v cs c scene is) (safe_scene_halts v cs c scene) in
+    both_safe v cs c (scene_closing (with_parts v scene) ++ scene_halts (with_parts v scene)) (halts stopped) ends (safe_halts v cs c stopped) (item.Exchange target ∷ []) (k, tt)
 
--- Transitions
+-- what leaving the application puts, in front of a last item
+pub safe_quitting : (v : Service) (cs : List Config) (c : Config) (app : List ℕ) (scene : Option (List ℕ)) (last : Item) → IsFineGroup v cs c app → IsFineScene v cs c scene → IsSafeItem v cs c last → IsSafeWork v cs c (quitting app (group_parts v app) (with_parts v scene) last)
+safe_quitting v cs c app scene last own is k =
+    let stopped : List Fixed = filter (λ p. is_runnable p.class) (reverse (group_parts v app)) in
+    let down : List Item = group_effect app (group_parts v app) attribute.OnCloseDown in
+    let close = scene_closing (with_parts v scene) in
+    let ends = both_safe v cs c close down (safe_closing v cs c scene is) (λ rest safe. safe_close_down v cs c app rest own safe) in
+    let halted = both_safe v cs c (close ++ down) (scene_halts (with_parts v scene)) ends (safe_scene_halts v cs c scene) in
+    both_safe v cs c (close ++ down ++ scene_halts (with_parts v scene)) (halts stopped) halted (safe_halts v cs c stopped) (last ∷ []) (k, tt)
 
--- what is found where nothing is wrong with the target of a transition is a scene
-scene_found : (n : ActionName) (r : ObjRef) (ps : List Fixed) → is_transition n ≡ true → object_faults (λ k. admits k n) n r (class_at r ps) ≡ [] → (p : Fixed) × (part_at r ps ≡ Some p) × (is_scene p.class ≡ true)
-scene_found n r ps is e = by (part_at r ps) refl e
+-- Groups that actions name
+
+-- what is found where nothing is wrong with an object
+fit_found : (is : Class → Bool) (n : ActionName) (r : ObjRef) (ps : List Fixed) → object_faults is n r (class_at r ps) ≡ [] → (p : Fixed) × (part_at r ps ≡ Some p) × (is p.class ≡ true)
+fit_found is n r ps e = by (part_at r ps) refl e
   where
-    admitted : (n : ActionName) → is_transition n ≡ true → (k : Class) → admits k n ≡ true → is_scene k ≡ true
-    admitted action.TransitionTo e k f = f
-    admitted _ e k f = absurd cc
-
-    by : (m : Option Fixed) → part_at r ps ≡ m → object_faults (λ k. admits k n) n r (option_map (λ (p : Fixed). p.class) m) ≡ [] → (p : Fixed) × (part_at r ps ≡ Some p) × (is_scene p.class ≡ true)
+    by : (m : Option Fixed) → part_at r ps ≡ m → object_faults is n r (option_map (λ (p : Fixed). p.class) m) ≡ [] → (p : Fixed) × (part_at r ps ≡ Some p) × (is p.class ≡ true)
     by None same e = absurd cc
     by (Some p) same e =
-        let fit = fit_object (λ k. admits k n) n r (Some p.class) e in
+        let fit = fit_object is n r (Some p.class) e in
         let class_is : p.class ≡ fit.0 = ap (λ (m : Option Class). option_map_or (λ (k : Class). k) m p.class) fit.1 in
-        (p, same, admitted n is p.class (subst (λ (k : Class). admits k n ≡ true) (sym class_is) fit.2))
+        (p, same, subst (λ (k : Class). is k ≡ true) (sym class_is) fit.2)
 
--- a transition with whose target nothing is wrong leads to a scene of the service
-transition_target : (v : Service) (c : Config) (n : ActionName) (r : ObjRef) → list_all is_whole (present v c) ≡ true → is_transition n ≡ true → admitted_faults (known_before v (present v c)) n r ≡ [] → ((r.number == 0) ≡ true) × (is_group_of is_scene v r.group ≡ true)
+-- what a timer is set for is a group that is present
+pub timer_there : (ps : List Fixed) (r : ObjRef) → list_all is_whole ps ≡ true → object_faults (λ k. admits k action.SetTimer) action.SetTimer r (class_at r ps) ≡ [] → is_there (group_ref r.group) ps ≡ true
+timer_there ps r whole free =
+    let hit = fit_found (λ k. admits k action.SetTimer) action.SetTimer r ps free in
+    let zeroth : r.number ≡ 0 = (Decides-eqb r.number 0).0 (found_numbered r ps hit.0 whole hit.1 hit.2) in
+    let itself : r ≡ group_ref r.group = λ i. record { group = r.group; number = zeroth i } in
+    ap (λ (m : Option Fixed). option_map_or (λ (p : Fixed). true) m false) (ap (λ (q : ObjRef). part_at q ps) (sym itself) ∙ hit.1)
+
+-- what a transition leads to is a group
+leads_to_group : (n : ActionName) (k : Class) → is_transition n ≡ true → admits k n ≡ true → is_group_class k ≡ true
+leads_to_group action.TransitionTo class.Scene is e = refl
+leads_to_group action.TransitionTo _ is e = absurd cc
+leads_to_group action.Launch class.Application is e = refl
+leads_to_group action.Launch _ is e = absurd cc
+leads_to_group _ k is e = absurd cc
+
+-- a transition with whose target nothing is wrong leads to a group of the service, of the class that it takes
+transition_target : (v : Service) (c : Config) (n : ActionName) (r : ObjRef) → list_all is_whole (present v c) ≡ true → is_transition n ≡ true → admitted_faults (known_before v (present v c)) n r ≡ [] → ((r.number == 0) ≡ true) × (is_group_of (λ k. admits k n) v r.group ≡ true)
 transition_target v c n r whole is h = by_number (r.number == 0) refl
   where
     looked : (b : Bool) → (r.number == 0) ≡ b → object_faults (λ k. admits k n) n r (if true && b then class_at r (group_parts v r.group) else class_at r (present v c)) ≡ []
     looked b e = subst (λ (t : Bool). object_faults (λ k. admits k n) n r (if true && t then class_at r (group_parts v r.group) else class_at r (present v c)) ≡ []) e (subst (λ (t : Bool). object_faults (λ k. admits k n) n r (if t && r.number == 0 then class_at r (group_parts v r.group) else class_at r (present v c)) ≡ []) is h)
 
-    by_number : (b : Bool) → (r.number == 0) ≡ b → ((r.number == 0) ≡ true) × (is_group_of is_scene v r.group ≡ true)
+    by_number : (b : Bool) → (r.number == 0) ≡ b → ((r.number == 0) ≡ true) × (is_group_of (λ k. admits k n) v r.group ≡ true)
     by_number true e =
-        let hit = scene_found n r (group_parts v r.group) is (looked true e) in
+        let hit = fit_found (λ k. admits k n) n r (group_parts v r.group) (looked true e) in
         let zeroth : r.number ≡ 0 = (Decides-eqb r.number 0).0 e in
         let itself : r ≡ group_ref r.group = λ i. record { group = r.group; number = zeroth i } in
         let at : part_at (group_ref r.group) (group_parts v r.group) ≡ Some hit.0 = ap (λ (q : ObjRef). part_at q (group_parts v r.group)) (sym itself) ∙ hit.1 in
-        (e, ap (λ (m : Option Fixed). option_map_or (λ (p : Fixed). is_scene p.class) m false) at ∙ hit.2)
+        (e, ap (λ (m : Option Fixed). option_map_or (λ (p : Fixed). admits p.class n) m false) at ∙ hit.2)
     by_number false e =
-        let hit = scene_found n r (present v c) is (looked false e) in
-        let no_scene : is_scene (hit.0).class ≡ false = found_ingredient r (present v c) hit.0 e whole hit.1 in
-        let wrong : true ≡ false = sym hit.2 ∙ no_scene in
+        let hit = fit_found (λ k. admits k n) n r (present v c) (looked false e) in
+        let numbered : (r.number == 0) ≡ true = found_numbered r (present v c) hit.0 whole hit.1 (leads_to_group n (hit.0).class is hit.2) in
+        let wrong : true ≡ false = sym numbered ∙ e in
         absurd cc
 
-pub safe_transition : (v : Service) (cs : List Config) (c : Config) (n : ActionName) (r : ObjRef) → list_all is_whole (present v c) ≡ true → is_transition n ≡ true → admitted_faults (known_before v (present v c)) n r ≡ [] → option_map_or (is_among cs) (leads_to v c n (target.Direct r)) true ≡ true → IsSafeItem v cs c (item.Exchange r.group)
-safe_transition v cs c n r whole is free leads_into_them =
-    let to = transition_target v c n r whole is free in
-    let led : leads_to v c n (target.Direct r) ≡ Some (record c { scene = Some r.group }) = rw (is, to.0, to.1) refl in
-    (to.1, ap (λ (m : Option Config). option_map_or (is_among cs) m true) (sym led) ∙ leads_into_them)
+-- a scene is no application
+no_application : (v : Service) (g : List ℕ) → is_group_of is_scene v g ≡ true → is_group_of is_application v g ≡ false
+no_application v g h = by (part_at (group_ref g) (group_parts v g)) h
+  where
+    by_class : (k : Class) → is_scene k ≡ true → is_application k ≡ false
+    by_class class.Scene e = refl
+    by_class _ e = absurd cc
+
+    by : (m : Option Fixed) → option_map_or (λ (p : Fixed). is_scene p.class) m false ≡ true → option_map_or (λ (p : Fixed). is_application p.class) m false ≡ false
+    by None e = absurd cc
+    by (Some p) e = by_class p.class e
+
+-- the exchange to which a transition comes
+pub safe_transition : (v : Service) (cs : List Config) (c : Config) (n : ActionName) (r : ObjRef) → list_all is_whole (present v c) ≡ true → is_transition n ≡ true → admitted_faults (known_before v (present v c)) n r ≡ [] → option_map_or (is_among cs) (leads_to v c n r) true ≡ true → IsSafeItem v cs c (item.Exchange r.group)
+safe_transition v cs c action.TransitionTo r whole is free leads_into_them =
+    let to = transition_target v c action.TransitionTo r whole is free in
+    let scene : is_group_of is_scene v r.group ≡ true = to.1 in
+    let other : is_group_of is_application v r.group ≡ false = no_application v r.group scene in
+    let led : leads_to v c action.TransitionTo r ≡ Some (record c { scene = Some r.group }) = rw (to.0, scene) refl in
+    let there : is_among cs (record c { scene = Some r.group }) ≡ true = ap (λ (m : Option Config). option_map_or (is_among cs) m true) (sym led) ∙ leads_into_them in
+    (rw (other, scene) refl, rw other there)
+safe_transition v cs c action.Launch r whole is free leads_into_them =
+    let to = transition_target v c action.Launch r whole is free in
+    let app : is_group_of is_application v r.group ≡ true = to.1 in
+    let led : leads_to v c action.Launch r ≡ Some (record { app = r.group; scene = None }) = rw (to.0, app) refl in
+    let there : is_among cs (record { app = r.group; scene = None }) ≡ true = ap (λ (m : Option Config). option_map_or (is_among cs) m true) (sym led) ∙ leads_into_them in
+    (rw app refl, rw app there)
+safe_transition v cs c _ r whole is free leads_into_them = absurd cc

@@ -5,7 +5,7 @@ use Rattle.std.specs.Option.{option_map_or}
 use Rattle.mh_model.specs.declared.act.Act.{Act}
 use Rattle.mh_model.specs.declared.config.Config.{Config}
 use Rattle.mh_model.specs.Service.{Service}
-use Rattle.mh_model.specs.Configuration.{is_service, starting, present, is_among}
+use Rattle.mh_model.specs.Configuration.{is_service, is_single, starting, present, is_among}
 use Rattle.mh_model.specs.Active.{active_actions, is_good, leads}
 
 -- where an action leads, if it leads anywhere, is among these
@@ -21,9 +21,11 @@ pub record IsClosed (s : Service) (cs : List Config) : Type 0 where
 abbrev pub is_free : Service → Config → Bool
 is_free s c = list_all (is_good s (present s c)) (active_actions (present s c))
 
--- there is a closed set of configurations, and in each of them no active action can be stuck
+-- there is one application and at most one scene; and there is a closed set of configurations, in none of which
+-- an active action can be stuck
 pub record IsAcceptable (s : Service) : Type 0 where
   pub service : is_service s ≡ true
+  pub single : is_single s ≡ true
   pub reached : List Config
   pub closed : IsClosed s reached
   pub free : (c : Config) → is_among reached c ≡ true → is_free s c ≡ true

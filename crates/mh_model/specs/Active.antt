@@ -3,13 +3,15 @@
 use Rattle.std.specs.Prelude.{Bool, true, false, ◌&&◌, ◌==◌, if◌then◌else◌, List, [], ◌∷◌, ◌++◌, filter, Option, Some, None}
 use Rattle.std.specs.List.{flat_map}
 use Rattle.std.specs.Option.{option_map_or}
+use Rattle.mh_base.specs.declared.obj_ref.ObjRef.{ObjRef}
 use Rattle.mh_base.specs.declared.value.Value.{Value}
 use Rattle.mh_base.specs.declared.value.Value.TheVariants as value
 use Rattle.mh_group.specs.declared.attribute.Attribute.TheVariants as attribute
 use Rattle.mh_group.specs.declared.action_name.ActionName.{ActionName}
+use Rattle.mh_group.specs.declared.action_name.ActionName.TheVariants as action
 use Rattle.mh_group.specs.declared.shape.Need.{Need}
 use Rattle.mh_group.specs.declared.shape.Need.TheVariants as need
-use Rattle.mh_group.specs.Table.{is_link, is_scene, needs_of}
+use Rattle.mh_group.specs.Table.{is_link, is_scene, is_application, needs_of}
 use Rattle.mh_model.specs.declared.act.Act.{Act}
 use Rattle.mh_model.specs.declared.act.Argument.{Argument}
 use Rattle.mh_model.specs.declared.act.Argument.TheVariants as argument
@@ -20,7 +22,7 @@ use Rattle.mh_model.specs.declared.fault.Fault.{Fault}
 use Rattle.mh_model.specs.declared.object.Fixed.{Fixed}
 use Rattle.mh_model.specs.Property.{held, as_effect, as_value}
 use Rattle.mh_model.specs.Service.{Service, part_at}
-use Rattle.mh_model.specs.Faults.{is_transition, fault_known}
+use Rattle.mh_model.specs.Faults.{fault_known}
 use Rattle.mh_model.specs.Known.{known_before}
 use Rattle.mh_model.specs.Configuration.{is_group_of}
 
@@ -66,20 +68,33 @@ are_direct (n ∷ ns) (x ∷ xs) = is_direct_argument n x && are_direct ns xs
 abbrev pub is_direct : Act → Bool
 is_direct a = is_direct_target a.target && are_direct (needs_of a.name) a.arguments
 
+-- the id of a timer is named itself
+abbrev pub has_known_id : ActionName → List Argument → Bool
+has_known_id action.SetTimer (argument.Through v t ∷ xs) = false
+has_known_id _ xs = true
+
 abbrev pub is_none : Option Fault → Bool
 is_none None = true
 is_none (Some f) = false
 
--- nothing is wrong with the action, and it is known what it is done to
+-- nothing is wrong with the action, and it is known what it is done to, and to which timer
 abbrev pub is_good : Service → List Fixed → Act → Bool
-is_good s ps a = is_none (fault_of s ps a) && is_direct a
+is_good s ps a = is_none (fault_of s ps a) && is_direct a && has_known_id a.name a.arguments
 
--- the configuration to which an action leads: a transition leads to its scene, under the same application
-abbrev pub leads_to : Service → Config → ActionName → Target → Option Config
-leads_to s c n (target.Direct r) =
-    if is_transition n && r.number == 0 && is_group_of is_scene s r.group then Some (record c { scene = Some r.group })
+-- The configuration to which an action leads: to a scene, under the same application, or to an application,
+-- with no scene.
+
+abbrev pub leads_to : Service → Config → ActionName → ObjRef → Option Config
+leads_to s c action.TransitionTo r =
+    if r.number == 0 && is_group_of is_scene s r.group then Some (record c { scene = Some r.group }) else None
+leads_to s c action.Launch r =
+    if r.number == 0 && is_group_of is_application s r.group then Some (record { app = r.group; scene = None })
     else None
-leads_to s c n (target.Through v) = None
+leads_to s c _ r = None
+
+abbrev pub leads_by : Service → Config → ActionName → Target → Option Config
+leads_by s c n (target.Direct r) = leads_to s c n r
+leads_by s c n (target.Through v) = None
 
 abbrev pub leads : Service → Config → Act → Option Config
-leads s c a = leads_to s c a.name a.target
+leads s c a = leads_by s c a.name a.target

@@ -160,5 +160,6 @@ changed_by action.DrawRectangle (value.Int x ∷ value.Int y ∷ value.Int u ∷
     drawn figure.Rectangle x y u v p b
 changed_by action.SetData (value.Octets os ∷ []) p b = replaced_octets os p b
 changed_by action.SetData (value.Content name ∷ []) p b = replaced (value.Content name) p b
+changed_by action.SetInputRegister (value.Int n ∷ []) p b = put attribute.InputEventReg (of.Value (value.Int n)) b
 changed_by action.SetTextColour (value.Octets os ∷ []) p b = coloured attribute.TextColour os b
 changed_by _ _ p b = b

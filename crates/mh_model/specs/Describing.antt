@@ -1,6 +1,6 @@
 -- What an action can put and say, as far as its name tells: one line an action each. What follows from an action
 -- beforehand, its causes and its costs, is read off here.
-use Rattle.std.specs.Prelude.{◌≡◌, ◌⊎◌, ℕ, ◌==◌, Bool, true, false, List, [], ◌∷◌, length, slice_get, Some}
+use Rattle.std.specs.Prelude.{◌≡◌, ◌⊎◌, ℕ, ◌==◌, Bool, true, false, List, [], ◌∷◌, slice_get, Some}
 use Rattle.std.specs.List.{list_all, list_any, flat_map}
 use Rattle.mh_base.specs.declared.obj_ref.ObjRef.{ObjRef}
 use Rattle.mh_base.specs.declared.value.Value.{Value}

@@ -23,8 +23,10 @@ use Rattle.mh_model.specs.declared.fault.FaultKind.TheVariants as fault
 use Rattle.mh_model.specs.Known.{Known}
 use Rattle.mh_model.specs.Variables.{variable_kind, kind_of, same_kind, converts, is_operator}
 
+-- the action leads to a group
 abbrev pub is_transition : ActionName → Bool
 is_transition action.TransitionTo = true
+is_transition action.Launch = true
 is_transition _ = false
 
 -- what is wrong at a place, and which reference is named there

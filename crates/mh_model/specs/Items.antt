@@ -82,20 +82,32 @@ entering g ps =
     group_effect g ps attribute.OnStartUp ++ runs (filter is_initially_active ps)
     ++ plain_event (group_ref g) event.IsRunning ∷ []
 
--- all that can run of the scene halts, and of the application what is not shared, each in reverse order
+-- all that can run of a group halts, or what is not shared of it, each in reverse order
 
-abbrev pub scene_halts : List Fixed → List Item
-scene_halts ps = halts (filter (λ p. is_runnable p.class) (reverse ps))
+abbrev pub all_halts : List Fixed → List Item
+all_halts ps = halts (filter (λ p. is_runnable p.class) (reverse ps))
 
-abbrev pub application_halts : List Fixed → List Item
-application_halts ps = halts (filter (λ p. is_runnable p.class && not (is_shared p)) (reverse ps))
+abbrev pub unshared_halts : List Fixed → List Item
+unshared_halts ps = halts (filter (λ p. is_runnable p.class && not (is_shared p)) (reverse ps))
 
--- leaving the current scene, given with its parts, if there is one
-abbrev pub closing : Option (List ℕ × List Fixed) → List Item
-closing None = []
-closing (Some (g, ps)) = group_effect g ps attribute.OnCloseDown ++ scene_halts ps
+-- the current scene, given with its parts, if there is one
 
--- A transition from a scene under an application with these parts: the scene closes down, the objects of both
+abbrev pub scene_closing : Option (List ℕ × List Fixed) → List Item
+scene_closing None = []
+scene_closing (Some (g, ps)) = group_effect g ps attribute.OnCloseDown
+
+abbrev pub scene_halts : Option (List ℕ × List Fixed) → List Item
+scene_halts None = []
+scene_halts (Some (g, ps)) = all_halts ps
+
+-- A transition to a scene, under an application with these parts: the scene closes down, the objects of both
 -- halt, and the scene is exchanged for the other.
 abbrev pub leaving : List Fixed → Option (List ℕ × List Fixed) → List ℕ → List Item
-leaving ps scene target = closing scene ++ application_halts ps ++ item.Exchange target ∷ []
+leaving ps scene target =
+    scene_closing scene ++ scene_halts scene ++ unshared_halts ps ++ item.Exchange target ∷ []
+
+-- The application, given with its parts, is left as well: both close down, all objects halt, and then comes the
+-- last item.
+abbrev pub quitting : List ℕ → List Fixed → Option (List ℕ × List Fixed) → Item → List Item
+quitting g ps scene last =
+    scene_closing scene ++ group_effect g ps attribute.OnCloseDown ++ scene_halts scene ++ all_halts ps ++ last ∷ []

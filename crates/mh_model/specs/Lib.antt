@@ -3,6 +3,7 @@ pub mod Key
 pub mod Property
 pub mod Service
 pub mod Planes
+pub mod Time
 pub mod State
 pub mod Items
 pub mod Variables
@@ -33,3 +34,4 @@ pub mod Headline
 pub mod Example
 pub mod Computing
 pub mod Showing
+pub mod Passing

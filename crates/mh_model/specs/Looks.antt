@@ -1,5 +1,5 @@
 -- What a visible looks like: what it paints into each cell.
-use Rattle.std.specs.Prelude.{ℕ, ◌+◌, ◌*◌, ◌==◌, Bool, false, if◌then◌else◌, List, [], Option, Some, None, unwrap_or, ℤ, pos, int_lt}
+use Rattle.std.specs.Prelude.{ℕ, ◌+◌, ◌*◌, ◌==◌, Bool, false, if◌then◌else◌, List, [], Option, Some, None, ℤ, pos, int_lt}
 use Rattle.mh_base.specs.declared.area.Area.{Area}
 use Rattle.mh_base.specs.declared.colour.Colour.{Colour}
 use Rattle.mh_group.specs.declared.attribute.Attribute.{Attribute}

@@ -5,6 +5,7 @@ use Rattle.std.specs.Str.{bytes_eq}
 use Rattle.mh_base.specs.declared.obj_ref.ObjRef.{ObjRef}
 use Rattle.mh_base.specs.declared.value.Value.{Value}
 use Rattle.mh_base.specs.Event.{is_sync}
+use Rattle.mh_group.specs.Table.{is_application}
 use Rattle.mh_group.specs.declared.action_name.ActionName.{ActionName}
 use Rattle.mh_group.specs.declared.action_name.ActionName.TheVariants as action
 use Rattle.mh_model.specs.declared.act.Act.{Act}
@@ -16,18 +17,20 @@ use Rattle.mh_model.specs.declared.item.Item.TheVariants as item
 use Rattle.mh_model.specs.declared.object.Body.{Body}
 use Rattle.mh_model.specs.declared.object.Fixed.{Fixed}
 use Rattle.mh_model.specs.declared.object.Object.{Object}
+use Rattle.mh_model.specs.declared.time.Moments.{Moments}
 use Rattle.mh_model.specs.declared.sort.Sort.{Sort}
 use Rattle.mh_model.specs.declared.sort.Sort.TheVariants as sort
 use Rattle.mh_model.specs.First.{change_first}
 use Rattle.mh_model.specs.Service.{same_ref, object_at, group_parts, group_objects, with_parts}
 use Rattle.mh_model.specs.State.{State, Objects, all}
-use Rattle.mh_model.specs.Items.{heard, entering, leaving}
-use Rattle.mh_model.specs.Faults.{is_transition}
+use Rattle.mh_model.specs.Configuration.{is_group_of}
+use Rattle.mh_model.specs.Items.{heard, entering, leaving, quitting}
 use Rattle.mh_model.specs.Sort.{sort_of}
 use Rattle.mh_model.specs.Arguments.{values, receivers, referred}
 use Rattle.mh_model.specs.Bodies.{prepared, started, halted, dropped, given, changed_by}
 use Rattle.mh_model.specs.Lifecycle.{prepare_items, run_items, halt_items, drop_items, is_available_at, is_unavailable_at, is_unprepared_at, with_risen, without, reordered}
 use Rattle.mh_model.specs.Picture.{looked}
+use Rattle.mh_model.specs.Time.{set_timers}
 use Rattle.mh_model.specs.Saying.{answers_at, put_items_at}
 
 -- A rule changes the body of an object; what its file says of it stays.
@@ -87,26 +90,46 @@ locked s = record s { locks = s.locks + 1; frozen = if s.locks == 0 then looked 
 abbrev pub unlocked : State → State
 unlocked s = record s { locks = s.locks - 1 }
 
-abbrev pub lock_rule : ActionName → State → State
-lock_rule action.LockScreen s = locked s
-lock_rule action.UnlockScreen s = unlocked s
-lock_rule _ s = s
+-- a timer of the group that is named is set or cancelled
+abbrev pub timer_rule : List Value → ObjRef → State → State
+timer_rule vs r s = record s { timers = set_timers vs s.application r.group s.moments s.timers }
 
--- a transition replaces the whole work list, unless one has begun
-abbrev pub transition_rule : ObjRef → State → State
-transition_rule r s = record s {
+-- Transitions. One replaces the whole work list, unless one has begun.
+
+-- all that is done when the current application is left, and then this
+abbrev pub quit_before : Item → State → List Item
+quit_before last s =
+    quitting s.application (group_parts s.service s.application) (with_parts s.service s.scene) last
+
+-- what a transition puts
+abbrev pub way_out : ActionName → ObjRef → State → List Item
+way_out action.TransitionTo r s =
+    leaving (group_parts s.service s.application) (with_parts s.service s.scene) r.group
+way_out action.Launch r s = quit_before (item.Exchange r.group) s
+way_out _ r s = quit_before item.End s
+
+abbrev pub transition_rule : ActionName → ObjRef → State → State
+transition_rule n r s = record s {
   transition = true;
-  work =
-      if s.transition then s.work
-      else leaving (group_parts s.service s.application) (with_parts s.service s.scene) r.group;
+  work = if s.transition then s.work else way_out n r s;
 }
+
+-- what is a matter of the whole machine
+abbrev pub whole_rule : ActionName → List Value → ObjRef → State → State
+whole_rule action.TransitionTo vs r s = transition_rule action.TransitionTo r s
+whole_rule action.Launch vs r s = transition_rule action.Launch r s
+whole_rule action.Quit vs r s = transition_rule action.Quit r s
+whole_rule action.LockScreen vs r s = locked s
+whole_rule action.UnlockScreen vs r s = unlocked s
+whole_rule action.SetTimer vs r s = timer_rule vs r s
+whole_rule _ vs r s = s
 
 abbrev pub rule_by : Sort → ActionName → List Value → List ObjRef → ObjRef → State → State
 rule_by sort.Change n vs rs r s = change_rule n vs r s
 rule_by sort.Ask n vs rs r s = ask_rule n vs rs r s
 rule_by sort.Put n vs rs r s = put_rule n vs r s
 rule_by sort.Order n vs rs r s = order_rule n vs r s
-rule_by sort.Whole n vs rs r s = if is_transition n then transition_rule r s else lock_rule n s
+rule_by sort.Whole n vs rs r s = whole_rule n vs r s
 
 -- an action whose target comes to nothing does nothing
 abbrev pub act_on : Option ObjRef → ActionName → List Value → List ObjRef → State → State
@@ -126,21 +149,51 @@ emitted e s =
     if is_sync e.kind then record s { work = heard e (all s.objects) ++ s.work }
     else record s { queue = s.queue ++ waiting.Event e ∷ [] }
 
--- inputs wait on when a scene is left, and so do the events of the application
+-- the moment in which a group is entered is noted
+abbrev pub noted : List ℕ → State → Moments
+noted g s =
+    if bytes_eq g s.application then record s.moments { application = s.moments.present }
+    else record s.moments { scene = s.moments.present }
+
+-- Exchanges. Inputs wait on, whatever is left.
+
+abbrev pub is_input : Waiting → Bool
+is_input (waiting.Input i) = true
+is_input (waiting.Event e) = false
+
+-- an input, or an event of the application
 abbrev pub stays : List ℕ → Waiting → Bool
 stays application (waiting.Input i) = true
 stays application (waiting.Event e) = bytes_eq e.source.group application
 
--- what is left behind by an exchange: the objects, stack places and waiting events of the application
-abbrev pub exchange_rule : List ℕ → State → State
-exchange_rule g s = record s {
+-- another scene: the objects, stack places, timers and waiting events of the application stay
+abbrev pub scene_exchanged : List ℕ → State → State
+scene_exchanged g s = record s {
   scene = Some g;
   objects = record { application = s.objects.application; scene = group_objects s.service g };
   stack = filter (λ r. bytes_eq r.group s.application) s.stack;
+  timers = filter (λ t. bytes_eq t.group s.application) s.timers;
   queue = filter (stays s.application) s.queue;
   transition = false;
   work = item.Enter g ∷ s.work;
 }
+
+-- another application: all of that goes
+abbrev pub application_exchanged : List ℕ → State → State
+application_exchanged g s = record s {
+  application = g;
+  scene = None;
+  objects = record { application = group_objects s.service g; scene = [] };
+  stack = [];
+  timers = [];
+  queue = filter is_input s.queue;
+  transition = false;
+  work = item.Enter g ∷ s.work;
+}
+
+abbrev pub exchange_rule : List ℕ → State → State
+exchange_rule g s =
+    if is_group_of is_application s.service g then application_exchanged g s else scene_exchanged g s
 
 abbrev pub run_rule : ObjRef → State → State
 run_rule r s = record s {
@@ -172,5 +225,9 @@ rule (item.Drop r) s = record s {
   work = drop_items r (object_at r (all s.objects)) ++ s.work;
 }
 rule (item.Emit e) s = emitted e s
-rule (item.Enter g) s = record s { work = entering g (group_parts s.service g) ++ s.work }
+rule (item.Enter g) s = record s {
+  moments = noted g s;
+  work = entering g (group_parts s.service g) ++ s.work;
+}
 rule (item.Exchange g) s = exchange_rule g s
+rule item.End s = record s { ended = true; queue = [] }

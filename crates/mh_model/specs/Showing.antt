@@ -1,5 +1,5 @@
 -- What is shown, by the definitions alone: a text with its lay-out, a drawn line, and a locked screen.
-use Rattle.std.specs.Prelude.{◌≡◌, ℕ, List, [], ◌∷◌, ◌++◌, true, map, Option, Some, None, pos, codes}
+use Rattle.std.specs.Prelude.{◌≡◌, ℕ, List, [], ◌∷◌, ◌++◌, true, map, pos, codes}
 use Rattle.mh_base.specs.declared.value.Value.TheVariants as value
 use Rattle.mh_base.specs.declared.event.EventType.TheVariants as event
 use Rattle.mh_group.specs.declared.class.Class.TheVariants as class
@@ -15,8 +15,8 @@ use Rattle.mh_model.specs.declared.object.Fixed.{Fixed}
 use Rattle.mh_model.specs.declared.input.Input.TheVariants as input
 use Rattle.mh_model.specs.declared.input.Move.TheVariants as move
 use Rattle.mh_model.specs.declared.key.Key.TheVariants as key
-use Rattle.mh_model.specs.Service.{Service, group_ref}
-use Rattle.mh_model.specs.State.{State, all, begun}
+use Rattle.mh_model.specs.Service.{group_ref}
+use Rattle.mh_model.specs.State.{State, begun}
 use Rattle.mh_model.specs.Step.{run, is_idle}
 use Rattle.mh_model.specs.Layout.{laid}
 use Rattle.mh_model.specs.Picture.{shown, cell_of}

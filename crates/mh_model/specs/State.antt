@@ -6,6 +6,8 @@ use Rattle.mh_model.specs.declared.item.Item.{Item}
 use Rattle.mh_model.specs.declared.item.Item.TheVariants as item
 use Rattle.mh_model.specs.declared.input.Waiting.{Waiting}
 use Rattle.mh_model.specs.declared.fault.Fault.{Fault}
+use Rattle.mh_model.specs.declared.time.Moments.{Moments}
+use Rattle.mh_model.specs.declared.time.Timer.{Timer}
 use Rattle.mh_model.specs.Planes.{Planes, blank}
 use Rattle.mh_model.specs.Service.{Service, group_objects}
 
@@ -28,12 +30,18 @@ pub record State : Type 0 where
   pub objects : Objects
   -- the display stack, the bottom first
   pub stack : List ObjRef
+  -- the timers that are set, in the order in which they were
+  pub timers : List Timer
   -- what waits to be taken: inputs, and events that are not dealt with at once
   pub queue : List Waiting
   -- the work that is to be done before the next input is taken
   pub work : List Item
+  -- the present moment, and those in which the active application and the current scene were entered
+  pub moments : Moments
   -- a transition has begun, and its exchange is still to come
   pub transition : Bool
+  -- the application has quit, and nothing is done any more
+  pub ended : Bool
   -- how often the screen is locked, and the picture that it shows while it is
   pub locks : ℕ
   pub frozen : Planes
@@ -49,9 +57,12 @@ begun s = record {
   scene = None;
   objects = record { application = group_objects s s.start; scene = [] };
   stack = [];
+  timers = [];
   queue = [];
   work = item.Enter s.start ∷ [];
+  moments = record { present = 0; application = 0; scene = 0 };
   transition = false;
+  ended = false;
   locks = 0;
   frozen = blank;
   taken = 0;

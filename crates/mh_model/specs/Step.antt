@@ -1,58 +1,91 @@
 -- Taking, steps, posts and runs.
-use Rattle.std.specs.Prelude.{ℕ, zero, suc, ◌+◌, ◌==◌, ◌&&◌, Bool, true, false, not, nat_lt, if◌then◌else◌, List, [], ◌∷◌, ◌++◌, length, filter, drop, slice_get, Option, Some, None, ℤ, pos}
+use Rattle.std.specs.Prelude.{ℕ, zero, suc, ◌+◌, ◌==◌, ◌&&◌, ◌||◌, Bool, true, false, not, nat_lt, if◌then◌else◌, List, [], ◌∷◌, ◌++◌, length, filter, drop, slice_get, Option, Some, None, ℤ, pos, nat_le, map}
+use Rattle.std.specs.List.{sum_by}
 use Rattle.mh_base.specs.declared.value.Value.TheVariants as value
 use Rattle.mh_base.specs.declared.event.EventType.TheVariants as event
 use Rattle.mh_group.specs.declared.attribute.Attribute.TheVariants as attribute
+use Rattle.mh_group.specs.Table.{is_stream}
 use Rattle.mh_base.specs.declared.obj_ref.ObjRef.{ObjRef}
 use Rattle.mh_model.specs.declared.event.Event.{Event}
 use Rattle.mh_model.specs.declared.fault.Fault.{Fault}
 use Rattle.mh_model.specs.declared.input.Input.{Input}
 use Rattle.mh_model.specs.declared.input.Input.TheVariants as input
+use Rattle.mh_model.specs.declared.input.Obstacle.{Obstacle}
+use Rattle.mh_model.specs.declared.input.Obstacle.TheVariants as refused
 use Rattle.mh_model.specs.declared.input.Waiting.{Waiting}
 use Rattle.mh_model.specs.declared.input.Waiting.TheVariants as waiting
 use Rattle.mh_model.specs.declared.input.Move.{Move}
 use Rattle.mh_model.specs.declared.input.Move.TheVariants as move
 use Rattle.mh_model.specs.declared.item.Item.{Item}
 use Rattle.mh_model.specs.declared.key.Key.{Key}
-use Rattle.mh_model.specs.declared.object.Fixed.{Fixed}
 use Rattle.mh_model.specs.declared.object.Object.{Object}
 use Rattle.mh_model.specs.Key.{key_number, passes}
-use Rattle.mh_model.specs.Property.{held, as_int}
-use Rattle.mh_model.specs.Service.{part_at, group_ref, with_parts}
+use Rattle.mh_model.specs.Property.{read, as_int}
+use Rattle.mh_model.specs.Service.{object_at, group_ref}
 use Rattle.mh_model.specs.State.{State, all}
 use Rattle.mh_model.specs.Items.{heard}
 use Rattle.mh_model.specs.Stuck.{stuck}
-use Rattle.mh_model.specs.Rules.{rule}
+use Rattle.mh_model.specs.Rules.{rule, is_input}
+use Rattle.mh_model.specs.Time.{most_moment, is_due, due, timer_event}
+
+-- Taking. What is taken has left the queue, and the step is counted; the work list is empty.
 
 -- the input event register of a scene
-abbrev pub register_of : Option Fixed → ℤ
+abbrev pub register_of : Option Object → ℤ
 register_of None = pos 4
-register_of (Some p) = as_int (pos 4) (held attribute.InputEventReg p.properties)
+register_of (Some o) = as_int (pos 4) (read attribute.InputEventReg o)
 
 -- a key, as an event of the scene, has its number as data
 abbrev pub key_event : Key → ObjRef → Event
 key_event k source = record { source = source; kind = event.UserInput; «data» = Some (value.Int (key_number k)) }
 
--- a key that the scene hears puts the actions of the links that wait for it; the scene is given with its parts
-abbrev pub key_items : Key → Option (List ℕ × List Fixed) → List Object → List Item
+-- a key that the scene hears puts the actions of the links that wait for it
+abbrev pub key_items : Key → Option (List ℕ) → List Object → List Item
 key_items k None os = []
-key_items k (Some (g, ps)) os =
-    if passes (register_of (part_at (group_ref g) ps)) k then heard (key_event k (group_ref g)) os else []
+key_items k (Some g) os =
+    if passes (register_of (object_at (group_ref g) os)) k then heard (key_event k (group_ref g)) os else []
 
--- what is put when this is taken from the queue
-abbrev pub waiting_items : Waiting → Option (List ℕ × List Fixed) → List Object → List Item
-waiting_items (waiting.Input (input.Key k)) scene os = key_items k scene os
-waiting_items (waiting.Event e) scene os = heard e os
+-- an event of the engine is one of the active application
+abbrev pub engine_event : ℤ → List ℕ → Event
+engine_event n app = record { source = group_ref app; kind = event.EngineEvent; «data» = Some (value.Int n) }
 
--- The work list is touched at its front alone: `slice_get 0` is the first item, and `drop 1` the rest.
+-- time passes: the timers that are due go, and their events wait
+
+abbrev pub timers_fired : ℕ → State → List Waiting
+timers_fired now s = map (λ t. waiting.Event (timer_event t)) (due now s.application s.timers)
+
+abbrev pub ticked : ℕ → State → State
+ticked n s = record s {
+  moments = record s.moments { present = s.moments.present + n };
+  timers = filter (λ t. not (is_due (s.moments.present + n) t)) s.timers;
+  queue = s.queue ++ timers_fired (s.moments.present + n) s;
+}
+
+-- each stream that runs has an event that waits, with the tag as data
+
+abbrev pub is_streaming : Object → Bool
+is_streaming o = is_stream o.fixed.class && o.body.running
+
+abbrev pub stream_event : ℤ → Object → Event
+stream_event n o = record { source = o.fixed.key; kind = event.StreamEvent; «data» = Some (value.Int n) }
+
+abbrev pub streams_told : ℤ → State → List Waiting
+streams_told n s = map (λ o. waiting.Event (stream_event n o)) (filter is_streaming (all s.objects))
+
+-- what becomes of the state when this is taken
+abbrev pub taking : Waiting → State → State
+taking (waiting.Event e) s = record s { work = heard e (all s.objects) }
+taking (waiting.Input (input.Key k)) s = record s { work = key_items k s.scene (all s.objects) }
+taking (waiting.Input (input.Tick n)) s = ticked n s
+taking (waiting.Input (input.Stream n)) s = record s { queue = s.queue ++ streams_told n s }
+taking (waiting.Input (input.Engine n)) s =
+    record s { work = heard (engine_event n s.application) (all s.objects) }
 
 -- taking the first that waits in the queue
 abbrev pub took : Waiting → State → State
-took w s = record s {
-  queue = drop 1 s.queue;
-  work = waiting_items w (with_parts s.service s.scene) (all s.objects);
-  taken = s.taken + 1;
-}
+took w s = taking w (record s { queue = drop 1 s.queue; taken = s.taken + 1 })
+
+-- The work list is touched at its front alone: `slice_get 0` is the first item, and `drop 1` the rest.
 
 -- a stuck item is removed, and its fault is noted
 abbrev pub faulted : Fault → State → State
@@ -72,8 +105,9 @@ step_by (Some i) next s = did (stuck i s) i s
 step_by None (Some w) s = took w s
 step_by None None s = s
 
+-- when the engine has ended, a step changes nothing
 abbrev pub step : State → State
-step s = step_by (slice_get s.work 0) (slice_get s.queue 0) s
+step s = if s.ended then s else step_by (slice_get s.work 0) (slice_get s.queue 0) s
 
 abbrev pub is_empty : {X : Type 0} → List X → Bool
 is_empty [] = true
@@ -83,13 +117,13 @@ is_empty (x ∷ xs) = false
 abbrev pub is_idle : State → Bool
 is_idle s = is_empty s.work && is_empty s.queue
 
+-- nothing is left to do: the engine has ended, or it is idle
+abbrev pub is_settled : State → Bool
+is_settled s = s.ended || is_idle s
+
 -- the most inputs that wait; events are not counted
 abbrev pub most_inputs : ℕ
 most_inputs = 256
-
-abbrev pub is_input : Waiting → Bool
-is_input (waiting.Input i) = true
-is_input (waiting.Event e) = false
 
 abbrev pub inputs : List Waiting → ℕ
 inputs ws = length (filter is_input ws)
@@ -97,9 +131,40 @@ inputs ws = length (filter is_input ws)
 abbrev pub is_full : State → Bool
 is_full s = not (nat_lt (inputs s.queue) most_inputs)
 
+-- a tick is of 1 to 60,000 milliseconds
+abbrev pub is_in_range : Input → Bool
+is_in_range (input.Tick n) = nat_le 1 n && nat_le n 60000
+is_in_range _ = true
+
+-- how much time will have passed when all that waits is taken
+
+abbrev pub time_of : Waiting → ℕ
+time_of (waiting.Input (input.Tick n)) = n
+time_of _ = 0
+
+abbrev pub time_ahead : List Waiting → ℕ
+time_ahead ws = sum_by time_of ws
+
+-- a tick would lead past the last moment
+abbrev pub is_past_the_last : Input → State → Bool
+is_past_the_last (input.Tick n) s = not (nat_le (s.moments.present + time_ahead s.queue + n) most_moment)
+is_past_the_last _ s = false
+
+-- why an input is refused, if it is: the first of these
+abbrev pub obstacle : Input → State → Option Obstacle
+obstacle i s =
+    if s.ended then Some refused.Ended
+    else (if not (is_in_range i) then Some refused.TickRange
+    else (if is_past_the_last i s then Some refused.ClockFull
+    else (if is_full s then Some refused.QueueFull else None)))
+
+abbrev pub posted_by : Option Obstacle → Input → State → State
+posted_by None i s = record s { queue = s.queue ++ waiting.Input i ∷ [] }
+posted_by (Some o) i s = s
+
 -- a post adds one input at the end of the queue, or is refused and changes nothing
 abbrev pub posted : Input → State → State
-posted i s = record s { queue = if is_full s then s.queue else s.queue ++ waiting.Input i ∷ [] }
+posted i s = posted_by (obstacle i s) i s
 
 -- the most steps that are counted
 abbrev pub most_steps : ℕ

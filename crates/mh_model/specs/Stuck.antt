@@ -30,3 +30,4 @@ stuck (item.Drop r) s = None
 stuck (item.Emit e) s = None
 stuck (item.Enter g) s = None
 stuck (item.Exchange g) s = None
+stuck item.End s = None

@@ -1,6 +1,7 @@
 //! The first example, played by the definitions alone.
 ghost use Rattle.mh_model.specs.Computing.{Computes};
 ghost use Rattle.mh_model.specs.Example.{PlaysFirst, PlaysOthers};
+ghost use Rattle.mh_model.specs.Passing.{Passes};
 ghost use Rattle.mh_model.specs.Showing.{Shows};
 
 /// The law that the definitions play the first example as its report says: 11 steps, then 2, with the
@@ -25,4 +26,10 @@ pub fn computes()
 /// cells, and, while the screen is locked, the picture that was there before.
 pub fn shows()
     ensures { Shows }
+{}
+
+/// The law that the definitions play as their reports say: timers that fire in the order in which they are
+/// due, streams, a key that waits while one scene is exchanged for another, and an application that quits.
+pub fn passes()
+    ensures { Passes }
 {}

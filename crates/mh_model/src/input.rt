@@ -5,6 +5,12 @@ use crate::{Event, Key};
 #[derive(Clone, Copy, PartialEq, Eq)]
 pub enum Input {
     Key(Key),
+    /// Time passes: so many milliseconds, 1 to 60,000.
+    Tick(u32),
+    /// A stream event with this tag (ISO/IEC 13522-5, StreamEvent).
+    Stream(i32),
+    /// An event of the engine with this number (ISO/IEC 13522-5, EngineEvent).
+    Engine(i32),
 }
 
 /// What waits in the queue until it is taken.
@@ -13,6 +19,19 @@ pub enum Waiting {
     Input(Input),
     /// An event of an asynchronous type (ISO/IEC 13522-5, the event queue).
     Event(Event),
+}
+
+/// Why an input cannot join the queue.
+#[derive(Clone, Copy, PartialEq, Eq)]
+pub enum Obstacle {
+    /// The application has quit.
+    Ended,
+    /// A tick is not of 1 to 60,000 milliseconds.
+    TickRange,
+    /// With the ticks that wait, the present would be past the last moment, 4,294,967,295.
+    ClockFull,
+    /// As many inputs wait as may.
+    QueueFull,
 }
 
 /// One move of a run.

@@ -25,4 +25,6 @@ pub enum Item {
     Enter(GroupName),
     /// The configuration changes to this group.
     Exchange(GroupName),
+    /// The engine ends.
+    End,
 }

@@ -57,9 +57,9 @@ pub fn effect_of(part: &Fixed, attribute: Attribute) -> &[Act]
     as_effect(part.properties.get(attribute))
 }
 
-/// Whether the action is a transition to another scene.
+/// Whether the action leads to a group, a scene or an application.
 pub fn is_transition(name: ActionName) -> bool
     ensures { result ≡ is_transition_lem name }
 {
-    matches!(name, ActionName::TransitionTo)
+    matches!(name, ActionName::TransitionTo | ActionName::Launch)
 }

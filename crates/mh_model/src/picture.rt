@@ -117,16 +117,6 @@ impl Picture {
         copy_plane(&mut self.fores, &other.fores);
         copy_plane(&mut self.backs, &other.backs);
     }
-
-    /// Makes every cell a black space.
-    #[tactic(auto, unfolding(crate::specs::Planes::flat))]
-    pub fn clear(&mut self)
-        ensures { self.new ≡ blank }
-    {
-        fill(&mut self.scalars, 32);
-        fill(&mut self.fores, 0);
-        fill(&mut self.backs, 0);
-    }
 }
 
 #[tactic(auto, unfolding(crate::specs::Planes::flat))]
@@ -135,13 +125,6 @@ fn filled(alloc: Global, number: u32) -> Result<Vec<u32>, AllocError>
 {
     let numbers = vec![in alloc; number; CELLS]?;
     Ok(numbers)
-}
-
-fn fill(plane: &mut Vec<u32>, number: u32)
-    requires { vec_len plane.old ≡ 2160 }
-    ensures { plane.new.items ≡ flat number }
-{
-    plane.as_mut_slice().fill(number);
 }
 
 fn copy_plane(plane: &mut Vec<u32>, other: &Vec<u32>)

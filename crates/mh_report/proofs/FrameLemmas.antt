@@ -1,11 +1,11 @@
 -- The rows of a frame, one more at a time.
-use Rattle.std.specs.Prelude.{◌≡◌, ℕ, ◌+◌, ◌*◌, length, List, ◌++◌, ◌∷◌, [], map, refl}
+use Rattle.std.specs.Prelude.{◌≡◌, ℕ, ◌+◌, ◌*◌, ◌<◌, length, List, ◌++◌, ◌∷◌, [], map, refl}
 use Rattle.std.specs.List.{flat_map, range_with_len}
-use Rattle.std.proofs.Common.{ap, ◌∙◌, arith}
+use Rattle.std.proofs.Common.{ap, ◌∙◌, arith, get_or}
 use Rattle.std.proofs.lemmas.List.Concat.{flat_map-append}
-use Rattle.std.proofs.lemmas.List.FromFn.{map-range_with_len_more, length-map-range_with_len}
+use Rattle.std.proofs.lemmas.List.FromFn.{map-range_with_len_more, length-map-range_with_len, get_or-map-range_with_len}
 use Rattle.mh_model.specs.Planes.{Planes}
-use Rattle.mh_model.specs.Picture.{cell_of}
+use Rattle.mh_model.specs.Picture.{cell_of, black}
 use Rattle.mh_report.specs.Frame.{row_cells}
 
 mapped : (f : ℕ → List ℕ) (xs : List ℕ) → flat_map f xs ≡ flat_map (λ x. x) (map f xs)
@@ -28,3 +28,8 @@ rows_more f n =
 pub row_cells_length : (p : Planes) (j : ℕ) → length (row_cells p j) ≡ 60
 unfolding row_cells
 row_cells_length p j = length-map-range_with_len (λ i. cell_of p (j * 60 + i)) 0 60
+
+-- the cell of a column
+pub cell_of_row : (p : Planes) (j column : ℕ) → column < 60 → get_or (row_cells p j) column black ≡ cell_of p (j * 60 + column)
+unfolding row_cells
+cell_of_row p j column inside = get_or-map-range_with_len (λ i. cell_of p (j * 60 + i)) 0 60 column column black inside (omega arith)

@@ -1,6 +1,10 @@
 pub mod ScriptLemmas
 pub mod SinkLemmas
 pub mod FrameLemmas
+pub mod StretchLemmas
+pub mod ChangeLemmas
+pub mod NumberLemmas
+pub mod PostLemmas
 pub mod PlayLemmas
 pub mod WrittenLemmas
 pub mod ConvertLemmas

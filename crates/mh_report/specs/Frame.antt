@@ -5,10 +5,16 @@ use Rattle.std.specs.Fmt.{decimal}
 use Rattle.mh_model.specs.declared.cell.Cell.{Cell}
 use Rattle.mh_model.specs.Planes.{Planes}
 use Rattle.mh_model.specs.Picture.{cell_of}
-use Rattle.mh_report.specs.declared.report.Run.{Run}
 use Rattle.mh_report.specs.Text.{two_digits, hex_colour, quoted}
 
 -- Runs: stretches of cells of one row with the same colours.
+
+-- the column of the first cell, the two colours, and the characters
+pub record Run : Type 0 where
+  pub first : ℕ
+  pub fore : ℕ
+  pub back : ℕ
+  pub scalars : List ℕ
 
 -- the run of this one cell
 abbrev pub begun : ℕ → Cell → Run

@@ -2,6 +2,7 @@ pub mod Text
 pub mod Script
 pub mod Sink
 pub mod Frame
+pub mod Stretch
 pub mod Report
 pub mod Verdict
 pub mod Played

@@ -1,19 +1,23 @@
 -- The report of a play: the bytes that it writes, as a function of the machine's states.
-use Rattle.std.specs.Prelude.{ℕ, ◌+◌, ◌-◌, if◌then◌else◌, List, [], ◌∷◌, ◌++◌, length, drop, codes}
+use Rattle.std.specs.Prelude.{ℕ, ◌+◌, ◌-◌, false, List, [], ◌∷◌, ◌++◌, length, drop, Option, Some, None, codes}
 use Rattle.std.specs.List.{flat_map}
 use Rattle.std.specs.Fmt.{decimal}
 use Rattle.mh_group.specs.Words.{action_word}
 use Rattle.mh_model.specs.declared.fault.Fault.{Fault}
 use Rattle.mh_model.specs.declared.fault.FaultKind.{FaultKind}
 use Rattle.mh_model.specs.declared.fault.FaultKind.TheVariants as fault
+use Rattle.mh_model.specs.declared.input.Input.{Input}
 use Rattle.mh_model.specs.Planes.{Planes, blank}
 use Rattle.mh_model.specs.Picture.{shown}
 use Rattle.mh_model.specs.Service.{Service}
 use Rattle.mh_model.specs.State.{State, begun}
-use Rattle.mh_model.specs.Step.{advanced, posted, is_full}
+use Rattle.mh_model.specs.Step.{advanced, posted}
 use Rattle.mh_machine.specs.Rest.{rest_of}
 use Rattle.mh_machine.specs.declared.rest.Rest.{Rest}
 use Rattle.mh_machine.specs.declared.rest.Rest.TheVariants as rest
+use Rattle.mh_engine.specs.Play.{Play}
+use Rattle.mh_engine.specs.Answer.{post_refusal, refusal_number}
+use Rattle.mh_engine.specs.declared.refusal.RefusedWhy.{RefusedWhy}
 use Rattle.mh_report.specs.declared.script.Command.{Command}
 use Rattle.mh_report.specs.declared.script.Command.TheVariants as command
 use Rattle.mh_report.specs.declared.status.Status.{Status}
@@ -49,16 +53,30 @@ unfoldable pub fault_line : Fault → List ℕ
 fault_line f =
     codes "fault " ++ fault_word f.what ++ codes " " ++ action_word f.action ++ codes " " ++ f.at.group ++ codes " " ++ decimal f.at.number ++ 10 ∷ []
 
--- a post is refused where the queue is full
-unfoldable pub refused_line : List ℕ
-refused_line = codes "refused " ++ decimal 51 ++ 10 ∷ []
+-- a post that is refused, with the number of why
+unfoldable pub refused_line : ℕ → List ℕ
+refused_line n = codes "refused " ++ decimal n ++ 10 ∷ []
 
-abbrev pub post_lines : State → List ℕ
-post_lines s = if is_full s then refused_line else []
+abbrev pub number_line : Option ℕ → List ℕ
+number_line None = []
+number_line (Some n) = refused_line n
+
+abbrev pub why_line : Option RefusedWhy → List ℕ
+why_line None = []
+why_line (Some why) = number_line (refusal_number why)
+
+-- an engine in this state that has not stopped
+abbrev pub going : State → Play
+going s = record { state = s; stopped = false; accepted = false }
+
+-- nothing is printed of a post that is taken
+abbrev pub post_lines : Input → State → List ℕ
+post_lines i s = why_line (post_refusal i (going s))
 
 abbrev pub rest_word : Rest → List ℕ
 rest_word rest.Idle = codes " idle"
 rest_word rest.More = codes " more"
+rest_word rest.Ended = codes " ended"
 
 -- what happened up to this state since there were so many steps and so many faults: the faults since
 -- then, the steps, and whether there is more to do
@@ -75,7 +93,7 @@ total_line s = codes "total " ++ decimal s.taken ++ 10 ∷ []
 
 -- what a command prints
 abbrev pub command_lines : Command → Session → List ℕ
-command_lines (command.Post i) p = post_lines p.state
+command_lines (command.Post i) p = post_lines i p.state
 command_lines (command.Step n) p = progress_lines p.state (advanced n p.state)
 command_lines command.Show p = frame_text (p.frames + 1) p.frame (shown p.state)
 

@@ -1,5 +1,5 @@
 -- What the bytes of a script mean: lines, each of which says one thing to do, or is skipped, or is wrong.
-use Rattle.std.specs.Prelude.{◌≡◌, ℕ, ◌+◌, ◌*◌, ◌-◌, ◌==◌, nat_le, Bool, true, false, ◌&&◌, if◌then◌else◌, List, [], ◌∷◌, length, take, drop, Option, Some, None, codes}
+use Rattle.std.specs.Prelude.{◌≡◌, ℕ, ◌+◌, ◌*◌, ◌-◌, ◌==◌, nat_le, Bool, true, false, ◌&&◌, if◌then◌else◌, List, [], ◌∷◌, length, take, drop, Option, Some, None, ℤ, pos, codes}
 use Rattle.std.specs.List.{find, filter_map, slice_split}
 use Rattle.std.specs.Option.{option_and_then}
 use Rattle.std.specs.Str.{bytes_eq}
@@ -84,17 +84,41 @@ abbrev pub step_line : Option ℕ → Line
 step_line (Some n) = line.Says (command.Step n)
 step_line None = line.Wrong
 
+abbrev pub tick_line : Option ℕ → Line
+tick_line (Some n) = line.Says (command.Post (input.Tick n))
+tick_line None = line.Wrong
+
+-- an integer that digits write, if there is one
+
+abbrev pub as_integer : Option ℕ → Option ℤ
+as_integer (Some n) = if nat_le n 2147483647 then Some (pos n) else None
+as_integer None = None
+
+abbrev pub integer_of : List ℕ → Option ℤ
+integer_of digits = as_integer (number_of digits)
+
+abbrev pub stream_line : Option ℤ → Line
+stream_line (Some n) = line.Says (command.Post (input.Stream n))
+stream_line None = line.Wrong
+
+abbrev pub engine_line : Option ℤ → Line
+engine_line (Some n) = line.Says (command.Post (input.Engine n))
+engine_line None = line.Wrong
+
 -- the bytes begin with these
 abbrev pub begins : List ℕ → List ℕ → Bool
 begins front bytes = bytes_eq (take (length front) bytes) front
 
--- a line that is one of `run`, `show`, `key NAME` and `step N`
+-- a line that is one of `run`, `show`, `key NAME`, `step N`, `tick N`, `stream N` and `engine N`
 abbrev pub command_line : List ℕ → Line
 command_line l =
     if bytes_eq l (codes "run") then line.Says (command.Step run_limit)
     else (if bytes_eq l (codes "show") then line.Says command.Show
     else (if begins (codes "key ") l then key_line (key_named (drop 4 l))
-    else (if begins (codes "step ") l then step_line (number_of (drop 5 l)) else line.Wrong)))
+    else (if begins (codes "step ") l then step_line (number_of (drop 5 l))
+    else (if begins (codes "tick ") l then tick_line (number_of (drop 5 l))
+    else (if begins (codes "stream ") l then stream_line (integer_of (drop 7 l))
+    else (if begins (codes "engine ") l then engine_line (integer_of (drop 7 l)) else line.Wrong))))))
 
 -- an empty line and one that begins with `#` are skipped
 abbrev pub line_of : List ℕ → Line

@@ -18,6 +18,7 @@ mod saying;
 mod script;
 pub mod sink;
 mod status;
+mod telling;
 mod text;
 mod unplayable;
 

@@ -1,27 +1,24 @@
 //! `Player`: an engine, and what was shown of it. It does the commands of a script one by one, and writes
 //! what the report says of each.
-ghost use Rattle.std.specs.Prelude.{◌≡◌, ◌-◌, ◌<◌, ◌^◌, ◌++◌, false, drop, OnOk, OnErr, IfOk, IsErrOf};
-ghost use Rattle.std.specs.List.{flat_map};
+ghost use Rattle.std.specs.Prelude.{◌≡◌, ◌-◌, ◌<◌, ◌^◌, OnOk, OnErr, IfOk, IsErrOf};
 ghost use Rattle.mh_model.specs.Step.{advanced};
 ghost use Rattle.std.specs.Io.KnownBytes.{Appends};
 ghost use Rattle.mh_report.specs.Sink.{IsBeginning};
-ghost use Rattle.mh_report.specs.Report.{played, opening, fault_word as fault_word_lem, rest_word as rest_word_lem, fault_line, progress_since, refused_line, total_line, command_lines, script_lines, ended, status_of};
+ghost use Rattle.mh_report.specs.Report.{played, opening, total_line, command_lines, script_lines, ended, status_of};
 
 use crate::play_error::PlayError;
 use crate::report::frame_text;
 use crate::script::Command;
 use crate::sink::{Sink, write_all};
 use crate::status::Status;
+use crate::telling::{progress, refusal};
 use crate::text::Text;
-use mh_engine::{Engine, RefusedWhy, Rest};
-use mh_model::{Fault, FaultKind, Input, Picture};
+use mh_engine::Engine;
+use mh_model::{Input, Picture};
 use mh_service::Service;
 use mh_verify::Accepted;
 use std::alloc::{AllocError, Global};
 use std::marker::Model;
-
-/// The number of a refusal because too many inputs wait.
-const QUEUE_FULL: u64 = 51;
 
 /// An engine with the frame that was shown last, and how many were shown.
 #[derive(Drop)]
@@ -125,10 +122,10 @@ impl Player {
         ensures done { OnOk result (self.new ≡ played Command.Show self.old) }
         ensures whole { IfOk result (λ text. text ≡ command_lines Command.Show self.old) }
     {
-        let frame = copied(self.engine.picture())?;
-        let text = frame_text(self.alloc, self.frames + 1, &self.frame, &frame)?;
+        let picture = self.engine.picture();
+        let text = frame_text(self.alloc, self.frames + 1, &self.frame, picture)?;
+        self.frame.copy_from(picture);
         self.frames += 1;
-        self.frame = frame;
         Ok(text)
     }
 
@@ -209,53 +206,6 @@ impl Plays for Player {
     }
 }
 
-#[tactic(auto, unfolding(crate::specs::Report::refused_line))]
-/// The line on a refused post. An engine stops only where memory was refused.
-fn refusal(alloc: Global, why: RefusedWhy) -> Result<Text, AllocError>
-    ensures line { IfOk result (λ text. text ≡ refused_line) }
-    ensures full { OnOk result (why ≡ RefusedWhy.QueueFull) }
-{
-    match why {
-        RefusedWhy::QueueFull => {
-            let mut text = Text::new(alloc);
-            text.put(b"refused ")?;
-            text.put_number(QUEUE_FULL)?;
-            text.put(b"\n")?;
-            Ok(text)
-        }
-        RefusedWhy::Stopped => Err(AllocError),
-        RefusedWhy::NoMemory => Err(AllocError),
-    }
-}
-
-fn copied(picture: &Picture) -> Result<Picture, AllocError>
-    ensures { IfOk result (λ copy. copy ≡ picture.now) }
-{
-    picture.clone()
-}
-
-/// The lines on what happened since so many steps and faults.
-fn progress(alloc: Global, engine: &Engine, steps: u64, faults: usize) -> Result<Text, AllocError>
-    ensures { IfOk result (λ text. text ≡ progress_since steps faults engine.now.state) }
-{
-    let mut text = Text::new(alloc);
-    put_faults(&mut text, engine.faults(), faults)?;
-    text.put(b"did ")?;
-    text.put_number(engine.taken().saturating_sub(steps))?;
-    text.put(rest_word(engine.rest()))?;
-    text.put(b"\n")?;
-    Ok(text)
-}
-
-fn rest_word(rest: Rest) -> &'static [u8]
-    ensures { result.now ≡ rest_word_lem rest }
-{
-    match rest {
-        Rest::Idle => b" idle",
-        Rest::More => b" more",
-    }
-}
-
 /// Makes so many steps, or as many as there is something to do. An engine stops only where memory was
 /// refused.
 fn make_steps(engine: &mut Engine, limit: u32) -> Result<(), AllocError>
@@ -264,49 +214,5 @@ fn make_steps(engine: &mut Engine, limit: u32) -> Result<(), AllocError>
     match engine.advance(limit) {
         Ok(()) => Ok(()),
         Err(_) => Err(AllocError),
-    }
-}
-
-/// Puts a line for each fault but the first ones.
-fn put_faults(text: &mut Text, faults: &[Fault], known: usize) -> Result<(), AllocError>
-    ensures { OnOk result (text.new ≡ text.old ++ flat_map fault_line (drop known faults.now)) }
-{
-    if known < faults.len() {
-        put_all_faults(text, &faults[known..])?;
-    }
-    Ok(())
-}
-
-fn put_all_faults(text: &mut Text, faults: &[Fault]) -> Result<(), AllocError>
-    ensures { OnOk result (text.new ≡ text.old ++ flat_map fault_line faults.now) }
-{
-    for fault in faults {
-        put_fault(text, fault)?;
-    }
-    Ok(())
-}
-
-#[tactic(auto, unfolding(crate::specs::Report::fault_line))]
-fn put_fault(text: &mut Text, fault: &Fault) -> Result<(), AllocError>
-    ensures { OnOk result (text.new ≡ text.old ++ fault_line fault.now) }
-{
-    text.put(b"fault ")?;
-    text.put(fault_word(fault.what))?;
-    text.put(b" ")?;
-    text.put(fault.action.word())?;
-    text.put(b" ")?;
-    text.put(fault.at.group.as_bytes())?;
-    text.put(b" ")?;
-    text.put_number(u64::from(fault.at.number))?;
-    text.put(b"\n")
-}
-
-fn fault_word(kind: FaultKind) -> &'static [u8]
-    ensures { result.now ≡ fault_word_lem kind }
-{
-    match kind {
-        FaultKind::Absent => b"absent",
-        FaultKind::WrongClass => b"class",
-        FaultKind::WrongKind => b"kind",
     }
 }

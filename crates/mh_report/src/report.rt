@@ -1,59 +1,49 @@
 //! The frames of a report: which rows differ, and the runs of cells of a row.
 //!
 //! Everything is put together as text here; writing it is left to `sink`.
-ghost use Rattle.std.specs.Prelude.{◌≡◌, ◌+◌, ◌<◌, ◌++◌, OnOk, IfOk, length};
+ghost use Rattle.std.specs.Prelude.{◌≡◌, ◌+◌, ◌<◌, ◌≤◌, ◌++◌, OnOk, IfOk, length};
 ghost use Rattle.std.specs.List.{list_all};
-ghost use Rattle.mh_report.specs.Frame.{is_space, begun, longer, fits, is_blank, shown_length, run_text, place, characters, runs, row_cells, same_cell, differ, row_line, row_change, row_changes, frame_text};
+ghost use Rattle.mh_report.specs.Frame.{is_space, is_blank, behind, shown_length, run_text, place, characters, runs, row_cells, row_line, row_changes, frame_text};
+ghost use Rattle.mh_report.specs.Stretch.{stretch, have_colours, runs_left};
 
 use crate::text::Text;
-use mh_base::Seq;
+use mh_display::changed_rows;
+use mh_model::Picture;
 use mh_model::picture::{COLUMNS, ROWS};
-use mh_model::{Cell, Picture};
 use std::alloc::{AllocError, Global};
+use std::marker::Model;
 
-/// A stretch of cells of one row with the same colours.
+/// A stretch of cells of one row with the same colours, as it lies in the planes of a picture.
 #[derive(Drop)]
-pub struct Run {
-    pub first: usize,
-    pub fore: u32,
-    pub back: u32,
-    pub scalars: Seq<u32>,
+struct Run<'a> {
+    first: usize,
+    fore: u32,
+    back: u32,
+    scalars: &'a [u32],
 }
 
-/// The run of one cell.
-fn begun(alloc: Global, column: usize, cell: Cell) -> Result<Run, AllocError>
-    ensures { IfOk result (λ run. run ≡ begun column cell) }
-{
-    let mut scalars = Seq::new(alloc);
-    scalars.push(cell.scalar)?;
-    Ok(Run {
-        first: column,
-        fore: cell.fore,
-        back: cell.back,
-        scalars,
-    })
+impl<'a> Model for Run<'a> {
+    ghost use Rattle.mh_report.specs.Frame.{Run};
+
+    ghost Value = { Run };
+
+    ghost view = { λ r. record { first = r.first; fore = r.fore; back = r.back; scalars = r.scalars.now } };
 }
 
-impl Run {
-    /// Takes one more cell.
-    fn grow(&mut self, cell: Cell) -> Result<(), AllocError>
-        ensures { OnOk result (self.new ≡ longer self.old cell) }
+impl<'a> Run<'a> {
+    /// The column behind it.
+    fn behind(&self) -> usize
+        requires { self.now.first + length self.now.scalars < 1000 }
+        ensures { result ≡ behind self.now }
     {
-        self.scalars.push(cell.scalar)
-    }
-
-    /// Whether a cell has the colours of the run.
-    fn fits(&self, cell: Cell) -> bool
-        ensures { result ≡ fits self.now cell }
-    {
-        self.fore == cell.fore && self.back == cell.back
+        self.first + self.scalars.len()
     }
 
     /// Whether it is black spaces on black, which are not printed.
     fn is_blank(&self) -> bool
         ensures { result ≡ is_blank self.now }
     {
-        self.fore == 0 && self.back == 0 && are_spaces(self.scalars.as_slice())
+        self.fore == 0 && self.back == 0 && are_spaces(self.scalars)
     }
 
     /// Puts the run behind the text.
@@ -78,7 +68,7 @@ impl Run {
         text.put(b" ")?;
         text.put_number(self.first as u64)?;
         text.put(b"-")?;
-        text.put_number((self.first + self.scalars.len() - 1) as u64)?;
+        text.put_number((self.behind() - 1) as u64)?;
         text.put(b" ")?;
         text.put_colour(self.fore)?;
         text.put(b"/")?;
@@ -89,9 +79,7 @@ impl Run {
         ensures { OnOk result (text.new ≡ text.old ++ characters self.now.scalars) }
     {
         text.put(b" \"")?;
-        let scalars = self.scalars.as_slice();
-        let shown = shown_length(scalars);
-        text.put_all_quoted(&scalars[..shown])?;
+        text.put_all_quoted(&self.scalars[..shown_length(self.scalars)])?;
         text.put(b"\"")
     }
 }
@@ -113,98 +101,91 @@ fn are_spaces(scalars: &[u32]) -> bool
     scalars.iter().all(|scalar| *scalar == 32)
 }
 
-/// Puts the runs of a row behind the text.
-pub fn put_runs(alloc: Global, text: &mut Text, cells: &[Cell]) -> Result<(), AllocError>
-    requires { length cells.now < 1000 }
-    ensures { OnOk result (text.new ≡ text.old ++ runs cells.now) }
-{
-    let Some((first, others)) = cells.split_first() else {
-        return Ok(());
-    };
-    let mut run = begun(alloc, 0, *first)?;
-    for cell in others {
-        if run.fits(*cell) {
-            run.grow(*cell)?;
-        } else {
-            run.put(text)?;
-            let column = run.first + run.scalars.len();
-            run = begun(alloc, column, *cell)?;
-        }
-    }
-    run.put(text)
-}
-
-/// The cells of a row.
-#[tactic(auto, unfolding(crate::specs::Frame::row_cells))]
-fn row_cells(alloc: Global, picture: &Picture, row: usize) -> Result<Vec<Cell>, AllocError>
-    requires { row < 36 }
-    ensures { IfOk result (λ cells. cells.items ≡ row_cells picture.now row) }
-{
-    (0..COLUMNS)
-        .map(|column| picture.cell(row * COLUMNS + column))
-        .collect(alloc)
-}
-
-fn same_cell(one: Cell, other: Cell) -> bool
-    ensures { result ≡ same_cell one other }
-{
-    one.scalar == other.scalar && one.fore == other.fore && one.back == other.back
-}
-
-/// Whether two rows differ.
-fn differ(before: &[Cell], after: &[Cell]) -> bool
-    ensures { result ≡ differ before.now after.now }
-{
-    before
-        .iter()
-        .zip(after)
-        .any(|(one, other)| !same_cell(*one, *other))
-}
-
-/// Puts the line of a row behind the text.
-fn put_row(alloc: Global, text: &mut Text, row: usize, cells: &[Cell]) -> Result<(), AllocError>
+/// The run of a row that begins in this column.
+fn run_at<'a>(picture: &'a Picture, row: usize, first: usize) -> Run<'a>
     requires row { row < 36 }
-    requires cells { length cells.now < 1000 }
-    ensures { OnOk result (text.new ≡ text.old ++ row_line row cells.now) }
+    requires first { first < 60 }
+    ensures first { result.first ≡ first }
+    ensures some { 0 < length result.scalars }
+    ensures within { behind result ≤ 60 }
+    ensures whole { let left = runs_left picture.now row in
+        left first ≡ run_text result ++ left (behind result) }
 {
-    text.put(b"row ")?;
-    text.put_two_digits(row as u8)?;
-    text.put(b":")?;
-    put_runs(alloc, text, cells)?;
-    text.put(b"\n")
+    let start = row * COLUMNS;
+    let end = run_end(picture, row, first);
+    Run {
+        first,
+        fore: picture.fores()[start + first],
+        back: picture.backs()[start + first],
+        scalars: &picture.scalars()[start + first..start + end],
+    }
 }
 
-/// Puts the line of a row behind the text, if the row differs from the one before.
-#[tactic(auto, using(crate::proofs::FrameLemmas::row_cells_length), unfolding(crate::specs::Frame::row_change))]
-fn put_change(
-    alloc: Global,
-    text: &mut Text,
-    row: usize,
-    before: &Picture,
-    after: &Picture,
-) -> Result<(), AllocError>
-    requires { row < 36 }
-    ensures { OnOk result (text.new ≡ text.old ++ row_change before.now after.now row) }
+/// The column behind the cells that have the colours of this one.
+fn run_end(picture: &Picture, row: usize, first: usize) -> usize
+    requires row { row < 36 }
+    requires first { first < 60 }
+    ensures some { first < result }
+    ensures within { result ≤ 60 }
+    ensures whole { let left = runs_left picture.now row in
+        left first ≡ run_text (stretch picture.now row first result) ++ left result }
 {
-    let old = row_cells(alloc, before, row)?;
-    let new = row_cells(alloc, after, row)?;
-    if differ(old.as_slice(), new.as_slice()) {
-        put_row(alloc, text, row, new.as_slice())?;
+    let _ = picture.cells();
+    let start = row * COLUMNS;
+    let mut end = first + 1;
+    while end < COLUMNS && are_alike(picture, start + first, start + end) {
+        end += 1;
+    }
+    end
+}
+
+/// Whether two cells have the same colours.
+fn are_alike(picture: &Picture, one: usize, other: usize) -> bool
+    requires one { one < 2160 }
+    requires other { other < 2160 }
+    ensures { result ≡ have_colours picture.now one other }
+{
+    let fores = picture.fores();
+    let backs = picture.backs();
+    fores[one] == fores[other] && backs[one] == backs[other]
+}
+
+/// Puts the runs of a row behind the text.
+fn put_runs(text: &mut Text, picture: &Picture, row: usize) -> Result<(), AllocError>
+    requires { row < 36 }
+    ensures { OnOk result (text.new ≡ text.old ++ runs (row_cells picture.now row)) }
+{
+    let mut column = 0;
+    while column < COLUMNS {
+        let run = run_at(picture, row, column);
+        run.put(text)?;
+        column = run.behind();
     }
     Ok(())
 }
 
+/// Puts the line of a row behind the text.
+fn put_row(text: &mut Text, picture: &Picture, row: usize) -> Result<(), AllocError>
+    requires { row < 36 }
+    ensures { OnOk result (text.new ≡ text.old ++ row_line row (row_cells picture.now row)) }
+{
+    text.put(b"row ")?;
+    text.put_two_digits(row as u8)?;
+    text.put(b":")?;
+    put_runs(text, picture, row)?;
+    text.put(b"\n")
+}
+
 /// Puts the lines of all rows that differ behind the text.
-fn put_changes(
-    alloc: Global,
-    text: &mut Text,
-    before: &Picture,
-    after: &Picture,
-) -> Result<(), AllocError>
+fn put_changes(text: &mut Text, before: &Picture, after: &Picture) -> Result<(), AllocError>
     ensures { OnOk result (text.new ≡ text.old ++ row_changes before.now after.now) }
 {
+    let _ = (before.cells(), after.cells());
+    let changed = changed_rows(before, after);
     for row in 0..ROWS {
-        put_change(alloc, text, row, before, after)?;
+        if changed[row] {
+            put_row(text, after, row)?;
+        }
     }
     Ok(())
 }
@@ -222,6 +203,6 @@ pub fn frame_text(
     text.put(b"frame ")?;
     text.put_number(number)?;
     text.put(b"\n")?;
-    put_changes(alloc, &mut text, before, after)?;
+    put_changes(&mut text, before, after)?;
     Ok(text)
 }

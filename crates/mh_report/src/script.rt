@@ -5,7 +5,7 @@
 ghost use Rattle.std.specs.Prelude.{◌≡◌, ◌<◌, ◌==◌, ◌∷◌, IfOk, IfErr, IfSome, OnOk, None, length};
 ghost use Rattle.std.specs.List.{position};
 ghost use Rattle.std.specs.Option.{option_copied};
-ghost use Rattle.mh_report.specs.Script.{lines, line_of as line_of_lem, commands, first_wrong, key_name as key_name_lem, key_named as key_named_lem, key_line as key_line_lem, step_line as step_line_lem, with_digit as with_digit_lem, lines_behind, number_of as number_of_lem, IsWrongAt};
+ghost use Rattle.mh_report.specs.Script.{lines, line_of as line_of_lem, commands, first_wrong, key_name as key_name_lem, key_named as key_named_lem, key_line as key_line_lem, step_line as step_line_lem, tick_line as tick_line_lem, stream_line as stream_line_lem, engine_line as engine_line_lem, integer_of as integer_of_lem, with_digit as with_digit_lem, lines_behind, number_of as number_of_lem, IsWrongAt};
 
 use mh_base::Seq;
 use mh_model::{Input, Key};
@@ -107,6 +107,9 @@ pub fn line_of(line: &[u8]) -> Line
         b"show" => Line::Says(Command::Show),
         [b'k', b'e', b'y', b' ', name @ ..] => key_line(name),
         [b's', b't', b'e', b'p', b' ', number @ ..] => step_line(number),
+        [b't', b'i', b'c', b'k', b' ', number @ ..] => tick_line(number),
+        [b's', b't', b'r', b'e', b'a', b'm', b' ', number @ ..] => stream_line(number),
+        [b'e', b'n', b'g', b'i', b'n', b'e', b' ', number @ ..] => engine_line(number),
         _ => Line::Wrong,
     }
 }
@@ -125,6 +128,33 @@ fn step_line(digits: &[u8]) -> Line
 {
     match number_of(digits) {
         Some(limit) => Line::Says(Command::Step(limit)),
+        None => Line::Wrong,
+    }
+}
+
+fn tick_line(digits: &[u8]) -> Line
+    ensures { result ≡ tick_line_lem (number_of_lem digits.now) }
+{
+    match number_of(digits) {
+        Some(length) => Line::Says(Command::Post(Input::Tick(length))),
+        None => Line::Wrong,
+    }
+}
+
+fn stream_line(digits: &[u8]) -> Line
+    ensures { result ≡ stream_line_lem (integer_of_lem digits.now) }
+{
+    match integer_of(digits) {
+        Some(tag) => Line::Says(Command::Post(Input::Stream(tag))),
+        None => Line::Wrong,
+    }
+}
+
+fn engine_line(digits: &[u8]) -> Line
+    ensures { result ≡ engine_line_lem (integer_of_lem digits.now) }
+{
+    match integer_of(digits) {
+        Some(number) => Line::Says(Command::Post(Input::Engine(number))),
         None => Line::Wrong,
     }
 }
@@ -206,6 +236,16 @@ pub fn number_of(digits: &[u8]) -> Option<u32>
         }
     }
     Some(number)
+}
+
+/// The integer that decimal digits write, if it fits.
+pub fn integer_of(digits: &[u8]) -> Option<i32>
+    ensures { result ≡ integer_of_lem digits.now }
+{
+    match number_of(digits) {
+        Some(number) if number <= 2_147_483_647 => Some(number as i32),
+        _ => None,
+    }
 }
 
 /// The number with one digit more, if that fits.

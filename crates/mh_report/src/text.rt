@@ -13,7 +13,6 @@ const REPLACEMENT: char = '\u{FFFD}';
 /// Bytes in the making. A contract sees the list of them.
 #[derive(Drop)]
 pub struct Text {
-    alloc: Global,
     bytes: Vec<u8>,
 }
 
@@ -30,7 +29,6 @@ impl Text {
         ensures { result ≡ [] }
     {
         Text {
-            alloc,
             bytes: Vec::new(alloc),
         }
     }
@@ -60,9 +58,10 @@ impl Text {
     pub fn put_number(&mut self, number: u64) -> Result<(), AllocError>
         ensures { OnOk result (self.new ≡ self.old ++ decimal number) }
     {
-        let alloc = self.alloc;
-        let digits = format!(in alloc; "{number}")?;
-        self.put(digits.as_bytes())
+        if number >= 10 {
+            self.put_number(number / 10)?;
+        }
+        self.put_byte(b'0' + (number % 10) as u8)
     }
 
     /// Puts a number below 100 in two digits.
@@ -95,6 +94,7 @@ impl Text {
         match scalar {
             34 => self.put(b"\\\""),
             92 => self.put(b"\\\\"),
+            0..=127 => self.put_byte(scalar as u8),
             _ => self.put_character(char::from_u32(scalar).unwrap_or(REPLACEMENT)),
         }
     }

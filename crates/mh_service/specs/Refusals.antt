@@ -1,6 +1,6 @@
 -- Why files are no service, or none that is played yet: one definition for each number, with the group
 -- that it names, and the order in which they are looked for.
-use Rattle.std.specs.Prelude.{◌≡◌, ℕ, Bool, true, false, ◌&&◌, ◌||◌, not, ◌==◌, nat_eq, if◌then◌else◌, List, [], ◌∷◌, ◌++◌, map, filter, Option, Some, None}
+use Rattle.std.specs.Prelude.{◌≡◌, ℕ, Bool, true, false, ◌&&◌, ◌||◌, not, nat_eq, if◌then◌else◌, List, [], ◌∷◌, ◌++◌, map, filter, Option, Some, None}
 use Rattle.std.specs.List.{list_all, list_any, find}
 use Rattle.std.specs.Option.{option_map, option_or}
 use Rattle.std.specs.Ordering.{is_lt, nat_cmp}
@@ -15,7 +15,7 @@ use Rattle.mh_group.specs.declared.written.Setting.TheVariants as setting
 use Rattle.mh_group.specs.declared.written.Field.{Field}
 use Rattle.mh_group.specs.declared.written.Ingredient.{Ingredient}
 use Rattle.mh_group.specs.declared.written.Written.{Written}
-use Rattle.mh_group.specs.Table.{class_number, is_application, is_group_class, is_variable}
+use Rattle.mh_group.specs.Table.{is_application, is_group_class, is_variable}
 use Rattle.mh_group.specs.Fit.{items_of}
 use Rattle.mh_service.specs.declared.room.Room.{Room}
 use Rattle.mh_service.specs.declared.service_error.Why.{Why}
@@ -76,14 +76,15 @@ over_limit r (f ∷ fs) = if has_room r f.1 then over_limit (room_behind r f.1) 
 abbrev pub bad_reference : List File → Option (List ℕ)
 bad_reference files = first_named (λ f. not (group_leads f.0 f.1)) files
 
--- 36: what is not played yet: classes, actions, and more than one application or scene. Of an action
--- that is played, each target and each parameter is, written directly or through a variable.
+-- 36: the classes and actions that are not played yet. Of an action that is played, each target and each
+-- parameter is, written directly or through a variable.
 
 abbrev pub is_played_class : Class → Bool
 is_played_class class.Link = true
 is_played_class class.Rectangle = true
 is_played_class class.Text = true
 is_played_class class.DynamicLineArt = true
+is_played_class class.Stream = true
 is_played_class c = is_group_class c || is_variable c
 
 abbrev pub is_played_name : ActionName → Bool
@@ -94,7 +95,11 @@ is_played_name action.Unload = true
 is_played_name action.GetAvailabilityStatus = true
 is_played_name action.GetRunningStatus = true
 is_played_name action.SendEvent = true
+is_played_name action.SetTimer = true
+is_played_name action.Launch = true
+is_played_name action.Quit = true
 is_played_name action.TransitionTo = true
+is_played_name action.SetInputRegister = true
 is_played_name action.Activate = true
 is_played_name action.Deactivate = true
 is_played_name action.SetVariable = true
@@ -144,12 +149,8 @@ is_played_group w = list_all is_played_field w.fields && list_all is_played_ingr
 abbrev pub is_before : List ℕ → List ℕ → Bool
 is_before a b = is_lt (slice_cmp nat_cmp a b)
 
--- a group of the same class has a name before this one
-abbrev pub is_further : List File → File → Bool
-is_further files f = list_any (λ g. class_number g.1.class == class_number f.1.class && is_before g.0 f.0) files
-
-abbrev pub is_unplayed : List File → File → Bool
-is_unplayed files f = not (is_played_group f.1) || is_further files f
+abbrev pub is_unplayed : File → Bool
+is_unplayed f = not (is_played_group f.1)
 
 -- the first in order of these names and of the one so far
 abbrev pub least_name : Option (List ℕ) → List (List ℕ) → Option (List ℕ)
@@ -158,7 +159,7 @@ least_name None (n ∷ ns) = least_name (Some n) ns
 least_name (Some m) (n ∷ ns) = least_name (Some (if is_before n m then n else m)) ns
 
 abbrev pub first_unplayed : List File → Option (List ℕ)
-first_unplayed files = least_name None (map (λ f. f.0) (filter (is_unplayed files) files))
+first_unplayed files = least_name None (map (λ f. f.0) (filter is_unplayed files))
 
 -- A refusal: the reason, and the name of the group.
 

@@ -2,9 +2,9 @@
 //!
 //! Promise: each application comes without a scene and then with each scene of the service, in the order
 //! of the groups. Which of them are reached is left to `mh_verify`.
-ghost use Rattle.std.specs.Prelude.{◌≡◌, ◌++◌, true, false, None, Some, IfOk, OnOk, map};
-ghost use Rattle.mh_group.specs.Table.{is_scene};
-ghost use Rattle.mh_model.specs.Configuration.{configurations as configurations_lem, names as names_lem, with_scenes, is_group_of, is_service, same_config};
+ghost use Rattle.std.specs.Prelude.{◌≡◌, ◌++◌, true, false, None, Some, IfOk, OnOk, map, length, nat_le};
+ghost use Rattle.mh_group.specs.Table.{is_scene, is_application};
+ghost use Rattle.mh_model.specs.Configuration.{configurations as configurations_lem, names as names_lem, is_single as is_single_lem, with_scenes, is_group_of, is_service, same_config};
 ghost use Rattle.mh_model.specs.Service.{part_at, group_ref, same_ref};
 ghost use Rattle.std.specs.List.{flat_map, IsDistinct};
 ghost use Rattle.std.specs.Str.{bytes_eq};
@@ -46,6 +46,34 @@ impl Service {
         let scenes = self.names(alloc, Wanted::Scenes)?;
         let configs = all_with_scenes(alloc, applications.as_slice(), scenes.as_slice())?;
         Ok(configs)
+    }
+
+    /// Whether there is one application at most, and one scene.
+    pub fn is_single(&self) -> bool
+        ensures { result ≡ is_single_lem self.now }
+    {
+        self.has_one_at_most(Wanted::Applications) && self.has_one_at_most(Wanted::Scenes)
+    }
+
+    fn has_one_at_most(&self, wanted: Wanted) -> bool
+        ensures { result ≡ nat_le (length (names_lem (is_wanted wanted) self.now)) 1 }
+    {
+        let mut one = false;
+        let mut several = false;
+        for name in self.groups().keys() {
+            if self.is_of(name, wanted) {
+                several = several || one;
+                one = true;
+            }
+        }
+        !several
+    }
+
+    /// Whether a group of this name is an application.
+    pub fn has_application(&self, name: &GroupName) -> bool
+        ensures { result ≡ is_group_of is_application self.now name.now }
+    {
+        self.is_of(name, Wanted::Applications)
     }
 
     /// Whether a group of this name is a scene.

@@ -6,7 +6,7 @@ ghost use Rattle.std.specs.Prelude.{◌≡◌, ◌&&◌, not, true, false, None,
 ghost use Rattle.std.specs.List.{list_all};
 ghost use Rattle.std.specs.Option.{option_copied};
 ghost use Rattle.mh_group.specs.Table.{is_application as is_application_lem};
-ghost use Rattle.mh_service.specs.Refusals.{Refuses, for_reason, double_name as double_name_lem, missing_start as missing_start_lem, double_number as double_number_lem, has_double, start_unfit as start_unfit_lem, has_group as has_group_lem, has_application as has_application_lem, over_limit as over_limit_lem, least_name, first_unplayed as first_unplayed_lem, is_unplayed as is_unplayed_lem, is_further as is_further_lem, is_before as is_before_lem, is_played_class as is_played_class_lem, is_played_name as is_played_name_lem, is_played_setting as is_played_setting_lem, is_played_field as is_played_field_lem, is_played_ingredient as is_played_ingredient_lem, is_played_group as is_played_group_lem, refusal_before};
+ghost use Rattle.mh_service.specs.Refusals.{Refuses, for_reason, double_name as double_name_lem, missing_start as missing_start_lem, double_number as double_number_lem, has_double, start_unfit as start_unfit_lem, has_group as has_group_lem, has_application as has_application_lem, over_limit as over_limit_lem, least_name, first_unplayed as first_unplayed_lem, is_unplayed as is_unplayed_lem, is_before as is_before_lem, is_played_class as is_played_class_lem, is_played_name as is_played_name_lem, is_played_setting as is_played_setting_lem, is_played_field as is_played_field_lem, is_played_ingredient as is_played_ingredient_lem, is_played_group as is_played_group_lem, refusal_before};
 ghost use Rattle.mh_service.specs.Limits.{whole_room};
 
 use crate::room::Room;
@@ -145,14 +145,14 @@ fn over_limit(files: &[(GroupName, Group)]) -> Option<&GroupName>
     None
 }
 
-/// The first group in order of name that is not played yet: one that writes a class or an action that is
-/// not played, and each application or scene but the first.
+/// The first group in order of name that is not played yet: it writes a class or an action that is not
+/// played.
 pub fn first_unplayed(files: &[(GroupName, Group)]) -> Option<&GroupName>
     ensures { option_copied result ≡ first_unplayed_lem files.now }
 {
     let mut least: Option<&GroupName> = None;
     for file in files {
-        if is_unplayed(files, file) {
+        if is_unplayed(file) {
             least = Some(lesser(least, &file.0));
         }
     }
@@ -175,19 +175,10 @@ fn is_before(first: &GroupName, second: &GroupName) -> bool
     first.as_bytes().cmp(&second.as_bytes()).is_lt()
 }
 
-fn is_unplayed(files: &[(GroupName, Group)], file: &(GroupName, Group)) -> bool
-    ensures { result ≡ is_unplayed_lem files.now file.now }
+fn is_unplayed(file: &(GroupName, Group)) -> bool
+    ensures { result ≡ is_unplayed_lem file.now }
 {
-    !is_played_group(file.1.written()) || is_further(files, file)
-}
-
-/// Whether a group of the same class has a name before this one.
-fn is_further(files: &[(GroupName, Group)], file: &(GroupName, Group)) -> bool
-    ensures { result ≡ is_further_lem files.now file.now }
-{
-    let number = file.1.written().class.number();
-    files.iter().any(|other| other.1.written().class.number() == number
-        && is_before(&other.0, &file.0))
+    !is_played_group(file.1.written())
 }
 
 /// Whether all that the group writes is played.
@@ -216,7 +207,7 @@ fn is_played_class(class: Class) -> bool
 {
     matches!(
         class,
-        Class::Link | Class::Rectangle | Class::Text | Class::DynamicLineArt
+        Class::Link | Class::Rectangle | Class::Text | Class::DynamicLineArt | Class::Stream
     ) || class.is_group()
         || class.is_variable()
 }
@@ -233,7 +224,11 @@ fn is_played_name(name: ActionName) -> bool
             | ActionName::GetAvailabilityStatus
             | ActionName::GetRunningStatus
             | ActionName::SendEvent
+            | ActionName::SetTimer
+            | ActionName::Launch
+            | ActionName::Quit
             | ActionName::TransitionTo
+            | ActionName::SetInputRegister
             | ActionName::Activate
             | ActionName::Deactivate
             | ActionName::SetVariable

@@ -1,5 +1,5 @@
 -- The objects of an application and those of a scene as one list.
-use Rattle.std.proofs.Common.{◌≡◌, Bool, true, false, ◌||◌, if◌then◌else◌, cond, List, [], ◌∷◌, Option, Some, None, Result, Ok, Err, OnOk, OnErr, IfOk, refl, ap, sym, ◌∙◌}
+use Rattle.std.proofs.Common.{◌≡◌, Bool, true, false, ◌||◌, if◌then◌else◌, cond, List, [], ◌∷◌, Option, Some, None, Result, Ok, Err, OnOk, OnErr, refl, ap, sym, ◌∙◌}
 use Rattle.std.specs.List.{list_any}
 use Rattle.std.specs.Option.{is_some, option_or}
 use Rattle.std.proofs.lemmas.List.Folds.{find-append}
@@ -11,13 +11,11 @@ use Rattle.mh_model.specs.declared.object.Fixed.{Fixed}
 use Rattle.mh_model.specs.declared.object.Object.{Object}
 use Rattle.mh_model.specs.Bodies.{given}
 use Rattle.mh_model.specs.Edits.{edited}
-use Rattle.mh_model.specs.Lifecycle.{is_visible_at}
 use Rattle.mh_model.specs.Rules.{is_at, on_body, changed_in, changed}
 use Rattle.mh_model.specs.Service.{object_at, parts}
 use Rattle.mh_model.specs.State.{Objects, all}
 use Rattle.mh_model.proofs.PartLemmas.{changed-own, changed-others}
-use Rattle.mh_store.specs.declared.tried.Tried.TheVariants as trying
-use Rattle.mh_store.specs.Trying.{tried, left_over}
+use Rattle.mh_store.specs.Trying.{left_over}
 
 -- the application's objects hide those of the scene
 pub object_at-all : (r : ObjRef) (os : Objects) → object_at r (all os) ≡ option_or (object_at r os.application) (object_at r os.scene)
@@ -67,14 +65,6 @@ changed-behind f r os own others none is behind = by (list_any (is_at r) os.appl
 
 -- What came of a change
 
-pub done-there : (e : Edit) (b : Bool) (m : Option Object) → trying.Done b ≡ tried e m → (is_some m ≡ true) × (b ≡ is_visible_at m)
-done-there e b None is = absurd cc
-done-there e b (Some o) is = (refl, cc)
-
-pub left-nowhere : (e back : Edit) (m : Option Object) → trying.Left back ≡ tried e m → (m ≡ None) × (back ≡ e)
-left-nowhere e back None is = (refl, cc)
-left-nowhere e back (Some o) is = absurd cc
-
 pub taken-there : {X : Type 0} (x : X) (m : Option Object) → None ≡ left_over x m → is_some m ≡ true
 taken-there x None is = absurd cc
 taken-there x (Some o) is = refl
@@ -86,43 +76,34 @@ back-nowhere x back (Some o) is = absurd cc
 -- Both tried, one after the other
 
 -- what an edit promises of the objects as they were, and of what became of them
-pub record IsEdited {E : Type 0} (e : Edit) (r : ObjRef) (os after : Objects) (answer : Result Bool E) : Type 0 where
+pub record IsEdited {T E : Type 0} (e : Edit) (r : ObjRef) (os after : Objects) (answer : Result T E) : Type 0 where
   pub done : OnOk answer (after ≡ changed (edited e) r os)
-  pub seen : IfOk answer (λ seen. seen ≡ is_visible_at (object_at r (all os)))
   pub own : parts after.application ≡ parts os.application
   pub others : parts after.scene ≡ parts os.scene
   pub kept : OnErr answer (after ≡ os)
 
 -- each part of it, where the change was carried out
-changed-edited : {E : Type 0} (e : Edit) (r : ObjRef) (os after : Objects) (seen : Bool) → after ≡ changed (edited e) r os → seen ≡ is_visible_at (object_at r (all os)) → IsEdited {E = E} e r os after (Ok seen)
-changed-edited e r os after seen is told = record {
+changed-edited : {T E : Type 0} (e : Edit) (r : ObjRef) (os after : Objects) (x : T) → after ≡ changed (edited e) r os → IsEdited {E = E} e r os after (Ok x)
+changed-edited e r os after x is = record {
   done = is;
-  seen = told;
   own = ap (λ (x : Objects). parts x.application) is ∙ changed-own (edited e) r os;
   others = ap (λ (x : Objects). parts x.scene) is ∙ changed-others (edited e) r os;
   kept = tt;
 }
 
-pub edited-first : (e : Edit) (r : ObjRef) (os : Objects) (own : List Object) (seen : Bool) → trying.Done seen ≡ tried e (object_at r os.application) → own ≡ changed_in (edited e) r os.application → IsEdited {E = Unit {0}} e r os (record os { application = own }) (Ok seen)
-edited-first e r os own seen told is =
-    let there = done-there e seen (object_at r os.application) told in
-    changed-edited e r os (record os { application = own }) seen (changed-first (edited e) r os own there.0 is) (there.1 ∙ by (object_at r os.application) there.0 ∙ ap is_visible_at (sym (object_at-all r os)))
-  where
-    by : (m : Option Object) → is_some m ≡ true → is_visible_at m ≡ is_visible_at (option_or m (object_at r os.scene))
-    by None h = absurd cc
-    by (Some o) h = refl
+pub edited-first : {T E : Type 0} (e : Edit) (r : ObjRef) (os : Objects) (own : List Object) (x : T) → None ≡ left_over e (object_at r os.application) → own ≡ changed_in (edited e) r os.application → IsEdited {E = E} e r os (record os { application = own }) (Ok x)
+edited-first e r os own x taken is = changed-edited e r os (record os { application = own }) x (changed-first (edited e) r os own (taken-there e (object_at r os.application) taken) is)
 
-pub edited-behind : {E : Type 0} (answer : Result Bool E) (e back : Edit) (r : ObjRef) (os : Objects) (own others : List Object) → trying.Left back ≡ tried e (object_at r os.application) → own ≡ changed_in (edited e) r os.application → OnOk answer (others ≡ changed_in (edited back) r os.scene) → IfOk answer (λ seen. seen ≡ is_visible_at (object_at r os.scene)) → OnErr answer (others ≡ os.scene) → IsEdited e r os (record { application = own; scene = others }) answer
-edited-behind (Ok seen) e back r os own others told is behind saw kept =
-    let left = left-nowhere e back (object_at r os.application) told in
+pub edited-behind : {T E : Type 0} (answer : Result T E) (e back : Edit) (r : ObjRef) (os : Objects) (own others : List Object) → Some back ≡ left_over e (object_at r os.application) → own ≡ changed_in (edited e) r os.application → OnOk answer (others ≡ changed_in (edited back) r os.scene) → OnErr answer (others ≡ os.scene) → IsEdited e r os (record { application = own; scene = others }) answer
+edited-behind (Ok x) e back r os own others came is behind kept =
+    let left = back-nowhere e back (object_at r os.application) came in
     let there : others ≡ changed_in (edited e) r os.scene = behind ∙ ap (λ (x : Edit). changed_in (edited x) r os.scene) left.1 in
-    changed-edited e r os (record { application = own; scene = others }) seen (changed-behind (edited e) r os own others left.0 is there) (saw ∙ ap is_visible_at (found_behind r os (object_at r os.scene) (sym left.0) refl))
-edited-behind (Err why) e back r os own others told is behind saw kept =
-    let left = left-nowhere e back (object_at r os.application) told in
+    changed-edited e r os (record { application = own; scene = others }) x (changed-behind (edited e) r os own others left.0 is there)
+edited-behind (Err why) e back r os own others came is behind kept =
+    let left = back-nowhere e back (object_at r os.application) came in
     let same : own ≡ os.application = is ∙ sym (changed_in-nowhere (edited e) r os.application left.0) in
     record {
       done = tt;
-      seen = tt;
       own = ap parts same;
       others = ap parts kept;
       kept = λ i. record { application = same i; scene = kept i };

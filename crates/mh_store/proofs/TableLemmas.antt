@@ -1,5 +1,5 @@
 -- A table of the objects of one group against the list of them.
-use Rattle.std.proofs.Common.{◌≡◌, ℕ, Bool, true, false, ◌&&◌, not, cond, if◌then◌else◌, List, [], ◌∷◌, Some, None, Result, Ok, Err, OnOk, OnErr, IfOk, refl, ap, sym, subst, ◌∙◌}
+use Rattle.std.proofs.Common.{Option, ◌≡◌, ℕ, Bool, true, false, ◌&&◌, not, cond, if◌then◌else◌, List, [], ◌∷◌, Some, None, Result, Ok, Err, OnOk, OnErr, IfOk, refl, ap, sym, subst, ◌∙◌}
 use Rattle.std.specs.Prelude.{nat_eq}
 use Rattle.std.specs.Map.{lookup, set_value}
 use Rattle.std.specs.Str.{bytes_eq}
@@ -10,9 +10,8 @@ use Rattle.mh_model.specs.declared.object.Fixed.{Fixed}
 use Rattle.mh_model.specs.declared.object.Object.{Object}
 use Rattle.mh_model.specs.Rules.{is_at, on_body, changed_in}
 use Rattle.mh_model.specs.Service.{same_ref, object_at}
-use Rattle.mh_store.specs.declared.tried.Tried.{Tried}
 use Rattle.mh_store.specs.Table.{IsKeyed, objects_of, key_of, with_body, changed_at}
-use Rattle.mh_store.specs.Trying.{tried}
+use Rattle.mh_store.specs.Trying.{left_over}
 
 -- What is written back under a number
 
@@ -92,6 +91,6 @@ pub done-tried : {T E : Type 0} (answer : Result T E) (f : Fixed → Body → Bo
 done-tried (Ok x) f r g es after own keyed done = ap objects_of done ∙ changed_at-changed_in f r g es own keyed
 done-tried (Err y) f r g es after own keyed done = done
 
-pub told-tried : {E : Type 0} (answer : Result Tried E) (e : Edit) (r : ObjRef) (g : List ℕ) (es : List (ℕ × Object)) → bytes_eq r.group g ≡ true → IsKeyed g es → IfOk answer (λ told. told ≡ tried e (lookup (nat_eq r.number) es)) → IfOk answer (λ told. told ≡ tried e (object_at r (objects_of es)))
-told-tried (Ok x) e r g es own keyed told = told ∙ ap (tried e) (lookup-object_at r g es own keyed)
-told-tried (Err y) e r g es own keyed told = told
+pub back-tried : {E : Type 0} (answer : Result (Option Edit) E) (e : Edit) (r : ObjRef) (g : List ℕ) (es : List (ℕ × Object)) → bytes_eq r.group g ≡ true → IsKeyed g es → IfOk answer (λ back. back ≡ left_over e (lookup (nat_eq r.number) es)) → IfOk answer (λ back. back ≡ left_over e (object_at r (objects_of es)))
+back-tried (Ok x) e r g es own keyed back = back ∙ ap (left_over e) (lookup-object_at r g es own keyed)
+back-tried (Err y) e r g es own keyed back = back

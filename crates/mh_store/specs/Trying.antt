@@ -2,19 +2,11 @@
 use Rattle.std.specs.Prelude.{List, [], Option, Some, None, unwrap_or}
 use Rattle.mh_base.specs.declared.obj_ref.ObjRef.{ObjRef}
 use Rattle.mh_base.specs.declared.value.Value.{Value}
-use Rattle.mh_group.specs.Table.{is_visible}
 use Rattle.mh_model.specs.declared.edit.Edit.{Edit}
 use Rattle.mh_model.specs.declared.object.Object.{Object}
 use Rattle.mh_model.specs.Bodies.{given}
 use Rattle.mh_model.specs.Edits.{edited}
 use Rattle.mh_model.specs.Rules.{changed_in}
-use Rattle.mh_store.specs.declared.tried.Tried.{Tried}
-use Rattle.mh_store.specs.declared.tried.Tried.TheVariants as trying
-
--- where the object is there, whether it is a visible; else the change
-abbrev pub tried : Edit → Option Object → Tried
-tried e None = trying.Left e
-tried e (Some o) = trying.Done (is_visible o.fixed.class)
 
 -- what is left of what was given: all of it, where there is no such object
 abbrev pub left_over : {X : Type 0} → X → Option Object → Option X

@@ -8,10 +8,9 @@ ghost use Rattle.mh_model.specs.Configuration.{are_apart};
 ghost use Rattle.mh_model.specs.Edits.{edited};
 ghost use Rattle.mh_model.specs.Service.{object_at, is_in, fresh as fresh_lem};
 ghost use Rattle.mh_store.specs.Table.{changed_at, entry_of, is_new};
-ghost use Rattle.mh_store.specs.Trying.{tried, left_over, edited_in, given_in};
+ghost use Rattle.mh_store.specs.Trying.{left_over, edited_in, given_in};
 
 use crate::kept::Kept;
-use crate::tried::Tried;
 use indexmap::IndexMap;
 use mh_base::{GroupName, ObjRef, Value};
 use mh_model::{Edit, FixedPart, Object};
@@ -91,13 +90,13 @@ impl Group {
     }
 
     /// Changes the body of the object at this reference. Where there is none the change comes back.
-    pub(crate) fn edit(&mut self, at: &ObjRef, edit: Edit) -> Result<Tried, AllocError>
+    pub(crate) fn edit(&mut self, at: &ObjRef, edit: Edit) -> Result<Option<Edit>, AllocError>
         ensures done { OnOk result (self.new ≡ edited_in edit at.now self.old) }
-        ensures told { IfOk result (λ told. told ≡ tried edit (object_at at.now self.old)) }
+        ensures back { IfOk result (λ back. back ≡ left_over edit (object_at at.now self.old)) }
         ensures kept { OnErr result (self.new ≡ self.old) }
     {
         if at.group != self.name {
-            return Ok(Tried::Left(edit));
+            return Ok(Some(edit));
         }
         edit_under(self.alloc, &mut self.table, at.number, edit)
     }
@@ -120,17 +119,17 @@ fn edit_under(
     table: &mut IndexMap<u32, Kept>,
     at: u32,
     edit: Edit,
-) -> Result<Tried, AllocError>
+) -> Result<Option<Edit>, AllocError>
     ensures done { OnOk result (table.new.entries ≡ changed_at (edited edit) at table.old.entries) }
-    ensures told { IfOk result (λ told. told ≡ tried edit (lookup (nat_eq at) table.old.entries)) }
+    ensures back { IfOk result (λ back. back ≡ left_over edit (lookup (nat_eq at) table.old.entries)) }
     ensures kept { OnErr result (table.new.entries ≡ table.old.entries) }
 {
     match table.get_mut(&at) {
         Some(kept) => {
             kept.edit(alloc, edit)?;
-            Ok(Tried::Done(kept.object().fixed.get().class.is_visible()))
+            Ok(None)
         }
-        None => Ok(Tried::Left(edit)),
+        None => Ok(Some(edit)),
     }
 }
 

@@ -15,7 +15,6 @@ mod line;
 pub mod looks;
 pub mod objects;
 mod scalars;
-mod tried;
 mod wrapping;
 
 pub use group::Group;

@@ -1,13 +1,13 @@
-//! What an object says of the box and the lay-out of its text.
+//! What an object says of its box, of the lay-out of its text, and of its colours.
 ghost use Rattle.std.specs.Prelude.{◌≡◌, false};
 ghost use Rattle.mh_group.specs.declared.attribute.Attribute.TheVariants as attribute;
-ghost use Rattle.mh_model.specs.Looks.{area_of as area_of_lem};
+ghost use Rattle.mh_model.specs.Looks.{area_of as area_of_lem, has_line as has_line_lem, line_of as line_of_lem, fill_of as fill_of_lem, colour_of as colour_of_lem, paint_of as paint_of_lem};
 ghost use Rattle.mh_model.specs.Property.{read, as_bool as as_bool_lem, as_justification as as_justification_lem};
 
-use mh_base::Area;
+use mh_base::{Area, Colour};
 use mh_group::{Attribute, Justification};
 use mh_model::Object;
-use mh_model::held::{as_bool, as_justification, as_pair};
+use mh_model::held::{as_bool, as_colour, as_int, as_justification, as_pair};
 
 /// The box of a visible.
 pub fn area_of(object: &Object) -> Area
@@ -35,4 +35,64 @@ pub fn justification(object: &Object) -> Justification
     ensures { result ≡ as_justification_lem (read attribute.HJustification object.now) }
 {
     as_justification(object.read(Attribute::HJustification))
+}
+
+pub const OPAQUE_BLACK: Colour = Colour {
+    red: 0,
+    green: 0,
+    blue: 0,
+    transparency: 0,
+};
+
+pub const OPAQUE_WHITE: Colour = Colour {
+    red: 255,
+    green: 255,
+    blue: 255,
+    transparency: 0,
+};
+
+pub const TRANSPARENT_BLACK: Colour = Colour {
+    red: 0,
+    green: 0,
+    blue: 0,
+    transparency: 255,
+};
+
+/// Whether its edge is drawn (ISO/IEC 13522-5, OrigLineWidth).
+pub fn has_line(object: &Object) -> bool
+    ensures { result ≡ has_line_lem object.now }
+{
+    0 < as_int(object.read(Attribute::OrigLineWidth), 1)
+}
+
+/// The colour of its edge (ISO/IEC 13522-5, OrigRefLineColour); none where it paints nothing.
+pub fn line_of(object: &Object) -> Option<u32>
+    ensures { result ≡ line_of_lem object.now }
+{
+    colour_of(object, Attribute::OrigRefLineColour, OPAQUE_BLACK)
+}
+
+/// The colour of its inside (ISO/IEC 13522-5, OrigRefFillColour); none where it paints nothing.
+pub fn fill_of(object: &Object) -> Option<u32>
+    ensures { result ≡ fill_of_lem object.now }
+{
+    colour_of(object, Attribute::OrigRefFillColour, TRANSPARENT_BLACK)
+}
+
+/// The colour under the attribute; none where it paints nothing.
+pub fn colour_of(object: &Object, attribute: Attribute, default: Colour) -> Option<u32>
+    ensures { result ≡ colour_of_lem attribute default object.now }
+{
+    paint_of(as_colour(object.read(attribute), default))
+}
+
+/// The colour as a number of 24 bits. Transparency 255 paints nothing, every other one paints opaquely.
+pub fn paint_of(colour: Colour) -> Option<u32>
+    ensures { result ≡ paint_of_lem colour }
+{
+    if colour.transparency == 255 {
+        None
+    } else {
+        Some(u32::from(colour.red) * 65536 + u32::from(colour.green) * 256 + u32::from(colour.blue))
+    }
 }

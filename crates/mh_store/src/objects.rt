@@ -1,15 +1,13 @@
 //! `Objects`: those of the application and those of the scene.
-ghost use Rattle.std.specs.Prelude.{◌≡◌, OnOk, OnErr, IfOk, [], slice_get};
+ghost use Rattle.std.specs.Prelude.{◌≡◌, ◌<◌, ◌^◌, OnOk, OnErr, [], length, slice_get};
 ghost use Rattle.std.specs.Option.{option_copied};
 ghost use Rattle.mh_model.specs.Bodies.{given};
 ghost use Rattle.mh_model.specs.Edits.{edited};
-ghost use Rattle.mh_model.specs.Lifecycle.{is_visible_at};
 ghost use Rattle.mh_model.specs.Rules.{changed};
 ghost use Rattle.mh_model.specs.Service.{object_at, parts};
 ghost use Rattle.mh_model.specs.State.{all};
 ghost use Rattle.mh_store.specs.Trying.{of_scene, edited_in, given_in};
 
-use crate::tried::Tried;
 use crate::{Group, Kept};
 use mh_base::{ObjRef, Value};
 use mh_model::{Edit, Object};
@@ -75,18 +73,23 @@ impl Objects {
         }
     }
 
-    /// Changes the body of the object at this reference; where there is none, nothing. It answers
-    /// whether the object is a visible.
-    pub fn edit(&mut self, at: &ObjRef, edit: Edit) -> Result<bool, AllocError>
+    /// How many objects are present.
+    pub fn len(&self) -> usize
+        ensures { result ≡ length (all self.now) }
+    {
+        self.application.len() + len_in(&self.scene)
+    }
+
+    /// Changes the body of the object at this reference; where there is none, nothing.
+    pub fn edit(&mut self, at: &ObjRef, edit: Edit) -> Result<(), AllocError>
         ensures done { OnOk result (self.new ≡ changed (edited edit) at.now self.old) }
-        ensures seen { IfOk result (λ seen. seen ≡ is_visible_at (object_at at.now (all self.old))) }
         ensures own { parts self.new.application ≡ parts self.old.application }
         ensures others { parts self.new.scene ≡ parts self.old.scene }
         ensures kept { OnErr result (self.new ≡ self.old) }
     {
         match self.application.edit(at, edit)? {
-            Tried::Done(seen) => Ok(seen),
-            Tried::Left(edit) => edit_in(&mut self.scene, at, edit),
+            None => Ok(()),
+            Some(edit) => edit_in(&mut self.scene, at, edit),
         }
     }
 
@@ -99,6 +102,15 @@ impl Objects {
         if let Some(value) = self.application.give(at, value) {
             give_in(&mut self.scene, at, value);
         }
+    }
+
+    /// Puts the objects of another application, with no scene, in the place of all that are there. It
+    /// takes no memory.
+    pub fn launch(&mut self, application: Group)
+        ensures { self.new ≡ record { application = application; scene = [] } }
+    {
+        self.application = application;
+        self.scene = None;
     }
 
     /// Puts the objects of another scene in the place of those that are there. It takes no memory.
@@ -139,19 +151,26 @@ fn at_in(scene: &Option<Group>, place: usize) -> Option<&Object>
     }
 }
 
-/// Changes the body of the scene's object at this reference, and answers whether it is a visible.
-fn edit_in(scene: &mut Option<Group>, at: &ObjRef, edit: Edit) -> Result<bool, AllocError>
-    ensures done { OnOk result (of_scene scene.new ≡ edited_in edit at.now (of_scene scene.old)) }
-    ensures seen { IfOk result (λ s. s ≡ is_visible_at (object_at at.now (of_scene scene.old))) }
-    ensures kept { OnErr result (of_scene scene.new ≡ of_scene scene.old) }
+/// How many objects the scene has, if there is one.
+fn len_in(scene: &Option<Group>) -> usize
+    ensures all { result ≡ length (of_scene scene.now) }
+    ensures small { result < 2 ^ 63 }
 {
     match scene {
-        Some(group) => match group.edit(at, edit)? {
-            Tried::Done(seen) => Ok(seen),
-            Tried::Left(_) => Ok(false),
-        },
-        None => Ok(false),
+        Some(group) => group.len(),
+        None => 0,
     }
+}
+
+/// Changes the body of the scene's object at this reference.
+fn edit_in(scene: &mut Option<Group>, at: &ObjRef, edit: Edit) -> Result<(), AllocError>
+    ensures done { OnOk result (of_scene scene.new ≡ edited_in edit at.now (of_scene scene.old)) }
+    ensures kept { OnErr result (of_scene scene.new ≡ of_scene scene.old) }
+{
+    if let Some(group) = scene {
+        group.edit(at, edit)?;
+    }
+    Ok(())
 }
 
 /// Gives the scene's variable at this reference a value.

@@ -1,4 +1,5 @@
-//! The engine: what it answers when there is nothing to do, and when too many inputs wait.
+//! The engine: what it answers when there is nothing to do, when too many inputs wait, and when the clock
+//! is full.
 use crate::cases::all_hold;
 use crate::service::Asked;
 use mh_engine::{Engine, Rest, Stepped};
@@ -58,6 +59,40 @@ fn keys(alloc: Global, engine: &mut Engine) -> Option<Vec<u8>> {
     Some(format!(in alloc; "{waiting} {number}").ok()?.into_bytes())
 }
 
+/// Whether a tick is posted and taken.
+fn takes_tick(engine: &mut Engine, length: u32) -> bool {
+    engine.post(Input::Tick(length)).is_ok() && matches!(engine.step(), Ok(Stepped::Did))
+}
+
+/// How many of the longest ticks are taken before one is not.
+fn ticks_to_refusal(engine: &mut Engine) -> u32 {
+    for taken in 0..100_000 {
+        if !takes_tick(engine, 60_000) {
+            return taken;
+        }
+    }
+    100_000
+}
+
+/// The number of the refusal of a tick; 0 where it is taken.
+fn refusal_of_tick(engine: &mut Engine, length: u32) -> Option<u32> {
+    match engine.post(Input::Tick(length)) {
+        Ok(()) => Some(0),
+        Err(refused) => refused.why.number(),
+    }
+}
+
+/// How many of the longest ticks are taken, and what is then said of a tick that is too long by a
+/// millisecond, of one that leads to the last moment, and of one behind it.
+fn ticks(alloc: Global, engine: &mut Engine) -> Option<Vec<u8>> {
+    let taken = ticks_to_refusal(engine);
+    let past = refusal_of_tick(engine, 47_296)?;
+    let last = refusal_of_tick(engine, 47_295)?;
+    let behind = refusal_of_tick(engine, 1)?;
+    let said = format!(in alloc; "{taken} {past} {last} {behind}").ok()?;
+    Some(said.into_bytes())
+}
+
 /// What is played. Its owner below is generic, since a function that owns an engine by name is dear to
 /// prove.
 trait Played {
@@ -68,6 +103,7 @@ impl Played for Engine {
     fn answer(&mut self, alloc: Global, asked: &str) -> Option<Vec<u8>> {
         match asked {
             "idle" => idle(alloc, self),
+            "ticks" => ticks(alloc, self),
             _ => keys(alloc, self),
         }
     }
@@ -89,6 +125,15 @@ fn answers_that_it_is_idle(rt: HostRuntime) {
         &rt,
         rt.alloc(),
         "\nan empty application\nidle @empty\n=> 2 2",
+    );
+}
+
+#[test]
+fn refuses_a_tick_past_the_last_moment(rt: HostRuntime) {
+    all_hold::<Asked>(
+        &rt,
+        rt.alloc(),
+        "\nan empty application\nticks @empty\n=> 71582 53 0 53",
     );
 }
 

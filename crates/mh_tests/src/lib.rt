@@ -40,6 +40,8 @@ mod objects;
 #[cfg(test)]
 mod octets;
 #[cfg(test)]
+mod page;
+#[cfg(test)]
 mod plain;
 #[cfg(test)]
 mod playing;

@@ -172,18 +172,13 @@ fn octets_have_short_lists(rt: HostRuntime) {
 
 /// How many octets the group is written in, or `TOO_LONG`.
 fn written_length(alloc: Global, group: Option<Group>) -> usize {
-    match group {
-        Some(group) => match encode_group(alloc, &group) {
-            Ok(octets) => octets.len(),
-            Err(
-                CodecError::At {
-                    why: Why::Limit,
-                    offset: 0,
-                },
-            ) => TOO_LONG,
-            Err(_) => 0,
-        },
-        None => 0,
+    let Some(group) = group else {
+        return 0;
+    };
+    match encode_group(alloc, &group) {
+        Ok(octets) => octets.len(),
+        Err(CodecError::At { why, offset: 0 }) if why == Why::Limit => TOO_LONG,
+        Err(_) => 0,
     }
 }
 

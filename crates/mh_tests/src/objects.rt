@@ -69,8 +69,8 @@ fn answer_of_crowd(alloc: Global, count: u32) -> Option<Vec<u8>> {
 
 #[test]
 fn counts_groups(rt: HostRuntime) {
-    // the second scene in order of name is s1, the last one s255
-    assert!(rt; are(answer_of_crowd(rt.alloc(), 255), b"36 s1"));
+    // the last one that is put is s255
+    assert!(rt; are(answer_of_crowd(rt.alloc(), 255), b"made"));
     assert!(rt; are(answer_of_crowd(rt.alloc(), 256), b"34 s255"));
 }
 
@@ -145,18 +145,13 @@ fn of_link(alloc: Global, link: &Fixed) -> Option<Vec<u8>> {
 }
 
 fn of_colour(alloc: Global, object: &Fixed) -> Option<Vec<u8>> {
-    match object.properties.get(Attribute::OrigRefFillColour) {
-        Some(Held::Colour(colour)) => {
-            let (red, green, blue) = (colour.red, colour.green, colour.blue);
-            let last = colour.transparency;
-            Some(
-                format!(in alloc; "{red} {green} {blue} {last}")
-                    .ok()?
-                    .into_bytes(),
-            )
-        }
-        _ => None,
-    }
+    let Some(Held::Colour(colour)) = object.properties.get(Attribute::OrigRefFillColour) else {
+        return None;
+    };
+    let (red, green, blue) = (colour.red, colour.green, colour.blue);
+    let last = colour.transparency;
+    let told = format!(in alloc; "{red} {green} {blue} {last}").ok()?;
+    Some(told.into_bytes())
 }
 
 struct Found;

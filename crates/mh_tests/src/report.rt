@@ -74,9 +74,9 @@ check @scene
 /// Applications that are not played yet, or that name what lies above the folder, and what is said.
 static UNPLAYED: &str = r#"
 application {:Application ("a" 0) :Items ( {:EntryField 1 :OrigBoxSize 1 1 } ) } => service 36 a|exit 2|;;
-application {:Application ("a" 0) :OnStartUp ( :Quit (0) ) } => service 36 a|exit 2|;;
-application {:Application ("a" 0) :OnStartUp ( :Launch (0) ) } => service 36 a|exit 2|;;
-application {:Application ("a" 0) :OnStartUp ( :SetTimer (0 1 5) ) } => service 36 a|exit 2|;;
+application {:Application ("a" 0) :OnStartUp ( :SetLabel (1 'x') ) } => service 36 a|exit 2|;;
+application {:Application ("a" 0) :OnStartUp ( :Move (1 1) ) } => service 36 a|exit 2|;;
+application {:Application ("a" 0) :OnStartUp ( :SetEntryPoint (1 5) ) } => service 36 a|exit 2|;;
 application {:Application ("a" 0) :OnStartUp ( :Add (1 :IndirectRef 1) ) } => total 0|exit 0|;;
 application {:Application ("a" 0) :OnStartUp ( :SetVariable (1 :GBoolean true) ) } => total 0|exit 0|;;
 application {:Application ("a" 0) :Items ( {:ContentRefVar 1 :OrigValue :ContentRef ("..") } ) } => service 35 a|exit 2|;;
@@ -94,6 +94,7 @@ script step 4294967295 => did 2 idle|total 2|exit 0|;;
 script show|show => frame 1|frame 2|total 0|exit 0|;; script step 4294967296 => script 1|exit 2|;;
 script step => script 1|exit 2|;; script step  => script 1|exit 2|;;
 script step -1 => script 1|exit 2|;; script step +1 => script 1|exit 2|;;
+script stream 2147483647|engine 2147483648 => script 2|exit 2|;;
 script run|key purple => script 2|exit 2|;; script key  red => script 1|exit 2|;;
 script key red  => script 1|exit 2|;; script  run => script 1|exit 2|;;
 script run\0d\| => script 1|exit 2|;; script #||Run| => script 3|exit 2|"#;

@@ -69,7 +69,65 @@ a drawn line
 play run|show|
 @a {:Application ("~/a" 0)  :Items ( {:DynamicLineArt 1 :OrigBoxSize 60 32 :OrigRefLineColour '=00=FF=00=00' }
 {:Link 2 :EventSource 0 :EventType IsRunning :LinkEffect ( :DrawLine (1 0 0 48 16) ) } ) }
-=> did 9 idle|frame 1|row 00: 0-1 000000/00ff00 ""|row 01: 2-4 000000/00ff00 ""|total 9|exit 0|"#;
+=> did 9 idle|frame 1|row 00: 0-1 000000/00ff00 ""|row 01: 2-4 000000/00ff00 ""|total 9|exit 0|;;
+a key that waits while the scene is left
+lenient run|key red|key red|run|show| @a {:Application ("~/a" 0) :OnStartUp ( :TransitionTo (("~/p" 0)) ) }
+@p {:Scene ("~/p" 0) :InputEventReg 3 :Items ( {:Link 11 :EventSource 0 :EventType UserInput :EventData 100
+:LinkEffect ( :TransitionTo (("~/s" 0)) ) } ) } @scene
+=> did 8 idle|did 15 idle|frame 1|row 01: 2-3 000000/ff0000 ""|row 02: 2-3 000000/ff0000 ""|total 23|exit 0|;;
+two scenes, seen by the verifier
+check @a {:Application ("~/a" 0) } @p {:Scene ("~/p" 0) } @scene
+=> refused V10 a 0 0 -|exit 1|;;
+a transition when a scene closes down
+lenient run|key red|run| @a {:Application ("~/a" 0) :OnStartUp ( :TransitionTo (("~/p" 0)) ) }
+@p {:Scene ("~/p" 0) :InputEventReg 3 :OnCloseDown ( :TransitionTo (("~/p" 0)) ) :Items ( {:Link 11
+:EventSource 0 :EventType UserInput :EventData 100 :LinkEffect ( :TransitionTo (("~/s" 0)) ) } ) } @scene
+=> did 8 idle|did 14 idle|total 22|exit 0|;;
+three timers in one tick
+play run|tick 60000|run|show| @a {:Application ("~/a" 0) :OnStartUp ( :TransitionTo (("~/t" 0)) ) }
+@t {:Scene ("~/t" 0) :OnStartUp ( :SetTimer (0 1 500) :SetTimer (0 2 500) :SetTimer (0 3 100) ) :Items (
+{:IntegerVar 5 :OrigValue 0 } {:Rectangle 10 :OrigBoxSize 24 32 :OrigPosition 12 16 :OrigLineWidth 0
+:OrigRefFillColour '=FF=00=00=00' } {:Link 11 :EventSource 0 :EventType TimerFired :EventData 1 :LinkEffect (
+:Multiply (5 10) :Add (5 1) :SetPosition (10 :IndirectRef 5 16) ) } {:Link 12 :EventSource 0 :EventType
+TimerFired :EventData 2 :LinkEffect ( :Multiply (5 10) :Add (5 2) :SetPosition (10 :IndirectRef 5 16) ) }
+{:Link 13 :EventSource 0 :EventType TimerFired :EventData 3 :LinkEffect ( :Multiply (5 10) :Add (5 3)
+:SetTimer (0 3 100) :SetPosition (10 :IndirectRef 5 16) ) } ) }
+=> did 20 idle|did 14 idle|frame 1|row 01: 26-27 000000/ff0000 ""|row 02: 26-27 000000/ff0000 ""|total
+34|exit 0|;;
+a stream with two tags
+play run|stream 6|run|stream 7|run|show| @application
+@s {:Scene ("~/s" 0) :InputEventReg 3 :SceneCS 720 576 :Items ( {:Stream 8 } {:Rectangle 10 :OrigBoxSize 24 32
+:OrigPosition 12 16 :OrigLineWidth 0 :OrigRefFillColour '=FF=00=00=00' } {:Link 11 :EventSource 8 :EventType
+StreamEvent :EventData 7 :LinkEffect ( :SetPosition (10 24 16) ) } ) }
+=> did 14 idle|did 2 idle|did 3 idle|frame 1|row 01: 2-3 000000/ff0000 ""|row 02: 2-3 000000/ff0000 ""|total
+19|exit 0|;;
+an application that quits
+play run|key red|tick 1|run| @a {:Application ("~/a" 0) :Items ( {:Link 1 :EventSource 0 :EventType IsRunning
+:LinkEffect ( :Quit (0) ) } ) }
+=> did 9 ended|refused 52|refused 52|did 0 ended|total 9|exit 0|;;
+ticks that are too short and too long
+play tick 0|tick 60001|tick 60000|run| @empty
+=> refused 54|refused 54|did 3 idle|total 3|exit 0|;;
+an event of the engine
+play run|engine 3|engine 4|run|show| @a {:Application ("~/a" 0) :Items ( {:Rectangle 1 :OrigBoxSize 12 16
+:OrigRefLineColour '=FF=00=00=00' } {:Link 2 :EventSource 0 :EventType EngineEvent :EventData 4 :LinkEffect ( :SetPosition (1 12 0) ) } ) }
+=> did 8 idle|did 3 idle|frame 1|row 00: 1-1 000000/ff0000 ""|total 11|exit 0|;;
+a timer whose id is held by a variable
+check @a {:Application ("~/a" 0) :OnStartUp ( :SetTimer (0 :IndirectRef 1 5) ) :Items ( {:IntegerVar 1
+:OrigValue 0 } ) }
+=> refused V7 a 0 1 SetTimer|config a -|object a 1|exit 1|;;
+a register that is set
+play run|key up|run|key red|run|key up|run| @application @s {:Scene ("~/s" 0) :InputEventReg 3 :Items (
+{:IntegerVar 1 :OrigValue 0 } {:Link 11 :EventSource 0 :EventType UserInput :EventData 100 :LinkEffect (
+:SetInputRegister (0 4) ) } {:Link 12 :EventSource 0 :EventType UserInput :EventData 1 :LinkEffect (
+:Add (1 1) :Add (1 1) ) } ) }
+=> did 11 idle|did 1 idle|did 2 idle|did 3 idle|total 17|exit 0|;;
+an application that launches another
+lenient run|key red|run|show| @a {:Application ("~/a" 0) :OnCloseDown ( :SetVariable (1 :GInteger 1) ) :Items (
+{:IntegerVar 1 :OrigValue 0 } {:Link 2 :EventSource 0 :EventType IsRunning :LinkEffect (
+:SetTimer (0 1 5) :Launch (("~/b" 0)) ) } ) } @b {:Application ("~/b" 0) :Items ( {:Rectangle 1 :OrigBoxSize
+12 16 :OrigRefLineColour '=FF=00=00=00' } ) }
+=> did 16 idle|did 1 idle|frame 1|row 00: 0-0 000000/ff0000 ""|total 17|exit 0|"#;
 
 static FILES: &str = r#"
 a length in its long form

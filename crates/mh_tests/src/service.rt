@@ -51,7 +51,7 @@ fn of_service(alloc: Global, service: Service, asked: &str) -> Option<Vec<u8>> {
     match asked {
         "made" => said(alloc, b"made"),
         "verdict" => verdict(alloc, service),
-        "idle" | "keys" => of_engine(alloc, service, asked),
+        "idle" | "keys" | "ticks" => of_engine(alloc, service, asked),
         _ => inside(alloc, &service, asked),
     }
 }
@@ -158,26 +158,28 @@ made @a 0 0 {:Application ("~/other" 0) :OnStartUp (:SetLabel(("x" 0) 'y')) }
 => 36 a;;
 an action of the scene
 made @a 0 0 {:Application ("~/other" 0) :OnStartUp () :Items () }
-@s 0 0 {:Scene ("~/other" 0) :OnStartUp (:Launch(("~/x" 0))) }
+@s 0 0 {:Scene ("~/other" 0) :OnStartUp (:SetLabel(("~/x" 0) 'y')) }
 => 36 s;;
 an indirect target is played
 made @a 0 0 {:Application ("~/other" 0) :OnStartUp () :Items () }
 @s 0 0 {:Scene ("~/other" 0) :OnStartUp (:TransitionTo(:IndirectRef ("~/x" 0))) }
 => made;;
-a second application
+two applications and three scenes
 made @b 0 0 {:Application ("~/other" 0) :OnStartUp () :Items () }
 @a 0 0 {:Application ("~/other" 0) :OnStartUp () :Items () }
-=> 36 b;;
-a third and a second scene
-made @a 0 0 {:Application ("~/other" 0) :OnStartUp () :Items () }
 @z 0 0 {:Scene ("~/other" 0) :OnStartUp () :Items () }
 @y 0 0 {:Scene ("~/other" 0) :OnStartUp () :Items () }
 @x 0 0 {:Scene ("~/other" 0) :OnStartUp () :Items () }
-=> 36 y;;
+=> made;;
+launching, quitting, timers, streams and input registers
+made @a 0 0 {:Application ("~/other" 0) :OnStartUp (:Launch(("~/x" 0)) :Quit(0) :SetTimer(0 1)) :Items (
+{:Stream 1} ) }
+@s 0 0 {:Scene ("~/other" 0) :OnStartUp (:SetInputRegister(0 3)) }
+=> made;;
 two causes
 made @a 0 0 {:Application ("~/other" 0) :OnStartUp () :Items () }
-@t 0 0 {:Scene ("~/other" 0) :OnStartUp () :Items () }
-@s 0 0 {:Scene ("~/other" 0) :OnStartUp (:Launch(("~/x" 0))) }
+@t 0 0 {:Scene ("~/other" 0) :OnStartUp (:SetLabel(("~/x" 0) 'y')) }
+@s 0 0 {:Scene ("~/other" 0) :OnStartUp () :Items ( {:TokenGroup 1} ) }
 => 36 s"#;
 
 /// The limits are kept.
@@ -199,7 +201,7 @@ made @a 1024 0 {:Application ("~/other" 0) :OnStartUp () :Items () }
 @t 1024 0 {:Scene ("~/other" 0) :OnStartUp () :Items () }
 @u 1024 0 {:Scene ("~/other" 0) :OnStartUp () :Items () }
 @v 0 0 {:Scene ("~/other" 0) :OnStartUp () :Items () }
-=> 36 t;;
+=> made;;
 4097 ingredients
 made @a 1024 0 {:Application ("~/other" 0) :OnStartUp () :Items () }
 @s 1024 0 {:Scene ("~/other" 0) :OnStartUp () :Items () }

@@ -5,7 +5,9 @@ use Rattle.std.specs.List.{Contains, find, list_all}
 use Rattle.std.specs.Option.{option_map, option_map_or}
 use Rattle.std.specs.Str.{bytes_eq}
 use Rattle.std.proofs.lemmas.Slice.Eq.{bytes_eq-Decides}
+use Rattle.mh_base.specs.declared.obj_ref.ObjRef.{ObjRef}
 use Rattle.mh_group.specs.declared.action_name.ActionName.{ActionName}
+use Rattle.mh_group.specs.declared.action_name.ActionName.TheVariants as action
 use Rattle.mh_group.specs.declared.class.Class.{Class}
 use Rattle.mh_group.specs.Table.{is_scene, is_application}
 use Rattle.mh_model.specs.declared.config.Config.{Config}
@@ -13,9 +15,8 @@ use Rattle.mh_model.specs.declared.act.Target.{Target}
 use Rattle.mh_model.specs.declared.act.Target.TheVariants as target
 use Rattle.mh_model.specs.declared.object.Fixed.{Fixed}
 use Rattle.mh_model.specs.Service.{Service, part_at, group_ref}
-use Rattle.mh_model.specs.Faults.{is_transition}
 use Rattle.mh_model.specs.Configuration.{is_service, is_group_of, is_group_list, names, with_scenes, configurations}
-use Rattle.mh_model.specs.Active.{leads_to}
+use Rattle.mh_model.specs.Active.{leads_to, leads_by}
 use Rattle.mh_model.specs.Acceptable.{IsReached, start, led}
 use Rattle.mh_verify.proofs.ContainsLemmas.{halves, no_member, here, behind, first_or_behind, in_joined}
 
@@ -60,12 +61,15 @@ HasScene s None = Unit {0}
 HasScene s (Some g) = is_group_of is_scene s g ≡ true
 
 record IsListed (s : Service) (c : Config) : Type 0 where
-  app : c.app ≡ s.start
+  app : is_group_of is_application s c.app ≡ true
   scene : HasScene s c.scene
 
-led_listed : (s : Service) (c d : Config) (n : ActionName) (t : Target) → IsListed s c → leads_to s c n t ≡ Some d → IsListed s d
-led_listed s c d n (target.Through v) h e = cc
-led_listed s c d n (target.Direct r) h e = by (is_transition n && r.number == 0) (is_group_of is_scene s r.group) refl e
+abbrev alone : List ℕ → Config
+alone app = record { app = app; scene = None }
+
+-- an action leads to a scene under the same application, or to an application
+led_to_listed : (s : Service) (c d : Config) (n : ActionName) (r : ObjRef) → IsListed s c → leads_to s c n r ≡ Some d → IsListed s d
+led_to_listed s c d action.TransitionTo r h e = by (r.number == 0) (is_group_of is_scene s r.group) refl e
   where
     by : (t b : Bool) → is_group_of is_scene s r.group ≡ b → cond (t && b) (Some (record c { scene = Some r.group })) None ≡ Some d → IsListed s d
     by true true k e =
@@ -73,14 +77,27 @@ led_listed s c d n (target.Direct r) h e = by (is_transition n && r.number == 0)
         subst (λ (x : Config). IsListed s x) same (record { app = h.app; scene = k })
     by true false k e = cc
     by false b k e = cc
+led_to_listed s c d action.Launch r h e = by (r.number == 0) (is_group_of is_application s r.group) refl e
+  where
+    by : (t b : Bool) → is_group_of is_application s r.group ≡ b → cond (t && b) (Some (alone r.group)) None ≡ Some d → IsListed s d
+    by true true k e =
+        let same : alone r.group ≡ d = cc in
+        subst (λ (x : Config). IsListed s x) same (record { app = k; scene = tt })
+    by true false k e = cc
+    by false b k e = cc
+led_to_listed s c d _ r h e = cc
 
-reached_is_listed : (s : Service) (c : Config) → IsReached s c → IsListed s c
-reached_is_listed s _ start = record { app = refl; scene = tt }
-reached_is_listed s _ (led c a d r m e) = led_listed s c d a.name a.target (reached_is_listed s c r) e
+led_listed : (s : Service) (c d : Config) (n : ActionName) (t : Target) → IsListed s c → leads_by s c n t ≡ Some d → IsListed s d
+led_listed s c d n (target.Direct r) h e = led_to_listed s c d n r h e
+led_listed s c d n (target.Through v) h e = cc
 
 begins : (s : Service) → is_service s ≡ true → is_group_of is_application s s.start ≡ true
 unfolding is_service
 begins s h = (halves (list_all (λ (e : List ℕ × List Fixed). is_group_list e.0 e.1) s.groups) (is_group_of is_application s s.start) h).1
+
+reached_is_listed : (s : Service) (c : Config) → is_service s ≡ true → IsReached s c → IsListed s c
+reached_is_listed s _ k start = record { app = begins s k; scene = tt }
+reached_is_listed s _ k (led c a d r m e) = led_listed s c d a.name a.target (reached_is_listed s c k r) e
 
 under : (s : Service) (app : List ℕ) (scene : Option (List ℕ)) → HasScene s scene → Contains (with_scenes (names is_scene s) app) (record { app = app; scene = scene })
 under s app None h = here (record { app = app; scene = None }) (map (λ g. record { app = app; scene = Some g }) (names is_scene s))
@@ -88,6 +105,5 @@ under s app (Some g) h = behind (record { app = app; scene = None }) (map (λ g.
 
 pub is_listed : (s : Service) (c : Config) → is_service s ≡ true → IsReached s c → Contains (configurations s) c
 is_listed s c h r =
-    let known = reached_is_listed s c r in
-    let app : Contains (names is_application s) c.app = subst (λ (g : List ℕ). Contains (names is_application s) g) (sym known.app) (listed is_application s s.start (begins s h)) in
-    in_joined (with_scenes (names is_scene s)) (names is_application s) c.app c app (under s c.app c.scene known.scene)
+    let known = reached_is_listed s c h r in
+    in_joined (with_scenes (names is_scene s)) (names is_application s) c.app c (listed is_application s c.app known.app) (under s c.app c.scene known.scene)

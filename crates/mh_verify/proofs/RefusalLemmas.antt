@@ -1,43 +1,66 @@
 -- A configuration has no refusals exactly where it is free; so what is found says what the contract says.
-use Rattle.std.proofs.Common.{◌≡◌, inl, inr, ℕ, ◌+◌, Bool, true, false, ◌&&◌, List, [], ◌∷◌, ◌++◌, filter, Option, Some, None, refl, ap, sym, subst}
+use Rattle.std.proofs.Common.{◌≡◌, inl, inr, ℕ, ◌+◌, Bool, true, false, cond, ◌&&◌, not, List, [], ◌∷◌, ◌++◌, filter, Option, Some, None, refl, ap, sym, ◌∙◌, subst}
 use Rattle.std.specs.List.{Contains, list_all, flat_map}
 use Rattle.std.specs.Option.{option_to_list, option_map_or}
+use Rattle.std.proofs.lemmas.List.Elements.{Contains-append_cases}
 use Rattle.mh_base.specs.declared.obj_ref.ObjRef.{ObjRef}
+use Rattle.mh_group.specs.declared.action_name.ActionName.{ActionName}
+use Rattle.mh_group.specs.declared.action_name.ActionName.TheVariants as action
 use Rattle.mh_model.specs.declared.act.Act.{Act}
+use Rattle.mh_model.specs.declared.act.Argument.{Argument}
+use Rattle.mh_model.specs.declared.act.Argument.TheVariants as argument
 use Rattle.mh_model.specs.declared.config.Config.{Config}
 use Rattle.mh_model.specs.declared.fault.Fault.{Fault}
 use Rattle.mh_model.specs.declared.object.Fixed.{Fixed}
 use Rattle.mh_model.specs.Service.{Service}
-use Rattle.mh_model.specs.Configuration.{present, is_among}
-use Rattle.mh_model.specs.Active.{actions, is_active, active_actions, fault_of, is_direct, is_none, is_good}
+use Rattle.mh_model.specs.Configuration.{present, is_among, is_single, starting, same_config}
+use Rattle.mh_model.specs.Active.{actions, is_active, active_actions, fault_of, is_direct, has_known_id, is_none, is_good}
 use Rattle.mh_model.specs.Acceptable.{IsReached, start, led, IsClosed, is_free, leads_into}
 use Rattle.mh_verify.specs.declared.refusal.Found.{Found}
-use Rattle.mh_verify.specs.Refusals.{found_at, not_yet_at, refused_for, wrong_from, wrong_with, refusals_in, RefusedIsNot}
+use Rattle.mh_verify.specs.Refusals.{found_at, timer_at, not_yet_at, id_variable, refused_for, wrong_from, wrong_with, several, several_at, refusals_of_effects, refusals_in, RefusedIsNot}
 use Rattle.mh_verify.specs.Order.{IsFirst}
 use Rattle.mh_verify.specs.Least.{least_of}
 use Rattle.mh_verify.specs.Free.{AreFree}
 use Rattle.mh_verify.specs.Reach.{AreReached}
 use Rattle.mh_verify.proofs.ContainsLemmas.{all_append, all_front, all_back, no_member, first_or_behind, in_joined, joined_from, all_of, empty_joined}
-use Rattle.mh_verify.proofs.ConfigLemmas.{member_of, among_of}
+use Rattle.mh_verify.proofs.ConfigLemmas.{config_is, config_itself, member_of, among_of}
 use Rattle.mh_verify.proofs.OrderLemmas.{first_of, none_of}
+
+-- no variable holds the id of a timer
+abbrev is_unheld : Option ObjRef → Bool
+is_unheld None = true
+is_unheld (Some v) = false
+
+known_id : (n : ActionName) (xs : List Argument) → has_known_id n xs ≡ is_unheld (id_variable n xs)
+known_id action.SetTimer [] = refl
+known_id action.SetTimer (argument.Direct x ∷ xs) = refl
+known_id action.SetTimer (argument.Through v t ∷ xs) = refl
+known_id action.SetTimer (argument.Receiver v ∷ xs) = refl
+known_id _ xs = refl
 
 nothing_wrong : (s : Service) (ps : List Fixed) (c : Config) (key : ObjRef) (n : ℕ) (acts : List Act) → list_all (is_good s ps) acts ≡ true → wrong_from s ps c key n acts ≡ []
 nothing_wrong s ps c key n [] h = refl
-nothing_wrong s ps c key n (a ∷ acts) h = by (fault_of s ps a) (is_direct a) h (nothing_wrong s ps c key (n + 1) acts)
+nothing_wrong s ps c key n (a ∷ acts) h = by (fault_of s ps a) (id_variable a.name a.arguments) (is_direct a) (has_known_id a.name a.arguments) (known_id a.name a.arguments) h (nothing_wrong s ps c key (n + 1) acts)
   where
-    by : (f : Option Fault) (d : Bool) → ((is_none f && d) && list_all (is_good s ps) acts) ≡ true → (list_all (is_good s ps) acts ≡ true → wrong_from s ps c key (n + 1) acts ≡ []) → option_to_list (refused_for c key n a f d) ++ wrong_from s ps c key (n + 1) acts ≡ []
-    by None true h ih = ih h
-    by None false h ih = cc
-    by (Some f) d h ih = cc
+    by : (f : Option Fault) (v : Option ObjRef) (d k : Bool) → k ≡ is_unheld v → (((is_none f && d) && k) && list_all (is_good s ps) acts) ≡ true → (list_all (is_good s ps) acts ≡ true → wrong_from s ps c key (n + 1) acts ≡ []) → option_to_list (refused_for c key n a f v d) ++ wrong_from s ps c key (n + 1) acts ≡ []
+    by None None true true e h ih = ih h
+    by None None true false e h ih = cc
+    by None None false k e h ih = cc
+    by None (Some v) true true e h ih = cc
+    by None (Some v) true false e h ih = cc
+    by None (Some v) false k e h ih = cc
+    by (Some f) v d k e h ih = cc
 
 all_good : (s : Service) (ps : List Fixed) (c : Config) (key : ObjRef) (n : ℕ) (acts : List Act) → wrong_from s ps c key n acts ≡ [] → list_all (is_good s ps) acts ≡ true
 all_good s ps c key n [] h = refl
-all_good s ps c key n (a ∷ acts) h = by (fault_of s ps a) (is_direct a) h (all_good s ps c key (n + 1) acts)
+all_good s ps c key n (a ∷ acts) h = by (fault_of s ps a) (id_variable a.name a.arguments) (is_direct a) (has_known_id a.name a.arguments) (known_id a.name a.arguments) h (all_good s ps c key (n + 1) acts)
   where
-    by : (f : Option Fault) (d : Bool) → option_to_list (refused_for c key n a f d) ++ wrong_from s ps c key (n + 1) acts ≡ [] → (wrong_from s ps c key (n + 1) acts ≡ [] → list_all (is_good s ps) acts ≡ true) → ((is_none f && d) && list_all (is_good s ps) acts) ≡ true
-    by None true h ih = ih h
-    by None false h ih = cc
-    by (Some f) d h ih = cc
+    by : (f : Option Fault) (v : Option ObjRef) (d k : Bool) → k ≡ is_unheld v → option_to_list (refused_for c key n a f v d) ++ wrong_from s ps c key (n + 1) acts ≡ [] → (wrong_from s ps c key (n + 1) acts ≡ [] → list_all (is_good s ps) acts ≡ true) → (((is_none f && d) && k) && list_all (is_good s ps) acts) ≡ true
+    by None None true true e h ih = ih h
+    by None None true false e h ih = cc
+    by None None false k e h ih = cc
+    by None (Some v) d k e h ih = cc
+    by (Some f) v d k e h ih = cc
 
 nil_append : {X : Type 0} (xs ys : List X) → xs ≡ [] → ys ≡ [] → xs ++ ys ≡ []
 nil_append [] ys h k = k
@@ -60,27 +83,60 @@ all_good_with s ps c (p ∷ parts) h =
     let two = nil_parts (wrong_with s ps c p) (flat_map (wrong_with s ps c) parts) h in
     all_append (is_good s ps) (actions p) (flat_map actions parts) (all_good s ps c p.key 1 (actions p) two.0) (all_good_with s ps c parts two.1)
 
-none_where_free : (s : Service) (c : Config) → is_free s c ≡ true → refusals_in s c ≡ []
-none_where_free s c h = nothing_wrong_with s (present s c) c (filter (is_active (present s c)) (present s c)) h
+none_where_single : (s : Service) (c : Config) → is_single s ≡ true → several_at s c ≡ []
+none_where_single s c h = by (same_config c (starting s)) (is_single s) h
+  where
+    by : (b t : Bool) → t ≡ true → cond (b && not t) (several s ∷ []) [] ≡ []
+    by true true e = refl
+    by true false e = cc
+    by false t e = refl
+
+none_where_free : (s : Service) (c : Config) → is_single s ≡ true → is_free s c ≡ true → refusals_in s c ≡ []
+none_where_free s c e h =
+    nil_append (several_at s c) (refusals_of_effects s c) (none_where_single s c e) (nothing_wrong_with s (present s c) c (filter (is_active (present s c)) (present s c)) h)
 
 free_where_none : (s : Service) (c : Config) → refusals_in s c ≡ [] → is_free s c ≡ true
-free_where_none s c h = all_good_with s (present s c) c (filter (is_active (present s c)) (present s c)) h
+free_where_none s c h =
+    all_good_with s (present s c) c (filter (is_active (present s c)) (present s c)) (nil_parts (several_at s c) (refusals_of_effects s c) h).1
+
+-- it is said of the start
+single_where_none : (s : Service) → refusals_in s (starting s) ≡ [] → is_single s ≡ true
+single_where_none s h =
+    by (same_config (starting s) (starting s)) (is_single s) (config_itself (starting s)) (nil_parts (several_at s (starting s)) (refusals_of_effects s (starting s)) h).0
+  where
+    by : (b t : Bool) → b ≡ true → cond (b && not t) (several s ∷ []) [] ≡ [] → t ≡ true
+    by true true e k = refl
+    by true false e k = cc
+    by false t e k = cc
 
 -- The configuration of what is wrong there.
 
 config_from : (s : Service) (ps : List Fixed) (c : Config) (key : ObjRef) (n : ℕ) (acts : List Act) (x : Found) → Contains (wrong_from s ps c key n acts) x → x.config ≡ c
 config_from s ps c key n [] x m = absurd (no_member x m)
-config_from s ps c key n (a ∷ acts) x m = by (fault_of s ps a) (is_direct a) m (config_from s ps c key (n + 1) acts x)
+config_from s ps c key n (a ∷ acts) x m = by (fault_of s ps a) (id_variable a.name a.arguments) (is_direct a) m (config_from s ps c key (n + 1) acts x)
   where
-    by : (f : Option Fault) (d : Bool) → Contains (option_to_list (refused_for c key n a f d) ++ wrong_from s ps c key (n + 1) acts) x → (Contains (wrong_from s ps c key (n + 1) acts) x → x.config ≡ c) → x.config ≡ c
-    by None true m ih = ih m
-    by None false m ih = elim (first_or_behind (not_yet_at c key n a) (wrong_from s ps c key (n + 1) acts) x m) [ inl same ↦ sym (ap (λ (y : Found). y.config) same) | inr k ↦ ih k ]
-    by (Some f) d m ih = elim (first_or_behind (found_at c key n f) (wrong_from s ps c key (n + 1) acts) x m) [ inl same ↦ sym (ap (λ (y : Found). y.config) same) | inr k ↦ ih k ]
+    by : (f : Option Fault) (v : Option ObjRef) (d : Bool) → Contains (option_to_list (refused_for c key n a f v d) ++ wrong_from s ps c key (n + 1) acts) x → (Contains (wrong_from s ps c key (n + 1) acts) x → x.config ≡ c) → x.config ≡ c
+    by None None true m ih = ih m
+    by None None false m ih = elim (first_or_behind (not_yet_at c key n a) (wrong_from s ps c key (n + 1) acts) x m) [ inl same ↦ sym (ap (λ (y : Found). y.config) same) | inr k ↦ ih k ]
+    by None (Some v) d m ih = elim (first_or_behind (timer_at c key n a v) (wrong_from s ps c key (n + 1) acts) x m) [ inl same ↦ sym (ap (λ (y : Found). y.config) same) | inr k ↦ ih k ]
+    by (Some f) v d m ih = elim (first_or_behind (found_at c key n f) (wrong_from s ps c key (n + 1) acts) x m) [ inl same ↦ sym (ap (λ (y : Found). y.config) same) | inr k ↦ ih k ]
+
+config_of_several : (s : Service) (c : Config) (x : Found) → Contains (several_at s c) x → x.config ≡ c
+config_of_several s c x m = by (same_config c (starting s)) (is_single s) refl m
+  where
+    by : (b t : Bool) → same_config c (starting s) ≡ b → Contains (cond (b && not t) (several s ∷ []) []) x → x.config ≡ c
+    by true true e m = absurd (no_member x m)
+    by true false e m = elim (first_or_behind (several s) [] x m) [ inl same ↦ sym (config_is c (starting s) e ∙ ap (λ (y : Found). y.config) same) | inr k ↦ absurd (no_member x k) ]
+    by false t e m = absurd (no_member x m)
+
+config_of_effects : (s : Service) (c : Config) (x : Found) → Contains (refusals_of_effects s c) x → x.config ≡ c
+config_of_effects s c x m =
+    let from = joined_from (wrong_with s (present s c) c) (filter (is_active (present s c)) (present s c)) x m in
+    config_from s (present s c) c from.0.key 1 (actions from.0) x from.2
 
 config_of : (s : Service) (c : Config) (x : Found) → Contains (refusals_in s c) x → x.config ≡ c
 config_of s c x m =
-    let from = joined_from (wrong_with s (present s c) c) (filter (is_active (present s c)) (present s c)) x m in
-    config_from s (present s c) c from.0.key 1 (actions from.0) x from.2
+    elim (Contains-append_cases (several_at s c) (refusals_of_effects s c) x m) [ inl k ↦ config_of_several s c x k | inr k ↦ config_of_effects s c x k ]
 
 -- A closed set has what is reached.
 
@@ -95,7 +151,13 @@ has_reached s cs k _ (led c a d r m e) =
 
 pub free_of : (s : Service) (cs : List Config) → AreReached s cs → least_of None (flat_map (refusals_in s) cs) ≡ None → AreFree s cs
 free_of s cs h e =
-    record { service = h.service; closed = h.closed; free = λ c m. free_where_none s c (empty_joined (refusals_in s) cs c (none_of (flat_map (refusals_in s) cs) e) (member_of cs c m)) }
+    let none : (c : Config) → is_among cs c ≡ true → refusals_in s c ≡ [] = λ c m. empty_joined (refusals_in s) cs c (none_of (flat_map (refusals_in s) cs) e) (member_of cs c m) in
+    record {
+      service = h.service;
+      single = single_where_none s (none (starting s) h.closed.start);
+      closed = h.closed;
+      free = λ c m. free_where_none s c (none c m);
+    }
 
 pub first_found : (s : Service) (cs : List Config) (x : Found) → AreReached s cs → least_of None (flat_map (refusals_in s) cs) ≡ Some x → IsFirst s x
 first_found s cs x h e =
@@ -111,4 +173,4 @@ first_found s cs x h e =
 pub refused_is_not : RefusedIsNot
 refused_is_not s x r m good =
     let free = good.free x.config (has_reached s good.reached good.closed x.config r) in
-    no_member x (subst (λ (xs : List Found). Contains xs x) (none_where_free s x.config free) m)
+    no_member x (subst (λ (xs : List Found). Contains xs x) (none_where_free s x.config good.single free) m)

@@ -36,7 +36,7 @@ pub record IsFirst (s : Service) (x : Found) : Type 0 where
 
 -- the refusal says this of the service
 abbrev pub refusal_of : Service → Found → Refusal
-refusal_of s x = record { kind = x.kind; place = Some x.place; action = Some x.action; config = Some x.config; object = Some x.object; service = s }
+refusal_of s x = record { kind = x.kind; place = Some x.place; action = x.action; config = Some x.config; object = Some x.object; service = s }
 
 -- no verdict, for want of memory
 abbrev pub unjudged : Service → Refusal

@@ -1,16 +1,19 @@
--- Why the active actions of a configuration are refused, with the place of each.
-use Rattle.std.specs.Prelude.{ℕ, ◌+◌, Bool, true, false, List, [], ◌∷◌, ◌++◌, filter, Option, Some, None}
+-- Why a configuration is refused, with the place of each refusal: an active action, or the start application.
+use Rattle.std.specs.Prelude.{ℕ, ◌+◌, Bool, true, false, ◌&&◌, not, if◌then◌else◌, List, [], ◌∷◌, ◌++◌, filter, Option, Some, None}
 use Rattle.std.specs.List.{flat_map, Contains}
 use Rattle.std.specs.Option.{option_to_list}
 use Rattle.mh_base.specs.declared.obj_ref.ObjRef.{ObjRef}
 use Rattle.mh_group.specs.declared.action_name.ActionName.{ActionName}
+use Rattle.mh_group.specs.declared.action_name.ActionName.TheVariants as action
 use Rattle.mh_model.specs.declared.act.Act.{Act}
+use Rattle.mh_model.specs.declared.act.Argument.{Argument}
+use Rattle.mh_model.specs.declared.act.Argument.TheVariants as argument
 use Rattle.mh_model.specs.declared.config.Config.{Config}
 use Rattle.mh_model.specs.declared.fault.Fault.{Fault}
 use Rattle.mh_model.specs.declared.object.Fixed.{Fixed}
 use Rattle.mh_model.specs.Faults.{written_at}
-use Rattle.mh_model.specs.Service.{Service}
-use Rattle.mh_model.specs.Configuration.{present}
+use Rattle.mh_model.specs.Service.{Service, group_ref}
+use Rattle.mh_model.specs.Configuration.{is_single, starting, present, same_config}
 use Rattle.mh_model.specs.Active.{actions, is_active, fault_of, is_direct}
 use Rattle.mh_model.specs.Acceptable.{IsReached, IsAcceptable}
 use Rattle.mh_verify.specs.declared.refusal.Found.{Found}
@@ -23,7 +26,7 @@ abbrev pub refusal_at : Config → ObjRef → ℕ → RefusalKind → ActionName
 refusal_at c key n k name r = record {
   kind = k;
   place = record { group = key.group; object = key.number; index = n };
-  action = name;
+  action = Some name;
   object = r;
   config = c;
 }
@@ -32,19 +35,29 @@ refusal_at c key n k name r = record {
 abbrev pub found_at : Config → ObjRef → ℕ → Fault → Found
 found_at c key n f = refusal_at c key n (kind_of f.what) f.action f.at
 
+-- the variable that holds the id of the timer, where the action does not name that itself
+abbrev pub id_variable : ActionName → List Argument → Option ObjRef
+id_variable action.SetTimer (argument.Through v t ∷ xs) = Some v
+id_variable _ xs = None
+
+-- it is not known beforehand which timer is meant
+abbrev pub timer_at : Config → ObjRef → ℕ → Act → ObjRef → Found
+timer_at c key n a v = refusal_at c key n kind.TimerThroughVariable a.name v
+
 -- it is not verified yet what the action is done to
 abbrev pub not_yet_at : Config → ObjRef → ℕ → Act → Found
 not_yet_at c key n a = refusal_at c key n kind.NotYet a.name (written_at a.target)
 
--- The refusal of an action, if there is one: for what is wrong with it, and else, unless it is direct, since it
--- names an object through a variable.
-abbrev pub refused_for : Config → ObjRef → ℕ → Act → Option Fault → Bool → Option Found
-refused_for c key n a (Some f) direct = Some (found_at c key n f)
-refused_for c key n a None true = None
-refused_for c key n a None false = Some (not_yet_at c key n a)
+-- The refusal of an action, if there is one: for what is wrong with it, else for an id that a variable holds, and
+-- else, unless it is direct, since it names an object through a variable.
+abbrev pub refused_for : Config → ObjRef → ℕ → Act → Option Fault → Option ObjRef → Bool → Option Found
+refused_for c key n a (Some f) v direct = Some (found_at c key n f)
+refused_for c key n a None (Some v) direct = Some (timer_at c key n a v)
+refused_for c key n a None None true = None
+refused_for c key n a None None false = Some (not_yet_at c key n a)
 
 abbrev pub refused_at : Service → List Fixed → Config → ObjRef → ℕ → Act → Option Found
-refused_at s ps c key n a = refused_for c key n a (fault_of s ps a) (is_direct a)
+refused_at s ps c key n a = refused_for c key n a (fault_of s ps a) (id_variable a.name a.arguments) (is_direct a)
 
 -- the refusals of these actions of an object, counted on from n, where these are present
 abbrev pub wrong_from : Service → List Fixed → Config → ObjRef → ℕ → List Act → List Found
@@ -56,8 +69,26 @@ abbrev pub wrong_with : Service → List Fixed → Config → Fixed → List Fou
 wrong_with s ps c p = wrong_from s ps c p.key 1 (actions p)
 
 -- the refusals of the effects that are active
+abbrev pub refusals_of_effects : Service → Config → List Found
+refusals_of_effects s c = flat_map (wrong_with s (present s c) c) (filter (is_active (present s c)) (present s c))
+
+-- A service with several applications or scenes is not verified yet, which is said of its start.
+
+abbrev pub several : Service → Found
+several s = record {
+  kind = kind.NotYet;
+  place = record { group = s.start; object = 0; index = 0 };
+  action = None;
+  object = group_ref s.start;
+  config = starting s;
+}
+
+abbrev pub several_at : Service → Config → List Found
+several_at s c = if same_config c (starting s) && not (is_single s) then several s ∷ [] else []
+
+-- the refusals of the service itself, and those of its effects
 abbrev pub refusals_in : Service → Config → List Found
-refusals_in s c = flat_map (wrong_with s (present s c) c) (filter (is_active (present s c)) (present s c))
+refusals_in s c = several_at s c ++ refusals_of_effects s c
 
 -- a service with a refusal in a configuration that is reached is not acceptable
 abbrev pub RefusedIsNot : Type 0

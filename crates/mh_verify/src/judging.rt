@@ -1,26 +1,25 @@
 //! What is wrong in given configurations, and which of it comes first.
-ghost use Rattle.std.specs.Prelude.{◌≡◌, ◌+◌, None, IfOk, length, filter};
+ghost use Rattle.std.specs.Prelude.{◌≡◌, ◌+◌, ◌&&◌, not, None, IfOk, length, filter};
 ghost use Rattle.std.specs.List.{flat_map};
-ghost use Rattle.mh_model.specs.Active.{is_active};
-ghost use Rattle.mh_model.specs.Configuration.{present};
+ghost use Rattle.std.specs.Option.{option_copied};
+ghost use Rattle.mh_model.specs.Active.{is_active, is_direct as is_direct_lem};
+ghost use Rattle.mh_model.specs.Configuration.{present, is_single, same_config, starting as starting_lem};
 ghost use Rattle.mh_verify.specs.Refusals.{refusal_at as refusal_at_lem, found_at as found_at_lem};
-ghost use Rattle.mh_verify.specs.Refusals.{not_yet_at as not_yet_at_lem, refused_at as refused_at_lem};
+ghost use Rattle.mh_verify.specs.Refusals.{timer_at as timer_at_lem, not_yet_at as not_yet_at_lem};
+ghost use Rattle.mh_verify.specs.Refusals.{id_variable as id_variable_lem, refused_for, refused_at as refused_at_lem};
+ghost use Rattle.mh_verify.specs.Refusals.{several as several_lem, several_at, refusals_of_effects};
 ghost use Rattle.mh_verify.specs.Refusals.{wrong_from, wrong_with, refusals_in};
-ghost use Rattle.mh_verify.specs.Order.{by_place as by_place_lem, by_config as by_config_lem, order as order_lem};
-ghost use Rattle.std.specs.Option.{option_cmp};
-ghost use Rattle.std.specs.Ordering.{nat_cmp};
-ghost use Rattle.std.specs.Cmp.Lexicographic.{slice_cmp};
-ghost use Rattle.mh_verify.specs.Kinds.{kind_number};
-ghost use Rattle.mh_verify.specs.Least.{lesser as lesser_lem, least_of};
+ghost use Rattle.mh_verify.specs.Least.{least_of};
 
+use crate::ordering::lesser;
 use crate::present::{Present, effects, is_direct};
+use crate::reaching::starting;
 use crate::{Found, Place, RefusalKind};
-use mh_base::{GroupName, ObjRef};
+use mh_base::ObjRef;
 use mh_group::ActionName;
-use mh_model::{Act, Config, Fault, Fixed, FixedPart};
+use mh_model::{Act, Argument, Config, Fault, Fixed, FixedPart};
 use mh_service::Service;
 use std::alloc::AllocError;
-use std::cmp::Ordering;
 
 /// A configuration of a service, with what is present there.
 #[derive(Drop)]
@@ -28,65 +27,6 @@ struct Scope<'a> {
     service: &'a Service,
     config: &'a Config,
     present: Present<'a>,
-}
-
-fn by_place(first: &Place, second: &Place) -> Ordering
-    ensures { result ≡ by_place_lem first.now second.now }
-{
-    let group = first.group.as_bytes().cmp(&second.group.as_bytes());
-    group
-        .then(first.object.cmp(&second.object))
-        .then(first.index.cmp(&second.index))
-}
-
-/// By name of the application, then of the scene; no scene comes before any.
-fn by_config(first: &Config, second: &Config) -> Ordering
-    ensures { result ≡ by_config_lem first.now second.now }
-{
-    let app = first.app.as_bytes().cmp(&second.app.as_bytes());
-    app.then(by_scene(&first.scene, &second.scene))
-}
-
-fn by_scene(first: &Option<GroupName>, second: &Option<GroupName>) -> Ordering
-    ensures { result ≡ option_cmp (slice_cmp nat_cmp) first.now second.now }
-{
-    match (first, second) {
-        (None, None) => Ordering::Equal,
-        (None, Some(_)) => Ordering::Less,
-        (Some(_), None) => Ordering::Greater,
-        (Some(first), Some(second)) => first.as_bytes().cmp(&second.as_bytes()),
-    }
-}
-
-fn order(first: &Found, second: &Found) -> Ordering
-    ensures { result ≡ order_lem first.now second.now }
-{
-    let place = by_place(&first.place, &second.place);
-    place
-        .then(by_kind(first.kind, second.kind))
-        .then(by_config(&first.config, &second.config))
-}
-
-fn by_kind(first: RefusalKind, second: RefusalKind) -> Ordering
-    ensures { result ≡ option_cmp nat_cmp (kind_number first) (kind_number second) }
-{
-    first.number().cmp(&second.number())
-}
-
-/// The first of one and the best so far.
-fn lesser(best: Option<Found>, found: Found) -> Found
-    ensures { result ≡ lesser_lem best found }
-{
-    match best {
-        None => found,
-        Some(best) => {
-            if order(&found, &best).is_lt() {
-                found
-            } else {
-                best
-            }
-        }
-    }
 }
 
 fn refusal_at(
@@ -107,7 +47,7 @@ fn refusal_at(
             object: key.number,
             index,
         },
-        action,
+        action: Some(action),
         object,
         config: scope.config.clone()?,
     })
@@ -127,6 +67,34 @@ fn found_at(
     refusal_at(scope, key, index, kind, fault.action, fault.at)
 }
 
+/// The variable that holds the id of the timer, where the action does not name that itself.
+fn id_variable(act: &Act) -> Option<&ObjRef>
+    ensures { option_copied result ≡ id_variable_lem act.now.name act.now.arguments }
+{
+    if !matches!(act.name, ActionName::SetTimer) {
+        return None;
+    }
+    match act.arguments.as_slice() {
+        [Argument::Through(variable, _), ..] => Some(variable),
+        _ => None,
+    }
+}
+
+/// It is not known beforehand which timer is meant.
+fn timer_at(
+    scope: &Scope<'_>,
+    key: &ObjRef,
+    index: usize,
+    act: &Act,
+    variable: &ObjRef,
+) -> Result<Found, AllocError>
+    ensures { IfOk result (λ found. found
+        ≡ timer_at_lem scope.now.config.now key.now index act.now variable.now) }
+{
+    let kind = RefusalKind::TimerThroughVariable;
+    refusal_at(scope, key, index, kind, act.name, variable.clone()?)
+}
+
 /// It is not verified yet what the action is done to.
 fn not_yet_at(scope: &Scope<'_>, key: &ObjRef, index: usize, act: &Act) -> Result<Found, AllocError>
     ensures { IfOk result (λ found. found
@@ -134,6 +102,23 @@ fn not_yet_at(scope: &Scope<'_>, key: &ObjRef, index: usize, act: &Act) -> Resul
 {
     let target = act.target.written_at().clone()?;
     refusal_at(scope, key, index, RefusalKind::NotYet, act.name, target)
+}
+
+/// Why the action with this number of an object is refused, if it is, where nothing is wrong with it.
+fn unknown_at(
+    scope: &Scope<'_>,
+    key: &ObjRef,
+    index: usize,
+    act: &Act,
+) -> Result<Option<Found>, AllocError>
+    ensures { IfOk result (λ found. found ≡ refused_for scope.now.config.now key.now index act.now
+        None (id_variable_lem act.now.name act.now.arguments) (is_direct_lem act.now)) }
+{
+    match id_variable(act) {
+        Some(variable) => Ok(Some(timer_at(scope, key, index, act, variable)?)),
+        None if is_direct(act) => Ok(None),
+        None => Ok(Some(not_yet_at(scope, key, index, act)?)),
+    }
 }
 
 /// Why the action with this number of an object is refused, if it is.
@@ -148,8 +133,7 @@ fn refused_at(
 {
     match scope.present.fault_of(scope.service, act)? {
         Some(fault) => Ok(Some(found_at(scope, key, index, fault)?)),
-        None if is_direct(act) => Ok(None),
-        None => Ok(Some(not_yet_at(scope, key, index, act)?)),
+        None => unknown_at(scope, key, index, act),
     }
 }
 
@@ -221,13 +205,14 @@ fn least_of_parts(
     Ok(best)
 }
 
-/// The first of what is wrong in the configuration, and of the best so far.
-fn least_in(
+/// The first of what is wrong with the active effects of the configuration, and of the best so far.
+fn least_of_effects(
     best: Option<Found>,
     service: &Service,
     config: &Config,
 ) -> Result<Option<Found>, AllocError>
-    ensures { IfOk result (λ least. least ≡ least_of best (refusals_in service.now config.now)) }
+    ensures { IfOk result (λ least. least ≡ least_of best
+        (refusals_of_effects service.now config.now)) }
 {
     let scope = Scope {
         service,
@@ -237,6 +222,67 @@ fn least_in(
     let (application, scene) = scope.present.parts();
     let best = least_of_parts(best, &scope, application)?;
     least_of_parts(best, &scope, scene)
+}
+
+/// A service with several applications or scenes is not verified yet, which is said of its start.
+fn several(service: &Service) -> Result<Found, AllocError>
+    ensures { IfOk result (λ found. found ≡ several_lem service.now) }
+{
+    Ok(Found {
+        kind: RefusalKind::NotYet,
+        place: Place {
+            group: service.start().clone()?,
+            object: 0,
+            index: 0,
+        },
+        action: None,
+        object: ObjRef {
+            group: service.start().clone()?,
+            number: 0,
+        },
+        config: starting(service)?,
+    })
+}
+
+fn is_starting(service: &Service, config: &Config) -> bool
+    ensures { result ≡ same_config config.now (starting_lem service.now) }
+{
+    config.app == *service.start() && config.scene.is_none()
+}
+
+fn is_start_of_several(service: &Service, config: &Config) -> bool
+    ensures { result ≡ (same_config config.now (starting_lem service.now)
+        && not (is_single service.now)) }
+{
+    is_starting(service, config) && !service.is_single()
+}
+
+/// The first of what is wrong with the service itself, and of the best so far.
+fn least_of_several(
+    best: Option<Found>,
+    service: &Service,
+    config: &Config,
+) -> Result<Option<Found>, AllocError>
+    ensures { IfOk result (λ least. least ≡ least_of best (several_at service.now config.now)) }
+{
+    if is_start_of_several(service, config) {
+        Ok(Some(lesser(best, several(service)?)))
+    } else {
+        Ok(best)
+    }
+}
+
+/// The first of what is wrong in the configuration, and of the best so far.
+#[tactic(auto, using(crate::proofs::LeastLemmas::least_append))]
+fn least_in(
+    best: Option<Found>,
+    service: &Service,
+    config: &Config,
+) -> Result<Option<Found>, AllocError>
+    ensures { IfOk result (λ least. least ≡ least_of best (refusals_in service.now config.now)) }
+{
+    let best = least_of_several(best, service, config)?;
+    least_of_effects(best, service, config)
 }
 
 /// The first of what is wrong in these configurations.

@@ -7,6 +7,7 @@
 
 pub mod accepted;
 mod judging;
+mod ordering;
 mod present;
 mod reaching;
 pub mod refusal;

@@ -4,7 +4,7 @@
 ghost use Rattle.std.specs.Prelude.{◌≡◌, ◌++◌, IfOk};
 ghost use Rattle.std.specs.Option.{option_copied, option_map};
 ghost use Rattle.mh_model.specs.Active.{actions, has_source, is_active as is_active_lem};
-ghost use Rattle.mh_model.specs.Active.{fault_of as fault_of_lem, leads as leads_lem};
+ghost use Rattle.mh_model.specs.Active.{fault_of as fault_of_lem, leads as leads_lem, leads_to as leads_to_lem};
 ghost use Rattle.mh_model.specs.Active.{is_direct as is_direct_lem, are_direct as are_direct_lem};
 ghost use Rattle.mh_model.specs.Active.{is_direct_target as is_direct_target_lem};
 ghost use Rattle.mh_model.specs.Active.{is_direct_argument as is_direct_argument_lem};
@@ -13,10 +13,10 @@ ghost use Rattle.mh_model.specs.Property.{held, as_value};
 ghost use Rattle.mh_model.specs.Service.{part_at as part_at_lem};
 
 use mh_base::{GroupName, ObjRef, Value};
-use mh_group::{Attribute, Class, Need};
+use mh_group::{ActionName, Attribute, Class, Need};
 use mh_model::held::as_value;
 use mh_model::known::{Known, fault_known};
-use mh_model::parts::{effect_of, is_transition, part_at};
+use mh_model::parts::{effect_of, part_at};
 use mh_model::{Act, Argument, Config, Fault, Fixed, FixedPart, Properties, Target};
 use mh_service::Service;
 use std::alloc::AllocError;
@@ -189,18 +189,52 @@ fn is_direct_argument(need: Need, argument: &Argument) -> bool
 pub fn leads(service: &Service, config: &Config, act: &Act) -> Result<Option<Config>, AllocError>
     ensures { IfOk result (λ led. led ≡ leads_lem service.now config.now act.now) }
 {
-    let Target::Direct(at) = &act.target else {
-        return Ok(None);
-    };
-    if !is_transition(act.name) || at.number != 0 {
-        return Ok(None);
+    match &act.target {
+        Target::Direct(at) => leads_to(service, config, act.name, at),
+        Target::Through(_) => Ok(None),
     }
-    if !service.has_scene(&at.group) {
+}
+
+fn leads_to(
+    service: &Service,
+    config: &Config,
+    action: ActionName,
+    at: &ObjRef,
+) -> Result<Option<Config>, AllocError>
+    ensures { IfOk result (λ led. led ≡ leads_to_lem service.now config.now action at.now) }
+{
+    match action {
+        ActionName::TransitionTo => to_scene(service, config, at),
+        ActionName::Launch => to_application(service, at),
+        _ => Ok(None),
+    }
+}
+
+/// The scene, under the same application.
+fn to_scene(service: &Service, config: &Config, at: &ObjRef) -> Result<Option<Config>, AllocError>
+    ensures { IfOk result (λ led. led
+        ≡ leads_to_lem service.now config.now ActionName.TransitionTo at.now) }
+{
+    if at.number != 0 || !service.has_scene(&at.group) {
         return Ok(None);
     }
     Ok(Some(Config {
         app: config.app.clone()?,
         scene: Some(at.group.clone()?),
+    }))
+}
+
+/// The application, with no scene.
+fn to_application(service: &Service, at: &ObjRef) -> Result<Option<Config>, AllocError>
+    ensures { (config : _) → IfOk result (λ led. led
+        ≡ leads_to_lem service.now config ActionName.Launch at.now) }
+{
+    if at.number != 0 || !service.has_application(&at.group) {
+        return Ok(None);
+    }
+    Ok(Some(Config {
+        app: at.group.clone()?,
+        scene: None,
     }))
 }
 

@@ -30,7 +30,7 @@ fn same_scene(first: &Option<GroupName>, second: &Option<GroupName>) -> bool
 }
 
 /// The start application with no scene.
-fn starting(service: &Service) -> Result<Config, AllocError>
+pub fn starting(service: &Service) -> Result<Config, AllocError>
     ensures { IfOk result (λ config. config ≡ starting_lem service.now) }
 {
     Ok(Config {

@@ -8,7 +8,7 @@ use mh_model::{Config, FaultKind};
 use mh_service::Service;
 use thiserror::Error;
 
-/// What is wrong with an action.
+/// What is wrong with an action, or with the service itself.
 #[derive(Clone, Copy, Debug, PartialEq, Eq, Error)]
 pub enum RefusalKind {
     #[error("V1: an object that is named is absent")]
@@ -17,6 +17,8 @@ pub enum RefusalKind {
     WrongClass,
     #[error("V3: a value or a variable is of another kind")]
     WrongKind,
+    #[error("V7: the id of a timer is held by a variable")]
+    TimerThroughVariable,
     #[error("V10: this is not verified yet")]
     NotYet,
     #[error("memory was refused")]
@@ -32,6 +34,7 @@ impl RefusalKind {
             RefusalKind::AbsentObject => Some(1),
             RefusalKind::WrongClass => Some(2),
             RefusalKind::WrongKind => Some(3),
+            RefusalKind::TimerThroughVariable => Some(7),
             RefusalKind::NotYet => Some(10),
             RefusalKind::NoMemory => None,
         }
@@ -50,7 +53,7 @@ impl RefusalKind {
 }
 
 /// The place of an action: an object, and the number of the action there, counted from 1 through the
-/// effects of the object in their written order.
+/// effects of the object in their written order. With the index 0 it is the place of a group itself.
 #[derive(Clone, Drop, PartialEq, Eq)]
 pub struct Place {
     pub group: GroupName,
@@ -58,19 +61,22 @@ pub struct Place {
     pub index: usize,
 }
 
-/// Something wrong with an active action.
+/// Something wrong with an active action, or with the service itself.
 #[derive(Drop)]
 pub struct Found {
     pub kind: RefusalKind,
     pub place: Place,
-    pub action: ActionName,
-    /// The reference at the place that is wrong; the target's, of an action that is not verified yet.
+    /// None where the place is that of a group itself.
+    pub action: Option<ActionName>,
+    /// The reference at the place that is wrong; the target's, of an action that is not verified yet; of a
+    /// group itself, its own.
     pub object: ObjRef,
     /// The configuration in which it is wrong.
     pub config: Config,
 }
 
-/// A service that is not accepted, and why. For want of memory there is no place.
+/// A service that is not accepted, and why. For want of memory there is no place; at that of a group itself
+/// there is no action.
 #[derive(Drop)]
 pub struct Refusal {
     pub kind: RefusalKind,

@@ -65,7 +65,7 @@ fn refused(service: Service, found: Found) -> Refusal
     Refusal {
         kind,
         place: Some(place),
-        action: Some(action),
+        action,
         config: Some(config),
         object: Some(object),
         service,

@@ -1,6 +1,11 @@
 use Rattle.std.proofs.Common.{rules}
+use Rattle.mh_display.specs.Strokes.{stroke_paint}
 use Rattle.mh_display.proofs.RowLemmas.{no_cell, next_column, ended}
+use Rattle.mh_display.proofs.PaintLemmas.{settled_row}
 use Rattle.mh_display.proofs.strokes.paint_row.Goals as goal
+
+pub returns-then-is_row_settled : goal.returns-then-is_row_settled
+returns-then-is_row_settled c = settled_row (stroke_paint c.args.stroke.now c.args.line) c.args.screen.now _ _ (c.is_row_settled.ensures (search rules))
 
 pub loop-column-init : goal.loop-column-init
 loop-column-init c = (search rules, search rules, no_cell _ _ _)

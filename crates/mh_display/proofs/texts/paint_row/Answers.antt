@@ -1,8 +1,12 @@
 use Rattle.std.proofs.Common.{rules, to_z, of_z, w64}
 use Rattle.std.proofs.Math.Facts.{to_z-of_z}
+use Rattle.mh_display.specs.Texts.{letter_paint}
 use Rattle.mh_display.proofs.RowLemmas.{no_cell, next_column, ended}
-use Rattle.mh_display.proofs.PaintLemmas.{letter_set}
+use Rattle.mh_display.proofs.PaintLemmas.{letter_set, settled_row}
 use Rattle.mh_display.proofs.texts.paint_row.Goals as goal
+
+pub returns-then-is_row_settled : goal.returns-then-is_row_settled
+returns-then-is_row_settled c = settled_row (letter_paint c.args.ink c.args.area.now c.args.lines.now) c.args.screen.now _ _ (c.is_row_settled.ensures (search rules))
 
 pub loop-column-init : goal.loop-column-init
 loop-column-init c = (search rules, search rules, no_cell _ _ _)

@@ -1,8 +1,10 @@
-use Rattle.std.proofs.Common.{◌≡◌, ◌<◌, ◌+◌, ◌++◌, length, drop}
-use Rattle.mh_report.specs.Frame.{runs_from, runs, behind}
+use Rattle.std.proofs.Common.{◌≡◌, ◌≤◌, ◌-◌, ◌++◌}
+use Rattle.mh_report.specs.Frame.{runs, row_cells}
+use Rattle.mh_report.specs.Stretch.{runs_left}
 use Rattle.mh_report.proofs.report.put_runs.Given as goal
 
-abbrev pub invariant-loop-cell : goal.invariant-loop-cell
-invariant-loop-cell l =
-    (l.text ++ runs_from l.run (drop l.cell-index l.others) ≡ l.fn.text ++ runs l.cells) × (0 < length l.run.scalars)
-    × (behind l.run ≡ l.cell-index + 1)
+abbrev pub invariant-loop-column : goal.invariant-loop-column
+invariant-loop-column l = (l.column ≤ 60) × (l.text ++ runs_left l.picture l.row l.column ≡ l.fn.text ++ runs (row_cells l.picture l.row))
+
+abbrev pub decreases-loop-column : goal.decreases-loop-column
+decreases-loop-column l = 60 - l.column

@@ -9,6 +9,12 @@ use Rattle.mh_engine.proofs.engine.Engine.step.Goals as goal
 pub returns-then-self-clause-never : goal.returns-then-self-clause-never
 returns-then-self-clause-never c = kept_front c.args.self.now (subst KeepsSafe c.self.view_is c.self.invariant)
 
+pub returns-in-Ended-clause-never : goal.returns-in-Ended-clause-never
+returns-in-Ended-clause-never c = kept_front c.args.self.now (subst KeepsSafe c.self.view_is c.self.invariant)
+
+pub returns-in-Idle-clause-never : goal.returns-in-Idle-clause-never
+returns-in-Idle-clause-never c = kept_front c.args.self.now (subst KeepsSafe c.self.view_is c.self.invariant)
+
 pub returns-then-taken-clause-never : goal.returns-then-taken-clause-never
 returns-then-taken-clause-never c = kept_front c.args.self.now (subst KeepsSafe c.self.view_is c.self.invariant)
 

@@ -1,0 +1,95 @@
+-- How much time lies ahead, when what waits changes.
+use Rattle.std.specs.Prelude.{◌≡◌, ℕ, zero, suc, ◌+◌, ◌≤◌, Bool, true, false, not, cond, if◌then◌else◌, nat_le, ℤ, List, [], ◌∷◌, ◌++◌, map, filter, drop, take, slice_get, Option, Some, None, refl}
+use Rattle.std.specs.Option.{option_map_or}
+use Rattle.std.proofs.Common.{arith, ap, ◌∙◌, sym}
+use Rattle.std.proofs.lemmas.List.Sums.{sum_by-cons, sum_by-append}
+use Rattle.mh_model.specs.declared.event.Event.{Event}
+use Rattle.mh_model.specs.declared.input.Input.TheVariants as input
+use Rattle.mh_model.specs.declared.input.Waiting.{Waiting}
+use Rattle.mh_model.specs.declared.input.Waiting.TheVariants as waiting
+use Rattle.mh_model.specs.declared.input.Input.{Input}
+use Rattle.mh_model.specs.declared.input.Obstacle.TheVariants as refused
+use Rattle.mh_model.specs.declared.object.Object.{Object}
+use Rattle.mh_model.specs.declared.time.Timer.{Timer}
+use Rattle.mh_model.specs.State.{State}
+use Rattle.mh_model.specs.Step.{time_of, time_ahead, obstacle, is_in_range, is_past_the_last, is_full, is_streaming, stream_event}
+use Rattle.mh_model.specs.Time.{most_moment, timer_event}
+use Rattle.mh_machine.specs.Agenda.{Coming, is_late}
+use Rattle.mh_machine.specs.Taking.{told_by}
+
+-- events take no time
+pub events_ahead : (es : List Event) → time_ahead (map waiting.Event es) ≡ 0
+events_ahead [] = refl
+events_ahead (e ∷ es) =
+    let one = sum_by-cons time_of (waiting.Event e) (map waiting.Event es) in
+    let rest = events_ahead es in
+    omega (arith, one, rest)
+
+pub ahead_append : (ws xs : List Waiting) → time_ahead (ws ++ xs) ≡ time_ahead ws + time_ahead xs
+ahead_append ws xs = sum_by-append time_of ws xs
+
+pub ahead_events : (ws : List Waiting) (es : List Event) → time_ahead (ws ++ map waiting.Event es) ≡ time_ahead ws
+ahead_events ws es =
+    let none = events_ahead es in
+    let whole = ahead_append ws (map waiting.Event es) in
+    omega (arith, none, whole)
+
+-- the first, and what is behind it
+pub ahead_first : (ws : List Waiting) (w : Waiting) → Some w ≡ slice_get ws 0 → time_ahead ws ≡ time_of w + time_ahead (drop 1 ws)
+ahead_first [] w first = absurd cc
+ahead_first (x ∷ ws) w first =
+    let same : w ≡ x = ap (λ (m : Option Waiting). option_map_or (λ (y : Waiting). y) m w) first in
+    sum_by-cons time_of x ws ∙ ap (λ (y : Waiting). time_of y + time_ahead ws) (sym same)
+
+pub ahead_behind : (ws : List Waiting) → time_ahead (drop 1 ws) ≤ time_ahead ws
+ahead_behind [] = omega arith
+ahead_behind (x ∷ ws) = let whole = sum_by-cons time_of x ws in omega (arith, whole)
+
+-- what goes takes its time along
+pub ahead_filter : (p : Waiting → Bool) (ws : List Waiting) → time_ahead (filter p ws) ≤ time_ahead ws
+ahead_filter p [] = omega arith
+ahead_filter p (w ∷ ws) = by (p w) (ahead_filter p ws)
+  where
+    by : (b : Bool) → time_ahead (filter p ws) ≤ time_ahead ws → time_ahead (cond b (w ∷ filter p ws) (filter p ws)) ≤ time_ahead (w ∷ ws)
+    by true less = let one = sum_by-cons time_of w (filter p ws) in let whole = sum_by-cons time_of w ws in omega (arith, less, one, whole)
+    by false less = let whole = sum_by-cons time_of w ws in omega (arith, less, whole)
+
+-- the events of timers, as they wait
+pub fired_as : (ts : List Timer) → map waiting.Event (map timer_event ts) ≡ map (λ t. waiting.Event (timer_event t)) ts
+fired_as [] = refl
+fired_as (t ∷ ts) = ap (λ (ws : List Waiting). waiting.Event (timer_event t) ∷ ws) (fired_as ts)
+
+-- what nothing stands against is not too late
+unbarred : (i : Input) (s : State) → obstacle i s ≡ None → is_past_the_last i s ≡ false
+unbarred i s none = by s.ended (is_in_range i) (is_past_the_last i s) none
+  where
+    by : (a b c : Bool) → (if a then Some refused.Ended else (if not b then Some refused.TickRange else (if c then Some refused.ClockFull else (if is_full s then Some refused.QueueFull else None)))) ≡ None → c ≡ false
+    by a b false h = refl
+    by true b true h = absurd cc
+    by false true true h = absurd cc
+    by false false true h = absurd cc
+
+pub in_time : (i : Input) (s : State) (a : Coming) → a.moments ≡ s.moments → a.queue ≡ s.queue → obstacle i s ≡ None → is_late i a ≡ false
+in_time (input.Tick n) s a moments queue none =
+    ap (λ m. not (nat_le (m.present + time_ahead a.queue + n) most_moment)) moments
+    ∙ ap (λ (q : List Waiting). not (nat_le (s.moments.present + time_ahead q + n) most_moment)) queue
+    ∙ unbarred (input.Tick n) s none
+in_time (input.Key k) s a moments queue none = refl
+in_time (input.Stream n) s a moments queue none = refl
+in_time (input.Engine n) s a moments queue none = refl
+
+-- The events of streams, object by object.
+
+pub told_more : (tag : ℤ) (os : List Object) (i : ℕ) → map (stream_event tag) (filter is_streaming (take (suc i) os)) ≡ map (stream_event tag) (filter is_streaming (take i os)) ++ told_by tag (slice_get os i)
+told_more tag [] zero = refl
+told_more tag [] (suc i) = refl
+told_more tag (o ∷ os) zero = refl
+told_more tag (o ∷ os) (suc i) = by (is_streaming o) (told_more tag os i)
+  where
+    by : (b : Bool) → map (stream_event tag) (filter is_streaming (take (suc i) os)) ≡ map (stream_event tag) (filter is_streaming (take i os)) ++ told_by tag (slice_get os i) → map (stream_event tag) (cond b (o ∷ filter is_streaming (take (suc i) os)) (filter is_streaming (take (suc i) os))) ≡ map (stream_event tag) (cond b (o ∷ filter is_streaming (take i os)) (filter is_streaming (take i os))) ++ told_by tag (slice_get os i)
+    by true more = ap (λ (es : List Event). stream_event tag o ∷ es) more
+    by false more = more
+
+pub told_as : (tag : ℤ) (os : List Object) → map waiting.Event (map (stream_event tag) os) ≡ map (λ o. waiting.Event (stream_event tag o)) os
+told_as tag [] = refl
+told_as tag (o ∷ os) = ap (λ (ws : List Waiting). waiting.Event (stream_event tag o) ∷ ws) (told_as tag os)

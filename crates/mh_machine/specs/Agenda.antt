@@ -1,0 +1,21 @@
+-- What is still to come.
+use Rattle.std.specs.Prelude.{ℕ, ◌+◌, Bool, false, not, nat_le, List}
+use Rattle.mh_model.specs.declared.input.Input.{Input}
+use Rattle.mh_model.specs.declared.input.Input.TheVariants as input
+use Rattle.mh_model.specs.declared.input.Waiting.{Waiting}
+use Rattle.mh_model.specs.declared.time.Moments.{Moments}
+use Rattle.mh_model.specs.declared.time.Timer.{Timer}
+use Rattle.mh_model.specs.Step.{time_ahead}
+use Rattle.mh_model.specs.Time.{most_moment}
+
+-- the moments, the timers that are set, and what waits, with the room for more
+pub record Coming : Type 0 where
+  pub moments : Moments
+  pub timers : List Timer
+  pub queue : List Waiting
+  pub room : ℕ
+
+-- a tick would lead past the last moment
+abbrev pub is_late : Input → Coming → Bool
+is_late (input.Tick n) a = not (nat_le (a.moments.present + time_ahead a.queue + n) most_moment)
+is_late _ a = false

@@ -1,0 +1,145 @@
+//! What waits first is taken from the queue.
+ghost use Rattle.std.specs.Prelude.{◌≡◌, ◌+◌, ◌<◌, ◌^◌, None, Some, IfOk, OnOk, OnErr, slice_get};
+ghost use Rattle.mh_model.specs.Step as spec;
+ghost use Rattle.mh_machine.specs.Rest.{answer_by};
+ghost use Rattle.mh_machine.specs.Pieces.{written};
+ghost use Rattle.mh_machine.specs.Taking.{shifted};
+
+use crate::Stepped;
+use crate::agenda::Agenda;
+use crate::inputs::{engine_event, key_pieces, stream_events};
+use crate::piece::Piece;
+use crate::work::Work;
+use crate::works::Works;
+use mh_model::{Event, Input, Key, Waiting};
+use std::alloc::AllocError;
+
+impl Works {
+    /// Takes what waits first in the queue, if anything does.
+    pub(crate) fn take_first(&mut self) -> Result<Stepped, AllocError>
+        requires { self.old.state.taken + 1 < 2 ^ 64 }
+        ensures done { OnOk result (self.new.state
+            ≡ spec.step_by None (slice_get self.old.state.queue 0) self.old.state) }
+        ensures answer { IfOk result (λ a. a
+            ≡ answer_by None (slice_get self.old.state.queue 0) self.old.state) }
+        ensures kept { OnErr result (self.new.state ≡ self.old.state) }
+    {
+        match first_waiting(&self.agenda)? {
+            Some(waiting) => {
+                self.take(&waiting)?;
+                Ok(Stepped::Did)
+            }
+            None => Ok(Stepped::Idle),
+        }
+    }
+
+    /// Takes this, which waits first, from the queue.
+    fn take(&mut self, waiting: &Waiting) -> Result<(), AllocError>
+        requires room { self.old.state.taken + 1 < 2 ^ 64 }
+        requires first { Some waiting.now ≡ slice_get self.old.state.queue 0 }
+        ensures done { OnOk result (self.new.state ≡ spec.took waiting.now self.old.state) }
+        ensures kept { OnErr result (self.new.state ≡ self.old.state) }
+    {
+        match waiting {
+            Waiting::Event(event) => self.take_event(event),
+            Waiting::Input(Input::Key(key)) => self.take_key(*key),
+            Waiting::Input(Input::Tick(length)) => self.take_tick(*length),
+            Waiting::Input(Input::Stream(tag)) => self.take_stream(*tag),
+            Waiting::Input(Input::Engine(number)) => self.take_engine(*number),
+        }
+    }
+
+    /// An event puts what the links put that hear it.
+    fn take_event(&mut self, event: &Event) -> Result<(), AllocError>
+        requires { self.old.state.taken + 1 < 2 ^ 64 }
+        ensures done { OnOk result (self.new.state
+            ≡ spec.taking (Waiting.Event event.now) (shifted self.old.state)) }
+        ensures kept { OnErr result (self.new.state ≡ self.old.state) }
+    {
+        let pieces = self.links.heard(self.alloc, event, self.stage.objects())?;
+        self.take_with(pieces)
+    }
+
+    /// A key is an event of the scene, if its register lets it through.
+    fn take_key(&mut self, key: Key) -> Result<(), AllocError>
+        requires { self.old.state.taken + 1 < 2 ^ 64 }
+        ensures done { OnOk result (self.new.state
+            ≡ spec.taking (Waiting.Input (Input.Key key)) (shifted self.old.state)) }
+        ensures kept { OnErr result (self.new.state ≡ self.old.state) }
+    {
+        let pieces = match &self.scene {
+            None => Vec::new(self.alloc),
+            Some(scene) => {
+                key_pieces(self.alloc, key, scene, &self.links, self.stage.objects())?
+            }
+        };
+        self.take_with(pieces)
+    }
+
+    /// An event of the engine is one of the active application.
+    fn take_engine(&mut self, number: i32) -> Result<(), AllocError>
+        requires { self.old.state.taken + 1 < 2 ^ 64 }
+        ensures done { OnOk result (self.new.state
+            ≡ spec.taking (Waiting.Input (Input.Engine number)) (shifted self.old.state)) }
+        ensures kept { OnErr result (self.new.state ≡ self.old.state) }
+    {
+        let event = engine_event(number, &self.application)?;
+        let pieces = self.links.heard(self.alloc, &event, self.stage.objects())?;
+        self.take_with(pieces)
+    }
+
+    /// Time passes, and the events of the timers that are due wait.
+    fn take_tick(&mut self, length: u32) -> Result<(), AllocError>
+        requires room { self.old.state.taken + 1 < 2 ^ 64 }
+        requires first { Some (Waiting.Input (Input.Tick length)) ≡ slice_get self.old.state.queue 0 }
+        ensures done { OnOk result (self.new.state ≡ spec.ticked length (shifted self.old.state)) }
+        ensures kept { OnErr result (self.new.state ≡ self.old.state) }
+    {
+        self.agenda
+            .take_tick(self.alloc, length, &self.application)?;
+        self.taken += 1;
+        Ok(())
+    }
+
+    /// Each stream that runs has an event that waits.
+    fn take_stream(&mut self, tag: i32) -> Result<(), AllocError>
+        requires { self.old.state.taken + 1 < 2 ^ 64 }
+        ensures done { OnOk result (self.new.state
+            ≡ spec.taking (Waiting.Input (Input.Stream tag)) (shifted self.old.state)) }
+        ensures kept { OnErr result (self.new.state ≡ self.old.state) }
+    {
+        let events = stream_events(self.alloc, tag, self.stage.objects())?;
+        self.agenda.take_for(events)?;
+        self.taken += 1;
+        Ok(())
+    }
+
+    /// Puts these pieces in the place of the work list, for what waits first.
+    fn take_with(&mut self, pieces: Vec<Piece>) -> Result<(), AllocError>
+        requires { self.old.state.taken + 1 < 2 ^ 64 }
+        ensures done { OnOk result (self.new.state
+            ≡ record (shifted self.old.state) { work = written pieces.items }) }
+        ensures kept { OnErr result (self.new.state ≡ self.old.state) }
+    {
+        self.work = Work::of_pieces(self.alloc, pieces)?;
+        self.agenda.take_first();
+        self.taken += 1;
+        Ok(())
+    }
+}
+
+/// A copy of what waits first.
+fn first_waiting(agenda: &Agenda) -> Result<Option<Waiting>, AllocError>
+    ensures { IfOk result (λ first. first ≡ slice_get agenda.now.queue 0) }
+{
+    match agenda.first() {
+        Some(waiting) => Ok(Some(copied(waiting)?)),
+        None => Ok(None),
+    }
+}
+
+fn copied(waiting: &Waiting) -> Result<Waiting, AllocError>
+    ensures { IfOk result (λ copy. copy ≡ waiting.now) }
+{
+    waiting.clone()
+}

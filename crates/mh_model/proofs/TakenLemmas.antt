@@ -1,0 +1,75 @@
+-- What is taken keeps a state safe.
+use Rattle.std.specs.Prelude.{◌≡◌, ℕ, ◌+◌, Bool, true, false, if◌then◌else◌, List, [], ◌∷◌, ◌++◌, drop, filter, slice_get, Option, Some, None, refl, ℤ, not}
+use Rattle.std.specs.List.{list_all}
+use Rattle.std.specs.Option.{option_map_or}
+use Rattle.std.proofs.Common.{inl, inr, ap, subst, append-nil}
+use Rattle.mh_model.specs.declared.event.Event.{Event}
+use Rattle.mh_model.specs.declared.input.Waiting.{Waiting}
+use Rattle.mh_model.specs.declared.item.Item.{Item}
+use Rattle.mh_model.specs.declared.object.Fixed.{Fixed}
+use Rattle.mh_model.specs.declared.key.Key.{Key}
+use Rattle.mh_model.specs.Key.{passes}
+use Rattle.mh_model.specs.Service.{object_at, group_ref}
+use Rattle.mh_model.specs.State.{State, all}
+use Rattle.mh_model.specs.Items.{heard}
+use Rattle.mh_model.specs.Step.{register_of, key_event, key_items, took, engine_event, streams_told, timers_fired}
+use Rattle.mh_model.specs.Configuration.{present}
+use Rattle.mh_model.specs.Safe.{config_of, is_there, IsSafeWork, IsSafe, has_origin, has_group}
+use Rattle.mh_model.specs.declared.time.Timer.{Timer}
+use Rattle.mh_model.specs.Time.{is_due}
+use Rattle.mh_model.specs.declared.input.Input.TheVariants as input
+use Rattle.mh_model.specs.declared.input.Waiting.TheVariants as waiting
+use Rattle.mh_model.proofs.ServiceLemmas.{and_left, and_right, all_joined}
+use Rattle.mh_model.proofs.WorkLemmas.{safe_heard}
+use Rattle.mh_model.proofs.StateLemmas.{parts_present, fine_objects, group_there, kept, unseen}
+use Rattle.mh_model.proofs.TimeLemmas.{all_filtered, fired_safe, streams_safe}
+
+-- the first that waits comes from something present, and so does the rest
+pub first_waits : (ps : List Fixed) (ws : List Waiting) (w : Waiting) → slice_get ws 0 ≡ Some w → list_all (has_origin ps) ws ≡ true → (has_origin ps w ≡ true) × (list_all (has_origin ps) (drop 1 ws) ≡ true)
+first_waits ps [] w e h = absurd cc
+first_waits ps (x ∷ ws) w e h =
+    (subst (λ (y : Waiting). has_origin ps y ≡ true) (ap (λ (m : Option Waiting). option_map_or (λ (y : Waiting). y) m x) e) (and_left (has_origin ps x) (list_all (has_origin ps) ws) h), and_right (has_origin ps x) (list_all (has_origin ps) ws) h)
+
+-- what an event puts that is taken
+heard_alone : (s : State) (k : IsSafe s) (e : Event) → is_there e.source (present s.service (config_of s)) ≡ true → IsSafeWork s.service k.accepted.reached (config_of s) (heard e (all s.objects))
+heard_alone s k e here_it =
+    subst (IsSafeWork s.service k.accepted.reached (config_of s)) (append-nil (heard e (all s.objects)))
+    (safe_heard s.service k.accepted.reached (config_of s) e (present s.service (config_of s)) (all s.objects) [] here_it (fine_objects s k) tt)
+
+key_alone : (s : State) (k : IsSafe s) (key : Key) (scene : Option (List ℕ)) → s.scene ≡ scene → IsSafeWork s.service k.accepted.reached (config_of s) (key_items key scene (all s.objects))
+key_alone s k key None e = tt
+key_alone s k key (Some g) e = passed (passes (register_of (object_at (group_ref g) (all s.objects))) key)
+  where
+    passed : (b : Bool) → IsSafeWork s.service k.accepted.reached (config_of s) (if b then heard (key_event key (group_ref g)) (all s.objects) else [])
+    passed true = heard_alone s k (key_event key (group_ref g)) (group_there s k g (inr e))
+    passed false = tt
+
+-- what the streams tell that run
+told_safe : (s : State) → IsSafe s → (n : ℤ) → list_all (has_origin (present s.service (config_of s))) (streams_told n s) ≡ true
+told_safe s k n = subst (λ (ps : List Fixed). list_all (has_origin ps) (streams_told n s) ≡ true) (parts_present s k) (streams_safe n (all s.objects))
+
+-- a state stays safe where what waits first is taken
+pub safe_took : (s : State) (k : IsSafe s) (w : Waiting) → has_origin (present s.service (config_of s)) w ≡ true → list_all (has_origin (present s.service (config_of s))) (drop 1 s.queue) ≡ true → IsSafe (took w s)
+safe_took s k w here_it left = by w here_it
+  where
+    n : ℕ
+    n = s.taken + 1
+
+    put : (work : List Item) → IsSafeWork s.service k.accepted.reached (config_of s) work → IsSafe (record s { queue = drop 1 s.queue; work = work; taken = n })
+    put work safe = kept s k s.objects s.stack s.timers (drop 1 s.queue) work s.transition n refl refl safe k.timers left
+
+    by : (w : Waiting) → has_origin (present s.service (config_of s)) w ≡ true → IsSafe (took w s)
+    by (waiting.Event e) here_it = put _ (heard_alone s k e here_it)
+    by (waiting.Input (input.Key key)) here_it = put _ (key_alone s k key s.scene refl)
+    by (waiting.Input (input.Tick m)) here_it =
+        let now : ℕ = s.moments.present + m in
+        let ps = present s.service (config_of s) in
+        let fired = all_joined (has_origin ps) (drop 1 s.queue) (timers_fired now s) left (fired_safe ps now s.application s.timers k.timers) in
+        let other : List Timer = filter (λ t. not (is_due now t)) s.timers in
+        unseen (record s { timers = other; queue = drop 1 s.queue ++ timers_fired now s; taken = n })
+        (kept s k s.objects s.stack other (drop 1 s.queue ++ timers_fired now s) s.work s.transition n refl refl k.work (all_filtered (λ t. not (is_due now t)) (has_group ps) s.timers k.timers) fired)
+        (record s.moments { present = now }) s.ended s.locks s.frozen
+    by (waiting.Input (input.Stream m)) here_it =
+        kept s k s.objects s.stack s.timers (drop 1 s.queue ++ streams_told m s) s.work s.transition n refl refl k.work k.timers
+        (all_joined (has_origin (present s.service (config_of s))) (drop 1 s.queue) (streams_told m s) left (told_safe s k m))
+    by (waiting.Input (input.Engine m)) here_it = put _ (heard_alone s k (engine_event m s.application) (group_there s k s.application (inl refl)))
