@@ -4,7 +4,7 @@ use Rattle.std.specs.Prelude.{Option, Some, None}
 use Rattle.std.specs.List.{filter_map, cons_option}
 
 module _ {X Y : Type 0} (h : X → Option Y) where
-  in_front : (m : Option Y) (ys : List Y) → cons_option m [] ++ ys ≡ cons_option m ys
+  pub in_front : (m : Option Y) (ys : List Y) → cons_option m [] ++ ys ≡ cons_option m ys
   in_front None ys = refl
   in_front (Some y) ys = refl
 

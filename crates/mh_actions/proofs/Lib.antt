@@ -1,2 +1,3 @@
-pub mod NumeralLemmas
+pub mod CallLemmas
 pub mod FilterLemmas
+pub mod NumeralLemmas

@@ -1,3 +1,5 @@
+pub mod Called
+pub mod Content
 pub mod Listed
 pub mod Members
 pub mod Moved

@@ -103,7 +103,7 @@ fn values_of_many(
 }
 
 /// Puts the value to which the argument comes, if it comes to one, behind these.
-fn push_value(
+pub(crate) fn push_value(
     values: &mut Vec<Value>,
     objects: &Objects,
     argument: &Argument,
@@ -117,7 +117,7 @@ fn push_value(
     Ok(())
 }
 
-fn value_in<'a>(objects: &'a Objects, argument: &'a Argument) -> Option<&'a Value>
+pub(crate) fn value_in<'a>(objects: &'a Objects, argument: &'a Argument) -> Option<&'a Value>
     ensures { option_copied result ≡ spec.value_in (all objects.now) argument.now }
 {
     match argument {
@@ -141,7 +141,10 @@ pub fn receivers(alloc: Global, arguments: &[Argument]) -> Result<Few<ObjRef>, A
     }
 }
 
-fn receivers_of_many(alloc: Global, arguments: &[Argument]) -> Result<Vec<ObjRef>, AllocError>
+pub(crate) fn receivers_of_many(
+    alloc: Global,
+    arguments: &[Argument],
+) -> Result<Vec<ObjRef>, AllocError>
     ensures { IfOk result (λ rs. rs.items ≡ spec.receivers arguments.now) }
 {
     let mut receivers = Vec::new(alloc);

@@ -9,21 +9,28 @@ use crate::present::{Present, present_class};
 use mh_base::ObjRef;
 use mh_group::ActionName;
 use mh_model::known::fault_known;
-use mh_model::{Act, Fault, FaultKind};
+use mh_model::{Act, Fault, FaultKind, Signature};
 use mh_service::Service;
 use mh_store::Objects;
 use std::alloc::AllocError;
 
-/// What is wrong with the action, if anything is. Where nothing is, it takes no memory.
+/// What is wrong with the action, if anything is, where the receiver has these programs besides the
+/// built-in ones. Where nothing is wrong, it takes no memory.
 pub fn why_stuck(
     service: &Service,
+    programs: &[Signature],
     objects: &Objects,
     act: &Act,
 ) -> Result<Option<Fault>, AllocError>
-    ensures { IfOk result (λ fault. fault
-        ≡ fault_known_lem (known_in service.now (all objects.now)) act.now) }
+    ensures { let with = record service.now { programs = programs.now } in
+        IfOk result (λ fault. fault ≡ fault_known_lem (known_in with (all objects.now)) act.now) }
 {
-    fault_known(&Present { service, objects }, act)
+    let present = Present {
+        service,
+        programs,
+        objects,
+    };
+    fault_known(&present, act)
 }
 
 /// What is wrong with running or stopping this member of a group of objects, if anything is. The action

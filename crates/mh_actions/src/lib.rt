@@ -1,5 +1,6 @@
 //! What an action comes to: the values of its arguments, what is wrong with it, what it makes of
-//! one object and of the display stack, what that answers, and what it puts.
+//! one object and of the display stack, what that answers, what it puts, what it loads, and what
+//! goes into a program that it calls and out of it.
 //!
 //! Promise: each is what the definitions of `mh_model` say, exactly, for every action and every
 //! state. Nothing is changed here: `mh_store` carries a change out, and the machine puts items in
@@ -8,7 +9,9 @@
 
 pub mod answers;
 pub mod arguments;
+pub mod calling;
 pub mod changes;
+pub mod content;
 pub mod few;
 pub mod judging;
 mod looks;
@@ -17,3 +20,5 @@ pub mod ordering;
 mod present;
 pub mod putting;
 mod variables;
+
+pub use variables::fits_value;

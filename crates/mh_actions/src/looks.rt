@@ -1,17 +1,15 @@
-//! Looks, content and drawings: what each action that changes one makes of the object. What is out of
-//! range, too long or too much leaves it as it is.
-ghost use Rattle.std.specs.Prelude.{◌≡◌, ◌&&◌, IfOk, int_le, true};
+//! Looks and drawings: what each action that changes one makes of the object. What is out of
+//! range, or too much leaves it as it is.
+ghost use Rattle.std.specs.Prelude.{◌≡◌, ◌&&◌, int_le, true};
 ghost use Rattle.mh_model.specs.declared.object.Body.{Body as BodyValue};
 ghost use Rattle.mh_model.specs.declared.object.Fixed.{Fixed as FixedValue};
 ghost use Rattle.mh_model.specs.Bodies as spec;
 ghost use Rattle.mh_model.specs.Edits.{edited_if};
 
-use crate::variables::fits;
-use mh_base::{Colour, Octets, Value};
+use mh_base::{Colour, Value};
 use mh_group::Attribute;
 use mh_model::{Drawing, Edit, Figure, Held, Object, Point};
 use mh_store::looks::{fill_of, has_line, line_of};
-use std::alloc::AllocError;
 
 /// The most drawings of one object.
 const MOST_DRAWINGS: usize = 256;
@@ -54,18 +52,6 @@ pub fn coloured(attribute: Attribute, octets: &[u8]) -> Option<Edit>
         transparency: *transparency,
     };
     Some(Edit::Put(attribute, Held::Colour(colour)))
-}
-
-/// These octets as content.
-pub fn content(octets: &Octets) -> Result<Option<Edit>, AllocError>
-    ensures { IfOk result (λ edit. (p : FixedValue) (b : BodyValue) → edited_if edit p b
-        ≡ spec.replaced_octets octets.now p b) }
-{
-    if fits(octets.as_slice()) {
-        Ok(Some(Edit::Load(Value::Octets(octets.clone()?))))
-    } else {
-        Ok(None)
-    }
 }
 
 /// A figure on top of what was drawn, where there is room for it.

@@ -1,12 +1,9 @@
 //! What an action puts in front of the work.
-ghost use Rattle.std.specs.Prelude.{◌≡◌, ◌&&◌, ◌∷◌, [], IfOk, slice_get, Some};
+ghost use Rattle.std.specs.Prelude.{◌≡◌, ◌∷◌, [], IfOk, slice_get, Some};
 ghost use Rattle.std.specs.Option.{option_copied};
 ghost use Rattle.mh_actions.specs.Listed.{listed};
-ghost use Rattle.mh_model.specs.Lifecycle.{emit_if};
 ghost use Rattle.mh_model.specs.Saying as spec;
-ghost use Rattle.mh_model.specs.Variables.{fits_octets};
 
-use crate::variables::fits;
 use mh_base::{EventType, ObjRef, Value};
 use mh_group::ActionName;
 use mh_model::kinds::test;
@@ -47,24 +44,8 @@ pub fn put_items(
         (ActionName::TestVariable, [Value::Int(number), value]) => {
             tested(at, Operator::of_number(*number), object.value(), value)
         }
-        (ActionName::SetData, [Value::Octets(octets)]) => loading(at, object, octets.as_slice()),
         _ => Ok(Put::Nothing),
     }
-}
-
-/// Content that is replaced is there at once, where the object is available.
-fn loading(at: &ObjRef, object: &Object, octets: &[u8]) -> Result<Put, AllocError>
-    ensures { IfOk result (λ put. listed put
-        ≡ emit_if (object.now.body.available && fits_octets octets.now) at.now EventType.ContentAvailable) }
-{
-    if !object.body.available || !fits(octets) {
-        return Ok(Put::Nothing);
-    }
-    Ok(Put::One(Item::Emit(Event {
-        source: at.clone()?,
-        kind: EventType::ContentAvailable,
-        data: None,
-    })))
 }
 
 /// An object stops before it is no longer available.

@@ -1,6 +1,8 @@
 //! Variables: what one holds, and what each action that sets or changes one makes of it. A sum
 //! takes no memory. What is out of range, or too long, leaves the variable as it is.
 ghost use Rattle.std.specs.Prelude.{◌≡◌, ◌++◌, ◌+ℤ◌, ◌-ℤ◌, ◌*ℤ◌, int_div, int_rem, IfOk};
+ghost use Rattle.mh_model.specs.declared.object.Body.{Body as BodyValue};
+ghost use Rattle.mh_model.specs.declared.object.Fixed.{Fixed as FixedValue};
 ghost use Rattle.mh_model.specs.Bodies as spec;
 ghost use Rattle.mh_model.specs.Bodies.{given_number, number_of as held_of};
 ghost use Rattle.mh_model.specs.Bodies.{given_octets, octets_of as held_octets};
@@ -128,13 +130,24 @@ fn converted(alloc: Global, class: Class, value: &Value) -> Result<Value, AllocE
     }
 }
 
-/// The value itself. Octets that are too long leave the variable as it is.
-fn stored(value: Value, object: &Object) -> Option<Edit>
-    ensures { edited_if result object.now.fixed object.now.body ≡ spec.stored value object.now.body }
+/// Whether a variable can hold the value: octets may be too long for it, no other value is.
+pub fn fits_value(value: &Value) -> bool
+    ensures { result ≡ spec.fits_value value.now }
 {
-    match &value {
-        Value::Octets(octets) if octets.as_slice().len() > MOST_OCTETS => None,
-        _ => Some(Edit::Give(value)),
+    match value {
+        Value::Octets(octets) => fits(octets.as_slice()),
+        _ => true,
+    }
+}
+
+/// The value itself. What is too long leaves the variable as it is.
+fn stored(value: Value) -> Option<Edit>
+    ensures { (p : FixedValue) (b : BodyValue) → edited_if result p b ≡ spec.stored value b }
+{
+    if fits_value(&value) {
+        Some(Edit::Give(value))
+    } else {
+        None
     }
 }
 
@@ -144,5 +157,5 @@ pub fn set(alloc: Global, object: &Object, value: &Value) -> Result<Option<Edit>
         ≡ spec.stored (converted_lem object.now.fixed.class value.now) object.now.body) }
 {
     let value = converted(alloc, object.fixed.get().class, value)?;
-    Ok(stored(value, object))
+    Ok(stored(value))
 }

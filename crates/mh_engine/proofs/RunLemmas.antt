@@ -24,3 +24,13 @@ pub counted-next : (ms : List Move) (i : ℕ) (d : Move) (s : State) → i < len
 counted-next ms i d s inside so =
     ap (λ (t : List Move). are_counted t s) (take_more ms i d inside) ∙ counted-append (take i ms) (get_or ms i d ∷ []) s
     ∙ ap (λ (b : Bool). b && (is_counted (get_or ms i d) (run (take i ms) s) && true)) so ∙ and-true (is_counted (get_or ms i d) (run (take i ms) s))
+
+-- the same of the move that is at this place
+
+pub next_made : (ms : List Move) (i : ℕ) (m : Move) (s : State) → i < length ms → get_or ms i m ≡ m → moved m (run (take i ms) s) ≡ run (take (i + 1) ms) s
+next_made ms i m s inside at =
+    ap (λ (x : Move). moved x (run (take i ms) s)) (sym at) ∙ sym (run-next ms i m s inside)
+
+pub next_counted : (ms : List Move) (i : ℕ) (m : Move) (s : State) → i < length ms → get_or ms i m ≡ m → are_counted (take i ms) s ≡ true → are_counted (take (i + 1) ms) s ≡ is_counted m (run (take i ms) s)
+next_counted ms i m s inside at so =
+    counted-next ms i m s inside so ∙ ap (λ (x : Move). is_counted x (run (take i ms) s)) at

@@ -7,10 +7,14 @@ use Rattle.std.specs.Option.{option_map}
 use Rattle.mh_model.specs.declared.input.Input.{Input}
 use Rattle.mh_model.specs.declared.input.Obstacle.{Obstacle}
 use Rattle.mh_model.specs.declared.input.Obstacle.TheVariants as obstacle
-use Rattle.mh_model.specs.Step.{is_settled, obstacle as obstacle_to, moved, most_steps}
+use Rattle.mh_model.specs.declared.file.File.{File}
+use Rattle.mh_model.specs.Service.{Service}
+use Rattle.mh_model.specs.Step.{is_empty, is_settled, obstacle as obstacle_to, preset_obstacle, moved, most_steps}
 use Rattle.mh_engine.specs.Play.{Play}
 use Rattle.mh_engine.specs.declared.refusal.RefusedWhy.{RefusedWhy}
 use Rattle.mh_engine.specs.declared.refusal.RefusedWhy.TheVariants as refused
+use Rattle.mh_engine.specs.declared.refusal.StartError.{StartError}
+use Rattle.mh_engine.specs.declared.refusal.StartError.TheVariants as unstarted
 use Rattle.mh_engine.specs.declared.refusal.StepError.{StepError}
 use Rattle.mh_engine.specs.declared.refusal.StepError.TheVariants as failed
 
@@ -27,8 +31,19 @@ step_refusal p =
 abbrev pub refusal_for : Obstacle → RefusedWhy
 refusal_for obstacle.Ended = refused.Ended
 refusal_for obstacle.TickRange = refused.TickRange
+refusal_for obstacle.Begun = refused.Begun
+refusal_for obstacle.TooLarge = refused.TooLarge
+refusal_for obstacle.TooMany = refused.TooMany
 refusal_for obstacle.ClockFull = refused.ClockFull
 refusal_for obstacle.QueueFull = refused.QueueFull
+
+-- an engine has the built-in programs alone
+abbrev pub start_refusal : Service → Option StartError
+start_refusal s = if is_empty s.programs then None else Some unstarted.ProgramsDiffer
+
+-- why a file is not preset, if it is not; an engine that has stopped has made a step
+abbrev pub preset_refusal : File → Play → Option RefusedWhy
+preset_refusal f p = if p.stopped then Some refused.Begun else option_map refusal_for (preset_obstacle f p.state)
 
 -- why an engine does not take an input, if it does not
 abbrev pub post_refusal : Input → Play → Option RefusedWhy
@@ -56,8 +71,15 @@ refusal_number refused.NoMemory = None
 refusal_number refused.Stopped = Some 55
 refusal_number refused.Ended = Some 52
 refusal_number refused.TickRange = Some 54
+refusal_number refused.Begun = Some 59
+refusal_number refused.TooLarge = Some 40
+refusal_number refused.TooMany = Some 41
 refusal_number refused.ClockFull = Some 53
 refusal_number refused.QueueFull = Some 51
+
+abbrev pub start_number : StartError → Option ℕ
+start_number unstarted.NoMemory = None
+start_number unstarted.ProgramsDiffer = Some 50
 
 abbrev pub step_number : StepError → Option ℕ
 step_number failed.NoMemory = None

@@ -2,17 +2,17 @@
 ghost use Rattle.std.specs.Prelude.{◌≡◌, ◌+◌, ◌<◌, ◌^◌, true, false, None, Some, [], IfOk, IfErr, OnOk, OnErr, IsErrOf, IsErrAnd, MatchOption};
 ghost use Rattle.mh_model.specs.State.{begun};
 ghost use Rattle.mh_model.specs.declared.input.Obstacle.{Obstacle};
-ghost use Rattle.mh_model.specs.Step.{step as step_lem, posted, obstacle, is_settled, advanced, most_steps};
+ghost use Rattle.mh_model.specs.Step.{step as step_lem, is_empty, posted, preset as preset_lem, preset_obstacle, obstacle, is_settled, advanced, most_steps};
 ghost use Rattle.mh_model.specs.Headline.{front_fault};
 ghost use Rattle.mh_model.specs.Safe.{IsSafe};
 ghost use Rattle.mh_model.specs.Picture.{shown};
 ghost use Rattle.mh_machine.specs.Rest.{answer_of, is_faulted, rest_of};
 ghost use Rattle.mh_machine.specs.Working.{IsPartly};
-ghost use Rattle.mh_engine.specs.Answer.{refusal_for, step_refusal, post_refusal};
+ghost use Rattle.mh_engine.specs.Answer.{refusal_for, start_refusal, step_refusal, post_refusal, preset_refusal};
 
-use crate::refusal::{Refused, RefusedWhy, StepError, Unaccepted};
+use crate::refusal::{Refused, RefusedFile, RefusedWhy, StartError, StepError, Unaccepted};
 use mh_machine::{Machine, Rest, Stepped, Unstarted};
-use mh_model::{Fault, Input, Picture};
+use mh_model::{Fault, File, Input, Picture, Signature};
 use mh_service::Service;
 use mh_verify::Accepted;
 use std::alloc::{AllocError, Global};
@@ -41,12 +41,13 @@ impl Model for Engine {
 }
 
 impl Engine {
-    /// An engine for the service, whether or not a verifier would accept it.
-    pub fn start_lenient(alloc: Global, service: Service) -> Result<Engine, Unstarted>
-        ensures begun { IfOk result (λ engine. engine ≡ record { state = begun service; stopped = false; accepted = false }) }
+    /// An engine for the service, whether or not a verifier would accept it, that begins on this modified
+    /// Julian day, 1,000,000 at most.
+    pub fn start_lenient(alloc: Global, service: Service, mjd: u32) -> Result<Engine, Unstarted>
+        ensures begun { IfOk result (λ engine. engine ≡ record { state = begun service mjd; stopped = false; accepted = false }) }
         ensures back { IfErr result (λ unstarted. unstarted.service ≡ service) }
     {
-        let machine = Machine::new(alloc, service)?;
+        let machine = Machine::new(alloc, service, mjd)?;
         Ok(Engine {
             machine,
             stopped: false,
@@ -54,21 +55,52 @@ impl Engine {
         })
     }
 
-    /// An engine for a service that the verifier accepted: none of its steps finds an item stuck.
-    pub fn start(alloc: Global, accepted: Accepted) -> Result<Engine, Unaccepted>
-        ensures begun { IfOk result (λ engine. engine ≡ record { state = begun accepted; stopped = false; accepted = true }) }
+    /// An engine for a service that the verifier accepted, and that begins on this modified Julian day,
+    /// 1,000,000 at most: none of its steps finds an item stuck. It has the built-in programs alone, and
+    /// refuses a service that was verified with others. What is refused is handed back.
+    pub fn start(alloc: Global, accepted: Accepted, mjd: u32) -> Result<Engine, Unaccepted>
+        ensures begun { IfOk result (λ engine. engine ≡ record { state = begun accepted mjd; stopped = false; accepted = true }) }
         ensures back { IfErr result (λ refused. refused.accepted ≡ accepted) }
+        ensures refused { MatchOption (start_refusal accepted) (IfErr result (λ refused. refused.why ≡ StartError.NoMemory)) (λ why. IsErrAnd result (λ refused. refused.why ≡ why)) }
     {
+        if !are_none(accepted.programs()) {
+            return Err(Unaccepted {
+                why: StartError::ProgramsDiffer,
+                accepted,
+            });
+        }
         let (service, rest) = accepted.apart();
-        match Machine::new(alloc, service) {
+        let _ = service.programs();
+        match Machine::new(alloc, service, mjd) {
             Ok(machine) => Ok(Engine {
                 machine,
                 stopped: false,
                 accepted: true,
             }),
             Err(unstarted) => Err(Unaccepted {
+                why: StartError::NoMemory,
                 accepted: rest.join(unstarted.service),
             }),
+        }
+    }
+
+    /// A content file is there before the first move. A refused one is handed back, and nothing changes.
+    pub fn preset(&mut self, file: File) -> Result<(), RefusedFile>
+        ensures preset { OnOk result (self.new ≡ record self.old { state = preset_lem file self.old.state }) }
+        ensures accepted { OnOk result ((self.old.stopped ≡ false) × (preset_obstacle file self.old.state ≡ None)) }
+        ensures back { IfErr result (λ refused. refused.file ≡ file) }
+        ensures kept { OnErr result (self.new ≡ self.old) }
+        ensures refused { MatchOption (preset_refusal file self.old) (IfErr result (λ refused. refused.why ≡ RefusedWhy.NoMemory)) (λ why. IsErrAnd result (λ refused. refused.why ≡ why)) }
+    {
+        if self.stopped {
+            return refuse_file(RefusedWhy::Begun, file);
+        }
+        if let Some(obstacle) = self.machine.preset_obstacle(&file) {
+            return refuse_file(RefusedWhy::for_obstacle(obstacle), file);
+        }
+        match preset_copy(&mut self.machine, &file) {
+            Ok(()) => Ok(()),
+            Err(_) => refuse_file(RefusedWhy::NoMemory, file),
         }
     }
 
@@ -88,9 +120,9 @@ impl Engine {
         if let Some(obstacle) = self.machine.obstacle(&input) {
             return refuse(RefusedWhy::for_obstacle(obstacle), input);
         }
-        match self.machine.post(input) {
+        match post_or_back(&mut self.machine, input) {
             Ok(()) => Ok(()),
-            Err(_) => refuse(RefusedWhy::NoMemory, input),
+            Err(refused) => Err(refused),
         }
     }
 
@@ -221,6 +253,52 @@ fn advance_by(machine: &mut Machine, accepted: bool, most: u32) -> Result<(), Al
     } else {
         machine.advance(most)
     }
+}
+
+/// Whether there are no programs besides the built-in ones.
+fn are_none(programs: &[Signature]) -> bool
+    ensures { result ≡ is_empty programs.now }
+{
+    programs.is_empty()
+}
+
+/// Posts the input, or hands it back where memory is refused.
+fn post_or_back(machine: &mut Machine, input: Input) -> Result<(), Refused>
+    requires { obstacle input machine.old ≡ None }
+    ensures posted { OnOk result (machine.new ≡ posted input machine.old) }
+    ensures back { IfErr result (λ refused. refused.input ≡ input) }
+    ensures why { IfErr result (λ refused. refused.why ≡ RefusedWhy.NoMemory) }
+    ensures kept { OnErr result (machine.new ≡ machine.old) }
+{
+    match post_copy(machine, &input) {
+        Ok(()) => Ok(()),
+        Err(_) => refuse(RefusedWhy::NoMemory, input),
+    }
+}
+
+/// Posts a copy of the input, so that a refused one can be handed back.
+fn post_copy(machine: &mut Machine, input: &Input) -> Result<(), AllocError>
+    requires { obstacle input.now machine.old ≡ None }
+    ensures posted { OnOk result (machine.new ≡ posted input.now machine.old) }
+    ensures kept { OnErr result (machine.new ≡ machine.old) }
+{
+    let copy = input.clone()?;
+    machine.post(copy)
+}
+
+/// Presets a copy of the file, so that a refused one can be handed back.
+fn preset_copy(machine: &mut Machine, file: &File) -> Result<(), AllocError>
+    ensures preset { OnOk result (machine.new ≡ preset_lem file.now machine.old) }
+    ensures kept { OnErr result (machine.new ≡ machine.old) }
+{
+    let copy = file.clone()?;
+    machine.preset(copy)
+}
+
+fn refuse_file(why: RefusedWhy, file: File) -> Result<(), RefusedFile>
+    ensures { IsErrOf result (record { why = why; file = file }) }
+{
+    Err(RefusedFile { why, file })
 }
 
 fn refuse(why: RefusedWhy, input: Input) -> Result<(), Refused>

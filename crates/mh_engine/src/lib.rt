@@ -11,5 +11,5 @@ pub mod runs;
 
 pub use engine::Engine;
 pub use mh_machine::{Rest, Stepped, Unstarted};
-pub use refusal::{Refused, RefusedWhy, RunEnd, StepError, Unaccepted};
+pub use refusal::{Refused, RefusedFile, RefusedWhy, RunEnd, StartError, StepError, Unaccepted};
 pub use runs::run;

@@ -1,19 +1,42 @@
 //! Why the engine refuses a call.
 ghost use Rattle.std.specs.Prelude.{◌≡◌};
-ghost use Rattle.mh_engine.specs.Answer.{refusal_number, refusal_for, step_number};
+ghost use Rattle.mh_engine.specs.Answer.{refusal_number, refusal_for, start_number, step_number};
 
-use mh_model::{Input, Obstacle};
+use mh_model::{File, Input, Obstacle};
 use mh_verify::Accepted;
 use std::alloc::AllocError;
 use thiserror::Error;
 
-/// An accepted service that could not be started for want of memory. It is handed back.
+/// Why an accepted service was not started.
+#[derive(Clone, Copy, Debug, PartialEq, Eq, Error)]
+pub enum StartError {
+    #[error("memory was refused")]
+    NoMemory,
+    /// Number 50: the engine's programs are not those with which the service was verified.
+    #[error("50: the programs differ from those that were verified")]
+    ProgramsDiffer,
+}
+
+impl StartError {
+    /// The number under which it is reported; want of memory has none.
+    pub fn number(self) -> Option<u32>
+        ensures { result ≡ start_number self }
+    {
+        match self {
+            StartError::NoMemory => None,
+            StartError::ProgramsDiffer => Some(50),
+        }
+    }
+}
+
+/// An accepted service that was not started. It is handed back.
 #[derive(Drop)]
 pub struct Unaccepted {
+    pub why: StartError,
     pub accepted: Accepted,
 }
 
-/// Why an input was not accepted.
+/// Why an input or a file was not accepted.
 #[derive(Clone, Copy, Debug, PartialEq, Eq, Error)]
 pub enum RefusedWhy {
     #[error("memory was refused")]
@@ -27,6 +50,15 @@ pub enum RefusedWhy {
     /// Number 54: a tick is not of 1 to 60,000 milliseconds.
     #[error("54: a tick is not of 1 to 60,000 milliseconds")]
     TickRange,
+    /// Number 59: a post was accepted or a step taken, so that no file can be preset.
+    #[error("59: the engine has begun")]
+    Begun,
+    /// Number 40: a file has more than 65,535 octets.
+    #[error("40: the file is too large")]
+    TooLarge,
+    /// Number 41: with the names that wait, there would be more than 1,024 files.
+    #[error("41: there are too many files")]
+    TooMany,
     /// Number 53: with the ticks that wait, the present would be past 4,294,967,295 milliseconds.
     #[error("53: the clock is full")]
     ClockFull,
@@ -45,6 +77,9 @@ impl RefusedWhy {
             RefusedWhy::Stopped => Some(55),
             RefusedWhy::Ended => Some(52),
             RefusedWhy::TickRange => Some(54),
+            RefusedWhy::Begun => Some(59),
+            RefusedWhy::TooLarge => Some(40),
+            RefusedWhy::TooMany => Some(41),
             RefusedWhy::ClockFull => Some(53),
             RefusedWhy::QueueFull => Some(51),
         }
@@ -57,14 +92,24 @@ impl RefusedWhy {
         match obstacle {
             Obstacle::Ended => RefusedWhy::Ended,
             Obstacle::TickRange => RefusedWhy::TickRange,
+            Obstacle::Begun => RefusedWhy::Begun,
+            Obstacle::TooLarge => RefusedWhy::TooLarge,
+            Obstacle::TooMany => RefusedWhy::TooMany,
             Obstacle::ClockFull => RefusedWhy::ClockFull,
             Obstacle::QueueFull => RefusedWhy::QueueFull,
         }
     }
 }
 
+/// A file that was not preset. It is handed back.
+#[derive(Drop)]
+pub struct RefusedFile {
+    pub why: RefusedWhy,
+    pub file: File,
+}
+
 /// An input that was not accepted. It is handed back.
-#[derive(Clone, Copy, PartialEq, Eq)]
+#[derive(Drop)]
 pub struct Refused {
     pub why: RefusedWhy,
     pub input: Input,

@@ -5,7 +5,7 @@ ghost use Rattle.mh_model.specs.Step.{stepped, posted, moved, run as run_lem};
 ghost use Rattle.mh_engine.specs.Answer.{is_counted, are_counted, stopped_after};
 
 use crate::Engine;
-use crate::refusal::{RefusedWhy, RunEnd, StepError};
+use crate::refusal::{Refused, RefusedWhy, RunEnd, StepError};
 use mh_model::{Input, Move};
 
 /// One move of a run. A post that is refused for what the state is is passed over.
@@ -20,7 +20,7 @@ fn make(engine: &mut Engine, next: &Move) -> Result<(), StepError>
     ensures flag { IfErr result (λ why. engine.new.stopped ≡ stopped_after why (Some next.now) engine.old.stopped) }
 {
     match next {
-        Move::Post(input) => post_or_pass(engine, *input),
+        Move::Post(input) => post_copy_or_pass(engine, input),
         Move::Step => step_on(engine),
     }
 }
@@ -39,6 +39,19 @@ fn step_on(engine: &mut Engine) -> Result<(), StepError>
     Ok(())
 }
 
+fn post_copy_or_pass(engine: &mut Engine, input: &Input) -> Result<(), StepError>
+    ensures made { OnOk result (engine.new.state ≡ posted input.now engine.old.state) }
+    ensures running { OnOk result ((engine.old.stopped ≡ false) × (engine.new.stopped ≡ false)) }
+    ensures kept { OnErr result (engine.new.state ≡ engine.old.state) }
+    ensures same { engine.new.accepted ≡ engine.old.accepted }
+    ensures stopped { IfErr result (λ why. why ≡ StepError.Stopped → engine.old.stopped ≡ true) }
+    ensures other { IfErr result (λ why. why ≡ StepError.CountFull → ⊥) }
+    ensures flag { engine.new.stopped ≡ engine.old.stopped }
+{
+    let copy = input.clone()?;
+    post_or_pass(engine, copy)
+}
+
 fn post_or_pass(engine: &mut Engine, input: Input) -> Result<(), StepError>
     ensures made { OnOk result (engine.new.state ≡ posted input engine.old.state) }
     ensures running { OnOk result ((engine.old.stopped ≡ false) × (engine.new.stopped ≡ false)) }
@@ -50,12 +63,26 @@ fn post_or_pass(engine: &mut Engine, input: Input) -> Result<(), StepError>
 {
     match engine.post(input) {
         Ok(()) => Ok(()),
-        Err(refused) => match refused.why {
+        Err(refused) => match why_refused(refused) {
             RefusedWhy::Stopped => Err(StepError::Stopped),
             RefusedWhy::NoMemory => Err(StepError::NoMemory),
-            _ => Ok(()),
+            RefusedWhy::Ended
+            | RefusedWhy::TickRange
+            | RefusedWhy::Begun
+            | RefusedWhy::TooLarge
+            | RefusedWhy::TooMany
+            | RefusedWhy::ClockFull
+            | RefusedWhy::QueueFull => Ok(()),
         },
     }
+}
+
+/// Why an input was refused, without the input.
+fn why_refused(refused: Refused) -> RefusedWhy
+    ensures { result ≡ refused.why }
+{
+    let Refused { why, input: _ } = refused;
+    why
 }
 
 /// Makes these moves in order. It ends early where memory is refused, where the engine has stopped, or

@@ -11,11 +11,11 @@ use mh_model::{Input, Waiting};
 pub(crate) const MOST_INPUTS: usize = 256;
 
 /// How much time passes when the input is taken, in milliseconds.
-pub(crate) fn time_of(input: Input) -> u64
-    ensures { result ≡ time_of_lem (Waiting.Input input) }
+pub(crate) fn time_of(input: &Input) -> u64
+    ensures { result ≡ time_of_lem (Waiting.Input input.now) }
 {
     match input {
-        Input::Tick(milliseconds) => u64::from(milliseconds),
+        Input::Tick(milliseconds) => u64::from(*milliseconds),
         _ => 0,
     }
 }

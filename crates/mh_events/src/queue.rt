@@ -2,7 +2,7 @@
 //!
 //! What may want memory is `post` and `reserve` alone.
 ghost use Rattle.std.specs.Prelude.{◌≡◌, ◌++◌, ◌∷◌, ◌+◌, ◌<◌, ◌≤◌, ◌^◌, [], OnOk, OnErr};
-ghost use Rattle.std.specs.Prelude.{drop, filter, map, nat_lt, not, slice_get, vec_len};
+ghost use Rattle.std.specs.Prelude.{drop, filter, length, map, nat_lt, not, slice_get, vec_len};
 ghost use Rattle.std.specs.Option.{option_copied};
 ghost use Rattle.std.specs.VecDeque.{deque_len, deque_capacity};
 ghost use Rattle.mh_model.specs.Rules.{is_input as is_input_lem, stays as stays_lem};
@@ -67,6 +67,21 @@ impl Queue {
         self.entries.front()
     }
 
+    /// What waits at this place, counted from the front.
+    pub fn at(&self, place: usize) -> Option<&Waiting>
+        ensures { option_copied result ≡ slice_get self.now.items place }
+    {
+        self.entries.get(place)
+    }
+
+    /// How much waits, inputs and events.
+    pub fn len(&self) -> usize
+        ensures all { result ≡ length self.now.items }
+        ensures small { result < 2 ^ 63 }
+    {
+        self.entries.len()
+    }
+
     /// Whether as many inputs wait as may.
     pub fn is_full(&self) -> bool
         ensures { result ≡ not (nat_lt (inputs self.now.items) most_inputs) }
@@ -87,9 +102,10 @@ impl Queue {
         ensures posted { OnOk result (self.new.items ≡ self.old.items ++ Waiting.Input input ∷ []) }
         ensures kept { OnErr result (self.new.items ≡ self.old.items) }
     {
+        let time = time_of(&input);
         self.entries.push_back(Waiting::Input(input))?;
         self.inputs += 1;
-        self.time += time_of(input);
+        self.time += time;
         Ok(())
     }
 
@@ -124,7 +140,7 @@ impl Queue {
     {
         if let Some(Waiting::Input(input)) = self.entries.pop_front() {
             self.inputs -= 1;
-            self.time -= time_of(input);
+            self.time -= time_of(&input);
         }
     }
 

@@ -7,6 +7,8 @@ use Rattle.mh_base.specs.declared.obj_ref.ObjRef.{ObjRef}
 use Rattle.mh_model.specs.declared.object.Body.{Body}
 use Rattle.mh_model.specs.declared.object.Fixed.{Fixed}
 use Rattle.mh_model.specs.declared.object.Object.{Object}
+use Rattle.mh_base.specs.declared.value.Value.{Value}
+use Rattle.mh_model.specs.Bodies.{given, stored, fits_value}
 use Rattle.mh_model.specs.Service.{Service, object_at, group_parts, parts, fresh}
 use Rattle.mh_model.specs.State.{Objects, all}
 use Rattle.mh_model.specs.Rules.{is_at, on_body, changed_in, changed}
@@ -169,3 +171,26 @@ holds_changed v app os after links locks taken more own others counted k = recor
   index = subst (IsIndex links) (sym (parts-all after ∙ ap (λ (t : List Fixed). t ++ parts after.scene) own ∙ ap (λ (t : List Fixed). parts os.application ++ t) others ∙ sym (parts-all os))) k.index;
   counted = counted;
 }
+
+-- a value that a variable cannot hold changes nothing
+
+same_in : (r : ObjRef) (os : List Object) → changed_in (λ p b. b) r os ≡ os
+same_in r [] = refl
+same_in r (o ∷ os) =
+    elim (is_at r o) as (λ (b : Bool). (if b then on_body (λ p c. c) o ∷ os else o ∷ changed_in (λ p c. c) r os) ≡ o ∷ os) [
+      | true ↦ refl
+      | false ↦ ap (λ (t : List Object). o ∷ t) (same_in r os)
+    ]
+
+same : (r : ObjRef) (os : Objects) → changed (λ p b. b) r os ≡ os
+same r os = by (list_any (is_at r) os.application)
+  where
+    by : (t : Bool) → (if t then record os { application = changed_in (λ p b. b) r os.application } else record os { scene = changed_in (λ p b. b) r os.scene }) ≡ os
+    by true = λ i. record os { application = same_in r os.application i }
+    by false = λ i. record os { scene = same_in r os.scene i }
+
+pub not_stored : (v : Value) (r : ObjRef) (os : Objects) → fits_value v ≡ false → os ≡ changed (λ p b. stored v b) r os
+not_stored v r os e = sym (ap (λ (t : Bool). changed (λ p b. if t then given v b else b) r os) e ∙ same r os)
+
+pub is_stored : (v : Value) (r : ObjRef) (os : Objects) → fits_value v ≡ true → changed (λ p b. given v b) r os ≡ changed (λ p b. stored v b) r os
+is_stored v r os e = sym (ap (λ (t : Bool). changed (λ p b. if t then given v b else b) r os) e)

@@ -1,5 +1,5 @@
 -- How much time lies ahead, when what waits changes.
-use Rattle.std.specs.Prelude.{◌≡◌, ℕ, zero, suc, ◌+◌, ◌≤◌, Bool, true, false, not, cond, if◌then◌else◌, nat_le, ℤ, List, [], ◌∷◌, ◌++◌, map, filter, drop, take, slice_get, Option, Some, None, refl}
+use Rattle.std.specs.Prelude.{◌≡◌, ℕ, zero, suc, ◌+◌, ◌≤◌, Bool, true, false, not, cond, if◌then◌else◌, nat_le, List, [], ◌∷◌, ◌++◌, map, filter, drop, take, slice_get, Option, Some, None, refl}
 use Rattle.std.specs.Option.{option_map_or}
 use Rattle.std.proofs.Common.{arith, ap, ◌∙◌, sym}
 use Rattle.std.proofs.lemmas.List.Sums.{sum_by-cons, sum_by-append}
@@ -12,10 +12,10 @@ use Rattle.mh_model.specs.declared.input.Obstacle.TheVariants as refused
 use Rattle.mh_model.specs.declared.object.Object.{Object}
 use Rattle.mh_model.specs.declared.time.Timer.{Timer}
 use Rattle.mh_model.specs.State.{State}
-use Rattle.mh_model.specs.Step.{time_of, time_ahead, obstacle, is_in_range, is_past_the_last, is_full, is_streaming, stream_event}
+use Rattle.mh_model.specs.Step.{time_of, time_ahead, obstacle, is_in_range, is_over_size, is_over_number, is_past_the_last, is_full}
 use Rattle.mh_model.specs.Time.{most_moment, timer_event}
 use Rattle.mh_machine.specs.Agenda.{Coming, is_late}
-use Rattle.mh_machine.specs.Taking.{told_by}
+use Rattle.mh_machine.specs.Taking.{event_by}
 
 -- events take no time
 pub events_ahead : (es : List Event) → time_ahead (map waiting.Event es) ≡ 0
@@ -61,13 +61,15 @@ fired_as (t ∷ ts) = ap (λ (ws : List Waiting). waiting.Event (timer_event t) 
 
 -- what nothing stands against is not too late
 unbarred : (i : Input) (s : State) → obstacle i s ≡ None → is_past_the_last i s ≡ false
-unbarred i s none = by s.ended (is_in_range i) (is_past_the_last i s) none
+unbarred i s none = by s.ended (is_in_range i) (is_over_size i) (is_over_number i s) (is_past_the_last i s) none
   where
-    by : (a b c : Bool) → (if a then Some refused.Ended else (if not b then Some refused.TickRange else (if c then Some refused.ClockFull else (if is_full s then Some refused.QueueFull else None)))) ≡ None → c ≡ false
-    by a b false h = refl
-    by true b true h = absurd cc
-    by false true true h = absurd cc
-    by false false true h = absurd cc
+    by : (a b d e c : Bool) → (if a then Some refused.Ended else (if not b then Some refused.TickRange else (if d then Some refused.TooLarge else (if e then Some refused.TooMany else (if c then Some refused.ClockFull else (if is_full s then Some refused.QueueFull else None)))))) ≡ None → c ≡ false
+    by a b d e false h = refl
+    by true b d e true h = absurd cc
+    by false false d e true h = absurd cc
+    by false true true e true h = absurd cc
+    by false true false true true h = absurd cc
+    by false true false false true h = absurd cc
 
 pub in_time : (i : Input) (s : State) (a : Coming) → a.moments ≡ s.moments → a.queue ≡ s.queue → obstacle i s ≡ None → is_late i a ≡ false
 in_time (input.Tick n) s a moments queue none =
@@ -77,19 +79,20 @@ in_time (input.Tick n) s a moments queue none =
 in_time (input.Key k) s a moments queue none = refl
 in_time (input.Stream n) s a moments queue none = refl
 in_time (input.Engine n) s a moments queue none = refl
+in_time (input.Arrive f) s a moments queue none = refl
 
--- The events of streams, object by object.
+-- The events of objects that are meant, object by object.
 
-pub told_more : (tag : ℤ) (os : List Object) (i : ℕ) → map (stream_event tag) (filter is_streaming (take (suc i) os)) ≡ map (stream_event tag) (filter is_streaming (take i os)) ++ told_by tag (slice_get os i)
-told_more tag [] zero = refl
-told_more tag [] (suc i) = refl
-told_more tag (o ∷ os) zero = refl
-told_more tag (o ∷ os) (suc i) = by (is_streaming o) (told_more tag os i)
+pub told_more : (is : Object → Bool) (event : Object → Event) (os : List Object) (i : ℕ) → map event (filter is (take (suc i) os)) ≡ map event (filter is (take i os)) ++ event_by is event (slice_get os i)
+told_more is event [] zero = refl
+told_more is event [] (suc i) = refl
+told_more is event (o ∷ os) zero = refl
+told_more is event (o ∷ os) (suc i) = by (is o) (told_more is event os i)
   where
-    by : (b : Bool) → map (stream_event tag) (filter is_streaming (take (suc i) os)) ≡ map (stream_event tag) (filter is_streaming (take i os)) ++ told_by tag (slice_get os i) → map (stream_event tag) (cond b (o ∷ filter is_streaming (take (suc i) os)) (filter is_streaming (take (suc i) os))) ≡ map (stream_event tag) (cond b (o ∷ filter is_streaming (take i os)) (filter is_streaming (take i os))) ++ told_by tag (slice_get os i)
-    by true more = ap (λ (es : List Event). stream_event tag o ∷ es) more
+    by : (b : Bool) → map event (filter is (take (suc i) os)) ≡ map event (filter is (take i os)) ++ event_by is event (slice_get os i) → map event (cond b (o ∷ filter is (take (suc i) os)) (filter is (take (suc i) os))) ≡ map event (cond b (o ∷ filter is (take i os)) (filter is (take i os))) ++ event_by is event (slice_get os i)
+    by true more = ap (λ (es : List Event). event o ∷ es) more
     by false more = more
 
-pub told_as : (tag : ℤ) (os : List Object) → map waiting.Event (map (stream_event tag) os) ≡ map (λ o. waiting.Event (stream_event tag o)) os
-told_as tag [] = refl
-told_as tag (o ∷ os) = ap (λ (ws : List Waiting). waiting.Event (stream_event tag o) ∷ ws) (told_as tag os)
+pub told_as : (event : Object → Event) (os : List Object) → map waiting.Event (map event os) ≡ map (λ o. waiting.Event (event o)) os
+told_as event [] = refl
+told_as event (o ∷ os) = ap (λ (ws : List Waiting). waiting.Event (event o) ∷ ws) (told_as event os)

@@ -2,6 +2,7 @@ pub mod Agenda
 pub mod Frames
 pub mod Holds
 pub mod Links
+pub mod Loading
 pub mod Pieces
 pub mod Plans
 pub mod Rest

@@ -1,5 +1,5 @@
 -- Plans: what an item does, worked out before anything is changed.
-use Rattle.std.specs.Prelude.{◌≡◌, ℕ, ◌+◌, true, if◌then◌else◌, List, [], ◌∷◌, ◌++◌, length, drop, Option, Some, None}
+use Rattle.std.specs.Prelude.{◌≡◌, ℕ, ◌+◌, Bool, true, false, if◌then◌else◌, List, [], ◌∷◌, ◌++◌, length, drop, Option, Some, None}
 use Rattle.mh_base.specs.declared.obj_ref.ObjRef.{ObjRef}
 use Rattle.mh_model.specs.declared.edit.Edit.{Edit}
 use Rattle.mh_model.specs.declared.event.Event.{Event}
@@ -12,12 +12,17 @@ use Rattle.mh_model.specs.declared.object.Fixed.{Fixed}
 use Rattle.mh_model.specs.declared.object.Object.{Object}
 use Rattle.mh_base.specs.declared.value.Value.{Value}
 use Rattle.mh_actions.specs.Moved.{moved}
-use Rattle.mh_model.specs.Bodies.{given}
+use Rattle.mh_model.specs.Bodies.{stored}
 use Rattle.mh_model.specs.Edits.{edited}
 use Rattle.mh_model.specs.Lifecycle.{without}
 use Rattle.mh_model.specs.Rules.{changed}
 use Rattle.mh_model.specs.Service.{object_at}
 use Rattle.mh_model.specs.State.{State, Objects, all}
+use Rattle.mh_model.specs.declared.file.Wait.{Wait}
+use Rattle.mh_model.specs.Files.{forgotten, awaited}
+use Rattle.mh_machine.specs.declared.piece.Piece.{Piece}
+use Rattle.mh_machine.specs.declared.plan.Awaiting.{Awaiting}
+use Rattle.mh_machine.specs.declared.plan.Awaiting.TheVariants as awaiting
 use Rattle.mh_machine.specs.declared.plan.Change.{Change}
 use Rattle.mh_machine.specs.declared.plan.Change.TheVariants as change
 use Rattle.mh_machine.specs.declared.plan.Gift.{Gift}
@@ -28,10 +33,10 @@ use Rattle.mh_machine.specs.declared.plan.Stacking.{Stacking}
 use Rattle.mh_machine.specs.declared.plan.Stacking.TheVariants as stacking
 use Rattle.mh_machine.specs.Pieces.{written}
 
--- variables are given values, one after another
+-- variables are given values that they can hold, one after another
 abbrev pub given_all : List Gift → Objects → Objects
 given_all [] os = os
-given_all (g ∷ gs) os = given_all gs (changed (λ p b. given g.value b) g.at os)
+given_all (g ∷ gs) os = given_all gs (changed (λ p b. stored g.value b) g.at os)
 
 -- receivers, each with its answer
 abbrev pub gifts : List ObjRef → List Value → List Gift
@@ -63,6 +68,21 @@ restacked (stacking.Rise r) stack = stack ++ r ∷ []
 restacked (stacking.Fall r) stack = without r stack
 restacked (stacking.Move r how) stack = moved how r stack
 
+-- who waits for a file
+abbrev pub rewaited : Awaiting → List Wait → List Wait
+rewaited awaiting.Same ws = ws
+rewaited (awaiting.Forget r) ws = forgotten r ws
+rewaited (awaiting.Wait w) ws = awaited (Some w.name) w.object ws
+
+-- the object waits for this file, if there is one
+abbrev pub wait_of : ObjRef → Option (List ℕ) → Awaiting
+wait_of r None = awaiting.Forget r
+wait_of r (Some name) = awaiting.Wait (record { object = r; name = name })
+
+-- where it loads now
+abbrev pub wait_if : Bool → ObjRef → Option (List ℕ) → Awaiting
+wait_if b r m = if b then wait_of r m else awaiting.Same
+
 abbrev pub queued : Option Event → List Waiting → List Waiting
 queued None queue = queue
 queued (Some e) queue = queue ++ waiting.Event e ∷ []
@@ -85,12 +105,17 @@ abbrev pub committed : Plan → State → State
 committed p s = record s {
   objects = changed_as p.change s.objects;
   stack = restacked p.stacking s.stack;
+  waits = rewaited p.awaiting s.waits;
   queue = queued p.waits s.queue;
   work = worked p.puts s.work;
   transition = if p.begins then true else s.transition;
   taken = s.taken + 1;
   faults = noted p.fault s.faults;
 }
+
+-- a plan that changes objects, and puts pieces in the place of the item
+abbrev pub plan_of : Change → Stacking → Awaiting → List Piece → Plan
+plan_of c x a ps = record { change = c; stacking = x; awaiting = a; puts = puts.InFront ps; waits = None; begins = false; fault = None }
 
 -- the state with these items in the place of its first
 abbrev pub put_for_first : List Item → State → State

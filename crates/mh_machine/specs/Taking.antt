@@ -1,5 +1,5 @@
 -- Taking what waits first.
-use Rattle.std.specs.Prelude.{ℕ, ℤ, ◌+◌, if◌then◌else◌, List, [], ◌∷◌, drop, filter, map, Option, Some, None}
+use Rattle.std.specs.Prelude.{ℕ, ℤ, Bool, ◌+◌, if◌then◌else◌, List, [], ◌∷◌, drop, filter, map, Option, Some, None}
 use Rattle.std.specs.Str.{bytes_eq}
 use Rattle.mh_model.specs.declared.input.Waiting.{Waiting}
 use Rattle.mh_model.specs.declared.input.Waiting.TheVariants as waiting
@@ -8,7 +8,8 @@ use Rattle.mh_model.specs.declared.time.Timer.{Timer}
 use Rattle.mh_model.specs.declared.event.Event.{Event}
 use Rattle.mh_model.specs.declared.object.Object.{Object}
 use Rattle.mh_model.specs.State.{State}
-use Rattle.mh_model.specs.Step.{is_streaming, stream_event}
+use Rattle.mh_model.specs.declared.file.Wait.{Wait}
+use Rattle.mh_model.specs.Step.{is_streaming, stream_event, is_waiting, content_event}
 use Rattle.mh_model.specs.Time.{due, timer_event}
 
 -- the state with the first that waits taken from the queue, and the step counted
@@ -23,7 +24,15 @@ fired now app ts = map (λ t. waiting.Event (timer_event t)) (due now app ts)
 abbrev pub entered : List ℕ → List ℕ → Moments → Moments
 entered app g m = if bytes_eq g app then record m { application = m.present } else record m { scene = m.present }
 
--- the event of an object that was found, if it is a stream that runs
+-- the event of an object that was found, if it is meant
+abbrev pub event_by : (Object → Bool) → (Object → Event) → Option Object → List Event
+event_by is event None = []
+event_by is event (Some o) = map event (filter is (o ∷ []))
+
+-- if it waits for the file
+abbrev pub content_by : List ℕ → List Wait → Option Object → List Event
+content_by name ws o = event_by (is_waiting name ws) content_event o
+
+-- if it is a stream that runs
 abbrev pub told_by : ℤ → Option Object → List Event
-told_by tag None = []
-told_by tag (Some o) = map (stream_event tag) (filter is_streaming (o ∷ []))
+told_by tag o = event_by is_streaming (stream_event tag) o

@@ -12,12 +12,13 @@ use crate::plan::Plan;
 use crate::puts::entering;
 use crate::works::Works;
 use mh_actions::arguments::{referred, values};
-use mh_actions::changes::edit_by;
+use mh_actions::changes::edit_with;
 use mh_actions::putting::put_items;
-use mh_base::{GroupName, ObjRef, Value};
+use mh_base::{GroupName, ObjRef};
 use mh_group::ActionName;
 use mh_model::sort::{Sort, sort_of};
-use mh_model::{Act, Edit, Event, Item, Object, Target, Waiting};
+use mh_model::{Act, Argument, Edit, Event, Item, Object, Target, Waiting};
+use mh_store::Objects;
 use std::alloc::{AllocError, Global};
 
 impl Works {
@@ -98,17 +99,18 @@ impl Works {
     /// An action whose target comes to this reference.
     fn do_at(&mut self, act: &Act, at: &ObjRef) -> Result<(), AllocError>
         requires { self.old.state.taken + 1 < 2 ^ 64 }
-        ensures done { let values = said.values (all self.old.state.objects) act.now.arguments in
-            OnOk result (self.new.state
-            ≡ act_on (Some at.now) act.now.name values (said.receivers act.now.arguments)
-            (taken_from self.old.state)) }
+        ensures done { OnOk result (self.new.state
+            ≡ act_on (Some at.now) act.now.name act.now.arguments (taken_from self.old.state)) }
         ensures kept { OnErr result (self.new.state ≡ self.old.state) }
     {
         match sort_of(act.name) {
             Sort::Change => self.do_change(act, at),
             Sort::Ask => self.do_ask(act, at),
             Sort::Put => self.do_put(act, at),
+            Sort::Load => self.do_load(act, at),
+            Sort::Call => self.do_call(act, at),
             Sort::Order => self.do_order(act, at),
+            Sort::Widget => Ok(self.pass()),
             Sort::Whole => self.do_whole(act, at),
         }
     }
@@ -121,9 +123,9 @@ impl Works {
             ≡ change_rule act.now.name values at.now (taken_from self.old.state)) }
         ensures kept { OnErr result (self.new.state ≡ self.old.state) }
     {
-        let values = values(self.alloc, self.stage.objects(), act.arguments.as_slice())?;
-        let found = self.stage.objects().get(at);
-        let edit = edit_of(self.alloc, act.name, values.as_slice(), found)?;
+        let objects = self.stage.objects();
+        let arguments = act.arguments.as_slice();
+        let edit = edit_of(self.alloc, objects, act.name, arguments, objects.get(at))?;
         self.commit_change(at, edit)?;
         Ok(())
     }
@@ -142,7 +144,7 @@ impl Works {
         self.commit(plan)
     }
 
-    /// An action that puts items, and may change the body of its target.
+    /// An action that puts items.
     fn do_put(&mut self, act: &Act, at: &ObjRef) -> Result<(), AllocError>
         requires { self.old.state.taken + 1 < 2 ^ 64 }
         ensures done { let values = said.values (all self.old.state.objects) act.now.arguments in
@@ -153,8 +155,7 @@ impl Works {
         let values = values(self.alloc, self.stage.objects(), act.arguments.as_slice())?;
         let found = self.stage.objects().get(at);
         let put = put_items(act.name, values.as_slice(), at, found)?;
-        let edit = edit_of(self.alloc, act.name, values.as_slice(), found)?;
-        self.commit_either(at, edit, put)?;
+        self.commit_put(put)?;
         Ok(())
     }
 
@@ -250,16 +251,17 @@ fn copied(at: Option<&ObjRef>) -> Result<Option<ObjRef>, AllocError>
 /// What an action changes of its target, where that is there.
 fn edit_of(
     alloc: Global,
+    objects: &Objects,
     name: ActionName,
-    values: &[Value],
+    arguments: &[Argument],
     found: Option<&Object>,
 ) -> Result<Option<Edit>, AllocError>
-    ensures { IfOk result (λ edit.
-        MakesFound edit (changed_by name values.now) (option_copied found.entry)) }
+    ensures { let values = said.values (all objects.now) arguments.now in
+        IfOk result (λ edit. MakesFound edit (changed_by name values) (option_copied found.entry)) }
 {
     let Some(object) = found else {
         return Ok(None);
     };
-    let edit = edit_by(alloc, name, values, object)?;
+    let edit = edit_with(alloc, objects, name, arguments, object)?;
     Ok(edit)
 }

@@ -1,7 +1,8 @@
 //! `Agenda`: what is still to come: the timers that are set, what waits in the queue, and the present moment.
-ghost use Rattle.std.specs.Prelude.{◌≡◌, ◌+◌, ◌≤◌, ◌++◌, ◌∷◌, [], false, None, Some, OnOk, OnErr, drop, filter, map, nat_lt, not, slice_get};
+ghost use Rattle.std.specs.Prelude.{◌≡◌, ◌+◌, ◌≤◌, ◌++◌, ◌∷◌, [], false, None, Some, OnOk, OnErr, drop, filter, map, nat_lt, not, slice_get, vec_len};
 ghost use Rattle.std.specs.Option.{option_copied};
 ghost use Rattle.std.specs.Str.{bytes_eq};
+ghost use Rattle.mh_model.specs.Files.{is_too_many};
 ghost use Rattle.mh_model.specs.Rules.{is_input, stays};
 ghost use Rattle.mh_model.specs.Step as spec;
 ghost use Rattle.mh_model.specs.Time.{due, is_due, most_moment, set_timers as set_timers_lem, timer_event};
@@ -10,8 +11,9 @@ ghost use Rattle.mh_machine.specs.Taking.{entered, fired};
 
 use crate::timing::set_timers;
 use mh_base::{GroupName, Value};
+use mh_carousel::Carousel;
 use mh_events::{Queue, Timers};
-use mh_model::{Event, Input, Moments, Waiting};
+use mh_model::{Event, File, Input, Moments, Waiting};
 use std::alloc::{AllocError, Global};
 use std::marker::Model;
 
@@ -102,6 +104,13 @@ impl Agenda {
         }
     }
 
+    /// Whether the file has a name for which there is no room, behind all that wait.
+    pub fn is_one_too_many(&self, carousel: &Carousel, file: &File) -> bool
+        ensures { result ≡ is_too_many file.now (spec.files_ahead carousel.now.files self.now.queue) }
+    {
+        carousel.is_one_too_many(file, &self.queue)
+    }
+
     /// Adds an input at the end of the queue.
     pub fn post(&mut self, input: Input) -> Result<(), AllocError>
         requires { is_late_lem input self.old ≡ false }
@@ -151,9 +160,19 @@ impl Agenda {
         ensures kept { OnErr result (self.new.queue ≡ self.old.queue) }
     {
         self.queue.reserve(events.len())?;
+        self.take_reserved(events);
+        Ok(())
+    }
+
+    /// Takes the first away that waits, and adds these events, for which there is room, at the end.
+    pub fn take_reserved(&mut self, events: Vec<Event>)
+        requires { vec_len events ≤ self.old.room }
+        ensures moments { self.new.moments ≡ self.old.moments }
+        ensures timers { self.new.timers ≡ self.old.timers }
+        ensures taken { self.new.queue ≡ drop 1 self.old.queue ++ map Waiting.Event events.items }
+    {
         self.queue.take_first();
         self.queue.add_all(events);
-        Ok(())
     }
 
     /// Takes a tick, which waits first: time passes, the timers that are due go, and their events wait.

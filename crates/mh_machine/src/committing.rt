@@ -3,21 +3,23 @@
 //! What most steps do has a shorter way: pieces that are put, and one body that is changed, need no plan.
 ghost use Rattle.std.specs.Prelude.{◌≡◌, ◌+◌, ◌<◌, ◌≤◌, ◌^◌, OnOk, OnErr, vec_len, vec_capacity};
 ghost use Rattle.mh_actions.specs.Listed.{listed};
-ghost use Rattle.mh_model.specs.Bodies.{given};
+ghost use Rattle.mh_model.specs.Bodies.{given, stored};
 ghost use Rattle.mh_model.specs.Edits.{edited};
 ghost use Rattle.mh_model.specs.Rules.{changed};
 ghost use Rattle.mh_model.specs.Service.{parts};
 ghost use Rattle.mh_machine.specs.Pieces.{written};
-ghost use Rattle.mh_machine.specs.Plans.{change_at, committed, put_for_first, taken_from, changed_as, given_all, queued, worked, noted, room_for};
+ghost use Rattle.mh_machine.specs.Plans.{change_at, committed, put_for_first, taken_from, changed_as, given_all, rewaited, queued, worked, noted, room_for};
 
 use crate::agenda::Agenda;
 use crate::piece::Piece;
-use crate::plan::{Change, Gift, Plan, Puts};
+use crate::plan::{Awaiting, Change, Gift, Plan, Puts};
 use crate::stage::Stage;
 use crate::work::Work;
 use crate::works::Works;
+use mh_actions::fits_value;
 use mh_actions::putting::Put;
 use mh_base::{ObjRef, Value};
+use mh_carousel::Carousel;
 use mh_model::{Edit, Event, Fault};
 use std::alloc::AllocError;
 
@@ -35,6 +37,7 @@ impl Works {
         let Plan {
             change,
             stacking,
+            awaiting,
             puts,
             waits,
             begins,
@@ -45,10 +48,12 @@ impl Works {
             &mut self.stage,
             &mut self.agenda,
             &mut self.faults,
+            &mut self.carousel,
             &puts,
         )?;
         apply(&mut self.stage, change)?;
         self.stage.restack(stacking);
+        rewait(&mut self.carousel, awaiting);
         put(&mut self.work, puts);
         wait(&mut self.agenda, waits);
         note(&mut self.faults, fault);
@@ -76,40 +81,6 @@ impl Works {
         ensures kept { OnErr result (self.new.state ≡ self.old.state) }
     {
         self.work.reserve(MOST_PUT)?;
-        self.work.put_by_act(put);
-        self.taken += 1;
-        Ok(())
-    }
-
-    /// Puts what an action puts, and changes the body of the object at this reference, if anything of it
-    /// is changed.
-    pub(crate) fn commit_either(
-        &mut self,
-        at: &ObjRef,
-        edit: Option<Edit>,
-        put: Put,
-    ) -> Result<(), AllocError>
-        requires { self.old.state.taken + 1 < 2 ^ 64 }
-        ensures done { let after = changed_as (change_at at.now edit) self.old.state.objects in
-            OnOk result (self.new.state ≡ record (put_for_first (listed put) self.old.state) { objects = after }) }
-        ensures kept { OnErr result (self.new.state ≡ self.old.state) }
-    {
-        match edit {
-            Some(edit) => self.commit_both(at, edit, put),
-            None => self.commit_put(put),
-        }
-    }
-
-    /// Changes the body of the object at this reference, and puts what the action puts.
-    #[inline(never)]
-    fn commit_both(&mut self, at: &ObjRef, edit: Edit, put: Put) -> Result<(), AllocError>
-        requires { self.old.state.taken + 1 < 2 ^ 64 }
-        ensures done { let after = changed (edited edit) at.now self.old.state.objects in
-            OnOk result (self.new.state ≡ record (put_for_first (listed put) self.old.state) { objects = after }) }
-        ensures kept { OnErr result (self.new.state ≡ self.old.state) }
-    {
-        self.work.reserve(MOST_PUT)?;
-        self.stage.edit(at, edit)?;
         self.work.put_by_act(put);
         self.taken += 1;
         Ok(())
@@ -175,6 +146,7 @@ fn make_room(
     stage: &mut Stage,
     agenda: &mut Agenda,
     faults: &mut Vec<Fault>,
+    carousel: &mut Carousel,
     puts: &Puts,
 ) -> Result<(), AllocError>
     ensures work { work.new.items ≡ work.old.items }
@@ -184,14 +156,18 @@ fn make_room(
     ensures timers { agenda.new.timers ≡ agenda.old.timers }
     ensures queue { agenda.new.queue ≡ agenda.old.queue }
     ensures faults { faults.new.items ≡ faults.old.items }
+    ensures files { carousel.new.files ≡ carousel.old.files }
+    ensures waits { carousel.new.waits ≡ carousel.old.waits }
     ensures pieces { OnOk result (room_for puts.now ≤ work.new.room) }
     ensures place { OnOk result (1 ≤ stage.new.room) }
     ensures event { OnOk result (1 ≤ agenda.new.room) }
+    ensures wait { OnOk result (1 ≤ carousel.new.room) }
     ensures fault { OnOk result (vec_len faults.new + 1 ≤ vec_capacity faults.new) }
 {
     stage.reserve()?;
     agenda.reserve(1)?;
     faults.reserve(1)?;
+    carousel.reserve_wait()?;
     make_work_room(work, puts)
 }
 
@@ -237,14 +213,18 @@ fn give(stage: &mut Stage, gifts: Vec<Gift>)
     }
 }
 
+/// Gives a variable its value, where it can hold it.
 fn give_one(stage: &mut Stage, gift: Gift)
-    ensures given { stage.new.objects ≡ changed (λ _ b. given gift.value b) gift.at stage.old.objects }
+    ensures given { stage.new.objects ≡ changed (λ _ b. stored gift.value b) gift.at stage.old.objects }
     ensures stack { stage.new.stack ≡ stage.old.stack }
     ensures room { stage.new.room ≡ stage.old.room }
     ensures own { parts stage.new.objects.application ≡ parts stage.old.objects.application }
     ensures others { parts stage.new.objects.scene ≡ parts stage.old.objects.scene }
 {
     let Gift { at, value } = gift;
+    if !fits_value(&value) {
+        return;
+    }
     stage.give(&at, value);
 }
 
@@ -255,6 +235,19 @@ fn put(work: &mut Work, puts: Puts)
     match puts {
         Puts::InFront(pieces) => work.put_for_first(pieces.into_vec()),
         Puts::Instead(other) => *work = other,
+    }
+}
+
+/// Notes who waits for a file.
+fn rewait(carousel: &mut Carousel, awaiting: Awaiting)
+    requires { 1 ≤ carousel.old.room }
+    ensures files { carousel.new.files ≡ carousel.old.files }
+    ensures waits { carousel.new.waits ≡ rewaited awaiting carousel.old.waits }
+{
+    match awaiting {
+        Awaiting::Same => {}
+        Awaiting::Forget(object) => carousel.forget(&object),
+        Awaiting::Wait(wait) => carousel.wait_reserved(wait),
     }
 }
 

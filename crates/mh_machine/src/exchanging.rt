@@ -51,6 +51,7 @@ impl Works {
         self.stage.launch(self.alloc, objects);
         self.links = links;
         self.agenda.leave_application();
+        self.carousel.clear_waits();
         self.transition = false;
         self.taken += 1;
         Ok(())
@@ -76,6 +77,7 @@ impl Works {
         self.stage.exchange(objects, &self.application);
         self.links = links;
         self.agenda.leave_scene(&self.application);
+        self.carousel.leave_scene(&self.application);
         self.transition = false;
         self.taken += 1;
         Ok(())

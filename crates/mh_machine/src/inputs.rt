@@ -5,17 +5,18 @@ ghost use Rattle.mh_model.specs.Service.{parts};
 ghost use Rattle.mh_model.specs.State.{all};
 ghost use Rattle.mh_model.specs.Step as spec;
 ghost use Rattle.mh_machine.specs.Links.{IsIndex};
-ghost use Rattle.mh_machine.specs.Taking.{told_by};
+ghost use Rattle.mh_machine.specs.Taking.{told_by, content_by};
 ghost use Rattle.mh_machine.specs.Pieces.{written};
 
 use crate::links::Links;
 use crate::piece::Piece;
 use mh_base::{EventType, GroupName, ObjRef, Value};
+use mh_carousel::Carousel;
 use mh_group::{Attribute, Class};
 use mh_model::held::as_int;
 use mh_model::parts::group_ref;
 use mh_model::{Event, Key, Object};
-use mh_store::Objects;
+use mh_store::{Awaits, Objects};
 use std::alloc::{AllocError, Global};
 
 /// What a key puts: the effects of the links that hear it as an event of the scene.
@@ -110,5 +111,67 @@ fn stream_event(tag: i32, object: &Object) -> Result<Event, AllocError>
         source: object.fixed.get().key.clone()?,
         kind: EventType::StreamEvent,
         data: Some(Value::Int(tag)),
+    })
+}
+
+/// The objects that wait for the file of this name.
+#[derive(Clone, Copy)]
+pub struct WaitingFor<'a> {
+    pub carousel: &'a Carousel,
+    pub name: &'a GroupName,
+}
+
+impl<'a> Awaits for WaitingFor<'a> {
+    ghost use Rattle.mh_model.specs.Files.{waits_for};
+
+    ghost is = { λ w r. waits_for w.name.now w.carousel.now.waits r };
+
+    fn awaits(&self, at: &ObjRef) -> bool {
+        self.carousel.waits(self.name, at)
+    }
+}
+
+/// The events of the objects that wait for the file of this name, in the order of the objects.
+pub fn content_events(
+    alloc: Global,
+    name: &GroupName,
+    carousel: &Carousel,
+    objects: &Objects,
+) -> Result<Vec<Event>, AllocError>
+    ensures { IfOk result (λ events. events.items ≡ map spec.content_event
+        (filter (spec.is_waiting name.now carousel.now.waits) (all objects.now))) }
+{
+    let mut events = Vec::new(alloc);
+    for place in 0..objects.len() {
+        push_content_event(&mut events, name, carousel, objects.at(place))?;
+    }
+    Ok(events)
+}
+
+fn push_content_event(
+    events: &mut Vec<Event>,
+    name: &GroupName,
+    carousel: &Carousel,
+    found: Option<&Object>,
+) -> Result<(), AllocError>
+    ensures { OnOk result (events.new.items ≡ events.old.items
+        ++ content_by name.now carousel.now.waits (option_copied found.entry)) }
+{
+    match found {
+        Some(object) if carousel.waits(name, &object.fixed.get().key) => {
+            events.push(content_event(object)?)?;
+            Ok(())
+        }
+        _ => Ok(()),
+    }
+}
+
+fn content_event(object: &Object) -> Result<Event, AllocError>
+    ensures { IfOk result (λ event. event ≡ spec.content_event object.now) }
+{
+    Ok(Event {
+        source: object.fixed.get().key.clone()?,
+        kind: EventType::ContentAvailable,
+        data: None,
     })
 }

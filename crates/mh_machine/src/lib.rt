@@ -7,11 +7,13 @@
 mod acting;
 mod advancing;
 mod agenda;
+mod calling;
 mod committing;
 mod exchanging;
 mod inputs;
 mod lifecycle;
 mod links;
+mod loading;
 pub mod machine;
 mod pair;
 mod piece;

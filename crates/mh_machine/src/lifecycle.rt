@@ -1,17 +1,16 @@
 //! What is put, and what becomes of the display stack, when an object is prepared, runs, stops and is
 //! dropped.
 ghost use Rattle.std.specs.Prelude.{◌≡◌, ◌&&◌, ◌++◌, IfOk, OnOk, if◌then◌else◌};
-ghost use Rattle.std.specs.Option.{is_some, option_copied};
-ghost use Rattle.mh_model.specs.Bodies.{included};
+ghost use Rattle.std.specs.Option.{option_copied};
 ghost use Rattle.mh_model.specs.Lifecycle as spec;
+ghost use Rattle.mh_machine.specs.Loading.{prepare_told, run_told, content_told};
 ghost use Rattle.mh_machine.specs.Pieces.{written};
 
 use crate::piece::Piece;
 use crate::plan::Stacking;
 use crate::puts::plain_event;
-use mh_base::{EventType, ObjRef, Value};
-use mh_group::Attribute;
-use mh_model::{Held, Object};
+use mh_base::{EventType, ObjRef};
+use mh_model::Object;
 use std::alloc::{AllocError, Global};
 
 pub fn is_available(found: Option<&Object>) -> bool
@@ -99,29 +98,6 @@ fn push_event_if(
     Ok(())
 }
 
-/// Whether the object has content that is loaded when it becomes available.
-fn loads(found: Option<&Object>) -> bool
-    ensures { result ≡ spec.loads_at (option_copied found.entry) }
-{
-    match found {
-        Some(object) => {
-            let has_content = object.fixed.get().class.has_content();
-            is_included(object.read(Attribute::OrigContent), has_content)
-        }
-        None => false,
-    }
-}
-
-/// Whether octets are held, where the class has content.
-fn is_included(held: Option<&Held>, has_content: bool) -> bool
-    ensures { result ≡ is_some (included (option_copied held.entry) has_content) }
-{
-    match held {
-        Some(Held::Value(Value::Octets(_))) => has_content,
-        _ => false,
-    }
-}
-
 /// Puts behind these pieces that the object becomes available, if it does, and that its content is there.
 fn push_rise(
     pieces: &mut Vec<Piece>,
@@ -140,31 +116,33 @@ fn push_rise(
     push_event_if(pieces, loads, at, EventType::ContentAvailable)
 }
 
-/// What is put when the object is to become available.
+/// What is put when the object is to become available, and its content is there or not.
 pub fn prepare_pieces(
     alloc: Global,
     at: &ObjRef,
     found: Option<&Object>,
+    loads: bool,
 ) -> Result<Vec<Piece>, AllocError>
     ensures { IfOk result (λ pieces. written pieces.items
-        ≡ spec.prepare_items at.now (option_copied found.entry)) }
+        ≡ prepare_told loads at.now (option_copied found.entry)) }
 {
     let mut pieces = Vec::new(alloc);
-    push_rise(&mut pieces, is_unavailable(found), loads(found), at)?;
+    push_rise(&mut pieces, is_unavailable(found), loads, at)?;
     Ok(pieces)
 }
 
-/// What is put when the object is to run.
+/// What is put when the object is to run, and its content is there or not.
 pub fn run_pieces(
     alloc: Global,
     at: &ObjRef,
     found: Option<&Object>,
+    loads: bool,
 ) -> Result<Vec<Piece>, AllocError>
     ensures { IfOk result (λ pieces. written pieces.items
-        ≡ spec.run_items at.now (option_copied found.entry)) }
+        ≡ run_told loads at.now (option_copied found.entry)) }
 {
     let mut pieces = Vec::new(alloc);
-    push_rise(&mut pieces, is_unprepared(found), loads(found), at)?;
+    push_rise(&mut pieces, is_unprepared(found), loads, at)?;
     push_event_if(&mut pieces, is_stopped(found), at, EventType::IsRunning)?;
     Ok(pieces)
 }
@@ -194,5 +172,14 @@ pub fn drop_pieces(
 {
     let mut pieces = Vec::new(alloc);
     push_event_if(&mut pieces, is_available(found), at, EventType::IsDeleted)?;
+    Ok(pieces)
+}
+
+/// What is put when new content is there, or not.
+pub fn content_pieces(alloc: Global, at: &ObjRef, loads: bool) -> Result<Vec<Piece>, AllocError>
+    ensures { IfOk result (λ pieces. written pieces.items ≡ content_told loads at.now) }
+{
+    let mut pieces = Vec::new(alloc);
+    push_event_if(&mut pieces, loads, at, EventType::ContentAvailable)?;
     Ok(pieces)
 }

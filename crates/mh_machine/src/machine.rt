@@ -4,13 +4,13 @@ ghost use Rattle.mh_model.specs.Headline.{front_fault};
 ghost use Rattle.mh_model.specs.Picture.{shown};
 ghost use Rattle.mh_model.specs.Safe.{IsSafe};
 ghost use Rattle.mh_model.specs.State.{begun};
-ghost use Rattle.mh_model.specs.Step.{advanced, posted, step as step_lem, obstacle as obstacle_lem, is_settled as is_settled_lem};
+ghost use Rattle.mh_model.specs.Step.{advanced, posted, step as step_lem, obstacle as obstacle_lem, preset as preset_lem, preset_obstacle as preset_obstacle_lem, is_settled as is_settled_lem};
 ghost use Rattle.mh_machine.specs.Rest.{answer_of, rest_of};
 ghost use Rattle.mh_machine.specs.Working.{IsPartly};
 
 use crate::works::Works;
 use crate::{Rest, Stepped, Unstarted};
-use mh_model::{Fault, Input, Obstacle, Picture};
+use mh_model::{Fault, File, Input, Obstacle, Picture};
 use mh_service::Service;
 use std::alloc::{AllocError, Global};
 use std::marker::Model;
@@ -33,14 +33,29 @@ impl Model for Machine {
 }
 
 impl Machine {
-    /// The machine at the start: the start application is there, and is about to be entered. Where memory
-    /// is refused the service is handed back.
-    pub fn new(alloc: Global, service: Service) -> Result<Machine, Unstarted>
-        ensures begun { IfOk result (λ machine. machine ≡ begun service) }
+    /// The machine at the start, on this modified Julian day: the start application is there, and is about
+    /// to be entered. Where memory is refused the service is handed back.
+    pub fn new(alloc: Global, service: Service, mjd: u32) -> Result<Machine, Unstarted>
+        ensures begun { IfOk result (λ machine. machine ≡ begun service mjd) }
         ensures back { IfErr result (λ unstarted. unstarted.service ≡ service) }
     {
-        let works = Works::new(alloc, service)?;
+        let works = Works::new(alloc, service, mjd)?;
         Ok(Machine { works })
+    }
+
+    /// Why a file cannot be there before the first move, if it cannot.
+    pub fn preset_obstacle(&self, file: &File) -> Option<Obstacle>
+        ensures { result ≡ preset_obstacle_lem file.now self.now }
+    {
+        self.works.preset_obstacle(file)
+    }
+
+    /// A file is there before the first move.
+    pub fn preset(&mut self, file: File) -> Result<(), AllocError>
+        ensures preset { OnOk result (self.new ≡ preset_lem file self.old) }
+        ensures kept { OnErr result (self.new ≡ self.old) }
+    {
+        self.works.preset(file)
     }
 
     /// Why an input cannot join the queue, if it cannot.

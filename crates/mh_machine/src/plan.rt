@@ -1,11 +1,12 @@
 //! Plans: what an item does, worked out before anything is changed.
-ghost use Rattle.std.specs.Prelude.{◌≡◌, false, [], Some, None};
+ghost use Rattle.std.specs.Prelude.{◌≡◌, [], Some};
+ghost use Rattle.mh_machine.specs.Plans.{plan_of};
 
 use crate::piece::Piece;
 use crate::work::Work;
 use mh_actions::ordering::Reorder;
 use mh_base::{ObjRef, Seq, Value};
-use mh_model::{Edit, Event, Fault};
+use mh_model::{Edit, Event, Fault, Wait};
 use std::alloc::Global;
 
 /// What a variable is given.
@@ -37,6 +38,16 @@ pub enum Stacking {
     Move(ObjRef, Reorder),
 }
 
+/// Who waits for a file.
+#[derive(Drop)]
+pub enum Awaiting {
+    Same,
+    /// The object waits for none.
+    Forget(ObjRef),
+    /// The object waits for this one, and no other.
+    Wait(Wait),
+}
+
 /// What is put.
 #[derive(Drop)]
 pub enum Puts {
@@ -51,6 +62,7 @@ pub enum Puts {
 pub struct Plan {
     pub change: Change,
     pub stacking: Stacking,
+    pub awaiting: Awaiting,
     pub puts: Puts,
     /// The event that waits in the queue.
     pub waits: Option<Event>,
@@ -60,13 +72,14 @@ pub struct Plan {
 }
 
 impl Plan {
-    /// A plan that changes an object, and puts these pieces.
-    pub fn of(change: Change, stacking: Stacking, pieces: Vec<Piece>) -> Plan
-        ensures { result ≡ record { change = change; stacking = stacking; puts = Puts.InFront pieces.items; waits = None; begins = false; fault = None } }
+    /// A plan that changes objects, and puts these pieces.
+    pub fn of(change: Change, stacking: Stacking, awaiting: Awaiting, pieces: Vec<Piece>) -> Plan
+        ensures { result ≡ plan_of change stacking awaiting pieces.items }
     {
         Plan {
             change,
             stacking,
+            awaiting,
             puts: Puts::InFront(Seq::from_vec(pieces)),
             waits: None,
             begins: false,
@@ -74,27 +87,34 @@ impl Plan {
         }
     }
 
-    /// A plan that only puts these pieces.
-    pub fn putting(pieces: Vec<Piece>) -> Plan
-        ensures { result ≡ record { change = Change.Nothing; stacking = Stacking.Same; puts = Puts.InFront pieces.items; waits = None; begins = false; fault = None } }
+    /// A plan that does nothing.
+    pub fn nothing(alloc: Global) -> Plan
+        ensures { result ≡ plan_of Change.Nothing Stacking.Same Awaiting.Same [] }
     {
-        Plan::of(Change::Nothing, Stacking::Same, pieces)
+        Plan::of(
+            Change::Nothing,
+            Stacking::Same,
+            Awaiting::Same,
+            Vec::new(alloc),
+        )
     }
 
     /// A plan that only changes bodies.
     pub fn changing(alloc: Global, change: Change) -> Plan
-        ensures { result ≡ record { change = change; stacking = Stacking.Same; puts = Puts.InFront []; waits = None; begins = false; fault = None } }
+        ensures { result ≡ plan_of change Stacking.Same Awaiting.Same [] }
     {
-        Plan::of(change, Stacking::Same, Vec::new(alloc))
+        Plan::of(change, Stacking::Same, Awaiting::Same, Vec::new(alloc))
     }
 
     /// A plan that only lets an event wait.
     pub fn waiting(alloc: Global, event: Event) -> Plan
-        ensures { result ≡ record { change = Change.Nothing; stacking = Stacking.Same; puts = Puts.InFront []; waits = Some event; begins = false; fault = None } }
+        ensures { result
+            ≡ record (plan_of Change.Nothing Stacking.Same Awaiting.Same []) { waits = Some event } }
     {
         Plan {
             change: Change::Nothing,
             stacking: Stacking::Same,
+            awaiting: Awaiting::Same,
             puts: Puts::InFront(Seq::new(alloc)),
             waits: Some(event),
             begins: false,
@@ -104,11 +124,13 @@ impl Plan {
 
     /// A plan that only notes a fault.
     pub fn noting(alloc: Global, fault: Fault) -> Plan
-        ensures { result ≡ record { change = Change.Nothing; stacking = Stacking.Same; puts = Puts.InFront []; waits = None; begins = false; fault = Some fault } }
+        ensures { result
+            ≡ record (plan_of Change.Nothing Stacking.Same Awaiting.Same []) { fault = Some fault } }
     {
         Plan {
             change: Change::Nothing,
             stacking: Stacking::Same,
+            awaiting: Awaiting::Same,
             puts: Puts::InFront(Seq::new(alloc)),
             waits: None,
             begins: false,

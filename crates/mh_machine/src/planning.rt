@@ -15,7 +15,8 @@ use crate::lifecycle::{
     drop_pieces, halt_pieces, is_available, is_unavailable, is_unprepared, prepare_pieces, rising,
     run_pieces,
 };
-use crate::plan::{Change, Gift, Plan, Puts, Stacking};
+use crate::loading::{awaiting, copied_text, lacking, loaded};
+use crate::plan::{Awaiting, Change, Gift, Plan, Puts, Stacking};
 use crate::puts::{leaving, quitting};
 use crate::work::Work;
 use crate::works::Works;
@@ -44,10 +45,13 @@ impl Works {
             ≡ done (Item.Prepare at.now) self.now.state) }
     {
         let found = self.stage.objects().get(at);
-        let pieces = prepare_pieces(self.alloc, at, found)?;
-        let stacking = rising(is_unavailable(found), at, found)?;
-        let change = Change::Edit(at.clone()?, Edit::Prepare);
-        Ok(Plan::of(change, stacking, pieces))
+        let becomes = is_unavailable(found);
+        let text = loaded(&self.carousel, found);
+        let pieces = prepare_pieces(self.alloc, at, found, text.is_some())?;
+        let stacking = rising(becomes, at, found)?;
+        let awaiting = awaiting(becomes, at, lacking(&self.carousel, found))?;
+        let change = Change::Edit(at.clone()?, Edit::Prepare(copied_text(text)?));
+        Ok(Plan::of(change, stacking, awaiting, pieces))
     }
 
     /// An object runs.
@@ -66,10 +70,13 @@ impl Works {
             ≡ done (Item.Run at.now) self.now.state) }
     {
         let found = self.stage.objects().get(at);
-        let pieces = run_pieces(self.alloc, at, found)?;
-        let stacking = rising(is_unprepared(found), at, found)?;
-        let change = Change::Edit(at.clone()?, Edit::Start);
-        Ok(Plan::of(change, stacking, pieces))
+        let becomes = is_unprepared(found);
+        let text = loaded(&self.carousel, found);
+        let pieces = run_pieces(self.alloc, at, found, text.is_some())?;
+        let stacking = rising(becomes, at, found)?;
+        let awaiting = awaiting(becomes, at, lacking(&self.carousel, found))?;
+        let change = Change::Edit(at.clone()?, Edit::Start(copied_text(text)?));
+        Ok(Plan::of(change, stacking, awaiting, pieces))
     }
 
     /// An object stops.
@@ -89,7 +96,7 @@ impl Works {
     {
         let pieces = halt_pieces(self.alloc, at, self.stage.objects().get(at))?;
         let change = Change::Edit(at.clone()?, Edit::Halt);
-        Ok(Plan::of(change, Stacking::Same, pieces))
+        Ok(Plan::of(change, Stacking::Same, Awaiting::Same, pieces))
     }
 
     /// An object is no longer available.
@@ -109,7 +116,8 @@ impl Works {
     {
         let pieces = drop_pieces(self.alloc, at, self.stage.objects().get(at))?;
         let change = Change::Edit(at.clone()?, Edit::Drop);
-        Ok(Plan::of(change, Stacking::Fall(at.clone()?), pieces))
+        let awaiting = Awaiting::Forget(at.clone()?);
+        Ok(Plan::of(change, Stacking::Fall(at.clone()?), awaiting, pieces))
     }
 
     /// An action that asks its target.
@@ -135,12 +143,17 @@ impl Works {
     {
         let objects = self.stage.objects();
         if !is_available(objects.get(at)) {
-            return Ok(Plan::putting(Vec::new(self.alloc)));
+            return Ok(Plan::nothing(self.alloc));
         }
         let values = values(self.alloc, objects, act.arguments.as_slice())?;
         let how = reorder_by(act.name, values.as_slice(), at, objects)?;
         let stacking = Stacking::Move(at.clone()?, how);
-        Ok(Plan::of(Change::Nothing, stacking, Vec::new(self.alloc)))
+        Ok(Plan::of(
+            Change::Nothing,
+            stacking,
+            Awaiting::Same,
+            Vec::new(self.alloc),
+        ))
     }
 
     /// A transition; nothing where one has begun.
@@ -153,11 +166,12 @@ impl Works {
             ≡ transition_rule name r (taken_from self.now.state)) }
     {
         if self.transition {
-            return Ok(Plan::putting(Vec::new(self.alloc)));
+            return Ok(Plan::nothing(self.alloc));
         }
         Ok(Plan {
             change: Change::Nothing,
             stacking: Stacking::Same,
+            awaiting: Awaiting::Same,
             puts: Puts::Instead(self.way_out(name, target)?),
             waits: None,
             begins: true,
@@ -196,7 +210,11 @@ impl Works {
 }
 
 /// Each receiver with its answer.
-fn gifts_of(alloc: Global, receivers: &[ObjRef], answers: &[Value]) -> Result<Vec<Gift>, AllocError>
+pub fn gifts_of(
+    alloc: Global,
+    receivers: &[ObjRef],
+    answers: &[Value],
+) -> Result<Vec<Gift>, AllocError>
     ensures { IfOk result (λ given. given.items ≡ gifts receivers.now answers.now) }
 {
     let mut given = Vec::new(alloc);

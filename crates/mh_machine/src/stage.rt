@@ -7,17 +7,17 @@ ghost use Rattle.mh_display.specs.Surface.{IsClean};
 ghost use Rattle.mh_model.specs.Bodies.{given};
 ghost use Rattle.mh_model.specs.Edits.{edited};
 ghost use Rattle.mh_model.specs.Picture.{picture as picture_lem};
-ghost use Rattle.mh_model.specs.Rules.{changed};
+ghost use Rattle.mh_model.specs.Rules.{changed, text_brought};
 ghost use Rattle.mh_model.specs.Service.{parts};
 ghost use Rattle.mh_model.specs.State.{all};
 ghost use Rattle.mh_machine.specs.Plans.{restacked};
 
 use crate::plan::Stacking;
 use mh_actions::ordering::Reorder;
-use mh_base::{GroupName, ObjRef, Value};
+use mh_base::{GroupName, ObjRef, Octets, Value};
 use mh_display::{Screen, Stack};
 use mh_model::{Edit, Picture};
-use mh_store::{Group, Objects};
+use mh_store::{Awaits, Group, Objects};
 use std::alloc::{AllocError, Global};
 use std::marker::Model;
 
@@ -120,6 +120,20 @@ impl Stage {
         ensures others { parts self.new.objects.scene ≡ parts self.old.objects.scene }
     {
         self.objects.give(at, value);
+    }
+
+    /// Gives the objects that are meant this text. Where memory is refused everything stays as it was.
+    pub fn bring_text<A: Awaits>(&mut self, awaiting: &A, text: &Octets) -> Result<(), AllocError>
+        ensures done { OnOk result (self.new.objects
+            ≡ text_brought (A.is awaiting.now) text.now self.old.objects) }
+        ensures stack { self.new.stack ≡ self.old.stack }
+        ensures own { parts self.new.objects.application ≡ parts self.old.objects.application }
+        ensures others { parts self.new.objects.scene ≡ parts self.old.objects.scene }
+        ensures kept { OnErr result (self.new.objects ≡ self.old.objects) }
+    {
+        let _ = self.objects.bring_text(awaiting, text)?;
+        self.screen.spoil_all();
+        Ok(())
     }
 
     /// Changes the display stack, which has room for one more. That can be seen in the box of the object

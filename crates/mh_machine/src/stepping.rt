@@ -1,5 +1,8 @@
 //! One step: an item is planned and carried out, or what waits first is taken.
 ghost use Rattle.std.specs.Prelude.{◌≡◌, ◌+◌, ◌<◌, ◌^◌, None, IfOk, OnOk, OnErr};
+ghost use Rattle.mh_model.specs.Faults.{fault_known};
+ghost use Rattle.mh_model.specs.Known.{known_in};
+ghost use Rattle.mh_model.specs.State.{all};
 ghost use Rattle.mh_model.specs.Stuck.{stuck};
 ghost use Rattle.mh_model.specs.Headline.{front_fault};
 ghost use Rattle.mh_model.specs.Step.{done, faulted, did, step};
@@ -10,7 +13,9 @@ use crate::plan::Plan;
 use crate::works::Works;
 use mh_actions::judging::{why_member_stuck, why_stuck};
 use mh_group::ActionName;
-use mh_model::{Fault, Item};
+use mh_model::{Act, Fault, Item};
+use mh_service::Service;
+use mh_store::Objects;
 use std::alloc::AllocError;
 
 impl Works {
@@ -76,7 +81,7 @@ impl Works {
         ensures { IfOk result (λ fault. fault ≡ stuck item.now self.now.state) }
     {
         match item {
-            Item::Act(act) => why_stuck(&self.service, self.stage.objects(), act),
+            Item::Act(act) => why_act_stuck(&self.service, self.stage.objects(), act),
             Item::RunMember(at) => why_member_stuck(self.stage.objects(), ActionName::Run, at),
             Item::HaltMember(at) => why_member_stuck(self.stage.objects(), ActionName::Stop, at),
             _ => Ok(None),
@@ -114,4 +119,17 @@ impl Works {
             }
         }
     }
+}
+
+/// What is wrong with the action, if anything is.
+fn why_act_stuck(
+    service: &Service,
+    objects: &Objects,
+    act: &Act,
+) -> Result<Option<Fault>, AllocError>
+    ensures { IfOk result (λ fault. fault
+        ≡ fault_known (known_in service.now (all objects.now)) act.now) }
+{
+    let found = why_stuck(service, service.programs(), objects, act)?;
+    Ok(found)
 }

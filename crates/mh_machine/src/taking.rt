@@ -1,5 +1,8 @@
 //! What waits first is taken from the queue.
-ghost use Rattle.std.specs.Prelude.{◌≡◌, ◌+◌, ◌<◌, ◌^◌, None, Some, IfOk, OnOk, OnErr, slice_get};
+ghost use Rattle.std.specs.Prelude.{◌≡◌, ◌+◌, ◌<◌, ◌≤◌, ◌^◌, None, Some, IfOk, OnOk, OnErr, slice_get};
+ghost use Rattle.mh_model.specs.Files.{arrived, waits_for, with_file};
+ghost use Rattle.mh_model.specs.Rules.{text_brought};
+ghost use Rattle.mh_model.specs.Service.{parts};
 ghost use Rattle.mh_model.specs.Step as spec;
 ghost use Rattle.mh_machine.specs.Rest.{answer_by};
 ghost use Rattle.mh_machine.specs.Pieces.{written};
@@ -7,11 +10,13 @@ ghost use Rattle.mh_machine.specs.Taking.{shifted};
 
 use crate::Stepped;
 use crate::agenda::Agenda;
-use crate::inputs::{engine_event, key_pieces, stream_events};
+use crate::inputs::{WaitingFor, content_events, engine_event, key_pieces, stream_events};
 use crate::piece::Piece;
+use crate::stage::Stage;
 use crate::work::Work;
 use crate::works::Works;
-use mh_model::{Event, Input, Key, Waiting};
+use mh_carousel::Carousel;
+use mh_model::{Event, File, Input, Key, Waiting};
 use std::alloc::AllocError;
 
 impl Works {
@@ -46,6 +51,7 @@ impl Works {
             Waiting::Input(Input::Tick(length)) => self.take_tick(*length),
             Waiting::Input(Input::Stream(tag)) => self.take_stream(*tag),
             Waiting::Input(Input::Engine(number)) => self.take_engine(*number),
+            Waiting::Input(Input::Arrive(file)) => self.take_file(file),
         }
     }
 
@@ -114,6 +120,25 @@ impl Works {
         Ok(())
     }
 
+    /// A file is there. The objects that wait for it have its content as their text, and each has an event
+    /// that waits.
+    fn take_file(&mut self, file: &File) -> Result<(), AllocError>
+        requires { self.old.state.taken + 1 < 2 ^ 64 }
+        ensures done { OnOk result (self.new.state ≡ spec.file_taken file.now (shifted self.old.state)) }
+        ensures kept { OnErr result (self.new.state ≡ self.old.state) }
+    {
+        let kept = copied_file(file)?;
+        let objects = self.stage.objects();
+        let events = content_events(self.alloc, &file.name, &self.carousel, objects)?;
+        self.agenda.reserve(events.len())?;
+        self.carousel.reserve_file()?;
+        bring(&mut self.stage, &self.carousel, file)?;
+        self.agenda.take_reserved(events);
+        arrive(&mut self.carousel, kept);
+        self.taken += 1;
+        Ok(())
+    }
+
     /// Puts these pieces in the place of the work list, for what waits first.
     fn take_with(&mut self, pieces: Vec<Piece>) -> Result<(), AllocError>
         requires { self.old.state.taken + 1 < 2 ^ 64 }
@@ -142,4 +167,36 @@ fn copied(waiting: &Waiting) -> Result<Waiting, AllocError>
     ensures { IfOk result (λ copy. copy ≡ waiting.now) }
 {
     waiting.clone()
+}
+
+/// Brings the text of a file to the objects that wait for it.
+fn bring(stage: &mut Stage, carousel: &Carousel, file: &File) -> Result<(), AllocError>
+    ensures done { let is = waits_for file.now.name carousel.now.waits in
+        OnOk result (stage.new.objects ≡ text_brought is file.now.content stage.old.objects) }
+    ensures stack { stage.new.stack ≡ stage.old.stack }
+    ensures own { parts stage.new.objects.application ≡ parts stage.old.objects.application }
+    ensures others { parts stage.new.objects.scene ≡ parts stage.old.objects.scene }
+    ensures kept { OnErr result (stage.new.objects ≡ stage.old.objects) }
+{
+    let waiting = WaitingFor {
+        carousel,
+        name: &file.name,
+    };
+    stage.bring_text(&waiting, &file.content)
+}
+
+/// The file is there, and nobody waits for it any more.
+fn arrive(carousel: &mut Carousel, file: File)
+    requires { 1 ≤ carousel.old.file_room }
+    ensures files { carousel.new.files ≡ with_file file carousel.old.files }
+    ensures waits { carousel.new.waits ≡ arrived file.name carousel.old.waits }
+{
+    carousel.arrived(&file.name);
+    carousel.put(file);
+}
+
+fn copied_file(file: &File) -> Result<File, AllocError>
+    ensures { IfOk result (λ copy. copy ≡ file.now) }
+{
+    file.clone()
 }

@@ -6,7 +6,7 @@ ghost use Rattle.std.specs.Prelude.{◌≡◌, ◌∷◌, [], ◌+◌, ◌<◌, 
 ghost use Rattle.mh_display.specs.Surface.{IsClean};
 ghost use Rattle.mh_model.specs.Service.{group_parts, fresh, parts};
 ghost use Rattle.mh_model.specs.State.{begun, all};
-ghost use Rattle.mh_model.specs.Step.{posted, obstacle as obstacle_lem, is_past_the_last as is_past_the_last_lem, is_in_range as is_in_range_lem, is_idle as is_idle_lem, is_settled as is_settled_lem};
+ghost use Rattle.mh_model.specs.Step.{posted, obstacle as obstacle_lem, is_past_the_last as is_past_the_last_lem, is_in_range as is_in_range_lem, is_over_size as is_over_size_lem, is_over_number as is_over_number_lem, has_begun as has_begun_lem, preset as preset_lem, preset_obstacle as preset_obstacle_lem, is_idle as is_idle_lem, is_settled as is_settled_lem};
 ghost use Rattle.mh_model.specs.Picture.{shown};
 ghost use Rattle.mh_model.specs.Planes.{blank};
 ghost use Rattle.mh_machine.specs.Links.{IsIndex};
@@ -19,7 +19,8 @@ use crate::puts::entrance;
 use crate::stage::Stage;
 use crate::work::Work;
 use mh_base::GroupName;
-use mh_model::{Fault, Input, Item, Obstacle, Picture};
+use mh_carousel::{Carousel, is_large};
+use mh_model::{Fault, File, Input, Item, Obstacle, Picture};
 use mh_service::Service;
 use mh_store::Group;
 use std::alloc::{AllocError, Global};
@@ -41,6 +42,9 @@ pub struct Works {
     pub(crate) frozen: Picture,
     pub(crate) taken: u64,
     pub(crate) faults: Vec<Fault>,
+    pub(crate) carousel: Carousel,
+    /// The modified Julian day on which the engine began.
+    pub(crate) mjd: u32,
     pub(crate) alloc: Global,
 }
 
@@ -67,6 +71,9 @@ impl Model for Works {
         frozen = w.frozen;
         taken = w.taken;
         faults = w.faults.items;
+        files = w.carousel.files;
+        waits = w.carousel.waits;
+        mjd = w.mjd;
       };
       marks = w.stage.marks;
     } };
@@ -80,18 +87,18 @@ const LONGEST_TICK: u32 = 60_000;
 impl Works {
     /// The works at the start: the start application is there, and is about to be entered. Where memory is
     /// refused the service is handed back.
-    pub fn new(alloc: Global, service: Service) -> Result<Works, Unstarted>
-        ensures begun { IfOk result (λ works. works.state ≡ begun service) }
+    pub fn new(alloc: Global, service: Service, mjd: u32) -> Result<Works, Unstarted>
+        ensures begun { IfOk result (λ works. works.state ≡ begun service mjd) }
         ensures clean { IfOk result (λ works. IsClean works.marks) }
         ensures back { IfErr result (λ unstarted. unstarted.service ≡ service) }
     {
         match prepare(alloc, &service) {
-            Ok(beginning) => Ok(Works::of(alloc, service, beginning)),
+            Ok(beginning) => Ok(Works::of(alloc, service, mjd, beginning)),
             Err(_) => Err(Unstarted { service }),
         }
     }
 
-    fn of(alloc: Global, service: Service, beginning: Beginning) -> Works
+    fn of(alloc: Global, service: Service, mjd: u32, beginning: Beginning) -> Works
         requires application { beginning.application ≡ service.start }
         requires objects { beginning.stage.objects ≡ record { application = map fresh (group_parts service service.start); scene = [] } }
         requires stack { beginning.stage.stack ≡ [] }
@@ -100,7 +107,7 @@ impl Works {
         requires links { IsIndex beginning.links (parts (all beginning.stage.objects)) }
         requires work { beginning.work.items ≡ Item.Enter service.start ∷ [] }
         requires frozen { beginning.frozen ≡ blank }
-        ensures begun { result.state ≡ begun service }
+        ensures begun { result.state ≡ begun service mjd }
         ensures clean { IsClean result.marks }
     {
         let Beginning {
@@ -124,6 +131,8 @@ impl Works {
             frozen,
             taken: 0,
             faults: Vec::new(alloc),
+            carousel: Carousel::new(alloc),
+            mjd,
             alloc,
         }
     }
@@ -136,6 +145,10 @@ impl Works {
             Some(Obstacle::Ended)
         } else if !is_in_range(input) {
             Some(Obstacle::TickRange)
+        } else if is_over_size(input) {
+            Some(Obstacle::TooLarge)
+        } else if self.is_over_number(input) {
+            Some(Obstacle::TooMany)
         } else if self.is_past_the_last(input) {
             Some(Obstacle::ClockFull)
         } else if self.agenda.is_full() {
@@ -150,6 +163,47 @@ impl Works {
         ensures { result ≡ is_past_the_last_lem input.now self.now.state }
     {
         self.agenda.is_late(input)
+    }
+
+    /// Whether a file has a name for which there is no room, behind all that wait.
+    fn is_over_number(&self, input: &Input) -> bool
+        ensures { result ≡ is_over_number_lem input.now self.now.state }
+    {
+        match input {
+            Input::Arrive(file) => self.agenda.is_one_too_many(&self.carousel, file),
+            _ => false,
+        }
+    }
+
+    /// Why a file cannot be there before the first move, if it cannot.
+    pub fn preset_obstacle(&self, file: &File) -> Option<Obstacle>
+        ensures { result ≡ preset_obstacle_lem file.now self.now.state }
+    {
+        if self.has_begun() {
+            Some(Obstacle::Begun)
+        } else if is_large(file) {
+            Some(Obstacle::TooLarge)
+        } else if self.agenda.is_one_too_many(&self.carousel, file) {
+            Some(Obstacle::TooMany)
+        } else {
+            None
+        }
+    }
+
+    /// Whether a step was taken, or an input posted.
+    fn has_begun(&self) -> bool
+        ensures { result ≡ has_begun_lem self.now.state }
+    {
+        self.taken != 0 || !self.agenda.is_empty()
+    }
+
+    /// A file is there before the first move.
+    pub fn preset(&mut self, file: File) -> Result<(), AllocError>
+        ensures preset { OnOk result (self.new.state ≡ preset_lem file self.old.state) }
+        ensures kept { OnErr result (self.new.state ≡ self.old.state) }
+        ensures marks { self.new.marks ≡ self.old.marks }
+    {
+        self.carousel.arrive(file)
     }
 
     /// Adds an input at the end of the queue.
@@ -239,6 +293,16 @@ fn is_in_range(input: &Input) -> bool
     match input {
         Input::Tick(length) => 1 <= *length && *length <= LONGEST_TICK,
         _ => true,
+    }
+}
+
+/// Whether a file is larger than it may be.
+fn is_over_size(input: &Input) -> bool
+    ensures { result ≡ is_over_size_lem input.now }
+{
+    match input {
+        Input::Arrive(file) => is_large(file),
+        _ => false,
     }
 }
 

@@ -18,7 +18,7 @@ use Rattle.mh_model.specs.declared.act.Target.TheVariants as target
 use Rattle.mh_model.specs.declared.fault.Fault.{Fault}
 use Rattle.mh_model.specs.declared.object.Fixed.{Fixed}
 use Rattle.mh_model.specs.Active.{is_none, is_direct, is_direct_argument, are_direct, fault_of}
-use Rattle.mh_model.specs.Faults.{object_faults, admitted_faults, value_faults, receiver_faults, reference_faults, typed_faults, operator_faults, integer_faults, is_test, argument_faults, arguments_faults, is_content_kind, is_data_kind, faults, rank, least_fault, fault_known}
+use Rattle.mh_model.specs.Faults.{object_faults, admitted_faults, value_faults, receiver_faults, reference_faults, typed_faults, operator_faults, integer_faults, is_test, argument_faults, arguments_faults, is_content_kind, is_data_kind, needs_behind, passed_faults, called_faults, faults, rank, least_fault, fault_known}
 use Rattle.mh_model.specs.Known.{Known, known_before}
 use Rattle.mh_model.specs.Service.{Service}
 use Rattle.mh_model.specs.Variables.{same_kind}
@@ -118,6 +118,13 @@ integer_free s ps f g n r xs x e = by (is_test n) e
         (operator_free s ps f g n r xs x (empty_right (value_faults (same_kind kind.Int) (known_before s ps) a x) _ e))
     by false e = both_empty _ _ (value_free s ps f g a (same_kind kind.Int) x (empty_left _ [] e)) refl
 
+-- what a program is called with
+passed_free : (s : Service) (ps : List Fixed) (f : ObjRef → Option ObjRef) (g : ObjRef → Option ℤ) (a : Act) (x : Argument) → passed_faults (known_before s ps) a x ≡ [] → passed_faults (knowing s ps f g) a x ≡ []
+passed_free s ps f g a (argument.Direct v) e = e
+passed_free s ps f g a (argument.Through v None) e = e
+passed_free s ps f g a (argument.Through v (Some u)) e = e
+passed_free s ps f g a (argument.Receiver v) e = e
+
 argument_free : (s : Service) (ps : List Fixed) (f : ObjRef → Option ObjRef) (g : ObjRef → Option ℤ) (n : ActionName) (r : ObjRef) (xs : List Argument) (what : Need) (x : Argument) → is_direct_argument what x ≡ true → argument_faults (known_before s ps) (record { name = n; target = target.Direct r; arguments = xs }) what x ≡ [] → argument_faults (knowing s ps f g) (record { name = n; target = target.Direct r; arguments = xs }) what x ≡ []
 argument_free s ps f g n r xs need.Bool x d e = value_free s ps f g (record { name = n; target = target.Direct r; arguments = xs }) (same_kind kind.Bool) x e
 argument_free s ps f g n r xs need.Int x d e = integer_free s ps f g n r xs x e
@@ -128,7 +135,16 @@ argument_free s ps f g n r xs need.Data x d e = value_free s ps f g (record { na
 argument_free s ps f g n r xs need.Event x d e = value_free s ps f g (record { name = n; target = target.Direct r; arguments = xs }) (same_kind kind.Int) x e
 argument_free s ps f g n r xs (need.Receiver t) x d e = receiver_free s ps f g (record { name = n; target = target.Direct r; arguments = xs }) t x e
 argument_free s ps f g n r xs need.Typed x d e = typed_free s ps f g n r xs x e
-argument_free s ps f g n r xs need.Arguments x d e = refl
+argument_free s ps f g n r xs need.Arguments x d e = passed_free s ps f g (record { name = n; target = target.Direct r; arguments = xs }) x e
+
+-- what is needed behind a parameter can be given directly where what is written there can
+passed_direct : (ys : List Argument) → are_direct (need.Arguments ∷ []) ys ≡ true
+passed_direct [] = refl
+passed_direct (y ∷ ys) = refl
+
+behind_direct : (what : Need) (needs : List Need) (ys : List Argument) → are_direct needs ys ≡ true → are_direct (needs_behind what needs) ys ≡ true
+behind_direct need.Arguments needs ys d = passed_direct ys
+behind_direct _ needs ys d = d
 
 arguments_free : (s : Service) (ps : List Fixed) (f : ObjRef → Option ObjRef) (g : ObjRef → Option ℤ) (n : ActionName) (r : ObjRef) (xs : List Argument) (needs : List Need) (ys : List Argument) → are_direct needs ys ≡ true → arguments_faults (known_before s ps) (record { name = n; target = target.Direct r; arguments = xs }) needs ys ≡ [] → arguments_faults (knowing s ps f g) (record { name = n; target = target.Direct r; arguments = xs }) needs ys ≡ []
 arguments_free s ps f g n r xs [] ys d e = refl
@@ -136,8 +152,8 @@ arguments_free s ps f g n r xs (what ∷ needs) [] d e = refl
 arguments_free s ps f g n r xs (what ∷ needs) (y ∷ ys) d e =
     let a : Act = record { name = n; target = target.Direct r; arguments = xs } in
     both_empty _ _
-    (argument_free s ps f g n r xs what y (and_left (is_direct_argument what y) (are_direct needs ys) d) (empty_left _ (arguments_faults (known_before s ps) a needs ys) e))
-    (arguments_free s ps f g n r xs needs ys (and_right (is_direct_argument what y) (are_direct needs ys) d) (empty_right (argument_faults (known_before s ps) a what y) _ e))
+    (argument_free s ps f g n r xs what y (and_left (is_direct_argument what y) (are_direct needs ys) d) (empty_left _ (arguments_faults (known_before s ps) a (needs_behind what needs) ys) e))
+    (arguments_free s ps f g n r xs (needs_behind what needs) ys (behind_direct what needs ys (and_right (is_direct_argument what y) (are_direct needs ys) d)) (empty_right (argument_faults (known_before s ps) a what y) _ e))
 
 -- what is direct and free of faults beforehand is free of faults, whatever its variables hold
 pub direct_free : (s : Service) (ps : List Fixed) (f : ObjRef → Option ObjRef) (g : ObjRef → Option ℤ) (a : Act) → is_direct a ≡ true → is_none (fault_of s ps a) ≡ true → fault_known (knowing s ps f g) a ≡ None
@@ -145,7 +161,10 @@ direct_free s ps f g a d e = ap (least_fault None) (by a.target d (none_wrong (f
   where
     by : (t : Target) → is_direct (record a { target = t }) ≡ true → faults (known_before s ps) (record a { target = t }) ≡ [] → faults (knowing s ps f g) (record a { target = t }) ≡ []
     by (target.Direct r) d e =
+        let b : Act = record a { target = target.Direct r } in
+        let front : List Fault = admitted_faults (known_before s ps) a.name r ++ called_faults (known_before s ps) b in
+        let behind : List Fault = arguments_faults (known_before s ps) b (needs_of a.name) a.arguments in
         both_empty _ _
-        (empty_left (admitted_faults (known_before s ps) a.name r) _ e)
-        (arguments_free s ps f g a.name r a.arguments (needs_of a.name) a.arguments d (empty_right (admitted_faults (known_before s ps) a.name r) _ e))
+        (empty_left front behind e)
+        (arguments_free s ps f g a.name r a.arguments (needs_of a.name) a.arguments d (empty_right front behind e))
     by (target.Through v) d e = absurd cc

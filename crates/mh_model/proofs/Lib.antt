@@ -5,9 +5,15 @@ pub mod PartLemmas
 pub mod ServiceLemmas
 pub mod FaultLemmas
 pub mod DescribingLemmas
+pub mod GivingLemmas
+pub mod EmittingLemmas
 pub mod WorkLemmas
 pub mod StateLemmas
 pub mod TimeLemmas
+pub mod EventLemmas
+pub mod PutLemmas
+pub mod WholeLemmas
+pub mod ExchangeLemmas
 pub mod RuleLemmas
 pub mod TakenLemmas
 pub mod SafeLemmas

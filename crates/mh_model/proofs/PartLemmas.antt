@@ -1,5 +1,5 @@
 -- What the files say of objects, which no change of a body touches.
-use Rattle.std.specs.Prelude.{◌≡◌, Bool, true, false, if◌then◌else◌, cond, List, [], ◌∷◌, ◌++◌, map, Option, Some, refl}
+use Rattle.std.specs.Prelude.{◌≡◌, ℕ, Bool, true, false, if◌then◌else◌, cond, List, [], ◌∷◌, ◌++◌, map, Option, Some, refl}
 use Rattle.std.specs.List.{list_any}
 use Rattle.std.specs.Option.{option_map, option_map_or}
 use Rattle.std.proofs.Common.{ap, ◌∙◌}
@@ -10,7 +10,8 @@ use Rattle.mh_model.specs.declared.object.Fixed.{Fixed}
 use Rattle.mh_model.specs.declared.object.Object.{Object}
 use Rattle.mh_model.specs.Service.{part_at, object_at, parts, fresh}
 use Rattle.mh_model.specs.State.{Objects, all}
-use Rattle.mh_model.specs.Rules.{is_at, on_body, changed_in, changed}
+use Rattle.mh_model.specs.Rules.{is_at, on_body, changed_in, changed, with_text}
+use Rattle.mh_model.specs.Bodies.{brought}
 use Rattle.mh_model.specs.Safe.{is_there}
 
 pub part_at-parts : (r : ObjRef) (os : List Object) → part_at r (parts os) ≡ option_map (λ o. o.fixed) (object_at r os)
@@ -52,4 +53,12 @@ changed-others f r os =
     elim (list_any (is_at r) os.application) as (λ (b : Bool). parts (if b then record os { application = changed_in f r os.application } else record os { scene = changed_in f r os.scene }).scene ≡ parts os.scene) [
       | true ↦ refl
       | false ↦ changed_in-parts f r os.scene
+    ]
+
+pub with_text-parts : (is : ObjRef → Bool) (text : List ℕ) (os : List Object) → parts (with_text is text os) ≡ parts os
+with_text-parts is text [] = refl
+with_text-parts is text (o ∷ os) =
+    elim (is o.fixed.key) as (λ (b : Bool). parts ((if b then record o { body = brought text o.body } else o) ∷ with_text is text os) ≡ o.fixed ∷ parts os) [
+      | true ↦ ap (λ (t : List Fixed). o.fixed ∷ t) (with_text-parts is text os)
+      | false ↦ ap (λ (t : List Fixed). o.fixed ∷ t) (with_text-parts is text os)
     ]

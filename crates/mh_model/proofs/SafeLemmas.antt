@@ -1,5 +1,5 @@
 -- A safe state stays safe, and in a safe state nothing is stuck.
-use Rattle.std.specs.Prelude.{◌≡◌, ◌+◌, ◌==◌, Bool, true, false, ◌&&◌, if◌then◌else◌, List, [], ◌∷◌, ◌++◌, drop, slice_get, Option, Some, None, refl}
+use Rattle.std.specs.Prelude.{◌≡◌, ℕ, ◌+◌, ◌==◌, Bool, true, false, ◌&&◌, if◌then◌else◌, List, [], ◌∷◌, ◌++◌, drop, slice_get, Option, Some, None, refl}
 use Rattle.std.specs.Option.{option_map_or}
 use Rattle.std.proofs.Common.{inl, ap, ◌∙◌, sym, subst}
 use Rattle.mh_base.specs.declared.obj_ref.ObjRef.{ObjRef}
@@ -8,6 +8,7 @@ use Rattle.mh_group.specs.Table.{is_application, is_visible}
 use Rattle.mh_group.specs.declared.action_name.ActionName.TheVariants as action
 use Rattle.mh_model.specs.declared.config.Config.{Config}
 use Rattle.mh_model.specs.declared.fault.Fault.{Fault}
+use Rattle.mh_model.specs.declared.file.File.{File}
 use Rattle.mh_model.specs.declared.input.Input.{Input}
 use Rattle.mh_model.specs.declared.input.Waiting.{Waiting}
 use Rattle.mh_model.specs.declared.input.Move.{Move}
@@ -21,12 +22,13 @@ use Rattle.mh_model.specs.Known.{class_at, as_integer}
 use Rattle.mh_model.specs.Faults.{object_faults, fault_known}
 use Rattle.mh_model.specs.Stuck.{member_fault, stuck}
 use Rattle.mh_model.specs.Arguments.{held_by}
-use Rattle.mh_model.specs.Step.{done, did, step_by, step, posted, most_steps, stepped, moved, run, obstacle, posted_by}
+use Rattle.mh_model.specs.Step.{done, did, step_by, step, posted, most_steps, stepped, moved, run, obstacle, posted_by, preset}
 use Rattle.mh_model.specs.Configuration.{is_group_of, is_service, present}
 use Rattle.mh_model.specs.Active.{is_none, is_direct, is_good, fault_of, has_known_id}
 use Rattle.mh_model.specs.Acceptable.{IsAcceptable, leads_into}
 use Rattle.mh_model.specs.Safe.{config_of, IsSafeItem, behind, IsSafeWork, IsSafe, has_origin}
-use Rattle.mh_model.specs.Headline.{fault_at, front_fault, IsFaultless, NeverStuck}
+use Rattle.mh_model.specs.Files.{with_file}
+use Rattle.mh_model.specs.Headline.{fault_at, front_fault, IsFaultless, begun_with, NeverStuck}
 use Rattle.mh_model.specs.declared.input.Obstacle.{Obstacle}
 use Rattle.mh_model.specs.declared.input.Waiting.TheVariants as waiting
 use Rattle.mh_model.specs.declared.input.Move.TheVariants as move
@@ -34,15 +36,15 @@ use Rattle.mh_model.specs.declared.item.Item.TheVariants as item
 use Rattle.mh_model.proofs.FaultLemmas.{knowing, direct_free}
 use Rattle.mh_model.proofs.PartLemmas.{parts-fresh}
 use Rattle.mh_model.proofs.ServiceLemmas.{and_left, and_right, all_joined}
-use Rattle.mh_model.proofs.StateLemmas.{parts_present, kept}
+use Rattle.mh_model.proofs.StateLemmas.{parts_present, kept, unwaited}
 use Rattle.mh_model.proofs.RuleLemmas.{safe_rule}
 use Rattle.mh_model.proofs.TakenLemmas.{first_waits, safe_took}
 
 -- the beginning
 
-pub safe_begun : (v : Service) → IsAcceptable v → IsSafe (begun v)
+pub safe_begun : (v : Service) → IsAcceptable v → (mjd : ℕ) → IsSafe (begun v mjd)
 unfolding is_service
-safe_begun v k = record {
+safe_begun v k mjd = record {
   accepted = k;
   application = and_right _ (is_group_of is_application v v.start) k.service;
   scene = refl;
@@ -54,6 +56,14 @@ safe_begun v k = record {
   queue = refl;
   faultless = refl;
 }
+
+-- a file that is put there beforehand
+pub safe_preset : (f : File) (s : State) → IsSafe s → IsSafe (preset f s)
+safe_preset f s k = unwaited s k (with_file f s.files) s.waits
+
+-- the beginning with files there
+pub safe_begun_with : (v : Service) → IsAcceptable v → (mjd : ℕ) (fs : List File) → IsSafe (begun_with v mjd fs)
+safe_begun_with v k mjd fs = unwaited (begun v mjd) (safe_begun v k mjd) fs []
 
 -- Steps
 
@@ -147,4 +157,5 @@ safe_faultless s k = record { front = safe_front s k; faults = k.faultless }
 
 -- the headline
 pub never_stuck_law : NeverStuck
-never_stuck_law v k ms = safe_faultless (run ms (begun v)) (safe_run ms (begun v) (safe_begun v k))
+never_stuck_law v k mjd fs ms =
+    safe_faultless (run ms (begun_with v mjd fs)) (safe_run ms (begun_with v mjd fs) (safe_begun_with v k mjd fs))

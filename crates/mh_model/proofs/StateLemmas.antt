@@ -7,6 +7,8 @@ use Rattle.mh_group.specs.Table.{is_scene, is_application}
 use Rattle.mh_model.specs.declared.config.Config.{Config}
 use Rattle.mh_model.specs.declared.input.Waiting.{Waiting}
 use Rattle.mh_model.specs.declared.item.Item.{Item}
+use Rattle.mh_model.specs.declared.file.File.{File}
+use Rattle.mh_model.specs.declared.file.Wait.{Wait}
 use Rattle.mh_model.specs.declared.object.Fixed.{Fixed}
 use Rattle.mh_model.specs.Service.{Service, parts, group_ref, group_parts}
 use Rattle.mh_model.specs.State.{State, Objects, all}
@@ -111,3 +113,23 @@ unseen s k m ended locks p = record {
   queue = k.queue;
   faultless = k.faultless;
 }
+
+-- nor are the files that are there, and who waits for one
+pub unwaited : (s : State) → IsSafe s → (files : List File) (waits : List Wait) → IsSafe (record s { files = files; waits = waits })
+unwaited s k files waits = record {
+  accepted = k.accepted;
+  application = k.application;
+  scene = k.scene;
+  among = k.among;
+  own = k.own;
+  others = k.others;
+  work = k.work;
+  timers = k.timers;
+  queue = k.queue;
+  faultless = k.faultless;
+}
+
+-- where only objects, work, and who waits for a file do
+pub kept_loads : (s : State) (k : IsSafe s) (os : Objects) (stack : List ObjRef) (waits : List Wait) (work : List Item) (n : ℕ) → parts os.application ≡ parts s.objects.application → parts os.scene ≡ parts s.objects.scene → IsSafeWork s.service k.accepted.reached (config_of s) work → IsSafe (record s { objects = os; stack = stack; waits = waits; work = work; taken = n })
+kept_loads s k os stack waits work n own others safe =
+    unwaited (record s { objects = os; stack = stack; work = work; taken = n }) (kept_bodies s k os stack work n own others safe) s.files waits

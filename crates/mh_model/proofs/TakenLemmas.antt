@@ -12,8 +12,10 @@ use Rattle.mh_model.specs.Key.{passes}
 use Rattle.mh_model.specs.Service.{object_at, group_ref}
 use Rattle.mh_model.specs.State.{State, all}
 use Rattle.mh_model.specs.Items.{heard}
-use Rattle.mh_model.specs.Step.{register_of, key_event, key_items, took, engine_event, streams_told, timers_fired}
+use Rattle.mh_model.specs.Step.{register_of, key_event, key_items, took, engine_event, streams_told, timers_fired, contents_told}
 use Rattle.mh_model.specs.Configuration.{present}
+use Rattle.mh_model.specs.Files.{with_file, arrived}
+use Rattle.mh_model.specs.Rules.{text_brought}
 use Rattle.mh_model.specs.Safe.{config_of, is_there, IsSafeWork, IsSafe, has_origin, has_group}
 use Rattle.mh_model.specs.declared.time.Timer.{Timer}
 use Rattle.mh_model.specs.Time.{is_due}
@@ -21,8 +23,9 @@ use Rattle.mh_model.specs.declared.input.Input.TheVariants as input
 use Rattle.mh_model.specs.declared.input.Waiting.TheVariants as waiting
 use Rattle.mh_model.proofs.ServiceLemmas.{and_left, and_right, all_joined}
 use Rattle.mh_model.proofs.WorkLemmas.{safe_heard}
-use Rattle.mh_model.proofs.StateLemmas.{parts_present, fine_objects, group_there, kept, unseen}
-use Rattle.mh_model.proofs.TimeLemmas.{all_filtered, fired_safe, streams_safe}
+use Rattle.mh_model.proofs.PartLemmas.{with_text-parts}
+use Rattle.mh_model.proofs.StateLemmas.{parts_present, fine_objects, group_there, kept, unseen, unwaited}
+use Rattle.mh_model.proofs.TimeLemmas.{all_filtered, fired_safe, streams_safe, contents_safe}
 
 -- the first that waits comes from something present, and so does the rest
 pub first_waits : (ps : List Fixed) (ws : List Waiting) (w : Waiting) → slice_get ws 0 ≡ Some w → list_all (has_origin ps) ws ≡ true → (has_origin ps w ≡ true) × (list_all (has_origin ps) (drop 1 ws) ≡ true)
@@ -48,6 +51,10 @@ key_alone s k key (Some g) e = passed (passes (register_of (object_at (group_ref
 told_safe : (s : State) → IsSafe s → (n : ℤ) → list_all (has_origin (present s.service (config_of s))) (streams_told n s) ≡ true
 told_safe s k n = subst (λ (ps : List Fixed). list_all (has_origin ps) (streams_told n s) ≡ true) (parts_present s k) (streams_safe n (all s.objects))
 
+-- what those objects tell that waited for a file
+contents_told_safe : (s : State) → IsSafe s → (name : List ℕ) → list_all (has_origin (present s.service (config_of s))) (contents_told name s) ≡ true
+contents_told_safe s k name = subst (λ (ps : List Fixed). list_all (has_origin ps) (contents_told name s) ≡ true) (parts_present s k) (contents_safe name s.waits (all s.objects))
+
 -- a state stays safe where what waits first is taken
 pub safe_took : (s : State) (k : IsSafe s) (w : Waiting) → has_origin (present s.service (config_of s)) w ≡ true → list_all (has_origin (present s.service (config_of s))) (drop 1 s.queue) ≡ true → IsSafe (took w s)
 safe_took s k w here_it left = by w here_it
@@ -72,4 +79,12 @@ safe_took s k w here_it left = by w here_it
     by (waiting.Input (input.Stream m)) here_it =
         kept s k s.objects s.stack s.timers (drop 1 s.queue ++ streams_told m s) s.work s.transition n refl refl k.work k.timers
         (all_joined (has_origin (present s.service (config_of s))) (drop 1 s.queue) (streams_told m s) left (told_safe s k m))
+    by (waiting.Input (input.Arrive f)) here_it =
+        let told : List Waiting = contents_told f.name s in
+        let queue : List Waiting = drop 1 s.queue ++ told in
+        unwaited (record s { objects = text_brought _ f.content s.objects; queue = queue; taken = n })
+        (kept s k (text_brought _ f.content s.objects) s.stack s.timers queue s.work s.transition n
+        (with_text-parts _ f.content s.objects.application) (with_text-parts _ f.content s.objects.scene) k.work k.timers
+        (all_joined (has_origin (present s.service (config_of s))) (drop 1 s.queue) told left (contents_told_safe s k f.name)))
+        (with_file f s.files) (arrived f.name s.waits)
     by (waiting.Input (input.Engine m)) here_it = put _ (heard_alone s k (engine_event m s.application) (group_there s k s.application (inl refl)))

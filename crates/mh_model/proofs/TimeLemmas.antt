@@ -9,10 +9,11 @@ use Rattle.std.proofs.lemmas.Slice.Eq.{bytes_eq-Decides}
 use Rattle.std.proofs.lemmas.Bool.Decides.{Decides-eqb}
 use Rattle.mh_base.specs.declared.value.Value.{Value}
 use Rattle.mh_base.specs.declared.value.Value.TheVariants as value
+use Rattle.mh_model.specs.declared.file.Wait.{Wait}
 use Rattle.mh_model.specs.declared.object.Fixed.{Fixed}
 use Rattle.mh_model.specs.declared.object.Object.{Object}
 use Rattle.mh_model.specs.Service.{same_ref, parts, group_ref}
-use Rattle.mh_model.specs.Step.{is_streaming, stream_event}
+use Rattle.mh_model.specs.Step.{is_streaming, stream_event, is_waiting, content_event}
 use Rattle.mh_model.specs.Safe.{is_there, has_origin, has_group}
 use Rattle.mh_model.specs.declared.time.Moments.{Moments}
 use Rattle.mh_model.specs.declared.time.Timer.{Timer}
@@ -75,7 +76,7 @@ fired_safe ps now app ts h =
     list_all-map (has_origin ps) (λ t. waiting.Event (timer_event t)) (due now app ts)
     ∙ in_order_safe ps app (filter (is_due now) ts) (all_filtered (is_due now) (has_group ps) ts h)
 
--- So do those of streams: they are objects that are present.
+-- So do those of streams, and of what waited for a file: they are objects that are present.
 
 all_there : (ps : List Fixed) → list_all (λ p. is_there p.key ps) ps ≡ true
 all_there [] = refl
@@ -93,3 +94,8 @@ pub streams_safe : (n : ℤ) (os : List Object) → list_all (has_origin (parts 
 streams_safe n os =
     list_all-map (has_origin (parts os)) (λ o. waiting.Event (stream_event n o)) (filter is_streaming os)
     ∙ all_filtered is_streaming (λ o. is_there o.fixed.key (parts os)) os (sym (list_all-map (λ p. is_there p.key (parts os)) (λ o. o.fixed) os) ∙ all_there (parts os))
+
+pub contents_safe : (name : List ℕ) (ws : List Wait) (os : List Object) → list_all (has_origin (parts os)) (map (λ o. waiting.Event (content_event o)) (filter (is_waiting name ws) os)) ≡ true
+contents_safe name ws os =
+    list_all-map (has_origin (parts os)) (λ o. waiting.Event (content_event o)) (filter (is_waiting name ws) os)
+    ∙ all_filtered (is_waiting name ws) (λ o. is_there o.fixed.key (parts os)) os (sym (list_all-map (λ p. is_there p.key (parts os)) (λ o. o.fixed) os) ∙ all_there (parts os))

@@ -16,21 +16,21 @@ use Rattle.mh_model.specs.declared.held.Held.TheVariants as of
 use Rattle.mh_model.specs.declared.object.Body.{Body}
 use Rattle.mh_model.specs.declared.object.Fixed.{Fixed}
 use Rattle.mh_model.specs.declared.object.Object.{Object}
+use Rattle.mh_model.specs.declared.file.File.{File}
+use Rattle.mh_model.specs.Files.{by_content, comes_to, missing}
 use Rattle.mh_model.specs.Looks.{has_line, line_of, fill_of}
 use Rattle.mh_model.specs.Property.{read_of, with_held, value_held, as_number, as_octets}
 use Rattle.mh_model.specs.Variables.{fits_int, fits_octets, converted}
 
 -- Content
 
--- what is loaded of content: octets in the group's file, where the class has content
-abbrev pub included : Option Held → Bool → Option (List ℕ)
-included None has = None
-included (Some (of.Value (value.Octets os))) has = if has then Some os else None
-included (Some h) has = None
+-- what is loaded when an object becomes available, where these files are there
+abbrev pub loaded : List File → Fixed → Body → Option (List ℕ)
+loaded fs p b = by_content (comes_to fs) (read_of attribute.OrigContent p b) (has_content p.class)
 
--- what is loaded when an object becomes available
-abbrev pub loaded : Fixed → Body → Option (List ℕ)
-loaded p b = included (read_of attribute.OrigContent p b) (has_content p.class)
+-- the name of the file for which it then waits, if it waits for one
+abbrev pub lacking : List File → Fixed → Body → Option (List ℕ)
+lacking fs p b = by_content (missing fs) (read_of attribute.OrigContent p b) (has_content p.class)
 
 -- the text that was loaded, or none
 abbrev pub text_of : Body → List ℕ
@@ -38,12 +38,13 @@ text_of b = unwrap_or b.text []
 
 -- Running
 
-abbrev pub prepared : Fixed → Body → Body
-prepared p b = if b.available then b else record b { available = true; text = loaded p b }
+-- one that is available stays as it is; another becomes available, with the text that was loaded
+abbrev pub prepared : Option (List ℕ) → Body → Body
+prepared text b = if b.available then b else record b { available = true; text = text }
 
 -- one that runs stays as it is; another becomes available and runs
-abbrev pub started : Fixed → Body → Body
-started p b = if b.running then b else record (prepared p b) { running = true }
+abbrev pub started : Option (List ℕ) → Body → Body
+started text b = if b.running then b else record (prepared text b) { running = true }
 
 abbrev pub halted : Body → Body
 halted b = record b { running = false }
@@ -67,9 +68,13 @@ given_number x b = if fits_int x then given (value.Int x) b else b
 abbrev pub given_octets : List ℕ → Body → Body
 given_octets os b = if fits_octets os then given (value.Octets os) b else b
 
+-- what a variable can hold
+abbrev pub fits_value : Value → Bool
+fits_value (value.Octets os) = fits_octets os
+fits_value v = true
+
 abbrev pub stored : Value → Body → Body
-stored (value.Octets os) b = given_octets os b
-stored v b = given v b
+stored v b = if fits_value v then given v b else b
 
 abbrev pub number_of : Fixed → Body → ℤ
 number_of p b = as_number (value_held p b)
@@ -80,16 +85,16 @@ octets_of p b = as_octets (value_held p b)
 abbrev pub divided : (ℤ → ℤ → ℤ) → ℤ → ℤ → Body → Body
 divided by m n b = if int_eq n (pos 0) then b else given_number (by m n) b
 
--- Content that is replaced is loaded at once where the object is available. What is too long changes nothing.
-
-abbrev pub replaced : Value → Fixed → Body → Body
-replaced v p b = record b {
+-- Content that is replaced is loaded at once where the object is available.
+abbrev pub replaced : Value → Option (List ℕ) → Body → Body
+replaced v text b = record b {
   changes = with_held attribute.OrigContent (of.Value v) b.changes;
-  text = if b.available then included (Some (of.Value v)) (has_content p.class) else b.text;
+  text = if b.available then text else b.text;
 }
 
-abbrev pub replaced_octets : List ℕ → Fixed → Body → Body
-replaced_octets os p b = if fits_octets os then replaced (value.Octets os) p b else b
+-- what a file brings that an object waited for
+abbrev pub brought : List ℕ → Body → Body
+brought os b = record b { text = Some os }
 
 -- Looks. A negative size or width changes nothing, nor does a colour that has not four octets.
 
@@ -158,8 +163,6 @@ changed_by action.DrawLine (value.Int x ∷ value.Int y ∷ value.Int u ∷ valu
     drawn figure.Line x y u v p b
 changed_by action.DrawRectangle (value.Int x ∷ value.Int y ∷ value.Int u ∷ value.Int v ∷ []) p b =
     drawn figure.Rectangle x y u v p b
-changed_by action.SetData (value.Octets os ∷ []) p b = replaced_octets os p b
-changed_by action.SetData (value.Content name ∷ []) p b = replaced (value.Content name) p b
 changed_by action.SetInputRegister (value.Int n ∷ []) p b = put attribute.InputEventReg (of.Value (value.Int n)) b
 changed_by action.SetTextColour (value.Octets os ∷ []) p b = coloured attribute.TextColour os b
 changed_by _ _ p b = b

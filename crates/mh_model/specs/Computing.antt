@@ -76,7 +76,7 @@ abbrev pub on_test : ℕ → Bool → Act → Fixed
 on_test n truth a = link_on n (here 1) event.TestEvent (value.Bool truth) (a ∷ [])
 
 abbrev pub service_of : List Fixed → Service
-service_of items = record { groups = (a, application ∷ []) ∷ (s, scene ∷ items) ∷ []; start = a }
+service_of items = record { groups = (a, application ∷ []) ∷ (s, scene ∷ items) ∷ []; start = a; programs = [] }
 
 abbrev pub computing : Service
 computing =
@@ -95,7 +95,7 @@ computing =
     ∷ [])
 
 unfoldable pub computed : State
-computed = run (move.Post (input.Key key.Red) ∷ steps 10) (run (steps 17) (begun computing))
+computed = run (move.Post (input.Key key.Red) ∷ steps 10) (run (steps 17) (begun computing 60000))
 
 -- A rectangle that is named through a variable moves; where the variable refers to nothing that is there, the
 -- fault names what it refers to; a variable of numbers refers to nothing.
@@ -111,7 +111,7 @@ moving_through v =
     ∷ [])
 
 abbrev pub pressed : Service → State
-pressed v = run (move.Post (input.Key key.Red) ∷ steps 2) (run (steps 11) (begun v))
+pressed v = run (move.Post (input.Key key.Red) ∷ steps 2) (run (steps 11) (begun v 60000))
 
 unfoldable pub moved_through : State
 moved_through = pressed (moving_through (reference 1 10))

@@ -12,6 +12,7 @@ use Rattle.mh_group.specs.declared.action_name.ActionName.{ActionName}
 use Rattle.mh_group.specs.declared.action_name.ActionName.TheVariants as action
 use Rattle.mh_group.specs.declared.class.Class.{Class}
 use Rattle.mh_group.specs.Table.{admits, may_emit, run_events}
+use Rattle.mh_model.specs.declared.file.File.{File}
 use Rattle.mh_model.specs.declared.item.Item.{Item}
 use Rattle.mh_model.specs.declared.item.Item.TheVariants as item
 use Rattle.mh_model.specs.declared.object.Body.{Body}
@@ -20,7 +21,7 @@ use Rattle.mh_model.specs.declared.object.Object.{Object}
 use Rattle.mh_model.specs.Lifecycle.{prepare_items, run_items, halt_items, drop_items}
 use Rattle.mh_model.specs.Property.{value_held, as_reference}
 use Rattle.mh_model.specs.Bodies.{changed_by}
-use Rattle.mh_model.specs.Saying.{answers, put_items}
+use Rattle.mh_model.specs.Saying.{answers, put_items, load_items, call_items}
 
 -- What an action puts
 
@@ -49,6 +50,7 @@ can_put action.Deactivate = Halts ∷ []
 can_put action.SendEvent = Sends ∷ []
 can_put action.TestVariable = Tells event.TestEvent ∷ []
 can_put action.SetData = Tells event.ContentAvailable ∷ []
+can_put action.Fork = Tells event.AsyncStopped ∷ []
 can_put _ = []
 
 -- the item is of the piece, where the action is done with these values to the object at the reference
@@ -70,9 +72,17 @@ abbrev pub AreOf : ObjRef → List Value → List Piece → List Item → Type 0
 AreOf r vs ps [] = Unit {0}
 AreOf r vs ps (i ∷ is) = IsOneOf r vs ps i × AreOf r vs ps is
 
+-- all that the action puts, done to this object, where these files are there
+abbrev pub items_put : List File → ActionName → List Value → ObjRef → Object → List Item
+items_put fs action.SetData vs r o = load_items fs vs r (Some o)
+items_put fs action.Fork vs r o = call_items action.Fork r
+items_put fs n vs r o = put_items n vs r o
+
 -- what an action puts is of the pieces that it can put
 abbrev pub PutsWhatItCan : Type 0
-PutsWhatItCan = (n : ActionName) (vs : List Value) (r : ObjRef) (o : Object) → AreOf r vs (can_put n) (put_items n vs r o)
+PutsWhatItCan =
+    (fs : List File) (n : ActionName) (vs : List Value) (r : ObjRef) (o : Object) →
+    AreOf r vs (can_put n) (items_put fs n vs r o)
 
 -- What an action says
 
@@ -113,19 +123,19 @@ kinds (item.Emit e ∷ is) = e.kind ∷ kinds is
 kinds (i ∷ is) = kinds is
 
 -- the events that the item's rule emits of this object
-abbrev pub emits_of : ObjRef → Object → Item → List EventType
-emits_of r o (item.Prepare x) = kinds (prepare_items r (Some o))
-emits_of r o (item.Run x) = kinds (run_items r (Some o))
-emits_of r o (item.Halt x) = kinds (halt_items r (Some o))
-emits_of r o (item.RunMember x) = kinds (run_items r (Some o))
-emits_of r o (item.HaltMember x) = kinds (halt_items r (Some o))
-emits_of r o (item.Drop x) = kinds (drop_items r (Some o))
-emits_of r o (item.Emit e) = e.kind ∷ []
-emits_of r o i = []
+abbrev pub emits_of : List File → ObjRef → Object → Item → List EventType
+emits_of fs r o (item.Prepare x) = kinds (prepare_items fs r (Some o))
+emits_of fs r o (item.Run x) = kinds (run_items fs r (Some o))
+emits_of fs r o (item.Halt x) = kinds (halt_items r (Some o))
+emits_of fs r o (item.RunMember x) = kinds (run_items fs r (Some o))
+emits_of fs r o (item.HaltMember x) = kinds (halt_items r (Some o))
+emits_of fs r o (item.Drop x) = kinds (drop_items r (Some o))
+emits_of fs r o (item.Emit e) = e.kind ∷ []
+emits_of fs r o i = []
 
 -- the events that come of the action, done to this object
-abbrev pub events_put : ActionName → List Value → ObjRef → Object → List EventType
-events_put n vs r o = flat_map (emits_of r o) (put_items n vs r o)
+abbrev pub events_put : List File → ActionName → List Value → ObjRef → Object → List EventType
+events_put fs n vs r o = flat_map (emits_of fs r o) (items_put fs n vs r o)
 
 -- an event of this type is among these
 abbrev pub is_listed : List EventType → EventType → Bool
@@ -134,15 +144,15 @@ is_listed es e = list_any (λ x. number_of x == number_of e) es
 -- each event that comes of an action is one that the table lists for it
 abbrev pub EmitsWhatIsListed : Type 0
 EmitsWhatIsListed =
-    (n : ActionName) (vs : List Value) (r : ObjRef) (o : Object) → admits o.fixed.class n ≡ true →
-    list_all (is_listed (may_emit n o.fixed.class)) (events_put n vs r o) ≡ true
+    (fs : List File) (n : ActionName) (vs : List Value) (r : ObjRef) (o : Object) → admits o.fixed.class n ≡ true →
+    list_all (is_listed (may_emit n o.fixed.class)) (events_put fs n vs r o) ≡ true
 
 -- with some values and some object of the class the event comes of the action
 pub record IsEmitted (n : ActionName) (c : Class) (e : EventType) : Type 0 where
   pub values : List Value
   pub object : Object
   pub class : object.fixed.class ≡ c
-  pub comes : is_listed (events_put n values object.fixed.key object) e ≡ true
+  pub comes : is_listed (events_put [] n values object.fixed.key object) e ≡ true
 
 -- what becomes available and runs, perhaps with content, and emits no more than that
 

@@ -9,11 +9,11 @@ use Rattle.mh_model.specs.Bodies.{prepared, started, halted, dropped, given, put
 abbrev pub edited : Edit → Fixed → Body → Body
 edited (edit.Give v) p b = given v b
 edited (edit.Put a h) p b = put a h b
-edited (edit.Load v) p b = replaced v p b
+edited (edit.Load v text) p b = replaced v text b
 edited (edit.Draw d) p b = record b { drawings = b.drawings ++ d ∷ [] }
 edited edit.Clear p b = cleared b
-edited edit.Prepare p b = prepared p b
-edited edit.Start p b = started p b
+edited (edit.Prepare text) p b = prepared text b
+edited (edit.Start text) p b = started text b
 edited edit.Halt p b = halted b
 edited edit.Drop p b = dropped b
 

@@ -72,7 +72,7 @@ link n = record {
 
 -- the link moves the object with this number
 abbrev pub service_moving : ℕ → Service
-service_moving n = record { groups = (a, application ∷ []) ∷ (s, scene ∷ rectangle ∷ link n ∷ []) ∷ []; start = a }
+service_moving n = record { groups = (a, application ∷ []) ∷ (s, scene ∷ rectangle ∷ link n ∷ []) ∷ []; start = a; programs = [] }
 
 abbrev pub service : Service
 service = service_moving 10
@@ -83,7 +83,7 @@ steps n = replicate n move.Step
 
 -- the state when it has settled, and when it has settled again after the red key
 unfoldable pub settled : State
-settled = run (steps 11) (begun service)
+settled = run (steps 11) (begun service 60000)
 
 unfoldable pub moved_on : State
 moved_on = run (move.Post (input.Key key.Red) ∷ steps 2) settled
@@ -110,15 +110,15 @@ pub record PlaysFirst : Type 0 where
 -- An application that does nothing: 2 steps.
 
 abbrev pub empty_service : Service
-empty_service = record { groups = (a, record application { properties = [] } ∷ []) ∷ []; start = a }
+empty_service = record { groups = (a, record application { properties = [] } ∷ []) ∷ []; start = a; programs = [] }
 
 unfoldable pub rested : State
-rested = run (steps 2) (begun empty_service)
+rested = run (steps 2) (begun empty_service 60000)
 
 -- The same example, where the link names object 99, which is not there: a fault, and nothing moves.
 
 unfoldable pub missed : State
-missed = run (move.Post (input.Key key.Red) ∷ steps 2) (run (steps 11) (begun (service_moving 99)))
+missed = run (move.Post (input.Key key.Red) ∷ steps 2) (run (steps 11) (begun (service_moving 99) 60000))
 
 abbrev pub nothing_there : Fault
 nothing_there = record { what = fault.Absent; action = action.SetPosition; at = record { group = s; number = 99 } }

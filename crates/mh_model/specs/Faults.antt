@@ -1,6 +1,6 @@
 -- What is wrong with an action. Its places are looked at in the order in which they are written: its target,
 -- then its parameters, by what the table says that it needs; a variable comes before what it holds.
-use Rattle.std.specs.Prelude.{ℕ, Bool, true, false, ◌&&◌, ◌==◌, nat_lt, if◌then◌else◌, List, [], ◌∷◌, ◌++◌, Option, Some, None, ℤ}
+use Rattle.std.specs.Prelude.{ℕ, Bool, true, false, ◌&&◌, ◌==◌, nat_lt, if◌then◌else◌, List, [], ◌∷◌, ◌++◌, drop, Option, Some, None, ℤ}
 use Rattle.std.specs.Option.{option_map_or}
 use Rattle.mh_base.specs.declared.obj_ref.ObjRef.{ObjRef}
 use Rattle.mh_base.specs.declared.value.Kind.{Kind}
@@ -20,7 +20,9 @@ use Rattle.mh_model.specs.declared.act.Target.TheVariants as target
 use Rattle.mh_model.specs.declared.fault.Fault.{Fault}
 use Rattle.mh_model.specs.declared.fault.FaultKind.{FaultKind}
 use Rattle.mh_model.specs.declared.fault.FaultKind.TheVariants as fault
+use Rattle.mh_model.specs.declared.program.Param.{Param}
 use Rattle.mh_model.specs.Known.{Known}
+use Rattle.mh_model.specs.Programs.{fits_params}
 use Rattle.mh_model.specs.Variables.{variable_kind, kind_of, same_kind, converts, is_operator}
 
 -- the action leads to a group
@@ -137,6 +139,34 @@ typed_faults k a (argument.Through v (Some u)) =
 typed_faults k a (argument.Through v None) = wrong fault.WrongKind a.name v
 typed_faults k a (argument.Receiver v) = wrong fault.WrongKind a.name v
 
+-- Programs. A call that does not fit names the program, at the target's place.
+
+abbrev pub is_call : ActionName → Bool
+is_call action.Call = true
+is_call action.Fork = true
+is_call _ = false
+
+-- what a call passes follows the variable that is told whether it went well
+abbrev pub passed : List Argument → List Argument
+passed xs = drop 1 xs
+
+abbrev pub calls_well : Option (List Param) → List Argument → Bool
+calls_well None xs = false
+calls_well (Some ps) xs = fits_params ps xs
+
+abbrev pub call_faults : Known → Act → ObjRef → List Fault
+call_faults k a r = unless (calls_well (k.takes r) (passed a.arguments)) fault.WrongKind a.name r
+
+abbrev pub called_faults : Known → Act → List Fault
+called_faults k a = if is_call a.name then faults_behind (call_faults k a) (target_at k a.target) else []
+
+-- a variable that is passed is of the kind that is written
+abbrev pub passed_faults : Known → Act → Argument → List Fault
+passed_faults k a (argument.Direct v) = []
+passed_faults k a (argument.Through v (Some u)) = variable_faults (same_kind u) a.name v (k.class_of v)
+passed_faults k a (argument.Through v None) = wrong fault.WrongKind a.name v
+passed_faults k a (argument.Receiver v) = wrong fault.WrongKind a.name v
+
 -- Operators. The variable that is tested has to have it; one of which nothing is known is wrong.
 
 abbrev pub unfit_through : Known → Act → ObjRef → Option ℤ → List Fault
@@ -167,7 +197,7 @@ is_content_kind t = if same_kind t kind.Octets then true else same_kind t kind.C
 abbrev pub is_data_kind : Kind → Bool
 is_data_kind t = if same_kind t kind.Bool then true else same_kind t kind.Int
 
--- what is wrong with an argument, by what is needed there; what a program is called with is not looked at yet
+-- what is wrong with an argument, by what is needed there
 abbrev pub argument_faults : Known → Act → Need → Argument → List Fault
 argument_faults k a need.Bool x = value_faults (same_kind kind.Bool) k a x
 argument_faults k a need.Int x = integer_faults k a x
@@ -178,16 +208,22 @@ argument_faults k a need.Data x = value_faults is_data_kind k a x
 argument_faults k a need.Event x = value_faults (same_kind kind.Int) k a x
 argument_faults k a (need.Receiver t) x = receiver_faults t k a x
 argument_faults k a need.Typed x = typed_faults k a x
-argument_faults k a need.Arguments x = []
+argument_faults k a need.Arguments x = passed_faults k a x
+
+-- what is needed behind a parameter: all the rest is what a program is called with
+abbrev pub needs_behind : Need → List Need → List Need
+needs_behind need.Arguments ns = need.Arguments ∷ []
+needs_behind n ns = ns
 
 abbrev pub arguments_faults : Known → Act → List Need → List Argument → List Fault
 arguments_faults k a [] xs = []
 arguments_faults k a (n ∷ ns) [] = []
-arguments_faults k a (n ∷ ns) (x ∷ xs) = argument_faults k a n x ++ arguments_faults k a ns xs
+arguments_faults k a (n ∷ ns) (x ∷ xs) = argument_faults k a n x ++ arguments_faults k a (needs_behind n ns) xs
 
 -- all that is wrong with the action, in written order
 abbrev pub faults : Known → Act → List Fault
-faults k a = target_faults k a.name a.target ++ arguments_faults k a (needs_of a.name) a.arguments
+faults k a =
+    target_faults k a.name a.target ++ called_faults k a ++ arguments_faults k a (needs_of a.name) a.arguments
 
 -- What is absent goes before a wrong class, and that before a wrong kind; of each the first is named.
 

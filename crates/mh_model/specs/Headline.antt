@@ -1,6 +1,7 @@
 -- The headline: from an acceptable service nothing ever goes wrong.
-use Rattle.std.specs.Prelude.{◌≡◌, List, [], slice_get, Option, Some, None}
+use Rattle.std.specs.Prelude.{◌≡◌, ℕ, List, [], slice_get, Option, Some, None}
 use Rattle.mh_model.specs.declared.fault.Fault.{Fault}
+use Rattle.mh_model.specs.declared.file.File.{File}
 use Rattle.mh_model.specs.declared.input.Move.{Move}
 use Rattle.mh_model.specs.declared.item.Item.{Item}
 use Rattle.mh_model.specs.Service.{Service}
@@ -22,6 +23,12 @@ pub record IsFaultless (s : State) : Type 0 where
   pub front : front_fault s ≡ None
   pub faults : s.faults ≡ []
 
--- from an acceptable service no state of any run is stuck, whatever the moves
+-- the state from which a run begins with these files there
+abbrev pub begun_with : Service → ℕ → List File → State
+begun_with v mjd fs = record (begun v mjd) { files = fs }
+
+-- from an acceptable service no state of any run is stuck, whatever the day, the files that are there and the moves
 abbrev pub NeverStuck : Type 0
-NeverStuck = (v : Service) → IsAcceptable v → (ms : List Move) → IsFaultless (run ms (begun v))
+NeverStuck =
+    (v : Service) → IsAcceptable v → (mjd : ℕ) (fs : List File) (ms : List Move) →
+    IsFaultless (run ms (begun_with v mjd fs))

@@ -1,5 +1,5 @@
 -- What is known where an action is judged: in a state all of it, beforehand less.
-use Rattle.std.specs.Prelude.{List, Option, Some, None, ℤ}
+use Rattle.std.specs.Prelude.{ℕ, if◌then◌else◌, List, Option, Some, None, option_and_then, ℤ}
 use Rattle.std.specs.Option.{option_map}
 use Rattle.mh_base.specs.declared.obj_ref.ObjRef.{ObjRef}
 use Rattle.mh_base.specs.declared.value.Value.{Value}
@@ -8,7 +8,12 @@ use Rattle.mh_group.specs.declared.class.Class.{Class}
 use Rattle.mh_model.specs.declared.object.Fixed.{Fixed}
 use Rattle.mh_model.specs.declared.object.Object.{Object}
 use Rattle.mh_model.specs.Arguments.{held_by}
-use Rattle.mh_model.specs.Property.{as_reference}
+use Rattle.mh_group.specs.declared.attribute.Attribute.TheVariants as attribute
+use Rattle.mh_group.specs.Table.{is_resident_program}
+use Rattle.mh_model.specs.declared.program.Param.{Param}
+use Rattle.mh_model.specs.declared.program.Signature.{Signature}
+use Rattle.mh_model.specs.Programs.{params_for}
+use Rattle.mh_model.specs.Property.{held, as_value, as_octets, as_reference}
 use Rattle.mh_model.specs.Service.{Service, part_at, object_at, parts, group_parts}
 
 pub record Known : Type 0 where
@@ -20,6 +25,18 @@ pub record Known : Type 0 where
   pub refers : ObjRef → Option ObjRef
   -- the number that a variable holds
   pub number : ObjRef → Option ℤ
+  -- the parameters of a program
+  pub takes : ObjRef → Option (List Param)
+
+-- the name of a program
+abbrev pub program_name : Fixed → Option (List ℕ)
+program_name p =
+    if is_resident_program p.class then Some (as_octets (as_value (held attribute.Name p.properties))) else None
+
+-- the parameters of a program, where these stand beside the built-in ones
+abbrev pub params_in : List Signature → Option Fixed → Option (List Param)
+params_in ss None = None
+params_in ss (Some p) = option_and_then (params_for ss) (program_name p)
 
 abbrev pub class_at : ObjRef → List Fixed → Option Class
 class_at r ps = option_map (λ p. p.class) (part_at r ps)
@@ -31,6 +48,7 @@ known_before s ps = record {
   group_class = λ r. class_at r (group_parts s r.group);
   refers = λ v. None;
   number = λ v. None;
+  takes = λ r. params_in s.programs (part_at r ps);
 }
 
 abbrev pub as_integer : Option Value → Option ℤ
@@ -44,4 +62,5 @@ known_in s os = record {
   group_class = λ r. class_at r (group_parts s r.group);
   refers = λ v. as_reference (held_by (object_at v os));
   number = λ v. as_integer (held_by (object_at v os));
+  takes = λ r. params_in s.programs (part_at r (parts os));
 }

@@ -18,6 +18,8 @@ pub mod Lines
 pub mod Layout
 pub mod Drawn
 pub mod Looks
+pub mod Files
+pub mod Programs
 pub mod Bodies
 pub mod Edits
 pub mod Lifecycle
@@ -35,3 +37,4 @@ pub mod Example
 pub mod Computing
 pub mod Showing
 pub mod Passing
+pub mod Handing

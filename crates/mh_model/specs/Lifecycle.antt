@@ -1,5 +1,5 @@
 -- What is put, and what becomes of the display stack, when an object is prepared, runs, stops and is dropped.
-use Rattle.std.specs.Prelude.{Bool, false, ◌&&◌, not, if◌then◌else◌, List, [], ◌∷◌, ◌++◌, filter, Option}
+use Rattle.std.specs.Prelude.{ℕ, Bool, false, ◌&&◌, not, if◌then◌else◌, List, [], ◌∷◌, ◌++◌, filter, Option, Some, None}
 use Rattle.std.specs.Option.{option_map_or, is_some}
 use Rattle.mh_base.specs.declared.obj_ref.ObjRef.{ObjRef}
 use Rattle.mh_base.specs.declared.value.Value.{Value}
@@ -11,7 +11,10 @@ use Rattle.mh_group.specs.declared.action_name.ActionName.TheVariants as action
 use Rattle.mh_group.specs.Table.{is_visible}
 use Rattle.mh_model.specs.declared.item.Item.{Item}
 use Rattle.mh_model.specs.declared.object.Object.{Object}
-use Rattle.mh_model.specs.Bodies.{loaded}
+use Rattle.mh_model.specs.declared.file.File.{File}
+use Rattle.mh_model.specs.declared.file.Wait.{Wait}
+use Rattle.mh_model.specs.Bodies.{loaded, lacking}
+use Rattle.mh_model.specs.Files.{awaited}
 use Rattle.mh_model.specs.Items.{plain_event}
 use Rattle.mh_model.specs.Service.{same_ref, object_at}
 
@@ -32,13 +35,25 @@ is_stopped_at o = option_map_or (λ x. not x.body.running) o false
 abbrev pub is_unprepared_at : Option Object → Bool
 is_unprepared_at o = option_map_or (λ x. not x.body.running && not x.body.available) o false
 
--- the object has content that is loaded when it becomes available
-abbrev pub loads_at : Option Object → Bool
-loads_at o = option_map_or (λ x. is_some (loaded x.fixed x.body)) o false
+-- Content, where these files are there.
 
--- it loads it now
-abbrev pub loads_if : (Option Object → Bool) → Option Object → Bool
-loads_if becomes o = becomes o && loads_at o
+-- what is loaded of the object's content when it becomes available
+abbrev pub loaded_at : List File → Option Object → Option (List ℕ)
+loaded_at fs None = None
+loaded_at fs (Some o) = loaded fs o.fixed o.body
+
+-- the file for which it then waits, if there is one
+abbrev pub lacking_at : List File → Option Object → Option (List ℕ)
+lacking_at fs None = None
+lacking_at fs (Some o) = lacking fs o.fixed o.body
+
+-- its content is loaded now
+abbrev pub loads_if : List File → (Option Object → Bool) → Option Object → Bool
+loads_if fs becomes o = becomes o && is_some (loaded_at fs o)
+
+-- who waits, behind an object that loads now
+abbrev pub waits_if : List File → Bool → ObjRef → Option Object → List Wait → List Wait
+waits_if fs b r o ws = if b then awaited (lacking_at fs o) r ws else ws
 
 abbrev pub is_visible_at : Option Object → Bool
 is_visible_at o = option_map_or (λ x. is_visible x.fixed.class) o false
@@ -48,16 +63,16 @@ abbrev pub emit_if : Bool → ObjRef → EventType → List Item
 emit_if b r kind = if b then plain_event r kind ∷ [] else []
 
 -- that it becomes available, if it does, and that its content is there
-abbrev pub rise_items : (Option Object → Bool) → ObjRef → Option Object → List Item
-rise_items becomes r o =
-    emit_if (becomes o) r event.IsAvailable ++ emit_if (loads_if becomes o) r event.ContentAvailable
+abbrev pub rise_items : List File → (Option Object → Bool) → ObjRef → Option Object → List Item
+rise_items fs becomes r o =
+    emit_if (becomes o) r event.IsAvailable ++ emit_if (loads_if fs becomes o) r event.ContentAvailable
 
-abbrev pub prepare_items : ObjRef → Option Object → List Item
-prepare_items r o = rise_items is_unavailable_at r o
+abbrev pub prepare_items : List File → ObjRef → Option Object → List Item
+prepare_items fs r o = rise_items fs is_unavailable_at r o
 
 -- that it became available, if it did, and that it runs
-abbrev pub run_items : ObjRef → Option Object → List Item
-run_items r o = rise_items is_unprepared_at r o ++ emit_if (is_stopped_at o) r event.IsRunning
+abbrev pub run_items : List File → ObjRef → Option Object → List Item
+run_items fs r o = rise_items fs is_unprepared_at r o ++ emit_if (is_stopped_at o) r event.IsRunning
 
 abbrev pub halt_items : ObjRef → Option Object → List Item
 halt_items r o = emit_if (is_running_at o) r event.IsStopped

@@ -67,6 +67,7 @@ with_timers = record {
       )
       ∷ [];
   start = a;
+  programs = [];
 }
 
 -- the number that the variable of the scene holds
@@ -74,7 +75,7 @@ abbrev pub held_in : ℕ → State → ℤ
 held_in n x = as_number (held_by (object_at (here n) (all x.objects)))
 
 unfoldable pub entered : State
-entered = run (steps 20) (begun with_timers)
+entered = run (steps 20) (begun with_timers 60000)
 
 unfoldable pub fired : State
 fired = run (move.Post (input.Tick 60000) ∷ steps 14) entered
@@ -88,7 +89,7 @@ abbrev pub streaming : Service
 streaming = service_of (stream ∷ rectangle ∷ link_on 11 (here 8) event.StreamEvent (value.Int (pos 7)) (move_it 10 ∷ []) ∷ [])
 
 unfoldable pub streamed : State
-streamed = run (steps 14) (begun streaming)
+streamed = run (steps 14) (begun streaming 60000)
 
 unfoldable pub told : State
 told = run (move.Post (input.Stream (pos 6)) ∷ move.Post (input.Stream (pos 7)) ∷ steps 5) streamed
@@ -115,10 +116,11 @@ abbrev pub two_scenes : Service
 two_scenes = record {
   groups = (a, first_application ∷ []) ∷ (p, first_scene ∷ on_key ∷ []) ∷ (s, scene ∷ rectangle ∷ link 10 ∷ []) ∷ [];
   start = a;
+  programs = [];
 }
 
 unfoldable pub in_first : State
-in_first = run (steps 8) (begun two_scenes)
+in_first = run (steps 8) (begun two_scenes 60000)
 
 unfoldable pub in_second : State
 in_second = run (move.Post (input.Key key.Red) ∷ move.Post (input.Key key.Red) ∷ steps 15) in_first
@@ -137,10 +139,10 @@ quits = record {
 }
 
 abbrev pub quitting : Service
-quitting = record { groups = (a, record application { properties = [] } ∷ quits ∷ []) ∷ []; start = a }
+quitting = record { groups = (a, record application { properties = [] } ∷ quits ∷ []) ∷ []; start = a; programs = [] }
 
 unfoldable pub near_the_end : State
-near_the_end = run (steps 8) (begun quitting)
+near_the_end = run (steps 8) (begun quitting 60000)
 
 unfoldable pub ended : State
 ended = run (steps 1) near_the_end

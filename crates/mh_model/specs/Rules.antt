@@ -1,5 +1,5 @@
 -- One rule for each item and each action. A rule finds its item taken from the work list.
-use Rattle.std.specs.Prelude.{ℕ, ◌+◌, ◌-◌, ◌==◌, Bool, true, false, if◌then◌else◌, List, [], ◌∷◌, ◌++◌, filter, Option, Some, None}
+use Rattle.std.specs.Prelude.{ℕ, ◌+◌, ◌-◌, ◌==◌, Bool, true, false, if◌then◌else◌, List, [], ◌∷◌, ◌++◌, map, filter, Option, Some, None, unwrap_or, option_and_then}
 use Rattle.std.specs.List.{list_any}
 use Rattle.std.specs.Str.{bytes_eq}
 use Rattle.mh_base.specs.declared.obj_ref.ObjRef.{ObjRef}
@@ -9,6 +9,7 @@ use Rattle.mh_group.specs.Table.{is_application}
 use Rattle.mh_group.specs.declared.action_name.ActionName.{ActionName}
 use Rattle.mh_group.specs.declared.action_name.ActionName.TheVariants as action
 use Rattle.mh_model.specs.declared.act.Act.{Act}
+use Rattle.mh_model.specs.declared.act.Argument.{Argument}
 use Rattle.mh_model.specs.declared.event.Event.{Event}
 use Rattle.mh_model.specs.declared.input.Waiting.{Waiting}
 use Rattle.mh_model.specs.declared.input.Waiting.TheVariants as waiting
@@ -18,20 +19,28 @@ use Rattle.mh_model.specs.declared.object.Body.{Body}
 use Rattle.mh_model.specs.declared.object.Fixed.{Fixed}
 use Rattle.mh_model.specs.declared.object.Object.{Object}
 use Rattle.mh_model.specs.declared.time.Moments.{Moments}
+use Rattle.mh_model.specs.declared.program.Now.{Now}
+use Rattle.mh_model.specs.declared.program.Outcome.{Outcome}
+use Rattle.mh_model.specs.declared.program.Outcome.TheVariants as outcome
+use Rattle.mh_model.specs.declared.program.Param.{Param}
 use Rattle.mh_model.specs.declared.sort.Sort.{Sort}
 use Rattle.mh_model.specs.declared.sort.Sort.TheVariants as sort
 use Rattle.mh_model.specs.First.{change_first}
-use Rattle.mh_model.specs.Service.{same_ref, object_at, group_parts, group_objects, with_parts}
+use Rattle.mh_model.specs.Files.{comes_to, missing, is_loadable, forgotten, awaited}
+use Rattle.mh_model.specs.Faults.{passed}
+use Rattle.mh_model.specs.Known.{program_name, params_in}
+use Rattle.mh_model.specs.Programs.{builtin_named, ins, outs, said_by, outcome_of}
+use Rattle.mh_model.specs.Service.{same_ref, part_at, parts, object_at, group_parts, group_objects, with_parts}
 use Rattle.mh_model.specs.State.{State, Objects, all}
 use Rattle.mh_model.specs.Configuration.{is_group_of}
 use Rattle.mh_model.specs.Items.{heard, entering, leaving, quitting}
 use Rattle.mh_model.specs.Sort.{sort_of}
 use Rattle.mh_model.specs.Arguments.{values, receivers, referred}
-use Rattle.mh_model.specs.Bodies.{prepared, started, halted, dropped, given, changed_by}
-use Rattle.mh_model.specs.Lifecycle.{prepare_items, run_items, halt_items, drop_items, is_available_at, is_unavailable_at, is_unprepared_at, with_risen, without, reordered}
+use Rattle.mh_model.specs.Bodies.{prepared, started, halted, dropped, stored, replaced, brought, changed_by}
+use Rattle.mh_model.specs.Lifecycle.{prepare_items, run_items, halt_items, drop_items, is_available_at, is_unavailable_at, is_unprepared_at, loaded_at, waits_if, with_risen, without, reordered}
 use Rattle.mh_model.specs.Picture.{looked}
 use Rattle.mh_model.specs.Time.{set_timers}
-use Rattle.mh_model.specs.Saying.{answers_at, put_items_at}
+use Rattle.mh_model.specs.Saying.{answers_at, put_items_at, load_items, call_items}
 
 -- A rule changes the body of an object; what its file says of it stays.
 
@@ -50,29 +59,50 @@ changed f r os =
     if list_any (is_at r) os.application then record os { application = changed_in f r os.application }
     else record os { scene = changed_in f r os.scene }
 
+-- the objects with this text, where it is brought to them
+abbrev pub with_text : (ObjRef → Bool) → List ℕ → List Object → List Object
+with_text is text os = map (λ (o : Object). if is o.fixed.key then record o { body = brought text o.body } else o) os
+
+abbrev pub text_brought : (ObjRef → Bool) → List ℕ → Objects → Objects
+text_brought is text os = record {
+  application = with_text is text os.application;
+  scene = with_text is text os.scene;
+}
+
 -- Actions, by what kind of thing they do. Those that are not played yet do nothing.
 
 -- the body of what the action is done to is changed
 abbrev pub change_rule : ActionName → List Value → ObjRef → State → State
 change_rule n vs r s = record s { objects = changed (changed_by n vs) r s.objects }
 
--- each receiver is given its answer, in written order
+-- each receiver is given its answer, in written order; one that is too long is not received
 abbrev pub filled : List ObjRef → List Value → Objects → Objects
 filled [] vs os = os
 filled (r ∷ rs) [] os = os
-filled (r ∷ rs) (v ∷ vs) os = filled rs vs (changed (λ p b. given v b) r os)
+filled (r ∷ rs) (v ∷ vs) os = filled rs vs (changed (λ p b. stored v b) r os)
 
 -- what the action is done to is asked
 abbrev pub ask_rule : ActionName → List Value → List ObjRef → ObjRef → State → State
 ask_rule n vs rs r s =
     record s { objects = filled rs (answers_at n vs (object_at r (all s.objects))) s.objects }
 
--- the body of what it is done to is changed, perhaps, and items are put
+-- items are put
 abbrev pub put_rule : ActionName → List Value → ObjRef → State → State
-put_rule n vs r s = record s {
-  objects = changed (changed_by n vs) r s.objects;
-  work = put_items_at n vs r (object_at r (all s.objects)) ++ s.work;
+put_rule n vs r s = record s { work = put_items_at n vs r (object_at r (all s.objects)) ++ s.work }
+
+-- what it is done to gets new content, which is loaded where it is available
+abbrev pub loaded_with : Value → ObjRef → State → State
+loaded_with v r s = record s {
+  objects = changed (λ p b. replaced v (comes_to s.files v) b) r s.objects;
+  waits =
+      if is_available_at (object_at r (all s.objects)) then awaited (missing s.files v) r s.waits else s.waits;
+  work = load_items s.files (v ∷ []) r (object_at r (all s.objects)) ++ s.work;
 }
+
+-- what is too long changes nothing
+abbrev pub load_rule : List Value → ObjRef → State → State
+load_rule (v ∷ []) r s = if is_loadable v then loaded_with v r s else s
+load_rule vs r s = s
 
 -- an object that is available is moved in the display stack
 abbrev pub order_rule : ActionName → List Value → ObjRef → State → State
@@ -114,6 +144,34 @@ transition_rule n r s = record s {
   work = if s.transition then s.work else way_out n r s;
 }
 
+-- Programs. The variable that is written first is told whether the call went well; what it answers goes into those
+-- that are passed for it.
+
+abbrev pub called : Outcome → ActionName → List Param → List Argument → ObjRef → State → State
+called said n ps xs r s = record s {
+  objects = filled (receivers xs ++ outs ps (passed xs)) (said_by said) s.objects;
+  work = call_items n r ++ s.work;
+}
+
+-- the day on which the engine began, and the present moment
+abbrev pub now_of : State → Now
+now_of s = record { mjd = s.mjd; moment = s.moments.present }
+
+-- what the program that is found does, called so
+abbrev pub outcome_at : Option Fixed → List Param → List Argument → State → Outcome
+outcome_at None ps xs s = outcome.Failed
+outcome_at (Some p) ps xs s =
+    outcome_of (option_and_then builtin_named (program_name p)) (now_of s) (values (all s.objects) (ins ps (passed xs)))
+
+abbrev pub called_with : Option Fixed → List Param → ActionName → List Argument → ObjRef → State → State
+called_with p ps n xs r s = called (outcome_at p ps xs s) n ps xs r s
+
+-- the program at the reference is called
+abbrev pub call_rule : ActionName → List Argument → ObjRef → State → State
+call_rule n xs r s =
+    called_with (part_at r (parts (all s.objects)))
+    (unwrap_or (params_in s.service.programs (part_at r (parts (all s.objects)))) []) n xs r s
+
 -- what is a matter of the whole machine
 abbrev pub whole_rule : ActionName → List Value → ObjRef → State → State
 whole_rule action.TransitionTo vs r s = transition_rule action.TransitionTo r s
@@ -124,22 +182,24 @@ whole_rule action.UnlockScreen vs r s = unlocked s
 whole_rule action.SetTimer vs r s = timer_rule vs r s
 whole_rule _ vs r s = s
 
-abbrev pub rule_by : Sort → ActionName → List Value → List ObjRef → ObjRef → State → State
-rule_by sort.Change n vs rs r s = change_rule n vs r s
-rule_by sort.Ask n vs rs r s = ask_rule n vs rs r s
-rule_by sort.Put n vs rs r s = put_rule n vs r s
-rule_by sort.Order n vs rs r s = order_rule n vs r s
-rule_by sort.Whole n vs rs r s = whole_rule n vs r s
+-- an action, done with these arguments to the object at the reference
+abbrev pub rule_by : Sort → ActionName → List Argument → ObjRef → State → State
+rule_by sort.Change n xs r s = change_rule n (values (all s.objects) xs) r s
+rule_by sort.Ask n xs r s = ask_rule n (values (all s.objects) xs) (receivers xs) r s
+rule_by sort.Put n xs r s = put_rule n (values (all s.objects) xs) r s
+rule_by sort.Load n xs r s = load_rule (values (all s.objects) xs) r s
+rule_by sort.Call n xs r s = call_rule n xs r s
+rule_by sort.Order n xs r s = order_rule n (values (all s.objects) xs) r s
+rule_by sort.Widget n xs r s = s
+rule_by sort.Whole n xs r s = whole_rule n (values (all s.objects) xs) r s
 
 -- an action whose target comes to nothing does nothing
-abbrev pub act_on : Option ObjRef → ActionName → List Value → List ObjRef → State → State
-act_on None n vs rs s = s
-act_on (Some r) n vs rs s = rule_by (sort_of n) n vs rs r s
+abbrev pub act_on : Option ObjRef → ActionName → List Argument → State → State
+act_on None n xs s = s
+act_on (Some r) n xs s = rule_by (sort_of n) n xs r s
 
 abbrev pub act_rule : Act → State → State
-act_rule a s =
-    act_on (referred a.target (all s.objects)) a.name (values (all s.objects) a.arguments)
-    (receivers a.arguments) s
+act_rule a s = act_on (referred a.target (all s.objects)) a.name a.arguments s
 
 -- Items
 
@@ -166,13 +226,14 @@ abbrev pub stays : List ℕ → Waiting → Bool
 stays application (waiting.Input i) = true
 stays application (waiting.Event e) = bytes_eq e.source.group application
 
--- another scene: the objects, stack places, timers and waiting events of the application stay
+-- another scene: objects, stack places, timers, waiting events and awaited files of the application stay
 abbrev pub scene_exchanged : List ℕ → State → State
 scene_exchanged g s = record s {
   scene = Some g;
   objects = record { application = s.objects.application; scene = group_objects s.service g };
   stack = filter (λ r. bytes_eq r.group s.application) s.stack;
   timers = filter (λ t. bytes_eq t.group s.application) s.timers;
+  waits = filter (λ w. bytes_eq w.object.group s.application) s.waits;
   queue = filter (stays s.application) s.queue;
   transition = false;
   work = item.Enter g ∷ s.work;
@@ -186,6 +247,7 @@ application_exchanged g s = record s {
   objects = record { application = group_objects s.service g; scene = [] };
   stack = [];
   timers = [];
+  waits = [];
   queue = filter is_input s.queue;
   transition = false;
   work = item.Enter g ∷ s.work;
@@ -197,9 +259,11 @@ exchange_rule g s =
 
 abbrev pub run_rule : ObjRef → State → State
 run_rule r s = record s {
-  objects = changed started r s.objects;
+  objects = changed (λ p b. started (loaded_at s.files (object_at r (all s.objects))) b) r s.objects;
+  waits =
+      waits_if s.files (is_unprepared_at (object_at r (all s.objects))) r (object_at r (all s.objects)) s.waits;
   stack = with_risen (is_unprepared_at (object_at r (all s.objects))) r (object_at r (all s.objects)) s.stack;
-  work = run_items r (object_at r (all s.objects)) ++ s.work;
+  work = run_items s.files r (object_at r (all s.objects)) ++ s.work;
 }
 
 abbrev pub halt_rule : ObjRef → State → State
@@ -211,9 +275,11 @@ halt_rule r s = record s {
 abbrev pub rule : Item → State → State
 rule (item.Act a) s = act_rule a s
 rule (item.Prepare r) s = record s {
-  objects = changed prepared r s.objects;
+  objects = changed (λ p b. prepared (loaded_at s.files (object_at r (all s.objects))) b) r s.objects;
+  waits =
+      waits_if s.files (is_unavailable_at (object_at r (all s.objects))) r (object_at r (all s.objects)) s.waits;
   stack = with_risen (is_unavailable_at (object_at r (all s.objects))) r (object_at r (all s.objects)) s.stack;
-  work = prepare_items r (object_at r (all s.objects)) ++ s.work;
+  work = prepare_items s.files r (object_at r (all s.objects)) ++ s.work;
 }
 rule (item.Run r) s = run_rule r s
 rule (item.Halt r) s = halt_rule r s
@@ -222,6 +288,7 @@ rule (item.HaltMember r) s = halt_rule r s
 rule (item.Drop r) s = record s {
   objects = changed (λ p b. dropped b) r s.objects;
   stack = without r s.stack;
+  waits = forgotten r s.waits;
   work = drop_items r (object_at r (all s.objects)) ++ s.work;
 }
 rule (item.Emit e) s = emitted e s

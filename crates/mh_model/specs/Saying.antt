@@ -1,5 +1,6 @@
 -- What an action says: the answers for its receivers, and the items that it puts.
 use Rattle.std.specs.Prelude.{◌&&◌, if◌then◌else◌, List, [], ◌∷◌, slice_get, Option, Some, None, ℤ, pos, negsuc}
+use Rattle.std.specs.Option.{is_some}
 use Rattle.mh_base.specs.declared.obj_ref.ObjRef.{ObjRef}
 use Rattle.mh_base.specs.declared.value.Value.{Value}
 use Rattle.mh_base.specs.declared.value.Value.TheVariants as value
@@ -14,7 +15,10 @@ use Rattle.mh_model.specs.declared.item.Item.TheVariants as item
 use Rattle.mh_model.specs.declared.object.Object.{Object}
 use Rattle.mh_model.specs.declared.operator.Operator.{Operator}
 use Rattle.mh_model.specs.Bodies.{text_of}
-use Rattle.mh_model.specs.Lifecycle.{emit_if}
+use Rattle.mh_model.specs.declared.file.File.{File}
+use Rattle.mh_model.specs.Files.{comes_to, is_loadable}
+use Rattle.mh_model.specs.Items.{plain_event}
+use Rattle.mh_model.specs.Lifecycle.{emit_if, is_available_at}
 use Rattle.mh_model.specs.Property.{read, as_pair, value_held}
 use Rattle.mh_model.specs.Variables.{fits_octets, operator_of, test}
 
@@ -65,9 +69,18 @@ put_items action.Activate vs r o = item.Run r ∷ []
 put_items action.Deactivate vs r o = item.Halt r ∷ []
 put_items action.SendEvent (value.Object source ∷ value.Int kind ∷ more) r o = sent source (event_numbered kind) more
 put_items action.TestVariable (value.Int n ∷ v ∷ []) r o = tested r (operator_of n) (value_held o.fixed o.body) v
-put_items action.SetData (value.Octets os ∷ []) r o =
-    emit_if (o.body.available && fits_octets os) r event.ContentAvailable
 put_items _ vs r o = []
+
+-- that new content is there, of an object that is available, where these files are
+abbrev pub load_items : List File → List Value → ObjRef → Option Object → List Item
+load_items fs (v ∷ []) r o =
+    emit_if (is_loadable v && is_available_at o && is_some (comes_to fs v)) r event.ContentAvailable
+load_items fs vs r o = []
+
+-- that a program that was started beside the rest has stopped
+abbrev pub call_items : ActionName → ObjRef → List Item
+call_items action.Fork r = plain_event r event.AsyncStopped ∷ []
+call_items _ r = []
 
 abbrev pub put_items_at : ActionName → List Value → ObjRef → Option Object → List Item
 put_items_at n vs r None = []

@@ -6,11 +6,14 @@ use Rattle.std.specs.Str.{bytes_eq}
 use Rattle.mh_base.specs.declared.obj_ref.ObjRef.{ObjRef}
 use Rattle.mh_model.specs.declared.object.Fixed.{Fixed}
 use Rattle.mh_model.specs.declared.object.Object.{Object}
+use Rattle.mh_model.specs.declared.program.Signature.{Signature}
 
--- a finite map from the names of groups to what they say of their objects, and the application to start with
+-- a finite map from the names of groups to what they say of their objects, and the application to start with;
+-- and the programs that the receiver has for it besides the built-in ones
 pub record Service : Type 0 where
   pub groups : List (List ℕ × List Fixed)
   pub start : List ℕ
+  pub programs : List Signature
 
 abbrev pub same_ref : ObjRef → ObjRef → Bool
 same_ref a b = bytes_eq a.group b.group && a.number == b.number

@@ -6,6 +6,8 @@ use Rattle.mh_model.specs.declared.item.Item.{Item}
 use Rattle.mh_model.specs.declared.item.Item.TheVariants as item
 use Rattle.mh_model.specs.declared.input.Waiting.{Waiting}
 use Rattle.mh_model.specs.declared.fault.Fault.{Fault}
+use Rattle.mh_model.specs.declared.file.File.{File}
+use Rattle.mh_model.specs.declared.file.Wait.{Wait}
 use Rattle.mh_model.specs.declared.time.Moments.{Moments}
 use Rattle.mh_model.specs.declared.time.Timer.{Timer}
 use Rattle.mh_model.specs.Planes.{Planes, blank}
@@ -48,10 +50,15 @@ pub record State : Type 0 where
   -- the steps taken, and the faults met
   pub taken : ℕ
   pub faults : List Fault
+  -- the content files that are there, and the objects that wait for one
+  pub files : List File
+  pub waits : List Wait
+  -- the modified Julian day on which the engine began
+  pub mjd : ℕ
 
--- the state from which a run begins: the start application is there and about to be entered
-abbrev pub begun : Service → State
-begun s = record {
+-- the state from which a run begins, on a day: the start application is there and about to be entered
+abbrev pub begun : Service → ℕ → State
+begun s mjd = record {
   service = s;
   application = s.start;
   scene = None;
@@ -67,4 +74,7 @@ begun s = record {
   frozen = blank;
   taken = 0;
   faults = [];
+  files = [];
+  waits = [];
+  mjd = mjd;
 }

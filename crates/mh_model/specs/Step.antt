@@ -8,6 +8,8 @@ use Rattle.mh_group.specs.Table.{is_stream}
 use Rattle.mh_base.specs.declared.obj_ref.ObjRef.{ObjRef}
 use Rattle.mh_model.specs.declared.event.Event.{Event}
 use Rattle.mh_model.specs.declared.fault.Fault.{Fault}
+use Rattle.mh_model.specs.declared.file.File.{File}
+use Rattle.mh_model.specs.declared.file.Wait.{Wait}
 use Rattle.mh_model.specs.declared.input.Input.{Input}
 use Rattle.mh_model.specs.declared.input.Input.TheVariants as input
 use Rattle.mh_model.specs.declared.input.Obstacle.{Obstacle}
@@ -25,7 +27,8 @@ use Rattle.mh_model.specs.Service.{object_at, group_ref}
 use Rattle.mh_model.specs.State.{State, all}
 use Rattle.mh_model.specs.Items.{heard}
 use Rattle.mh_model.specs.Stuck.{stuck}
-use Rattle.mh_model.specs.Rules.{rule, is_input}
+use Rattle.mh_model.specs.Files.{with_file, waits_for, arrived, is_too_large, is_too_many}
+use Rattle.mh_model.specs.Rules.{rule, text_brought, is_input}
 use Rattle.mh_model.specs.Time.{most_moment, is_due, due, timer_event}
 
 -- Taking. What is taken has left the queue, and the step is counted; the work list is empty.
@@ -72,6 +75,25 @@ stream_event n o = record { source = o.fixed.key; kind = event.StreamEvent; «da
 abbrev pub streams_told : ℤ → State → List Waiting
 streams_told n s = map (λ o. waiting.Event (stream_event n o)) (filter is_streaming (all s.objects))
 
+-- a file is there; the objects that wait for it have its content as their text, and each has an event that waits
+
+abbrev pub is_waiting : List ℕ → List Wait → Object → Bool
+is_waiting name ws o = waits_for name ws o.fixed.key
+
+abbrev pub content_event : Object → Event
+content_event o = record { source = o.fixed.key; kind = event.ContentAvailable; «data» = None }
+
+abbrev pub contents_told : List ℕ → State → List Waiting
+contents_told name s = map (λ o. waiting.Event (content_event o)) (filter (is_waiting name s.waits) (all s.objects))
+
+abbrev pub file_taken : File → State → State
+file_taken f s = record s {
+  objects = text_brought (waits_for f.name s.waits) f.content s.objects;
+  queue = s.queue ++ contents_told f.name s;
+  files = with_file f s.files;
+  waits = arrived f.name s.waits;
+}
+
 -- what becomes of the state when this is taken
 abbrev pub taking : Waiting → State → State
 taking (waiting.Event e) s = record s { work = heard e (all s.objects) }
@@ -80,6 +102,7 @@ taking (waiting.Input (input.Tick n)) s = ticked n s
 taking (waiting.Input (input.Stream n)) s = record s { queue = s.queue ++ streams_told n s }
 taking (waiting.Input (input.Engine n)) s =
     record s { work = heard (engine_event n s.application) (all s.objects) }
+taking (waiting.Input (input.Arrive f)) s = file_taken f s
 
 -- taking the first that waits in the queue
 abbrev pub took : Waiting → State → State
@@ -145,6 +168,29 @@ time_of _ = 0
 abbrev pub time_ahead : List Waiting → ℕ
 time_ahead ws = sum_by time_of ws
 
+-- the files that will be there when all that waits is taken
+
+abbrev pub file_in : Waiting → Option File
+file_in (waiting.Input (input.Arrive f)) = Some f
+file_in _ = None
+
+abbrev pub stored_by : Option File → List File → List File
+stored_by None fs = fs
+stored_by (Some f) fs = with_file f fs
+
+abbrev pub files_ahead : List File → List Waiting → List File
+files_ahead fs [] = fs
+files_ahead fs (w ∷ ws) = files_ahead (stored_by (file_in w) fs) ws
+
+-- a file that is too large, and one for whose name there is no room
+abbrev pub is_over_size : Input → Bool
+is_over_size (input.Arrive f) = is_too_large f
+is_over_size _ = false
+
+abbrev pub is_over_number : Input → State → Bool
+is_over_number (input.Arrive f) s = is_too_many f (files_ahead s.files s.queue)
+is_over_number _ s = false
+
 -- a tick would lead past the last moment
 abbrev pub is_past_the_last : Input → State → Bool
 is_past_the_last (input.Tick n) s = not (nat_le (s.moments.present + time_ahead s.queue + n) most_moment)
@@ -155,8 +201,10 @@ abbrev pub obstacle : Input → State → Option Obstacle
 obstacle i s =
     if s.ended then Some refused.Ended
     else (if not (is_in_range i) then Some refused.TickRange
+    else (if is_over_size i then Some refused.TooLarge
+    else (if is_over_number i s then Some refused.TooMany
     else (if is_past_the_last i s then Some refused.ClockFull
-    else (if is_full s then Some refused.QueueFull else None)))
+    else (if is_full s then Some refused.QueueFull else None)))))
 
 abbrev pub posted_by : Option Obstacle → Input → State → State
 posted_by None i s = record s { queue = s.queue ++ waiting.Input i ∷ [] }
@@ -165,6 +213,21 @@ posted_by (Some o) i s = s
 -- a post adds one input at the end of the queue, or is refused and changes nothing
 abbrev pub posted : Input → State → State
 posted i s = posted_by (obstacle i s) i s
+
+-- Before the first post and the first step, files can be put there.
+
+abbrev pub has_begun : State → Bool
+has_begun s = not (s.taken == 0) || not (is_empty s.queue)
+
+-- why a file is not put there, if it is not: the first of these
+abbrev pub preset_obstacle : File → State → Option Obstacle
+preset_obstacle f s =
+    if has_begun s then Some refused.Begun
+    else (if is_too_large f then Some refused.TooLarge
+    else (if is_over_number (input.Arrive f) s then Some refused.TooMany else None))
+
+abbrev pub preset : File → State → State
+preset f s = record s { files = with_file f s.files }
 
 -- the most steps that are counted
 abbrev pub most_steps : ℕ

@@ -35,6 +35,16 @@ pub enum Argument {
     Receiver(ObjRef),
 }
 
+/// What a program is called with: all that follows the variable which is told how the call went.
+pub fn passed(arguments: &[Argument]) -> &[Argument]
+    ensures { result.now ≡ spec.passed arguments.now }
+{
+    match arguments {
+        [] => arguments,
+        [_, behind @ ..] => behind,
+    }
+}
+
 /// An elementary action (ISO/IEC 13522-5, ElementaryAction) whose names are resolved.
 #[derive(Clone, Drop)]
 pub struct Act {

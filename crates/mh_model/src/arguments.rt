@@ -5,6 +5,7 @@ ghost use Rattle.std.specs.Prelude.{◌≡◌};
 ghost use Rattle.mh_model.specs.Faults as spec;
 ghost use Rattle.mh_model.specs.Faults.{least_fault};
 
+use crate::calls::passed_one;
 use crate::fit::{ComparedBy, Fit, GoesWith, OfContent, OfData};
 use crate::kinds::kind_of;
 use crate::known::Known;
@@ -34,13 +35,23 @@ pub(crate) fn arguments<'a, K: Known>(
             return best;
         };
         best = needed(best, known, act, *need, argument);
-        needs = needs_behind;
+        needs = behind(*need, needs_behind);
         arguments = arguments_behind;
     }
     best
 }
 
-/// An argument where this is needed. What a program is called with is not looked at yet.
+/// What is needed behind this.
+fn behind(need: Need, needs: &[Need]) -> &[Need]
+    ensures { result.now ≡ spec.needs_behind need needs.now }
+{
+    match need {
+        Need::Arguments => &[Need::Arguments],
+        _ => needs,
+    }
+}
+
+/// An argument where this is needed.
 fn needed<'a, K: Known>(
     best: Best<'a>,
     known: &'a K,
@@ -61,7 +72,7 @@ fn needed<'a, K: Known>(
         Need::Event => value(best, known, act, &Kind::Int, argument),
         Need::Receiver(kind) => receiver(best, known, act, kind, argument),
         Need::Typed => typed(best, known, act, argument),
-        Need::Arguments => best,
+        Need::Arguments => passed_one(best, known, act, argument),
     }
 }
 

@@ -1,7 +1,6 @@
 //! What is changed of the body of an object.
-ghost use Rattle.std.specs.Prelude.{◌≡◌, OnOk, OnErr, IfOk};
-ghost use Rattle.std.specs.Option.{option_copied};
-ghost use Rattle.mh_model.specs.Bodies.{cleared, dropped, given, included, loaded};
+ghost use Rattle.std.specs.Prelude.{◌≡◌, OnOk, OnErr};
+ghost use Rattle.mh_model.specs.Bodies.{brought, cleared, dropped, given, prepared, replaced, started};
 ghost use Rattle.mh_model.specs.Edits.{edited};
 
 use crate::{Body, Drawing, Fixed, Held};
@@ -17,16 +16,16 @@ pub enum Edit {
     Give(Value),
     /// An attribute gets another value.
     Put(Attribute, Held),
-    /// The content becomes this, and is loaded where the object is available.
-    Load(Value),
+    /// The content becomes this, and this its text where the object is available.
+    Load(Value, Option<Octets>),
     /// This is drawn on top of what was drawn.
     Draw(Drawing),
     /// What was drawn goes.
     Clear,
-    /// The object becomes available, if it is not, and its content is loaded.
-    Prepare,
+    /// The object becomes available, if it is not, with this as its text.
+    Prepare(Option<Octets>),
     /// The object runs; it becomes available, if it did not run.
-    Start,
+    Start(Option<Octets>),
     /// The object stops.
     Halt,
     /// The object is no longer available.
@@ -43,11 +42,11 @@ impl Body {
         match edit {
             Edit::Give(value) => self.give(value),
             Edit::Put(attribute, held) => self.changes.set(attribute, held)?,
-            Edit::Load(content) => return self.load(fixed, content),
+            Edit::Load(content, text) => return self.load(content, text),
             Edit::Draw(drawing) => self.drawings.push(drawing)?,
             Edit::Clear => self.clear(),
-            Edit::Prepare => return self.prepare(fixed),
-            Edit::Start => return self.start(fixed),
+            Edit::Prepare(text) => self.prepare(text),
+            Edit::Start(text) => self.start(text),
             Edit::Halt => self.running = false,
             Edit::Drop => self.forget(),
         }
@@ -61,13 +60,12 @@ impl Body {
         self.value = Some(value);
     }
 
-    fn load(&mut self, fixed: &Fixed, content: Value) -> Result<(), AllocError>
-        ensures done { OnOk result (self.new ≡ edited (Edit.Load content) fixed.now self.old) }
+    fn load(&mut self, content: Value, text: Option<Octets>) -> Result<(), AllocError>
+        ensures done { OnOk result (self.new ≡ replaced content text self.old) }
         ensures kept { OnErr result (self.new ≡ self.old) }
     {
-        let held = Held::Value(content);
-        let text = octets_in(Some(&held), fixed.class.has_content())?;
-        self.changes.set(Attribute::OrigContent, held)?;
+        self.changes
+            .set(Attribute::OrigContent, Held::Value(content))?;
         if self.available {
             self.text = text;
         }
@@ -80,26 +78,29 @@ impl Body {
         self.drawings.clear();
     }
 
-    fn prepare(&mut self, fixed: &Fixed) -> Result<(), AllocError>
-        ensures done { OnOk result (self.new ≡ edited Edit.Prepare fixed.now self.old) }
-        ensures kept { OnErr result (self.new ≡ self.old) }
+    fn prepare(&mut self, text: Option<Octets>)
+        ensures { self.new ≡ prepared text self.old }
     {
         if !self.available {
-            self.text = self.content(fixed)?;
+            self.text = text;
             self.available = true;
         }
-        Ok(())
     }
 
-    fn start(&mut self, fixed: &Fixed) -> Result<(), AllocError>
-        ensures done { OnOk result (self.new ≡ edited Edit.Start fixed.now self.old) }
-        ensures kept { OnErr result (self.new ≡ self.old) }
+    fn start(&mut self, text: Option<Octets>)
+        ensures { self.new ≡ started text self.old }
     {
         if !self.running {
-            self.prepare(fixed)?;
+            self.prepare(text);
             self.running = true;
         }
-        Ok(())
+    }
+
+    /// Gives it the content of a file as its text. It takes no memory.
+    pub fn bring(&mut self, text: Octets)
+        ensures { self.new ≡ brought text self.old }
+    {
+        self.text = Some(text);
     }
 
     fn forget(&mut self)
@@ -107,24 +108,5 @@ impl Body {
     {
         self.available = false;
         self.text = None;
-    }
-
-    /// What loads when the object becomes available: its content, where that is in the group's file.
-    fn content(&self, fixed: &Fixed) -> Result<Option<Octets>, AllocError>
-        ensures { IfOk result (λ text. text ≡ loaded fixed.now self.now) }
-    {
-        let written = fixed.properties.get(Attribute::OrigContent);
-        let held = self.changes.get(Attribute::OrigContent).or(written);
-        octets_in(held, fixed.class.has_content())
-    }
-}
-
-/// The octets that are held, where the class has content.
-fn octets_in(held: Option<&Held>, has_content: bool) -> Result<Option<Octets>, AllocError>
-    ensures { IfOk result (λ text. text ≡ included (option_copied held.entry) has_content) }
-{
-    match held {
-        Some(Held::Value(Value::Octets(octets))) if has_content => Ok(Some(octets.clone()?)),
-        _ => Ok(None),
     }
 }

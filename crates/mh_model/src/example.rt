@@ -1,6 +1,7 @@
-//! The first example, played by the definitions alone.
+//! Examples, played by the definitions alone.
 ghost use Rattle.mh_model.specs.Computing.{Computes};
 ghost use Rattle.mh_model.specs.Example.{PlaysFirst, PlaysOthers};
+ghost use Rattle.mh_model.specs.Handing.{Hands};
 ghost use Rattle.mh_model.specs.Passing.{Passes};
 ghost use Rattle.mh_model.specs.Showing.{Shows};
 
@@ -32,4 +33,11 @@ pub fn shows()
 /// due, streams, a key that waits while one scene is exchanged for another, and an application that quits.
 pub fn passes()
     ensures { Passes }
+{}
+
+/// The law that the definitions play as their reports say: a text that waits for its content file, and
+/// one whose file was there beforehand; a program that is called, and one that fails. And that they refuse
+/// files as they should, and that the built-in programs answer as they should.
+pub fn hands()
+    ensures { Hands }
 {}

@@ -1,8 +1,8 @@
 //! The headline, as a law over the definitions.
 ghost use Rattle.mh_model.specs.Headline.{NeverStuck};
 
-/// The law that from an acceptable service no state of any run is stuck, whatever keys come and whenever,
-/// and that no fault is met.
+/// The law that from an acceptable service no state of any run is stuck, whatever the day, the files
+/// that are there, and what comes and whenever, and that no fault is met.
 pub fn never_stuck()
     ensures { NeverStuck }
 {}

@@ -1,8 +1,8 @@
 //! What is posted to the machine, and the moves of a run.
-use crate::{Event, Key};
+use crate::{Event, File, Key};
 
 /// What comes from outside.
-#[derive(Clone, Copy, PartialEq, Eq)]
+#[derive(Clone, Drop)]
 pub enum Input {
     Key(Key),
     /// Time passes: so many milliseconds, 1 to 60,000.
@@ -11,6 +11,8 @@ pub enum Input {
     Stream(i32),
     /// An event of the engine with this number (ISO/IEC 13522-5, EngineEvent).
     Engine(i32),
+    /// A content file is there, in the place of an older one of its name.
+    Arrive(File),
 }
 
 /// What waits in the queue until it is taken.
@@ -28,6 +30,12 @@ pub enum Obstacle {
     Ended,
     /// A tick is not of 1 to 60,000 milliseconds.
     TickRange,
+    /// A post was accepted or a step taken, so that no file can be preset.
+    Begun,
+    /// A file has more than 65,535 octets.
+    TooLarge,
+    /// With the names that wait, there would be more than 1,024 files.
+    TooMany,
     /// With the ticks that wait, the present would be past the last moment, 4,294,967,295.
     ClockFull,
     /// As many inputs wait as may.
@@ -35,7 +43,7 @@ pub enum Obstacle {
 }
 
 /// One move of a run.
-#[derive(Clone, Copy, PartialEq, Eq)]
+#[derive(Clone, Drop)]
 pub enum Move {
     Post(Input),
     Step,

@@ -7,9 +7,10 @@ ghost use Rattle.std.specs.Option.{option_copied};
 ghost use Rattle.mh_model.specs.Faults as spec;
 
 use crate::arguments::arguments;
+use crate::calls::called;
 use crate::places::target;
 use crate::wrong::Best;
-use crate::{Act, Fault};
+use crate::{Act, Fault, Param};
 use mh_base::ObjRef;
 use mh_group::Class;
 use std::alloc::AllocError;
@@ -36,6 +37,10 @@ pub trait Known {
     /// The number that a variable holds.
     fn number(&self, variable: &ObjRef) -> Option<i32>
         ensures { result ≡ (known self.now).number variable.now };
+
+    /// The parameters of a program.
+    fn takes(&self, program: &ObjRef) -> Option<&[Param]>
+        ensures { option_copied result ≡ (known self.now).takes program.now };
 }
 
 /// What is wrong with the action, if anything is. Where nothing is wrong it takes no memory.
@@ -53,6 +58,6 @@ pub fn fault_known<K: Known>(known: &K, act: &Act) -> Result<Option<Fault>, Allo
 fn least<'a, K: Known>(known: &'a K, act: &'a Act) -> Best<'a>
     ensures { result ≡ spec.fault_known (K.known known.now) act.now }
 {
-    let best = target(None, known, act);
+    let best = called(target(None, known, act), known, act);
     arguments(best, known, act, act.name.needs(), act.arguments.as_slice())
 }

@@ -11,11 +11,17 @@ pub enum Sort {
     Change,
     /// It asks its target, and fills receivers with the answers.
     Ask,
-    /// It puts items, and may change its target.
+    /// It puts items.
     Put,
+    /// It gives its target new content.
+    Load,
+    /// It calls a program.
+    Call,
     /// It moves its target in the display stack.
     Order,
-    /// It is a matter of the whole machine: the configuration, timers, the lock, interaction, programs.
+    /// It changes a group of objects, a field or a button, and puts items. None is played yet.
+    Widget,
+    /// It is a matter of the whole machine: the configuration, timers, the lock.
     Whole,
 }
 
@@ -69,10 +75,9 @@ pub fn sort_of(name: ActionName) -> Sort
         | ActionName::Quit
         | ActionName::LockScreen
         | ActionName::UnlockScreen
-        | ActionName::TransitionTo
-        | ActionName::Call
-        | ActionName::Fork
-        | ActionName::SetInteractionStatus => Sort::Whole,
+        | ActionName::TransitionTo => Sort::Whole,
+        ActionName::Call | ActionName::Fork => Sort::Call,
+        ActionName::SetData => Sort::Load,
         ActionName::Run
         | ActionName::Stop
         | ActionName::Preload
@@ -80,8 +85,8 @@ pub fn sort_of(name: ActionName) -> Sort
         | ActionName::SendEvent
         | ActionName::Activate
         | ActionName::Deactivate
-        | ActionName::TestVariable
-        | ActionName::SetData
+        | ActionName::TestVariable => Sort::Put,
+        ActionName::SetInteractionStatus
         | ActionName::SetHighlightStatus
         | ActionName::Select
         | ActionName::Deselect
@@ -94,6 +99,6 @@ pub fn sort_of(name: ActionName) -> Sort
         | ActionName::SetFirstItem
         | ActionName::SelectItem
         | ActionName::DeselectItem
-        | ActionName::ToggleItem => Sort::Put,
+        | ActionName::ToggleItem => Sort::Widget,
     }
 }

@@ -5,6 +5,10 @@ pub mod StretchLemmas
 pub mod ChangeLemmas
 pub mod NumberLemmas
 pub mod PostLemmas
+pub mod PresetLemmas
+pub mod ContentLemmas
 pub mod PlayLemmas
+pub mod OpenedLemmas
+pub mod PlainLemmas
 pub mod WrittenLemmas
 pub mod ConvertLemmas

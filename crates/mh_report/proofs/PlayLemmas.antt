@@ -30,7 +30,7 @@ played-none cs s w none = record { counted = omega (arith, none); goes_on = refl
 split : (cs : List Command) (at : ℕ) (d : Command) → at < length cs → drop at cs ≡ get_or cs at d ∷ drop (at + 1) cs
 split cs at d inside = drop-cons cs at d inside ∙ ap (λ (n : ℕ). get_or cs at d ∷ drop n cs) (sym (add-one at))
 
-pub played-one : (cs : List Command) (at : ℕ) (d : Command) (start now next : Session) (before after new : Option (List ℕ)) → IsPlayed cs at start now before after → at < length cs → next ≡ played (get_or cs at d) now → Appends after new (command_lines (get_or cs at d) now) → IsPlayed cs (at + 1) start next before new
+played-one : (cs : List Command) (at : ℕ) (d : Command) (start now next : Session) (before after new : Option (List ℕ)) → IsPlayed cs at start now before after → at < length cs → next ≡ played (get_or cs at d) now → Appends after new (command_lines (get_or cs at d) now) → IsPlayed cs (at + 1) start next before new
 played-one cs at d start now next before after new so inside step wrote = record {
   counted = subst (λ (s : Session). s.frames ≤ at + 1) (sym step) (omega (arith, frames-played (get_or cs at d) now, so.counted));
   goes_on = ap (ended (drop (at + 1) cs)) step ∙ sym (ap (λ (l : List Command). ended l now) (split cs at d inside)) ∙ so.goes_on;
@@ -42,11 +42,23 @@ played-one cs at d start now next before after new so inside step wrote = record
       ∙ sym (ap (λ (l : List Command). so.done ++ script_lines l now) (split cs at d inside)) ∙ so.whole;
 }
 
-pub cut-one : (cs : List Command) (at : ℕ) (d : Command) (start now : Session) (before after new : Option (List ℕ)) → IsPlayed cs at start now before after → at < length cs → IsBeginning after new (command_lines (get_or cs at d) now) → IsBeginning before new (script_lines cs start)
+-- the same, of the command that the loop has at hand
+pub played-item : (cs : List Command) (at : ℕ) (c : Command) (start now next : Session) (before after new : Option (List ℕ)) → IsPlayed cs at start now before after → at < length cs → c ≡ get_or cs at c
+    → next ≡ played c now → Appends after new (command_lines c now) → IsPlayed cs (at + 1) start next before new
+played-item cs at c start now next before after new so inside is step wrote =
+    played-one cs at c start now next before after new so inside (step ∙ ap (λ (x : Command). played x now) is)
+    (subst (λ (x : Command). Appends after new (command_lines x now)) is wrote)
+
+cut-one : (cs : List Command) (at : ℕ) (d : Command) (start now : Session) (before after new : Option (List ℕ)) → IsPlayed cs at start now before after → at < length cs → IsBeginning after new (command_lines (get_or cs at d) now) → IsBeginning before new (script_lines cs start)
 cut-one cs at d start now before after new so inside b =
     let whole : so.done ++ (command_lines (get_or cs at d) now ++ script_lines (drop (at + 1) cs) (played (get_or cs at d) now)) ≡ script_lines cs start =
     sym (ap (λ (l : List Command). so.done ++ script_lines l now) (split cs at d inside)) ∙ so.whole in
     subst (λ (t : List ℕ). IsBeginning before new t) whole (later_beginning before after new so.done (command_lines (get_or cs at d) now) so.taken b (script_lines (drop (at + 1) cs) (played (get_or cs at d) now)))
+
+pub cut-item : (cs : List Command) (at : ℕ) (c : Command) (start now : Session) (before after new : Option (List ℕ)) → IsPlayed cs at start now before after → at < length cs → c ≡ get_or cs at c
+    → IsBeginning after new (command_lines c now) → IsBeginning before new (script_lines cs start)
+cut-item cs at c start now before after new so inside is b =
+    cut-one cs at c start now before after new so inside (subst (λ (x : Command). IsBeginning after new (command_lines x now)) is b)
 
 -- when all commands are done, the total is left
 last : (cs : List Command) (at : ℕ) (start now : Session) (before after : Option (List ℕ)) (so : IsPlayed cs at start now before after) → length cs ≤ at → so.done ++ total_line now.state ≡ script_lines cs start

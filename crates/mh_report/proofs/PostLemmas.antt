@@ -64,13 +64,18 @@ taken_told {E} i e new f n s r u answer text seen is told did running given noth
     subst (λ (t : Session). IsTold i t (session new f n) answer) seen
     (subst (λ (a : Result (List ℕ) E). IsTold i (session e f n) (session new f n) a) (sym given) (done, whole))
 
-pub refused_told : {E : Type 0} (i : Input) (e new : Play) (f : Planes) (n : ℕ) (s : Session) (r : Result (Unit {0}) Refused) (x : Refused) (answer given : Result (List ℕ) E)
-    → session e f n ≡ s → r ≡ Err x → IsAnswer i e r → OnErr r (new ≡ e) → answer ≡ given → IfOk given (λ text. text ≡ why_line (Some x.why))
-    → OnOk given (x.why ≡ refused.NoMemory → ⊥) → OnOk given (x.why ≡ refused.Stopped → ⊥) → IsTold i s (session new f n) answer
-refused_told {E} i e new f n s r x answer given seen is told kept so line memory running =
+-- what is said of this refusal, unless memory is refused
+abbrev pub IsSaid : {E : Type 0} → Result (List ℕ) E → RefusedWhy → Type 0
+IsSaid given why =
+    IfOk given (λ text. text ≡ why_line (Some why)) × OnOk given (why ≡ refused.NoMemory → ⊥) × OnOk given (why ≡ refused.Stopped → ⊥)
+
+pub refused_told : {E : Type 0} (i : Input) (e new : Play) (f : Planes) (n : ℕ) (s : Session) (r : Result (Unit {0}) Refused) (x : Refused) (why : RefusedWhy) (answer given : Result (List ℕ) E)
+    → session e f n ≡ s → r ≡ Err x → IsAnswer i e r → OnErr r (new ≡ e) → answer ≡ given → why ≡ x.why → IsSaid given why → IsTold i s (session new f n) answer
+refused_told {E} i e new f n s r x why answer given seen is told kept so its said =
+    let mine : IsSaid given x.why = subst (IsSaid given) its said in
     let same : new ≡ e = subst (λ (y : Result (Unit {0}) Refused). OnErr y (new ≡ e)) is kept in
     subst (λ (t : Session). IsTold i t (session new f n) answer) seen
-    (subst (λ (a : Result (List ℕ) E). IsTold i (session e f n) (session new f n) a) (sym so) (by given same line memory running))
+    (subst (λ (a : Result (List ℕ) E). IsTold i (session e f n) (session new f n) a) (sym so) (by given same mine.0 mine.1 mine.2))
   where
     by : (a : Result (List ℕ) E) → new ≡ e → IfOk a (λ text. text ≡ why_line (Some x.why)) → OnOk a (x.why ≡ refused.NoMemory → ⊥) → OnOk a (x.why ≡ refused.Stopped → ⊥)
         → IsTold i (session e f n) (session new f n) a

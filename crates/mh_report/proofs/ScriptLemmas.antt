@@ -1,11 +1,13 @@
--- The lines of a script, cut at the first line feed; and digits behind a number that does not fit.
-use Rattle.std.specs.Prelude.{◌≡◌, ℕ, ◌+◌, ◌-◌, ◌<◌, List, [], ◌∷◌, length, take, drop, Option, Some, None, false, refl, ◌==◌, suc}
+-- The lines of a script, cut at the first line feed; a file's name and digits, parted by the first space; and digits
+-- behind a number that does not fit.
+use Rattle.std.specs.Prelude.{◌≡◌, ℕ, ◌+◌, ◌-◌, ◌<◌, List, [], ◌∷◌, length, take, drop, Option, Some, None, Result, IfOk, false, refl, ◌==◌, suc}
 use Rattle.std.specs.List.{position, position_or_len}
 use Rattle.std.proofs.Common.{ap, ◌∙◌, sym, subst, add-one, get_or}
 use Rattle.std.proofs.lemmas.List.{take_rest}
 use Rattle.mh_base.proofs.PathLemmas.{slice_split-uncut, slice_split-cut, position-some, position-none}
 use Rattle.std.proofs.Math.Seq.{drop-cons}
-use Rattle.mh_report.specs.Script.{lines, read_digits, with_digit, number_of}
+use Rattle.mh_report.specs.declared.script.Line.{Line}
+use Rattle.mh_report.specs.Script.{lines, read_digits, with_digit, number_of, named_line, parted_line, file_line}
 
 -- bytes without a line feed are one line
 pub lines_uncut : (bs : List ℕ) → position (λ b. b == 10) bs ≡ None → lines bs ≡ bs ∷ []
@@ -20,6 +22,13 @@ lines_cut bs at some =
     let pieces : lines bs ≡ take at bs ∷ lines (drop (suc at) bs) =
     subst (λ (n : ℕ). lines bs ≡ take n bs ∷ lines (drop (suc n) bs)) found.0 (slice_split-cut (λ b. b == 10) bs inside) in
     pieces ∙ ap (λ (rest : List ℕ). take at bs ∷ lines rest) (sym short)
+
+-- what is said of the words before and behind the first space is said of the line
+pub file_parted : {E : Type 0} (r : Result Line E) (words : List ℕ) (at : ℕ) → position (λ b. b == 32) words ≡ Some at
+    → IfOk r (λ line. line ≡ named_line (take at words) (take (length words - (at + 1)) (drop (at + 1) words))) → IfOk r (λ line. line ≡ file_line words)
+file_parted {E} r words at found told =
+    subst (λ (o : Option ℕ). IfOk r (λ line. line ≡ parted_line o words)) (sym found)
+    (subst (λ (digits : List ℕ). IfOk r (λ line. line ≡ named_line (take at words) digits)) (take_rest words (at + 1)) told)
 
 -- once there is no number, there is none
 pub read_none : (ds : List ℕ) → read_digits None ds ≡ None

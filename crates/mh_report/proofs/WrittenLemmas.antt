@@ -1,5 +1,5 @@
 -- What was written is what is meant: one lemma for each way in which a play or a check ends.
-use Rattle.std.specs.Prelude.{◌≡◌, Bool, true, false, List, ℕ, Option, Result, Ok, Err, IfOk, OnOk, OnErr}
+use Rattle.std.specs.Prelude.{◌≡◌, Bool, true, false, List, [], ℕ, Option, Result, Ok, Err, IfOk, OnOk, OnErr}
 use Rattle.std.proofs.Common.{inl, inr, ap, subst, sym, refl}
 use Rattle.mh_report.specs.declared.status.Status.{Status}
 use Rattle.mh_report.specs.declared.status.Status.TheVariants as status
@@ -12,7 +12,8 @@ use Rattle.mh_report.specs.declared.unplayable.Unplayable.{Unplayable}
 use Rattle.mh_report.specs.declared.unplayable.Unplayable.TheVariants as unplayable
 use Rattle.std.specs.Io.KnownBytes.{Appends}
 use Rattle.mh_report.specs.Sink.{IsBeginning}
-use Rattle.mh_report.specs.Played.{complaint, Fails, HasWritten, HasBegun, begun_some}
+use Rattle.mh_report.specs.Played.{complaint, HasWritten, HasBegun, begun_some}
+use Rattle.mh_report.specs.Reading.{Fails}
 
 -- a whole report that is meant
 pub whole : (Means : List ℕ → Status → Type 0) (before after : Option (List ℕ)) (r : Result Status PlayError) (report : List ℕ) (how : Status) → Means report how →
@@ -27,7 +28,7 @@ cut Means before after (Ok st) report how so begun = tt
 cut Means before after (Err e) report how so begun = begun_some report how so begun
 
 -- a refusal that is not for want of memory names what comes first
-pub named : (s : Service) (r : Refusal) → IsTold s r → (r.kind ≡ kind.NoMemory → ⊥) → NamesFirst s r
+pub named : (s : Service) (r : Refusal) → IsTold s [] r → (r.kind ≡ kind.NoMemory → ⊥) → NamesFirst s [] r
 named s r (inl first) other = first
 named s r (inr same) other = absurd (other (ap (λ (x : Refusal). x.kind) same))
 

@@ -4,6 +4,8 @@ pub mod Sink
 pub mod Frame
 pub mod Stretch
 pub mod Report
+pub mod Reading
+pub mod Presets
 pub mod Verdict
 pub mod Played
 pub mod Converted

@@ -1,111 +1,23 @@
 -- What is written for files and a script. They are read, or one line says what cannot be read; the verifier
--- is asked, or not; and then the script is played on the service that the files make.
-use Rattle.std.specs.Prelude.{◌≡◌, ℕ, Bool, false, ◌||◌, if◌then◌else◌, List, [], ◌∷◌, ◌++◌, Option, Some, None, Result, Ok, Err, Vec, map, unwrap_or, codes}
-use Rattle.std.specs.declared.alloc.Global.{Global}
+-- is asked, or not; the content files are put there, or one line says which is refused; and then the script is played
+-- on the service that the files make.
+use Rattle.std.specs.Prelude.{◌≡◌, ℕ, Bool, false, List, [], ◌∷◌, ◌++◌, Option, Result, Ok, Err, codes}
 use Rattle.std.specs.Fmt.{decimal}
-use Rattle.mh_base.specs.Path.{is_path}
-use Rattle.mh_group.specs.declared.written.Written.{Written}
+use Rattle.mh_model.specs.Acceptable.{IsAcceptable}
 use Rattle.mh_model.specs.Service.{Service}
-use Rattle.mh_service.specs.Refusals.{File, Refusal as ServiceRefusal, refusal_of, for_reason, double_name}
-use Rattle.mh_service.specs.Resolved.{resolved}
-use Rattle.mh_service.specs.Numbers.{why_number}
-use Rattle.mh_service.specs.declared.service_error.Why.TheVariants as why
-use Rattle.mh_text.specs.Lexing.{begins_group}
-use Rattle.mh_text.specs.Reading.{read}
-use Rattle.mh_text.specs.Numbers.{number_of}
-use Rattle.mh_text.specs.Gives.{Refusal as TextRefusal}
-use Rattle.mh_codec.specs.Reading.{read as read_octets, begins_group as begins_octets}
-use Rattle.mh_codec.specs.Numbers.{number_of as octets_number_of}
-use Rattle.mh_codec.specs.Gives.{Refusal as OctetsRefusal}
+use Rattle.mh_verify.specs.declared.refusal.Refusal.{Refusal}
+use Rattle.mh_verify.specs.Order.{NamesFirst}
+use Rattle.mh_report.specs.declared.material.Material.{Material}
 use Rattle.mh_report.specs.declared.script.Command.{Command}
 use Rattle.mh_report.specs.declared.status.Status.{Status}
 use Rattle.mh_report.specs.declared.status.Status.TheVariants as status
 use Rattle.mh_report.specs.declared.unplayable.Unplayable.{Unplayable}
 use Rattle.mh_report.specs.declared.unplayable.Unplayable.TheVariants as unplayable
-use Rattle.mh_report.specs.Script.{lines, first_wrong, commands}
-use Rattle.mh_model.specs.Acceptable.{IsAcceptable}
-use Rattle.mh_verify.specs.declared.refusal.Refusal.{Refusal}
-use Rattle.mh_verify.specs.Order.{NamesFirst}
 use Rattle.std.specs.Io.KnownBytes.{Appends}
 use Rattle.mh_report.specs.Sink.{IsBeginning}
 use Rattle.mh_report.specs.Verdict.{refusal_lines}
-use Rattle.mh_report.specs.Report.{opening, script_lines, ended, status_of}
-
-infixl 10 ◌>>=◌
-abbrev pub ◌>>=◌ : {A B : Type 0} → Result A Unplayable → (A → Result B Unplayable) → Result B Unplayable
-(Ok x) >>= f = f x
-(Err e) >>= f = Err e
-
--- Reading.
-
--- a file as it was handed in: its path and its bytes
-abbrev pub Source : Type 0
-Source = List ℕ × Vec ℕ Global
-
--- a file that writes no group is what cannot be read
-abbrev pub named : List ℕ → Result Written TextRefusal → Result Written Unplayable
-named name (Ok group) = Ok group
-named name (Err e) = Err (unplayable.File name (number_of e.why) e.offset)
-
--- the same, of a file in the binary notation
-abbrev pub spelled : List ℕ → Result Written OctetsRefusal → Result Written Unplayable
-spelled name (Ok group) = Ok group
-spelled name (Err e) = Err (unplayable.File name (octets_number_of e.why) e.offset)
-
--- the bytes begin as a group does, in either notation
-abbrev pub is_group_file : List ℕ → Bool
-is_group_file bytes = begins_group bytes || begins_octets bytes
-
--- the group that the bytes of this file write, in the notation in which they begin
-unfoldable pub group_in : List ℕ → List ℕ → Result Written Unplayable
-group_in name bytes = if begins_octets bytes then spelled name (read_octets bytes) else named name (read bytes)
-
--- the groups with that of a file behind them; a file that does not begin as a group does is passed over
-unfoldable pub with_file : List File → Source → Result (List File) Unplayable
-with_file done f =
-    if is_group_file f.1.items then group_in f.0 f.1.items >>= (λ (group : Written). Ok (done ++ (f.0, group) ∷ []))
-    else Ok done
-
--- the groups of the files in order behind these, or the first file that cannot be read
-abbrev pub read_files : List File → List Source → Result (List File) Unplayable
-read_files done [] = Ok done
-read_files done (f ∷ fs) = with_file done f >>= (λ (more : List File). read_files more fs)
-
--- why the groups make no service with this start; a text that is no path is the name of no group
-abbrev pub unstartable_for : List ℕ → List File → ServiceRefusal
-unstartable_for start groups = unwrap_or (for_reason why.DoubleName (double_name [] groups)) (why.NoStart, start)
-
-unfoldable pub refusal_for : List ℕ → List File → Option ServiceRefusal
-refusal_for start groups = if is_path start then refusal_of start groups else Some (unstartable_for start groups)
-
-abbrev pub unserviceable : ServiceRefusal → Unplayable
-unserviceable r = unplayable.Service (why_number r.0) r.1
-
-abbrev pub unless_refused : {A : Type 0} → Option ServiceRefusal → A → Result A Unplayable
-unless_refused None x = Ok x
-unless_refused (Some r) x = Err (unserviceable r)
-
-unfoldable pub service_of : List ℕ → List File → Result Service Unplayable
-service_of start groups = unless_refused (refusal_for start groups) (record { groups = map resolved groups; start = start })
-
-abbrev pub unless_wrong : {A : Type 0} → Option ℕ → A → Result A Unplayable
-unless_wrong None x = Ok x
-unless_wrong (Some line) x = Err (unplayable.Script line)
-
-unfoldable pub commands_of : List ℕ → Result (List Command) Unplayable
-commands_of script = unless_wrong (first_wrong 1 (lines script)) (commands (lines script))
-
-unfoldable pub service_read : List ℕ → List Source → Result Service Unplayable
-service_read start files = read_files [] files >>= service_of start
-
--- what is to be played: a service and commands; or the first thing that cannot be read
-unfoldable pub readied : List ℕ → List Source → List ℕ → Result (Service × List Command) Unplayable
-readied start files script = do
-  service ← service_read start files
-  found ← commands_of script
-  Ok (service, found)
-
--- Playing.
+use Rattle.mh_report.specs.Report.{Session, script_lines, ended, status_of}
+use Rattle.mh_report.specs.Presets.{opened}
 
 -- the line on what cannot be read
 unfoldable pub complaint : Unplayable → List ℕ
@@ -114,11 +26,25 @@ complaint (unplayable.Service number group) = codes "service " ++ decimal number
 complaint (unplayable.Script number) = codes "script " ++ decimal number ++ 10 ∷ []
 complaint unplayable.NoMemory = []
 
--- What is written of what was read, and how it ends. The verifier is asked, unless a lenient play is wanted.
-pub data Plays (lenient : Bool) : Result (Service × List Command) Unplayable → List ℕ → Status → Type 0 where
-  play_unreadable : (e : Unplayable) → Plays lenient (Err e) (complaint e) status.Unreadable
-  play_refused : (s : Service) (cs : List Command) (r : Refusal) → lenient ≡ false → NamesFirst s r → Plays lenient (Ok (s, cs)) (refusal_lines r) status.Refused
-  play_done : (s : Service) (cs : List Command) → (lenient ≡ false → IsAcceptable s) → Plays lenient (Ok (s, cs)) (script_lines cs (opening s)) (status_of (ended cs (opening s)).state.faults)
+-- what is written of a play from here: the report of the commands, or the line on a file that is not put there
+abbrev pub play_lines : List Command → Result Session Unplayable → List ℕ
+play_lines cs (Ok p) = script_lines cs p
+play_lines cs (Err e) = complaint e
+
+-- and how it ends
+abbrev pub play_status : List Command → Result Session Unplayable → Status
+play_status cs (Ok p) = status_of (ended cs p).state.faults
+play_status cs (Err e) = status.Unreadable
+
+-- What is written of what was read, and how it ends, where the machine begins on this day. The verifier is asked,
+-- unless a lenient play is wanted; the files are put there only then.
+pub data Plays (mjd : ℕ) (lenient : Bool) : Result Material Unplayable → List ℕ → Status → Type 0 where
+  play_unreadable : (e : Unplayable) → Plays mjd lenient (Err e) (complaint e) status.Unreadable
+  play_refused : (m : Material) (r : Refusal) → lenient ≡ false → NamesFirst m.service [] r →
+      Plays mjd lenient (Ok m) (refusal_lines r) status.Refused
+  play_done : (m : Material) → (lenient ≡ false → IsAcceptable m.service) →
+      Plays mjd lenient (Ok m) (play_lines m.commands (opened m.service mjd m.files))
+      (play_status m.commands (opened m.service mjd m.files))
 
 -- the line on a service that is accepted
 unfoldable pub accepted_line : List ℕ
@@ -127,7 +53,7 @@ accepted_line = codes "accepted" ++ 10 ∷ []
 -- What is written of a service that is checked, and how it ends.
 pub data Checks : Result Service Unplayable → List ℕ → Status → Type 0 where
   check_unreadable : (e : Unplayable) → Checks (Err e) (complaint e) status.Unreadable
-  check_refused : (s : Service) (r : Refusal) → NamesFirst s r → Checks (Ok s) (refusal_lines r) status.Refused
+  check_refused : (s : Service) (r : Refusal) → NamesFirst s [] r → Checks (Ok s) (refusal_lines r) status.Refused
   check_accepted : (s : Service) → IsAcceptable s → Checks (Ok s) accepted_line status.Good
 
 -- the sink has taken a whole report that is meant, with this status
@@ -140,17 +66,3 @@ pub record HasWritten (Means : List ℕ → Status → Type 0) (before after : O
 pub data HasBegun (Means : List ℕ → Status → Type 0) (before after : Option (List ℕ)) : Type 0 where
   begun_nothing : after ≡ before → HasBegun Means before after
   begun_some : (report : List ℕ) (how : Status) → Means report how → IsBeginning before after report → HasBegun Means before after
-
--- Answers of functions.
-
--- the error is what the reading says, or memory was refused
-abbrev pub Fails : {Y : Type 0} → Unplayable → Result Y Unplayable → Type 0
-Fails (unplayable.File name number offset) r = r ≡ Err (unplayable.File name number offset)
-Fails (unplayable.Service number group) r = r ≡ Err (unplayable.Service number group)
-Fails (unplayable.Script number) r = r ≡ Err (unplayable.Script number)
-Fails unplayable.NoMemory r = Unit {0}
-
--- what a function answered, seen by view, is what the reading says, unless memory was refused
-abbrev pub Gives : {X Y : Type 0} → (X → Y) → Result X Unplayable → Result Y Unplayable → Type 0
-Gives view (Ok x) r = r ≡ Ok (view x)
-Gives view (Err e) r = Fails e r

@@ -9,8 +9,7 @@ use Rattle.mh_model.specs.declared.fault.FaultKind.TheVariants as fault
 use Rattle.mh_model.specs.declared.input.Input.{Input}
 use Rattle.mh_model.specs.Planes.{Planes, blank}
 use Rattle.mh_model.specs.Picture.{shown}
-use Rattle.mh_model.specs.Service.{Service}
-use Rattle.mh_model.specs.State.{State, begun}
+use Rattle.mh_model.specs.State.{State}
 use Rattle.mh_model.specs.Step.{advanced, posted}
 use Rattle.mh_machine.specs.Rest.{rest_of}
 use Rattle.mh_machine.specs.declared.rest.Rest.{Rest}
@@ -31,9 +30,9 @@ pub record Session : Type 0 where
   pub frame : Planes
   pub frames : ℕ
 
--- before the first command: the machine has begun, and the frame before the first one is black
-abbrev pub opening : Service → Session
-opening service = record { state = begun service; frame = blank; frames = 0 }
+-- before the first command: the machine is in this state, and the frame before the first one is black
+abbrev pub opening : State → Session
+opening s = record { state = s; frame = blank; frames = 0 }
 
 -- what a command makes of the session
 abbrev pub played : Command → Session → Session

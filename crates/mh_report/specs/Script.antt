@@ -1,9 +1,12 @@
 -- What the bytes of a script mean: lines, each of which says one thing to do, or is skipped, or is wrong.
-use Rattle.std.specs.Prelude.{◌≡◌, ℕ, ◌+◌, ◌*◌, ◌-◌, ◌==◌, nat_le, Bool, true, false, ◌&&◌, if◌then◌else◌, List, [], ◌∷◌, length, take, drop, Option, Some, None, ℤ, pos, codes}
-use Rattle.std.specs.List.{find, filter_map, slice_split}
+use Rattle.std.specs.Prelude.{◌≡◌, ℕ, ◌+◌, ◌*◌, ◌-◌, ◌==◌, nat_le, Bool, true, false, ◌&&◌, if◌then◌else◌, List, [], ◌∷◌, length, take, drop, Option, Some, None, Result, Ok, Err, ℤ, pos, codes}
+use Rattle.std.specs.List.{find, filter_map, position, slice_split}
 use Rattle.std.specs.Option.{option_and_then}
 use Rattle.std.specs.Str.{bytes_eq}
 use Rattle.std.specs.Char.{is_ascii_digit}
+use Rattle.hex.specs.Hex.{decode_of}
+use Rattle.hex.specs.declared.error.FromHexError.{FromHexError}
+use Rattle.mh_base.specs.Path.{is_path}
 use Rattle.mh_model.specs.declared.input.Input.TheVariants as input
 use Rattle.mh_model.specs.declared.key.Key.{Key}
 use Rattle.mh_model.specs.declared.key.Key.TheVariants.{Up, Down, Left, Right, Digit0, Digit1, Digit2, Digit3, Digit4, Digit5, Digit6, Digit7, Digit8, Digit9, Select, Cancel, Red, Green, Yellow, Blue, Text}
@@ -105,25 +108,62 @@ abbrev pub engine_line : Option ℤ → Line
 engine_line (Some n) = line.Says (command.Post (input.Engine n))
 engine_line None = line.Wrong
 
+-- A file by its name and its octets, each octet as two hexadecimal digits, in upper or lower case.
+
+abbrev pub decoded : Result (List ℕ) FromHexError → Option (List ℕ)
+decoded (Ok octets) = Some octets
+decoded (Err e) = None
+
+-- the octets that pairs of digits write: at least one pair
+abbrev pub octets_of : List ℕ → Option (List ℕ)
+octets_of digits = if length digits == 0 then None else decoded (decode_of digits)
+
+abbrev pub content_line : List ℕ → Option (List ℕ) → Line
+content_line name (Some octets) = line.Says (command.Post (input.Arrive (record { name = name; content = octets })))
+content_line name None = line.Wrong
+
+-- the name is a path
+abbrev pub named_line : List ℕ → List ℕ → Line
+named_line name digits = if is_path name then content_line name (octets_of digits) else line.Wrong
+
+-- a space parts the name from the digits
+abbrev pub parted_line : Option ℕ → List ℕ → Line
+parted_line (Some at) words = named_line (take at words) (drop (at + 1) words)
+parted_line None words = line.Wrong
+
+abbrev pub file_line : List ℕ → Line
+file_line words = parted_line (position (λ b. b == 32) words) words
+
 -- the bytes begin with these
 abbrev pub begins : List ℕ → List ℕ → Bool
 begins front bytes = bytes_eq (take (length front) bytes) front
 
--- a line that is one of `run`, `show`, `key NAME`, `step N`, `tick N`, `stream N` and `engine N`
+-- a line that is one of `tick N`, `stream N` and `engine N`
+abbrev pub input_line : List ℕ → Line
+input_line l =
+    if begins (codes "tick ") l then tick_line (number_of (drop 5 l))
+    else (if begins (codes "stream ") l then stream_line (integer_of (drop 7 l))
+    else (if begins (codes "engine ") l then engine_line (integer_of (drop 7 l)) else line.Wrong))
+
+-- one of these, or of `run`, `show`, `key NAME` and `step N`
 abbrev pub command_line : List ℕ → Line
 command_line l =
     if bytes_eq l (codes "run") then line.Says (command.Step run_limit)
     else (if bytes_eq l (codes "show") then line.Says command.Show
     else (if begins (codes "key ") l then key_line (key_named (drop 4 l))
-    else (if begins (codes "step ") l then step_line (number_of (drop 5 l))
-    else (if begins (codes "tick ") l then tick_line (number_of (drop 5 l))
-    else (if begins (codes "stream ") l then stream_line (integer_of (drop 7 l))
-    else (if begins (codes "engine ") l then engine_line (integer_of (drop 7 l)) else line.Wrong))))))
+    else (if begins (codes "step ") l then step_line (number_of (drop 5 l)) else input_line l)))
 
 -- an empty line and one that begins with `#` are skipped
+abbrev pub is_comment : List ℕ → Bool
+is_comment [] = true
+is_comment (b ∷ bs) = b == 35
+
+unfoldable pub plain_line : List ℕ → Line
+plain_line l = if is_comment l then line.Skipped else command_line l
+
+-- one of these, or `file NAME HEX`
 abbrev pub line_of : List ℕ → Line
-line_of [] = line.Skipped
-line_of (b ∷ bs) = if b == 35 then line.Skipped else command_line (b ∷ bs)
+line_of l = if begins (codes "file ") l then file_line (drop 5 l) else plain_line l
 
 abbrev pub said : Line → Option Command
 said (line.Says c) = Some c

@@ -1,8 +1,9 @@
 //! `check_bytes`: a service as bytes, and what the verifier says of it.
-ghost use Rattle.std.specs.Prelude.{◌≡◌, ◌-◌, ◌<◌, ◌^◌, IfOk, OnOk, OnErr, IsErrOf};
+ghost use Rattle.std.specs.Prelude.{◌≡◌, ◌-◌, ◌<◌, ◌^◌, [], IfOk, OnOk, OnErr, IsErrOf};
 ghost use Rattle.std.specs.Io.KnownBytes.{Appends};
 ghost use Rattle.mh_report.specs.Sink.{IsBeginning};
-ghost use Rattle.mh_report.specs.Played.{service_read, accepted_line, Checks, HasWritten, HasBegun};
+ghost use Rattle.mh_report.specs.Played.{accepted_line, Checks, HasWritten, HasBegun};
+ghost use Rattle.mh_report.specs.Reading.{service_read};
 
 use crate::options::Options;
 use crate::play::{complain, refuse};
@@ -11,9 +12,10 @@ use crate::reading::read_service;
 use crate::sink::{Sink, write_all};
 use crate::status::Status;
 use crate::unplayable::Unplayable;
+use crate::verdict::verified;
 use mh_base::GroupName;
 use mh_service::Service;
-use mh_verify::{RefusalKind, verify};
+use mh_verify::RefusalKind;
 use std::alloc::Global;
 
 /// Says whether the verifier accepts the service of these files, or why not. After an error a beginning of
@@ -39,12 +41,13 @@ pub fn check_bytes<S: Sink>(
 }
 
 fn judge<S: Sink>(alloc: Global, service: Service, sink: &mut S) -> Result<Status, PlayError>
-    requires { S.failures sink.old < 2 ^ 64 - 1 }
+    requires plain { service.programs ≡ [] }
+    requires room { S.failures sink.old < 2 ^ 64 - 1 }
     ensures written { IfOk result (HasWritten (Checks (Ok service)) (S.written sink.old) (S.written sink.new)) }
     ensures begun { OnErr result (HasBegun (Checks (Ok service)) (S.written sink.old) (S.written sink.new)) }
     ensures write { IsErrOf result PlayError.Write → S.failures sink.old < S.failures sink.new }
 {
-    match verify(alloc, service) {
+    match verified(alloc, service) {
         Ok(_) => accept(sink),
         Err(refusal) => match refusal.kind {
             RefusalKind::NoMemory => Err(PlayError::NoMemory),

@@ -5,7 +5,8 @@
 ghost use Rattle.std.specs.Prelude.{◌≡◌, ◌-◌, ◌<◌, ◌^◌, Ok, IfOk, OnOk, OnErr, IsErrOf};
 ghost use Rattle.std.specs.Io.KnownBytes.{Appends};
 ghost use Rattle.mh_report.specs.Sink.{IsBeginning};
-ghost use Rattle.mh_report.specs.Played.{Gives, HasWritten, HasBegun};
+ghost use Rattle.mh_report.specs.Played.{HasWritten, HasBegun};
+ghost use Rattle.mh_report.specs.Reading.{Gives};
 ghost use Rattle.mh_report.specs.Converted.{converted as converted_lem, written_in as written_in_lem, in_octets as in_octets_lem, in_text as in_text_lem, Converts};
 
 use crate::play::complain;

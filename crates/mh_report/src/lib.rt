@@ -7,11 +7,14 @@
 #![tactic(auto)]
 
 mod check;
+mod contents;
 mod convert;
+mod material;
 mod options;
 mod play;
 mod play_error;
 mod player;
+mod preset;
 mod reading;
 mod report;
 mod saying;
@@ -21,6 +24,8 @@ mod status;
 mod telling;
 mod text;
 mod unplayable;
+mod verdict;
+mod words;
 
 pub use check::check_bytes;
 pub use convert::{Notation, convert_bytes};

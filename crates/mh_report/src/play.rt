@@ -1,15 +1,19 @@
 //! `play_bytes`: a service and a script as bytes, and the report that playing them writes.
 //!
 //! Either something cannot be read: then one line says what, and nothing is played. Or everything is
-//! read; then the verifier is asked, unless a lenient play is wanted, and `player` plays the script. Where
-//! the bytes come from and go to is left to the caller.
-ghost use Rattle.std.specs.Prelude.{◌≡◌, ◌-◌, ◌<◌, ◌^◌, false, Ok, IfOk, OnOk, OnErr, IsErrOf};
+//! read; then the verifier is asked, unless a lenient play is wanted, the content files are put there, and
+//! `player` plays the script. Where the bytes come from and go to is left to the caller.
+ghost use Rattle.std.specs.Prelude.{◌≡◌, ◌-◌, ◌<◌, ◌^◌, [], false, Ok, Result, IfOk, OnOk, OnErr, IsErrOf};
 ghost use Rattle.std.specs.Io.KnownBytes.{Appends};
+ghost use Rattle.mh_report.specs.declared.unplayable.Unplayable.{Unplayable as Unreadable};
 ghost use Rattle.mh_report.specs.Sink.{IsBeginning};
-ghost use Rattle.mh_report.specs.Report.{Session, opening, script_lines, ended, status_of};
+ghost use Rattle.mh_report.specs.Report.{Session};
 ghost use Rattle.mh_report.specs.Verdict.{refusal_lines};
-ghost use Rattle.mh_report.specs.Played.{complaint, readied, Plays, HasWritten, HasBegun};
+ghost use Rattle.mh_report.specs.Reading.{Gives, readied};
+ghost use Rattle.mh_report.specs.Presets.{opened};
+ghost use Rattle.mh_report.specs.Played.{complaint, play_lines, play_status, Plays, HasWritten, HasBegun};
 
+use crate::material::Material;
 use crate::options::Options;
 use crate::play_error::PlayError;
 use crate::player::{Player, Plays};
@@ -19,13 +23,16 @@ use crate::script::Command;
 use crate::sink::{Sink, write_all};
 use crate::status::Status;
 use crate::unplayable::Unplayable;
+use crate::verdict::verified;
 use mh_base::GroupName;
+use mh_model::File;
 use mh_service::Service;
-use mh_verify::{Accepted, Refusal, RefusalKind, verify};
-use std::alloc::{AllocError, Global};
+use mh_verify::{Accepted, Refusal, RefusalKind};
+use std::alloc::Global;
 
-/// Plays a script on the service of these files, and writes the report to the sink. After an error a
-/// beginning of the report was written, or nothing.
+/// Plays a script on the service of these files, and writes the report to the sink. The content files
+/// that the service names are there from the start. After an error a beginning of the report was written,
+/// or nothing.
 pub fn play_bytes<S: Sink>(
     alloc: Global,
     files: &[(GroupName, Vec<u8>)],
@@ -34,14 +41,12 @@ pub fn play_bytes<S: Sink>(
     sink: &mut S,
 ) -> Result<Status, PlayError>
     requires { S.failures sink.old < 2 ^ 64 - 1 }
-    ensures written { IfOk result (HasWritten (Plays options.now.lenient (readied options.now.start.items files.now script.now)) (S.written sink.old) (S.written sink.new)) }
-    ensures begun { OnErr result (HasBegun (Plays options.now.lenient (readied options.now.start.items files.now script.now)) (S.written sink.old) (S.written sink.new)) }
+    ensures written { IfOk result (HasWritten (Plays options.now.mjd options.now.lenient (readied options.now.start.items files.now script.now)) (S.written sink.old) (S.written sink.new)) }
+    ensures begun { OnErr result (HasBegun (Plays options.now.mjd options.now.lenient (readied options.now.start.items files.now script.now)) (S.written sink.old) (S.written sink.new)) }
     ensures write { IsErrOf result PlayError.Write → S.failures sink.old < S.failures sink.new }
 {
     match ready(alloc, files, script, options.start.as_slice()) {
-        Ok((service, commands)) => {
-            play_ready(alloc, service, commands.as_slice(), options.lenient, sink)
-        }
+        Ok(material) => play_ready(alloc, material, options, sink),
         Err(why) => match why {
             Unplayable::NoMemory => Err(PlayError::NoMemory),
             _ => complain(alloc, &why, sink),
@@ -51,20 +56,41 @@ pub fn play_bytes<S: Sink>(
 
 fn play_ready<S: Sink>(
     alloc: Global,
-    service: Service,
-    commands: &[Command],
-    lenient: bool,
+    material: Material,
+    options: &Options,
     sink: &mut S,
 ) -> Result<Status, PlayError>
-    requires { S.failures sink.old < 2 ^ 64 - 1 }
-    ensures written { IfOk result (HasWritten (Plays lenient (Ok (service, commands.now))) (S.written sink.old) (S.written sink.new)) }
-    ensures begun { OnErr result (HasBegun (Plays lenient (Ok (service, commands.now))) (S.written sink.old) (S.written sink.new)) }
+    requires plain { material.service.programs ≡ [] }
+    requires room { S.failures sink.old < 2 ^ 64 - 1 }
+    ensures written { IfOk result (HasWritten (Plays options.now.mjd options.now.lenient (Ok material)) (S.written sink.old) (S.written sink.new)) }
+    ensures begun { OnErr result (HasBegun (Plays options.now.mjd options.now.lenient (Ok material)) (S.written sink.old) (S.written sink.new)) }
     ensures write { IsErrOf result PlayError.Write → S.failures sink.old < S.failures sink.new }
 {
+    let Material {
+        service,
+        files,
+        commands,
+    } = material;
+    let mjd = options.mjd;
+    let lenient = options.lenient;
     if lenient {
-        play_service(alloc, service, commands, sink)
+        play_service(
+            alloc,
+            service,
+            mjd,
+            files.as_slice(),
+            commands.as_slice(),
+            sink,
+        )
     } else {
-        play_verified(alloc, service, commands, sink)
+        play_verified(
+            alloc,
+            service,
+            mjd,
+            files.as_slice(),
+            commands.as_slice(),
+            sink,
+        )
     }
 }
 
@@ -72,16 +98,19 @@ fn play_ready<S: Sink>(
 fn play_verified<S: Sink>(
     alloc: Global,
     service: Service,
+    mjd: u32,
+    files: &[File],
     commands: &[Command],
     sink: &mut S,
 ) -> Result<Status, PlayError>
-    requires { S.failures sink.old < 2 ^ 64 - 1 }
-    ensures written { IfOk result (HasWritten (Plays false (Ok (service, commands.now))) (S.written sink.old) (S.written sink.new)) }
-    ensures begun { OnErr result (HasBegun (Plays false (Ok (service, commands.now))) (S.written sink.old) (S.written sink.new)) }
+    requires plain { service.programs ≡ [] }
+    requires room { S.failures sink.old < 2 ^ 64 - 1 }
+    ensures written { IfOk result (HasWritten (Plays mjd false (Ok (record { service = service; files = files.now; commands = commands.now }))) (S.written sink.old) (S.written sink.new)) }
+    ensures begun { OnErr result (HasBegun (Plays mjd false (Ok (record { service = service; files = files.now; commands = commands.now }))) (S.written sink.old) (S.written sink.new)) }
     ensures write { IsErrOf result PlayError.Write → S.failures sink.old < S.failures sink.new }
 {
-    match verify(alloc, service) {
-        Ok(accepted) => play_accepted(alloc, accepted, commands, sink),
+    match verified(alloc, service) {
+        Ok(accepted) => play_accepted(alloc, accepted, mjd, files, commands, sink),
         Err(refusal) => match refusal.kind {
             RefusalKind::NoMemory => Err(PlayError::NoMemory),
             _ => refuse(alloc, &refusal, sink),
@@ -93,53 +122,71 @@ fn play_verified<S: Sink>(
 fn play_service<S: Sink>(
     alloc: Global,
     service: Service,
+    mjd: u32,
+    files: &[File],
     commands: &[Command],
     sink: &mut S,
 ) -> Result<Status, PlayError>
     requires { S.failures sink.old < 2 ^ 64 - 1 }
-    ensures report { OnOk result (Appends (S.written sink.old) (S.written sink.new) (script_lines commands.now (opening service))) }
-    ensures status { IfOk result (λ status. status ≡ status_of (ended commands.now (opening service)).state.faults) }
-    ensures cut { OnErr result (IsBeginning (S.written sink.old) (S.written sink.new) (script_lines commands.now (opening service))) }
+    ensures report { OnOk result (Appends (S.written sink.old) (S.written sink.new) (play_lines commands.now (opened service mjd files.now))) }
+    ensures status { IfOk result (λ status. status ≡ play_status commands.now (opened service mjd files.now)) }
+    ensures cut { OnErr result (IsBeginning (S.written sink.old) (S.written sink.new) (play_lines commands.now (opened service mjd files.now))) }
     ensures write { IsErrOf result PlayError.Write → S.failures sink.old < S.failures sink.new }
 {
-    play_on(Player::of_service(alloc, service), commands, sink)
+    play_on(
+        alloc,
+        Player::of_service(alloc, service, mjd, files),
+        commands,
+        sink,
+    )
 }
 
 /// Plays the commands on a service that the verifier accepts.
 fn play_accepted<S: Sink>(
     alloc: Global,
     accepted: Accepted,
+    mjd: u32,
+    files: &[File],
     commands: &[Command],
     sink: &mut S,
 ) -> Result<Status, PlayError>
     requires { S.failures sink.old < 2 ^ 64 - 1 }
-    ensures report { OnOk result (Appends (S.written sink.old) (S.written sink.new) (script_lines commands.now (opening accepted))) }
-    ensures status { IfOk result (λ status. status ≡ status_of (ended commands.now (opening accepted)).state.faults) }
-    ensures cut { OnErr result (IsBeginning (S.written sink.old) (S.written sink.new) (script_lines commands.now (opening accepted))) }
+    ensures report { OnOk result (Appends (S.written sink.old) (S.written sink.new) (play_lines commands.now (opened accepted mjd files.now))) }
+    ensures status { IfOk result (λ status. status ≡ play_status commands.now (opened accepted mjd files.now)) }
+    ensures cut { OnErr result (IsBeginning (S.written sink.old) (S.written sink.new) (play_lines commands.now (opened accepted mjd files.now))) }
     ensures write { IsErrOf result PlayError.Write → S.failures sink.old < S.failures sink.new }
 {
-    play_on(Player::of_accepted(alloc, accepted), commands, sink)
+    play_on(
+        alloc,
+        Player::of_accepted(alloc, accepted, mjd, files),
+        commands,
+        sink,
+    )
 }
 
-/// Plays the commands, where there was memory for a player.
+/// Plays the commands, where there is a player, and else says which file is not put there.
 fn play_on<P: Plays, S: Sink>(
-    player: Result<P, AllocError>,
+    alloc: Global,
+    player: Result<P, Unplayable>,
     commands: &[Command],
     sink: &mut S,
 ) -> Result<Status, PlayError>
     requires count { IfOk player (λ p. (P.session p).frames ≡ 0) }
     requires room { S.failures sink.old < 2 ^ 64 - 1 }
-    ensures report { (s : Session) → IfOk player (λ p. P.session p ≡ s) →
-        OnOk result (Appends (S.written sink.old) (S.written sink.new) (script_lines commands.now s)) }
-    ensures status { (s : Session) → IfOk player (λ p. P.session p ≡ s) →
-        IfOk result (λ status. status ≡ status_of (ended commands.now s).state.faults) }
-    ensures cut { (s : Session) → IfOk player (λ p. P.session p ≡ s) →
-        OnErr result (IsBeginning (S.written sink.old) (S.written sink.new) (script_lines commands.now s)) }
+    ensures report { (r : Result Session Unreadable) → Gives P.session player r →
+        OnOk result (Appends (S.written sink.old) (S.written sink.new) (play_lines commands.now r)) }
+    ensures status { (r : Result Session Unreadable) → Gives P.session player r →
+        IfOk result (λ status. status ≡ play_status commands.now r) }
+    ensures cut { (r : Result Session Unreadable) → Gives P.session player r →
+        OnErr result (IsBeginning (S.written sink.old) (S.written sink.new) (play_lines commands.now r)) }
     ensures write { IsErrOf result PlayError.Write → S.failures sink.old < S.failures sink.new }
 {
     match player {
         Ok(mut player) => player.play_all(commands, sink),
-        Err(_) => Err(PlayError::NoMemory),
+        Err(why) => match why {
+            Unplayable::NoMemory => Err(PlayError::NoMemory),
+            _ => complain(alloc, &why, sink),
+        },
     }
 }
 

@@ -1,20 +1,25 @@
 //! `Player`: an engine, and what was shown of it. It does the commands of a script one by one, and writes
 //! what the report says of each.
-ghost use Rattle.std.specs.Prelude.{◌≡◌, ◌-◌, ◌<◌, ◌^◌, OnOk, OnErr, IfOk, IsErrOf};
+ghost use Rattle.std.specs.Prelude.{◌≡◌, ◌-◌, ◌<◌, ◌^◌, Err, IsOk, OnOk, OnErr, IfOk, IfErr, IsErrOf, false};
+ghost use Rattle.mh_model.specs.Planes.{blank};
 ghost use Rattle.mh_model.specs.Step.{advanced};
 ghost use Rattle.std.specs.Io.KnownBytes.{Appends};
 ghost use Rattle.mh_report.specs.Sink.{IsBeginning};
-ghost use Rattle.mh_report.specs.Report.{played, opening, total_line, command_lines, script_lines, ended, status_of};
+ghost use Rattle.mh_report.specs.Report.{played, total_line, command_lines, script_lines, ended, status_of};
+ghost use Rattle.mh_report.specs.Reading.{Gives};
+ghost use Rattle.mh_report.specs.Presets.{begins, opened, presets};
 
 use crate::play_error::PlayError;
+use crate::preset::preset_all;
 use crate::report::frame_text;
 use crate::script::Command;
 use crate::sink::{Sink, write_all};
 use crate::status::Status;
 use crate::telling::{progress, refusal};
 use crate::text::Text;
-use mh_engine::Engine;
-use mh_model::{Input, Picture};
+use crate::unplayable::Unplayable;
+use mh_engine::{Engine, Refused, RefusedWhy};
+use mh_model::{File, Input, Picture};
 use mh_service::Service;
 use mh_verify::Accepted;
 use std::alloc::{AllocError, Global};
@@ -38,46 +43,74 @@ impl Model for Player {
 }
 
 impl Player {
-    /// A player at the start of this service. The frame before the first one is black.
-    pub fn of_service(alloc: Global, service: Service) -> Result<Player, AllocError>
-        ensures { IfOk result (λ player. player ≡ opening service) }
+    /// A player at the start of this service on this day, with these files there.
+    #[tactic(auto, unfolding(crate::specs::Presets::opened))]
+    pub fn of_service(
+        alloc: Global,
+        service: Service,
+        mjd: u32,
+        files: &[File],
+    ) -> Result<Player, Unplayable>
+        ensures opened { Gives (λ player. player) result (opened service mjd files.now) }
+        ensures fresh { IfOk result (λ player. player.frames ≡ 0) }
     {
         let frame = Picture::black(alloc)?;
-        match Engine::start_lenient(alloc, service) {
-            Ok(engine) => Ok(Player {
-                alloc,
-                engine,
-                frame,
-                frames: 0,
-            }),
-            Err(_) => Err(AllocError),
+        match Engine::start_lenient(alloc, service, mjd) {
+            Ok(engine) => Player::with_files(alloc, engine, frame, files),
+            Err(_) => Err(Unplayable::NoMemory),
         }
     }
 
-    /// A player at the start of a service that the verifier accepts.
-    pub fn of_accepted(alloc: Global, accepted: Accepted) -> Result<Player, AllocError>
-        ensures { IfOk result (λ player. player ≡ opening accepted) }
+    /// A player at the start of a service that the verifier accepts, on this day, with these files
+    /// there.
+    #[tactic(auto, unfolding(crate::specs::Presets::opened))]
+    pub fn of_accepted(
+        alloc: Global,
+        accepted: Accepted,
+        mjd: u32,
+        files: &[File],
+    ) -> Result<Player, Unplayable>
+        ensures opened { Gives (λ player. player) result (opened accepted mjd files.now) }
+        ensures fresh { IfOk result (λ player. player.frames ≡ 0) }
     {
         let frame = Picture::black(alloc)?;
-        match Engine::start(alloc, accepted) {
-            Ok(engine) => Ok(Player {
-                alloc,
-                engine,
-                frame,
-                frames: 0,
-            }),
-            Err(_) => Err(AllocError),
+        match Engine::start(alloc, accepted, mjd) {
+            Ok(engine) => Player::with_files(alloc, engine, frame, files),
+            Err(_) => Err(Unplayable::NoMemory),
         }
+    }
+
+    /// A player with an engine that has just begun, and with these files there. The frame before the
+    /// first one is black.
+    fn with_files(
+        alloc: Global,
+        engine: Engine,
+        frame: Picture,
+        files: &[File],
+    ) -> Result<Player, Unplayable>
+        requires running { engine.stopped ≡ false }
+        requires black { frame ≡ blank }
+        ensures opened { Gives (λ player. player) result (begins (presets files.now engine.state)) }
+        ensures fresh { IfOk result (λ player. player.frames ≡ 0) }
+    {
+        let mut player = Player {
+            alloc,
+            engine,
+            frame,
+            frames: 0,
+        };
+        let set = preset_all(alloc, &mut player.engine, files);
+        once_set(set, player)
     }
 
     /// Does a command, and writes what it prints.
-    pub fn obey<S: Sink>(&mut self, command: Command, sink: &mut S) -> Result<(), PlayError>
+    pub fn obey<S: Sink>(&mut self, command: &Command, sink: &mut S) -> Result<(), PlayError>
         requires count { self.old.frames < 2 ^ 64 - 1 }
         requires room { S.failures sink.old < 2 ^ 64 - 1 }
-        ensures done { OnOk result (self.new ≡ played command self.old) }
-        ensures whole { OnOk result (Appends (S.written sink.old) (S.written sink.new) (command_lines command self.old)) }
+        ensures done { OnOk result (self.new ≡ played command.now self.old) }
+        ensures whole { OnOk result (Appends (S.written sink.old) (S.written sink.new) (command_lines command.now self.old)) }
         ensures good { OnOk result (S.failures sink.new ≡ S.failures sink.old) }
-        ensures cut { OnErr result (IsBeginning (S.written sink.old) (S.written sink.new) (command_lines command self.old)) }
+        ensures cut { OnErr result (IsBeginning (S.written sink.old) (S.written sink.new) (command_lines command.now self.old)) }
         ensures write { IsErrOf result PlayError.Write → S.failures sink.old < S.failures sink.new }
     {
         let text = self.told(command)?;
@@ -85,14 +118,14 @@ impl Player {
     }
 
     /// Does a command, and answers what it prints.
-    fn told(&mut self, command: Command) -> Result<Text, AllocError>
+    fn told(&mut self, command: &Command) -> Result<Text, AllocError>
         requires { self.old.frames < 2 ^ 64 - 1 }
-        ensures done { OnOk result (self.new ≡ played command self.old) }
-        ensures whole { IfOk result (λ text. text ≡ command_lines command self.old) }
+        ensures done { OnOk result (self.new ≡ played command.now self.old) }
+        ensures whole { IfOk result (λ text. text ≡ command_lines command.now self.old) }
     {
         match command {
-            Command::Post(input) => self.post(input),
-            Command::Step(limit) => self.advance(limit),
+            Command::Post(input) => self.post(copied(input)?),
+            Command::Step(limit) => self.advance(*limit),
             Command::Show => self.show(),
         }
     }
@@ -103,7 +136,7 @@ impl Player {
     {
         match self.engine.post(input) {
             Ok(()) => Ok(Text::new(self.alloc)),
-            Err(refused) => refusal(self.alloc, refused.why),
+            Err(refused) => refusal(self.alloc, why_refused(refused)),
         }
     }
 
@@ -162,7 +195,7 @@ impl Player {
         ensures write { IsErrOf result PlayError.Write → S.failures sink.old < S.failures sink.new }
     {
         for command in commands {
-            self.obey(*command, sink)?;
+            self.obey(command, sink)?;
         }
         let text = self.total()?;
         write_all(sink, text.as_slice())?;
@@ -215,4 +248,31 @@ fn make_steps(engine: &mut Engine, limit: u32) -> Result<(), AllocError>
         Ok(()) => Ok(()),
         Err(_) => Err(AllocError),
     }
+}
+
+/// What is handed over, where the files are there. What is generic in it does not speak of how an engine
+/// is dropped.
+fn once_set<P: Drop>(set: Result<(), Unplayable>, player: P) -> Result<P, Unplayable>
+    ensures same { IfOk result (λ given. given ≡ player) }
+    ensures good { OnOk result (IsOk set) }
+    ensures refused { IfErr result (λ why. set ≡ Err why) }
+{
+    match set {
+        Ok(()) => Ok(player),
+        Err(why) => Err(why),
+    }
+}
+
+/// Why an input was refused, without the input.
+fn why_refused(refused: Refused) -> RefusedWhy
+    ensures { result ≡ refused.why }
+{
+    let Refused { why, input: _ } = refused;
+    why
+}
+
+fn copied(input: &Input) -> Result<Input, AllocError>
+    ensures { IfOk result (λ copy. copy ≡ input.now) }
+{
+    input.clone()
 }

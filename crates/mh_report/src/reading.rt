@@ -1,14 +1,17 @@
-//! Reading: the service that files make, and the commands of a script; or what cannot be read.
+//! Reading: the service that files make, its content files, and the commands of a script; or what cannot
+//! be read.
 //!
-//! Promise: each function answers what the definition of its name in `specs/Played` says.
+//! Promise: each function answers what the definition of its name in `specs/Reading` says.
 ghost use Rattle.std.specs.Prelude.{◌≡◌, [], Ok, map, IfOk, IfErr, OnOk};
 ghost use Rattle.mh_service.specs.Refusals.{refusal_of};
 ghost use Rattle.mh_service.specs.Resolved.{resolved};
 ghost use Rattle.mh_service.specs.Numbers.{why_number};
 ghost use Rattle.mh_text.specs.Reading.{read};
 ghost use Rattle.mh_codec.specs.Reading.{read as read_octets_lem};
-ghost use Rattle.mh_report.specs.Played.{readied, with_file, is_group_file as is_group_file_lem, group_in, spelled, read_files as read_files_lem, service_of as service_of_lem, service_read, commands_of, named, unless_refused, unstartable_for, unserviceable, Gives, Fails};
+ghost use Rattle.mh_report.specs.Reading.{readied, with_file, is_group_file as is_group_file_lem, group_in, spelled, read_files as read_files_lem, service_of as service_of_lem, service_read, commands_of, named, unless_refused, unstartable_for, unserviceable, Gives, Fails};
 
+use crate::contents::read_contents;
+use crate::material::Material;
 use crate::script::{Command, ScriptError, read_script};
 use crate::unplayable::Unplayable;
 use mh_base::{GroupName, NameError, Octets, Seq};
@@ -18,23 +21,28 @@ use mh_service::{Service, ServiceError, Why, double_name};
 use mh_text::{TextError, read_group};
 use std::alloc::{AllocError, Global};
 
-/// What is to be played: a service and commands.
-#[tactic(auto, unfolding(crate::specs::Played::readied))]
+/// What is to be played: a service, its content files and commands.
+#[tactic(auto, unfolding(crate::specs::Reading::readied))]
 pub fn ready(
     alloc: Global,
     files: &[(GroupName, Vec<u8>)],
     script: &[u8],
     start: &[u8],
-) -> Result<(Service, Seq<Command>), Unplayable>
-    ensures { Gives (λ x. (x.0, x.1)) result (readied start.now files.now script.now) }
+) -> Result<Material, Unplayable>
+    ensures { Gives (λ material. material) result (readied start.now files.now script.now) }
 {
     let service = read_service(alloc, files, start)?;
     let commands = read_commands(alloc, script)?;
-    Ok((service, commands))
+    let files = read_contents(alloc, &service, files)?;
+    Ok(Material {
+        service,
+        files,
+        commands,
+    })
 }
 
 /// The service of the files.
-#[tactic(auto, unfolding(crate::specs::Played::service_read))]
+#[tactic(auto, unfolding(crate::specs::Reading::service_read))]
 pub fn read_service(
     alloc: Global,
     files: &[(GroupName, Vec<u8>)],
@@ -61,7 +69,7 @@ fn read_files(
 }
 
 /// Puts the group of a file behind the others, if it is one.
-#[tactic(auto, unfolding(crate::specs::Played::with_file))]
+#[tactic(auto, unfolding(crate::specs::Reading::with_file))]
 fn add_file(
     alloc: Global,
     groups: &mut Vec<(GroupName, Group)>,
@@ -79,7 +87,7 @@ fn add_file(
 }
 
 /// Whether the bytes begin as a group does, in either notation.
-fn is_group_file(bytes: &[u8]) -> bool
+pub fn is_group_file(bytes: &[u8]) -> bool
     ensures { result ≡ is_group_file_lem bytes.now }
 {
     mh_text::begins_group(bytes) || mh_codec::begins_group(bytes)
@@ -87,7 +95,7 @@ fn is_group_file(bytes: &[u8]) -> bool
 
 /// The group that the file writes, in the notation in which it begins. A refusal calls the file by its
 /// name.
-#[tactic(auto, unfolding(crate::specs::Played::group_in))]
+#[tactic(auto, unfolding(crate::specs::Reading::group_in))]
 pub fn read_file(alloc: Global, name: &[u8], bytes: &[u8]) -> Result<Group, Unplayable>
     ensures { Gives (λ g. g) result (group_in name.now bytes.now) }
 {
@@ -127,7 +135,7 @@ fn read_text(alloc: Global, name: &[u8], bytes: &[u8]) -> Result<Group, Unplayab
 }
 
 /// The service of the groups.
-#[tactic(auto, unfolding(crate::specs::Played::service_of, crate::specs::Played::refusal_for))]
+#[tactic(auto, unfolding(crate::specs::Reading::service_of, crate::specs::Reading::refusal_for))]
 fn service_of(
     alloc: Global,
     groups: Vec<(GroupName, Group)>,
@@ -147,7 +155,7 @@ fn started_service(
     groups: Vec<(GroupName, Group)>,
     start: GroupName,
 ) -> Result<Service, Unplayable>
-    ensures { Gives (λ service. service) result (unless_refused (refusal_of start groups.items) (record { groups = map resolved groups.items; start = start })) }
+    ensures { Gives (λ service. service) result (unless_refused (refusal_of start groups.items) (record { groups = map resolved groups.items; start = start; programs = [] })) }
 {
     match Service::of_files(alloc, groups, start) {
         Ok(service) => Ok(service),
@@ -182,7 +190,7 @@ fn refused_for(alloc: Global, why: Why, group: &[u8]) -> Result<Unplayable, Allo
 }
 
 /// The commands of a script.
-#[tactic(auto, unfolding(crate::specs::Played::commands_of))]
+#[tactic(auto, unfolding(crate::specs::Reading::commands_of))]
 fn read_commands(alloc: Global, script: &[u8]) -> Result<Seq<Command>, Unplayable>
     ensures { Gives (λ found. found) result (commands_of script.now) }
 {

@@ -2,13 +2,14 @@
 //!
 //! `read_script` answers the commands of all lines, or the number of the first line that is none. What
 //! the commands do is left to `player`.
-ghost use Rattle.std.specs.Prelude.{◌≡◌, ◌<◌, ◌==◌, ◌∷◌, IfOk, IfErr, IfSome, OnOk, None, length};
+ghost use Rattle.std.specs.Prelude.{◌≡◌, ◌<◌, ◌==◌, ◌∷◌, true, false, drop, IfOk, IfErr, IfSome, OnOk, MatchOption, None, length};
 ghost use Rattle.std.specs.List.{position};
 ghost use Rattle.std.specs.Option.{option_copied};
-ghost use Rattle.mh_report.specs.Script.{lines, line_of as line_of_lem, commands, first_wrong, key_name as key_name_lem, key_named as key_named_lem, key_line as key_line_lem, step_line as step_line_lem, tick_line as tick_line_lem, stream_line as stream_line_lem, engine_line as engine_line_lem, integer_of as integer_of_lem, with_digit as with_digit_lem, lines_behind, number_of as number_of_lem, IsWrongAt};
+ghost use Rattle.mh_report.specs.Script.{begins, lines, line_of as line_of_lem, is_comment as is_comment_lem, plain_line as plain_line_lem, command_line as command_line_lem, input_line as input_line_lem, commands, first_wrong, key_named as key_named_lem, key_line as key_line_lem, step_line as step_line_lem, tick_line as tick_line_lem, stream_line as stream_line_lem, engine_line as engine_line_lem, file_line as file_line_lem, named_line as named_line_lem, content_line as content_line_lem, octets_of as octets_of_lem, integer_of as integer_of_lem, lines_behind, number_of as number_of_lem, IsWrongAt};
 
-use mh_base::Seq;
-use mh_model::{Input, Key};
+use crate::words::{integer_of, key_named, number_of, octets_of};
+use mh_base::{GroupName, NameError, Seq};
+use mh_model::{File, Input};
 use std::alloc::{AllocError, Global};
 use thiserror::Error;
 
@@ -16,7 +17,7 @@ use thiserror::Error;
 pub const RUN_LIMIT: u32 = 1_000_000;
 
 /// One thing to do.
-#[derive(Clone, Copy, PartialEq, Eq)]
+#[derive(Drop)]
 pub enum Command {
     /// An input is posted.
     Post(Input),
@@ -27,7 +28,7 @@ pub enum Command {
 }
 
 /// What a line of a script says.
-#[derive(Clone, Copy, PartialEq, Eq)]
+#[derive(Drop)]
 pub enum Line {
     /// It is empty or a comment.
     Skipped,
@@ -68,7 +69,7 @@ pub fn read_script(alloc: Global, bytes: &[u8]) -> Result<Seq<Command>, ScriptEr
     while let Some(text) = rest {
         let (line, behind) = first_line(text);
         number += 1;
-        match line_of(line) {
+        match line_of(alloc, line)? {
             Line::Skipped => {}
             Line::Says(command) => commands.push(command)?,
             Line::Wrong => return Err(ScriptError::Wrong(number)),
@@ -97,20 +98,74 @@ fn line_end(text: &[u8]) -> Option<usize>
 }
 
 /// What a line says.
-pub fn line_of(line: &[u8]) -> Line
-    ensures { result ≡ line_of_lem line.now }
+pub fn line_of(alloc: Global, line: &[u8]) -> Result<Line, AllocError>
+    ensures { IfOk result (λ said. said ≡ line_of_lem line.now) }
+{
+    match behind(line, b"file ") {
+        Some(words) => file_line(alloc, words),
+        None => Ok(plain_line(line)),
+    }
+}
+
+/// What stands behind this word, where a line begins with it.
+fn behind<'a>(line: &'a [u8], word: &[u8]) -> Option<&'a [u8]>
+    ensures { MatchOption result
+        (begins word.now line.now ≡ false)
+        (λ rest. (begins word.now line.now ≡ true) × (rest.now ≡ drop (length word.now) line.now)) }
+{
+    line.strip_prefix(word)
+}
+
+/// What a line says that holds no octets.
+#[tactic(auto, unfolding(crate::specs::Script::plain_line))]
+fn plain_line(line: &[u8]) -> Line
+    ensures { result ≡ plain_line_lem line.now }
+{
+    if is_comment(line) {
+        Line::Skipped
+    } else {
+        command_line(line)
+    }
+}
+
+/// Whether a line is empty or a comment.
+fn is_comment(line: &[u8]) -> bool
+    ensures { result ≡ is_comment_lem line.now }
 {
     match line {
-        [] => Line::Skipped,
-        [b'#', ..] => Line::Skipped,
-        b"run" => Line::Says(Command::Step(RUN_LIMIT)),
-        b"show" => Line::Says(Command::Show),
-        [b'k', b'e', b'y', b' ', name @ ..] => key_line(name),
-        [b's', b't', b'e', b'p', b' ', number @ ..] => step_line(number),
-        [b't', b'i', b'c', b'k', b' ', number @ ..] => tick_line(number),
-        [b's', b't', b'r', b'e', b'a', b'm', b' ', number @ ..] => stream_line(number),
-        [b'e', b'n', b'g', b'i', b'n', b'e', b' ', number @ ..] => engine_line(number),
-        _ => Line::Wrong,
+        [] => true,
+        [first, ..] => *first == b'#',
+    }
+}
+
+fn command_line(line: &[u8]) -> Line
+    ensures { result ≡ command_line_lem line.now }
+{
+    if line == b"run".as_slice() {
+        Line::Says(Command::Step(RUN_LIMIT))
+    } else if line == b"show".as_slice() {
+        Line::Says(Command::Show)
+    } else if let Some(name) = behind(line, b"key ") {
+        key_line(name)
+    } else if let Some(number) = behind(line, b"step ") {
+        step_line(number)
+    } else {
+        input_line(line)
+    }
+}
+
+/// An input that holds a number.
+fn input_line(line: &[u8]) -> Line
+    ensures { result ≡ input_line_lem line.now }
+{
+    if let Some(number) = behind(line, b"tick ") {
+        tick_line(number)
+    } else if let Some(number) = behind(line, b"stream ") {
+        stream_line(number)
+    } else if let Some(number) = behind(line, b"engine ") {
+        engine_line(number)
+    } else {
+        Line::Wrong
     }
 }
 
@@ -159,106 +214,39 @@ fn engine_line(digits: &[u8]) -> Line
     }
 }
 
-/// All keys.
-const KEYS: [Key; 21] = [
-    Key::Up,
-    Key::Down,
-    Key::Left,
-    Key::Right,
-    Key::Digit0,
-    Key::Digit1,
-    Key::Digit2,
-    Key::Digit3,
-    Key::Digit4,
-    Key::Digit5,
-    Key::Digit6,
-    Key::Digit7,
-    Key::Digit8,
-    Key::Digit9,
-    Key::Select,
-    Key::Cancel,
-    Key::Red,
-    Key::Green,
-    Key::Yellow,
-    Key::Blue,
-    Key::Text,
-];
-
-/// The key that a script calls so, if there is one.
-pub fn key_named(name: &[u8]) -> Option<Key>
-    ensures { result ≡ key_named_lem name.now }
+/// A content file by its name and its octets: the first space stands between them.
+fn file_line(alloc: Global, words: &[u8]) -> Result<Line, AllocError>
+    ensures { IfOk result (λ line. line ≡ file_line_lem words.now) }
 {
-    KEYS.iter().copied().find(|key| key_name(*key) == name)
-}
-
-/// What a script calls the key.
-#[tactic(auto, unfolding(crate::specs::Script::key_name))]
-pub fn key_name(key: Key) -> &'static [u8]
-    ensures { result.now ≡ key_name_lem key }
-{
-    match key {
-        Key::Up => b"up",
-        Key::Down => b"down",
-        Key::Left => b"left",
-        Key::Right => b"right",
-        Key::Digit0 => b"0",
-        Key::Digit1 => b"1",
-        Key::Digit2 => b"2",
-        Key::Digit3 => b"3",
-        Key::Digit4 => b"4",
-        Key::Digit5 => b"5",
-        Key::Digit6 => b"6",
-        Key::Digit7 => b"7",
-        Key::Digit8 => b"8",
-        Key::Digit9 => b"9",
-        Key::Select => b"select",
-        Key::Cancel => b"cancel",
-        Key::Red => b"red",
-        Key::Green => b"green",
-        Key::Yellow => b"yellow",
-        Key::Blue => b"blue",
-        Key::Text => b"text",
+    match first_space(words) {
+        Some(at) => named_line(alloc, &words[..at], &words[at + 1..]),
+        None => Ok(Line::Wrong),
     }
 }
 
-/// The number that decimal digits write, if it fits.
-pub fn number_of(digits: &[u8]) -> Option<u32>
-    ensures { result ≡ number_of_lem digits.now }
+/// Where the first word ends, if a space ends it.
+fn first_space(words: &[u8]) -> Option<usize>
+    ensures { result ≡ position (λ b. b == 32) words.now }
 {
-    if digits.is_empty() {
-        return None;
-    }
-    let mut number = 0;
-    for digit in digits {
-        match with_digit(number, *digit) {
-            Some(longer) => number = longer,
-            None => return None,
-        }
-    }
-    Some(number)
+    words.iter().position(|b| *b == b' ')
 }
 
-/// The integer that decimal digits write, if it fits.
-pub fn integer_of(digits: &[u8]) -> Option<i32>
-    ensures { result ≡ integer_of_lem digits.now }
+/// The file of this name, if it is a path.
+fn named_line(alloc: Global, name: &[u8], digits: &[u8]) -> Result<Line, AllocError>
+    ensures { IfOk result (λ line. line ≡ named_line_lem name.now digits.now) }
 {
-    match number_of(digits) {
-        Some(number) if number <= 2_147_483_647 => Some(number as i32),
-        _ => None,
+    match GroupName::of_path(alloc, name) {
+        Ok(name) => content_line(alloc, name, digits),
+        Err(NameError::BadName) => Ok(Line::Wrong),
+        Err(NameError::NoMemory) => Err(AllocError),
     }
 }
 
-/// The number with one digit more, if that fits.
-fn with_digit(number: u32, digit: u8) -> Option<u32>
-    ensures { result ≡ with_digit_lem number digit }
+fn content_line(alloc: Global, name: GroupName, digits: &[u8]) -> Result<Line, AllocError>
+    ensures { IfOk result (λ line. line ≡ content_line_lem name (octets_of_lem digits.now)) }
 {
-    if !digit.is_ascii_digit() {
-        return None;
-    }
-    let longer = u64::from(number) * 10 + u64::from(digit - b'0');
-    if longer <= 4_294_967_295 {
-        Some(longer as u32)
-    } else {
-        None
+    match octets_of(alloc, digits)? {
+        Some(content) => Ok(Line::Says(Command::Post(Input::Arrive(File { name, content })))),
+        None => Ok(Line::Wrong),
     }
 }

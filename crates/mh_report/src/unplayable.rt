@@ -6,7 +6,8 @@ use thiserror::Error;
 /// What cannot be read, so that nothing is played.
 #[derive(Debug, Drop, Error)]
 pub enum Unplayable {
-    /// A file begins as a group does, and is none: the number of the reason, and the place.
+    /// A file begins as a group does, and is none: the number of the reason, and the place. Or it is
+    /// a content file that cannot be put there, and the place is 0.
     #[error("file {name:?}: {number} at {offset}")]
     File {
         name: Octets,

@@ -2,3 +2,4 @@ pub mod Lookups
 pub mod ServiceLemmas
 pub mod Doubles
 pub mod OnceLemmas
+pub mod ContentLemmas

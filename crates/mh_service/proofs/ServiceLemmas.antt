@@ -194,7 +194,7 @@ unrefused_files start files good = unrefused (double_name [] files) (missing_sta
 
 -- The groups of files that are not refused, with their start.
 
-pub is_service_of : (start : List ℕ) (files : List File) → list_all (λ f. is_group f.1) files ≡ true → refusal_before start files ≡ None → is_service (record { groups = map resolved files; start = start }) ≡ true
+pub is_service_of : (start : List ℕ) (files : List File) → list_all (λ f. is_group f.1) files ≡ true → refusal_before start files ≡ None → is_service (record { groups = map resolved files; start = start; programs = [] }) ≡ true
 unfolding is_service
 is_service_of start files groups good =
     let none = unrefused_files start files good in
@@ -204,6 +204,6 @@ is_service_of start files groups good =
     fits true h = refl
     fits false h = cc
 
-pub has_keys_of : (start : List ℕ) (files : List File) → list_all (λ f. is_group f.1) files ≡ true → refusal_before start files ≡ None → has_keys (record { groups = map resolved files; start = start }) ≡ true
+pub has_keys_of : (start : List ℕ) (files : List File) → list_all (λ f. is_group f.1) files ≡ true → refusal_before start files ≡ None → has_keys (record { groups = map resolved files; start = start; programs = [] }) ≡ true
 unfolding has_keys
 has_keys_of start files groups good = groups_apart files groups (unrefused_files start files good).1

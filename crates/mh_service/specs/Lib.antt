@@ -4,3 +4,4 @@ pub mod Limits
 pub mod Refusals
 pub mod Numbers
 pub mod Wanted
+pub mod Contents

@@ -85,6 +85,7 @@ is_played_class class.Rectangle = true
 is_played_class class.Text = true
 is_played_class class.DynamicLineArt = true
 is_played_class class.Stream = true
+is_played_class class.ResidentPrg = true
 is_played_class c = is_group_class c || is_variable c
 
 abbrev pub is_played_name : ActionName → Bool
@@ -129,6 +130,8 @@ is_played_name action.DrawRectangle = true
 is_played_name action.SetData = true
 is_played_name action.GetTextData = true
 is_played_name action.SetTextColour = true
+is_played_name action.Call = true
+is_played_name action.Fork = true
 is_played_name _ = false
 
 abbrev pub is_played_setting : Setting → Bool

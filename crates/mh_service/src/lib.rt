@@ -7,6 +7,7 @@
 
 mod acts;
 pub mod configurations;
+pub mod contents;
 mod refusing;
 pub mod resolving;
 pub mod room;
@@ -14,6 +15,7 @@ pub mod service;
 pub mod service_error;
 mod values;
 
+pub use contents::ContentNames;
 pub use refusing::double_name;
 pub use service::Service;
 pub use service_error::{ServiceError, Why};

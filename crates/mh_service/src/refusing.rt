@@ -207,7 +207,12 @@ fn is_played_class(class: Class) -> bool
 {
     matches!(
         class,
-        Class::Link | Class::Rectangle | Class::Text | Class::DynamicLineArt | Class::Stream
+        Class::Link
+            | Class::Rectangle
+            | Class::Text
+            | Class::DynamicLineArt
+            | Class::Stream
+            | Class::ResidentPrg
     ) || class.is_group()
         || class.is_variable()
 }
@@ -258,6 +263,8 @@ fn is_played_name(name: ActionName) -> bool
             | ActionName::SetData
             | ActionName::GetTextData
             | ActionName::SetTextColour
+            | ActionName::Call
+            | ActionName::Fork
     )
 }
 

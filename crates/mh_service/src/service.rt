@@ -16,7 +16,7 @@ use crate::{ServiceError, Why, refusing, resolving};
 use indexmap::IndexMap;
 use mh_base::{GroupName, NameError, ObjRef, Seq};
 use mh_group::Group;
-use mh_model::{Fixed, FixedPart, parts};
+use mh_model::{Fixed, FixedPart, Signature, parts};
 use std::alloc::Global;
 use std::marker::Model;
 
@@ -29,17 +29,17 @@ pub struct Service {
 }
 
 impl Model for Service {
-    ghost use Rattle.std.specs.Prelude.{◌≡◌, true};
+    ghost use Rattle.std.specs.Prelude.{◌≡◌, true, []};
     ghost use Rattle.mh_model.specs.Service.{Service as ServiceValue};
     ghost use Rattle.mh_model.specs.Configuration.{is_service, has_keys};
 
     ghost Value = { ServiceValue };
 
-    ghost view = { λ s. record { groups = s.groups.entries; start = s.start } };
+    ghost view = { λ s. record { groups = s.groups.entries; start = s.start; programs = [] } };
 
     ghost invariant = { λ s.
-        (is_service (record { groups = s.groups.entries; start = s.start }) ≡ true)
-        × (has_keys (record { groups = s.groups.entries; start = s.start }) ≡ true) };
+        (is_service (record { groups = s.groups.entries; start = s.start; programs = [] }) ≡ true)
+        × (has_keys (record { groups = s.groups.entries; start = s.start; programs = [] }) ≡ true) };
 }
 
 impl Service {
@@ -106,6 +106,15 @@ impl Service {
         ensures { result.now ≡ self.now.start }
     {
         &self.start
+    }
+
+    /// The programs that a receiver has beside the built-in ones: none, of a service made from files.
+    pub fn programs(&self) -> &[Signature]
+        ensures same { result.now ≡ self.now.programs }
+        ensures none { result.now ≡ [] }
+    {
+        let _ = &self.start;
+        &[]
     }
 }
 

@@ -2,6 +2,7 @@ pub mod TableLemmas
 pub mod FreshLemmas
 pub mod BothLemmas
 pub mod KeepingLemmas
+mod BringingLemmas
 mod LineLemmas
 mod TextLemmas
 mod ScalarLemmas

@@ -1,8 +1,7 @@
 -- When the lines of an object's text stay as they are.
-use Rattle.std.specs.Prelude.{◌≡◌, Bool, true, false, ◌&&◌, ◌||◌, not}
+use Rattle.std.specs.Prelude.{◌≡◌, ℕ, Bool, true, false, ◌&&◌, ◌||◌, not, List, Option}
 use Rattle.std.specs.Option.{is_none}
 use Rattle.mh_group.specs.declared.attribute.Attribute.TheVariants as attribute
-use Rattle.mh_group.specs.Table.{has_content}
 use Rattle.mh_model.specs.declared.edit.Edit.{Edit}
 use Rattle.mh_model.specs.declared.edit.Edit.TheVariants as edit
 use Rattle.mh_model.specs.declared.object.Object.{Object}
@@ -14,19 +13,23 @@ use Rattle.mh_model.specs.Property.{read, as_bool, as_justification}
 abbrev pub has_no_text : Object → Bool
 has_no_text o = is_none o.body.text
 
--- no text is loaded, and none can be
-abbrev pub loads_no_text : Object → Bool
-loads_no_text o = not (has_content o.fixed.class) && is_none o.body.text
+-- no text is loaded, and this is none
+abbrev pub stays_without : Option (List ℕ) → Object → Bool
+stays_without text o = is_none text && has_no_text o
+
+-- no text is loaded, and none comes with new content: the object is not available, or this is none
+abbrev pub loads_no_text : Option (List ℕ) → Object → Bool
+loads_no_text text o = has_no_text o && (not o.body.available || is_none text)
 
 -- the edit can be seen to leave the lines as they are, whatever is in it
 abbrev pub leaves_lines : Edit → Object → Bool
 leaves_lines (edit.Give v) o = true
 leaves_lines (edit.Put a h) o = has_no_text o
-leaves_lines (edit.Load v) o = loads_no_text o
+leaves_lines (edit.Load v text) o = loads_no_text text o
 leaves_lines (edit.Draw d) o = true
 leaves_lines edit.Clear o = true
-leaves_lines edit.Prepare o = o.body.available || loads_no_text o
-leaves_lines edit.Start o = o.body.available || loads_no_text o
+leaves_lines (edit.Prepare text) o = o.body.available || stays_without text o
+leaves_lines (edit.Start text) o = o.body.available || stays_without text o
 leaves_lines edit.Halt o = true
 leaves_lines edit.Drop o = has_no_text o
 

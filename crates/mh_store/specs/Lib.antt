@@ -2,3 +2,4 @@ pub mod Table
 pub mod Trying
 pub mod Laws
 pub mod Keeping
+pub mod Bringing

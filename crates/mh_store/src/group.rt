@@ -7,12 +7,16 @@ ghost use Rattle.mh_model.specs.Bodies.{given};
 ghost use Rattle.mh_model.specs.Configuration.{are_apart};
 ghost use Rattle.mh_model.specs.Edits.{edited};
 ghost use Rattle.mh_model.specs.Service.{object_at, is_in, fresh as fresh_lem};
+ghost use Rattle.mh_store.specs.Bringing.{ready_from, all_put, keys_of, AreOwn};
 ghost use Rattle.mh_store.specs.Table.{changed_at, entry_of, is_new};
 ghost use Rattle.mh_store.specs.Trying.{left_over, edited_in, given_in};
 
+use crate::Awaits;
+use crate::bringing::{add_ready, put_all};
 use crate::kept::Kept;
+use crate::ready::Ready;
 use indexmap::IndexMap;
-use mh_base::{GroupName, ObjRef, Value};
+use mh_base::{GroupName, ObjRef, Octets, Value};
 use mh_model::{Edit, FixedPart, Object};
 use std::alloc::{AllocError, Global};
 use std::marker::Model;
@@ -75,10 +79,24 @@ impl Group {
     pub(crate) fn at(&self, place: usize) -> Option<&Object>
         ensures { option_copied result ≡ slice_get self.now place }
     {
-        match self.table.get_index(place) {
-            Some((_, kept)) => Some(kept.object()),
+        match self.kept_at(place) {
+            Some(kept) => Some(kept.object()),
             None => None,
         }
+    }
+
+    /// The object at this place, with its lines.
+    fn kept_at(&self, place: usize) -> Option<&Kept>
+        ensures { option_copied result ≡ slice_get self.now place }
+    {
+        match self.table.get_index(place) {
+            Some((_, kept)) => Some(kept),
+            None => None,
+        }
+    }
+
+    pub(crate) fn allocator(&self) -> Global {
+        self.alloc
     }
 
     /// How many objects there are.
@@ -99,6 +117,31 @@ impl Group {
             return Ok(Some(edit));
         }
         edit_under(self.alloc, &mut self.table, at.number, edit)
+    }
+
+    /// The objects to which a text is brought, with it, and with their places.
+    pub(crate) fn ready<A: Awaits>(
+        &self,
+        awaiting: &A,
+        text: &Octets,
+    ) -> Result<Vec<Ready>, AllocError>
+        ensures { IfOk result (λ ready. ready.items
+            ≡ ready_from 0 (A.is awaiting.now) text.now self.now) }
+    {
+        let mut ready = Vec::new(self.alloc);
+        for place in 0..self.len() {
+            let found = self.kept_at(place);
+            add_ready(self.alloc, &mut ready, place, found, awaiting, text)?;
+        }
+        Ok(ready)
+    }
+
+    /// Puts these at their places, each of which is the object's own. It takes no memory.
+    pub(crate) fn put(&mut self, ready: Vec<Ready>)
+        requires { AreOwn ready.items (keys_of self.old) }
+        ensures { self.new ≡ all_put ready.items self.old }
+    {
+        put_all(&mut self.table, ready);
     }
 
     /// Gives the variable at this reference a value. Where there is none the value comes back.

@@ -1,11 +1,13 @@
 //! When the lines of an object's text stay as they are, and what they are else.
 ghost use Rattle.std.specs.Prelude.{◌≡◌, true, IfOk};
 ghost use Rattle.mh_model.specs.Looks.{lines_of};
-ghost use Rattle.mh_store.specs.Keeping.{has_no_text as has_no_text_lem, loads_no_text as loads_no_text_lem, leaves_lines as leaves_lines_lem, AreLaidAlike};
+ghost use Rattle.mh_store.specs.Keeping.{has_no_text as has_no_text_lem, leaves_lines as leaves_lines_lem};
+ghost use Rattle.mh_store.specs.Keeping.{loads_no_text as loads_no_text_lem};
+ghost use Rattle.mh_store.specs.Keeping.{stays_without as stays_without_lem, AreLaidAlike};
 
 use crate::layout::lay_out;
 use crate::looks::{area_of, justification, wraps};
-use mh_base::Seq;
+use mh_base::{Octets, Seq};
 use mh_model::boxes::{columns_of, rows_of};
 use mh_model::{Edit, Line, Object};
 use std::alloc::{AllocError, Global};
@@ -17,8 +19,10 @@ pub fn leaves_lines(edit: &Edit, object: &Object) -> bool
     match edit {
         Edit::Give(_) | Edit::Draw(_) | Edit::Clear | Edit::Halt => true,
         Edit::Put(_, _) | Edit::Drop => has_no_text(object),
-        Edit::Load(_) => loads_no_text(object),
-        Edit::Prepare | Edit::Start => object.body.available || loads_no_text(object),
+        Edit::Load(_, text) => loads_no_text(text, object),
+        Edit::Prepare(text) | Edit::Start(text) => {
+            object.body.available || stays_without(text, object)
+        }
     }
 }
 
@@ -28,10 +32,18 @@ fn has_no_text(object: &Object) -> bool
     object.body.text.is_none()
 }
 
-fn loads_no_text(object: &Object) -> bool
-    ensures { result ≡ loads_no_text_lem object.now }
+/// Whether no text is loaded, and this is none.
+fn stays_without(text: &Option<Octets>, object: &Object) -> bool
+    ensures { result ≡ stays_without_lem text.now object.now }
 {
-    !object.fixed.get().class.has_content() && has_no_text(object)
+    text.is_none() && has_no_text(object)
+}
+
+/// Whether no text is loaded, and none comes with new content.
+fn loads_no_text(text: &Option<Octets>, object: &Object) -> bool
+    ensures { result ≡ loads_no_text_lem text.now object.now }
+{
+    has_no_text(object) && (!object.body.available || text.is_none())
 }
 
 /// Whether the lines are the same before a change and after it, as far as can be seen without laying

@@ -4,10 +4,11 @@ ghost use Rattle.mh_model.specs.Bodies.{given};
 ghost use Rattle.mh_model.specs.Edits.{edited};
 ghost use Rattle.mh_model.specs.Looks.{lines_of as lines_of_lem};
 ghost use Rattle.mh_model.specs.Service.{fresh as fresh_lem};
+ghost use Rattle.mh_store.specs.Bringing.{with_brought};
 ghost use Rattle.mh_store.specs.Table.{with_body};
 
 use crate::keeping::{are_same_lines, leaves_lines, lines_for};
-use mh_base::{Seq, Value};
+use mh_base::{Octets, Seq, Value};
 use mh_model::{Edit, FixedPart, Line, Object};
 use std::alloc::{AllocError, Global};
 use std::marker::Model;
@@ -61,6 +62,15 @@ impl Kept {
         self.object.body.give(value);
     }
 
+    /// A copy of it with this text, laid out.
+    pub(crate) fn with_text(&self, alloc: Global, text: &Octets) -> Result<Kept, AllocError>
+        ensures { IfOk result (λ kept. kept ≡ with_brought text.now self.now) }
+    {
+        let object = brought_copy(alloc, &self.object, text)?;
+        let lines = lines_for(alloc, &object)?;
+        Ok(Kept { object, lines })
+    }
+
     /// Changes the body of the object, and lays its text out anew where its lines can differ.
     pub(crate) fn edit(&mut self, alloc: Global, edit: Edit) -> Result<(), AllocError>
         ensures done { OnOk result (self.new ≡ with_body (edited edit) self.old) }
@@ -93,6 +103,16 @@ fn edited_copy(alloc: Global, object: &Object, edit: Edit) -> Result<Object, All
 {
     let mut body = object.body.copy(alloc)?;
     body.edit(object.fixed.get(), edit)?;
+    let fixed = object.fixed.clone()?;
+    Ok(Object { fixed, body })
+}
+
+/// A copy of the object with this text.
+fn brought_copy(alloc: Global, object: &Object, text: &Octets) -> Result<Object, AllocError>
+    ensures { IfOk result (λ after. after ≡ with_brought text.now object.now) }
+{
+    let mut body = object.body.copy(alloc)?;
+    body.bring(text.clone()?);
     let fixed = object.fixed.clone()?;
     Ok(Object { fixed, body })
 }

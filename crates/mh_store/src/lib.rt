@@ -3,9 +3,12 @@
 //! Promise: what is found, changed and put in place of other objects is what the definitions of
 //! `mh_model` say of plain lists. An object is found by the name of its group and the hash of its
 //! number. Beside each object lie the lines of its text, which are laid out anew only where they can
-//! differ. When a change is made, and what follows from it, is left to the machine.
+//! differ. A text is brought to several objects at once, or to none. When a change is made, and what
+//! follows from it, is left to the machine.
 #![tactic(auto)]
 
+pub mod awaits;
+mod bringing;
 pub mod group;
 mod keeping;
 pub mod kept;
@@ -14,9 +17,11 @@ mod layout;
 mod line;
 pub mod looks;
 pub mod objects;
+mod ready;
 mod scalars;
 mod wrapping;
 
+pub use awaits::Awaits;
 pub use group::Group;
 pub use kept::Kept;
 pub use laws::{columns_are_covered, one_division, rows_are_covered};

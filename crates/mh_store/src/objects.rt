@@ -1,17 +1,19 @@
 //! `Objects`: those of the application and those of the scene.
-ghost use Rattle.std.specs.Prelude.{◌≡◌, ◌<◌, ◌^◌, OnOk, OnErr, [], length, slice_get};
+ghost use Rattle.std.specs.Prelude.{◌≡◌, ◌<◌, ◌^◌, IfOk, OnOk, OnErr, [], length, slice_get};
 ghost use Rattle.std.specs.Option.{option_copied};
 ghost use Rattle.mh_model.specs.Bodies.{given};
 ghost use Rattle.mh_model.specs.Edits.{edited};
-ghost use Rattle.mh_model.specs.Rules.{changed};
+ghost use Rattle.mh_model.specs.Rules.{changed, text_brought};
 ghost use Rattle.mh_model.specs.Service.{object_at, parts};
 ghost use Rattle.mh_model.specs.State.{all};
+ghost use Rattle.mh_store.specs.Bringing.{ready_from, all_put, keys_of, AreOwn};
 ghost use Rattle.mh_store.specs.Trying.{of_scene, edited_in, given_in};
 
-use crate::{Group, Kept};
-use mh_base::{ObjRef, Value};
+use crate::ready::Ready;
+use crate::{Awaits, Group, Kept};
+use mh_base::{ObjRef, Octets, Value};
 use mh_model::{Edit, Object};
-use std::alloc::AllocError;
+use std::alloc::{AllocError, Global};
 use std::marker::Model;
 
 /// The objects that are present: those of the active application, and those of the current scene.
@@ -104,6 +106,22 @@ impl Objects {
         }
     }
 
+    /// Brings a text to the objects that are meant. All that wants memory is made before the first of
+    /// them is changed.
+    pub fn bring_text<A: Awaits>(&mut self, awaiting: &A, text: &Octets) -> Result<(), AllocError>
+        ensures done { OnOk result (self.new ≡ text_brought (A.is awaiting.now) text.now self.old) }
+        ensures own { parts self.new.application ≡ parts self.old.application }
+        ensures others { parts self.new.scene ≡ parts self.old.scene }
+        ensures kept { OnErr result (self.new ≡ self.old) }
+    {
+        let alloc = self.application.allocator();
+        let application = self.application.ready(awaiting, text)?;
+        let scene = ready_in(alloc, &self.scene, awaiting, text)?;
+        self.application.put(application);
+        put_in(&mut self.scene, scene);
+        Ok(())
+    }
+
     /// Puts the objects of another application, with no scene, in the place of all that are there. It
     /// takes no memory.
     pub fn launch(&mut self, application: Group)
@@ -179,5 +197,31 @@ fn give_in(scene: &mut Option<Group>, at: &ObjRef, value: Value)
 {
     if let Some(group) = scene {
         group.give(at, value);
+    }
+}
+
+/// The objects of the scene to which a text is brought, with it, and with their places.
+fn ready_in<A: Awaits>(
+    alloc: Global,
+    scene: &Option<Group>,
+    awaiting: &A,
+    text: &Octets,
+) -> Result<Vec<Ready>, AllocError>
+    ensures { IfOk result (λ ready. ready.items
+        ≡ ready_from 0 (A.is awaiting.now) text.now (of_scene scene.now)) }
+{
+    match scene {
+        Some(group) => group.ready(awaiting, text),
+        None => Ok(Vec::new(alloc)),
+    }
+}
+
+/// Puts these at their places among the objects of the scene.
+fn put_in(scene: &mut Option<Group>, ready: Vec<Ready>)
+    requires { AreOwn ready.items (keys_of (of_scene scene.old)) }
+    ensures { of_scene scene.new ≡ all_put ready.items (of_scene scene.old) }
+{
+    if let Some(group) = scene {
+        group.put(ready);
     }
 }

@@ -1,6 +1,8 @@
 //! The engine: what it answers when there is nothing to do, when too many inputs wait, and when the clock
 //! is full.
 use crate::cases::all_hold;
+use crate::files::{number_if, refusals};
+use crate::playing::DAY;
 use crate::service::Asked;
 use mh_engine::{Engine, Rest, Stepped};
 use mh_model::{Input, Key};
@@ -31,14 +33,15 @@ fn idle(alloc: Global, engine: &mut Engine) -> Option<Vec<u8>> {
     }
 }
 
-const KEY: Input = Input::Key(Key::Red);
+fn is_red(input: &Input) -> bool {
+    matches!(input, Input::Key(Key::Red))
+}
 
 /// The number of the refusal of a key, which is handed back; 0 where it is taken.
 fn refusal_of_key(engine: &mut Engine) -> Option<u32> {
-    match engine.post(KEY) {
+    match engine.post(Input::Key(Key::Red)) {
         Ok(()) => Some(0),
-        Err(refused) if refused.input == KEY => refused.why.number(),
-        Err(_) => None,
+        Err(refused) => number_if(is_red(&refused.input), refused.why),
     }
 }
 
@@ -104,7 +107,8 @@ impl Played for Engine {
         match asked {
             "idle" => idle(alloc, self),
             "ticks" => ticks(alloc, self),
-            _ => keys(alloc, self),
+            "keys" => keys(alloc, self),
+            _ => refusals(alloc, self, asked),
         }
     }
 }
@@ -116,7 +120,11 @@ fn of_played<P: Played + Drop>(alloc: Global, played: Option<P>, asked: &str) ->
 
 /// What is answered of the engine of the service.
 pub fn of_engine(alloc: Global, service: Service, asked: &str) -> Option<Vec<u8>> {
-    of_played(alloc, Engine::start_lenient(alloc, service).ok(), asked)
+    of_played(
+        alloc,
+        Engine::start_lenient(alloc, service, DAY).ok(),
+        asked,
+    )
 }
 
 #[test]

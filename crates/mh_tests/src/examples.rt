@@ -1,7 +1,9 @@
 //! Small services that several files read, write or play.
 
 /// What each file is, its path, and what it holds: an application that goes to the scene `s`, a scene
-/// with a red rectangle that a key moves, one with a key that moves what is not there, and so on.
+/// with a red rectangle that a key moves, one with a key that moves what is not there, and so on; an
+/// application with a text that waits for the file `x`, and one which on events of the engine (1) gives
+/// its text the file `y`, (2) `x` again, (3) octets, and (4) drops it, (5) runs it, (6) stops it.
 static FILES: &str =
     r#"application: a {:Application ("~/a" 0) :OnStartUp ( :TransitionTo (("~/s" 0)) ) }
 
@@ -21,6 +23,18 @@ UserInput :EventData 102 :LinkEffect ( :Add (1 12) :SetPosition (10 :IndirectRef
 :EventSource 0 :EventType UserInput :EventData 103 :LinkEffect ( :TransitionTo (0) ) } {:Link 15
 :EventSource 0 :EventType UserInput :EventData 104 :LinkEffect ( :LockScreen (("~/a" 0)) :Add (1 12)
 :SetPosition (10 :IndirectRef 1 0) :UnlockScreen (("~/a" 0)) ) } ) }
+
+waiting: a {:Application ("~/a" 0) :Items ( {:Text 1 :OrigBoxSize 24 16 :OrigContent :ContentRef
+("~/x") } ) }
+
+pages: a {:Application ("~/a" 0) :Items ( {:Text 1 :OrigBoxSize 48 16 :OrigContent :ContentRef ("~/x") }
+{:ContentRefVar 2 :OrigValue :ContentRef ("x") } {:Link 11 :EventSource 0 :EventType EngineEvent
+:EventData 1 :LinkEffect ( :SetData (1 :ContentRef ("y")) ) } {:Link 12 :EventSource 0 :EventType
+EngineEvent :EventData 2 :LinkEffect ( :SetData (1 :IndirectRef 2) ) } {:Link 13 :EventSource 0
+:EventType EngineEvent :EventData 3 :LinkEffect ( :SetData (1 'in') ) } {:Link 14 :EventSource 0
+:EventType EngineEvent :EventData 4 :LinkEffect ( :Unload (1) ) } {:Link 15 :EventSource 0 :EventType
+EngineEvent :EventData 5 :LinkEffect ( :Run (1) ) } {:Link 16 :EventSource 0 :EventType EngineEvent
+:EventData 6 :LinkEffect ( :Stop (1) ) } ) }
 
 empty: a {:Application ("~/a" 0) :Items ( ) }
 

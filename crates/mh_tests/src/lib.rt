@@ -30,7 +30,15 @@ mod engine;
 #[cfg(test)]
 mod examples;
 #[cfg(test)]
+mod files;
+#[cfg(test)]
 mod group;
+#[cfg(test)]
+mod guide;
+#[cfg(test)]
+mod handed;
+#[cfg(test)]
+mod lengths;
 #[cfg(test)]
 mod limits;
 #[cfg(test)]
@@ -45,6 +53,10 @@ mod page;
 mod plain;
 #[cfg(test)]
 mod playing;
+#[cfg(test)]
+mod presets;
+#[cfg(test)]
+mod programs;
 #[cfg(test)]
 mod report;
 #[cfg(test)]

@@ -1,6 +1,6 @@
 //! The example `page`: its service and its script, and the report that is stored beside them.
 use crate::cases::are;
-use crate::playing::File;
+use crate::playing::{DAY, File};
 use mh_base::GroupName;
 use mh_report::{ListSink, Options, Status, play_bytes};
 use std::alloc::Global;
@@ -204,29 +204,34 @@ row 13: 2-2 000000/ffff00 "" 3-30 000000/000040 "" 31-31 000000/ffff00 ""
 total 77
 "#;
 
-fn file(alloc: Global, path: &str, text: &str) -> Option<File> {
+/// A file of a folder.
+pub fn file(alloc: Global, path: &str, text: &str) -> Option<File> {
     let held = Vec::from_slice(alloc, text.as_bytes()).ok()?;
     Some((GroupName::of_path(alloc, path.as_bytes()).ok()?, held))
 }
 
-/// What the play writes, if it ends well.
-fn report(alloc: Global) -> Option<Vec<u8>> {
-    let mut files = Vec::new(alloc);
-    files.push(file(alloc, "a", APPLICATION)?).ok()?;
-    files.push(file(alloc, "s", SCENE)?).ok()?;
+/// What the play of a script writes, if it ends well.
+pub fn reported(alloc: Global, files: &[File], script: &str) -> Option<Vec<u8>> {
     let options = Options {
         start: Vec::from_slice(alloc, b"a").ok()?,
         lenient: false,
+        mjd: DAY,
     };
     let mut sink = ListSink {
         bytes: Vec::new(alloc),
         failures: 0,
     };
-    let script = SCRIPT.as_bytes();
-    match play_bytes(alloc, files.as_slice(), script, &options, &mut sink) {
+    match play_bytes(alloc, files, script.as_bytes(), &options, &mut sink) {
         Ok(Status::Good) => Some(sink.bytes),
         _ => None,
     }
+}
+
+fn report(alloc: Global) -> Option<Vec<u8>> {
+    let mut files = Vec::new(alloc);
+    files.push(file(alloc, "a", APPLICATION)?).ok()?;
+    files.push(file(alloc, "s", SCENE)?).ok()?;
+    reported(alloc, files.as_slice(), SCRIPT)
 }
 
 #[test]

@@ -2,12 +2,12 @@
 //!
 //! A case is a block of lines: what it shows; what is done; and behind an `@` each file, with its path
 //! and what it holds, or with the name of a shared one. What is done is `check`, `play` with a script,
-//! `lenient` with a script that is played whatever the verifier would say, `start` with the path to
-//! start with and a script, and `text` or `octets` for a conversion. What is written ends in a line with
-//! the exit status.
+//! `day` with the day on which the play begins and a script, `lenient` with a script that is played
+//! whatever the verifier would say, `start` with the path to start with and a script, and `text` or
+//! `octets` for a conversion. What is written ends in a line with the exit status.
 ghost use Rattle.std.specs.Prelude.{◌≡◌, ◌-◌, ◌<◌, ◌^◌};
 
-use crate::cases::{Question, bytes};
+use crate::cases::{Question, bytes, number};
 use crate::examples::path_and_text;
 use mh_base::GroupName;
 use mh_report::{
@@ -32,23 +32,31 @@ pub fn sources(alloc: Global, files: &str) -> Option<Vec<File>> {
     Some(sources)
 }
 
-/// The choices of a play that starts with this application.
-fn options(alloc: Global, start: &str, lenient: bool) -> Option<Options> {
+/// The day on which a play begins if no other is told, as a modified Julian date.
+pub const DAY: u32 = 60_000;
+
+/// The choices of a play that starts with this application, on this day.
+fn options(alloc: Global, start: &str, lenient: bool, mjd: u32) -> Option<Options> {
     let start = Vec::from_slice(alloc, start.as_bytes()).ok()?;
-    Some(Options { start, lenient })
+    Some(Options {
+        start,
+        lenient,
+        mjd,
+    })
 }
 
-/// Plays into the sink: with which application the play starts, its script, and whether it is lenient.
+/// Plays into the sink: with which application the play starts, its script, whether it is lenient, and on
+/// which day it begins.
 pub fn play<S: Sink>(
     alloc: Global,
     files: &[File],
-    how: (&str, &str, bool),
+    how: (&str, &str, bool, u32),
     sink: &mut S,
 ) -> Option<Result<Status, PlayError>>
     requires { S.failures sink.old < 2 ^ 64 - 1 }
 {
-    let (start, script, lenient) = how;
-    let options = options(alloc, start, lenient)?;
+    let (start, script, lenient, mjd) = how;
+    let options = options(alloc, start, lenient, mjd)?;
     let script = bytes(alloc, script)?;
     Some(play_bytes(alloc, files, script.as_slice(), &options, sink))
 }
@@ -63,7 +71,7 @@ fn ended(alloc: Global, written: Vec<u8>, code: u8) -> Option<Vec<u8>> {
 }
 
 /// What a play writes.
-fn played(alloc: Global, files: &[File], how: (&str, &str, bool)) -> Option<Vec<u8>> {
+pub fn played(alloc: Global, files: &[File], how: (&str, &str, bool, u32)) -> Option<Vec<u8>> {
     let mut sink = ListSink {
         bytes: Vec::new(alloc),
         failures: 0,
@@ -74,7 +82,7 @@ fn played(alloc: Global, files: &[File], how: (&str, &str, bool)) -> Option<Vec<
 
 /// What the verifier writes.
 fn checked(alloc: Global, files: &[File]) -> Option<Vec<u8>> {
-    let options = options(alloc, "a", false)?;
+    let options = options(alloc, "a", false, DAY)?;
     let mut sink = ListSink {
         bytes: Vec::new(alloc),
         failures: 0,
@@ -106,11 +114,16 @@ pub fn outcome(alloc: Global, task: &str, files: &str) -> Option<Vec<u8>> {
         "check" => checked(alloc, files.as_slice()),
         "text" => conversion(alloc, files.as_slice(), Notation::Textual),
         "octets" => conversion(alloc, files.as_slice(), Notation::Binary),
-        "play" => played(alloc, files.as_slice(), ("a", rest, false)),
-        "lenient" => played(alloc, files.as_slice(), ("a", rest, true)),
+        "play" => played(alloc, files.as_slice(), ("a", rest, false, DAY)),
+        "lenient" => played(alloc, files.as_slice(), ("a", rest, true, DAY)),
+        "day" => {
+            let mjd = number(rest, 0)?;
+            let (_, script) = rest.split_once(' ')?;
+            played(alloc, files.as_slice(), ("a", script, false, mjd))
+        }
         "start" => {
             let (start, script) = rest.split_once(' ')?;
-            played(alloc, files.as_slice(), (start, script, true))
+            played(alloc, files.as_slice(), (start, script, true, DAY))
         }
         _ => None,
     }

@@ -45,7 +45,7 @@ play key purple| @application @scene
 a time that is too long
 play tick 4294967296| @application @scene
 => script 1|exit 2|;;
-no command
+half an octet of a file
 play file x 0| @application @scene
 => script 1|exit 2|;;
 no steps

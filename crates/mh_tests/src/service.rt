@@ -4,7 +4,7 @@
 //! behind an `@` each file: its path, how many variables its group has besides and how many actions it
 //! does at its start, if not those of the text, and the text; or a file as in a play.
 use crate::building::grown;
-use crate::cases::{Question, all_hold, bytes, said};
+use crate::cases::{Question, all_hold, bytes, said, word};
 use crate::engine::of_engine;
 use crate::examples::path_and_text;
 use crate::objects::inside;
@@ -48,10 +48,10 @@ pub fn all_named(alloc: Global, files: &str) -> Option<Vec<Named>> {
 
 /// What is answered of a service that was made.
 fn of_service(alloc: Global, service: Service, asked: &str) -> Option<Vec<u8>> {
-    match asked {
+    match word(asked, 0) {
         "made" => said(alloc, b"made"),
         "verdict" => verdict(alloc, service),
-        "idle" | "keys" | "ticks" => of_engine(alloc, service, asked),
+        "idle" | "keys" | "ticks" | "files" => of_engine(alloc, service, asked),
         _ => inside(alloc, &service, asked),
     }
 }

@@ -1,13 +1,13 @@
 //! Sinks that fail, and sinks over writers: what they took is a beginning of what is meant.
 use crate::cutting_sink::CuttingSink;
-use crate::playing::{File, play, sources};
+use crate::playing::{DAY, File, play, sources};
 use mh_report::{Notation, PlayError, Status, WriterSink, convert_bytes};
 use std::alloc::Global;
 
 /// The red rectangle that a key moves, what is done with it, and what is written.
 const FILES: &str = "application @scene";
 
-const MOVES: (&str, &str, bool) = ("a", "run|show|key red|run|show|", true);
+const MOVES: (&str, &str, bool, u32) = ("a", "run|show|key red|run|show|", true, DAY);
 
 static REPORT: &[u8] = b"did 11 idle\n\
     frame 1\n\

@@ -69,10 +69,49 @@ check @a {:Application ("~/a" 0) :OnStartUp (:Add(30 1) :TransitionTo(("~/s" 0))
 @s {:Scene ("~/s" 0) :Items ( {:Rectangle 10 :OrigBoxSize 24 32} {:IntegerVar 20 :OrigValue 0} ) }
 => accepted|exit 0|"#;
 
+/// Calls of programs. Which programs there are is known beforehand.
+static CALLS: &str = r#"
+a program that there is not
+check @a {:Application ("~/a" 0) :OnStartUp (:Call(1 2 ())) :Items ( {:ResidentPrg 1 :Name 'XYZ'}
+{:BooleanVar 2 :OrigValue false} ) }
+=> refused V9 a 0 1 Call|config a -|object a 1|exit 1|;;
+an argument too many, in the scene
+check @application
+@s {:Scene ("~/s" 0) :Items ( {:ResidentPrg 1 :Name 'GSL'} {:BooleanVar 2 :OrigValue false} {:IntegerVar 3
+:OrigValue 0} {:Link 4 :EventSource 0 :EventType UserInput :LinkEffect (:Add(3 1) :Fork(1 2 (:GOctetString
+'x' :GInteger :IndirectRef 3 :GInteger 0))) } ) }
+=> refused V9 s 4 2 Fork|config a s|object s 1|exit 1|;;
+a number for octets
+check @a {:Application ("~/a" 0) :OnStartUp (:Call(1 2 (:GInteger 5 :GInteger :IndirectRef 3))) :Items (
+{:ResidentPrg 1 :Name 'GSL'} {:BooleanVar 2 :OrigValue false} {:IntegerVar 3 :OrigValue 0} ) }
+=> refused V9 a 0 1 Call|config a -|object a 1|exit 1|;;
+an answer that has nowhere to go
+check @a {:Application ("~/a" 0) :OnStartUp (:Call(1 2 (:GOctetString 'x' :GInteger 5))) :Items (
+{:ResidentPrg 1 :Name 'GSL'} {:BooleanVar 2 :OrigValue false} {:IntegerVar 3 :OrigValue 0} ) }
+=> refused V9 a 0 1 Call|config a -|object a 1|exit 1|;;
+what is absent goes before a call that does not fit
+check @a {:Application ("~/a" 0) :OnStartUp (:Call(1 9 ())) :Items ( {:ResidentPrg 1 :Name 'XYZ'} ) }
+=> refused V1 a 0 1 Call|config a -|object a 9|exit 1|;;
+a number of a timer that is not known goes before one
+check @a {:Application ("~/a" 0) :OnStartUp (:SetTimer(0 :IndirectRef 3 5) :Call(1 2 ())) :Items (
+{:ResidentPrg 1 :Name 'XYZ'} {:BooleanVar 2 :OrigValue false} {:IntegerVar 3 :OrigValue 0} ) }
+=> refused V7 a 0 1 SetTimer|config a -|object a 3|exit 1|;;
+what is called is no program
+check @a {:Application ("~/a" 0) :OnStartUp (:Call(2 2 ())) :Items ( {:BooleanVar 2 :OrigValue false} ) }
+=> refused V2 a 0 1 Call|config a -|object a 2|exit 1|;;
+a program does not run
+check @a {:Application ("~/a" 0) :OnStartUp (:Run(1)) :Items ( {:ResidentPrg 1 :Name 'GSL'} ) }
+=> refused V2 a 0 1 Run|config a -|object a 1|exit 1|;;
+a call that is never made
+check @a {:Application ("~/a" 0) :Items ( {:ResidentPrg 1 :Name 'XYZ'} {:Link 4 :EventSource 9 :EventType
+IsRunning :LinkEffect (:Call(1 2 ())) } ) }
+=> accepted|exit 0|"#;
+
 #[test]
 fn judges(rt: HostRuntime) {
     all_hold::<Task>(&rt, rt.alloc(), SCENES);
     all_hold::<Task>(&rt, rt.alloc(), APPLICATIONS);
+    all_hold::<Task>(&rt, rt.alloc(), CALLS);
 }
 
 fn starts_with_a(service: &Service) -> bool {
@@ -92,7 +131,7 @@ fn is_handed_back(refusal: &Refusal) -> bool {
 
 /// Whether the service is accepted and kept, or refused and handed back.
 pub fn verdict(alloc: Global, service: Service) -> Option<Vec<u8>> {
-    let (word, is_kept) = match verify(alloc, service) {
+    let (word, is_kept) = match verify(alloc, service, &[]) {
         Ok(accepted) => ("accepted", comes_together(accepted)),
         Err(refusal) => ("refused", is_handed_back(&refusal)),
     };

@@ -8,3 +8,5 @@ pub mod RefusalLemmas
 pub mod TakenLemmas
 pub mod ListedLemmas
 pub mod DirectLemmas
+pub mod EquippedLemmas
+pub mod CallLemmas

@@ -14,10 +14,10 @@ use Rattle.mh_model.specs.declared.fault.Fault.{Fault}
 use Rattle.mh_model.specs.declared.object.Fixed.{Fixed}
 use Rattle.mh_model.specs.Service.{Service}
 use Rattle.mh_model.specs.Configuration.{present, is_among, is_single, starting, same_config}
-use Rattle.mh_model.specs.Active.{actions, is_active, active_actions, fault_of, is_direct, has_known_id, is_none, is_good}
+use Rattle.mh_model.specs.Active.{actions, is_active, active_actions, is_direct, has_known_id, is_none, is_good}
 use Rattle.mh_model.specs.Acceptable.{IsReached, start, led, IsClosed, is_free, leads_into}
 use Rattle.mh_verify.specs.declared.refusal.Found.{Found}
-use Rattle.mh_verify.specs.Refusals.{found_at, timer_at, not_yet_at, id_variable, refused_for, wrong_from, wrong_with, several, several_at, refusals_of_effects, refusals_in, RefusedIsNot}
+use Rattle.mh_verify.specs.Refusals.{found_at, timer_at, called_at, not_yet_at, id_variable, fault_beside, miscalls, refused_for, wrong_from, wrong_with, several, several_at, refusals_of_effects, refusals_in, RefusedIsNot}
 use Rattle.mh_verify.specs.Order.{IsFirst}
 use Rattle.mh_verify.specs.Least.{least_of}
 use Rattle.mh_verify.specs.Free.{AreFree}
@@ -25,6 +25,7 @@ use Rattle.mh_verify.specs.Reach.{AreReached}
 use Rattle.mh_verify.proofs.ContainsLemmas.{all_append, all_front, all_back, no_member, first_or_behind, in_joined, joined_from, all_of, empty_joined}
 use Rattle.mh_verify.proofs.ConfigLemmas.{config_is, config_itself, member_of, among_of}
 use Rattle.mh_verify.proofs.OrderLemmas.{first_of, none_of}
+use Rattle.mh_verify.proofs.CallLemmas.{parted}
 
 -- no variable holds the id of a timer
 abbrev is_unheld : Option ObjRef → Bool
@@ -40,27 +41,35 @@ known_id _ xs = refl
 
 nothing_wrong : (s : Service) (ps : List Fixed) (c : Config) (key : ObjRef) (n : ℕ) (acts : List Act) → list_all (is_good s ps) acts ≡ true → wrong_from s ps c key n acts ≡ []
 nothing_wrong s ps c key n [] h = refl
-nothing_wrong s ps c key n (a ∷ acts) h = by (fault_of s ps a) (id_variable a.name a.arguments) (is_direct a) (has_known_id a.name a.arguments) (known_id a.name a.arguments) h (nothing_wrong s ps c key (n + 1) acts)
+nothing_wrong s ps c key n (a ∷ acts) h =
+    by (fault_beside s ps a) (id_variable a.name a.arguments) (miscalls s ps a) (is_direct a) (has_known_id a.name a.arguments) (known_id a.name a.arguments)
+    (subst (λ (o : Bool). (((o && is_direct a) && has_known_id a.name a.arguments) && list_all (is_good s ps) acts) ≡ true) (parted s ps a) h)
+    (nothing_wrong s ps c key (n + 1) acts)
   where
-    by : (f : Option Fault) (v : Option ObjRef) (d k : Bool) → k ≡ is_unheld v → (((is_none f && d) && k) && list_all (is_good s ps) acts) ≡ true → (list_all (is_good s ps) acts ≡ true → wrong_from s ps c key (n + 1) acts ≡ []) → option_to_list (refused_for c key n a f v d) ++ wrong_from s ps c key (n + 1) acts ≡ []
-    by None None true true e h ih = ih h
-    by None None true false e h ih = cc
-    by None None false k e h ih = cc
-    by None (Some v) true true e h ih = cc
-    by None (Some v) true false e h ih = cc
-    by None (Some v) false k e h ih = cc
-    by (Some f) v d k e h ih = cc
+    by : (f : Option Fault) (v : Option ObjRef) (m d k : Bool) → k ≡ is_unheld v → ((((is_none f && not m) && d) && k) && list_all (is_good s ps) acts) ≡ true → (list_all (is_good s ps) acts ≡ true → wrong_from s ps c key (n + 1) acts ≡ []) → option_to_list (refused_for c key n a f v m d) ++ wrong_from s ps c key (n + 1) acts ≡ []
+    by None None false true true e h ih = ih h
+    by None None false true false e h ih = cc
+    by None None false false k e h ih = cc
+    by None None true d k e h ih = cc
+    by None (Some v) false true true e h ih = cc
+    by None (Some v) false true false e h ih = cc
+    by None (Some v) false false k e h ih = cc
+    by None (Some v) true d k e h ih = cc
+    by (Some f) v m d k e h ih = cc
 
 all_good : (s : Service) (ps : List Fixed) (c : Config) (key : ObjRef) (n : ℕ) (acts : List Act) → wrong_from s ps c key n acts ≡ [] → list_all (is_good s ps) acts ≡ true
 all_good s ps c key n [] h = refl
-all_good s ps c key n (a ∷ acts) h = by (fault_of s ps a) (id_variable a.name a.arguments) (is_direct a) (has_known_id a.name a.arguments) (known_id a.name a.arguments) h (all_good s ps c key (n + 1) acts)
+all_good s ps c key n (a ∷ acts) h =
+    subst (λ (o : Bool). (((o && is_direct a) && has_known_id a.name a.arguments) && list_all (is_good s ps) acts) ≡ true) (sym (parted s ps a))
+    (by (fault_beside s ps a) (id_variable a.name a.arguments) (miscalls s ps a) (is_direct a) (has_known_id a.name a.arguments) (known_id a.name a.arguments) h (all_good s ps c key (n + 1) acts))
   where
-    by : (f : Option Fault) (v : Option ObjRef) (d k : Bool) → k ≡ is_unheld v → option_to_list (refused_for c key n a f v d) ++ wrong_from s ps c key (n + 1) acts ≡ [] → (wrong_from s ps c key (n + 1) acts ≡ [] → list_all (is_good s ps) acts ≡ true) → (((is_none f && d) && k) && list_all (is_good s ps) acts) ≡ true
-    by None None true true e h ih = ih h
-    by None None true false e h ih = cc
-    by None None false k e h ih = cc
-    by None (Some v) d k e h ih = cc
-    by (Some f) v d k e h ih = cc
+    by : (f : Option Fault) (v : Option ObjRef) (m d k : Bool) → k ≡ is_unheld v → option_to_list (refused_for c key n a f v m d) ++ wrong_from s ps c key (n + 1) acts ≡ [] → (wrong_from s ps c key (n + 1) acts ≡ [] → list_all (is_good s ps) acts ≡ true) → ((((is_none f && not m) && d) && k) && list_all (is_good s ps) acts) ≡ true
+    by None None false true true e h ih = ih h
+    by None None false true false e h ih = cc
+    by None None false false k e h ih = cc
+    by None None true d k e h ih = cc
+    by None (Some v) m d k e h ih = cc
+    by (Some f) v m d k e h ih = cc
 
 nil_append : {X : Type 0} (xs ys : List X) → xs ≡ [] → ys ≡ [] → xs ++ ys ≡ []
 nil_append [] ys h k = k
@@ -113,13 +122,14 @@ single_where_none s h =
 
 config_from : (s : Service) (ps : List Fixed) (c : Config) (key : ObjRef) (n : ℕ) (acts : List Act) (x : Found) → Contains (wrong_from s ps c key n acts) x → x.config ≡ c
 config_from s ps c key n [] x m = absurd (no_member x m)
-config_from s ps c key n (a ∷ acts) x m = by (fault_of s ps a) (id_variable a.name a.arguments) (is_direct a) m (config_from s ps c key (n + 1) acts x)
+config_from s ps c key n (a ∷ acts) x m = by (fault_beside s ps a) (id_variable a.name a.arguments) (miscalls s ps a) (is_direct a) m (config_from s ps c key (n + 1) acts x)
   where
-    by : (f : Option Fault) (v : Option ObjRef) (d : Bool) → Contains (option_to_list (refused_for c key n a f v d) ++ wrong_from s ps c key (n + 1) acts) x → (Contains (wrong_from s ps c key (n + 1) acts) x → x.config ≡ c) → x.config ≡ c
-    by None None true m ih = ih m
-    by None None false m ih = elim (first_or_behind (not_yet_at c key n a) (wrong_from s ps c key (n + 1) acts) x m) [ inl same ↦ sym (ap (λ (y : Found). y.config) same) | inr k ↦ ih k ]
-    by None (Some v) d m ih = elim (first_or_behind (timer_at c key n a v) (wrong_from s ps c key (n + 1) acts) x m) [ inl same ↦ sym (ap (λ (y : Found). y.config) same) | inr k ↦ ih k ]
-    by (Some f) v d m ih = elim (first_or_behind (found_at c key n f) (wrong_from s ps c key (n + 1) acts) x m) [ inl same ↦ sym (ap (λ (y : Found). y.config) same) | inr k ↦ ih k ]
+    by : (f : Option Fault) (v : Option ObjRef) (m d : Bool) → Contains (option_to_list (refused_for c key n a f v m d) ++ wrong_from s ps c key (n + 1) acts) x → (Contains (wrong_from s ps c key (n + 1) acts) x → x.config ≡ c) → x.config ≡ c
+    by None None false true m ih = ih m
+    by None None false false m ih = elim (first_or_behind (not_yet_at c key n a) (wrong_from s ps c key (n + 1) acts) x m) [ inl same ↦ sym (ap (λ (y : Found). y.config) same) | inr k ↦ ih k ]
+    by None None true d m ih = elim (first_or_behind (called_at c key n a) (wrong_from s ps c key (n + 1) acts) x m) [ inl same ↦ sym (ap (λ (y : Found). y.config) same) | inr k ↦ ih k ]
+    by None (Some v) w d m ih = elim (first_or_behind (timer_at c key n a v) (wrong_from s ps c key (n + 1) acts) x m) [ inl same ↦ sym (ap (λ (y : Found). y.config) same) | inr k ↦ ih k ]
+    by (Some f) v w d m ih = elim (first_or_behind (found_at c key n a f) (wrong_from s ps c key (n + 1) acts) x m) [ inl same ↦ sym (ap (λ (y : Found). y.config) same) | inr k ↦ ih k ]
 
 config_of_several : (s : Service) (c : Config) (x : Found) → Contains (several_at s c) x → x.config ≡ c
 config_of_several s c x m = by (same_config c (starting s)) (is_single s) refl m

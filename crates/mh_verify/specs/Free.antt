@@ -1,6 +1,7 @@
 -- Configurations that show that a service is acceptable.
 use Rattle.std.specs.Prelude.{◌≡◌, true, List}
 use Rattle.mh_model.specs.declared.config.Config.{Config}
+use Rattle.mh_model.specs.declared.program.Signature.{Signature}
 use Rattle.mh_model.specs.Service.{Service}
 use Rattle.mh_model.specs.Configuration.{is_service, is_single, is_among}
 use Rattle.mh_model.specs.Acceptable.{IsClosed, IsAcceptable, is_free}
@@ -16,3 +17,10 @@ pub record AreFree (s : Service) (cs : List Config) : Type 0 where
 -- so the service is acceptable
 pub acceptable : (s : Service) (cs : List Config) → AreFree s cs → IsAcceptable s
 acceptable s cs h = record { service = h.service; single = h.single; reached = cs; closed = h.closed; free = h.free }
+
+-- what is known of an accepted service, without the service
+pub record Rest : Type 0 where
+  -- the configurations that are reached
+  pub reached : List Config
+  -- the programs that the receiver has for it
+  pub programs : List Signature

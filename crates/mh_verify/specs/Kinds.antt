@@ -10,6 +10,7 @@ kind_number kind.AbsentObject = Some 1
 kind_number kind.WrongClass = Some 2
 kind_number kind.WrongKind = Some 3
 kind_number kind.TimerThroughVariable = Some 7
+kind_number kind.WrongCall = Some 9
 kind_number kind.NotYet = Some 10
 kind_number kind.NoMemory = None
 

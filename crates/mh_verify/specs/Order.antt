@@ -1,18 +1,20 @@
 -- Which refusal comes first: by name of the group, number of the object, number of the action, and kind; and
 -- then the first configuration, by name of the application and of the scene, no scene before any.
-use Rattle.std.specs.Prelude.{◌≡◌, Bool, false, Some, None, ◌⊎◌}
+use Rattle.std.specs.Prelude.{◌≡◌, Bool, false, List, Some, None, ◌⊎◌}
 use Rattle.std.specs.declared.cmp.Ordering.{Ordering}
 use Rattle.std.specs.Ordering.{is_lt, nat_cmp, on, then_cmp}
 use Rattle.std.specs.Option.{option_cmp}
 use Rattle.std.specs.Cmp.Lexicographic.{slice_cmp}
 use Rattle.std.specs.List.{Contains}
 use Rattle.mh_model.specs.declared.config.Config.{Config}
+use Rattle.mh_model.specs.declared.program.Signature.{Signature}
 use Rattle.mh_model.specs.Service.{Service}
 use Rattle.mh_model.specs.Acceptable.{IsReached}
 use Rattle.mh_verify.specs.declared.refusal.Found.{Found}
 use Rattle.mh_verify.specs.declared.refusal.Place.{Place}
 use Rattle.mh_verify.specs.declared.refusal.Refusal.{Refusal}
 use Rattle.mh_verify.specs.declared.refusal.RefusalKind.TheVariants as kind
+use Rattle.mh_verify.specs.Equipment.{equipped}
 use Rattle.mh_verify.specs.Kinds.{kind_number}
 use Rattle.mh_verify.specs.Refusals.{refusals_in}
 
@@ -42,12 +44,12 @@ refusal_of s x = record { kind = x.kind; place = Some x.place; action = x.action
 abbrev pub unjudged : Service → Refusal
 unjudged s = record { kind = kind.NoMemory; place = None; action = None; config = None; object = None; service = s }
 
--- the refusal says what comes first
-pub record NamesFirst (s : Service) (r : Refusal) : Type 0 where
+-- the refusal says what comes first, where the receiver has these programs
+pub record NamesFirst (s : Service) (programs : List Signature) (r : Refusal) : Type 0 where
   pub found : Found
-  pub first : IsFirst s found
+  pub first : IsFirst (equipped s programs) found
   pub names : r ≡ refusal_of s found
 
 -- a refusal of the service says what comes first, or that memory was refused
-abbrev pub IsTold : Service → Refusal → Type 0
-IsTold s r = NamesFirst s r ⊎ (r ≡ unjudged s)
+abbrev pub IsTold : Service → List Signature → Refusal → Type 0
+IsTold s programs r = NamesFirst s programs r ⊎ (r ≡ unjudged s)

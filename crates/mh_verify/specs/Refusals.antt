@@ -11,10 +11,12 @@ use Rattle.mh_model.specs.declared.act.Argument.TheVariants as argument
 use Rattle.mh_model.specs.declared.config.Config.{Config}
 use Rattle.mh_model.specs.declared.fault.Fault.{Fault}
 use Rattle.mh_model.specs.declared.object.Fixed.{Fixed}
-use Rattle.mh_model.specs.Faults.{written_at}
+use Rattle.mh_group.specs.Table.{needs_of}
+use Rattle.mh_model.specs.Known.{Known, known_before}
+use Rattle.mh_model.specs.Faults.{written_at, target_faults, called_faults, arguments_faults, least_fault}
 use Rattle.mh_model.specs.Service.{Service, group_ref}
 use Rattle.mh_model.specs.Configuration.{is_single, starting, present, same_config}
-use Rattle.mh_model.specs.Active.{actions, is_active, fault_of, is_direct}
+use Rattle.mh_model.specs.Active.{actions, is_active, is_direct}
 use Rattle.mh_model.specs.Acceptable.{IsReached, IsAcceptable}
 use Rattle.mh_verify.specs.declared.refusal.Found.{Found}
 use Rattle.mh_verify.specs.declared.refusal.RefusalKind.{RefusalKind}
@@ -32,8 +34,8 @@ refusal_at c key n k name r = record {
 }
 
 -- something is wrong with the action
-abbrev pub found_at : Config → ObjRef → ℕ → Fault → Found
-found_at c key n f = refusal_at c key n (kind_of f.what) f.action f.at
+abbrev pub found_at : Config → ObjRef → ℕ → Act → Fault → Found
+found_at c key n a f = refusal_at c key n (kind_of f.what) a.name f.at
 
 -- the variable that holds the id of the timer, where the action does not name that itself
 abbrev pub id_variable : ActionName → List Argument → Option ObjRef
@@ -44,20 +46,42 @@ id_variable _ xs = None
 abbrev pub timer_at : Config → ObjRef → ℕ → Act → ObjRef → Found
 timer_at c key n a v = refusal_at c key n kind.TimerThroughVariable a.name v
 
+-- the program is not known, or what it is called with does not fit it
+abbrev pub called_at : Config → ObjRef → ℕ → Act → Found
+called_at c key n a = refusal_at c key n kind.WrongCall a.name (written_at a.target)
+
 -- it is not verified yet what the action is done to
 abbrev pub not_yet_at : Config → ObjRef → ℕ → Act → Found
 not_yet_at c key n a = refusal_at c key n kind.NotYet a.name (written_at a.target)
 
--- The refusal of an action, if there is one: for what is wrong with it, else for an id that a variable holds, and
--- else, unless it is direct, since it names an object through a variable.
-abbrev pub refused_for : Config → ObjRef → ℕ → Act → Option Fault → Option ObjRef → Bool → Option Found
-refused_for c key n a (Some f) v direct = Some (found_at c key n f)
-refused_for c key n a None (Some v) direct = Some (timer_at c key n a v)
-refused_for c key n a None None true = None
-refused_for c key n a None None false = Some (not_yet_at c key n a)
+-- What is wrong with an action, whether or not it is a call that fits its program; and that it is one that does not.
+
+abbrev pub faults_beside : Known → Act → List Fault
+faults_beside k a = target_faults k a.name a.target ++ arguments_faults k a (needs_of a.name) a.arguments
+
+abbrev pub fault_beside : Service → List Fixed → Act → Option Fault
+fault_beside s ps a = least_fault None (faults_beside (known_before s ps) a)
+
+abbrev pub are_some : List Fault → Bool
+are_some [] = false
+are_some (f ∷ fs) = true
+
+abbrev pub miscalls : Service → List Fixed → Act → Bool
+miscalls s ps a = are_some (called_faults (known_before s ps) a)
+
+-- The refusal of an action, if there is one: for what is wrong with it, a call that does not fit aside; else for an
+-- id that a variable holds; else for such a call; and else, unless it is direct, since it names an object through a
+-- variable.
+abbrev pub refused_for : Config → ObjRef → ℕ → Act → Option Fault → Option ObjRef → Bool → Bool → Option Found
+refused_for c key n a (Some f) v miscalled direct = Some (found_at c key n a f)
+refused_for c key n a None (Some v) miscalled direct = Some (timer_at c key n a v)
+refused_for c key n a None None true direct = Some (called_at c key n a)
+refused_for c key n a None None false true = None
+refused_for c key n a None None false false = Some (not_yet_at c key n a)
 
 abbrev pub refused_at : Service → List Fixed → Config → ObjRef → ℕ → Act → Option Found
-refused_at s ps c key n a = refused_for c key n a (fault_of s ps a) (id_variable a.name a.arguments) (is_direct a)
+refused_at s ps c key n a =
+    refused_for c key n a (fault_beside s ps a) (id_variable a.name a.arguments) (miscalls s ps a) (is_direct a)
 
 -- the refusals of these actions of an object, counted on from n, where these are present
 abbrev pub wrong_from : Service → List Fixed → Config → ObjRef → ℕ → List Act → List Found

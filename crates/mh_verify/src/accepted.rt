@@ -4,29 +4,31 @@
 //! alone.
 ghost use Rattle.std.specs.Prelude.{◌≡◌};
 ghost use Rattle.mh_model.specs.Acceptable.{IsAcceptable};
+ghost use Rattle.mh_verify.specs.Equipment.{equipped};
 ghost use Rattle.mh_verify.specs.Free.{AreFree};
 
-use mh_model::Config;
+use mh_model::{Config, Signature};
 use mh_service::Service;
 use std::marker::Model;
 
-/// What is known of an accepted service, without the service: the configurations that are reached. A
-/// contract sees their list.
+/// What is known of an accepted service, without the service: the configurations that are reached,
+/// and the programs that the receiver has for it besides the built-in ones.
 #[derive(Drop)]
 pub struct Rest {
     reached: Vec<Config>,
+    programs: Vec<Signature>,
 }
 
 impl Model for Rest {
-    ghost use Rattle.std.specs.Prelude.{List};
-    ghost use Rattle.mh_model.specs.declared.config.Config.{Config};
+    ghost use Rattle.mh_verify.specs.Free.{Rest as RestValue};
 
-    ghost Value = { List Config };
+    ghost Value = { RestValue };
 
-    ghost view = { λ r. r.reached.items };
+    ghost view = { λ r. record { reached = r.reached.items; programs = r.programs.items } };
 }
 
-/// A service that the verifier accepts. A contract sees the service.
+/// A service that the verifier accepts. A contract sees the service, with the programs that the
+/// receiver has for it.
 #[derive(Drop)]
 pub struct Accepted {
     service: Service,
@@ -34,56 +36,66 @@ pub struct Accepted {
 }
 
 impl Model for Accepted {
-    ghost use Rattle.mh_model.specs.Service.{Service};
+    ghost use Rattle.mh_model.specs.Service.{Service as ServiceValue};
+    ghost use Rattle.mh_verify.specs.Equipment.{equipped};
     ghost use Rattle.mh_verify.specs.Free.{AreFree};
 
-    ghost Value = { Service };
+    ghost Value = { ServiceValue };
 
-    ghost view = { λ a. a.service };
+    ghost view = { λ a. equipped a.service a.rest.programs };
 
-    ghost invariant = { λ a. AreFree a.service a.rest };
+    ghost invariant = { λ a. AreFree (equipped a.service a.rest.programs) a.rest.reached };
 }
 
 impl Accepted {
     /// The service, which no active action can get stuck in where it is reached.
     #[tactic(auto, using(crate::specs::Free::acceptable))]
     pub fn service(&self) -> &Service
-        ensures same { result.now ≡ self.now }
+        ensures same { equipped result.now self.now.programs ≡ self.now }
         ensures acceptable { IsAcceptable self.now }
     {
         &self.service
     }
 
+    /// The programs that the receiver has for it besides the built-in ones.
+    pub fn programs(&self) -> &[Signature]
+        ensures { result.now ≡ self.now.programs }
+    {
+        self.rest.programs()
+    }
+
     /// The service, and what is known of it.
     #[tactic(auto, using(crate::specs::Free::acceptable))]
     pub fn apart(self) -> (Service, Rest)
-        ensures same { result.0 ≡ self }
+        ensures same { equipped result.0 result.1.programs ≡ self }
         ensures acceptable { IsAcceptable self }
-        ensures free { AreFree self result.1 }
+        ensures free { AreFree self result.1.reached }
     {
         let Accepted { service, rest } = self;
         (service, rest)
     }
-
-    /// The service in whose reached configurations nothing is stuck.
-    #[tactic(auto, using(crate::specs::Free::acceptable))]
-    pub(crate) fn of_reached(service: Service, reached: Vec<Config>) -> Accepted
-        requires { AreFree service reached.items }
-        ensures same { result ≡ service }
-        ensures acceptable { IsAcceptable service }
-    {
-        Accepted {
-            service,
-            rest: Rest { reached },
-        }
-    }
 }
 
 impl Rest {
+    pub(crate) fn new(reached: Vec<Config>, programs: Vec<Signature>) -> Rest
+        ensures { result ≡ record { reached = reached.items; programs = programs.items } }
+    {
+        Rest { reached, programs }
+    }
+
+    /// The programs that the receiver has besides the built-in ones.
+    pub fn programs(&self) -> &[Signature]
+        ensures { result.now ≡ self.now.programs }
+    {
+        self.programs.as_slice()
+    }
+
     /// The accepted service again, from its two parts.
+    #[tactic(auto, using(crate::specs::Free::acceptable))]
     pub fn join(self, service: Service) -> Accepted
-        requires { AreFree service self }
-        ensures { result ≡ service }
+        requires { AreFree (equipped service self.programs) self.reached }
+        ensures same { result ≡ equipped service self.programs }
+        ensures acceptable { IsAcceptable (equipped service self.programs) }
     {
         Accepted {
             service,

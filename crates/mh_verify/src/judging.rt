@@ -1,141 +1,21 @@
 //! What is wrong in given configurations, and which of it comes first.
 ghost use Rattle.std.specs.Prelude.{◌≡◌, ◌+◌, ◌&&◌, not, None, IfOk, length, filter};
 ghost use Rattle.std.specs.List.{flat_map};
-ghost use Rattle.std.specs.Option.{option_copied};
-ghost use Rattle.mh_model.specs.Active.{is_active, is_direct as is_direct_lem};
-ghost use Rattle.mh_model.specs.Configuration.{present, is_single, same_config, starting as starting_lem};
-ghost use Rattle.mh_verify.specs.Refusals.{refusal_at as refusal_at_lem, found_at as found_at_lem};
-ghost use Rattle.mh_verify.specs.Refusals.{timer_at as timer_at_lem, not_yet_at as not_yet_at_lem};
-ghost use Rattle.mh_verify.specs.Refusals.{id_variable as id_variable_lem, refused_for, refused_at as refused_at_lem};
-ghost use Rattle.mh_verify.specs.Refusals.{several as several_lem, several_at, refusals_of_effects};
-ghost use Rattle.mh_verify.specs.Refusals.{wrong_from, wrong_with, refusals_in};
+ghost use Rattle.mh_model.specs.Active.{is_active};
+ghost use Rattle.mh_model.specs.Configuration.{is_single, same_config, starting as starting_lem};
+ghost use Rattle.mh_verify.specs.Refusals.{several as several_lem, several_at};
+ghost use Rattle.mh_verify.specs.Refusals.{refusals_of_effects, wrong_from, wrong_with, refusals_in};
 ghost use Rattle.mh_verify.specs.Least.{least_of};
 
+use crate::equipped::Equipped;
 use crate::ordering::lesser;
-use crate::present::{Present, effects, is_direct};
+use crate::present::{Present, effects};
 use crate::reaching::starting;
+use crate::telling::{Scope, refused_at};
 use crate::{Found, Place, RefusalKind};
 use mh_base::ObjRef;
-use mh_group::ActionName;
-use mh_model::{Act, Argument, Config, Fault, Fixed, FixedPart};
-use mh_service::Service;
+use mh_model::{Act, Config, Fixed, FixedPart};
 use std::alloc::AllocError;
-
-/// A configuration of a service, with what is present there.
-#[derive(Drop)]
-struct Scope<'a> {
-    service: &'a Service,
-    config: &'a Config,
-    present: Present<'a>,
-}
-
-fn refusal_at(
-    scope: &Scope<'_>,
-    key: &ObjRef,
-    index: usize,
-    kind: RefusalKind,
-    action: ActionName,
-    object: ObjRef,
-) -> Result<Found, AllocError>
-    ensures { IfOk result (λ found. found
-        ≡ refusal_at_lem scope.now.config.now key.now index kind action object) }
-{
-    Ok(Found {
-        kind,
-        place: Place {
-            group: key.group.clone()?,
-            object: key.number,
-            index,
-        },
-        action: Some(action),
-        object,
-        config: scope.config.clone()?,
-    })
-}
-
-/// What is wrong with the action.
-fn found_at(
-    scope: &Scope<'_>,
-    key: &ObjRef,
-    index: usize,
-    fault: Fault,
-) -> Result<Found, AllocError>
-    ensures { IfOk result (λ found. found
-        ≡ found_at_lem scope.now.config.now key.now index fault) }
-{
-    let kind = RefusalKind::of_fault(fault.what);
-    refusal_at(scope, key, index, kind, fault.action, fault.at)
-}
-
-/// The variable that holds the id of the timer, where the action does not name that itself.
-fn id_variable(act: &Act) -> Option<&ObjRef>
-    ensures { option_copied result ≡ id_variable_lem act.now.name act.now.arguments }
-{
-    if !matches!(act.name, ActionName::SetTimer) {
-        return None;
-    }
-    match act.arguments.as_slice() {
-        [Argument::Through(variable, _), ..] => Some(variable),
-        _ => None,
-    }
-}
-
-/// It is not known beforehand which timer is meant.
-fn timer_at(
-    scope: &Scope<'_>,
-    key: &ObjRef,
-    index: usize,
-    act: &Act,
-    variable: &ObjRef,
-) -> Result<Found, AllocError>
-    ensures { IfOk result (λ found. found
-        ≡ timer_at_lem scope.now.config.now key.now index act.now variable.now) }
-{
-    let kind = RefusalKind::TimerThroughVariable;
-    refusal_at(scope, key, index, kind, act.name, variable.clone()?)
-}
-
-/// It is not verified yet what the action is done to.
-fn not_yet_at(scope: &Scope<'_>, key: &ObjRef, index: usize, act: &Act) -> Result<Found, AllocError>
-    ensures { IfOk result (λ found. found
-        ≡ not_yet_at_lem scope.now.config.now key.now index act.now) }
-{
-    let target = act.target.written_at().clone()?;
-    refusal_at(scope, key, index, RefusalKind::NotYet, act.name, target)
-}
-
-/// Why the action with this number of an object is refused, if it is, where nothing is wrong with it.
-fn unknown_at(
-    scope: &Scope<'_>,
-    key: &ObjRef,
-    index: usize,
-    act: &Act,
-) -> Result<Option<Found>, AllocError>
-    ensures { IfOk result (λ found. found ≡ refused_for scope.now.config.now key.now index act.now
-        None (id_variable_lem act.now.name act.now.arguments) (is_direct_lem act.now)) }
-{
-    match id_variable(act) {
-        Some(variable) => Ok(Some(timer_at(scope, key, index, act, variable)?)),
-        None if is_direct(act) => Ok(None),
-        None => Ok(Some(not_yet_at(scope, key, index, act)?)),
-    }
-}
-
-/// Why the action with this number of an object is refused, if it is.
-fn refused_at(
-    scope: &Scope<'_>,
-    key: &ObjRef,
-    index: usize,
-    act: &Act,
-) -> Result<Option<Found>, AllocError>
-    ensures { IfOk result (λ found. found ≡ refused_at_lem scope.now.service.now scope.now.present
-        scope.now.config.now key.now index act.now) }
-{
-    match scope.present.fault_of(scope.service, act)? {
-        Some(fault) => Ok(Some(found_at(scope, key, index, fault)?)),
-        None => unknown_at(scope, key, index, act),
-    }
-}
 
 /// The number of the next action. More than can be counted have no room in memory.
 fn next_number(counted: usize) -> Result<usize, AllocError>
@@ -208,7 +88,7 @@ fn least_of_parts(
 /// The first of what is wrong with the active effects of the configuration, and of the best so far.
 fn least_of_effects(
     best: Option<Found>,
-    service: &Service,
+    service: &Equipped<'_>,
     config: &Config,
 ) -> Result<Option<Found>, AllocError>
     ensures { IfOk result (λ least. least ≡ least_of best
@@ -225,7 +105,7 @@ fn least_of_effects(
 }
 
 /// A service with several applications or scenes is not verified yet, which is said of its start.
-fn several(service: &Service) -> Result<Found, AllocError>
+fn several(service: &Equipped<'_>) -> Result<Found, AllocError>
     ensures { IfOk result (λ found. found ≡ several_lem service.now) }
 {
     Ok(Found {
@@ -244,13 +124,13 @@ fn several(service: &Service) -> Result<Found, AllocError>
     })
 }
 
-fn is_starting(service: &Service, config: &Config) -> bool
+fn is_starting(service: &Equipped<'_>, config: &Config) -> bool
     ensures { result ≡ same_config config.now (starting_lem service.now) }
 {
     config.app == *service.start() && config.scene.is_none()
 }
 
-fn is_start_of_several(service: &Service, config: &Config) -> bool
+fn is_start_of_several(service: &Equipped<'_>, config: &Config) -> bool
     ensures { result ≡ (same_config config.now (starting_lem service.now)
         && not (is_single service.now)) }
 {
@@ -260,7 +140,7 @@ fn is_start_of_several(service: &Service, config: &Config) -> bool
 /// The first of what is wrong with the service itself, and of the best so far.
 fn least_of_several(
     best: Option<Found>,
-    service: &Service,
+    service: &Equipped<'_>,
     config: &Config,
 ) -> Result<Option<Found>, AllocError>
     ensures { IfOk result (λ least. least ≡ least_of best (several_at service.now config.now)) }
@@ -276,7 +156,7 @@ fn least_of_several(
 #[tactic(auto, using(crate::proofs::LeastLemmas::least_append))]
 fn least_in(
     best: Option<Found>,
-    service: &Service,
+    service: &Equipped<'_>,
     config: &Config,
 ) -> Result<Option<Found>, AllocError>
     ensures { IfOk result (λ least. least ≡ least_of best (refusals_in service.now config.now)) }
@@ -287,7 +167,7 @@ fn least_in(
 
 /// The first of what is wrong in these configurations.
 #[tactic(auto, using(std::proofs::lemmas::Grind::common_steps, crate::proofs::LeastLemmas::least_append))]
-pub fn first_in(service: &Service, configs: &[Config]) -> Result<Option<Found>, AllocError>
+pub fn first_in(service: &Equipped<'_>, configs: &[Config]) -> Result<Option<Found>, AllocError>
     ensures { IfOk result (λ first. first ≡ least_of None
         (flat_map (refusals_in service.now) configs.now)) }
 {

@@ -6,11 +6,14 @@
 #![tactic(auto)]
 
 pub mod accepted;
+mod calling;
+mod equipped;
 mod judging;
 mod ordering;
 mod present;
 mod reaching;
 pub mod refusal;
+mod telling;
 pub mod verifying;
 
 pub use accepted::{Accepted, Rest};

@@ -9,16 +9,18 @@ ghost use Rattle.mh_model.specs.Active.{is_direct as is_direct_lem, are_direct a
 ghost use Rattle.mh_model.specs.Active.{is_direct_target as is_direct_target_lem};
 ghost use Rattle.mh_model.specs.Active.{is_direct_argument as is_direct_argument_lem};
 ghost use Rattle.mh_model.specs.Configuration.{present, scene_parts as scene_parts_lem};
+ghost use Rattle.mh_model.specs.Known.{known_before};
 ghost use Rattle.mh_model.specs.Property.{held, as_value};
 ghost use Rattle.mh_model.specs.Service.{part_at as part_at_lem};
 
+use crate::equipped::Equipped;
 use mh_base::{GroupName, ObjRef, Value};
 use mh_group::{ActionName, Attribute, Class, Need};
 use mh_model::held::as_value;
 use mh_model::known::{Known, fault_known};
 use mh_model::parts::{effect_of, part_at};
-use mh_model::{Act, Argument, Config, Fault, Fixed, FixedPart, Properties, Target};
-use mh_service::Service;
+use mh_model::{Act, Argument, Config, Fault, Fixed, FixedPart, Param, Properties, Target};
+use mh_resident::takes;
 use std::alloc::AllocError;
 use std::marker::Model;
 
@@ -39,7 +41,7 @@ impl<'a> Model for Present<'a> {
     ghost view = { λ p. p.application.now ++ p.scene.now };
 }
 
-fn scene_parts<'a>(service: &'a Service, name: &Option<GroupName>) -> &'a [FixedPart]
+fn scene_parts<'a>(service: &Equipped<'a>, name: &Option<GroupName>) -> &'a [FixedPart]
     ensures { result.now ≡ scene_parts_lem service.now name.now }
 {
     match name {
@@ -50,7 +52,7 @@ fn scene_parts<'a>(service: &'a Service, name: &Option<GroupName>) -> &'a [Fixed
 
 impl<'a> Present<'a> {
     /// What is present in the configuration.
-    pub fn of(service: &'a Service, config: &Config) -> Present<'a>
+    pub fn of(service: &Equipped<'a>, config: &Config) -> Present<'a>
         ensures { result ≡ present service.now config.now }
     {
         Present {
@@ -99,21 +101,28 @@ impl<'a> Present<'a> {
     }
 
     /// What is wrong with the action, as far as the files tell, if anything is.
-    pub fn fault_of(&self, service: &Service, act: &Act) -> Result<Option<Fault>, AllocError>
+    pub fn fault_of(&self, service: &Equipped<'_>, act: &Act) -> Result<Option<Fault>, AllocError>
         ensures { IfOk result (λ fault. fault ≡ fault_of_lem service.now self.now act.now) }
     {
-        let before = Before {
+        fault_known(&self.before(service), act)
+    }
+
+    /// What is known of it, as far as the files tell.
+    pub fn before<'b>(&'b self, service: &'b Equipped<'b>) -> Before<'b>
+        ensures { known_before result.service.now result.present.now
+            ≡ known_before service.now self.now }
+    {
+        Before {
             service,
             present: self,
-        };
-        fault_known(&before, act)
+        }
     }
 }
 
 /// What the files say where these parts of a service are present: of what variables hold, nothing.
 #[derive(Drop)]
-struct Before<'a> {
-    service: &'a Service,
+pub struct Before<'a> {
+    service: &'a Equipped<'a>,
     present: &'a Present<'a>,
 }
 
@@ -136,6 +145,10 @@ impl<'a> Known for Before<'a> {
 
     fn number(&self, _variable: &ObjRef) -> Option<i32> {
         None
+    }
+
+    fn takes(&self, program: &ObjRef) -> Option<&[Param]> {
+        takes(self.service.programs(), self.present.find(program))
     }
 }
 
@@ -186,7 +199,11 @@ fn is_direct_argument(need: Need, argument: &Argument) -> bool
 }
 
 /// The configuration to which the action leads, if it leads anywhere.
-pub fn leads(service: &Service, config: &Config, act: &Act) -> Result<Option<Config>, AllocError>
+pub fn leads(
+    service: &Equipped<'_>,
+    config: &Config,
+    act: &Act,
+) -> Result<Option<Config>, AllocError>
     ensures { IfOk result (λ led. led ≡ leads_lem service.now config.now act.now) }
 {
     match &act.target {
@@ -196,7 +213,7 @@ pub fn leads(service: &Service, config: &Config, act: &Act) -> Result<Option<Con
 }
 
 fn leads_to(
-    service: &Service,
+    service: &Equipped<'_>,
     config: &Config,
     action: ActionName,
     at: &ObjRef,
@@ -211,7 +228,11 @@ fn leads_to(
 }
 
 /// The scene, under the same application.
-fn to_scene(service: &Service, config: &Config, at: &ObjRef) -> Result<Option<Config>, AllocError>
+fn to_scene(
+    service: &Equipped<'_>,
+    config: &Config,
+    at: &ObjRef,
+) -> Result<Option<Config>, AllocError>
     ensures { IfOk result (λ led. led
         ≡ leads_to_lem service.now config.now ActionName.TransitionTo at.now) }
 {
@@ -225,7 +246,7 @@ fn to_scene(service: &Service, config: &Config, at: &ObjRef) -> Result<Option<Co
 }
 
 /// The application, with no scene.
-fn to_application(service: &Service, at: &ObjRef) -> Result<Option<Config>, AllocError>
+fn to_application(service: &Equipped<'_>, at: &ObjRef) -> Result<Option<Config>, AllocError>
     ensures { (config : _) → IfOk result (λ led. led
         ≡ leads_to_lem service.now config ActionName.Launch at.now) }
 {

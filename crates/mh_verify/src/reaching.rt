@@ -7,10 +7,10 @@ ghost use Rattle.mh_model.specs.Active.{actions, is_active};
 ghost use Rattle.mh_model.specs.Configuration.{same_config as same_config_lem, same_scene as same_scene_lem, starting as starting_lem};
 ghost use Rattle.mh_verify.specs.Reach.{led_by, led_to as led_to_lem, taken, without, all_taken, all_without, AreReached};
 
+use crate::equipped::Equipped;
 use crate::present::{Present, effects, leads};
 use mh_base::GroupName;
 use mh_model::{Act, Config, Fixed, FixedPart};
-use mh_service::Service;
 use std::alloc::{AllocError, Global};
 
 fn same_config(first: &Config, second: &Config) -> bool
@@ -30,7 +30,7 @@ fn same_scene(first: &Option<GroupName>, second: &Option<GroupName>) -> bool
 }
 
 /// The start application with no scene.
-pub fn starting(service: &Service) -> Result<Config, AllocError>
+pub fn starting(service: &Equipped<'_>) -> Result<Config, AllocError>
     ensures { IfOk result (λ config. config ≡ starting_lem service.now) }
 {
     Ok(Config {
@@ -42,7 +42,7 @@ pub fn starting(service: &Service) -> Result<Config, AllocError>
 /// Puts behind these where the actions lead.
 fn push_led(
     led: &mut Vec<Config>,
-    service: &Service,
+    service: &Equipped<'_>,
     config: &Config,
     acts: &[Act],
 ) -> Result<(), AllocError>
@@ -59,7 +59,7 @@ fn push_led(
 /// Puts behind these where the effects of an object lead.
 fn push_led_by(
     led: &mut Vec<Config>,
-    service: &Service,
+    service: &Equipped<'_>,
     config: &Config,
     part: &Fixed,
 ) -> Result<(), AllocError>
@@ -75,7 +75,7 @@ fn push_led_by(
 /// Puts behind these where the effects lead that are active.
 fn push_led_of(
     led: &mut Vec<Config>,
-    service: &Service,
+    service: &Equipped<'_>,
     config: &Config,
     present: &Present<'_>,
     parts: &[FixedPart],
@@ -93,7 +93,7 @@ fn push_led_of(
 }
 
 /// Where the active actions of the configuration lead.
-fn led_to(alloc: Global, service: &Service, config: &Config) -> Result<Vec<Config>, AllocError>
+fn led_to(alloc: Global, service: &Equipped<'_>, config: &Config) -> Result<Vec<Config>, AllocError>
     ensures { IfOk result (λ led. led.items ≡ led_to_lem service.now config.now) }
 {
     let present = Present::of(service, config);
@@ -155,7 +155,7 @@ fn take_all(
 }
 
 /// The configurations that are reached.
-pub fn reached(alloc: Global, service: &Service) -> Result<Vec<Config>, AllocError>
+pub fn reached(alloc: Global, service: &Equipped<'_>) -> Result<Vec<Config>, AllocError>
     ensures { IfOk result (λ reached. AreReached service.now reached.items) }
 {
     let mut left = service.configurations(alloc)?;

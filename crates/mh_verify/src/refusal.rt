@@ -19,6 +19,8 @@ pub enum RefusalKind {
     WrongKind,
     #[error("V7: the id of a timer is held by a variable")]
     TimerThroughVariable,
+    #[error("V9: the program is not known, or the call does not fit it")]
+    WrongCall,
     #[error("V10: this is not verified yet")]
     NotYet,
     #[error("memory was refused")]
@@ -35,6 +37,7 @@ impl RefusalKind {
             RefusalKind::WrongClass => Some(2),
             RefusalKind::WrongKind => Some(3),
             RefusalKind::TimerThroughVariable => Some(7),
+            RefusalKind::WrongCall => Some(9),
             RefusalKind::NotYet => Some(10),
             RefusalKind::NoMemory => None,
         }
@@ -68,8 +71,8 @@ pub struct Found {
     pub place: Place,
     /// None where the place is that of a group itself.
     pub action: Option<ActionName>,
-    /// The reference at the place that is wrong; the target's, of an action that is not verified yet; of a
-    /// group itself, its own.
+    /// The reference at the place that is wrong; the target's, of a call that does not fit its
+    /// program or of an action that is not verified yet; of a group itself, its own.
     pub object: ObjRef,
     /// The configuration in which it is wrong.
     pub config: Config,

@@ -5,49 +5,81 @@
 ghost use Rattle.std.specs.Prelude.{◌≡◌, None, OnOk, IfOk, IfErr};
 ghost use Rattle.std.specs.List.{flat_map};
 ghost use Rattle.mh_model.specs.Acceptable.{IsAcceptable};
+ghost use Rattle.mh_verify.specs.Equipment.{equipped};
 ghost use Rattle.mh_verify.specs.Least.{least_of};
 ghost use Rattle.mh_verify.specs.Order.{refusal_of, unjudged, IsTold};
 ghost use Rattle.mh_verify.specs.Reach.{AreReached};
 ghost use Rattle.mh_verify.specs.Refusals.{refusals_in, RefusedIsNot};
 
-use crate::{Accepted, Found, Refusal, RefusalKind, judging, reaching};
-use mh_model::Config;
+use crate::equipped::Equipped;
+use crate::{Accepted, Found, Refusal, RefusalKind, Rest, judging, reaching};
+use mh_model::Signature;
 use mh_service::Service;
 use std::alloc::{AllocError, Global};
 
-/// Accepts the service, or says what comes first of what is wrong in the configurations that are reached.
-pub fn verify(alloc: Global, service: Service) -> Result<Accepted, Refusal>
-    ensures same { IfOk result (λ accepted. accepted ≡ service) }
-    ensures acceptable { OnOk result (IsAcceptable service) }
+/// Accepts the service, where the receiver has these programs for it besides the built-in ones, or
+/// says what comes first of what is wrong in the configurations that are reached.
+pub fn verify(alloc: Global, service: Service, programs: &[Signature]) -> Result<Accepted, Refusal>
+    ensures same { IfOk result (λ accepted. accepted ≡ equipped service programs.now) }
+    ensures acceptable { OnOk result (IsAcceptable (equipped service programs.now)) }
     ensures back { IfErr result (λ refusal. refusal.service ≡ service) }
-    ensures told { IfErr result (IsTold service) }
+    ensures told { IfErr result (IsTold service programs.now) }
 {
-    match judge(alloc, &service) {
+    match judge(alloc, &service, programs) {
         Err(_) => Err(unjudged_service(service)),
-        Ok((reached, first)) => decide(service, reached, first),
+        Ok((rest, first)) => decide(service, rest, first),
     }
 }
 
-/// The configurations that are reached, and the first of what is wrong there.
-fn judge(alloc: Global, service: &Service) -> Result<(Vec<Config>, Option<Found>), AllocError>
-    ensures reached { IfOk result (λ judged. AreReached service.now judged.0.items) }
-    ensures first { IfOk result (λ judged. judged.1 ≡ least_of None (flat_map (refusals_in service.now) judged.0.items)) }
+/// What is known of the service: the configurations that are reached and the programs; and the first
+/// of what is wrong there.
+fn judge(
+    alloc: Global,
+    service: &Service,
+    programs: &[Signature],
+) -> Result<(Rest, Option<Found>), AllocError>
+    ensures programs { IfOk result (λ judged. judged.0.programs ≡ programs.now) }
+    ensures reached { let s = equipped service.now programs.now in
+        IfOk result (λ judged. AreReached s judged.0.reached) }
+    ensures first { let s = equipped service.now programs.now in
+        IfOk result (λ judged. judged.1
+        ≡ least_of None (flat_map (refusals_in s) judged.0.reached)) }
 {
-    let reached = reaching::reached(alloc, service)?;
-    let first = judging::first_in(service, reached.as_slice())?;
-    Ok((reached, first))
+    let whole = Equipped::new(service, programs);
+    let reached = reaching::reached(alloc, &whole)?;
+    let first = judging::first_in(&whole, reached.as_slice())?;
+    let programs = copies(alloc, programs)?;
+    Ok((Rest::new(reached, programs), first))
 }
 
-fn decide(service: Service, reached: Vec<Config>, first: Option<Found>) -> Result<Accepted, Refusal>
-    requires reached { AreReached service reached.items }
-    requires first { first ≡ least_of None (flat_map (refusals_in service) reached.items) }
-    ensures same { IfOk result (λ accepted. accepted ≡ service) }
-    ensures acceptable { OnOk result (IsAcceptable service) }
+/// Copies of these, whose names and parameters are shared with them.
+fn copies(alloc: Global, programs: &[Signature]) -> Result<Vec<Signature>, AllocError>
+    ensures { IfOk result (λ copies. copies.items ≡ programs.now) }
+{
+    let mut copies = Vec::with_capacity(alloc, programs.len())?;
+    for program in programs {
+        copies.push(copy(program)?)?;
+    }
+    Ok(copies)
+}
+
+fn copy(program: &Signature) -> Result<Signature, AllocError>
+    ensures { IfOk result (λ copy. copy ≡ program.now) }
+{
+    program.clone()
+}
+
+fn decide(service: Service, rest: Rest, first: Option<Found>) -> Result<Accepted, Refusal>
+    requires reached { AreReached (equipped service rest.programs) rest.reached }
+    requires first { let s = equipped service rest.programs in
+        first ≡ least_of None (flat_map (refusals_in s) rest.reached) }
+    ensures same { IfOk result (λ accepted. accepted ≡ equipped service rest.programs) }
+    ensures acceptable { OnOk result (IsAcceptable (equipped service rest.programs)) }
     ensures back { IfErr result (λ refusal. refusal.service ≡ service) }
-    ensures told { IfErr result (IsTold service) }
+    ensures told { IfErr result (IsTold service rest.programs) }
 {
     match first {
-        None => Ok(Accepted::of_reached(service, reached)),
+        None => Ok(rest.join(service)),
         Some(found) => Err(refused(service, found)),
     }
 }

@@ -1,16 +1,21 @@
 //! The words of the command line: what the program is asked to do.
 //!
-//! What a wrong command line is, and the texts on it, are left to `clap`.
-use clap::{Arg, ArgAction, ArgMatches, Command, Error};
+//! What the words mean, which are refused and why are `clap`'s rules over `program`; the texts on a wrong
+//! command line are left to it too.
+ghost use Rattle.std.specs.Prelude.{◌≡◌, ◌≤◌, map, codes, true, IfOk, IfErr};
+ghost use Rattle.clap.specs.Words.{FailsBy, fault_of, found_of, kind_of, rows_of, subcommand_of, subcommand_rows_of, takes};
+ghost use Rattle.clap.specs.declared.error.kind.ErrorKind.TheVariants.{OutOfMemory};
+ghost use Rattle.redplay.specs.CommandLine.{HasDay, asked_by, asked_under, day_in as day_in_lem, day_of as day_of_lem, is_set as is_set_lem, last_day, said, text_of as text_of_lem};
+ghost use Rattle.redplay.specs.CommandLine as spec;
+
+use crate::program::{LAST_DAY, program};
+use clap::{ArgMatches, Error};
 use mh_report::Notation;
-use std::alloc::{AllocError, Global};
+use std::alloc::Global;
 use std::convert::AsStr;
 
-/// The version that `--version` prints.
-const VERSION: &str = "0.1.0";
-
-/// The application that is started where none is named.
-const START: &str = "a";
+/// The day on which a play begins unless another is asked for.
+const USUAL_DAY: u32 = 60_000;
 
 /// What is asked for, and what it is done with.
 #[derive(Drop)]
@@ -23,6 +28,8 @@ pub enum Task<'a> {
         /// The file with the script.
         script: &'a str,
         lenient: bool,
+        /// The modified Julian day on which the play begins.
+        mjd: u32,
     },
     /// The group of a file, in the notation that is wanted.
     Convert {
@@ -41,134 +48,121 @@ pub struct Source<'a> {
 }
 
 /// What the words ask for. The first word is the program's own name.
-///
-/// `program` requires a subcommand. Were there none, `check` would be meant, of the empty path.
-pub fn line_of<'a, S: AsStr>(alloc: Global, words: &'a [S]) -> Result<Task<'a>, Error> {
-    let matches = program(alloc)?.try_get_matches_from(words)?;
-    let (name, given) = matches.subcommand().unwrap_or(("check", &matches));
-    Ok(match name {
-        "play" => Task::Play {
-            source: source_of(given),
-            script: required(given, "script"),
-            lenient: given.get_flag("lenient"),
-        },
+pub fn line_of<'a, S: AsStr>(alloc: Global, words: &'a [S]) -> Result<Task<'a>, Error>
+    ensures asked { IfOk result (λ task. said task ≡ asked_by (subcommand_of spec.program (map S.text words.entry.now))) }
+    ensures day { IfOk result HasDay }
+    ensures refused { FailsBy (fault_of spec.program (map S.text words.entry.now)) result }
+    ensures passes { IfErr result (λ e. takes spec.program (map S.text words.entry.now) ≡ true → kind_of e ≡ OutOfMemory) }
+{
+    let matches = matched(alloc, words)?;
+    Ok(task_of(&matches))
+}
+
+/// The words as they are read against the program.
+fn matched<'a, S: AsStr>(alloc: Global, words: &'a [S]) -> Result<ArgMatches<'a>, Error>
+    ensures found { IfOk result (λ m. subcommand_rows_of m ≡ subcommand_of spec.program (map S.text words.entry.now)) }
+    ensures refused { FailsBy (fault_of spec.program (map S.text words.entry.now)) result }
+    ensures passes { IfErr result (λ e. takes spec.program (map S.text words.entry.now) ≡ true → kind_of e ≡ OutOfMemory) }
+{
+    program(alloc)?.try_get_matches_from(words)
+}
+
+/// What is asked for. `program` requires a subcommand; were there none, `check` would be meant, of the
+/// empty path.
+fn task_of<'a>(matches: &ArgMatches<'a>) -> Task<'a>
+    ensures asked { said result ≡ asked_by (subcommand_rows_of matches.now) }
+    ensures day { HasDay result }
+{
+    match matches.subcommand() {
+        Some((name, given)) => task_under(name, given),
+        None => Task::Check(Source {
+            folder: "",
+            start: "",
+        }),
+    }
+}
+
+/// What the subcommand of this name asks for.
+fn task_under<'a>(name: &str, given: &ArgMatches<'a>) -> Task<'a>
+    ensures asked { said result ≡ asked_under name.now (rows_of (found_of given.now)) }
+    ensures day { HasDay result }
+{
+    match name {
+        "play" => playing(given),
         "to-der" => converting(given, Notation::Binary),
         "to-text" => converting(given, Notation::Textual),
         _ => Task::Check(source_of(given)),
-    })
+    }
 }
 
-fn converting<'a>(given: &ArgMatches<'a>, to: Notation) -> Task<'a> {
+fn playing<'a>(given: &ArgMatches<'a>) -> Task<'a>
+    ensures asked { said result ≡ spec.playing (rows_of (found_of given.now)) }
+    ensures day { HasDay result }
+{
+    Task::Play {
+        source: source_of(given),
+        script: text_of(given, "script"),
+        lenient: is_set(given, "lenient"),
+        mjd: day_of(given),
+    }
+}
+
+fn converting<'a>(given: &ArgMatches<'a>, to: Notation) -> Task<'a>
+    ensures asked { said result ≡ spec.converting (rows_of (found_of given.now)) to }
+    ensures day { HasDay result }
+{
     Task::Convert {
-        file: required(given, "FILE"),
+        file: text_of(given, "FILE"),
         to,
     }
 }
 
-fn source_of<'a>(given: &ArgMatches<'a>) -> Source<'a> {
+fn source_of<'a>(given: &ArgMatches<'a>) -> Source<'a>
+    ensures folder { result.folder.now ≡ text_of_lem (codes "DIR") (rows_of (found_of given.now)) }
+    ensures start { result.start.now ≡ text_of_lem (codes "start") (rows_of (found_of given.now)) }
+{
     Source {
-        folder: required(given, "DIR"),
-        start: given.get_str("start").unwrap_or(START),
+        folder: text_of(given, "DIR"),
+        start: text_of(given, "start"),
     }
 }
 
-/// The value of an argument that `program` requires. Were there none, it would be the empty path,
-/// where nothing can be read.
-fn required<'a>(given: &ArgMatches<'a>, name: &str) -> &'a str {
-    given.get_str(name).unwrap_or("")
+/// The value of an argument that is required or has a default. Were there none, it would be the empty
+/// text.
+fn text_of<'a>(given: &ArgMatches<'a>, name: &str) -> &'a str
+    ensures { result.now ≡ text_of_lem name.now (rows_of (found_of given.now)) }
+{
+    match given.get_str(name) {
+        Some(text) => text,
+        None => "",
+    }
 }
 
-fn program<'a>(alloc: Global) -> Result<Command<'a>, AllocError> {
-    with_services(alloc)?
-        .subcommand(to_der(alloc)?)?
-        .subcommand(to_text(alloc)?)
+/// Whether a flag was given.
+fn is_set<'a>(given: &ArgMatches<'a>, name: &str) -> bool
+    ensures { result ≡ is_set_lem name.now (rows_of (found_of given.now)) }
+{
+    match given.get_str(name) {
+        Some(text) => text == "true",
+        None => false,
+    }
 }
 
-/// The program with the subcommands that take a service.
-fn with_services<'a>(alloc: Global) -> Result<Command<'a>, AllocError> {
-    bare(alloc)
-        .subcommand(check(alloc)?)?
-        .subcommand(play(alloc)?)
+/// The day on which a play begins.
+fn day_of<'a>(given: &ArgMatches<'a>) -> u32
+    ensures day { result ≡ day_of_lem (rows_of (found_of given.now)) }
+    ensures last { result ≤ last_day }
+{
+    day_in(text_of(given, "mjd"))
 }
 
-/// The program without its subcommands.
-fn bare<'a>(alloc: Global) -> Command<'a> {
-    Command::new(alloc, "redplay")
-        .version(VERSION)
-        .about("Checks, plays and converts red-button television services")
-        .subcommand_required(true)
-}
-
-fn to_der<'a>(alloc: Global) -> Result<Command<'a>, AllocError> {
-    Command::new(alloc, "to-der")
-        .about("Writes the group of a file in the binary notation")
-        .after_help("Example:\n  redplay to-der examples/menu/service/a > a.der")
-        .arg(file(alloc))
-}
-
-fn to_text<'a>(alloc: Global) -> Result<Command<'a>, AllocError> {
-    Command::new(alloc, "to-text")
-        .about("Writes the group of a file in the textual notation")
-        .after_help("Example:\n  redplay to-text examples/menu/der/a")
-        .arg(file(alloc))
-}
-
-fn file<'a>(alloc: Global) -> Arg<'a> {
-    Arg::new(alloc, "FILE")
-        .required(true)
-        .action(ArgAction::Set)
-        .help("The file of the group, in either notation")
-}
-
-fn check<'a>(alloc: Global) -> Result<Command<'a>, AllocError> {
-    Command::new(alloc, "check")
-        .about("Says whether a service is accepted: that no key can make it name an absent object")
-        .after_help("Example:\n  redplay check examples/first/service")
-        .arg(folder(alloc))?
-        .arg(start(alloc))
-}
-
-fn play<'a>(alloc: Global) -> Result<Command<'a>, AllocError> {
-    let command = described(alloc).arg(folder(alloc))?.arg(script(alloc))?;
-    command.arg(start(alloc))?.arg(lenient(alloc))
-}
-
-fn described<'a>(alloc: Global) -> Command<'a> {
-    Command::new(alloc, "play")
-        .about("Plays a script on a service and prints what happens and what is shown")
-        .after_help(
-            "Example:\n  redplay play examples/first/service --script examples/first/script",
-        )
-}
-
-fn folder<'a>(alloc: Global) -> Arg<'a> {
-    Arg::new(alloc, "DIR")
-        .required(true)
-        .action(ArgAction::Set)
-        .help("The folder with the files of the service")
-}
-
-fn script<'a>(alloc: Global) -> Arg<'a> {
-    named(alloc, "script", "FILE").required(true).help(
-        "The script: a command a line, such as `run`, `key red`, `step 10`, `show`",
-    )
-}
-
-fn start<'a>(alloc: Global) -> Arg<'a> {
-    named(alloc, "start", "NAME").help("The application to start with [default: a]")
-}
-
-fn lenient<'a>(alloc: Global) -> Arg<'a> {
-    Arg::new(alloc, "lenient")
-        .long("lenient")
-        .action(ArgAction::SetTrue)
-        .help("Play also a service that `check` refuses")
-}
-
-/// An option with a value.
-fn named<'a>(alloc: Global, name: &'a str, value: &'a str) -> Arg<'a> {
-    Arg::new(alloc, name)
-        .long(name)
-        .action(ArgAction::Set)
-        .value_name(value)
+/// The day that a text writes. The argument's rule lets no other text through.
+fn day_in(text: &str) -> u32
+    ensures day { result ≡ day_in_lem text.now }
+    ensures last { result ≤ last_day }
+{
+    match text.parse::<u64>() {
+        Ok(day) if day <= LAST_DAY => day as u32,
+        _ => USUAL_DAY,
+    }
 }

@@ -1,6 +1,6 @@
 //! Files: those of a service's folder, read whole, in the order of their paths.
 //!
-//! What the files hold is left to `play`.
+//! Which of them are groups, and which are content that a group names, is left to `mh_report`.
 use mh_base::{GroupName, NameError};
 use std::alloc::{AllocError, AllocFailed, Global};
 use std::rt::Files;

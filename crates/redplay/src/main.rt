@@ -4,6 +4,7 @@
 
 pub mod command_line;
 pub mod gather;
+mod program;
 
 use command_line::{Source, Task, line_of};
 use gather::{Ungathered, gather, read_file};
@@ -50,14 +51,15 @@ fn done<R: Runtime + AllocGlobal>(rt: &R, task: &Task) -> Result<u8, Ungathered>
             source,
             script,
             lenient,
-        } => played(rt, source, script, *lenient),
+            mjd,
+        } => played(rt, source, script, *mjd, *lenient),
         Task::Convert { file, to } => converted(rt, file, *to),
     }
 }
 
 fn checked<R: Runtime + AllocGlobal>(rt: &R, source: &Source) -> Result<u8, Ungathered> {
     let files = gather(rt, source.folder)?;
-    let options = chosen(rt.alloc(), source.start, false)?;
+    let options = chosen(rt.alloc(), source.start, 0, false)?;
     let mut sink = WriterSink {
         writer: io::writer(rt),
         failures: 0,
@@ -70,11 +72,12 @@ fn played<R: Runtime + AllocGlobal>(
     rt: &R,
     source: &Source,
     script: &str,
+    mjd: u32,
     lenient: bool,
 ) -> Result<u8, Ungathered> {
     let files = gather(rt, source.folder)?;
     let script = read_file(rt, script, script)?;
-    let options = chosen(rt.alloc(), source.start, lenient)?;
+    let options = chosen(rt.alloc(), source.start, mjd, lenient)?;
     let mut sink = WriterSink {
         writer: io::writer(rt),
         failures: 0,
@@ -94,9 +97,10 @@ fn converted<R: Runtime + AllocGlobal>(rt: &R, file: &str, to: Notation) -> Resu
     Ok(status.map_or(FAILED, |status| status.code()))
 }
 
-fn chosen(alloc: Global, start: &str, lenient: bool) -> Result<Options, AllocError> {
+fn chosen(alloc: Global, start: &str, mjd: u32, lenient: bool) -> Result<Options, AllocError> {
     Ok(Options {
         start: Vec::from_slice(alloc, start.as_bytes())?,
+        mjd,
         lenient,
     })
 }

@@ -1,23 +1,24 @@
 use Rattle.std.proofs.Common.{◌∙◌, ap, sym, subst, rules, take}
 use Rattle.mh_model.specs.Step.{moved}
 use Rattle.mh_engine.specs.Answer.{is_counted}
-use Rattle.mh_engine.proofs.RunLemmas.{run-next, counted-next}
+use Rattle.mh_engine.proofs.RunLemmas.{next_made, next_counted}
 use Rattle.mh_engine.proofs.SafeEngine.{KeepsSafe, kept_run}
 use Rattle.mh_engine.proofs.runs.run.Goals as goal
 
 pub loop-made-preserved : goal.loop-made-preserved
 loop-made-preserved c = (
-  c.in_default.ensures.made ∙ ap (moved _) c.loop-made.invariant.0 ∙ sym (run-next c.args.moves.now c.loop-made.made _ c.args.engine.now.state c.loop-made-test.true),
-  counted-next c.args.moves.now c.loop-made.made _ c.args.engine.now.state c.loop-made-test.true c.loop-made.invariant.1
-      ∙ ap (is_counted _) (sym c.loop-made.invariant.0) ∙ c.in_default.ensures.counted,
+  c.in_default.ensures.made ∙ ap (moved c.index-moves-made.result) c.loop-made.invariant.0
+      ∙ next_made c.args.moves.now c.loop-made.made c.index-moves-made.result c.args.engine.now.state c.loop-made-test.true (search rules),
+  next_counted c.args.moves.now c.loop-made.made c.index-moves-made.result c.args.engine.now.state c.loop-made-test.true (search rules) c.loop-made.invariant.1
+      ∙ ap (is_counted c.index-moves-made.result) (sym c.loop-made.invariant.0) ∙ c.in_default.ensures.counted,
   c.in_default.ensures.running.1 ∙ sym c.in_default.ensures.running.0 ∙ c.loop-made.invariant.2,
   (λ h. search rules),
   c.make.ensures.same ∙ c.loop-made.invariant.4,
 )
 
 pub returns-in-Err-clause-full : goal.returns-in-Err-clause-full
-returns-in-Err-clause-full c = λ h. counted-next c.args.moves.now c.loop-made.made _ c.args.engine.now.state c.loop-made-test.true c.loop-made.invariant.1
-    ∙ ap (is_counted _) (sym c.loop-made.invariant.0) ∙ c.in-Err.ensures.full h
+returns-in-Err-clause-full c = λ h. next_counted c.args.moves.now c.loop-made.made c.index-moves-made.result c.args.engine.now.state c.loop-made-test.true (search rules) c.loop-made.invariant.1
+    ∙ ap (is_counted c.index-moves-made.result) (sym c.loop-made.invariant.0) ∙ c.in-Err.ensures.full h
 
 pub returns-in-Err-clause-same : goal.returns-in-Err-clause-same
 returns-in-Err-clause-same c = c.make.ensures.same ∙ c.loop-made.invariant.4

@@ -19,7 +19,7 @@ loop-place-preserved c =
     let more : c.push_stream_event.new.events.items ≡ c.loop-place.events.items ++ told_by tag (slice_get os c.loop-place.place) = search rules in
     more
     ∙ ap (λ (es : List Event). es ++ told_by tag (slice_get os c.loop-place.place)) c.loop-place.invariant
-    ∙ sym (told_more tag os c.loop-place.place)
+    ∙ sym (told_more is_streaming (stream_event tag) os c.loop-place.place)
     ∙ ap (λ (n : ℕ). map (stream_event tag) (filter is_streaming (take n os))) (sym next)
 
 pub returns : goal.returns

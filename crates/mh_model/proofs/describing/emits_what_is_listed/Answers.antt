@@ -1,4 +1,4 @@
-use Rattle.mh_model.proofs.DescribingLemmas.{emits_listed, lists_emitted}
+use Rattle.mh_model.proofs.EmittingLemmas.{emits_listed, lists_emitted}
 use Rattle.mh_model.proofs.describing.emits_what_is_listed.Goals as goal
 
 pub returns-clause-each : goal.returns-clause-each

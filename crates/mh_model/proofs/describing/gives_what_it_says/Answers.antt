@@ -1,4 +1,4 @@
-use Rattle.mh_model.proofs.DescribingLemmas.{gives_said, answers_plain}
+use Rattle.mh_model.proofs.GivingLemmas.{gives_said, answers_plain}
 use Rattle.mh_model.proofs.describing.gives_what_it_says.Goals as goal
 
 pub returns-clause-given : goal.returns-clause-given

@@ -1,15 +1,16 @@
 use Rattle.std.specs.Prelude.{List, ℕ}
 use Rattle.std.proofs.Common.{ap, sym, ◌∙◌}
-use Rattle.mh_report.specs.Played.{Plays, play_unreadable, readied}
+use Rattle.mh_report.specs.Reading.{readied}
+use Rattle.mh_report.specs.Played.{Plays, play_unreadable}
 use Rattle.mh_report.proofs.WrittenLemmas.{unreadable_whole, unreadable_cut, failed}
 use Rattle.mh_report.proofs.play.play_bytes.Goals as goal
 
 pub returns : goal.returns
 returns g c = record {
-  written = unreadable_whole (Plays c.args.options.now.lenient) _ c.in-Err.why _ _ c.complain.result
+  written = unreadable_whole (Plays c.args.options.now.mjd c.args.options.now.lenient) _ c.in-Err.why _ _ c.complain.result
       (ap (λ (start : List ℕ). readied start c.args.files.now c.args.script.now) (sym c.as_slice.ensures.value) ∙ failed c.in-Err.why _ c.in-Err.ensures c.in_default.not-NoMemory)
       (play_unreadable _) c.complain.ensures.report c.complain.ensures.status;
-  begun = unreadable_cut (Plays c.args.options.now.lenient) _ c.in-Err.why _ _ c.complain.result
+  begun = unreadable_cut (Plays c.args.options.now.mjd c.args.options.now.lenient) _ c.in-Err.why _ _ c.complain.result
       (ap (λ (start : List ℕ). readied start c.args.files.now c.args.script.now) (sym c.as_slice.ensures.value) ∙ failed c.in-Err.why _ c.in-Err.ensures c.in_default.not-NoMemory)
       (play_unreadable _) c.complain.ensures.cut;
   write = c.complain.ensures.write;

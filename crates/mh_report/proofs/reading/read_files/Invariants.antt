@@ -1,5 +1,5 @@
 use Rattle.std.specs.Prelude.{◌≡◌, [], drop}
-use Rattle.mh_report.specs.Played.{read_files}
+use Rattle.mh_report.specs.Reading.{read_files}
 use Rattle.mh_report.proofs.reading.read_files.Given as goal
 
 abbrev pub invariant-loop-file : goal.invariant-loop-file

@@ -1,22 +1,18 @@
 use Rattle.std.specs.Prelude.{◌≡◌, List}
 use Rattle.std.specs.Option.{option_copied}
-use Rattle.std.proofs.Common.{rules, ◌∙◌, ap, subst}
+use Rattle.std.proofs.Common.{rules, ◌∙◌, ap}
 use Rattle.mh_actions.specs.Listed.{listed}
 use Rattle.mh_base.specs.declared.value.Value.{Value}
 use Rattle.mh_model.specs.Arguments.{values}
-use Rattle.mh_model.specs.Bodies.{changed_by}
 use Rattle.mh_model.specs.Saying.{put_items_at}
 use Rattle.mh_model.specs.State.{all}
-use Rattle.mh_machine.specs.Plans.{MakesFound}
 use Rattle.mh_machine.proofs.PlanLemmas.{put_planned}
 use Rattle.mh_machine.proofs.works.Works.do_put.Goals as goal
 
 pub returns-clause-done : goal.returns-clause-done
 returns-clause-done c =
     let here : c.as_slice-2.result.now ≡ values (all c.args.self.now.state.objects) c.args.act.now.arguments = search rules in
-    let there : c.as_slice-3.result.now ≡ values (all c.args.self.now.state.objects) c.args.act.now.arguments = search rules in
     let items = c.in_ok-put.ensures ∙ ap (λ (vs : List Value). put_items_at c.args.act.now.name vs c.args.at.now (option_copied c.get-found.result)) here in
-    let makes = subst (λ (vs : List Value). MakesFound c.in_ok-edit.edit (changed_by c.args.act.now.name vs) (option_copied c.get-found.result)) there c.in_ok-edit.ensures in
-    c.in_ok-commit_either.ensures.done
+    c.in_ok-commit_put.ensures.done
     ∙ put_planned c.args.self.now.state c.args.act.now.name (values (all c.args.self.now.state.objects) c.args.act.now.arguments) c.args.at.now
-    c.in_ok-edit.edit (option_copied c.get-found.result) (listed c.in_ok-put.put) (search rules) items makes
+    (option_copied c.get-found.result) (listed c.in_ok-put.put) (search rules) items

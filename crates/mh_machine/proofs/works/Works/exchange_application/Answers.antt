@@ -22,6 +22,8 @@ returns-clause-done c =
     let timers : c.leave_application.new.self.timers ≡ [] = search rules in
     let queue : c.leave_application.new.self.queue ≡ filter is_input c.self.inside.agenda.queue = search rules in
     let moments : c.leave_application.new.self.moments ≡ c.self.inside.agenda.moments = search rules in
+    let waits : c.clear_waits.new.self.waits ≡ [] = search rules in
+    let files : c.clear_waits.new.self.files ≡ c.self.inside.carousel.files = search rules in
     let work : c.put_for_first.new.self.items ≡ item.Enter c.args.group.now ∷ drop 1 c.self.inside.work.items = search rules in
     (λ i. record {
       service = c.self.inside.service;
@@ -39,4 +41,7 @@ returns-clause-done c =
       frozen = c.self.inside.frozen;
       taken = c.self.inside.taken + 1;
       faults = c.self.inside.faults.items;
+      files = files i;
+      waits = waits i;
+      mjd = c.self.inside.mjd;
     }) ∙ ap (λ (v : Working). application_exchanged c.args.group.now (taken_from v.state)) c.self.view_is

@@ -23,6 +23,8 @@ returns-clause-done c =
     let queue : c.leave_scene.new.self.queue ≡ filter (stays c.self.inside.application) c.self.inside.agenda.queue = search rules in
     let moments : c.leave_scene.new.self.moments ≡ c.self.inside.agenda.moments = search rules in
     let work : c.put_for_first.new.self.items ≡ item.Enter c.args.group.now ∷ drop 1 c.self.inside.work.items = search rules in
+    let waits : c.leave_scene-2.new.self.waits ≡ filter (λ w. bytes_eq w.object.group c.self.inside.application) c.self.inside.carousel.waits = search rules in
+    let files : c.leave_scene-2.new.self.files ≡ c.self.inside.carousel.files = search rules in
     let scene : c.set_scene.new.scene ≡ Some c.args.group.now = search rules in
     (λ i. record {
       service = c.self.inside.service;
@@ -40,4 +42,7 @@ returns-clause-done c =
       frozen = c.self.inside.frozen;
       taken = c.self.inside.taken + 1;
       faults = c.self.inside.faults.items;
+      files = files i;
+      waits = waits i;
+      mjd = c.self.inside.mjd;
     }) ∙ ap (λ (v : Working). scene_exchanged c.args.group.now (taken_from v.state)) c.self.view_is

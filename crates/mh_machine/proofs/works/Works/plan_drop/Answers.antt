@@ -2,6 +2,7 @@ use Rattle.std.specs.Option.{option_copied}
 use Rattle.std.proofs.Common.{rules, ap, ◌∙◌}
 use Rattle.mh_model.specs.declared.edit.Edit.TheVariants as edit
 use Rattle.mh_machine.specs.declared.plan.Change.TheVariants as change
+use Rattle.mh_machine.specs.declared.plan.Awaiting.TheVariants as awaiting
 use Rattle.mh_machine.specs.declared.plan.Stacking.TheVariants as stacking
 use Rattle.mh_machine.specs.declared.plan.Plan.{Plan}
 use Rattle.mh_machine.specs.Plans.{committed}
@@ -11,4 +12,4 @@ use Rattle.mh_machine.proofs.works.Works.plan_drop.Goals as goal
 pub returns : goal.returns
 returns c =
     ap (λ (p : Plan). committed p c.args.self.now.state) c.of.ensures
-    ∙ drop_planned c.args.self.now.state c.args.at.now (option_copied c.get.result) (change.Edit c.in_ok-clone.field-0 edit.Drop) (stacking.Fall c.in_ok-clone-2.field-0) c.in_ok-pieces.pieces.items (search rules) (search rules) (search rules) c.in_ok-pieces.ensures
+    ∙ drop_planned c.args.self.now.state c.args.at.now (option_copied c.get.result) (change.Edit c.in_ok-clone.field-0 edit.Drop) (stacking.Fall c.in_ok-clone-3.field-0) (awaiting.Forget c.in_ok-clone-2.field-0) c.in_ok-pieces.pieces.items (search rules) (search rules) (search rules) (search rules) c.in_ok-pieces.ensures

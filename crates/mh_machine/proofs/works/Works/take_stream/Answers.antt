@@ -16,7 +16,7 @@ returns-clause-done c =
     let behind : List Waiting = drop 1 c.self.inside.agenda.queue in
     let events : c.in_ok-events.events.items ≡ map (stream_event c.args.tag) (filter is_streaming (all c.self.inside.stage.objects)) = search rules in
     let queue = c.in_ok-take_for.ensures.taken ∙ ap (λ (es : List Event). behind ++ map waiting.Event es) events
-    ∙ ap (λ (ws : List Waiting). behind ++ ws) (told_as c.args.tag (filter is_streaming (all c.self.inside.stage.objects))) in
+    ∙ ap (λ (ws : List Waiting). behind ++ ws) (told_as (stream_event c.args.tag) (filter is_streaming (all c.self.inside.stage.objects))) in
     let timers = c.in_ok-take_for.ensures.timers in
     let moments = c.in_ok-take_for.ensures.moments in
     (λ i. record {
@@ -35,4 +35,7 @@ returns-clause-done c =
       frozen = c.self.inside.frozen;
       taken = c.self.inside.taken + 1;
       faults = c.self.inside.faults.items;
+      files = c.self.inside.carousel.files;
+      waits = c.self.inside.carousel.waits;
+      mjd = c.self.inside.mjd;
     }) ∙ ap (λ (v : Working). taking (waiting.Input (input.Stream c.args.tag)) (shifted v.state)) c.self.view_is

@@ -1,0 +1,158 @@
+//! Calls of programs (ISO/IEC 13522-5, Call and Fork): which program, what goes in, where the
+//! answers go, and what is put. The call itself is left to who has the programs.
+ghost use Rattle.std.specs.Prelude.{◌≡◌, ◌++◌, ◌∷◌, [], IfOk, OnOk, unwrap_or};
+ghost use Rattle.std.specs.Option.{option_copied};
+ghost use Rattle.mh_actions.specs.Called.{builtin_in as builtin_in_lem};
+ghost use Rattle.mh_actions.specs.Listed.{listed};
+ghost use Rattle.mh_model.specs.Arguments.{values as values_lem, receivers as receivers_lem};
+ghost use Rattle.mh_model.specs.Faults.{passed as passed_lem};
+ghost use Rattle.mh_model.specs.Known.{params_in};
+ghost use Rattle.mh_model.specs.Programs.{ins, outs};
+ghost use Rattle.mh_model.specs.Saying as spec;
+ghost use Rattle.mh_model.specs.Service.{part_at, parts};
+ghost use Rattle.mh_model.specs.State.{all};
+
+use crate::arguments::{push_value, receivers_of_many};
+use crate::present::present_part;
+use crate::putting::Put;
+use mh_base::{EventType, ObjRef, Value};
+use mh_group::ActionName;
+use mh_model::act::passed;
+use mh_model::{Argument, Builtin, Event, Fixed, Item, Param, Signature};
+use mh_resident::{builtin_named, program_name, takes};
+use mh_store::Objects;
+use std::alloc::{AllocError, Global};
+
+/// The built-in program to which the reference leads, if it leads to one.
+pub fn builtin_at(objects: &Objects, at: &ObjRef) -> Option<Builtin>
+    ensures { result ≡ builtin_in_lem (part_at at.now (parts (all objects.now))) }
+{
+    builtin_in(present_part(objects, at))
+}
+
+fn builtin_in(part: Option<&Fixed>) -> Option<Builtin>
+    ensures { result ≡ builtin_in_lem (option_copied part.entry) }
+{
+    builtin_named(program_name(part?)?)
+}
+
+/// The parameters of the program to which the reference leads, where the receiver has these
+/// programs besides the built-in ones; none of one that is not known.
+pub fn params_at<'a>(programs: &'a [Signature], objects: &'a Objects, at: &ObjRef) -> &'a [Param]
+    ensures { let part = part_at at.now (parts (all objects.now)) in
+        result.now ≡ unwrap_or (params_in programs.now part) [] }
+{
+    match takes(programs, present_part(objects, at)) {
+        Some(params) => params,
+        None => &[],
+    }
+}
+
+/// The values that go in, by the parameters and by what is passed for them, in order. What a
+/// variable holds that is passed for an answer does not go in.
+#[tactic(auto, using(crate::proofs::CallLemmas::ins_behind))]
+pub fn call_ins(
+    alloc: Global,
+    objects: &Objects,
+    params: &[Param],
+    passed: &[Argument],
+) -> Result<Vec<Value>, AllocError>
+    ensures { let going = ins params.now passed.now in
+        IfOk result (λ values. values.items ≡ values_lem (all objects.now) going) }
+{
+    let mut values = Vec::new(alloc);
+    let mut params = params;
+    let mut passed = passed;
+    while let Some((param, params_behind)) = params.split_first() {
+        let Some((argument, behind)) = passed.split_first() else {
+            return Ok(values);
+        };
+        push_in(&mut values, objects, *param, argument)?;
+        params = params_behind;
+        passed = behind;
+    }
+    Ok(values)
+}
+
+/// Puts what goes in for the parameter, if it takes something, behind these.
+fn push_in(
+    values: &mut Vec<Value>,
+    objects: &Objects,
+    param: Param,
+    argument: &Argument,
+) -> Result<(), AllocError>
+    ensures { let going = ins (param ∷ []) (argument.now ∷ []) in
+        OnOk result (values.new.items ≡ values.old.items ++ values_lem (all objects.now) going) }
+{
+    match param {
+        Param::In(_) => push_value(values, objects, argument),
+        Param::Out(_) => Ok(()),
+    }
+}
+
+/// The variables that are told of a call, by the parameters and by its arguments: first the one
+/// that is told whether the call went well, and then those that receive what comes out.
+pub fn call_receivers(
+    alloc: Global,
+    params: &[Param],
+    arguments: &[Argument],
+) -> Result<Vec<ObjRef>, AllocError>
+    ensures { let coming = outs params.now (passed_lem arguments.now) in
+        IfOk result (λ rs. rs.items ≡ receivers_lem arguments.now ++ coming) }
+{
+    let mut receivers = receivers_of_many(alloc, arguments)?;
+    push_outs(&mut receivers, params, passed(arguments))?;
+    Ok(receivers)
+}
+
+/// Puts the variables that receive what comes out behind these.
+#[tactic(auto, using(crate::proofs::CallLemmas::outs_behind))]
+fn push_outs(
+    receivers: &mut Vec<ObjRef>,
+    params: &[Param],
+    passed: &[Argument],
+) -> Result<(), AllocError>
+    ensures { let coming = outs params.now passed.now in
+        OnOk result (receivers.new.items ≡ receivers.old.items ++ coming) }
+{
+    let mut params = params;
+    let mut passed = passed;
+    while let Some((param, params_behind)) = params.split_first() {
+        let Some((argument, behind)) = passed.split_first() else {
+            return Ok(());
+        };
+        push_out(receivers, *param, argument)?;
+        params = params_behind;
+        passed = behind;
+    }
+    Ok(())
+}
+
+/// Puts the variable that receives what comes out for the parameter, if one does, behind these.
+fn push_out(
+    receivers: &mut Vec<ObjRef>,
+    param: Param,
+    argument: &Argument,
+) -> Result<(), AllocError>
+    ensures { let coming = outs (param ∷ []) (argument.now ∷ []) in
+        OnOk result (receivers.new.items ≡ receivers.old.items ++ coming) }
+{
+    if let (Param::Out(_), Argument::Through(variable, _)) = (param, argument) {
+        receivers.push(variable.clone()?)?;
+    }
+    Ok(())
+}
+
+/// What a call puts: that the program has stopped, where it was started beside the rest.
+pub fn call_items(name: ActionName, at: &ObjRef) -> Result<Put, AllocError>
+    ensures { IfOk result (λ put. listed put ≡ spec.call_items name at.now) }
+{
+    match name {
+        ActionName::Fork => Ok(Put::One(Item::Emit(Event {
+            source: at.clone()?,
+            kind: EventType::AsyncStopped,
+            data: None,
+        }))),
+        _ => Ok(Put::Nothing),
+    }
+}

@@ -1,0 +1,26 @@
+-- The carousel, as a contract sees it.
+use Rattle.std.specs.Prelude.{ℕ, List, map}
+use Rattle.mh_base.specs.declared.obj_ref.ObjRef.{ObjRef}
+use Rattle.mh_model.specs.declared.file.File.{File}
+use Rattle.mh_model.specs.declared.file.Wait.{Wait}
+
+-- the files that are there and the objects that wait for one, and for how many more of each there is room
+pub record Carried : Type 0 where
+  pub files : List File
+  pub waits : List Wait
+  pub file_room : ℕ
+  pub room : ℕ
+
+-- what a table has under its keys
+
+abbrev pub file_of : (List ℕ × List ℕ) → File
+file_of e = record { name = e.0; content = e.1 }
+
+abbrev pub files_of : List (List ℕ × List ℕ) → List File
+files_of es = map file_of es
+
+abbrev pub wait_of : (ObjRef × List ℕ) → Wait
+wait_of e = record { object = e.0; name = e.1 }
+
+abbrev pub waits_of : List (ObjRef × List ℕ) → List Wait
+waits_of es = map wait_of es

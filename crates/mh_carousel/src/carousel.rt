@@ -1,0 +1,204 @@
+//! `Carousel`: the content files that are there, and who waits for which.
+//!
+//! What may want memory is `arrive`, `wait` and what makes room alone.
+ghost use Rattle.std.specs.Prelude.{◌≡◌, ◌≤◌, [], Some, OnOk, OnErr, filter};
+ghost use Rattle.std.specs.List.{list_any};
+ghost use Rattle.std.specs.Option.{option_copied};
+ghost use Rattle.std.specs.Str.{bytes_eq};
+ghost use Rattle.mh_model.specs.Files.{arrived as arrived_lem, awaited, content as content_lem};
+ghost use Rattle.mh_model.specs.Files.{forgotten, is_too_large, is_too_many, waits_for, with_file};
+ghost use Rattle.mh_model.specs.Step.{files_ahead};
+
+use crate::{ahead, files, waits};
+use indexmap::IndexMap;
+use mh_base::{GroupName, ObjRef, Octets};
+use mh_events::Queue;
+use mh_model::{File, Wait};
+use std::alloc::{AllocError, Global};
+use std::marker::Model;
+
+/// The most octets of a file.
+const MOST_OCTETS: usize = 65535;
+
+/// The content files that are there (ISO/IEC 13522-5, ReferencedContent), and the objects that wait
+/// for one. A contract sees both lists, and for how many more of each there is room.
+#[derive(Drop)]
+pub struct Carousel {
+    files: IndexMap<GroupName, Octets>,
+    /// The file for which each object waits.
+    waits: IndexMap<ObjRef, GroupName>,
+}
+
+impl Model for Carousel {
+    ghost use Rattle.indexmap.specs.IndexMap.{spare};
+    ghost use Rattle.mh_carousel.specs.Carried.{Carried, files_of, waits_of};
+
+    ghost Value = { Carried };
+
+    ghost view = { λ c. record {
+      files = files_of c.files.entries;
+      waits = waits_of c.waits.entries;
+      file_room = spare c.files;
+      room = spare c.waits;
+    } };
+}
+
+impl Carousel {
+    /// No files, and nobody who waits. It takes no memory.
+    pub fn new(alloc: Global) -> Carousel
+        ensures files { result.files ≡ [] }
+        ensures waits { result.waits ≡ [] }
+    {
+        Carousel {
+            files: IndexMap::new(alloc),
+            waits: IndexMap::new(alloc),
+        }
+    }
+
+    /// What the file of this name contains, if it is there.
+    pub fn content(&self, name: &GroupName) -> Option<&Octets>
+        ensures { option_copied result ≡ content_lem name.now self.now.files }
+    {
+        files::content(&self.files, name)
+    }
+
+    /// Whether there would be one file too many when this one comes behind all that waits. It takes
+    /// the longer, the more waits, where there may be as many files as there can.
+    pub fn is_one_too_many(&self, file: &File, queue: &Queue) -> bool
+        ensures { result ≡ is_too_many file.now (files_ahead self.now.files queue.now.items) }
+    {
+        ahead::is_one_too_many(&self.files, file, queue)
+    }
+
+    /// Makes room for one more file. Where memory is refused nothing changes.
+    pub fn reserve_file(&mut self) -> Result<(), AllocError>
+        ensures files { self.new.files ≡ self.old.files }
+        ensures waits { self.new.waits ≡ self.old.waits }
+        ensures room { OnOk result (1 ≤ self.new.file_room) }
+        ensures other_room { self.new.room ≡ self.old.room }
+    {
+        self.files.reserve(1)
+    }
+
+    /// Puts the file in the place of an older one of its name, or at the end, where there is room.
+    /// It takes no memory.
+    pub fn put(&mut self, file: File)
+        requires { 1 ≤ self.old.file_room }
+        ensures files { self.new.files ≡ with_file file self.old.files }
+        ensures waits { self.new.waits ≡ self.old.waits }
+        ensures room { self.new.room ≡ self.old.room }
+    {
+        files::put_file(&mut self.files, file);
+    }
+
+    /// Makes room for the file, and puts it there. Where memory is refused nothing changes.
+    pub fn arrive(&mut self, file: File) -> Result<(), AllocError>
+        ensures files { OnOk result (self.new.files ≡ with_file file self.old.files) }
+        ensures waits { self.new.waits ≡ self.old.waits }
+        ensures kept { OnErr result (self.new.files ≡ self.old.files) }
+    {
+        self.reserve_file()?;
+        self.put(file);
+        Ok(())
+    }
+
+    /// Whether the object waits for the file of this name.
+    pub fn waits(&self, name: &GroupName, object: &ObjRef) -> bool
+        ensures { result ≡ waits_for name.now self.now.waits object.now }
+    {
+        waits::waits(&self.waits, name, object)
+    }
+
+    /// Whether an object waits for the file of this name.
+    pub fn is_awaited(&self, name: &GroupName) -> bool
+        ensures { result ≡ list_any (λ w. bytes_eq w.name name.now) self.now.waits }
+    {
+        waits::is_awaited(&self.waits, name)
+    }
+
+    /// Makes room for one more object that waits. Where memory is refused nothing changes.
+    pub fn reserve_wait(&mut self) -> Result<(), AllocError>
+        ensures files { self.new.files ≡ self.old.files }
+        ensures waits { self.new.waits ≡ self.old.waits }
+        ensures room { OnOk result (1 ≤ self.new.room) }
+        ensures other_room { self.new.file_room ≡ self.old.file_room }
+    {
+        self.waits.reserve(1)
+    }
+
+    /// Lets the object wait for this file, and for no other any more, where there is room. It takes
+    /// no memory.
+    pub fn wait_reserved(&mut self, wait: Wait)
+        requires { 1 ≤ self.old.room }
+        ensures files { self.new.files ≡ self.old.files }
+        ensures waits { self.new.waits ≡ awaited (Some wait.name) wait.object self.old.waits }
+        ensures room { self.new.file_room ≡ self.old.file_room }
+    {
+        waits::wait(&mut self.waits, wait);
+    }
+
+    /// Lets the object wait for the file of this name, and for no other any more. Where memory is
+    /// refused nothing changes.
+    pub fn wait(&mut self, name: &GroupName, object: &ObjRef) -> Result<(), AllocError>
+        ensures files { self.new.files ≡ self.old.files }
+        ensures waits { OnOk result
+            (self.new.waits ≡ awaited (Some name.now) object.now self.old.waits) }
+        ensures kept { OnErr result (self.new.waits ≡ self.old.waits) }
+    {
+        let wait = Wait {
+            object: object.clone()?,
+            name: name.clone()?,
+        };
+        self.reserve_wait()?;
+        self.wait_reserved(wait);
+        Ok(())
+    }
+
+    /// Lets the object wait for nothing any more.
+    pub fn forget(&mut self, object: &ObjRef)
+        ensures files { self.new.files ≡ self.old.files }
+        ensures waits { self.new.waits ≡ forgotten object.now self.old.waits }
+        ensures file_room { self.new.file_room ≡ self.old.file_room }
+        ensures room { self.old.room ≤ self.new.room }
+    {
+        waits::forget(&mut self.waits, object);
+    }
+
+    /// Lets nobody wait for the file of this name any more.
+    pub fn arrived(&mut self, name: &GroupName)
+        ensures files { self.new.files ≡ self.old.files }
+        ensures waits { self.new.waits ≡ arrived_lem name.now self.old.waits }
+        ensures file_room { self.new.file_room ≡ self.old.file_room }
+        ensures room { self.old.room ≤ self.new.room }
+    {
+        waits::arrived(&mut self.waits, name);
+    }
+
+    /// Lets the objects of the application alone wait on, as when a scene is left.
+    pub fn leave_scene(&mut self, application: &GroupName)
+        ensures files { self.new.files ≡ self.old.files }
+        ensures waits { self.new.waits
+            ≡ filter (λ w. bytes_eq w.object.group application.now) self.old.waits }
+        ensures file_room { self.new.file_room ≡ self.old.file_room }
+        ensures room { self.old.room ≤ self.new.room }
+    {
+        waits::keep(&mut self.waits, application);
+    }
+
+    /// Lets nobody wait any more.
+    pub fn clear_waits(&mut self)
+        ensures files { self.new.files ≡ self.old.files }
+        ensures waits { self.new.waits ≡ [] }
+        ensures file_room { self.new.file_room ≡ self.old.file_room }
+        ensures room { self.old.room ≤ self.new.room }
+    {
+        self.waits.clear();
+    }
+}
+
+/// Whether the file has more octets than a string may have.
+pub fn is_large(file: &File) -> bool
+    ensures { result ≡ is_too_large file.now }
+{
+    MOST_OCTETS < file.content.as_slice().len()
+}

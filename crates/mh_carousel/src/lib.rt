@@ -1,0 +1,14 @@
+//! Content files that were handed in, and the objects that wait for one.
+//!
+//! Promise: the files are those of the definitions of `mh_model`, in the order in which their names
+//! came, and each object waits for one file at most. Whether an input may bring one more file is
+//! told without copying any. What a file brings to the objects that wait for it is left to the
+//! machine, as is the number of an error.
+#![tactic(auto)]
+
+mod ahead;
+pub mod carousel;
+mod files;
+mod waits;
+
+pub use carousel::{Carousel, is_large};

@@ -1,0 +1,99 @@
+//! The objects that wait, each with the name of its file.
+ghost use Rattle.std.specs.Prelude.{◌≡◌, ◌≤◌, ◌++◌, ◌∷◌, [], Some, None, not, filter};
+ghost use Rattle.std.specs.List.{list_any};
+ghost use Rattle.std.specs.Map.{lookup};
+ghost use Rattle.std.specs.Str.{bytes_eq};
+ghost use Rattle.indexmap.specs.IndexMap.{spare};
+ghost use Rattle.mh_model.specs.Files.{arrived as arrived_lem, awaited, forgotten, waits_for};
+ghost use Rattle.mh_model.specs.Service.{same_ref};
+ghost use Rattle.mh_carousel.specs.Carried.{waits_of};
+
+use indexmap::IndexMap;
+use mh_base::{GroupName, ObjRef};
+use mh_model::Wait;
+
+/// Whether the object waits for the file of this name.
+pub(crate) fn waits(waits: &IndexMap<ObjRef, GroupName>, name: &GroupName, object: &ObjRef) -> bool
+    ensures { result ≡ waits_for name.now (waits_of waits.now.entries) object.now }
+{
+    // The length is asked for its clause that no object stands there twice.
+    let _ = waits.len();
+    match waits.get(object) {
+        Some(other) => *other == *name,
+        None => false,
+    }
+}
+
+/// Whether an object waits for the file of this name.
+pub(crate) fn is_awaited(waits: &IndexMap<ObjRef, GroupName>, name: &GroupName) -> bool
+    ensures { result ≡ list_any (λ w. bytes_eq w.name name.now) (waits_of waits.now.entries) }
+{
+    for other in waits.values() {
+        if *other == *name {
+            return true;
+        }
+    }
+    false
+}
+
+/// Lets the object wait for nothing any more.
+pub(crate) fn forget(waits: &mut IndexMap<ObjRef, GroupName>, object: &ObjRef)
+    ensures waits { waits_of waits.new.entries ≡ forgotten object.now (waits_of waits.old.entries) }
+    ensures gone { lookup (same_ref object.now) waits.new.entries ≡ None }
+    ensures room { spare waits.old ≤ spare waits.new }
+{
+    let _ = waits.len();
+    waits.shift_remove(object);
+}
+
+/// Lets the object wait for this file alone, where there is room.
+pub(crate) fn wait(waits: &mut IndexMap<ObjRef, GroupName>, wait: Wait)
+    requires { 1 ≤ spare waits.old }
+    ensures { waits_of waits.new.entries
+        ≡ awaited (Some wait.name) wait.object (waits_of waits.old.entries) }
+{
+    forget(waits, &wait.object);
+    add(waits, wait);
+}
+
+/// Adds an object that waits for nothing, where there is room.
+fn add(waits: &mut IndexMap<ObjRef, GroupName>, wait: Wait)
+    requires room { 1 ≤ spare waits.old }
+    requires new { lookup (same_ref wait.object) waits.old.entries ≡ None }
+    ensures { waits_of waits.new.entries ≡ waits_of waits.old.entries ++ wait ∷ [] }
+{
+    let Wait { object, name } = wait;
+    match waits.insert(object, name) {
+        Ok(_) => {}
+        Err(_) => unreachable!(),
+    }
+}
+
+/// Lets nobody wait for the file of this name any more.
+pub(crate) fn arrived(waits: &mut IndexMap<ObjRef, GroupName>, name: &GroupName)
+    ensures waits { waits_of waits.new.entries ≡ arrived_lem name.now (waits_of waits.old.entries) }
+    ensures room { spare waits.old ≤ spare waits.new }
+{
+    waits.retain(|_object, other| is_other(other, name));
+}
+
+fn is_other(other: &GroupName, name: &GroupName) -> bool
+    ensures { result ≡ not (bytes_eq other.now name.now) }
+{
+    *other != *name
+}
+
+/// Keeps the objects of the application.
+pub(crate) fn keep(waits: &mut IndexMap<ObjRef, GroupName>, application: &GroupName)
+    ensures waits { waits_of waits.new.entries
+        ≡ filter (λ w. bytes_eq w.object.group application.now) (waits_of waits.old.entries) }
+    ensures room { spare waits.old ≤ spare waits.new }
+{
+    waits.retain(|object, _name| is_of(object, application));
+}
+
+fn is_of(object: &ObjRef, application: &GroupName) -> bool
+    ensures { result ≡ bytes_eq object.now.group application.now }
+{
+    object.group == *application
+}

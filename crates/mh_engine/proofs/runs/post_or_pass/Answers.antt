@@ -1,0 +1,35 @@
+use Rattle.std.specs.Prelude.{◌≡◌, ◌⊎◌, Option}
+use Rattle.std.proofs.Common.{inl, inr, ◌∙◌, ap, sym}
+use Rattle.mh_model.specs.declared.input.Obstacle.{Obstacle}
+use Rattle.mh_model.specs.declared.input.Obstacle.TheVariants as obstacle
+use Rattle.mh_model.specs.Step.{posted_by}
+use Rattle.mh_engine.specs.declared.refusal.RefusedWhy.{RefusedWhy}
+use Rattle.mh_engine.specs.declared.refusal.RefusedWhy.TheVariants as refused
+use Rattle.mh_engine.specs.Answer.{refusal_for}
+use Rattle.mh_engine.specs.Play.{Play}
+use Rattle.mh_engine.proofs.runs.post_or_pass.Goals as goal
+
+-- what is passed over tells of an obstacle
+told : (why : RefusedWhy) → (why ≡ refused.Ended) ⊎ ((why ≡ refused.TickRange) ⊎ ((why ≡ refused.Begun) ⊎ ((why ≡ refused.TooLarge) ⊎ ((why ≡ refused.TooMany) ⊎ ((why ≡ refused.ClockFull) ⊎ (why ≡ refused.QueueFull)))))) → (o : Obstacle) × (why ≡ refusal_for o)
+told why (inl e) = (obstacle.Ended, e)
+told why (inr (inl e)) = (obstacle.TickRange, e)
+told why (inr (inr (inl e))) = (obstacle.Begun, e)
+told why (inr (inr (inr (inl e)))) = (obstacle.TooLarge, e)
+told why (inr (inr (inr (inr (inl e))))) = (obstacle.TooMany, e)
+told why (inr (inr (inr (inr (inr (inl e)))))) = (obstacle.ClockFull, e)
+told why (inr (inr (inr (inr (inr (inr e)))))) = (obstacle.QueueFull, e)
+
+pub returns-in-Ended : goal.returns-in-Ended
+returns-in-Ended c =
+    let o = told c.why_refused.result c.in-Ended.is in
+    let barred = c.in-Err.ensures.barred o.0 (sym c.why_refused.ensures ∙ o.1) in
+    let kept = c.in-Err.ensures.kept in
+    record {
+      made = ap (λ (p : Play). p.state) kept ∙ sym (ap (λ (m : Option Obstacle). posted_by m c.args.input c.args.engine.now.state) barred.1);
+      running = (barred.0, ap (λ (p : Play). p.stopped) kept ∙ barred.0);
+      kept = tt;
+      same = ap (λ (p : Play). p.accepted) kept;
+      stopped = tt;
+      other = tt;
+      flag = ap (λ (p : Play). p.stopped) kept;
+    }

@@ -1,0 +1,111 @@
+//! Calls of programs.
+ghost use Rattle.std.specs.Prelude.{◌≡◌, ◌+◌, ◌<◌, ◌^◌, ◌∷◌, [], Some, IfOk, OnOk, OnErr};
+ghost use Rattle.mh_model.specs.Programs.{said_by, outcome_of};
+ghost use Rattle.mh_model.specs.Rules.{call_rule, now_of};
+ghost use Rattle.mh_model.specs.Saying.{call_items};
+ghost use Rattle.mh_machine.specs.Pieces.{written};
+ghost use Rattle.mh_machine.specs.Plans.{committed, taken_from};
+
+use crate::piece::Piece;
+use crate::plan::{Awaiting, Change, Plan, Stacking};
+use crate::planning::gifts_of;
+use crate::puts::{plain_event, push};
+use crate::works::Works;
+use mh_actions::calling::{builtin_at, call_ins, call_receivers, params_at};
+use mh_base::{EventType, ObjRef, Seq, Value};
+use mh_group::ActionName;
+use mh_model::act::passed;
+use mh_model::{Act, Builtin, Now};
+use mh_resident::answer_of;
+use std::alloc::{AllocError, Global};
+
+impl Works {
+    /// A program is called.
+    #[inline(never)]
+    pub(crate) fn do_call(&mut self, act: &Act, at: &ObjRef) -> Result<(), AllocError>
+        requires { self.old.state.taken + 1 < 2 ^ 64 }
+        ensures done { OnOk result (self.new.state
+            ≡ call_rule act.now.name act.now.arguments at.now (taken_from self.old.state)) }
+        ensures kept { OnErr result (self.new.state ≡ self.old.state) }
+    {
+        let plan = self.plan_call(act, at)?;
+        self.commit(plan)
+    }
+
+    fn plan_call(&self, act: &Act, at: &ObjRef) -> Result<Plan, AllocError>
+        ensures { IfOk result (λ plan. committed plan self.now.state
+            ≡ call_rule act.now.name act.now.arguments at.now (taken_from self.now.state)) }
+    {
+        let objects = self.stage.objects();
+        let params = params_at(self.service.programs(), objects, at);
+        let arguments = act.arguments.as_slice();
+        let ins = call_ins(self.alloc, objects, params, passed(arguments))?;
+        let which = builtin_at(objects, at);
+        let said = said_of(self.alloc, which, self.today(), ins.as_slice())?;
+        let receivers = call_receivers(self.alloc, params, arguments)?;
+        let gifts = gifts_of(self.alloc, receivers.as_slice(), said.as_slice())?;
+        let pieces = call_pieces(self.alloc, act.name, at)?;
+        let change = Change::Give(Seq::from_vec(gifts));
+        Ok(Plan::of(change, Stacking::Same, Awaiting::Same, pieces))
+    }
+
+    /// The day on which the engine began, and the present moment.
+    fn today(&self) -> Now
+        ensures { result ≡ now_of self.now.state }
+    {
+        Now {
+            mjd: self.mjd,
+            moment: self.agenda.moments().present,
+        }
+    }
+}
+
+/// What the variables of a call are given: whether it went well, and then what the program answered.
+fn said_of(
+    alloc: Global,
+    which: Option<Builtin>,
+    now: Now,
+    ins: &[Value],
+) -> Result<Vec<Value>, AllocError>
+    ensures { IfOk result (λ said. said.items ≡ said_by (outcome_of which now ins.now)) }
+{
+    match which {
+        Some(which) => said_by_builtin(alloc, which, now, ins),
+        None => one(alloc, Value::Bool(false)),
+    }
+}
+
+fn said_by_builtin(
+    alloc: Global,
+    which: Builtin,
+    now: Now,
+    ins: &[Value],
+) -> Result<Vec<Value>, AllocError>
+    ensures { IfOk result (λ said. said.items ≡ said_by (outcome_of (Some which) now ins.now)) }
+{
+    let mut said = answer_of(alloc, which, now, ins)?;
+    said.insert(0, Value::Bool(true))?;
+    Ok(said)
+}
+
+fn one(alloc: Global, value: Value) -> Result<Vec<Value>, AllocError>
+    ensures { IfOk result (λ values. values.items ≡ value ∷ []) }
+{
+    let mut values = Vec::new(alloc);
+    values.push(value)?;
+    Ok(values)
+}
+
+/// What a call puts.
+fn call_pieces(alloc: Global, name: ActionName, at: &ObjRef) -> Result<Vec<Piece>, AllocError>
+    ensures { IfOk result (λ pieces. written pieces.items ≡ call_items name at.now) }
+{
+    let mut pieces = Vec::new(alloc);
+    if matches!(name, ActionName::Fork) {
+        push(
+            &mut pieces,
+            Piece::One(plain_event(at, EventType::AsyncStopped)?),
+        )?;
+    }
+    Ok(pieces)
+}

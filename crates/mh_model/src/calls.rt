@@ -1,0 +1,120 @@
+//! Calls of programs: whether what is passed fits the program's parameters.
+//!
+//! Each function that judges is given the best so far, and answers the one that is named of it and of its own.
+ghost use Rattle.std.specs.Prelude.{◌≡◌};
+ghost use Rattle.std.specs.Option.{option_copied};
+ghost use Rattle.mh_model.specs.Faults as spec;
+ghost use Rattle.mh_model.specs.Faults.{least_fault};
+ghost use Rattle.mh_model.specs.Programs as programs;
+
+use crate::act::passed;
+use crate::kinds::kind_of;
+use crate::known::Known;
+use crate::places::variable;
+use crate::wrong::{Best, found, unless};
+use crate::{Act, Argument, FaultKind, Param, Plain, Target};
+use mh_base::{Kind, ObjRef};
+use mh_group::ActionName;
+
+/// A call that does not fit its program.
+pub(crate) fn called<'a, K: Known>(best: Best<'a>, known: &'a K, act: &'a Act) -> Best<'a>
+    ensures { let k = K.known known.now in
+        result ≡ least_fault best.entry (spec.called_faults k act.now) }
+{
+    if !is_call(act.name) {
+        return best;
+    }
+    match &act.target {
+        Target::Direct(at) => call(best, known, act, at),
+        Target::Through(at) => match known.refers(at) {
+            Some(at) => call(best, known, act, at),
+            None => best,
+        },
+    }
+}
+
+fn is_call(name: ActionName) -> bool
+    ensures { result ≡ spec.is_call name }
+{
+    matches!(name, ActionName::Call | ActionName::Fork)
+}
+
+/// A call of this program.
+fn call<'a, K: Known>(best: Best<'a>, known: &'a K, act: &'a Act, at: &'a ObjRef) -> Best<'a>
+    ensures { let k = K.known known.now in
+        result ≡ least_fault best.entry (spec.call_faults k act.now at.now) }
+{
+    let fits = calls_well(known.takes(at), passed(act.arguments.as_slice()));
+    unless(best, fits, FaultKind::WrongKind, act.name, at)
+}
+
+/// Whether what is passed fits the parameters; there are none of a program that is not known.
+fn calls_well(params: Option<&[Param]>, passed: &[Argument]) -> bool
+    ensures { result ≡ spec.calls_well (option_copied params.entry) passed.now }
+{
+    match params {
+        Some(params) => fits_params(params, passed),
+        None => false,
+    }
+}
+
+/// Whether there is one argument for each parameter, and it fits it.
+fn fits_params(params: &[Param], passed: &[Argument]) -> bool
+    ensures { result ≡ programs.fits_params params.now passed.now }
+{
+    let mut params = params;
+    let mut passed = passed;
+    while let Some((param, params_behind)) = params.split_first() {
+        let Some((argument, behind)) = passed.split_first() else {
+            return false;
+        };
+        if !fits_param(*param, argument) {
+            return false;
+        }
+        params = params_behind;
+        passed = behind;
+    }
+    passed.is_empty()
+}
+
+fn fits_param(param: Param, argument: &Argument) -> bool
+    ensures { result ≡ programs.fits_param param argument.now }
+{
+    match (param, argument) {
+        (Param::In(plain), Argument::Direct(value)) => is_plain(plain, kind_of(value)),
+        (Param::In(plain) | Param::Out(plain), Argument::Through(_, Some(kind))) => {
+            is_plain(plain, *kind)
+        }
+        _ => false,
+    }
+}
+
+fn is_plain(plain: Plain, kind: Kind) -> bool
+    ensures { result ≡ programs.same_plain plain kind }
+{
+    matches!(
+        (plain, kind),
+        (Plain::Bool, Kind::Bool) | (Plain::Int, Kind::Int) | (Plain::Octets, Kind::Octets)
+    )
+}
+
+/// An argument that is passed: a variable has to be of the kind that is written.
+pub(crate) fn passed_one<'a, K: Known>(
+    best: Best<'a>,
+    known: &'a K,
+    act: &'a Act,
+    argument: &'a Argument,
+) -> Best<'a>
+    ensures { let k = K.known known.now in
+        result ≡ least_fault best.entry (spec.passed_faults k act.now argument.now) }
+{
+    match argument {
+        Argument::Direct(_) => best,
+        Argument::Through(at, Some(kind)) => {
+            variable(best, kind, act.name, at, known.class_of(at))
+        }
+        Argument::Through(at, None) | Argument::Receiver(at) => {
+            found(best, FaultKind::WrongKind, act.name, at)
+        }
+    }
+}

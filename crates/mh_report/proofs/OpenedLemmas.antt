@@ -1,0 +1,69 @@
+-- A play from what it begins with: the commands are played, or the line says which file is refused.
+use Rattle.std.specs.Prelude.{◌≡◌, List, ℕ, Option, Result, Ok, Err, IfOk, IfErr, IsOk, OnOk, OnErr}
+use Rattle.std.proofs.Common.{subst, sym, ap, ◌∙◌}
+use Rattle.std.specs.Io.KnownBytes.{Appends}
+use Rattle.mh_report.specs.declared.play_error.PlayError.{PlayError}
+use Rattle.mh_report.specs.declared.script.Command.{Command}
+use Rattle.mh_report.specs.declared.status.Status.{Status}
+use Rattle.mh_report.specs.declared.status.Status.TheVariants as status
+use Rattle.mh_report.specs.declared.unplayable.Unplayable.{Unplayable}
+use Rattle.mh_report.specs.declared.unplayable.Unplayable.TheVariants as unplayable
+use Rattle.mh_report.specs.Sink.{IsBeginning}
+use Rattle.mh_model.specs.State.{State}
+use Rattle.mh_report.specs.Report.{Session, opening, script_lines, ended, status_of}
+use Rattle.mh_report.specs.Reading.{Fails, Gives}
+use Rattle.mh_report.specs.Presets.{begins}
+use Rattle.mh_report.specs.Played.{complaint, play_lines, play_status}
+use Rattle.mh_report.proofs.WrittenLemmas.{failed}
+
+-- A player that begins, once the files are there.
+
+fails_begins : (e : Unplayable) (r : Result State Unplayable) → Fails e r → Fails e (begins r)
+fails_begins (unplayable.File name number offset) r so = ap begins so
+fails_begins (unplayable.Service number group) r so = ap begins so
+fails_begins (unplayable.Script number) r so = ap begins so
+fails_begins unplayable.NoMemory r so = tt
+
+set_state : (set : Result (Unit {0}) Unplayable) (r : Result State Unplayable) (s : State) → OnOk set (r ≡ Ok s) → IsOk set → r ≡ Ok s
+set_state (Ok u) r s so good = so
+set_state (Err e) r s so good = absurd cc
+
+pub begun_player : (set : Result (Unit {0}) Unplayable) (answer : Result Session Unplayable) (r : Result State Unplayable) (s : State) (p : Session) → OnOk set (r ≡ Ok s) → IfErr set (λ why. Fails why r)
+    → p ≡ opening s → IfOk answer (λ given. given ≡ p) → OnOk answer (IsOk set) → IfErr answer (λ why. set ≡ Err why) → Gives (λ x. x) answer (begins r)
+begun_player set (Ok x) r s p so why new same good refused = ap begins (set_state set r s so good) ∙ ap Ok (sym (same ∙ new))
+begun_player set (Err e) r s p so why new same good refused =
+    fails_begins e r (subst (λ (x : Result (Unit {0}) Unplayable). IfErr x (λ w. Fails w r)) refused why)
+
+-- The commands were played.
+
+pub whole_play : (cs : List Command) (p : Session) (r : Result Session Unplayable) (before after : Option (List ℕ)) (answer : Result Status PlayError) → r ≡ Ok p
+    → OnOk answer (Appends before after (script_lines cs p)) → OnOk answer (Appends before after (play_lines cs r))
+whole_play cs p r before after answer is taken =
+    subst (λ (x : Result Session Unplayable). OnOk answer (Appends before after (play_lines cs x))) (sym is) taken
+
+pub ends_play : (cs : List Command) (p : Session) (r : Result Session Unplayable) (answer : Result Status PlayError) → r ≡ Ok p
+    → IfOk answer (λ st. st ≡ status_of (ended cs p).state.faults) → IfOk answer (λ st. st ≡ play_status cs r)
+ends_play cs p r answer is how =
+    subst (λ (x : Result Session Unplayable). IfOk answer (λ (st : Status). st ≡ play_status cs x)) (sym is) how
+
+pub cut_play : (cs : List Command) (p : Session) (r : Result Session Unplayable) (before after : Option (List ℕ)) (answer : Result Status PlayError) → r ≡ Ok p
+    → OnErr answer (IsBeginning before after (script_lines cs p)) → OnErr answer (IsBeginning before after (play_lines cs r))
+cut_play cs p r before after answer is begun =
+    subst (λ (x : Result Session Unplayable). OnErr answer (IsBeginning before after (play_lines cs x))) (sym is) begun
+
+-- A file was refused.
+
+pub whole_refused : (cs : List Command) (e : Unplayable) (r : Result Session Unplayable) (before after : Option (List ℕ)) (answer : Result Status PlayError) → Fails e r
+    → (e ≡ unplayable.NoMemory → ⊥) → OnOk answer (Appends before after (complaint e)) → OnOk answer (Appends before after (play_lines cs r))
+whole_refused cs e r before after answer why other taken =
+    subst (λ (x : Result Session Unplayable). OnOk answer (Appends before after (play_lines cs x))) (sym (failed e r why other)) taken
+
+pub ends_refused : (cs : List Command) (e : Unplayable) (r : Result Session Unplayable) (answer : Result Status PlayError) → Fails e r
+    → (e ≡ unplayable.NoMemory → ⊥) → IfOk answer (λ st. st ≡ status.Unreadable) → IfOk answer (λ st. st ≡ play_status cs r)
+ends_refused cs e r answer why other how =
+    subst (λ (x : Result Session Unplayable). IfOk answer (λ (st : Status). st ≡ play_status cs x)) (sym (failed e r why other)) how
+
+pub cut_refused : (cs : List Command) (e : Unplayable) (r : Result Session Unplayable) (before after : Option (List ℕ)) (answer : Result Status PlayError) → Fails e r
+    → (e ≡ unplayable.NoMemory → ⊥) → OnErr answer (IsBeginning before after (complaint e)) → OnErr answer (IsBeginning before after (play_lines cs r))
+cut_refused cs e r before after answer why other begun =
+    subst (λ (x : Result Session Unplayable). OnErr answer (IsBeginning before after (play_lines cs x))) (sym (failed e r why other)) begun

@@ -1,0 +1,53 @@
+-- A service that is read from files has no programs but the built-in ones.
+use Rattle.std.specs.Prelude.{◌≡◌, ℕ, List, [], map, Option, Some, None, Result, Ok, Err, IfOk, IfErr, OnOk, refl}
+use Rattle.std.proofs.Common.{ap, sym, subst, ◌∙◌}
+use Rattle.std.proofs.lemmas.Result.{IfOk-weaker}
+use Rattle.mh_model.specs.Acceptable.{IsAcceptable}
+use Rattle.mh_model.specs.declared.program.Signature.{Signature}
+use Rattle.mh_model.specs.Service.{Service}
+use Rattle.mh_service.specs.Refusals.{File, Refusal as ServiceRefusal}
+use Rattle.mh_service.specs.Resolved.{resolved}
+use Rattle.mh_verify.specs.Equipment.{equipped}
+use Rattle.mh_report.specs.declared.material.Material.{Material}
+use Rattle.mh_report.specs.declared.script.Command.{Command}
+use Rattle.mh_report.specs.declared.unplayable.Unplayable.{Unplayable}
+use Rattle.mh_report.specs.Reading.{◌>>=◌, Source, contents, commands_of, read_files, readied, refusal_for, service_of, service_read, unless_refused}
+
+made : (o : Option ServiceRefusal) (x s : Service) → x.programs ≡ [] → unless_refused o x ≡ Ok s → s.programs ≡ []
+made None x s none e =
+    let same : x ≡ s = cc in
+    subst (λ (y : Service). y.programs ≡ []) same none
+made (Some r) x s none e = cc
+
+pub plain_service : (start : List ℕ) (files : List Source) (s : Service) → service_read start files ≡ Ok s → s.programs ≡ []
+unfolding service_read service_of
+plain_service start files s e = by (read_files [] files) e
+  where
+    by : (r : Result (List File) Unplayable) → (r >>= service_of start) ≡ Ok s → s.programs ≡ []
+    by (Err x) h = cc
+    by (Ok groups) h = made (refusal_for start groups) (record { groups = map resolved groups; start = start; programs = [] }) s refl h
+
+abbrev material : Service → List Source → List Command → Material
+material s files cs = record { service = s; files = contents s files; commands = cs }
+
+pub plain_material : (start : List ℕ) (files : List Source) (script : List ℕ) (m : Material) → readied start files script ≡ Ok m → m.service.programs ≡ []
+unfolding readied
+plain_material start files script m e = by (service_read start files) refl (commands_of script) e
+  where
+    by : (r : Result Service Unplayable) → service_read start files ≡ r → (c : Result (List Command) Unplayable)
+        → (r >>= (λ (s : Service). c >>= (λ (cs : List Command). Ok (material s files cs)))) ≡ Ok m → m.service.programs ≡ []
+    by (Err x) is c h = cc
+    by (Ok s) is (Err x) h = cc
+    by (Ok s) is (Ok cs) h =
+        let same : material s files cs ≡ m = cc in
+        subst (λ (x : Material). x.service.programs ≡ []) same (plain_service start files s is)
+
+-- such a service is what is verified
+pub unequipped : (s : Service) → s.programs ≡ [] → equipped s [] ≡ s
+unequipped s none = ap (λ (ps : List Signature). record s { programs = ps }) (sym none)
+
+pub same_service : {E : Type 0} (s : Service) (r : Result Service E) → s.programs ≡ [] → IfOk r (λ a. a ≡ equipped s []) → IfOk r (λ a. a ≡ s)
+same_service {E} s r none same = IfOk-weaker r _ _ (λ a e. e ∙ unequipped s none) same
+
+pub acceptable_service : {T E : Type 0} (s : Service) (r : Result T E) → s.programs ≡ [] → OnOk r (IsAcceptable (equipped s [])) → OnOk r (IsAcceptable s)
+acceptable_service {T} {E} s r none good = subst (λ (v : Service). OnOk r (IsAcceptable v)) (unequipped s none) good

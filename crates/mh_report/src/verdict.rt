@@ -1,0 +1,18 @@
+//! The verdict on a service.
+ghost use Rattle.std.specs.Prelude.{◌≡◌, [], IfOk, IfErr, OnOk};
+ghost use Rattle.mh_model.specs.Acceptable.{IsAcceptable};
+ghost use Rattle.mh_verify.specs.Order.{IsTold};
+
+use mh_service::Service;
+use mh_verify::{Accepted, Refusal, verify};
+use std::alloc::Global;
+
+/// What the verifier says of a service, for an engine that has the built-in programs alone.
+pub fn verified(alloc: Global, service: Service) -> Result<Accepted, Refusal>
+    requires { service.programs ≡ [] }
+    ensures same { IfOk result (λ accepted. accepted ≡ service) }
+    ensures acceptable { OnOk result (IsAcceptable service) }
+    ensures told { IfErr result (IsTold service []) }
+{
+    verify(alloc, service, &[])
+}

@@ -1,0 +1,126 @@
+//! Words: what the names, numbers and octets in a line of a script stand for.
+ghost use Rattle.std.specs.Prelude.{◌≡◌, IfOk};
+ghost use Rattle.mh_report.specs.Script.{key_name as key_name_lem, key_named as key_named_lem, integer_of as integer_of_lem, with_digit as with_digit_lem, number_of as number_of_lem, octets_of as octets_of_lem};
+
+use hex::FromHexError;
+use mh_base::Octets;
+use mh_model::Key;
+use std::alloc::{AllocError, Global};
+
+/// All keys.
+const KEYS: [Key; 21] = [
+    Key::Up,
+    Key::Down,
+    Key::Left,
+    Key::Right,
+    Key::Digit0,
+    Key::Digit1,
+    Key::Digit2,
+    Key::Digit3,
+    Key::Digit4,
+    Key::Digit5,
+    Key::Digit6,
+    Key::Digit7,
+    Key::Digit8,
+    Key::Digit9,
+    Key::Select,
+    Key::Cancel,
+    Key::Red,
+    Key::Green,
+    Key::Yellow,
+    Key::Blue,
+    Key::Text,
+];
+
+/// The key that a script calls so, if there is one.
+pub fn key_named(name: &[u8]) -> Option<Key>
+    ensures { result ≡ key_named_lem name.now }
+{
+    KEYS.iter().copied().find(|key| key_name(*key) == name)
+}
+
+/// What a script calls the key.
+#[tactic(auto, unfolding(crate::specs::Script::key_name))]
+pub fn key_name(key: Key) -> &'static [u8]
+    ensures { result.now ≡ key_name_lem key }
+{
+    match key {
+        Key::Up => b"up",
+        Key::Down => b"down",
+        Key::Left => b"left",
+        Key::Right => b"right",
+        Key::Digit0 => b"0",
+        Key::Digit1 => b"1",
+        Key::Digit2 => b"2",
+        Key::Digit3 => b"3",
+        Key::Digit4 => b"4",
+        Key::Digit5 => b"5",
+        Key::Digit6 => b"6",
+        Key::Digit7 => b"7",
+        Key::Digit8 => b"8",
+        Key::Digit9 => b"9",
+        Key::Select => b"select",
+        Key::Cancel => b"cancel",
+        Key::Red => b"red",
+        Key::Green => b"green",
+        Key::Yellow => b"yellow",
+        Key::Blue => b"blue",
+        Key::Text => b"text",
+    }
+}
+
+/// The number that decimal digits write, if it fits.
+pub fn number_of(digits: &[u8]) -> Option<u32>
+    ensures { result ≡ number_of_lem digits.now }
+{
+    if digits.is_empty() {
+        return None;
+    }
+    let mut number = 0;
+    for digit in digits {
+        match with_digit(number, *digit) {
+            Some(longer) => number = longer,
+            None => return None,
+        }
+    }
+    Some(number)
+}
+
+/// The integer that decimal digits write, if it fits.
+pub fn integer_of(digits: &[u8]) -> Option<i32>
+    ensures { result ≡ integer_of_lem digits.now }
+{
+    match number_of(digits) {
+        Some(number) if number <= 2_147_483_647 => Some(number as i32),
+        _ => None,
+    }
+}
+
+/// The number with one digit more, if that fits.
+fn with_digit(number: u32, digit: u8) -> Option<u32>
+    ensures { result ≡ with_digit_lem number digit }
+{
+    if !digit.is_ascii_digit() {
+        return None;
+    }
+    let longer = u64::from(number) * 10 + u64::from(digit - b'0');
+    if longer <= 4_294_967_295 {
+        Some(longer as u32)
+    } else {
+        None
+    }
+}
+
+/// The octets that pairs of hexadecimal digits write, at least one pair, if they do.
+pub fn octets_of(alloc: Global, digits: &[u8]) -> Result<Option<Octets>, AllocError>
+    ensures { IfOk result (λ octets. octets ≡ octets_of_lem digits.now) }
+{
+    if digits.is_empty() {
+        return Ok(None);
+    }
+    match hex::decode(alloc, digits) {
+        Ok(octets) => Ok(Some(Octets::from_vec(alloc, octets)?)),
+        Err(FromHexError::OutOfMemory) => Err(AllocError),
+        Err(_) => Ok(None),
+    }
+}

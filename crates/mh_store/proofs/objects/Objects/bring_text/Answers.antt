@@ -1,0 +1,22 @@
+use Rattle.std.proofs.Common.{◌∙◌, [], unwrap_or, ap}
+use Rattle.mh_model.specs.Service.{parts}
+use Rattle.mh_store.specs.Trying.{of_scene}
+use Rattle.mh_store.proofs.BringingLemmas.{own_made, parts-text, both_brought}
+use Rattle.mh_store.proofs.objects.Objects.bring_text.Goals as goal
+
+pub put-requires : goal.put-requires
+put-requires g c = own_made (g.A.Awaits.is c.args.awaiting.now) c.args.text.now c.self.inside.application c.in_ok-application.application.items c.in_ok-application.ensures
+
+pub put_in-requires : goal.put_in-requires
+put_in-requires g c = own_made (g.A.Awaits.is c.args.awaiting.now) c.args.text.now (of_scene c.self.inside.scene) c.in_ok-scene.scene.items c.in_ok-scene.ensures
+
+pub returns-clause-done : goal.returns-clause-done
+returns-clause-done g c =
+    rw (← c.self.view_is)
+    (both_brought (g.A.Awaits.is c.args.awaiting.now) c.args.text.now (record { application = c.self.inside.application; scene = unwrap_or c.self.inside.scene [] }) c.put.new.self (of_scene c.put_in.new.scene) c.in_ok-application.application.items c.in_ok-scene.scene.items c.in_ok-application.ensures c.in_ok-scene.ensures c.put.ensures c.put_in.ensures)
+
+pub returns-clause-own : goal.returns-clause-own
+returns-clause-own g c = ap (λ os. parts os.application) (returns-clause-done g c) ∙ parts-text (g.A.Awaits.is c.args.awaiting.now) c.args.text.now c.args.self.now.application
+
+pub returns-clause-others : goal.returns-clause-others
+returns-clause-others g c = ap (λ os. parts os.scene) (returns-clause-done g c) ∙ parts-text (g.A.Awaits.is c.args.awaiting.now) c.args.text.now c.args.self.now.scene

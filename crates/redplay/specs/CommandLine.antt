@@ -1,0 +1,138 @@
+-- The command line: the subcommands and options that there are, and what the words ask for. How words are read
+-- against them, what is refused and under which kind, are the definitions of `clap`.
+use Rattle.std.specs.Prelude.{ℕ, ◌≤◌, Bool, true, false, if◌then◌else◌, List, [], ◌∷◌, Option, Some, None, codes, unwrap_or}
+use Rattle.std.specs.Option.{option_map_or}
+use Rattle.std.specs.Str.{bytes_eq}
+use Rattle.std.specs.Str.Parse.{digits_value, without_leading_plus}
+use Rattle.clap.specs.Words.{App, Row, Rule, Text, first_of, new_app, new_rule, with_rule, with_subcommand}
+use Rattle.clap.specs.Simple.{on_top}
+use Rattle.clap.specs.ValueTests.{is_unsigned_in}
+use Rattle.clap.specs.declared.builder.action.ArgAction.TheVariants.{Set, SetTrue}
+use Rattle.clap.specs.declared.builder.value_parser.ValueParser.TheVariants as parser
+use Rattle.mh_report.specs.declared.convert.Notation.{Notation}
+use Rattle.mh_report.specs.declared.convert.Notation.TheVariants as notation
+use Rattle.redplay.specs.declared.command_line.Task.{Task}
+use Rattle.redplay.specs.declared.command_line.Task.TheVariants as task
+
+-- The arguments.
+
+-- a path that has to be given
+abbrev pub path : Text → Rule
+path id = record (new_rule id) { required = true; action = Some Set }
+
+abbrev pub folder : Rule
+folder = path (codes "DIR")
+
+abbrev pub file : Rule
+file = path (codes "FILE")
+
+-- an option with a value
+abbrev pub named : Text → Rule
+named id = record (new_rule id) { long = Some id; action = Some Set; value_names = 1 }
+
+-- the application to start with
+abbrev pub start : Rule
+start = record (named (codes "start")) { defaults = codes "a" ∷ [] }
+
+abbrev pub script : Rule
+script = record (named (codes "script")) { required = true }
+
+-- the last day on which a play can begin, and the one on which it does unless another is asked for
+abbrev pub last_day : ℕ
+last_day = 1000000
+
+abbrev pub usual_day : ℕ
+usual_day = 60000
+
+-- the modified Julian day on which a play begins
+abbrev pub mjd : Rule
+mjd = record (named (codes "mjd")) { defaults = codes "60000" ∷ []; parser = Some (parser.Unsigned 0 last_day) }
+
+abbrev pub lenient : Rule
+lenient = record (new_rule (codes "lenient")) { long = Some (codes "lenient"); action = Some SetTrue }
+
+-- The subcommands.
+
+abbrev pub check : App
+check = with_rule (with_rule (new_app (codes "check")) folder) start
+
+-- what has to be given, and then what may be
+
+abbrev pub play_required : App
+play_required = with_rule (with_rule (new_app (codes "play")) folder) script
+
+abbrev pub play : App
+play = with_rule (with_rule (with_rule play_required start) mjd) lenient
+
+abbrev pub to_der : App
+to_der = with_rule (new_app (codes "to-der")) file
+
+abbrev pub to_text : App
+to_text = with_rule (new_app (codes "to-text")) file
+
+-- the program without them: it has a version, and one of them has to be given
+abbrev pub bare : App
+bare = on_top (λ s. record s { has_version = true; subcommand_required = true }) (new_app (codes "redplay"))
+
+abbrev pub with_services : App
+with_services = with_subcommand (with_subcommand bare check.top) play.top
+
+abbrev pub program : App
+program = with_subcommand (with_subcommand with_services to_der.top) to_text.top
+
+-- What is asked for.
+
+pub data Asked : Type 0 where
+  checked : (folder start : Text) → Asked
+  played : (folder start script : Text) (lenient : Bool) (mjd : ℕ) → Asked
+  converted : (file : Text) (to : Notation) → Asked
+
+-- the value of an argument; each that is read here is required or has a default
+abbrev pub text_of : Text → List Row → Text
+text_of id rows = unwrap_or (first_of id rows) []
+
+abbrev pub is_set : Text → List Row → Bool
+is_set id rows = option_map_or (λ t. bytes_eq t (codes "true")) (first_of id rows) false
+
+-- the day that a text writes; words with another text are refused, by the argument's rule
+abbrev pub day_in : Text → ℕ
+day_in t = if is_unsigned_in 0 last_day t then digits_value 10 (without_leading_plus t) else usual_day
+
+abbrev pub day_of : List Row → ℕ
+day_of rows = day_in (text_of (codes "mjd") rows)
+
+-- what was found for the arguments of a subcommand
+
+abbrev pub checking : List Row → Asked
+checking rows = checked (text_of (codes "DIR") rows) (text_of (codes "start") rows)
+
+abbrev pub playing : List Row → Asked
+playing rows =
+    played (text_of (codes "DIR") rows) (text_of (codes "start") rows) (text_of (codes "script") rows)
+    (is_set (codes "lenient") rows) (day_of rows)
+
+abbrev pub converting : List Row → Notation → Asked
+converting rows to = converted (text_of (codes "FILE") rows) to
+
+-- the subcommand of this name
+abbrev pub asked_under : Text → List Row → Asked
+asked_under name rows =
+    if bytes_eq name (codes "play") then playing rows
+    else (if bytes_eq name (codes "to-der") then converting rows notation.Binary
+    else (if bytes_eq name (codes "to-text") then converting rows notation.Textual else checking rows))
+
+-- one subcommand is required
+abbrev pub asked_by : Option (Text × List Row) → Asked
+asked_by (Some given) = asked_under given.0 given.1
+asked_by None = checked [] []
+
+-- what a task says
+abbrev pub said : Task → Asked
+said (task.Check source) = checked source.folder.now source.start.now
+said (task.Play source script lenient mjd) = played source.folder.now source.start.now script.now lenient mjd
+said (task.Convert file to) = converted file.now to
+
+-- a play begins on a day on which one can
+abbrev pub HasDay : Task → Type 0
+HasDay (task.Play source script lenient mjd) = mjd ≤ last_day
+HasDay t = Unit {0}
