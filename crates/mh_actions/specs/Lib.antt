@@ -1,4 +1,3 @@
-pub mod Called
 pub mod Content
 pub mod Listed
 pub mod Members

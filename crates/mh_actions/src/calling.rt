@@ -1,13 +1,16 @@
 //! Calls of programs (ISO/IEC 13522-5, Call and Fork): which program, what goes in, where the
 //! answers go, and what is put. The call itself is left to who has the programs.
 ghost use Rattle.std.specs.Prelude.{◌≡◌, ◌++◌, ◌∷◌, [], IfOk, OnOk, unwrap_or};
+ghost use Rattle.std.specs.List.{list_any};
 ghost use Rattle.std.specs.Option.{option_copied};
-ghost use Rattle.mh_actions.specs.Called.{builtin_in as builtin_in_lem};
+ghost use Rattle.std.specs.Str.{bytes_eq};
 ghost use Rattle.mh_actions.specs.Listed.{listed};
 ghost use Rattle.mh_model.specs.Arguments.{values as values_lem, receivers as receivers_lem};
 ghost use Rattle.mh_model.specs.Faults.{passed as passed_lem};
 ghost use Rattle.mh_model.specs.Known.{params_in};
 ghost use Rattle.mh_model.specs.Programs.{ins, outs};
+ghost use Rattle.mh_model.specs.Receiver.{added_name as added_name_lem, if_added as if_added_lem, is_added as is_added_lem};
+ghost use Rattle.mh_model.specs.Rules.{builtin_in as builtin_in_lem};
 ghost use Rattle.mh_model.specs.Saying as spec;
 ghost use Rattle.mh_model.specs.Service.{part_at, parts};
 ghost use Rattle.mh_model.specs.State.{all};
@@ -34,6 +37,47 @@ fn builtin_in(part: Option<&Fixed>) -> Option<Builtin>
     ensures { result ≡ builtin_in_lem (option_copied part.entry) }
 {
     builtin_named(program_name(part?)?)
+}
+
+/// The name of the program to which the reference leads, if it is none of the built-in ones and one
+/// of these has it.
+pub fn added_name<'a>(programs: &[Signature], objects: &'a Objects, at: &ObjRef) -> Option<&'a [u8]>
+    ensures { let part = part_at at.now (parts (all objects.now)) in
+        option_copied result ≡ added_name_lem programs.now part }
+{
+    added_name_in(programs, present_part(objects, at))
+}
+
+fn added_name_in<'a>(programs: &[Signature], part: Option<&'a Fixed>) -> Option<&'a [u8]>
+    ensures { option_copied result ≡ added_name_lem programs.now (option_copied part.entry) }
+{
+    if_added(programs, program_name(part?))
+}
+
+fn if_added<'a>(programs: &[Signature], name: Option<&'a [u8]>) -> Option<&'a [u8]>
+    ensures { option_copied result ≡ if_added_lem programs.now (option_copied name.entry) }
+{
+    match name {
+        Some(name) if is_added(programs, name) => Some(name),
+        _ => None,
+    }
+}
+
+fn is_added(programs: &[Signature], name: &[u8]) -> bool
+    ensures { result ≡ is_added_lem programs.now name.now }
+{
+    match builtin_named(name) {
+        Some(_) => false,
+        None => has_name(programs, name),
+    }
+}
+
+fn has_name(programs: &[Signature], name: &[u8]) -> bool
+    ensures { result ≡ list_any (λ s. bytes_eq name.now s.name) programs.now }
+{
+    programs
+        .iter()
+        .any(|program| name == program.name.as_slice())
 }
 
 /// The parameters of the program to which the reference leads, where the receiver has these

@@ -1,3 +1,4 @@
 pub mod RunLemmas
 pub mod SafeEngine
 pub mod StartLemmas
+pub mod ReceiverLemmas

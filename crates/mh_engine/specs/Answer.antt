@@ -27,6 +27,10 @@ step_refusal p =
     else (if is_settled p.state then None
     else (if p.state.taken == most_steps then Some failed.CountFull else None))
 
+-- there is a step to make, and one that is counted
+abbrev pub is_ready : Play → Bool
+is_ready p = not p.stopped && not (is_settled p.state) && not (p.state.taken == most_steps)
+
 -- how an obstacle is told
 abbrev pub refusal_for : Obstacle → RefusedWhy
 refusal_for obstacle.Ended = refused.Ended

@@ -10,6 +10,7 @@ ghost use Rattle.mh_machine.specs.Rest.{answer_of, is_faulted, rest_of};
 ghost use Rattle.mh_machine.specs.Working.{IsPartly};
 ghost use Rattle.mh_engine.specs.Answer.{refusal_for, start_refusal, step_refusal, post_refusal, preset_refusal};
 
+use crate::passing::{post_or_back, preset_copy, refuse, refuse_file};
 use crate::refusal::{Refused, RefusedFile, RefusedWhy, StartError, StepError, Unaccepted};
 use mh_machine::{Machine, Rest, Stepped, Unstarted};
 use mh_model::{Fault, File, Input, Picture, Signature};
@@ -23,8 +24,8 @@ use std::marker::Model;
 /// accepted: then its state is safe.
 #[derive(Drop)]
 pub struct Engine {
-    machine: Machine,
-    stopped: bool,
+    pub(crate) machine: Machine,
+    pub(crate) stopped: bool,
     pub(crate) accepted: bool,
 }
 
@@ -42,7 +43,7 @@ impl Model for Engine {
 
 impl Engine {
     /// An engine for the service, whether or not a verifier would accept it, that begins on this modified
-    /// Julian day, 1,000,000 at most.
+    /// Julian day, 1,000,000 at most. It has the built-in programs alone (`Receiver` has others).
     pub fn start_lenient(alloc: Global, service: Service, mjd: u32) -> Result<Engine, Unstarted>
         ensures begun { IfOk result (λ engine. engine ≡ record { state = begun service mjd; stopped = false; accepted = false }) }
         ensures back { IfErr result (λ unstarted. unstarted.service ≡ service) }
@@ -69,19 +70,7 @@ impl Engine {
                 accepted,
             });
         }
-        let (service, rest) = accepted.apart();
-        let _ = service.programs();
-        match Machine::new(alloc, service, mjd) {
-            Ok(machine) => Ok(Engine {
-                machine,
-                stopped: false,
-                accepted: true,
-            }),
-            Err(unstarted) => Err(Unaccepted {
-                why: StartError::NoMemory,
-                accepted: rest.join(unstarted.service),
-            }),
-        }
+        Engine::begin(alloc, accepted, Vec::new(alloc), mjd)
     }
 
     /// A content file is there before the first move. A refused one is handed back, and nothing changes.
@@ -260,49 +249,4 @@ fn are_none(programs: &[Signature]) -> bool
     ensures { result ≡ is_empty programs.now }
 {
     programs.is_empty()
-}
-
-/// Posts the input, or hands it back where memory is refused.
-fn post_or_back(machine: &mut Machine, input: Input) -> Result<(), Refused>
-    requires { obstacle input machine.old ≡ None }
-    ensures posted { OnOk result (machine.new ≡ posted input machine.old) }
-    ensures back { IfErr result (λ refused. refused.input ≡ input) }
-    ensures why { IfErr result (λ refused. refused.why ≡ RefusedWhy.NoMemory) }
-    ensures kept { OnErr result (machine.new ≡ machine.old) }
-{
-    match post_copy(machine, &input) {
-        Ok(()) => Ok(()),
-        Err(_) => refuse(RefusedWhy::NoMemory, input),
-    }
-}
-
-/// Posts a copy of the input, so that a refused one can be handed back.
-fn post_copy(machine: &mut Machine, input: &Input) -> Result<(), AllocError>
-    requires { obstacle input.now machine.old ≡ None }
-    ensures posted { OnOk result (machine.new ≡ posted input.now machine.old) }
-    ensures kept { OnErr result (machine.new ≡ machine.old) }
-{
-    let copy = input.clone()?;
-    machine.post(copy)
-}
-
-/// Presets a copy of the file, so that a refused one can be handed back.
-fn preset_copy(machine: &mut Machine, file: &File) -> Result<(), AllocError>
-    ensures preset { OnOk result (machine.new ≡ preset_lem file.now machine.old) }
-    ensures kept { OnErr result (machine.new ≡ machine.old) }
-{
-    let copy = file.clone()?;
-    machine.preset(copy)
-}
-
-fn refuse_file(why: RefusedWhy, file: File) -> Result<(), RefusedFile>
-    ensures { IsErrOf result (record { why = why; file = file }) }
-{
-    Err(RefusedFile { why, file })
-}
-
-fn refuse(why: RefusedWhy, input: Input) -> Result<(), Refused>
-    ensures { IsErrOf result (record { why = why; input = input }) }
-{
-    Err(Refused { why, input })
 }

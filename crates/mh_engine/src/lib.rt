@@ -5,11 +5,15 @@
 //! the machine's definitions, and an engine whose service was accepted never meets a stuck item.
 #![tactic(auto)]
 
+mod beside;
 pub mod engine;
+mod passing;
+pub mod receiver;
 pub mod refusal;
 pub mod runs;
 
 pub use engine::Engine;
 pub use mh_machine::{Rest, Stepped, Unstarted};
+pub use receiver::{Receiver, Unequipped, Unready};
 pub use refusal::{Refused, RefusedFile, RefusedWhy, RunEnd, StartError, StepError, Unaccepted};
 pub use runs::run;

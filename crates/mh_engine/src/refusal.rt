@@ -17,6 +17,17 @@ pub enum StartError {
     ProgramsDiffer,
 }
 
+impl From<AllocError> for StartError {
+    ghost use Rattle.std.specs.Prelude.{◌≡◌};
+    ghost use Rattle.mh_engine.specs.declared.refusal.StartError.TheVariants.{NoMemory};
+
+    ghost from_gives = { λ _ e. e ≡ NoMemory };
+
+    fn from(_refused: AllocError) -> StartError {
+        StartError::NoMemory
+    }
+}
+
 impl StartError {
     /// The number under which it is reported; want of memory has none.
     pub fn number(self) -> Option<u32>

@@ -28,7 +28,7 @@ use Rattle.mh_model.specs.Lifecycle.{is_available_at, reordered, is_unavailable_
 use Rattle.mh_model.specs.Saying.{answers_at, put_items_at, load_items, call_items}
 use Rattle.mh_model.specs.Service.{object_at, part_at, parts}
 use Rattle.mh_model.specs.State.{State, Objects, all}
-use Rattle.mh_model.specs.Rules.{changed, filled, change_rule, ask_rule, put_rule, order_rule, load_rule, loaded_with, call_rule, now_of, outcome_at}
+use Rattle.mh_model.specs.Rules.{changed, filled, change_rule, ask_rule, put_rule, order_rule, load_rule, loaded_with, call_rule, builtin_in, now_of, outcome_at}
 use Rattle.mh_model.specs.Step.{done}
 use Rattle.mh_machine.specs.declared.piece.Piece.{Piece}
 use Rattle.mh_machine.specs.declared.plan.Awaiting.{Awaiting}
@@ -41,7 +41,6 @@ use Rattle.mh_machine.specs.declared.plan.Puts.TheVariants as puts
 use Rattle.mh_machine.specs.declared.plan.Stacking.{Stacking}
 use Rattle.mh_machine.specs.declared.plan.Stacking.TheVariants as stacking
 use Rattle.mh_machine.specs.Pieces.{written}
-use Rattle.mh_actions.specs.Called.{builtin_in}
 use Rattle.mh_actions.specs.Content.{new_content}
 use Rattle.mh_machine.specs.Loading.{prepare_told, run_told, content_told}
 use Rattle.mh_machine.specs.Plans.{changed_as, given_all, gifts, Makes, restacked, rewaited, wait_if, plan_of, committed, put_for_first, taken_from}
@@ -180,20 +179,15 @@ load_none (x ∷ y ∷ vs) r s e = refl
 
 -- Programs
 
-said_as : (p : Option Fixed) (ps : List Param) (xs : List Argument) (s : State) → said_by (outcome_of (builtin_in p) (now_of s) (values (all s.objects) (ins ps (passed xs)))) ≡ said_by (outcome_at p ps xs s)
-said_as None ps xs s = refl
-said_as (Some p) ps xs s = refl
-
-pub call_planned : (s : State) (n : ActionName) (xs : List Argument) (r : ObjRef) (which : Option Builtin) (ps : List Param) (vs said : List Value) (rs : List ObjRef) (gs : List Gift) (pieces : List Piece) → which ≡ builtin_in (part_at r (parts (all s.objects))) → ps ≡ unwrap_or (params_in s.service.programs (part_at r (parts (all s.objects)))) [] → vs ≡ values (all s.objects) (ins ps (passed xs)) → said ≡ said_by (outcome_of which (now_of s) vs) → rs ≡ receivers_lem xs ++ outs ps (passed xs) → gs ≡ gifts rs said → written pieces ≡ call_items n r → committed (plan_of (change.Give gs) stacking.Same awaiting.Same pieces) s ≡ call_rule n xs r (taken_from s)
+pub call_planned : (s : State) (n : ActionName) (xs : List Argument) (r : ObjRef) (which : Option Builtin) (ps : List Param) (vs said : List Value) (rs : List ObjRef) (gs : List Gift) (pieces : List Piece) → which ≡ builtin_in (part_at r (parts (all s.objects))) → ps ≡ unwrap_or (params_in s.service.programs (part_at r (parts (all s.objects)))) [] → vs ≡ values (all s.objects) (ins ps (passed xs)) → said ≡ said_by (outcome_of which s.said (now_of s) vs) → rs ≡ receivers_lem xs ++ outs ps (passed xs) → gs ≡ gifts rs said → written pieces ≡ call_items n r → committed (plan_of (change.Give gs) stacking.Same awaiting.Same pieces) s ≡ call_rule n xs r (taken_from s)
 call_planned s n xs r which ps vs said rs gs pieces is_which are_params go_in is_said are_receivers are_gifts is_put =
     let part : Option Fixed = part_at r (parts (all s.objects)) in
     let params : List Param = unwrap_or (params_in s.service.programs part) [] in
     let names : rs ≡ receivers_lem xs ++ outs params (passed xs) = are_receivers ∙ ap (λ (qs : List Param). receivers_lem xs ++ outs qs (passed xs)) are_params in
     let answers : said ≡ said_by (outcome_at part params xs (taken_from s)) =
     is_said
-    ∙ ap (λ (w : Option Builtin). said_by (outcome_of w (now_of s) vs)) is_which
-    ∙ ap (λ (ws : List Value). said_by (outcome_of (builtin_in part) (now_of s) ws)) (go_in ∙ ap (λ (qs : List Param). values (all s.objects) (ins qs (passed xs))) are_params)
-    ∙ said_as part params xs (taken_from s) in
+    ∙ ap (λ (w : Option Builtin). said_by (outcome_of w s.said (now_of s) vs)) is_which
+    ∙ ap (λ (ws : List Value). said_by (outcome_of (builtin_in part) s.said (now_of s) ws)) (go_in ∙ ap (λ (qs : List Param). values (all s.objects) (ins qs (passed xs))) are_params) in
     let objects : given_all gs s.objects ≡ filled (receivers_lem xs ++ outs params (passed xs)) (said_by (outcome_at part params xs (taken_from s))) s.objects =
     ap (λ (x : List Gift). given_all x s.objects) are_gifts ∙ given_gifts rs said s.objects
     ∙ ap (λ (x : List ObjRef). filled x said s.objects) names

@@ -1,6 +1,6 @@
 //! Calls of programs.
-ghost use Rattle.std.specs.Prelude.{◌≡◌, ◌+◌, ◌<◌, ◌^◌, ◌∷◌, [], Some, IfOk, OnOk, OnErr};
-ghost use Rattle.mh_model.specs.Programs.{said_by, outcome_of};
+ghost use Rattle.std.specs.Prelude.{◌≡◌, ◌+◌, ◌<◌, ◌^◌, ◌∷◌, ◌++◌, [], IfOk, OnOk, OnErr};
+ghost use Rattle.mh_model.specs.Programs.{answer, said_by, outcome_of};
 ghost use Rattle.mh_model.specs.Rules.{call_rule, now_of};
 ghost use Rattle.mh_model.specs.Saying.{call_items};
 ghost use Rattle.mh_machine.specs.Pieces.{written};
@@ -15,7 +15,7 @@ use mh_actions::calling::{builtin_at, call_ins, call_receivers, params_at};
 use mh_base::{EventType, ObjRef, Seq, Value};
 use mh_group::ActionName;
 use mh_model::act::passed;
-use mh_model::{Act, Builtin, Now};
+use mh_model::{Act, Builtin, Now, Outcome};
 use mh_resident::answer_of;
 use std::alloc::{AllocError, Global};
 
@@ -41,7 +41,7 @@ impl Works {
         let arguments = act.arguments.as_slice();
         let ins = call_ins(self.alloc, objects, params, passed(arguments))?;
         let which = builtin_at(objects, at);
-        let said = said_of(self.alloc, which, self.today(), ins.as_slice())?;
+        let said = self.said_of(which, ins.as_slice())?;
         let receivers = call_receivers(self.alloc, params, arguments)?;
         let gifts = gifts_of(self.alloc, receivers.as_slice(), said.as_slice())?;
         let pieces = call_pieces(self.alloc, act.name, at)?;
@@ -49,8 +49,19 @@ impl Works {
         Ok(Plan::of(change, Stacking::Same, Awaiting::Same, pieces))
     }
 
+    /// What the variables of a call are given: whether it went well, and then what the program answered.
+    fn said_of(&self, which: Option<Builtin>, ins: &[Value]) -> Result<Vec<Value>, AllocError>
+        ensures { let outcome = outcome_of which self.now.state.said (now_of self.now.state) ins.now in
+            IfOk result (λ said. said.items ≡ said_by outcome) }
+    {
+        match which {
+            Some(which) => said_by_builtin(self.alloc, which, self.today(), ins),
+            None => said_by_other(self.alloc, &self.said),
+        }
+    }
+
     /// The day on which the engine began, and the present moment.
-    fn today(&self) -> Now
+    pub(crate) fn today(&self) -> Now
         ensures { result ≡ now_of self.now.state }
     {
         Now {
@@ -60,31 +71,38 @@ impl Works {
     }
 }
 
-/// What the variables of a call are given: whether it went well, and then what the program answered.
-fn said_of(
-    alloc: Global,
-    which: Option<Builtin>,
-    now: Now,
-    ins: &[Value],
-) -> Result<Vec<Value>, AllocError>
-    ensures { IfOk result (λ said. said.items ≡ said_by (outcome_of which now ins.now)) }
-{
-    match which {
-        Some(which) => said_by_builtin(alloc, which, now, ins),
-        None => one(alloc, Value::Bool(false)),
-    }
-}
-
 fn said_by_builtin(
     alloc: Global,
     which: Builtin,
     now: Now,
     ins: &[Value],
 ) -> Result<Vec<Value>, AllocError>
-    ensures { IfOk result (λ said. said.items ≡ said_by (outcome_of (Some which) now ins.now)) }
+    ensures { let answers = answer which now ins.now in
+        IfOk result (λ said. said.items ≡ said_by (Outcome.Answered answers)) }
 {
     let mut said = answer_of(alloc, which, now, ins)?;
     said.insert(0, Value::Bool(true))?;
+    Ok(said)
+}
+
+/// A program of the receiver has said before the step what comes of it.
+fn said_by_other(alloc: Global, outcome: &Outcome) -> Result<Vec<Value>, AllocError>
+    ensures { IfOk result (λ said. said.items ≡ said_by outcome.now) }
+{
+    match outcome {
+        Outcome::Answered(values) => with_copies(one(alloc, Value::Bool(true))?, values.as_slice()),
+        Outcome::Failed => one(alloc, Value::Bool(false)),
+    }
+}
+
+/// These values, and copies of those behind them.
+fn with_copies(said: Vec<Value>, values: &[Value]) -> Result<Vec<Value>, AllocError>
+    ensures { IfOk result (λ all. all.items ≡ said.items ++ values.now) }
+{
+    let mut said = said;
+    for value in values {
+        said.push(value.clone()?)?;
+    }
     Ok(said)
 }
 

@@ -7,6 +7,7 @@
 mod acting;
 mod advancing;
 mod agenda;
+mod asking;
 mod calling;
 mod committing;
 mod exchanging;
@@ -19,6 +20,7 @@ mod pair;
 mod piece;
 mod plan;
 mod planning;
+mod posting;
 mod puts;
 pub mod rest;
 mod stage;

@@ -2,6 +2,7 @@
 ghost use Rattle.std.specs.Prelude.{◌≡◌, ◌+◌, ◌<◌, ◌^◌, false, None, IfOk, IfErr, OnOk, OnErr};
 ghost use Rattle.mh_model.specs.Headline.{front_fault};
 ghost use Rattle.mh_model.specs.Picture.{shown};
+ghost use Rattle.mh_model.specs.Receiver.{call_next as call_next_lem, told};
 ghost use Rattle.mh_model.specs.Safe.{IsSafe};
 ghost use Rattle.mh_model.specs.State.{begun};
 ghost use Rattle.mh_model.specs.Step.{advanced, posted, step as step_lem, obstacle as obstacle_lem, preset as preset_lem, preset_obstacle as preset_obstacle_lem, is_settled as is_settled_lem};
@@ -10,7 +11,7 @@ ghost use Rattle.mh_machine.specs.Working.{IsPartly};
 
 use crate::works::Works;
 use crate::{Rest, Stepped, Unstarted};
-use mh_model::{Fault, File, Input, Obstacle, Picture};
+use mh_model::{Call, Fault, File, Input, Obstacle, Outcome, Picture, Signature};
 use mh_service::Service;
 use std::alloc::{AllocError, Global};
 use std::marker::Model;
@@ -72,6 +73,22 @@ impl Machine {
         ensures kept { OnErr result (self.new ≡ self.old) }
     {
         self.works.post(input)
+    }
+
+    /// Which of these programs of the receiver the next step calls, if it calls one, and with what.
+    pub fn call_next(&self, programs: &[Signature]) -> Result<Option<Call>, AllocError>
+        ensures { IfOk result (λ call. call ≡ call_next_lem programs.now self.now) }
+    {
+        self.works.call_next(programs)
+    }
+
+    /// A program has said what comes of the call that the next step makes.
+    /// It answers what was said before.
+    pub fn hear(&mut self, said: Outcome) -> Outcome
+        ensures told { self.new ≡ told said self.old }
+        ensures before { result ≡ self.old.said }
+    {
+        self.works.hear(said)
     }
 
     /// One step: the first item of the work list, or the first that waits where there is no work. Where

@@ -77,7 +77,7 @@ impl Works {
     }
 
     /// Why the item cannot be done, if it cannot.
-    fn why_stuck(&self, item: &Item) -> Result<Option<Fault>, AllocError>
+    pub(crate) fn why_stuck(&self, item: &Item) -> Result<Option<Fault>, AllocError>
         ensures { IfOk result (λ fault. fault ≡ stuck item.now self.now.state) }
     {
         match item {

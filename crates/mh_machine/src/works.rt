@@ -6,7 +6,7 @@ ghost use Rattle.std.specs.Prelude.{◌≡◌, ◌∷◌, [], ◌+◌, ◌<◌, 
 ghost use Rattle.mh_display.specs.Surface.{IsClean};
 ghost use Rattle.mh_model.specs.Service.{group_parts, fresh, parts};
 ghost use Rattle.mh_model.specs.State.{begun, all};
-ghost use Rattle.mh_model.specs.Step.{posted, obstacle as obstacle_lem, is_past_the_last as is_past_the_last_lem, is_in_range as is_in_range_lem, is_over_size as is_over_size_lem, is_over_number as is_over_number_lem, has_begun as has_begun_lem, preset as preset_lem, preset_obstacle as preset_obstacle_lem, is_idle as is_idle_lem, is_settled as is_settled_lem};
+ghost use Rattle.mh_model.specs.Step.{is_idle as is_idle_lem, is_settled as is_settled_lem};
 ghost use Rattle.mh_model.specs.Picture.{shown};
 ghost use Rattle.mh_model.specs.Planes.{blank};
 ghost use Rattle.mh_machine.specs.Links.{IsIndex};
@@ -19,8 +19,8 @@ use crate::puts::entrance;
 use crate::stage::Stage;
 use crate::work::Work;
 use mh_base::GroupName;
-use mh_carousel::{Carousel, is_large};
-use mh_model::{Fault, File, Input, Item, Obstacle, Picture};
+use mh_carousel::Carousel;
+use mh_model::{Fault, Item, Outcome, Picture};
 use mh_service::Service;
 use mh_store::Group;
 use std::alloc::{AllocError, Global};
@@ -45,6 +45,8 @@ pub struct Works {
     pub(crate) carousel: Carousel,
     /// The modified Julian day on which the engine began.
     pub(crate) mjd: u32,
+    /// What a program of the receiver has said last.
+    pub(crate) said: Outcome,
     pub(crate) alloc: Global,
 }
 
@@ -74,15 +76,13 @@ impl Model for Works {
         files = w.carousel.files;
         waits = w.carousel.waits;
         mjd = w.mjd;
+        said = w.said;
       };
       marks = w.stage.marks;
     } };
 
     ghost invariant = { λ w. Holds w.service w.application w.stage.objects w.links w.locks w.taken };
 }
-
-/// How long a tick may be, in milliseconds.
-const LONGEST_TICK: u32 = 60_000;
 
 impl Works {
     /// The works at the start: the start application is there, and is about to be entered. Where memory is
@@ -133,87 +133,9 @@ impl Works {
             faults: Vec::new(alloc),
             carousel: Carousel::new(alloc),
             mjd,
+            said: Outcome::Failed,
             alloc,
         }
-    }
-
-    /// Why an input cannot join the queue, if it cannot.
-    pub fn obstacle(&self, input: &Input) -> Option<Obstacle>
-        ensures { result ≡ obstacle_lem input.now self.now.state }
-    {
-        if self.ended {
-            Some(Obstacle::Ended)
-        } else if !is_in_range(input) {
-            Some(Obstacle::TickRange)
-        } else if is_over_size(input) {
-            Some(Obstacle::TooLarge)
-        } else if self.is_over_number(input) {
-            Some(Obstacle::TooMany)
-        } else if self.is_past_the_last(input) {
-            Some(Obstacle::ClockFull)
-        } else if self.agenda.is_full() {
-            Some(Obstacle::QueueFull)
-        } else {
-            None
-        }
-    }
-
-    /// Whether a tick would lead past the last moment, behind all that wait.
-    fn is_past_the_last(&self, input: &Input) -> bool
-        ensures { result ≡ is_past_the_last_lem input.now self.now.state }
-    {
-        self.agenda.is_late(input)
-    }
-
-    /// Whether a file has a name for which there is no room, behind all that wait.
-    fn is_over_number(&self, input: &Input) -> bool
-        ensures { result ≡ is_over_number_lem input.now self.now.state }
-    {
-        match input {
-            Input::Arrive(file) => self.agenda.is_one_too_many(&self.carousel, file),
-            _ => false,
-        }
-    }
-
-    /// Why a file cannot be there before the first move, if it cannot.
-    pub fn preset_obstacle(&self, file: &File) -> Option<Obstacle>
-        ensures { result ≡ preset_obstacle_lem file.now self.now.state }
-    {
-        if self.has_begun() {
-            Some(Obstacle::Begun)
-        } else if is_large(file) {
-            Some(Obstacle::TooLarge)
-        } else if self.agenda.is_one_too_many(&self.carousel, file) {
-            Some(Obstacle::TooMany)
-        } else {
-            None
-        }
-    }
-
-    /// Whether a step was taken, or an input posted.
-    fn has_begun(&self) -> bool
-        ensures { result ≡ has_begun_lem self.now.state }
-    {
-        self.taken != 0 || !self.agenda.is_empty()
-    }
-
-    /// A file is there before the first move.
-    pub fn preset(&mut self, file: File) -> Result<(), AllocError>
-        ensures preset { OnOk result (self.new.state ≡ preset_lem file self.old.state) }
-        ensures kept { OnErr result (self.new.state ≡ self.old.state) }
-        ensures marks { self.new.marks ≡ self.old.marks }
-    {
-        self.carousel.arrive(file)
-    }
-
-    /// Adds an input at the end of the queue.
-    pub fn post(&mut self, input: Input) -> Result<(), AllocError>
-        requires { obstacle_lem input self.old.state ≡ None }
-        ensures posted { OnOk result (self.new.state ≡ posted input self.old.state) }
-        ensures kept { OnErr result (self.new.state ≡ self.old.state) }
-        ensures marks { self.new.marks ≡ self.old.marks }
-    {
-        self.agenda.post(input)
     }
 
     /// Whether there is no work and nothing that waits.
@@ -284,26 +206,6 @@ fn prepare(alloc: Global, service: &Service) -> Result<Beginning, AllocError>
         work,
         frozen,
     })
-}
-
-/// Whether a tick is as long as it may be.
-fn is_in_range(input: &Input) -> bool
-    ensures { result ≡ is_in_range_lem input.now }
-{
-    match input {
-        Input::Tick(length) => 1 <= *length && *length <= LONGEST_TICK,
-        _ => true,
-    }
-}
-
-/// Whether a file is larger than it may be.
-fn is_over_size(input: &Input) -> bool
-    ensures { result ≡ is_over_size_lem input.now }
-{
-    match input {
-        Input::Arrive(file) => is_large(file),
-        _ => false,
-    }
 }
 
 /// The work at the start: the group is entered.

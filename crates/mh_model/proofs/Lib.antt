@@ -17,3 +17,4 @@ pub mod ExchangeLemmas
 pub mod RuleLemmas
 pub mod TakenLemmas
 pub mod SafeLemmas
+pub mod ReceiverLemmas

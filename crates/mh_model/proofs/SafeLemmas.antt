@@ -1,5 +1,5 @@
 -- A safe state stays safe, and in a safe state nothing is stuck.
-use Rattle.std.specs.Prelude.{◌≡◌, ℕ, ◌+◌, ◌==◌, Bool, true, false, ◌&&◌, if◌then◌else◌, List, [], ◌∷◌, ◌++◌, drop, slice_get, Option, Some, None, refl}
+use Rattle.std.specs.Prelude.{◌≡◌, ℕ, zero, suc, ◌+◌, ◌==◌, Bool, true, false, ◌&&◌, if◌then◌else◌, List, [], ◌∷◌, ◌++◌, drop, slice_get, Option, Some, None, refl}
 use Rattle.std.specs.Option.{option_map_or}
 use Rattle.std.proofs.Common.{inl, ap, ◌∙◌, sym, subst}
 use Rattle.mh_base.specs.declared.obj_ref.ObjRef.{ObjRef}
@@ -15,6 +15,9 @@ use Rattle.mh_model.specs.declared.input.Move.{Move}
 use Rattle.mh_model.specs.declared.item.Item.{Item}
 use Rattle.mh_model.specs.declared.object.Fixed.{Fixed}
 use Rattle.mh_model.specs.declared.object.Object.{Object}
+use Rattle.mh_model.specs.declared.program.Call.{Call}
+use Rattle.mh_model.specs.declared.program.Outcome.{Outcome}
+use Rattle.mh_model.specs.declared.program.Signature.{Signature}
 use Rattle.mh_model.specs.Property.{as_reference}
 use Rattle.mh_model.specs.Service.{Service, object_at, group_parts}
 use Rattle.mh_model.specs.State.{State, all, begun}
@@ -29,6 +32,7 @@ use Rattle.mh_model.specs.Acceptable.{IsAcceptable, leads_into}
 use Rattle.mh_model.specs.Safe.{config_of, IsSafeItem, behind, IsSafeWork, IsSafe, has_origin}
 use Rattle.mh_model.specs.Files.{with_file}
 use Rattle.mh_model.specs.Headline.{fault_at, front_fault, IsFaultless, begun_with, NeverStuck}
+use Rattle.mh_model.specs.Receiver.{anything, call_next, told, IsStepWith, IsCountedStep, IsStepped, IsAdvanced, IsMoved, IsRun}
 use Rattle.mh_model.specs.declared.input.Obstacle.{Obstacle}
 use Rattle.mh_model.specs.declared.input.Waiting.TheVariants as waiting
 use Rattle.mh_model.specs.declared.input.Move.TheVariants as move
@@ -152,10 +156,49 @@ pub safe_run : (ms : List Move) (s : State) → IsSafe s → IsSafe (run ms s)
 safe_run [] s k = k
 safe_run (m ∷ ms) s k = safe_run ms (moved m s) (safe_moved s k m)
 
+-- Steps beside the programs of a receiver, whatever comes of their calls
+
+pub safe_told : (s : State) → IsSafe s → (o : Outcome) → IsSafe (told o s)
+safe_told s k o = record {
+  accepted = k.accepted;
+  application = k.application;
+  scene = k.scene;
+  among = k.among;
+  own = k.own;
+  others = k.others;
+  work = k.work;
+  timers = k.timers;
+  queue = k.queue;
+  faultless = k.faultless;
+}
+
+pub safe_step_with : (may : Call → Outcome → Type 0) (c : Option Call) (s t : State) → IsSafe s → IsStepWith may c s t → IsSafe t
+safe_step_with may None s t k so = subst (λ (x : State). IsSafe x) (sym so) (safe_step s k)
+safe_step_with may (Some c) s t k so = subst (λ (x : State). IsSafe x) (sym so.2) (safe_step (told so.0 s) (safe_told s k so.0))
+
+pub safe_stepped_beside : (ss : List Signature) (may : Call → Outcome → Type 0) (s t : State) → IsSafe s → IsStepped ss may s t → IsSafe t
+safe_stepped_beside ss may s t k so = by (s.taken == most_steps) so
+  where
+    by : (b : Bool) → IsCountedStep b ss may s t → IsSafe t
+    by true so = subst (λ (x : State). IsSafe x) (sym so) k
+    by false so = safe_step_with may (call_next ss s) s t k so
+
+pub safe_advanced_beside : (ss : List Signature) (may : Call → Outcome → Type 0) (n : ℕ) (s t : State) → IsSafe s → IsAdvanced ss may n s t → IsSafe t
+safe_advanced_beside ss may zero s t k so = subst (λ (x : State). IsSafe x) (sym so) k
+safe_advanced_beside ss may (suc n) s t k so = safe_advanced_beside ss may n so.0 t (safe_stepped_beside ss may s so.0 k so.1) so.2
+
+pub safe_moved_beside : (ss : List Signature) (may : Call → Outcome → Type 0) (m : Move) (s t : State) → IsSafe s → IsMoved ss may m s t → IsSafe t
+safe_moved_beside ss may (move.Post i) s t k so = subst (λ (x : State). IsSafe x) (sym so) (safe_posted s k i)
+safe_moved_beside ss may move.Step s t k so = safe_stepped_beside ss may s t k so
+
+pub safe_run_beside : (ss : List Signature) (may : Call → Outcome → Type 0) (ms : List Move) (s t : State) → IsSafe s → IsRun ss may ms s t → IsSafe t
+safe_run_beside ss may [] s t k so = subst (λ (x : State). IsSafe x) (sym so) k
+safe_run_beside ss may (m ∷ ms) s t k so = safe_run_beside ss may ms so.0 t (safe_moved_beside ss may m s so.0 k so.1) so.2
+
 pub safe_faultless : (s : State) → IsSafe s → IsFaultless s
 safe_faultless s k = record { front = safe_front s k; faults = k.faultless }
 
 -- the headline
 pub never_stuck_law : NeverStuck
-never_stuck_law v k mjd fs ms =
-    safe_faultless (run ms (begun_with v mjd fs)) (safe_run ms (begun_with v mjd fs) (safe_begun_with v k mjd fs))
+never_stuck_law v k mjd fs ss ms s so =
+    safe_faultless s (safe_run_beside ss anything ms (begun_with v mjd fs) s (safe_begun_with v k mjd fs) so)

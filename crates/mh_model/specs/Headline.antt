@@ -4,10 +4,11 @@ use Rattle.mh_model.specs.declared.fault.Fault.{Fault}
 use Rattle.mh_model.specs.declared.file.File.{File}
 use Rattle.mh_model.specs.declared.input.Move.{Move}
 use Rattle.mh_model.specs.declared.item.Item.{Item}
+use Rattle.mh_model.specs.declared.program.Signature.{Signature}
 use Rattle.mh_model.specs.Service.{Service}
 use Rattle.mh_model.specs.State.{State, begun}
 use Rattle.mh_model.specs.Stuck.{stuck}
-use Rattle.mh_model.specs.Step.{run}
+use Rattle.mh_model.specs.Receiver.{IsRun, anything}
 use Rattle.mh_model.specs.Acceptable.{IsAcceptable}
 
 abbrev pub fault_at : Option Item → State → Option Fault
@@ -27,8 +28,9 @@ pub record IsFaultless (s : State) : Type 0 where
 abbrev pub begun_with : Service → ℕ → List File → State
 begun_with v mjd fs = record (begun v mjd) { files = fs }
 
--- from an acceptable service no state of any run is stuck, whatever the day, the files that are there and the moves
+-- from an acceptable service no state of any run is stuck, whatever the day, the files that are there, the moves,
+-- the programs of the receiver and what comes of their calls
 abbrev pub NeverStuck : Type 0
 NeverStuck =
-    (v : Service) → IsAcceptable v → (mjd : ℕ) (fs : List File) (ms : List Move) →
-    IsFaultless (run ms (begun_with v mjd fs))
+    (v : Service) → IsAcceptable v → (mjd : ℕ) (fs : List File) (ss : List Signature) (ms : List Move) (s : State) →
+    IsRun ss anything ms (begun_with v mjd fs) s → IsFaultless s

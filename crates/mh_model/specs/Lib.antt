@@ -28,6 +28,7 @@ pub mod Describing
 pub mod Picture
 pub mod Rules
 pub mod Step
+pub mod Receiver
 pub mod Configuration
 pub mod Active
 pub mod Acceptable

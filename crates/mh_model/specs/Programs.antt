@@ -171,7 +171,7 @@ answer builtin.SearchSubstring now (value.Octets os ∷ value.Int start ∷ valu
     value.Int (place_of start (searched_from os start what)) ∷ []
 answer b now vs = []
 
--- what a program does that each engine has, and one that it does not know
-abbrev pub outcome_of : Option Builtin → Now → List Value → Outcome
-outcome_of None now vs = outcome.Failed
-outcome_of (Some b) now vs = outcome.Answered (answer b now vs)
+-- what comes of a call: a built-in program answers, and another one has said what comes of it
+abbrev pub outcome_of : Option Builtin → Outcome → Now → List Value → Outcome
+outcome_of None said now vs = said
+outcome_of (Some b) said now vs = outcome.Answered (answer b now vs)

@@ -19,9 +19,9 @@ use Rattle.mh_model.specs.declared.object.Body.{Body}
 use Rattle.mh_model.specs.declared.object.Fixed.{Fixed}
 use Rattle.mh_model.specs.declared.object.Object.{Object}
 use Rattle.mh_model.specs.declared.time.Moments.{Moments}
+use Rattle.mh_model.specs.declared.program.Builtin.{Builtin}
 use Rattle.mh_model.specs.declared.program.Now.{Now}
 use Rattle.mh_model.specs.declared.program.Outcome.{Outcome}
-use Rattle.mh_model.specs.declared.program.Outcome.TheVariants as outcome
 use Rattle.mh_model.specs.declared.program.Param.{Param}
 use Rattle.mh_model.specs.declared.sort.Sort.{Sort}
 use Rattle.mh_model.specs.declared.sort.Sort.TheVariants as sort
@@ -157,11 +157,14 @@ called said n ps xs r s = record s {
 abbrev pub now_of : State → Now
 now_of s = record { mjd = s.mjd; moment = s.moments.present }
 
--- what the program that is found does, called so
+-- the built-in program of the name that is written in this part, if it is there
+abbrev pub builtin_in : Option Fixed → Option Builtin
+builtin_in None = None
+builtin_in (Some p) = option_and_then builtin_named (program_name p)
+
+-- what comes of a call of the program that is found
 abbrev pub outcome_at : Option Fixed → List Param → List Argument → State → Outcome
-outcome_at None ps xs s = outcome.Failed
-outcome_at (Some p) ps xs s =
-    outcome_of (option_and_then builtin_named (program_name p)) (now_of s) (values (all s.objects) (ins ps (passed xs)))
+outcome_at p ps xs s = outcome_of (builtin_in p) s.said (now_of s) (values (all s.objects) (ins ps (passed xs)))
 
 abbrev pub called_with : Option Fixed → List Param → ActionName → List Argument → ObjRef → State → State
 called_with p ps n xs r s = called (outcome_at p ps xs s) n ps xs r s

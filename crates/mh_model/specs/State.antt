@@ -8,6 +8,8 @@ use Rattle.mh_model.specs.declared.input.Waiting.{Waiting}
 use Rattle.mh_model.specs.declared.fault.Fault.{Fault}
 use Rattle.mh_model.specs.declared.file.File.{File}
 use Rattle.mh_model.specs.declared.file.Wait.{Wait}
+use Rattle.mh_model.specs.declared.program.Outcome.{Outcome}
+use Rattle.mh_model.specs.declared.program.Outcome.TheVariants as outcome
 use Rattle.mh_model.specs.declared.time.Moments.{Moments}
 use Rattle.mh_model.specs.declared.time.Timer.{Timer}
 use Rattle.mh_model.specs.Planes.{Planes, blank}
@@ -55,6 +57,8 @@ pub record State : Type 0 where
   pub waits : List Wait
   -- the modified Julian day on which the engine began
   pub mjd : ℕ
+  -- what a program of the receiver has said last; before a step calls one, it says what comes of that
+  pub said : Outcome
 
 -- the state from which a run begins, on a day: the start application is there and about to be entered
 abbrev pub begun : Service → ℕ → State
@@ -77,4 +81,5 @@ begun s mjd = record {
   files = [];
   waits = [];
   mjd = mjd;
+  said = outcome.Failed;
 }

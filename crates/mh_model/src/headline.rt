@@ -2,7 +2,8 @@
 ghost use Rattle.mh_model.specs.Headline.{NeverStuck};
 
 /// The law that from an acceptable service no state of any run is stuck, whatever the day, the files
-/// that are there, and what comes and whenever, and that no fault is met.
+/// that are there, what comes and whenever, which programs the receiver has and what comes of their
+/// calls, and that no fault is met.
 pub fn never_stuck()
     ensures { NeverStuck }
 {}

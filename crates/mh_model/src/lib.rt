@@ -52,6 +52,6 @@ pub use line::{Form, Line};
 pub use object::{Body, Fixed, FixedPart, Object};
 pub use operator::Operator;
 pub use picture::Picture;
-pub use program::{Builtin, Now, Outcome, Param, Plain, Signature};
+pub use program::{Builtin, Call, Now, Outcome, Param, Plain, Signature};
 pub use sort::Sort;
 pub use time::{Moments, Timer};

@@ -47,6 +47,14 @@ pub struct Now {
     pub moment: u32,
 }
 
+/// A call of a program: its name, when it is called, and the values that go in, in order.
+#[derive(Drop)]
+pub struct Call {
+    pub name: Octets,
+    pub time: Now,
+    pub values: Seq<Value>,
+}
+
 /// What comes of a call.
 #[derive(Drop)]
 pub enum Outcome {

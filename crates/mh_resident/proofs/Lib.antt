@@ -1,3 +1,3 @@
 pub mod SameLemmas
 pub mod SearchLemmas
-pub mod NamedLemmas
+pub mod ComingLemmas

@@ -1,29 +1,14 @@
-//! A call of one program, whoever made it.
+//! A call of a built-in program.
 ghost use Rattle.std.specs.Prelude.{◌≡◌, IfOk, IfErr};
-ghost use Rattle.mh_model.specs.declared.program.Outcome.TheVariants as outcome;
 ghost use Rattle.mh_model.specs.Programs as programs;
 ghost use Rattle.mh_resident.specs.declared.answer.CallFailed.TheVariants as call_failed;
 ghost use Rattle.mh_resident.specs.Kinds.{kinds_of, taken, answered};
 
 use crate::answer::{Answer, CallFailed};
 use crate::answers::answer_of;
-use crate::residents::Added;
 use mh_base::Value;
 use mh_model::{Builtin, Now};
 use std::alloc::Global;
-
-/// A call of a program that was added.
-pub(crate) fn call_added(added: &Added, now: Now, args: &[Value]) -> Result<Answer, CallFailed>
-    ensures kinds { let params = ((Resident-box added.now).signature_of added.now.value).params in
-        kinds_of args.now ≡ taken params →
-        IfOk result (λ vs. kinds_of vs ≡ answered params) }
-    ensures gives { IfOk result (λ vs.
-        (Resident-box added.now).may_answer added.now.value now args.now (outcome.Answered vs)) }
-    ensures fails { IfErr result (λ why. why ≡ call_failed.Failed →
-        (Resident-box added.now).may_answer added.now.value now args.now outcome.Failed) }
-{
-    added.call(now, args)
-}
 
 /// A call of a built-in program.
 pub(crate) fn call_builtin(

@@ -12,8 +12,6 @@ mod answers;
 mod builtin_program;
 mod builtins;
 mod calling;
-#[cfg(test)]
-mod doubling;
 mod octets;
 mod resident;
 mod residents;
@@ -27,6 +25,6 @@ pub use answers::answer_of;
 pub use builtin_program::BuiltinProgram;
 pub use builtins::{builtin_named, params_of, word};
 pub use resident::Resident;
-pub use residents::{Added, Residents};
+pub use residents::{call_program, program_named, signatures_of};
 pub use same::{same_signature, same_signatures};
 pub use signatures::{params_for, program_name, takes};

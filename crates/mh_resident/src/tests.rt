@@ -1,7 +1,5 @@
-//! Calls by name: of built-in programs, with answers that were worked out by hand, and of a program
-//! that was added.
-use crate::doubling::Doubling;
-use crate::{Answer, BuiltinProgram, CallFailed, Resident, Residents};
+//! Calls of built-in programs, with answers that were worked out by hand.
+use crate::{Answer, BuiltinProgram, CallFailed, Resident, builtin_named};
 use mh_base::{Octets, Value};
 use mh_model::{Builtin, Now};
 use std::alloc::Global;
@@ -41,13 +39,10 @@ fn octets(alloc: Global, bytes: &[u8]) -> Option<Value> {
     Some(Value::Octets(Octets::from_slice(alloc, bytes).ok()?))
 }
 
-/// What a call of the built-in programs, and of one that doubles, writes.
+/// What a call of a built-in program writes.
 fn called(alloc: Global, name: &[u8], args: Vec<Value>) -> Option<Vec<u8>> {
-    let mut programs = Residents::new(alloc);
-    programs
-        .add(Box::new(alloc, Doubling::new(alloc).ok()?).ok()?)
-        .ok()?;
-    said(alloc, programs.call(alloc, name, NOW, args.as_slice()))
+    let program = BuiltinProgram::new(alloc, builtin_named(name)?).ok()?;
+    said(alloc, program.call(NOW, args.as_slice()))
 }
 
 fn numbers(alloc: Global, name: &[u8], numbers: &[i32]) -> Option<Vec<u8>> {
@@ -84,9 +79,6 @@ fn length(alloc: Global, of: &[u8]) -> Option<Vec<u8>> {
 #[test]
 fn numbers_are_answered(rt: HostRuntime) {
     let alloc = rt.alloc();
-    assert!(rt; numbers(alloc, b"Dbl", &[21]).as_deref() == Some(b"42;"));
-    assert!(rt; numbers(alloc, b"Dbl", &[1073741824]).as_deref() == Some(b"failed"));
-    assert!(rt; numbers(alloc, b"Tpl", &[21]).as_deref() == Some(b"failed"));
     assert!(rt; numbers(alloc, b"GCD", &[]).as_deref() == Some(b"61369;90;"));
     assert!(rt; numbers(alloc, b"GDW", &[61368]).as_deref() == Some(b"2;"));
     assert!(rt; numbers(alloc, b"GDW", &[-4]).as_deref() == Some(b"6;"));

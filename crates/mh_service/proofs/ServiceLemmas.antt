@@ -16,6 +16,7 @@ use Rattle.mh_group.specs.declared.written.Written.{Written}
 use Rattle.mh_group.specs.Table.{is_group_class, is_application}
 use Rattle.mh_group.specs.Fit.{is_group, misfit_of, fields_misfit, ingredient_misfit, ingredients_misfit, items_of}
 use Rattle.mh_model.specs.declared.object.Fixed.{Fixed}
+use Rattle.mh_model.specs.declared.program.Signature.{Signature}
 use Rattle.mh_model.specs.Service.{Service, part_at, group_ref, is_in}
 use Rattle.mh_model.specs.Configuration.{is_service, is_group_list, is_ingredient_of, has_keys, is_keyed, are_apart}
 use Rattle.mh_model.proofs.ServiceLemmas.{and_left, and_right, found, group_parts_in}
@@ -194,9 +195,9 @@ unrefused_files start files good = unrefused (double_name [] files) (missing_sta
 
 -- The groups of files that are not refused, with their start.
 
-pub is_service_of : (start : List ℕ) (files : List File) → list_all (λ f. is_group f.1) files ≡ true → refusal_before start files ≡ None → is_service (record { groups = map resolved files; start = start; programs = [] }) ≡ true
+pub is_service_of : (start : List ℕ) (files : List File) (ps : List Signature) → list_all (λ f. is_group f.1) files ≡ true → refusal_before start files ≡ None → is_service (record { groups = map resolved files; start = start; programs = ps }) ≡ true
 unfolding is_service
-is_service_of start files groups good =
+is_service_of start files ps groups good =
     let none = unrefused_files start files good in
     both_true (group_lists files groups) (start_is start [] files none.0 (fits (has_application start files) none.2))
   where
@@ -204,6 +205,6 @@ is_service_of start files groups good =
     fits true h = refl
     fits false h = cc
 
-pub has_keys_of : (start : List ℕ) (files : List File) → list_all (λ f. is_group f.1) files ≡ true → refusal_before start files ≡ None → has_keys (record { groups = map resolved files; start = start; programs = [] }) ≡ true
+pub has_keys_of : (start : List ℕ) (files : List File) (ps : List Signature) → list_all (λ f. is_group f.1) files ≡ true → refusal_before start files ≡ None → has_keys (record { groups = map resolved files; start = start; programs = ps }) ≡ true
 unfolding has_keys
-has_keys_of start files groups good = groups_apart files groups (unrefused_files start files good).1
+has_keys_of start files ps groups good = groups_apart files groups (unrefused_files start files good).1

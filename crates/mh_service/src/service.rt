@@ -21,11 +21,13 @@ use std::alloc::Global;
 use std::marker::Model;
 
 /// The groups of a service (ISO/IEC 13522-5, the object space) in the order of their files, and the
-/// application that is started first. A contract sees a finite map.
+/// application that is started first; and the programs that a receiver has for it beside the built-in
+/// ones. A contract sees a finite map.
 #[derive(Drop)]
 pub struct Service {
     groups: IndexMap<GroupName, Seq<FixedPart>>,
     start: GroupName,
+    programs: Vec<Signature>,
 }
 
 impl Model for Service {
@@ -35,15 +37,16 @@ impl Model for Service {
 
     ghost Value = { ServiceValue };
 
-    ghost view = { λ s. record { groups = s.groups.entries; start = s.start; programs = [] } };
+    ghost view = { λ s. record { groups = s.groups.entries; start = s.start; programs = s.programs.items } };
 
     ghost invariant = { λ s.
-        (is_service (record { groups = s.groups.entries; start = s.start; programs = [] }) ≡ true)
-        × (has_keys (record { groups = s.groups.entries; start = s.start; programs = [] }) ≡ true) };
+        (is_service (record { groups = s.groups.entries; start = s.start; programs = s.programs.items }) ≡ true)
+        × (has_keys (record { groups = s.groups.entries; start = s.start; programs = s.programs.items }) ≡ true) };
 }
 
 impl Service {
-    /// The service of these files, with the application to start with.
+    /// The service of these files, with the application to start with, and with the built-in programs
+    /// alone.
     pub fn of_files(
         alloc: Global,
         files: Vec<(GroupName, Group)>,
@@ -51,13 +54,18 @@ impl Service {
     ) -> Result<Service, ServiceError>
         ensures groups { IfOk result (λ service. service.groups ≡ map resolved files.items) }
         ensures start { IfOk result (λ service. service.start ≡ start) }
+        ensures programs { IfOk result (λ service. service.programs ≡ []) }
         ensures good { OnOk result (refusal_of start files.items ≡ None) }
         ensures refused { IfErr result (Refuses (refusal_of start files.items)) }
     {
         refusing::refuse_before(alloc, &start, files.as_slice())?;
         let groups = groups(alloc, files.as_slice())?;
         refusing::refuse(Why::NotYet, refusing::first_unplayed(files.as_slice()))?;
-        Ok(Service { groups, start })
+        Ok(Service {
+            groups,
+            start,
+            programs: Vec::new(alloc),
+        })
     }
 
     /// What the file of a group says of its objects, if there is such a group.
@@ -108,13 +116,28 @@ impl Service {
         &self.start
     }
 
-    /// The programs that a receiver has beside the built-in ones: none, of a service made from files.
+    /// The programs that a receiver has for it beside the built-in ones.
     pub fn programs(&self) -> &[Signature]
-        ensures same { result.now ≡ self.now.programs }
-        ensures none { result.now ≡ [] }
+        ensures { result.now ≡ self.now.programs }
     {
-        let _ = &self.start;
-        &[]
+        self.programs.as_slice()
+    }
+
+    /// The service beside these programs of a receiver.
+    #[tactic(auto, unfolding(mh_model::specs::Configuration::is_service, mh_model::specs::Configuration::has_keys))]
+    pub fn with_programs(self, programs: Vec<Signature>) -> Service
+        ensures { result ≡ record self { programs = programs.items } }
+    {
+        let Service {
+            groups,
+            start,
+            programs: _,
+        } = self;
+        Service {
+            groups,
+            start,
+            programs,
+        }
     }
 }
 

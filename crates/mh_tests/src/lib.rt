@@ -58,6 +58,8 @@ mod presets;
 #[cfg(test)]
 mod programs;
 #[cfg(test)]
+mod receiver;
+#[cfg(test)]
 mod report;
 #[cfg(test)]
 mod rows;

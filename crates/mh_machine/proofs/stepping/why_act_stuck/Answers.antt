@@ -9,4 +9,4 @@ use Rattle.mh_machine.proofs.stepping.why_act_stuck.Goals as goal
 pub returns : goal.returns
 returns c =
     c.in_ok-found.ensures
-    ∙ ap (λ (ps : List Signature). fault_known (known_in (record c.args.service.now { programs = ps }) (all c.args.objects.now)) c.args.act.now) c.programs.ensures.same
+    ∙ ap (λ (ps : List Signature). fault_known (known_in (record c.args.service.now { programs = ps }) (all c.args.objects.now)) c.args.act.now) c.programs.ensures

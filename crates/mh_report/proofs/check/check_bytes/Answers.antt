@@ -3,7 +3,11 @@ use Rattle.std.proofs.Common.{ap, sym, ◌∙◌}
 use Rattle.mh_report.specs.Reading.{service_read}
 use Rattle.mh_report.specs.Played.{Checks, check_unreadable}
 use Rattle.mh_report.proofs.WrittenLemmas.{unreadable_whole, unreadable_cut, failed}
+use Rattle.mh_report.proofs.PlainLemmas.{plain_service}
 use Rattle.mh_report.proofs.check.check_bytes.Goals as goal
+
+pub judge-requires-clause-plain : goal.judge-requires-clause-plain
+judge-requires-clause-plain g c = plain_service c.as_slice.result.now c.args.files.now c.in-Ok.service c.in-Ok.ensures
 
 pub returns : goal.returns
 returns g c = record {

@@ -45,4 +45,5 @@ returns-clause-done c =
       files = files i;
       waits = waits i;
       mjd = c.self.inside.mjd;
+      said = c.self.inside.said;
     }) ∙ ap (λ (v : Working). scene_exchanged c.args.group.now (taken_from v.state)) c.self.view_is

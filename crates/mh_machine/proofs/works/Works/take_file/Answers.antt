@@ -50,4 +50,5 @@ returns-clause-done c =
       files = files i;
       waits = waits i;
       mjd = c.self.inside.mjd;
+      said = c.self.inside.said;
     }) ∙ ap (λ (v : Working). file_taken c.args.file.now (shifted v.state)) c.self.view_is

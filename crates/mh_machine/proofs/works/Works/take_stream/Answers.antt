@@ -38,4 +38,5 @@ returns-clause-done c =
       files = c.self.inside.carousel.files;
       waits = c.self.inside.carousel.waits;
       mjd = c.self.inside.mjd;
+      said = c.self.inside.said;
     }) ∙ ap (λ (v : Working). taking (waiting.Input (input.Stream c.args.tag)) (shifted v.state)) c.self.view_is

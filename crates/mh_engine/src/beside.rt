@@ -1,0 +1,72 @@
+//! What an engine does for whoever plays it beside programs of a receiver.
+ghost use Rattle.std.specs.Prelude.{◌≡◌, true, false, None, IfOk, IfErr};
+ghost use Rattle.mh_model.specs.State.{begun};
+ghost use Rattle.mh_model.specs.Headline.{front_fault};
+ghost use Rattle.mh_model.specs.Receiver.{call_next as call_next_lem, told};
+ghost use Rattle.mh_engine.specs.Answer.{is_ready as is_ready_lem};
+
+use crate::engine::Engine;
+use crate::refusal::{StartError, Unaccepted};
+use mh_machine::Machine;
+use mh_model::{Call, Outcome, Signature};
+use mh_verify::Accepted;
+use std::alloc::{AllocError, Global};
+
+impl Engine {
+    /// An engine for a service that the verifier accepted beside these programs.
+    pub(crate) fn begin(
+        alloc: Global,
+        accepted: Accepted,
+        programs: Vec<Signature>,
+        mjd: u32,
+    ) -> Result<Engine, Unaccepted>
+        requires { programs.items ≡ accepted.programs }
+        ensures begun { IfOk result (λ engine. engine ≡ record { state = begun accepted mjd; stopped = false; accepted = true }) }
+        ensures back { IfErr result (λ refused. refused.accepted ≡ accepted) }
+        ensures why { IfErr result (λ refused. refused.why ≡ StartError.NoMemory) }
+    {
+        let (service, rest) = accepted.apart();
+        match Machine::new(alloc, service.with_programs(programs), mjd) {
+            Ok(machine) => Ok(Engine {
+                machine,
+                stopped: false,
+                accepted: true,
+            }),
+            Err(unstarted) => Err(Unaccepted {
+                why: StartError::NoMemory,
+                accepted: rest.join(unstarted.service),
+            }),
+        }
+    }
+
+    /// Whether there is a step to make, and one that is counted.
+    pub(crate) fn is_ready(&self) -> bool
+        ensures { result ≡ is_ready_lem self.now }
+    {
+        !self.stopped && !self.machine.is_settled() && self.machine.taken() != u64::MAX
+    }
+
+    /// Which of these programs of the receiver the next step calls, if it calls one, and with what.
+    pub(crate) fn call_next(&self, programs: &[Signature]) -> Result<Option<Call>, AllocError>
+        ensures { IfOk result (λ call. call ≡ call_next_lem programs.now self.now.state) }
+    {
+        self.machine.call_next(programs)
+    }
+
+    /// A program has said what comes of the call that the next step makes.
+    /// It answers what was said before.
+    pub(crate) fn hear(&mut self, said: Outcome) -> Outcome
+        ensures told { self.new ≡ record self.old { state = told said self.old.state } }
+        ensures before { result ≡ self.old.state.said }
+    {
+        self.machine.hear(said)
+    }
+
+    /// No further step is made.
+    pub(crate) fn stop(&mut self)
+        ensures stopped { self.new ≡ record self.old { stopped = true } }
+        ensures never { self.old.accepted ≡ true → front_fault self.old.state ≡ None }
+    {
+        self.stopped = true;
+    }
+}

@@ -1,0 +1,267 @@
+//! `Receiver`: an engine beside the programs of its receiver.
+//!
+//! The engine itself calls none of them. Before each step it is asked which call the step makes, the
+//! program is called, and the engine is told what came of it.
+ghost use Rattle.std.specs.Prelude.{◌≡◌, map, true, false, None, IfOk, IfErr, OnOk, OnErr, IsErrOf, IsErrAnd, MatchOption};
+ghost use Rattle.mh_model.specs.State.{begun};
+ghost use Rattle.mh_model.specs.Headline.{front_fault};
+ghost use Rattle.mh_model.specs.Receiver.{IsStep, call_next, told};
+ghost use Rattle.mh_model.specs.Step.{posted, preset as preset_lem, step};
+ghost use Rattle.mh_resident.specs.Coming.{MayCome};
+ghost use Rattle.mh_machine.specs.Rest.{answer_of, is_faulted};
+ghost use Rattle.mh_engine.specs.Answer.{is_ready, post_refusal, preset_refusal, step_refusal};
+ghost use Rattle.mh_engine.specs.Told.{IsTold};
+
+use crate::engine::Engine;
+use crate::refusal::{Refused, RefusedFile, RefusedWhy, StartError, StepError};
+use mh_machine::Stepped;
+use mh_model::{File, Input, Outcome, Signature};
+use mh_resident::{Resident, call_program, same_signatures, signatures_of};
+use mh_service::Service;
+use mh_verify::Accepted;
+use std::alloc::{AllocError, Global};
+
+/// An engine that plays a service beside programs of its receiver (ISO/IEC 13522-5,
+/// ResidentProgram).
+#[derive(Drop)]
+pub struct Receiver<P: Resident> {
+    engine: Engine,
+    programs: Vec<P>,
+    signatures: Vec<Signature>,
+    ghost theirs: { signatures.items ≡ map P.signature_of programs.items },
+}
+
+/// An accepted service that was not started beside these programs. Both are handed back.
+#[derive(Drop)]
+pub struct Unready<P: Drop> {
+    pub why: StartError,
+    pub accepted: Accepted,
+    pub programs: Vec<P>,
+}
+
+/// A service that could not be started for want of memory. It is handed back, with the programs and
+/// with their signatures.
+#[derive(Drop)]
+pub struct Unequipped<P: Drop> {
+    pub service: Service,
+    pub programs: Vec<P>,
+}
+
+impl<P: Resident> Receiver<P> {
+    /// An engine for a service, whether or not a verifier would accept it, that begins on this modified
+    /// Julian day, 1,000,000 at most, beside these programs.
+    pub fn start_lenient(
+        alloc: Global,
+        service: Service,
+        programs: Vec<P>,
+        mjd: u32,
+    ) -> Result<Receiver<P>, Unequipped<P>>
+        ensures begun { let whole = record service { programs = map P.signature_of programs.items } in
+            IfOk result (λ receiver. receiver.engine
+            ≡ record { state = begun whole mjd; stopped = false; accepted = false }) }
+        ensures programs { IfOk result (λ receiver. receiver.programs ≡ programs) }
+        ensures back { IfErr result (λ refused. refused.programs ≡ programs) }
+    {
+        let Ok((own, others)) = both_signatures(alloc, programs.as_slice()) else {
+            return Err(Unequipped { service, programs });
+        };
+        match Engine::start_lenient(alloc, service.with_programs(others), mjd) {
+            Ok(engine) => Ok(Receiver {
+                engine,
+                programs,
+                signatures: own,
+            }),
+            Err(unstarted) => Err(Unequipped {
+                service: unstarted.service,
+                programs,
+            }),
+        }
+    }
+
+    /// An engine for a service that the verifier accepted beside these programs, and that begins on this
+    /// modified Julian day, 1,000,000 at most: none of its steps finds an item stuck, whatever the
+    /// programs answer. What was verified beside other programs is refused.
+    pub fn start(
+        alloc: Global,
+        accepted: Accepted,
+        programs: Vec<P>,
+        mjd: u32,
+    ) -> Result<Receiver<P>, Unready<P>>
+        ensures begun { IfOk result (λ receiver. receiver.engine
+            ≡ record { state = begun accepted mjd; stopped = false; accepted = true }) }
+        ensures programs { IfOk result (λ receiver. receiver.programs ≡ programs) }
+        ensures same { OnOk result (map P.signature_of programs.items ≡ accepted.programs) }
+        ensures differ { IfErr result (λ refused. refused.why ≡ StartError.ProgramsDiffer →
+            map P.signature_of programs.items ≡ accepted.programs → ⊥) }
+        ensures back { IfErr result (λ refused. (refused.accepted ≡ accepted) × (refused.programs ≡ programs)) }
+    {
+        match matching(alloc, programs.as_slice(), accepted.programs()) {
+            Ok((own, others)) => {
+                match Engine::begin(alloc, accepted, others, mjd) {
+                    Ok(engine) => Ok(Receiver {
+                        engine,
+                        programs,
+                        signatures: own,
+                    }),
+                    Err(refused) => Err(Unready {
+                        why: refused.why,
+                        accepted: refused.accepted,
+                        programs,
+                    }),
+                }
+            }
+            Err(why) => Err(Unready {
+                why,
+                accepted,
+                programs,
+            }),
+        }
+    }
+
+    /// The engine, for its picture, its steps and its faults.
+    pub fn engine(&self) -> &Engine
+        ensures { result.now ≡ self.now.engine }
+    {
+        &self.engine
+    }
+
+    /// A content file is there before the first move. A refused one is handed back, and nothing changes.
+    pub fn preset(&mut self, file: File) -> Result<(), RefusedFile>
+        ensures preset { let after = record self.old.engine { state = preset_lem file self.old.engine.state } in
+            OnOk result (self.new.engine ≡ after) }
+        ensures back { IfErr result (λ refused. refused.file ≡ file) }
+        ensures kept { OnErr result (self.new.engine ≡ self.old.engine) }
+        ensures same { self.new.programs ≡ self.old.programs }
+        ensures refused { MatchOption (preset_refusal file self.old.engine)
+            (IfErr result (λ refused. refused.why ≡ RefusedWhy.NoMemory))
+            (λ why. IsErrAnd result (λ refused. refused.why ≡ why)) }
+    {
+        self.engine.preset(file)
+    }
+
+    /// Adds an input at the end of the queue. A refused one is handed back, and nothing changes.
+    pub fn post(&mut self, input: Input) -> Result<(), Refused>
+        ensures posted { let after = record self.old.engine { state = posted input self.old.engine.state } in
+            OnOk result (self.new.engine ≡ after) }
+        ensures back { IfErr result (λ refused. refused.input ≡ input) }
+        ensures kept { OnErr result (self.new.engine ≡ self.old.engine) }
+        ensures same { self.new.programs ≡ self.old.programs }
+        ensures refused { MatchOption (post_refusal input self.old.engine)
+            (IfErr result (λ refused. refused.why ≡ RefusedWhy.NoMemory))
+            (λ why. IsErrAnd result (λ refused. refused.why ≡ why)) }
+    {
+        self.engine.post(input)
+    }
+
+    /// One step of the machine; where it calls a program, by what that answers. Where memory is refused,
+    /// by the program too, the state stays as it was, and no further step is made.
+    pub fn step(&mut self) -> Result<Stepped, StepError>
+        ensures step { let may = MayCome P.signature_of P.may_answer self.old.programs.items in
+            OnOk result (IsStep self.old.signatures.items may self.old.engine.state self.new.engine.state) }
+        ensures same { self.new.programs ≡ self.old.programs }
+        ensures accepted { self.new.engine.accepted ≡ self.old.engine.accepted }
+        ensures answer { IfOk result (λ answer. answer ≡ answer_of self.old.engine.state) }
+        ensures never { self.old.engine.accepted ≡ true → front_fault self.old.engine.state ≡ None }
+        ensures faultless { IfOk result (λ answer. self.old.engine.accepted ≡ true → is_faulted answer ≡ false) }
+        ensures running { OnOk result (self.new.engine.stopped ≡ false) }
+        ensures no_memory { IsErrOf result StepError.NoMemory →
+            self.new.engine ≡ record self.old.engine { stopped = true } }
+        ensures kept { IfErr result (λ why. (why ≡ StepError.NoMemory → ⊥) → self.new.engine ≡ self.old.engine) }
+        ensures refused { MatchOption (step_refusal self.old.engine)
+            (IfErr result (λ why. why ≡ StepError.NoMemory))
+            (λ why. IsErrOf result why) }
+    {
+        if !self.engine.is_ready() {
+            return self.engine.step();
+        }
+        match self.ask() {
+            Ok(Some(said)) => self.step_by(said),
+            Ok(None) => self.engine.step(),
+            Err(_) => {
+                self.engine.stop();
+                Err(StepError::NoMemory)
+            }
+        }
+    }
+
+    /// What comes of the call that the next step makes, if it makes one.
+    fn ask(&self) -> Result<Option<Outcome>, AllocError>
+        ensures { let may = MayCome P.signature_of P.may_answer self.now.programs.items in
+            let call = call_next self.now.signatures.items self.now.engine.state in
+            IfOk result (IsTold may call) }
+    {
+        match self.engine.call_next(self.signatures.as_slice())? {
+            Some(call) => Ok(Some(call_program(self.programs.as_slice(), &call)?)),
+            None => Ok(None),
+        }
+    }
+
+    /// One step with what a program has said of the call that it makes.
+    fn step_by(&mut self, said: Outcome) -> Result<Stepped, StepError>
+        requires { is_ready self.old.engine ≡ true }
+        ensures step { OnOk result (self.new.engine.state ≡ step (told said self.old.engine.state)) }
+        ensures same { self.new.programs ≡ self.old.programs }
+        ensures accepted { self.new.engine.accepted ≡ self.old.engine.accepted }
+        ensures answer { IfOk result (λ answer. answer ≡ answer_of self.old.engine.state) }
+        ensures faultless { IfOk result (λ answer. self.old.engine.accepted ≡ true → is_faulted answer ≡ false) }
+        ensures running { OnOk result (self.new.engine.stopped ≡ false) }
+        ensures why { IfErr result (λ why. why ≡ StepError.NoMemory) }
+        ensures no_memory { OnErr result (self.new.engine ≡ record self.old.engine { stopped = true }) }
+    {
+        step_told(&mut self.engine, said)
+    }
+}
+
+/// One step of an engine with what a program has said of the call that it makes. Where memory is refused,
+/// what was said before stands again.
+fn step_told(engine: &mut Engine, said: Outcome) -> Result<Stepped, StepError>
+    requires { is_ready engine.old ≡ true }
+    ensures step { OnOk result (engine.new.state ≡ step (told said engine.old.state)) }
+    ensures accepted { engine.new.accepted ≡ engine.old.accepted }
+    ensures answer { IfOk result (λ answer. answer ≡ answer_of engine.old.state) }
+    ensures faultless { IfOk result (λ answer. engine.old.accepted ≡ true → is_faulted answer ≡ false) }
+    ensures running { OnOk result (engine.new.stopped ≡ false) }
+    ensures why { IfErr result (λ why. why ≡ StepError.NoMemory) }
+    ensures no_memory { OnErr result (engine.new ≡ record engine.old { stopped = true }) }
+{
+    let before = engine.hear(said);
+    match engine.step() {
+        Ok(answer) => Ok(answer),
+        Err(why) => {
+            let _ = engine.hear(before);
+            Err(why)
+        }
+    }
+}
+
+/// The signatures of programs, twice: the machine has its own.
+fn both_signatures<P: Resident>(
+    alloc: Global,
+    programs: &[P],
+) -> Result<(Vec<Signature>, Vec<Signature>), AllocError>
+    ensures { IfOk result (λ both. (both.0.items ≡ map P.signature_of programs.now)
+        × (both.1.items ≡ map P.signature_of programs.now)) }
+{
+    let own = signatures_of(alloc, programs)?;
+    let others = signatures_of(alloc, programs)?;
+    Ok((own, others))
+}
+
+/// The same, where they are those that are wanted.
+fn matching<P: Resident>(
+    alloc: Global,
+    programs: &[P],
+    wanted: &[Signature],
+) -> Result<(Vec<Signature>, Vec<Signature>), StartError>
+    ensures found { IfOk result (λ both. (both.0.items ≡ map P.signature_of programs.now)
+        × (both.1.items ≡ map P.signature_of programs.now)) }
+    ensures same { OnOk result (map P.signature_of programs.now ≡ wanted.now) }
+    ensures differ { IsErrOf result StartError.ProgramsDiffer → map P.signature_of programs.now ≡ wanted.now → ⊥ }
+{
+    let (own, others) = both_signatures(alloc, programs)?;
+    if same_signatures(own.as_slice(), wanted) {
+        Ok((own, others))
+    } else {
+        Err(StartError::ProgramsDiffer)
+    }
+}

@@ -1,0 +1,123 @@
+//! What the next step asks of the programs of a receiver. The machine calls none of them: whoever has them
+//! asks beforehand which call the step makes, and tells the machine what came of it.
+ghost use Rattle.std.specs.Prelude.{◌≡◌, IfOk};
+ghost use Rattle.std.specs.Option.{option_copied};
+ghost use Rattle.mh_model.specs.Receiver.{call_at as call_at_lem, call_by as call_by_lem, call_in as call_in_lem, call_made as call_made_lem, call_next, call_unless as call_unless_lem, told};
+ghost use Rattle.mh_model.specs.Service.{part_at, parts};
+ghost use Rattle.mh_model.specs.Sort.{sort_of as sort_of_lem};
+ghost use Rattle.mh_model.specs.State.{all};
+ghost use Rattle.mh_model.specs.Stuck.{stuck};
+
+use crate::works::Works;
+use mh_actions::arguments::referred;
+use mh_actions::calling::{added_name, call_ins, params_at};
+use mh_base::{ObjRef, Octets, Seq};
+use mh_model::act::passed;
+use mh_model::sort::{Sort, sort_of};
+use mh_model::{Act, Argument, Call, Fault, Item, Outcome, Signature};
+use std::alloc::AllocError;
+use std::mem;
+
+impl Works {
+    /// Which of these programs the next step calls, if it calls one, and with what.
+    pub(crate) fn call_next(&self, programs: &[Signature]) -> Result<Option<Call>, AllocError>
+        ensures { IfOk result (λ call. call ≡ call_next programs.now self.now.state) }
+    {
+        if self.ended {
+            return Ok(None);
+        }
+        match self.work.first()? {
+            Some(item) => self.call_in(programs, &item),
+            None => Ok(None),
+        }
+    }
+
+    /// A program has said what comes of the call that the next step makes. It answers what was said
+    /// before.
+    pub(crate) fn hear(&mut self, said: Outcome) -> Outcome
+        ensures same { self.new.marks ≡ self.old.marks }
+        ensures told { self.new.state ≡ told said self.old.state }
+        ensures before { result ≡ self.old.state.said }
+    {
+        mem::replace(&mut self.said, said)
+    }
+
+    fn call_in(&self, programs: &[Signature], item: &Item) -> Result<Option<Call>, AllocError>
+        ensures { IfOk result (λ call. call ≡ call_in_lem programs.now item.now self.now.state) }
+    {
+        match item {
+            Item::Act(act) => self.call_by(programs, act, item),
+            _ => Ok(None),
+        }
+    }
+
+    fn call_by(
+        &self,
+        programs: &[Signature],
+        act: &Act,
+        item: &Item,
+    ) -> Result<Option<Call>, AllocError>
+        requires { item.now ≡ Item.Act act.now }
+        ensures { let sort = sort_of_lem act.now.name in
+            IfOk result (λ call. call ≡ call_by_lem programs.now sort act.now self.now.state) }
+    {
+        match sort_of(act.name) {
+            Sort::Call => self.call_unless(self.why_stuck(item)?, programs, act),
+            _ => Ok(None),
+        }
+    }
+
+    fn call_unless(
+        &self,
+        fault: Option<Fault>,
+        programs: &[Signature],
+        act: &Act,
+    ) -> Result<Option<Call>, AllocError>
+        ensures { IfOk result (λ call. call ≡ call_unless_lem fault programs.now act.now self.now.state) }
+    {
+        match fault {
+            Some(_) => Ok(None),
+            None => {
+                let at = referred(self.stage.objects(), &act.target);
+                self.call_at(programs, at, act.arguments.as_slice())
+            }
+        }
+    }
+
+    fn call_at(
+        &self,
+        programs: &[Signature],
+        at: Option<&ObjRef>,
+        arguments: &[Argument],
+    ) -> Result<Option<Call>, AllocError>
+        ensures { let at = option_copied at.entry in
+            IfOk result (λ call. call ≡ call_at_lem programs.now at arguments.now self.now.state) }
+    {
+        let Some(at) = at else {
+            return Ok(None);
+        };
+        match added_name(programs, self.stage.objects(), at) {
+            Some(name) => Ok(Some(self.call_made(name, at, arguments)?)),
+            None => Ok(None),
+        }
+    }
+
+    fn call_made(
+        &self,
+        name: &[u8],
+        at: &ObjRef,
+        arguments: &[Argument],
+    ) -> Result<Call, AllocError>
+        ensures { let part = part_at at.now (parts (all self.now.state.objects)) in
+            IfOk result (λ call. call ≡ call_made_lem name.now part arguments.now self.now.state) }
+    {
+        let objects = self.stage.objects();
+        let params = params_at(self.service.programs(), objects, at);
+        let ins = call_ins(self.alloc, objects, params, passed(arguments))?;
+        Ok(Call {
+            name: Octets::from_slice(self.alloc, name)?,
+            time: self.today(),
+            values: Seq::from_vec(ins),
+        })
+    }
+}

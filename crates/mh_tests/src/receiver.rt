@@ -1,0 +1,177 @@
+//! An engine beside programs of its receiver: one that doubles a number, and one that always fails.
+//!
+//! A case says which of the two the receiver has, in which order, which one is called, and with which
+//! number; the service was verified beside both, the one that doubles first.
+ghost use Rattle.std.specs.Prelude.{◌≡◌, ◌∷◌, [], ◌+ℤ◌, codes, IfOk, IfErr};
+ghost use Rattle.mh_base.specs.declared.value.Value.TheVariants as value;
+ghost use Rattle.mh_model.specs.declared.program.Outcome.TheVariants as outcome_lem;
+ghost use Rattle.mh_resident.specs.declared.answer.CallFailed.TheVariants as call_failed;
+ghost use Rattle.mh_model.specs.declared.program.Param.TheVariants as param;
+ghost use Rattle.mh_model.specs.declared.program.Plain.TheVariants as plain;
+ghost use Rattle.mh_tests.specs.Doubling.{numbers, IsDouble, MayAnswer};
+
+use crate::cases::{Question, all_hold, word};
+use crate::playing::DAY;
+use crate::service::all_named;
+use mh_base::{GroupName, Octets, Shared, Value};
+use mh_engine::{Receiver, Stepped, Unready};
+use mh_model::{Now, Param, Plain, Signature};
+use mh_resident::{Answer, CallFailed, Resident, signatures_of};
+use mh_service::Service;
+use mh_verify::{Accepted, verify};
+use std::alloc::{AllocError, Global};
+
+/// A number in, and a number out.
+fn signature(alloc: Global, name: &[u8]) -> Result<Signature, AllocError>
+    ensures { IfOk result (λ s. s ≡ numbers name.now) }
+{
+    let name = Octets::from_slice(alloc, name)?;
+    let params = vec![in alloc; Param::In(Plain::Int), Param::Out(Plain::Int)]?;
+    let params = Shared::from_vec(alloc, params)?;
+    Ok(Signature { name, params })
+}
+
+/// One that doubles a number, and fails where the double is none of 32 bits, or one that always fails.
+#[derive(Drop)]
+struct Program {
+    alloc: Global,
+    doubles: bool,
+    signature: Signature,
+    ghost its_own: { signature.params ≡ param.In plain.Int ∷ param.Out plain.Int ∷ [] },
+}
+
+impl Program {
+    fn new(alloc: Global, name: &[u8], doubles: bool) -> Result<Program, AllocError> {
+        let signature = signature(alloc, name)?;
+        Ok(Program {
+            alloc,
+            doubles,
+            signature,
+        })
+    }
+}
+
+impl Resident for Program {
+    ghost signature_of = { λ p. p.signature };
+
+    ghost may_answer = { λ p _ values outcome. MayAnswer p.doubles values outcome };
+
+    fn signature(&self) -> &Signature {
+        &self.signature
+    }
+
+    fn call(&self, _: Now, args: &[Value]) -> Result<Answer, CallFailed> {
+        match args {
+            [Value::Int(number)] if self.doubles => double(self.alloc, *number),
+            _ => Err(CallFailed::Failed),
+        }
+    }
+}
+
+/// The double of a number, if it is one of 32 bits.
+fn double(alloc: Global, number: i32) -> Result<Answer, CallFailed>
+    ensures gives { IfOk result (λ vs. IsDouble number (outcome_lem.Answered vs)) }
+    ensures one { IfOk result (λ vs. vs ≡ value.Int (number +ℤ number) ∷ []) }
+    ensures fails { IfErr result (λ why. why ≡ call_failed.Failed → IsDouble number outcome_lem.Failed) }
+{
+    match number.checked_add(number) {
+        Some(twice) => {
+            let values = vec![in alloc; Value::Int(twice)]?;
+            Ok(Answer::of_vec(values))
+        }
+        None => Err(CallFailed::Failed),
+    }
+}
+
+/// What is called is the program with this number. What comes of it is put into variable 4, and an
+/// exclamation mark behind that where it failed.
+fn service(alloc: Global, program: &str, number: &str) -> Option<Service> {
+    let file = format!(in alloc;
+        "a {{:Application (\"~/a\" 0) :Items ( {{:ResidentPrg 1 :Name 'DBL' }} {{:ResidentPrg 2 :Name \
+         'NOT' }} {{:BooleanVar 3 :OrigValue true }} {{:IntegerVar 4 :OrigValue 0 }} {{:OStringVar 5 \
+         :OrigValue '' }} {{:Text 7 :OrigBoxSize 720 16 }} {{:Link 8 :EventSource 3 :EventType TestEvent \
+         :EventData true :LinkEffect ( :Append (5 '!') :SetData (7 :IndirectRef 5) ) }} {{:Link 9 \
+         :EventSource 0 :EventType IsRunning :LinkEffect ( :Call ({program} 3 ( :GInteger {number} \
+         :GInteger :IndirectRef 4 )) :SetVariable (5 :GInteger :IndirectRef 4) :SetData (7 :IndirectRef 5) \
+         :TestVariable (3 1 :GBoolean false) ) }} ) }}"
+    )
+    .ok()?;
+    let files = all_named(alloc, file.as_str())?;
+    Service::of_files(alloc, files, GroupName::of_path(alloc, b"a").ok()?).ok()
+}
+
+fn is_at_rest<P: Resident>(receiver: &mut Receiver<P>) -> bool {
+    matches!(receiver.step(), Ok(Stepped::Idle | Stepped::Ended))
+}
+
+/// The first characters that are shown when there is nothing left to do.
+fn shown<P: Resident>(alloc: Global, receiver: &mut Receiver<P>) -> Option<Vec<u8>> {
+    for _ in 0..100 {
+        if is_at_rest(receiver) {
+            break;
+        }
+    }
+    let mut shown = Vec::new(alloc);
+    for scalar in receiver.engine().picture().scalars().iter().take(12) {
+        shown.push(u8::try_from(*scalar).ok()?).ok()?;
+    }
+    let text = str::from_utf8(shown.as_slice()).ok()?;
+    Vec::from_slice(alloc, text.trim_end().as_bytes()).ok()
+}
+
+/// What is shown, or the number of the refusal.
+fn outcome<P: Resident>(
+    alloc: Global,
+    started: Result<Receiver<P>, Unready<P>>,
+) -> Option<Vec<u8>> {
+    match started {
+        Ok(mut receiver) => shown(alloc, &mut receiver),
+        Err(refused) => {
+            let number = refused.why.number()?;
+            Some(format!(in alloc; "{number}").ok()?.into_bytes())
+        }
+    }
+}
+
+/// The service, verified beside these programs.
+fn verified(alloc: Global, asked: &str, doubling: &Program, failing: &Program) -> Option<Accepted> {
+    let program = if word(asked, 1) == "DBL" { "1" } else { "2" };
+    let service = service(alloc, program, word(asked, 2))?;
+    let known = vec![in alloc;
+        doubling.signature.clone().ok()?,
+        failing.signature.clone().ok()?,
+    ];
+    verify(alloc, service, known.ok()?.as_slice()).ok()
+}
+
+/// Which programs there are, the one that is called, and a number.
+struct Beside;
+
+impl Question for Beside {
+    fn answer(alloc: Global, asked: &str, _: &[u8]) -> Option<Vec<u8>> {
+        let doubling = Program::new(alloc, b"DBL", true).ok()?;
+        let failing = Program::new(alloc, b"NOT", false).ok()?;
+        let accepted = verified(alloc, asked, &doubling, &failing)?;
+        let programs = match word(asked, 0) {
+            "both" => vec![in alloc; doubling, failing].ok()?,
+            "turned" => vec![in alloc; failing, doubling].ok()?,
+            _ => vec![in alloc; doubling].ok()?,
+        };
+        outcome(alloc, Receiver::start(alloc, accepted, programs, DAY))
+    }
+}
+
+static PROGRAMS: &str = r#"
+both DBL 21 => 42;;
+both DBL -21 => -42;;
+both DBL 1073741823 => 2147483646;;
+both DBL -1073741824 => -2147483648;;
+both DBL 1073741824 => 0!;;
+both NOT 21 => 0!;;
+turned DBL 21 => 50;;
+one DBL 21 => 50"#;
+
+#[test]
+fn calls_programs(rt: HostRuntime) {
+    all_hold::<Beside>(&rt, rt.alloc(), PROGRAMS);
+}
