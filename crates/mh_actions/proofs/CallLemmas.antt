@@ -1,5 +1,5 @@
 -- What goes in and what comes out, one parameter in front of the others.
-use Rattle.std.specs.Prelude.{◌≡◌, List, [], ◌∷◌, ◌++◌, Option, Some, None, refl}
+use Rattle.std.specs.Prelude.{◌≡◌, List, [], ◌∷◌, ◌++◌, refl}
 use Rattle.std.proofs.Common.{sym}
 use Rattle.mh_model.specs.declared.act.Argument.{Argument}
 use Rattle.mh_model.specs.declared.act.Argument.TheVariants as argument
@@ -7,7 +7,6 @@ use Rattle.mh_model.specs.declared.object.Object.{Object}
 use Rattle.mh_model.specs.declared.program.Param.{Param}
 use Rattle.mh_model.specs.declared.program.Param.TheVariants as param
 use Rattle.mh_model.specs.Arguments.{values, value_in}
-use Rattle.mh_model.specs.Faults.{passed}
 use Rattle.mh_model.specs.Programs.{ins, outs}
 use Rattle.mh_actions.proofs.FilterLemmas.{in_front}
 

@@ -1,20 +1,21 @@
 //! What an object answers to an action that asks.
-ghost use Rattle.std.specs.Prelude.{◌≡◌, ◌∷◌, [], if◌then◌else◌, IfOk};
+ghost use Rattle.std.specs.Prelude.{◌≡◌, IfOk};
 ghost use Rattle.std.specs.Option.{option_copied};
-ghost use Rattle.mh_model.specs.Bodies.{text_of as text_of_lem};
+ghost use Rattle.mh_model.specs.Bodies.{text_of};
+ghost use Rattle.mh_model.specs.Looks.{label_of};
 ghost use Rattle.mh_model.specs.Saying as spec;
-ghost use Rattle.mh_model.specs.Variables.{fits_octets};
+ghost use Rattle.mh_model.specs.Programs.{counted as counted_lem};
 
 use crate::few::Few;
 use crate::variables::fits;
 use mh_base::{Octets, Value};
 use mh_group::{ActionName, Attribute};
-use mh_model::Object;
 use mh_model::held::as_pair;
+use mh_model::{Held, Object};
 use std::alloc::{AllocError, Global};
 
 /// What the object answers to the action, in the order of the receivers; none answers nothing. Only a
-/// text that was not loaded takes memory.
+/// text or a label that is not there takes memory.
 pub fn answers(
     alloc: Global,
     name: ActionName,
@@ -32,28 +33,52 @@ pub fn answers(
         ActionName::GetPosition => Ok(both(as_pair(object.read(Attribute::OrigPosition)))),
         ActionName::GetBoxSize => Ok(both(as_pair(object.read(Attribute::OrigBoxSize)))),
         ActionName::GetTextData => text_told(alloc, object),
+        ActionName::GetHighlightStatus => Ok(Few::one(Value::Bool(object.body.highlighted))),
+        ActionName::GetEntryPoint => Ok(Few::one(Value::Int(counted(object.body.point)))),
+        ActionName::GetLabel => label_told(alloc, object),
+        ActionName::GetTokenPosition => Ok(Few::one(Value::Int(counted(object.body.token)))),
         _ => Ok(Few::none()),
     }
 }
 
-/// The text that was loaded, unless it is too long for one string.
+/// The text that was loaded, or an empty one.
 fn text_told(alloc: Global, object: &Object) -> Result<Few<Value>, AllocError>
-    ensures { IfOk result (λ told. told ≡ (if fits_octets (text_of_lem object.now.body)
-        then Value.Octets (text_of_lem object.now.body) ∷ [] else [])) }
-{
-    if !fits(object.text()) {
-        return Ok(Few::none());
-    }
-    Ok(Few::one(Value::Octets(text_of(alloc, object)?)))
-}
-
-/// The text that was loaded, or none.
-fn text_of(alloc: Global, object: &Object) -> Result<Octets, AllocError>
-    ensures { IfOk result (λ text. text ≡ text_of_lem object.now.body) }
+    ensures { IfOk result (λ told. told ≡ spec.octets_answered (text_of object.now.body)) }
 {
     match &object.body.text {
-        Some(text) => text.clone(),
-        None => Octets::from_slice(alloc, &[]),
+        Some(text) => octets_told(text),
+        None => octets_told(&Octets::from_slice(alloc, &[])?),
+    }
+}
+
+/// The label of a push button, or an empty one.
+fn label_told(alloc: Global, object: &Object) -> Result<Few<Value>, AllocError>
+    ensures { IfOk result (λ told. told ≡ spec.octets_answered (label_of object.now.fixed object.now.body)) }
+{
+    match object.read(Attribute::OrigLabel) {
+        Some(Held::Value(Value::Octets(label))) => octets_told(label),
+        _ => octets_told(&Octets::from_slice(alloc, &[])?),
+    }
+}
+
+/// Octets, unless they are too many for one string.
+fn octets_told(octets: &Octets) -> Result<Few<Value>, AllocError>
+    ensures { IfOk result (λ told. told ≡ spec.octets_answered octets.now) }
+{
+    if !fits(octets.as_slice()) {
+        return Ok(Few::none());
+    }
+    Ok(Few::one(Value::Octets(octets.clone()?)))
+}
+
+/// A count as a number; past the largest number it is that.
+fn counted(count: usize) -> i32
+    ensures { result ≡ counted_lem count }
+{
+    if count <= 2147483647 {
+        count as i32
+    } else {
+        i32::MAX
     }
 }
 

@@ -10,6 +10,7 @@ ghost use Rattle.mh_model.specs.Edits.{edited_if};
 ghost use Rattle.mh_model.specs.State.{all};
 
 use crate::arguments::{value_in, values};
+use crate::fields::{with_label, with_mode, with_point};
 use crate::looks::{coloured, drawn, lined, sized};
 use crate::variables::{added, appended, divided, left_over, multiplied, set, subtracted};
 use mh_base::Value;
@@ -43,6 +44,9 @@ pub fn edit_by(
         (ActionName::SetTextColour, _) => Ok(with_text_colour(values)),
         (ActionName::SetLineWidth, _) => Ok(with_line_width(values)),
         (ActionName::SetInputRegister, _) => Ok(with_register(values)),
+        (ActionName::SetEntryPoint, _) => Ok(with_point(object, values)),
+        (ActionName::SetOverwriteMode, _) => Ok(with_mode(values)),
+        (ActionName::SetLabel, _) => with_label(values),
         (ActionName::Clear, _) => Ok(Some(Edit::Clear)),
         (ActionName::DrawLine, _) => Ok(with_line(object, values)),
         (ActionName::DrawRectangle, _) => Ok(with_rectangle(object, values)),

@@ -13,6 +13,7 @@ pub mod calling;
 pub mod changes;
 pub mod content;
 pub mod few;
+mod fields;
 pub mod judging;
 mod looks;
 mod numerals;

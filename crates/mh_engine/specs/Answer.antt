@@ -1,5 +1,5 @@
 -- What an engine refuses.
-use Rattle.std.specs.Prelude.{ℕ, Bool, true, false, not, ◌==◌, ◌||◌, ◌&&◌, List, [], ◌∷◌, Option, Some, None, if◌then◌else◌}
+use Rattle.std.specs.Prelude.{ℕ, Bool, true, not, ◌==◌, ◌||◌, ◌&&◌, List, [], ◌∷◌, Option, Some, None, if◌then◌else◌}
 use Rattle.mh_model.specs.State.{State}
 use Rattle.mh_model.specs.declared.input.Move.{Move}
 use Rattle.mh_model.specs.declared.input.Move.TheVariants as move

@@ -2,18 +2,18 @@
 //!
 //! The engine itself calls none of them. Before each step it is asked which call the step makes, the
 //! program is called, and the engine is told what came of it.
-ghost use Rattle.std.specs.Prelude.{◌≡◌, map, true, false, None, IfOk, IfErr, OnOk, OnErr, IsErrOf, IsErrAnd, MatchOption};
+ghost use Rattle.std.specs.Prelude.{◌≡◌, map, true, false, None, Ok, Err, IfOk, IfErr, OnOk, OnErr, IsErrOf, IsErrAnd, MatchOption};
 ghost use Rattle.mh_model.specs.State.{begun};
 ghost use Rattle.mh_model.specs.Headline.{front_fault};
 ghost use Rattle.mh_model.specs.Receiver.{IsStep, call_next, told};
-ghost use Rattle.mh_model.specs.Step.{posted, preset as preset_lem, step};
+ghost use Rattle.mh_model.specs.Step.{is_settled, posted, preset as preset_lem, step};
 ghost use Rattle.mh_resident.specs.Coming.{MayCome};
 ghost use Rattle.mh_machine.specs.Rest.{answer_of, is_faulted};
 ghost use Rattle.mh_engine.specs.Answer.{is_ready, post_refusal, preset_refusal, step_refusal};
 ghost use Rattle.mh_engine.specs.Told.{IsTold};
 
 use crate::engine::Engine;
-use crate::refusal::{Refused, RefusedFile, RefusedWhy, StartError, StepError};
+use crate::refusal::{Refused, RefusedFile, RefusedWhy, StartError, StepError, Unaccepted};
 use mh_machine::Stepped;
 use mh_model::{File, Input, Outcome, Signature};
 use mh_resident::{Resident, call_program, same_signatures, signatures_of};
@@ -39,8 +39,8 @@ pub struct Unready<P: Drop> {
     pub programs: Vec<P>,
 }
 
-/// A service that could not be started for want of memory. It is handed back, with the programs and
-/// with their signatures.
+/// A service that could not be started for want of memory. It is handed back, but for the signatures
+/// that it has of programs; and so are the programs.
 #[derive(Drop)]
 pub struct Unequipped<P: Drop> {
     pub service: Service,
@@ -60,7 +60,8 @@ impl<P: Resident> Receiver<P> {
             IfOk result (λ receiver. receiver.engine
             ≡ record { state = begun whole mjd; stopped = false; accepted = false }) }
         ensures programs { IfOk result (λ receiver. receiver.programs ≡ programs) }
-        ensures back { IfErr result (λ refused. refused.programs ≡ programs) }
+        ensures back { IfErr result (λ refused. (record refused.service { programs = service.programs } ≡ service)
+            × (refused.programs ≡ programs)) }
     {
         let Ok((own, others)) = both_signatures(alloc, programs.as_slice()) else {
             return Err(Unequipped { service, programs });
@@ -97,22 +98,38 @@ impl<P: Resident> Receiver<P> {
     {
         match matching(alloc, programs.as_slice(), accepted.programs()) {
             Ok((own, others)) => {
-                match Engine::begin(alloc, accepted, others, mjd) {
-                    Ok(engine) => Ok(Receiver {
-                        engine,
-                        programs,
-                        signatures: own,
-                    }),
-                    Err(refused) => Err(Unready {
-                        why: refused.why,
-                        accepted: refused.accepted,
-                        programs,
-                    }),
-                }
+                let begun = Engine::begin(alloc, accepted, others, mjd);
+                Receiver::of_engine(begun, programs, own)
             }
             Err(why) => Err(Unready {
                 why,
                 accepted,
+                programs,
+            }),
+        }
+    }
+
+    /// The engine that was begun, beside these programs, or all that is handed back.
+    fn of_engine(
+        begun: Result<Engine, Unaccepted>,
+        programs: Vec<P>,
+        signatures: Vec<Signature>,
+    ) -> Result<Receiver<P>, Unready<P>>
+        requires { signatures.items ≡ map P.signature_of programs.items }
+        ensures begun { IfOk result (λ receiver. begun ≡ Ok receiver.engine) }
+        ensures programs { IfOk result (λ receiver. receiver.programs ≡ programs) }
+        ensures back { IfErr result (λ refused. (begun ≡ Err (record { why = refused.why; accepted = refused.accepted }))
+            × (refused.programs ≡ programs)) }
+    {
+        match begun {
+            Ok(engine) => Ok(Receiver {
+                engine,
+                programs,
+                signatures,
+            }),
+            Err(refused) => Err(Unready {
+                why: refused.why,
+                accepted: refused.accepted,
                 programs,
             }),
         }
@@ -168,7 +185,7 @@ impl<P: Resident> Receiver<P> {
             self.new.engine ≡ record self.old.engine { stopped = true } }
         ensures kept { IfErr result (λ why. (why ≡ StepError.NoMemory → ⊥) → self.new.engine ≡ self.old.engine) }
         ensures refused { MatchOption (step_refusal self.old.engine)
-            (IfErr result (λ why. why ≡ StepError.NoMemory))
+            (IfErr result (λ why. (why ≡ StepError.NoMemory) × (is_settled self.old.engine.state ≡ false)))
             (λ why. IsErrOf result why) }
     {
         if !self.engine.is_ready() {

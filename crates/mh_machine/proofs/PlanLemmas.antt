@@ -6,7 +6,6 @@ use Rattle.mh_base.specs.declared.value.Value.{Value}
 use Rattle.mh_group.specs.declared.action_name.ActionName.{ActionName}
 use Rattle.mh_actions.specs.declared.ordering.Reorder.{Reorder}
 use Rattle.mh_actions.specs.Moved.{moved}
-use Rattle.mh_model.specs.declared.edit.Edit.{Edit}
 use Rattle.mh_model.specs.declared.edit.Edit.TheVariants as edit
 use Rattle.mh_model.specs.declared.item.Item.{Item}
 use Rattle.mh_model.specs.declared.item.Item.TheVariants as item
@@ -36,8 +35,6 @@ use Rattle.mh_machine.specs.declared.plan.Awaiting.TheVariants as awaiting
 use Rattle.mh_machine.specs.declared.plan.Change.{Change}
 use Rattle.mh_machine.specs.declared.plan.Change.TheVariants as change
 use Rattle.mh_machine.specs.declared.plan.Gift.{Gift}
-use Rattle.mh_machine.specs.declared.plan.Plan.{Plan}
-use Rattle.mh_machine.specs.declared.plan.Puts.TheVariants as puts
 use Rattle.mh_machine.specs.declared.plan.Stacking.{Stacking}
 use Rattle.mh_machine.specs.declared.plan.Stacking.TheVariants as stacking
 use Rattle.mh_machine.specs.Pieces.{written}

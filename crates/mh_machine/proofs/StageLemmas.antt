@@ -18,7 +18,7 @@ use Rattle.mh_model.specs.Bodies.{given}
 use Rattle.mh_model.specs.Lifecycle.{without, just_above, just_below}
 use Rattle.mh_group.specs.declared.attribute.Attribute.TheVariants as attribute
 use Rattle.mh_model.specs.declared.line.Line.{Line}
-use Rattle.mh_model.specs.Looks.{Paint, nothing, paint_by, text_paint, area_of, colour_of, transparent_black, opaque_white, lines_of_text}
+use Rattle.mh_model.specs.Looks.{Paint, nothing, paint_by, text_paint, area_of, colour_of, transparent_black, opaque_white, lines_of_text, shown_text}
 use Rattle.mh_model.specs.Picture.{cell_of, back_or, back_under, mark_or, mark_under, is_seen, painted, paint_at, cell_at, picture}
 use Rattle.mh_model.specs.Planes.{Planes, IsWhole, blank}
 use Rattle.mh_model.specs.Rules.{is_at, on_body, changed_in, changed}
@@ -164,7 +164,7 @@ paint_given v r at (o ∷ os) c =
     looks class.Rectangle = refl
     looks class.DynamicLineArt = refl
     looks _ =
-        ap (λ (ls : List Line). text_paint (area_of o) (colour_of attribute.BackgroundColour transparent_black o) (colour_of attribute.TextColour opaque_white o) ls c) (lines o.body.text)
+        ap (λ (ls : List Line). text_paint (area_of o) (colour_of attribute.BackgroundColour transparent_black o) (colour_of attribute.TextColour opaque_white o) ls c) (lines (shown_text o))
 
 same_cells : (os after : List Object) (stack : List ObjRef) (c : ℕ) → ((at : ObjRef) → paint_at after c at ≡ paint_at os c at) → cell_at after stack c ≡ cell_at os stack c
 same_cells os after stack c same =

@@ -20,11 +20,13 @@ use Rattle.mh_model.specs.declared.held.Held.{Held}
 use Rattle.mh_model.specs.declared.held.Held.TheVariants as of
 use Rattle.mh_model.specs.declared.item.Item.{Item}
 use Rattle.mh_model.specs.declared.item.Item.TheVariants as item
+use Rattle.mh_model.specs.declared.object.Fixed.{Fixed}
 use Rattle.mh_model.specs.declared.object.Object.{Object}
 use Rattle.mh_model.specs.declared.operator.Operator.{Operator}
 use Rattle.mh_model.specs.declared.file.File.{File}
 use Rattle.mh_model.specs.Lifecycle.{is_available_at, emit_if, prepare_items, run_items}
 use Rattle.mh_model.specs.Property.{read_of, value_held}
+use Rattle.mh_model.specs.Service.{fresh}
 use Rattle.mh_model.specs.Variables.{operator_of}
 use Rattle.mh_model.specs.Bodies.{loaded}
 use Rattle.mh_model.specs.Saying.{event_numbered, sent, tested, put_items}
@@ -62,6 +64,9 @@ tells_content f (Some (of.Pair x y)) b e = absurd cc
 tells_content f (Some (of.Colour x)) b e = absurd cc
 tells_content f (Some (of.Event x)) b e = absurd cc
 tells_content f (Some (of.Effect x)) b e = absurd cc
+tells_content f (Some (of.Members x)) b e = absurd cc
+tells_content f (Some (of.Rows x)) b e = absurd cc
+tells_content f (Some (of.Positions x)) b e = absurd cc
 tells_content f (Some of.Kept) b e = absurd cc
 
 prepares_listed : (c : Class) → is_listed (prepare_events c) event.IsAvailable ≡ true
@@ -156,14 +161,18 @@ emits_listed fs n vs r o admitted =
 -- What is listed comes
 
 -- an object of the class, with content
+
+abbrev part_of : Class → Fixed
+part_of c = record {
+  key = record { group = []; number = 1 };
+  class = c;
+  properties = record { attribute = attribute.OrigContent; held = of.Value (value.Octets []) } ∷ [];
+}
+
 abbrev one : Class → Bool → Bool → Object
 one c available running = record {
-  fixed = record {
-    key = record { group = []; number = 1 };
-    class = c;
-    properties = record { attribute = attribute.OrigContent; held = of.Value (value.Octets []) } ∷ [];
-  };
-  body = record { value = Some (value.Bool true); changes = []; text = None; drawings = []; available = available; running = running };
+  fixed = part_of c;
+  body = record (fresh (part_of c)).body { value = Some (value.Bool true); available = available; running = running };
 }
 
 -- what is listed comes of an object that is to run, and of one that is to become available

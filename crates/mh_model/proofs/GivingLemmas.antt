@@ -1,5 +1,5 @@
 -- An action hands on no reference but those that its description says, and answers none.
-use Rattle.std.specs.Prelude.{◌≡◌, ◌⊎◌, ℕ, Bool, true, false, if◌then◌else◌, List, [], ◌∷◌, ◌++◌, Option, Some, None, ℤ, pos, ◌+ℤ◌, ◌-ℤ◌, ◌*ℤ◌, int_div, int_rem, int_le, nat_lt, length, ◌&&◌, refl}
+use Rattle.std.specs.Prelude.{◌≡◌, ◌⊎◌, ℕ, Bool, true, false, if◌then◌else◌, List, [], ◌∷◌, ◌++◌, Option, Some, None, ℤ, pos, negsuc, ◌+ℤ◌, ◌-ℤ◌, ◌*ℤ◌, int_div, int_rem, int_le, nat_le, nat_lt, length, ◌&&◌, refl}
 use Rattle.std.specs.List.{list_any}
 use Rattle.std.specs.Option.{option_or}
 use Rattle.std.specs.Ordering.{int_eq}
@@ -19,7 +19,8 @@ use Rattle.mh_model.specs.declared.object.Body.{Body}
 use Rattle.mh_model.specs.declared.object.Fixed.{Fixed}
 use Rattle.mh_model.specs.Property.{held, value_held, as_value, as_reference}
 use Rattle.mh_model.specs.Variables.{converted, fits_int, fits_octets}
-use Rattle.mh_model.specs.Bodies.{number_of as number_held, octets_of, given_number, given_octets, stored, divided, text_of, coloured, most_drawings, is_drawable, drawn, changed_by}
+use Rattle.mh_model.specs.Bodies.{number_of as number_held, octets_of, given_number, given_octets, stored, divided, text_of, coloured, most_drawings, is_drawable, drawn, pointed, changed_by}
+use Rattle.mh_model.specs.Looks.{label_of}
 use Rattle.mh_model.specs.Describing.{says, IsSaid, GivesWhatItSays, AnswersNoReference, is_reference}
 
 abbrev Stays : List Value → ActionName → Fixed → Body → Body → Type 0
@@ -178,6 +179,22 @@ register_kept : (vs : List Value) (p : Fixed) (b : Body) → (changed_by action.
 register_kept (value.Int n ∷ []) p b = refl
 register_kept _ p b = refl
 
+pointed_kept : (n : ℤ) (b : Body) → (pointed n b).value ≡ b.value
+pointed_kept (pos n) b = if_kept (nat_le n (length (text_of b))) _ b b refl refl
+pointed_kept (negsuc n) b = refl
+
+point_kept : (vs : List Value) (p : Fixed) (b : Body) → (changed_by action.SetEntryPoint vs p b).value ≡ b.value
+point_kept (value.Int n ∷ []) p b = pointed_kept n b
+point_kept _ p b = refl
+
+mode_kept : (vs : List Value) (p : Fixed) (b : Body) → (changed_by action.SetOverwriteMode vs p b).value ≡ b.value
+mode_kept (value.Bool on ∷ []) p b = refl
+mode_kept _ p b = refl
+
+label_kept : (vs : List Value) (p : Fixed) (b : Body) → (changed_by action.SetLabel vs p b).value ≡ b.value
+label_kept (value.Octets os ∷ []) p b = if_kept (fits_octets os) _ b b refl refl
+label_kept _ p b = refl
+
 pub gives_said : GivesWhatItSays
 gives_said action.SetVariable vs p b q h = gives_set vs p b q h
 gives_said action.Add vs p b q h = gives_add vs p b q h
@@ -196,6 +213,9 @@ gives_said action.Clear vs p b q h = inl h
 gives_said action.DrawLine vs p b q h = by_kept action.DrawLine draw_line_kept vs p b q h
 gives_said action.DrawRectangle vs p b q h = by_kept action.DrawRectangle draw_box_kept vs p b q h
 gives_said action.SetInputRegister vs p b q h = by_kept action.SetInputRegister register_kept vs p b q h
+gives_said action.SetEntryPoint vs p b q h = by_kept action.SetEntryPoint point_kept vs p b q h
+gives_said action.SetOverwriteMode vs p b q h = by_kept action.SetOverwriteMode mode_kept vs p b q h
+gives_said action.SetLabel vs p b q h = by_kept action.SetLabel label_kept vs p b q h
 gives_said _ vs p b q h = inl h
 
 pub answers_plain : AnswersNoReference
@@ -208,4 +228,12 @@ answers_plain action.GetTextData vs o = by (fits_octets (text_of o.body))
     by : (b : Bool) → list_any is_reference (if b then value.Octets (text_of o.body) ∷ [] else []) ≡ false
     by true = refl
     by false = refl
+answers_plain action.GetHighlightStatus vs o = refl
+answers_plain action.GetEntryPoint vs o = refl
+answers_plain action.GetLabel vs o = by (fits_octets (label_of o.fixed o.body))
+  where
+    by : (b : Bool) → list_any is_reference (if b then value.Octets (label_of o.fixed o.body) ∷ [] else []) ≡ false
+    by true = refl
+    by false = refl
+answers_plain action.GetTokenPosition vs o = refl
 answers_plain _ vs o = refl

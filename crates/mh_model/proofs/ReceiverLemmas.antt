@@ -1,5 +1,5 @@
 -- A receiver without programs of its own: a step is the one step, and a run the one run.
-use Rattle.std.specs.Prelude.{◌≡◌, ℕ, zero, suc, ◌==◌, Bool, true, false, if◌then◌else◌, List, [], ◌∷◌, slice_get, Option, Some, None, refl}
+use Rattle.std.specs.Prelude.{◌≡◌, ℕ, ◌==◌, Bool, true, false, if◌then◌else◌, List, [], ◌∷◌, slice_get, Option, Some, None, refl}
 use Rattle.std.proofs.Common.{ap, ◌∙◌, sym, subst}
 use Rattle.mh_base.specs.declared.obj_ref.ObjRef.{ObjRef}
 use Rattle.mh_model.specs.declared.act.Act.{Act}
@@ -17,13 +17,14 @@ use Rattle.mh_model.specs.declared.program.Signature.{Signature}
 use Rattle.mh_model.specs.declared.sort.Sort.{Sort}
 use Rattle.mh_model.specs.declared.sort.Sort.TheVariants as sort
 use Rattle.mh_model.specs.Arguments.{referred}
+use Rattle.mh_model.specs.Headline.{RunsAlone}
 use Rattle.mh_model.specs.Known.{program_name}
 use Rattle.mh_model.specs.Programs.{builtin_named}
-use Rattle.mh_model.specs.Receiver.{is_added_by, if_added, added_name, call_at, call_by, call_first, call_in, call_named, call_next, call_unless, IsStep, IsStepWith, IsCountedStep, IsStepped, IsAdvanced, IsMoved, IsRun}
+use Rattle.mh_model.specs.Receiver.{is_added_by, if_added, added_name, call_at, call_by, call_first, call_in, call_named, call_next, call_unless, IsStep, IsStepWith, IsCountedStep, IsStepped, IsRun, anything}
 use Rattle.mh_model.specs.Service.{part_at, parts}
 use Rattle.mh_model.specs.Sort.{sort_of}
 use Rattle.mh_model.specs.State.{State, all}
-use Rattle.mh_model.specs.Step.{step, stepped, advanced, moved, run, most_steps, posted}
+use Rattle.mh_model.specs.Step.{step, stepped, run, most_steps, posted}
 use Rattle.mh_model.specs.Stuck.{stuck}
 
 added : (b : Option Builtin) (name : List ℕ) → is_added_by b [] name ≡ false
@@ -97,11 +98,6 @@ alone_stepped may s t so = by (s.taken == most_steps) so
     by true so = so
     by false so = alone_step may s t so
 
-pub alone_advanced : (may : Call → Outcome → Type 0) (n : ℕ) (s t : State) → IsAdvanced [] may n s t → t ≡ advanced n s
-unfolding advanced
-alone_advanced may zero s t so = so
-alone_advanced may (suc n) s t so = alone_advanced may n so.0 t so.2 ∙ ap (advanced n) (alone_stepped may s so.0 so.1)
-
 pub alone_run : (may : Call → Outcome → Type 0) (ms : List Move) (s t : State) → IsRun [] may ms s t → t ≡ run ms s
 alone_run may [] s t so = so
 alone_run may (move.Post i ∷ ms) s t so = alone_run may ms so.0 t so.2 ∙ ap (run ms) so.1
@@ -119,7 +115,11 @@ stepped_alone may s = by (s.taken == most_steps)
     by true = refl
     by false = step_alone may s
 
-pub advanced_alone : (may : Call → Outcome → Type 0) (n : ℕ) (s : State) → IsAdvanced [] may n s (advanced n s)
-unfolding advanced
-advanced_alone may zero s = refl
-advanced_alone may (suc n) s = (stepped s, stepped_alone may s, advanced_alone may n (stepped s))
+pub run_alone : (may : Call → Outcome → Type 0) (ms : List Move) (s : State) → IsRun [] may ms s (run ms s)
+run_alone may [] s = refl
+run_alone may (move.Post i ∷ ms) s = (posted i s, refl, run_alone may ms (posted i s))
+run_alone may (move.Step ∷ ms) s = (stepped s, stepped_alone may s, run_alone may ms (stepped s))
+
+pub runs_alone_law : RunsAlone
+runs_alone_law ms s t =
+    (alone_run anything ms s t, λ (e : t ≡ run ms s). subst (λ (x : State). IsRun [] anything ms s x) (sym e) (run_alone anything ms s))

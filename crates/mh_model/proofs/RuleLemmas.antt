@@ -142,7 +142,7 @@ safe_prepare_item s k r rest n behind_it =
 safe_run_item : (s : State) (k : IsSafe s) (r : ObjRef) (rest : List Item) (n : ℕ) → IsSafeWork s.service k.accepted.reached (config_of s) rest → IsSafe (rule (item.Run r) (record s { work = rest; taken = n }))
 safe_run_item s k r rest n behind_it =
     let text : Option (List ℕ) = loaded_at s.files (object_at r (all s.objects)) in
-    kept_loads s k _ _ _ _ n (changed-own (λ p b. started text b) r s.objects) (changed-others (λ p b. started text b) r s.objects)
+    kept_loads s k _ _ _ _ n (changed-own (started text) r s.objects) (changed-others (started text) r s.objects)
     (subst (IsSafeWork s.service k.accepted.reached (config_of s)) (sym (append_assoc (rise_items s.files is_unprepared_at r (object_at r (all s.objects))) (emit_if (is_stopped_at (object_at r (all s.objects))) r event.IsRunning) rest))
     (safe_rise s k s.files is_unprepared_at r _ refl (safe_emit s k r event.IsRunning rest is_stopped_at refl behind_it)))
 

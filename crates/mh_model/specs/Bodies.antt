@@ -1,5 +1,5 @@
 -- What is made of the body of one object.
-use Rattle.std.specs.Prelude.{Bool, true, false, ◌&&◌, if◌then◌else◌, List, [], ◌∷◌, ◌++◌, length, ℕ, nat_lt, ℤ, pos, negsuc, ◌+ℤ◌, ◌-ℤ◌, ◌*ℤ◌, int_div, int_rem, int_le, Option, Some, None, unwrap_or}
+use Rattle.std.specs.Prelude.{Bool, true, false, ◌&&◌, if◌then◌else◌, List, [], ◌∷◌, ◌++◌, length, ℕ, nat_le, nat_lt, ℤ, pos, negsuc, ◌+ℤ◌, ◌-ℤ◌, ◌*ℤ◌, int_div, int_rem, int_le, Option, Some, None, unwrap_or}
 use Rattle.std.specs.Ordering.{int_eq}
 use Rattle.mh_base.specs.declared.value.Value.{Value}
 use Rattle.mh_base.specs.declared.value.Value.TheVariants as value
@@ -7,7 +7,7 @@ use Rattle.mh_group.specs.declared.action_name.ActionName.{ActionName}
 use Rattle.mh_group.specs.declared.action_name.ActionName.TheVariants as action
 use Rattle.mh_group.specs.declared.attribute.Attribute.{Attribute}
 use Rattle.mh_group.specs.declared.attribute.Attribute.TheVariants as attribute
-use Rattle.mh_group.specs.Table.{has_content}
+use Rattle.mh_group.specs.Table.{has_content, is_token_group}
 use Rattle.mh_model.specs.declared.drawing.Drawing.{Drawing}
 use Rattle.mh_model.specs.declared.drawing.Figure.{Figure}
 use Rattle.mh_model.specs.declared.drawing.Figure.TheVariants as figure
@@ -38,19 +38,28 @@ text_of b = unwrap_or b.text []
 
 -- Running
 
+-- the entry point of a field goes to the end of its text
+abbrev pub end_of : Option (List ℕ) → ℕ
+end_of text = length (unwrap_or text [])
+
 -- one that is available stays as it is; another becomes available, with the text that was loaded
 abbrev pub prepared : Option (List ℕ) → Body → Body
-prepared text b = if b.available then b else record b { available = true; text = text }
+prepared text b = if b.available then b else record b { available = true; text = text; point = end_of text }
+
+-- the token of a token group begins at position 1 whenever it runs
+abbrev pub token_started : Fixed → Body → ℕ
+token_started p b = if is_token_group p.class then 1 else b.token
 
 -- one that runs stays as it is; another becomes available and runs
-abbrev pub started : Option (List ℕ) → Body → Body
-started text b = if b.running then b else record (prepared text b) { running = true }
+abbrev pub started : Option (List ℕ) → Fixed → Body → Body
+started text p b =
+    if b.running then b else record (prepared text b) { running = true; token = token_started p b }
 
 abbrev pub halted : Body → Body
 halted b = record b { running = false }
 
 abbrev pub dropped : Body → Body
-dropped b = record b { available = false; text = None }
+dropped b = record b { available = false; text = None; point = 0 }
 
 -- Values and attributes
 
@@ -90,11 +99,12 @@ abbrev pub replaced : Value → Option (List ℕ) → Body → Body
 replaced v text b = record b {
   changes = with_held attribute.OrigContent (of.Value v) b.changes;
   text = if b.available then text else b.text;
+  point = if b.available then end_of text else b.point;
 }
 
 -- what a file brings that an object waited for
 abbrev pub brought : List ℕ → Body → Body
-brought os b = record b { text = Some os }
+brought os b = record b { text = Some os; point = length os }
 
 -- Looks. A negative size or width changes nothing, nor does a colour that has not four octets.
 
@@ -144,6 +154,15 @@ drawn f x y u v p b =
 abbrev pub cleared : Body → Body
 cleared b = record b { drawings = [] }
 
+-- Entry fields and push buttons. A point behind the text, or before it, changes nothing.
+
+abbrev pub pointed : ℤ → Body → Body
+pointed (pos n) b = if nat_le n (length (text_of b)) then record b { point = n } else b
+pointed (negsuc n) b = b
+
+abbrev pub labelled : List ℕ → Body → Body
+labelled os b = if fits_octets os then put attribute.OrigLabel (of.Value (value.Octets os)) b else b
+
 -- what the action makes of the body of its target
 abbrev pub changed_by : ActionName → List Value → Fixed → Body → Body
 changed_by action.SetVariable (v ∷ []) p b = stored (converted p.class v) b
@@ -165,4 +184,7 @@ changed_by action.DrawRectangle (value.Int x ∷ value.Int y ∷ value.Int u ∷
     drawn figure.Rectangle x y u v p b
 changed_by action.SetInputRegister (value.Int n ∷ []) p b = put attribute.InputEventReg (of.Value (value.Int n)) b
 changed_by action.SetTextColour (value.Octets os ∷ []) p b = coloured attribute.TextColour os b
+changed_by action.SetEntryPoint (value.Int n ∷ []) p b = pointed n b
+changed_by action.SetOverwriteMode (value.Bool on ∷ []) p b = record b { overwrites = on }
+changed_by action.SetLabel (value.Octets os ∷ []) p b = labelled os b
 changed_by _ _ p b = b

@@ -1,7 +1,7 @@
 -- A second example, played by the definitions alone: a scene that computes. The red key sets a variable to 1 and
 -- tests it; the link that hears the test's truth multiplies by 3 before anything else is done; 1 is added, the
 -- next test fails, and the link that hears that adds 10. Then a rectangle moves to where the variable says.
-use Rattle.std.specs.Prelude.{◌≡◌, ℕ, Bool, true, false, List, [], ◌∷◌, Some, None, ℤ, pos}
+use Rattle.std.specs.Prelude.{◌≡◌, ℕ, Bool, true, false, List, [], ◌∷◌, Some, ℤ, pos}
 use Rattle.mh_base.specs.declared.obj_ref.ObjRef.{ObjRef}
 use Rattle.mh_base.specs.declared.value.Kind.TheVariants as kind
 use Rattle.mh_base.specs.declared.value.Value.{Value}
@@ -25,7 +25,7 @@ use Rattle.mh_model.specs.declared.key.Key.TheVariants as key
 use Rattle.mh_model.specs.Bodies.{changed_by}
 use Rattle.mh_model.specs.Example.{a, s, application, scene, rectangle, steps, back_of}
 use Rattle.mh_model.specs.Property.{value_held, as_number}
-use Rattle.mh_model.specs.Service.{Service, group_ref}
+use Rattle.mh_model.specs.Service.{Service, fresh, group_ref}
 use Rattle.mh_model.specs.State.{State, begun}
 use Rattle.mh_model.specs.Step.{run, is_idle}
 use Rattle.mh_model.specs.Variables.{converted}
@@ -127,7 +127,7 @@ no_reference = pressed (moving_through (variable 1 (pos 0)))
 -- what the action makes of a variable that holds the one number, given the other
 abbrev pub summed : ActionName → ℤ → ℤ → ℤ
 summed n x y =
-    as_number (value_held (variable 1 x) (changed_by n (value.Int y ∷ []) (variable 1 x) (record { value = Some (value.Int x); changes = []; text = None; drawings = []; available = false; running = false })))
+    as_number (value_held (variable 1 x) (changed_by n (value.Int y ∷ []) (variable 1 x) (record (fresh (variable 1 x)).body { value = Some (value.Int x) })))
 
 pub record Computes : Type 0 where
   pub computed_taken : computed.taken ≡ 27

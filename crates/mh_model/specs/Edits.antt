@@ -13,9 +13,16 @@ edited (edit.Load v text) p b = replaced v text b
 edited (edit.Draw d) p b = record b { drawings = b.drawings ++ d ∷ [] }
 edited edit.Clear p b = cleared b
 edited (edit.Prepare text) p b = prepared text b
-edited (edit.Start text) p b = started text b
+edited (edit.Start text) p b = started text p b
 edited edit.Halt p b = halted b
 edited edit.Drop p b = dropped b
+edited (edit.Turn n) p b = record b { token = n }
+edited (edit.List l) p b = record b { list = l }
+edited (edit.Point n) p b = record b { point = n }
+edited (edit.Type os n) p b = record b { text = Some os; point = n }
+edited (edit.Overwrite on) p b = record b { overwrites = on }
+edited (edit.Highlight on) p b = record b { highlighted = on }
+edited (edit.Select on) p b = record b { selected = on }
 
 -- where there is nothing to change, the body stays as it is
 abbrev pub edited_if : Option Edit → Fixed → Body → Body

@@ -16,13 +16,16 @@ use Rattle.mh_model.specs.declared.key.Key.TheVariants as key
 use Rattle.mh_model.specs.declared.object.Fixed.{Fixed}
 use Rattle.mh_model.specs.declared.program.Builtin.{Builtin}
 use Rattle.mh_model.specs.declared.program.Builtin.TheVariants as builtin
+use Rattle.mh_model.specs.declared.program.Outcome.TheVariants as outcome
 use Rattle.mh_model.specs.declared.program.Param.TheVariants as param
 use Rattle.mh_model.specs.declared.program.Plain.TheVariants as plain
+use Rattle.mh_model.specs.declared.program.Signature.{Signature}
 use Rattle.mh_model.specs.Arguments.{held_by}
 use Rattle.mh_model.specs.Computing.{here, to_number, through, act, variable, on_red, service_of}
 use Rattle.mh_model.specs.Example.{a, application, rectangle, steps, shows_red}
 use Rattle.mh_model.specs.Picture.{cell_at}
 use Rattle.mh_model.specs.Programs.{answer}
+use Rattle.mh_model.specs.Receiver.{call_next, told}
 use Rattle.mh_model.specs.Service.{Service, object_at}
 use Rattle.mh_model.specs.State.{State, all, begun}
 use Rattle.mh_model.specs.Step.{run, is_idle, obstacle, preset, preset_obstacle}
@@ -108,14 +111,24 @@ ready = run (steps 11) (begun (calling (codes "GDW") false) 60000)
 unfoldable pub called : State
 called = run (move.Post (input.Key key.Red) ∷ steps 4) ready
 
--- a program beside the built-in ones, with the same parameters, of which no more is known
-abbrev pub calling_other : Service
-calling_other = record (calling (codes "ABC") true) {
-  programs = record { name = codes "ABC"; params = param.In plain.Int ∷ param.Out plain.Int ∷ [] } ∷ [];
-}
+-- a program beside the built-in ones, with the same parameters
+abbrev pub others : List Signature
+others = record { name = codes "ABC"; params = param.In plain.Int ∷ param.Out plain.Int ∷ [] } ∷ []
 
+abbrev pub calling_other : Service
+calling_other = record (calling (codes "ABC") true) { programs = others }
+
+-- where nobody calls it
 unfoldable pub failed : State
 failed = run (move.Post (input.Key key.Red) ∷ steps 4) (run (steps 11) (begun calling_other 60000))
+
+-- the key is taken, and the next step calls the program
+unfoldable pub asked : State
+asked = run (move.Post (input.Key key.Red) ∷ steps 1) (run (steps 11) (begun calling_other 60000))
+
+-- it answers the double
+unfoldable pub doubled : State
+doubled = run (steps 3) (told (outcome.Answered (value.Int (pos 12) ∷ [])) asked)
 
 -- what the variable of the scene holds
 abbrev pub value_in : ℕ → State → Option Value
@@ -161,11 +174,16 @@ pub record Hands : Type 0 where
   pub called_moves : shows_red (62 ∷ 63 ∷ 122 ∷ 123 ∷ []) called ≡ true
   pub called_well : value_in 6 called ≡ Some (value.Bool true)
   pub called_faultless : called.faults ≡ []
-  -- a program of which no more is known fails, and answers nothing
+  -- a program that nobody calls fails, and answers nothing
   pub failed_taken : failed.taken ≡ 15
   pub failed_moves : shows_red (60 ∷ 61 ∷ 120 ∷ 121 ∷ []) failed ≡ true
   pub failed_well : value_in 6 failed ≡ Some (value.Bool false)
   pub failed_faultless : failed.faults ≡ []
+  -- one that is called is told the number, and what it answers is used
+  pub asked_next : call_next others asked ≡ Some (record { name = codes "ABC"; time = record { mjd = 60000; moment = 0 }; values = number 6 ∷ [] })
+  pub doubled_taken : doubled.taken ≡ 15
+  pub doubled_moves : shows_red (72 ∷ 73 ∷ 132 ∷ 133 ∷ []) doubled ≡ true
+  pub doubled_well : value_in 6 doubled ≡ Some (value.Bool true)
   -- the built-in programs
   pub substring : answered builtin.Substring (octets (codes "abcdef") ∷ number 1 ∷ number 2 ∷ []) ≡ octets (codes "ab") ∷ []
   pub substring_before : answered builtin.Substring (octets (codes "abcdef") ∷ number 0 ∷ number 2 ∷ []) ≡ octets (codes "ab") ∷ []

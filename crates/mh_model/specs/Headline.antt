@@ -9,6 +9,7 @@ use Rattle.mh_model.specs.Service.{Service}
 use Rattle.mh_model.specs.State.{State, begun}
 use Rattle.mh_model.specs.Stuck.{stuck}
 use Rattle.mh_model.specs.Receiver.{IsRun, anything}
+use Rattle.mh_model.specs.Step.{run}
 use Rattle.mh_model.specs.Acceptable.{IsAcceptable}
 
 abbrev pub fault_at : Option Item → State → Option Fault
@@ -34,3 +35,8 @@ abbrev pub NeverStuck : Type 0
 NeverStuck =
     (v : Service) → IsAcceptable v → (mjd : ℕ) (fs : List File) (ss : List Signature) (ms : List Move) (s : State) →
     IsRun ss anything ms (begun_with v mjd fs) s → IsFaultless s
+
+-- without programs of the receiver's own a run leads where the definition of runs says, and nowhere else
+abbrev pub RunsAlone : Type 0
+RunsAlone =
+    (ms : List Move) (s t : State) → (IsRun [] anything ms s t → t ≡ run ms s) × (t ≡ run ms s → IsRun [] anything ms s t)

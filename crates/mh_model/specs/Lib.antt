@@ -1,5 +1,6 @@
 pub mod First
 pub mod Key
+pub mod Listed
 pub mod Property
 pub mod Service
 pub mod Planes
@@ -23,6 +24,9 @@ pub mod Programs
 pub mod Bodies
 pub mod Edits
 pub mod Lifecycle
+pub mod Tokens
+pub mod Lists
+pub mod Fields
 pub mod Saying
 pub mod Describing
 pub mod Picture
@@ -39,3 +43,4 @@ pub mod Computing
 pub mod Showing
 pub mod Passing
 pub mod Handing
+pub mod Widgets

@@ -1,5 +1,5 @@
 -- What a visible looks like: what it paints into each cell.
-use Rattle.std.specs.Prelude.{ℕ, ◌+◌, ◌*◌, ◌==◌, Bool, false, if◌then◌else◌, List, [], Option, Some, None, ℤ, pos, int_lt}
+use Rattle.std.specs.Prelude.{ℕ, ◌+◌, ◌*◌, ◌==◌, Bool, true, false, if◌then◌else◌, List, [], Option, Some, None, ℤ, pos, int_lt}
 use Rattle.mh_base.specs.declared.area.Area.{Area}
 use Rattle.mh_base.specs.declared.colour.Colour.{Colour}
 use Rattle.mh_group.specs.declared.attribute.Attribute.{Attribute}
@@ -8,11 +8,13 @@ use Rattle.mh_group.specs.declared.class.Class.{Class}
 use Rattle.mh_group.specs.declared.class.Class.TheVariants as class
 use Rattle.mh_model.specs.declared.drawing.Drawing.{Drawing}
 use Rattle.mh_model.specs.declared.line.Line.{Line}
+use Rattle.mh_model.specs.declared.object.Body.{Body}
+use Rattle.mh_model.specs.declared.object.Fixed.{Fixed}
 use Rattle.mh_model.specs.declared.object.Object.{Object}
 use Rattle.mh_model.specs.Boxes.{covers, column_of, row_of, x_of, y_of, box_back}
 use Rattle.mh_model.specs.Drawn.{drawn_over}
 use Rattle.mh_model.specs.Layout.{laid, character_at}
-use Rattle.mh_model.specs.Property.{held, read, as_bool, as_pair, as_int, as_colour, as_justification}
+use Rattle.mh_model.specs.Property.{held, read, read_of, as_bool, as_pair, as_int, as_colour, as_justification, as_octets, as_value}
 
 -- what a visible puts into a cell: a colour behind it, and a character with the character's colour
 pub record Paint : Type 0 where
@@ -83,15 +85,26 @@ fill_of o = colour_of attribute.OrigRefFillColour transparent_black o
 abbrev pub ground_of : Object → Option ℕ
 ground_of o = paint_of (as_colour transparent_black (held attribute.OrigRefFillColour o.fixed.properties))
 
--- a text has the lines of what was loaded
+-- the lines of a text in the box of the object
 abbrev pub lines_of_text : Option (List ℕ) → Object → List Line
 lines_of_text None o = []
 lines_of_text (Some text) o =
     laid text (area_of o) (as_bool false (read attribute.TextWrapping o))
     (as_justification (read attribute.HJustification o))
 
+abbrev pub label_of : Fixed → Body → List ℕ
+label_of p b = as_octets (as_value (read_of attribute.OrigLabel p b))
+
+abbrev pub is_push_button : Class → Bool
+is_push_button class.PushButton = true
+is_push_button _ = false
+
+-- a push button shows its label
+abbrev pub shown_text : Object → Option (List ℕ)
+shown_text o = if is_push_button o.fixed.class then Some (label_of o.fixed o.body) else o.body.text
+
 abbrev pub lines_of : Object → List Line
-lines_of o = lines_of_text o.body.text o
+lines_of o = lines_of_text (shown_text o) o
 
 abbrev pub paint_by : Class → Object → ℕ → Paint
 paint_by class.Rectangle o c = rectangle_paint (area_of o) (has_line o) (line_of o) (fill_of o) c

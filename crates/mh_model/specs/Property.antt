@@ -14,10 +14,12 @@ use Rattle.mh_group.specs.declared.attribute.Attribute.TheVariants as attribute
 use Rattle.mh_group.specs.declared.justification.Justification.{Justification}
 use Rattle.mh_group.specs.declared.justification.Justification.TheVariants as justification
 use Rattle.mh_group.specs.Table.{attribute_number}
+use Rattle.mh_group.specs.declared.written.Position.{Position}
 use Rattle.mh_model.specs.declared.act.Act.{Act}
 use Rattle.mh_model.specs.declared.held.Held.{Held}
 use Rattle.mh_model.specs.declared.held.Held.TheVariants as of
 use Rattle.mh_model.specs.declared.held.Property.{Property}
+use Rattle.mh_model.specs.declared.member.Member.{Member}
 use Rattle.mh_model.specs.declared.object.Body.{Body}
 use Rattle.mh_model.specs.declared.object.Fixed.{Fixed}
 use Rattle.mh_model.specs.declared.object.Object.{Object}
@@ -86,6 +88,18 @@ justified n =
 abbrev pub as_justification : Option Held → Justification
 as_justification (Some (of.Value (value.Int n))) = justified n
 as_justification _ = justification.Start
+
+abbrev pub as_members : Option Held → List Member
+as_members (Some (of.Members ms)) = ms
+as_members _ = []
+
+abbrev pub as_rows : Option Held → List (List ℤ)
+as_rows (Some (of.Rows rows)) = rows
+as_rows _ = []
+
+abbrev pub as_positions : Option Held → List Position
+as_positions (Some (of.Positions ps)) = ps
+as_positions _ = []
 
 abbrev pub as_effect : Option Held → List Act
 as_effect (Some (of.Effect e)) = e

@@ -262,7 +262,7 @@ exchange_rule g s =
 
 abbrev pub run_rule : ObjRef → State → State
 run_rule r s = record s {
-  objects = changed (λ p b. started (loaded_at s.files (object_at r (all s.objects))) b) r s.objects;
+  objects = changed (λ p b. started (loaded_at s.files (object_at r (all s.objects))) p b) r s.objects;
   waits =
       waits_if s.files (is_unprepared_at (object_at r (all s.objects))) r (object_at r (all s.objects)) s.waits;
   stack = with_risen (is_unprepared_at (object_at r (all s.objects))) r (object_at r (all s.objects)) s.stack;

@@ -1,5 +1,5 @@
 -- What an action says: the answers for its receivers, and the items that it puts.
-use Rattle.std.specs.Prelude.{◌&&◌, if◌then◌else◌, List, [], ◌∷◌, slice_get, Option, Some, None, ℤ, pos, negsuc}
+use Rattle.std.specs.Prelude.{ℕ, ◌&&◌, if◌then◌else◌, List, [], ◌∷◌, slice_get, Option, Some, None, ℤ, pos, negsuc}
 use Rattle.std.specs.Option.{is_some}
 use Rattle.mh_base.specs.declared.obj_ref.ObjRef.{ObjRef}
 use Rattle.mh_base.specs.declared.value.Value.{Value}
@@ -19,6 +19,8 @@ use Rattle.mh_model.specs.declared.file.File.{File}
 use Rattle.mh_model.specs.Files.{comes_to, is_loadable}
 use Rattle.mh_model.specs.Items.{plain_event}
 use Rattle.mh_model.specs.Lifecycle.{emit_if, is_available_at}
+use Rattle.mh_model.specs.Looks.{label_of}
+use Rattle.mh_model.specs.Programs.{counted}
 use Rattle.mh_model.specs.Property.{read, as_pair, value_held}
 use Rattle.mh_model.specs.Variables.{fits_octets, operator_of, test}
 
@@ -27,13 +29,21 @@ use Rattle.mh_model.specs.Variables.{fits_octets, operator_of, test}
 abbrev pub both : ℤ × ℤ → List Value
 both (x, y) = value.Int x ∷ value.Int y ∷ []
 
+-- what is too long is not answered
+abbrev pub octets_answered : List ℕ → List Value
+octets_answered os = if fits_octets os then value.Octets os ∷ [] else []
+
 -- what the object answers to the action
 abbrev pub answers : ActionName → List Value → Object → List Value
 answers action.GetAvailabilityStatus vs o = value.Bool o.body.available ∷ []
 answers action.GetRunningStatus vs o = value.Bool o.body.running ∷ []
 answers action.GetPosition vs o = both (as_pair (read attribute.OrigPosition o))
 answers action.GetBoxSize vs o = both (as_pair (read attribute.OrigBoxSize o))
-answers action.GetTextData vs o = if fits_octets (text_of o.body) then value.Octets (text_of o.body) ∷ [] else []
+answers action.GetTextData vs o = octets_answered (text_of o.body)
+answers action.GetHighlightStatus vs o = value.Bool o.body.highlighted ∷ []
+answers action.GetEntryPoint vs o = value.Int (counted o.body.point) ∷ []
+answers action.GetLabel vs o = octets_answered (label_of o.fixed o.body)
+answers action.GetTokenPosition vs o = value.Int (counted o.body.token) ∷ []
 answers _ vs o = []
 
 abbrev pub answers_at : ActionName → List Value → Option Object → List Value

@@ -1,11 +1,11 @@
 //! What is changed of the body of an object.
-ghost use Rattle.std.specs.Prelude.{◌≡◌, OnOk, OnErr};
-ghost use Rattle.mh_model.specs.Bodies.{brought, cleared, dropped, given, prepared, replaced, started};
+ghost use Rattle.std.specs.Prelude.{◌≡◌, Some, OnOk, OnErr};
+ghost use Rattle.mh_model.specs.Bodies.{brought, cleared, dropped, end_of as end_of_lem, given, prepared, replaced, started, token_started};
 ghost use Rattle.mh_model.specs.Edits.{edited};
 
-use crate::{Body, Drawing, Fixed, Held};
+use crate::{Body, Drawing, Fixed, Held, Listing};
 use mh_base::{Octets, Value};
-use mh_group::Attribute;
+use mh_group::{Attribute, Class};
 use std::alloc::AllocError;
 
 /// A change of the body of one object. What it wants memory for is in it, but for the room of an
@@ -30,6 +30,19 @@ pub enum Edit {
     Halt,
     /// The object is no longer available.
     Drop,
+    /// The token of a group of objects goes to this position.
+    Turn(usize),
+    /// The items of a list group become these.
+    List(Listing),
+    /// So many octets of an entry field's text stand before its entry point.
+    Point(usize),
+    /// The text of an entry field becomes this, with so many octets before its entry point.
+    Type(Octets, usize),
+    /// What is typed replaces what stands there, or no longer does.
+    Overwrite(bool),
+    Highlight(bool),
+    /// A push button is selected, or no longer is.
+    Select(bool),
 }
 
 impl Body {
@@ -46,9 +59,16 @@ impl Body {
             Edit::Draw(drawing) => self.drawings.push(drawing)?,
             Edit::Clear => self.clear(),
             Edit::Prepare(text) => self.prepare(text),
-            Edit::Start(text) => self.start(text),
+            Edit::Start(text) => self.start(fixed, text),
             Edit::Halt => self.running = false,
             Edit::Drop => self.forget(),
+            Edit::Turn(position) => self.token = position,
+            Edit::List(list) => self.relist(list),
+            Edit::Point(point) => self.point = point,
+            Edit::Type(text, point) => self.type_in(text, point),
+            Edit::Overwrite(on) => self.overwrites = on,
+            Edit::Highlight(on) => self.highlighted = on,
+            Edit::Select(on) => self.selected = on,
         }
         Ok(())
     }
@@ -67,6 +87,7 @@ impl Body {
         self.changes
             .set(Attribute::OrigContent, Held::Value(content))?;
         if self.available {
+            self.point = end_of(&text);
             self.text = text;
         }
         Ok(())
@@ -82,24 +103,48 @@ impl Body {
         ensures { self.new ≡ prepared text self.old }
     {
         if !self.available {
+            self.point = end_of(&text);
             self.text = text;
             self.available = true;
         }
     }
 
-    fn start(&mut self, text: Option<Octets>)
-        ensures { self.new ≡ started text self.old }
+    fn start(&mut self, fixed: &Fixed, text: Option<Octets>)
+        ensures { self.new ≡ started text fixed.now self.old }
     {
         if !self.running {
             self.prepare(text);
             self.running = true;
+            self.begin_token(fixed);
         }
+    }
+
+    fn begin_token(&mut self, fixed: &Fixed)
+        ensures { self.new ≡ record self.old { token = token_started fixed.now self.old } }
+    {
+        if matches!(fixed.class, Class::TokenGroup) {
+            self.token = 1;
+        }
+    }
+
+    fn relist(&mut self, list: Listing)
+        ensures { self.new ≡ record self.old { list = list } }
+    {
+        self.list = list;
+    }
+
+    fn type_in(&mut self, text: Octets, point: usize)
+        ensures { self.new ≡ record self.old { text = Some text; point = point } }
+    {
+        self.text = Some(text);
+        self.point = point;
     }
 
     /// Gives it the content of a file as its text. It takes no memory.
     pub fn bring(&mut self, text: Octets)
         ensures { self.new ≡ brought text self.old }
     {
+        self.point = text.as_slice().len();
         self.text = Some(text);
     }
 
@@ -108,5 +153,16 @@ impl Body {
     {
         self.available = false;
         self.text = None;
+        self.point = 0;
+    }
+}
+
+/// How many octets the text has, if there is one.
+fn end_of(text: &Option<Octets>) -> usize
+    ensures { result ≡ end_of_lem text.now }
+{
+    match text {
+        Some(text) => text.as_slice().len(),
+        None => 0,
     }
 }

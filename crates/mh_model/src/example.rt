@@ -4,6 +4,7 @@ ghost use Rattle.mh_model.specs.Example.{PlaysFirst, PlaysOthers};
 ghost use Rattle.mh_model.specs.Handing.{Hands};
 ghost use Rattle.mh_model.specs.Passing.{Passes};
 ghost use Rattle.mh_model.specs.Showing.{Shows};
+ghost use Rattle.mh_model.specs.Widgets.{WorksWidgets};
 
 /// The law that the definitions play the first example as its report says: 11 steps, then 2, with the
 /// rectangle where it should be.
@@ -36,8 +37,16 @@ pub fn passes()
 {}
 
 /// The law that the definitions play as their reports say: a text that waits for its content file, and
-/// one whose file was there beforehand; a program that is called, and one that fails. And that they refuse
-/// files as they should, and that the built-in programs answer as they should.
+/// one whose file was there beforehand; a program that is called, one that fails, and one of the
+/// receiver's own that doubles. And that they refuse files as they should, and that the built-in
+/// programs answer as they should.
 pub fn hands()
     ensures { Hands }
+{}
+
+/// The law that the definitions work widgets as they should: a list that is scrolled, shortened and
+/// lengthened, its selection, a token that moves by a table, a field into which digits are typed, and a
+/// button.
+pub fn works_widgets()
+    ensures { WorksWidgets }
 {}

@@ -2,11 +2,11 @@
 ghost use Rattle.std.specs.Prelude.{◌≡◌, OnOk, OnErr, IfOk, ◌++◌, ◌∷◌, [], ◌<◌, vec_len, slice_set};
 ghost use Rattle.std.specs.Option.{option_copied};
 ghost use Rattle.std.specs.List.{position};
-ghost use Rattle.mh_model.specs.Property.{held, with_held, is_of, as_bool as as_bool_lem, as_int as as_int_lem, as_pair as as_pair_lem, as_colour as as_colour_lem, as_effect as as_effect_lem, as_event as as_event_lem, as_justification as as_justification_lem, justified as justified_lem, as_value as as_value_lem};
+ghost use Rattle.mh_model.specs.Property.{held, with_held, is_of, as_bool as as_bool_lem, as_int as as_int_lem, as_pair as as_pair_lem, as_colour as as_colour_lem, as_effect as as_effect_lem, as_event as as_event_lem, as_justification as as_justification_lem, justified as justified_lem, as_value as as_value_lem, as_members as as_members_lem, as_rows as as_rows_lem, as_positions as as_positions_lem};
 
-use crate::{Act, Effect};
-use mh_base::{Colour, EventType, Value};
-use mh_group::{Attribute, Justification};
+use crate::{Act, Effect, Member};
+use mh_base::{Colour, EventType, Shared, Value};
+use mh_group::{Attribute, Justification, Position};
 use std::alloc::{AllocError, Global};
 use std::marker::Model;
 
@@ -18,6 +18,12 @@ pub enum Held {
     Colour(Colour),
     Event(EventType),
     Effect(Effect),
+    /// The members of a group of objects.
+    Members(Shared<Member>),
+    /// The rows of a movement table.
+    Rows(Shared<Shared<i32>>),
+    /// Where the cells of a list group lie.
+    Positions(Shared<Position>),
     /// A value that is kept and that nothing looks at.
     Kept,
 }
@@ -111,6 +117,36 @@ pub fn as_effect(held: Option<&Held>) -> &[Act]
 {
     match held {
         Some(Held::Effect(effect)) => effect.as_slice(),
+        _ => &[],
+    }
+}
+
+/// The members that are held, or none.
+pub fn as_members(held: Option<&Held>) -> &[Member]
+    ensures { result.now ≡ as_members_lem (option_copied held.entry) }
+{
+    match held {
+        Some(Held::Members(members)) => members.as_slice(),
+        _ => &[],
+    }
+}
+
+/// The rows of the movement table that is held, or none.
+pub fn as_rows(held: Option<&Held>) -> &[Shared<i32>]
+    ensures { result.now ≡ as_rows_lem (option_copied held.entry) }
+{
+    match held {
+        Some(Held::Rows(rows)) => rows.as_slice(),
+        _ => &[],
+    }
+}
+
+/// The positions that are held, or none.
+pub fn as_positions(held: Option<&Held>) -> &[Position]
+    ensures { result.now ≡ as_positions_lem (option_copied held.entry) }
+{
+    match held {
+        Some(Held::Positions(positions)) => positions.as_slice(),
         _ => &[],
     }
 }

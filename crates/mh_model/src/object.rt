@@ -2,11 +2,11 @@
 ghost use Rattle.std.specs.Prelude.{◌≡◌, ◌==◌, ◌&&◌, IfOk, [], Some, None};
 ghost use Rattle.std.specs.Option.{option_copied};
 ghost use Rattle.mh_model.specs.Property.{read as read_lem, value_held};
-ghost use Rattle.mh_model.specs.Service.{fresh as fresh_lem};
+ghost use Rattle.mh_model.specs.Service.{fresh as fresh_lem, listed_at_first};
 ghost use Rattle.mh_model.specs.Bodies.{text_of};
 
-use crate::held::as_value;
-use crate::{Drawings, Held, Properties};
+use crate::held::{as_members, as_value};
+use crate::{Drawings, Held, Listing, Properties};
 use mh_base::{ObjRef, Octets, Value};
 use mh_group::{Attribute, Class};
 use std::alloc::{AllocError, Global};
@@ -74,6 +74,17 @@ pub struct Body {
     pub drawings: Drawings,
     pub available: bool,
     pub running: bool,
+    /// The position that has the token of a group of objects, from 1 on, or 0.
+    pub token: usize,
+    /// The items of a list group.
+    pub list: Listing,
+    /// How many octets of an entry field's text stand before its entry point.
+    pub point: usize,
+    /// Whether what is typed into an entry field replaces what stands there.
+    pub overwrites: bool,
+    pub highlighted: bool,
+    /// Whether a push button is selected.
+    pub selected: bool,
 }
 
 impl Body {
@@ -85,6 +96,7 @@ impl Body {
         let text = self.text.clone()?;
         let changes = self.changes.copy(alloc)?;
         let drawings = self.drawings.copy(alloc)?;
+        let list = self.list.copy()?;
         Ok(Body {
             value,
             changes,
@@ -92,6 +104,12 @@ impl Body {
             drawings,
             available: self.available,
             running: self.running,
+            token: self.token,
+            list,
+            point: self.point,
+            overwrites: self.overwrites,
+            highlighted: self.highlighted,
+            selected: self.selected,
         })
     }
 }
@@ -108,6 +126,7 @@ impl Object {
     pub fn fresh(alloc: Global, part: &FixedPart) -> Result<Object, AllocError>
         ensures { IfOk result (λ object. object ≡ fresh_lem part.now) }
     {
+        let list = list_at_first(alloc, part.get())?;
         Ok(Object {
             fixed: part.clone()?,
             body: Body {
@@ -117,6 +136,12 @@ impl Object {
                 drawings: Drawings::new(alloc),
                 available: false,
                 running: false,
+                token: 1,
+                list,
+                point: 0,
+                overwrites: false,
+                highlighted: false,
+                selected: false,
             },
         })
     }
@@ -150,4 +175,15 @@ impl Object {
             None => self.fixed.get().properties.get(attribute),
         }
     }
+}
+
+/// The items of a list group when it is entered; of any other object none.
+fn list_at_first(alloc: Global, fixed: &Fixed) -> Result<Listing, AllocError>
+    ensures { IfOk result (λ list. list ≡ listed_at_first fixed.now) }
+{
+    if !matches!(fixed.class, Class::ListGroup) {
+        return Ok(Listing::new());
+    }
+    let members = as_members(fixed.properties.get(Attribute::TokenGroupItems));
+    Listing::of_members(alloc, members)
 }

@@ -1,5 +1,5 @@
 -- What may come of a call of a program that a receiver adds.
-use Rattle.std.specs.Prelude.{◌≡◌, ℕ, List, Option, Some, None}
+use Rattle.std.specs.Prelude.{◌≡◌, List, Option, Some, None}
 use Rattle.std.specs.List.{find}
 use Rattle.std.specs.Str.{bytes_eq}
 use Rattle.mh_base.specs.declared.value.Value.{Value}

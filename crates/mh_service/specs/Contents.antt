@@ -10,6 +10,7 @@ use Rattle.mh_model.specs.declared.act.Argument.{Argument}
 use Rattle.mh_model.specs.declared.act.Argument.TheVariants as argument
 use Rattle.mh_model.specs.declared.held.Held.{Held}
 use Rattle.mh_model.specs.declared.held.Held.TheVariants as of
+use Rattle.mh_model.specs.declared.member.Member.{Member}
 use Rattle.mh_model.specs.declared.object.Fixed.{Fixed}
 use Rattle.mh_model.specs.Property.{held}
 use Rattle.mh_model.specs.Service.{Service}
@@ -26,10 +27,18 @@ argument_files _ = []
 abbrev pub act_files : Act → List (List ℕ)
 act_files a = flat_map argument_files a.arguments
 
--- a value that is held, or those of the actions of an effect
+abbrev pub acts_files : List Act → List (List ℕ)
+acts_files acts = flat_map act_files acts
+
+-- what the slots of a member do
+abbrev pub member_files : Member → List (List ℕ)
+member_files m = flat_map acts_files m.slots
+
+-- a value that is held, or those of the actions of an effect or of slots
 abbrev pub held_files : Option Held → List (List ℕ)
 held_files (Some (of.Value v)) = value_files v
-held_files (Some (of.Effect acts)) = flat_map act_files acts
+held_files (Some (of.Effect acts)) = acts_files acts
+held_files (Some (of.Members ms)) = flat_map member_files ms
 held_files _ = []
 
 -- under all attributes

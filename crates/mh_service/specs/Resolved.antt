@@ -41,6 +41,7 @@ use Rattle.mh_model.specs.declared.act.Target.TheVariants as target
 use Rattle.mh_model.specs.declared.held.Held.{Held}
 use Rattle.mh_model.specs.declared.held.Held.TheVariants as held
 use Rattle.mh_model.specs.declared.held.Property.{Property}
+use Rattle.mh_model.specs.declared.member.Member.{Member as HeldMember}
 use Rattle.mh_model.specs.declared.object.Fixed.{Fixed}
 
 -- References. A number alone is an object of the group in which it is written.
@@ -151,6 +152,10 @@ act_leads from a = target_leads from a.target && list_all (parameter_leads from)
 
 -- What an object holds under its attributes.
 
+-- a member of a group of objects, with what its slots do
+abbrev pub member_of : List ℕ → Member → HeldMember
+member_of from m = record { object = ref_of from m.object; slots = map (map (act_of from)) m.slots }
+
 -- a justification is held as its number; what no rule looks at is kept
 abbrev pub held_of : List ℕ → Setting → Held
 held_of from (setting.Bool b) = held.Value (value.Bool b)
@@ -165,9 +170,9 @@ held_of from (setting.Event e) = held.Event e
 held_of from (setting.Data d) = held.Value (data_of d)
 held_of from (setting.Justification j) = held.Value (value.Int (pos (justification_number j)))
 held_of from (setting.Effect acts) = held.Effect (map (act_of from) acts)
-held_of from (setting.MovementTable rows) = held.Kept
-held_of from (setting.Members members) = held.Kept
-held_of from (setting.Positions positions) = held.Kept
+held_of from (setting.MovementTable rows) = held.Rows rows
+held_of from (setting.Members members) = held.Members (map (member_of from) members)
+held_of from (setting.Positions positions) = held.Positions positions
 held_of from (setting.NextScenes scenes) = held.Kept
 
 abbrev pub slots_lead : List ℕ → List (List Action) → Bool

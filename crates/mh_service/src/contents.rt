@@ -8,13 +8,13 @@ ghost use Rattle.std.specs.Option.{option_copied};
 ghost use Rattle.std.specs.Str.{bytes_eq};
 ghost use Rattle.mh_model.specs.Property.{held};
 ghost use Rattle.mh_service.specs.Contents.{AreFilesOf, files, parts_files, part_files};
-ghost use Rattle.mh_service.specs.Contents.{held_files, act_files, argument_files, value_files};
+ghost use Rattle.mh_service.specs.Contents.{held_files, act_files, acts_files, member_files, argument_files, value_files};
 
 use crate::Service;
 use indexmap::IndexSet;
 use mh_base::{GroupName, Value};
 use mh_group::Attribute;
-use mh_model::{Act, Argument, Fixed, FixedPart, Held};
+use mh_model::{Act, Argument, Effect, Fixed, FixedPart, Held, Member};
 use std::alloc::{AllocError, Global};
 use std::marker::Model;
 
@@ -154,12 +154,31 @@ fn push_held(named: &mut Vec<GroupName>, held: Option<&Held>) -> Result<(), Allo
     match held {
         Some(Held::Value(value)) => push_value(named, value),
         Some(Held::Effect(effect)) => push_acts(named, effect.as_slice()),
+        Some(Held::Members(members)) => push_members(named, members.as_slice()),
         _ => Ok(()),
     }
 }
 
+fn push_members(named: &mut Vec<GroupName>, members: &[Member]) -> Result<(), AllocError>
+    ensures { OnOk result (named.new.items ≡ named.old.items ++ flat_map member_files members.now) }
+{
+    for member in members {
+        push_slots(named, member.slots.as_slice())?;
+    }
+    Ok(())
+}
+
+fn push_slots(named: &mut Vec<GroupName>, slots: &[Effect]) -> Result<(), AllocError>
+    ensures { OnOk result (named.new.items ≡ named.old.items ++ flat_map acts_files slots.now) }
+{
+    for slot in slots {
+        push_acts(named, slot.as_slice())?;
+    }
+    Ok(())
+}
+
 fn push_acts(named: &mut Vec<GroupName>, acts: &[Act]) -> Result<(), AllocError>
-    ensures { OnOk result (named.new.items ≡ named.old.items ++ flat_map act_files acts.now) }
+    ensures { OnOk result (named.new.items ≡ named.old.items ++ acts_files acts.now) }
 {
     for act in acts {
         push_arguments(named, act.arguments.as_slice())?;

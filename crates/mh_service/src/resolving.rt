@@ -2,17 +2,19 @@
 //!
 //! Promise: the parts are those of the definitions, and `BadName` is answered exactly where a
 //! written name leads to no path. Which groups make a service is left to `service`.
-ghost use Rattle.std.specs.Prelude.{◌≡◌, true, false, map, IfErr, OnOk};
+ghost use Rattle.std.specs.Prelude.{◌≡◌, map, IfOk};
 ghost use Rattle.std.specs.List.{list_all};
 ghost use Rattle.mh_service.specs.Gives.{Gives};
-ghost use Rattle.mh_service.specs.Resolved.{member_leads, slots_lead, held_of, setting_leads, property_of, field_leads, new_part, part_of, ingredient_leads, parts_of, group_leads};
+ghost use Rattle.mh_service.specs.Resolved.{act_of, member_of, member_leads, slots_lead, held_of, setting_leads, property_of, field_leads, new_part, part_of, ingredient_leads, parts_of, group_leads};
 
 use crate::acts::effect;
 use crate::values::{content_of_file, content_value, data_of, object_value, reference};
-use mh_base::{GroupName, NameError, ObjRef, Seq, Value};
-use mh_group::{Class, Field, Ingredient, Member, Setting, Written, group};
-use mh_model::{Fixed, FixedPart, Held, Properties, Property};
-use std::alloc::Global;
+use mh_base::{GroupName, NameError, ObjRef, Seq, Shared, Value};
+use mh_group::{
+    Class, Field, Ingredient, Member as WrittenMember, Position, Setting, Written, group,
+};
+use mh_model::{Effect, Fixed, FixedPart, Held, Member, Properties, Property};
+use std::alloc::{AllocError, Global};
 
 /// The parts of the group of this name: the group itself, and its ingredients in Items order.
 pub fn parts(
@@ -110,41 +112,72 @@ fn held(alloc: Global, from: &GroupName, setting: &Setting) -> Result<Held, Name
         Setting::Data(data) => Held::Value(data_of(data)),
         Setting::Justification(place) => Held::Value(Value::Int(place.number() as i32)),
         Setting::Effect(actions) => Held::Effect(effect(alloc, from, actions.as_slice())?),
-        Setting::Members(members) => kept_members(alloc, from, members.as_slice())?,
-        Setting::MovementTable(_) | Setting::Positions(_) | Setting::NextScenes(_) => Held::Kept,
+        Setting::Members(members) => Held::Members(held_members(alloc, from, members.as_slice())?),
+        Setting::MovementTable(rows) => Held::Rows(movement_table(alloc, rows.as_slice())?),
+        Setting::Positions(places) => Held::Positions(positions(alloc, places.as_slice())?),
+        Setting::NextScenes(_) => Held::Kept,
     })
 }
 
-/// The members of a token group. They are not played yet: their names are looked at alone.
-fn kept_members(alloc: Global, from: &GroupName, members: &[Member]) -> Result<Held, NameError>
-    ensures { Gives (λ x. x) result Held.Kept (list_all (member_leads from.now) members.now) }
-{
-    for member in members {
-        look_at_member(alloc, from, member)?;
-    }
-    Ok(Held::Kept)
-}
-
-fn look_at_member(alloc: Global, from: &GroupName, member: &Member) -> Result<(), NameError>
-    ensures good { OnOk result (member_leads from.now member.now ≡ true) }
-    ensures bad { IfErr result
-        (λ e. e ≡ NameError.BadName → member_leads from.now member.now ≡ false) }
-{
-    reference(alloc, from, &member.object)?;
-    look_at_slots(alloc, from, member.slots.as_slice())
-}
-
-fn look_at_slots(
+/// The members of a group of objects.
+fn held_members(
     alloc: Global,
     from: &GroupName,
-    slots: &[mh_group::Effect],
-) -> Result<(), NameError>
-    ensures good { OnOk result (slots_lead from.now slots.now ≡ true) }
-    ensures bad { IfErr result
-        (λ e. e ≡ NameError.BadName → slots_lead from.now slots.now ≡ false) }
+    written: &[WrittenMember],
+) -> Result<Shared<Member>, NameError>
+    ensures { Gives (λ x. x) result (map (member_of from.now) written.now)
+        (list_all (member_leads from.now) written.now) }
 {
-    for slot in slots {
-        effect(alloc, from, slot.as_slice())?;
+    let mut members = Seq::new(alloc);
+    for one in written {
+        members.push(member(alloc, from, one)?)?;
     }
-    Ok(())
+    Ok(Shared::from_vec(alloc, members.into_vec())?)
+}
+
+fn member(alloc: Global, from: &GroupName, written: &WrittenMember) -> Result<Member, NameError>
+    ensures { Gives (λ x. x) result (member_of from.now written.now)
+        (member_leads from.now written.now) }
+{
+    let object = reference(alloc, from, &written.object)?;
+    let slots = slots(alloc, from, written.slots.as_slice())?;
+    Ok(Member { object, slots })
+}
+
+fn slots(
+    alloc: Global,
+    from: &GroupName,
+    written: &[mh_group::Effect],
+) -> Result<Shared<Effect>, NameError>
+    ensures { Gives (λ x. x) result (map (map (act_of from.now)) written.now)
+        (slots_lead from.now written.now) }
+{
+    let mut slots = Seq::new(alloc);
+    for slot in written {
+        slots.push(effect(alloc, from, slot.as_slice())?)?;
+    }
+    Ok(Shared::from_vec(alloc, slots.into_vec())?)
+}
+
+/// The rows of a movement table.
+fn movement_table(alloc: Global, written: &[Seq<i32>]) -> Result<Shared<Shared<i32>>, AllocError>
+    ensures { IfOk result (λ rows. rows ≡ written.now) }
+{
+    let mut rows = Seq::new(alloc);
+    for row in written {
+        rows.push(movement_row(alloc, row.as_slice())?)?;
+    }
+    Shared::from_vec(alloc, rows.into_vec())
+}
+
+fn movement_row(alloc: Global, written: &[i32]) -> Result<Shared<i32>, AllocError>
+    ensures { IfOk result (λ row. row ≡ written.now) }
+{
+    Shared::from_vec(alloc, Vec::from_slice(alloc, written)?)
+}
+
+fn positions(alloc: Global, written: &[Position]) -> Result<Shared<Position>, AllocError>
+    ensures { IfOk result (λ positions. positions ≡ written.now) }
+{
+    Shared::from_vec(alloc, Vec::from_slice(alloc, written)?)
 }

@@ -6,32 +6,30 @@ use Rattle.mh_model.specs.declared.edit.Edit.{Edit}
 use Rattle.mh_model.specs.declared.edit.Edit.TheVariants as edit
 use Rattle.mh_model.specs.declared.object.Object.{Object}
 use Rattle.mh_model.specs.Boxes.{columns_of, rows_of}
-use Rattle.mh_model.specs.Looks.{area_of}
+use Rattle.mh_model.specs.Looks.{area_of, is_push_button}
 use Rattle.mh_model.specs.Property.{read, as_bool, as_justification}
 
--- no text is loaded
+-- no text is shown
 abbrev pub has_no_text : Object → Bool
-has_no_text o = is_none o.body.text
+has_no_text o = not (is_push_button o.fixed.class) && is_none o.body.text
 
--- no text is loaded, and this is none
+-- no text is shown, and this is none
 abbrev pub stays_without : Option (List ℕ) → Object → Bool
 stays_without text o = is_none text && has_no_text o
 
--- no text is loaded, and none comes with new content: the object is not available, or this is none
+-- no text is shown, and none comes with new content: the object is not available, or this is none
 abbrev pub loads_no_text : Option (List ℕ) → Object → Bool
 loads_no_text text o = has_no_text o && (not o.body.available || is_none text)
 
 -- the edit can be seen to leave the lines as they are, whatever is in it
 abbrev pub leaves_lines : Edit → Object → Bool
-leaves_lines (edit.Give v) o = true
+leaves_lines (edit.Type os n) o = false
 leaves_lines (edit.Put a h) o = has_no_text o
 leaves_lines (edit.Load v text) o = loads_no_text text o
-leaves_lines (edit.Draw d) o = true
-leaves_lines edit.Clear o = true
 leaves_lines (edit.Prepare text) o = o.body.available || stays_without text o
 leaves_lines (edit.Start text) o = o.body.available || stays_without text o
-leaves_lines edit.Halt o = true
 leaves_lines edit.Drop o = has_no_text o
+leaves_lines _ o = true
 
 -- a text would be laid out alike in both
 pub record AreLaidAlike (o p : Object) : Type 0 where

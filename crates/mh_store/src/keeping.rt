@@ -1,45 +1,47 @@
 //! When the lines of an object's text stay as they are, and what they are else.
 ghost use Rattle.std.specs.Prelude.{◌≡◌, true, IfOk};
-ghost use Rattle.mh_model.specs.Looks.{lines_of};
+ghost use Rattle.mh_model.specs.Looks.{lines_of, shown_text as shown_text_lem};
 ghost use Rattle.mh_store.specs.Keeping.{has_no_text as has_no_text_lem, leaves_lines as leaves_lines_lem};
 ghost use Rattle.mh_store.specs.Keeping.{loads_no_text as loads_no_text_lem};
 ghost use Rattle.mh_store.specs.Keeping.{stays_without as stays_without_lem, AreLaidAlike};
 
 use crate::layout::lay_out;
-use crate::looks::{area_of, justification, wraps};
+use crate::looks::{area_of, is_push_button, justification, shown_text, wraps};
 use mh_base::{Octets, Seq};
 use mh_model::boxes::{columns_of, rows_of};
 use mh_model::{Edit, Line, Object};
 use std::alloc::{AllocError, Global};
 
-/// Whether the edit leaves the lines as they are, as far as can be seen before it.
+/// Whether the edit leaves the lines as they are, as far as can be seen before it. Most touch neither
+/// text nor box.
 pub fn leaves_lines(edit: &Edit, object: &Object) -> bool
     ensures { result ≡ leaves_lines_lem edit.now object.now }
 {
     match edit {
-        Edit::Give(_) | Edit::Draw(_) | Edit::Clear | Edit::Halt => true,
+        Edit::Type(_, _) => false,
         Edit::Put(_, _) | Edit::Drop => has_no_text(object),
         Edit::Load(_, text) => loads_no_text(text, object),
         Edit::Prepare(text) | Edit::Start(text) => {
             object.body.available || stays_without(text, object)
         }
+        _ => true,
     }
 }
 
 fn has_no_text(object: &Object) -> bool
     ensures { result ≡ has_no_text_lem object.now }
 {
-    object.body.text.is_none()
+    !is_push_button(object.fixed.get().class) && object.body.text.is_none()
 }
 
-/// Whether no text is loaded, and this is none.
+/// Whether no text is shown, and this is none.
 fn stays_without(text: &Option<Octets>, object: &Object) -> bool
     ensures { result ≡ stays_without_lem text.now object.now }
 {
     text.is_none() && has_no_text(object)
 }
 
-/// Whether no text is loaded, and none comes with new content.
+/// Whether no text is shown, and none comes with new content.
 fn loads_no_text(text: &Option<Octets>, object: &Object) -> bool
     ensures { result ≡ loads_no_text_lem text.now object.now }
 {
@@ -48,6 +50,7 @@ fn loads_no_text(text: &Option<Octets>, object: &Object) -> bool
 
 /// Whether the lines are the same before a change and after it, as far as can be seen without laying
 /// them out.
+#[tactic(auto, using(crate::proofs::KeepingLemmas::lines_alike))]
 pub fn are_same_lines(before: &Object, after: &Object) -> bool
     ensures { result ≡ true → lines_of before.now ≡ lines_of after.now }
 {
@@ -58,9 +61,9 @@ pub fn are_same_lines(before: &Object, after: &Object) -> bool
 }
 
 fn is_same_text(before: &Object, after: &Object) -> bool
-    ensures { result ≡ true → before.now.body.text ≡ after.now.body.text }
+    ensures { result ≡ true → shown_text_lem before.now ≡ shown_text_lem after.now }
 {
-    match (&before.body.text, &after.body.text) {
+    match (shown_text(before), shown_text(after)) {
         (Some(old), Some(new)) => old == new,
         (None, None) => true,
         _ => false,
@@ -85,20 +88,14 @@ fn are_laid_alike(before: &Object, after: &Object) -> bool
     justification(before) == justification(after)
 }
 
-/// The lines of the object's text; none, without memory, where no text is loaded.
+/// The lines of the object's text; none, without memory, where it shows no text.
 pub fn lines_for(alloc: Global, object: &Object) -> Result<Seq<Line>, AllocError>
     ensures { IfOk result (λ lines. lines ≡ lines_of object.now) }
 {
-    match &object.body.text {
+    match shown_text(object) {
         Some(text) => {
             let area = area_of(object);
-            let lines = lay_out(
-                alloc,
-                text.as_slice(),
-                &area,
-                wraps(object),
-                justification(object),
-            )?;
+            let lines = lay_out(alloc, text, &area, wraps(object), justification(object))?;
             Ok(Seq::from_vec(lines))
         }
         None => Ok(Seq::new(alloc)),

@@ -33,13 +33,16 @@ impl Model for Kept {
 }
 
 impl Kept {
-    /// The object as it is when its group is entered. No text is loaded, so its lines take no memory.
+    /// The object as it is when its group is entered. Where it shows no text its lines take no memory.
     pub(crate) fn fresh(alloc: Global, part: &FixedPart) -> Result<Kept, AllocError>
         ensures { IfOk result (λ kept. kept ≡ fresh_lem part.now) }
     {
-        let object = Object::fresh(alloc, part)?;
-        let lines = Seq::new(alloc);
-        Ok(Kept { object, lines })
+        let fresh = Object::fresh(alloc, part)?;
+        let lines = lines_for(alloc, &fresh)?;
+        Ok(Kept {
+            object: fresh,
+            lines,
+        })
     }
 
     pub fn object(&self) -> &Object
@@ -48,7 +51,7 @@ impl Kept {
         &self.object
     }
 
-    /// The lines of the text that was loaded, the upper ones first; none where none was.
+    /// The lines of the text that is shown, the upper ones first; none where none is.
     pub fn lines(&self) -> &[Line]
         ensures { result.now ≡ lines_of_lem self.now }
     {

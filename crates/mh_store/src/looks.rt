@@ -1,13 +1,14 @@
 //! What an object says of its box, of the lay-out of its text, and of its colours.
 ghost use Rattle.std.specs.Prelude.{◌≡◌, false};
+ghost use Rattle.std.specs.Option.{option_copied};
 ghost use Rattle.mh_group.specs.declared.attribute.Attribute.TheVariants as attribute;
-ghost use Rattle.mh_model.specs.Looks.{area_of as area_of_lem, has_line as has_line_lem, line_of as line_of_lem, fill_of as fill_of_lem, colour_of as colour_of_lem, paint_of as paint_of_lem};
+ghost use Rattle.mh_model.specs.Looks.{area_of as area_of_lem, has_line as has_line_lem, line_of as line_of_lem, fill_of as fill_of_lem, colour_of as colour_of_lem, label_of as label_of_lem, shown_text as shown_text_lem, is_push_button as is_push_button_lem, paint_of as paint_of_lem};
 ghost use Rattle.mh_model.specs.Property.{read, as_bool as as_bool_lem, as_justification as as_justification_lem};
 
-use mh_base::{Area, Colour};
-use mh_group::{Attribute, Justification};
-use mh_model::Object;
+use mh_base::{Area, Colour, Value};
+use mh_group::{Attribute, Class, Justification};
 use mh_model::held::{as_bool, as_colour, as_int, as_justification, as_pair};
+use mh_model::{Held, Object};
 
 /// The box of a visible.
 pub fn area_of(object: &Object) -> Area
@@ -35,6 +36,35 @@ pub fn justification(object: &Object) -> Justification
     ensures { result ≡ as_justification_lem (read attribute.HJustification object.now) }
 {
     as_justification(object.read(Attribute::HJustification))
+}
+
+/// What a push button is labelled with (ISO/IEC 13522-5, OrigLabel); of any other object nothing.
+pub fn label_of(object: &Object) -> &[u8]
+    ensures { result.now ≡ label_of_lem object.now.fixed object.now.body }
+{
+    match object.read(Attribute::OrigLabel) {
+        Some(Held::Value(Value::Octets(label))) => label.as_slice(),
+        _ => &[],
+    }
+}
+
+/// The text that the object shows: of a push button its label, of any other what was loaded.
+pub fn shown_text(object: &Object) -> Option<&[u8]>
+    ensures { option_copied result ≡ shown_text_lem object.now }
+{
+    if is_push_button(object.fixed.get().class) {
+        return Some(label_of(object));
+    }
+    match &object.body.text {
+        Some(text) => Some(text.as_slice()),
+        None => None,
+    }
+}
+
+pub fn is_push_button(class: Class) -> bool
+    ensures { result ≡ is_push_button_lem class }
+{
+    matches!(class, Class::PushButton)
 }
 
 pub const OPAQUE_BLACK: Colour = Colour {

@@ -3,11 +3,11 @@ use Rattle.mh_model.specs.Lines.{lines_in}
 use Rattle.mh_model.specs.Scalars.{piece, scalars_in}
 use Rattle.mh_model.specs.Drawn.{gone}
 use Rattle.mh_model.specs.Picture.{plane}
-use Rattle.mh_model.specs.Handing.{waited, handed, handed_before, sized, ready, called, failed}
+use Rattle.mh_model.specs.Handing.{waited, handed, handed_before, sized, ready, called, failed, asked, doubled}
 use Rattle.mh_model.proofs.example.hands.Goals as goal
 
 pub returns : goal.returns
-unfolding waited handed handed_before sized ready called failed lines_in piece scalars_in gone plane
+unfolding waited handed handed_before sized ready called failed asked doubled lines_in piece scalars_in gone plane
 returns c = record {
   waited_taken = refl;
   waited_idle = refl;
@@ -38,6 +38,10 @@ returns c = record {
   failed_moves = refl;
   failed_well = refl;
   failed_faultless = refl;
+  asked_next = refl;
+  doubled_taken = refl;
+  doubled_moves = refl;
+  doubled_well = refl;
   substring = refl;
   substring_before = refl;
   searched = refl;

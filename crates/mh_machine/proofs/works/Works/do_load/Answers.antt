@@ -1,6 +1,5 @@
-use Rattle.std.specs.Prelude.{◌≡◌, List, Some, None}
-use Rattle.std.proofs.Common.{rules, ap, ◌∙◌}
-use Rattle.mh_base.specs.declared.value.Value.{Value}
+use Rattle.std.specs.Prelude.{◌≡◌, Some, None}
+use Rattle.std.proofs.Common.{rules, ◌∙◌}
 use Rattle.mh_actions.specs.Content.{new_content}
 use Rattle.mh_model.specs.Arguments.{values}
 use Rattle.mh_model.specs.State.{all}

@@ -1,7 +1,6 @@
 use Rattle.std.specs.Prelude.{◌≡◌, ◌&&◌, ℕ, Bool, List, Option}
 use Rattle.std.specs.Option.{is_some, option_copied}
 use Rattle.std.proofs.Common.{rules, ap, ◌∙◌}
-use Rattle.mh_model.specs.declared.edit.Edit.TheVariants as edit
 use Rattle.mh_model.specs.Files.{comes_to, missing}
 use Rattle.mh_model.specs.Lifecycle.{is_available_at}
 use Rattle.mh_machine.specs.declared.plan.Change.TheVariants as change

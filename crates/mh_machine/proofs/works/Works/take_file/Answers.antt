@@ -1,7 +1,6 @@
 use Rattle.std.specs.Prelude.{◌≡◌, ◌+◌, ◌++◌, List, drop, filter, map}
 use Rattle.std.proofs.Common.{rules, ap, ◌∙◌}
 use Rattle.mh_model.specs.declared.event.Event.{Event}
-use Rattle.mh_model.specs.declared.file.File.{File}
 use Rattle.mh_model.specs.declared.file.Wait.{Wait}
 use Rattle.mh_model.specs.declared.input.Waiting.{Waiting}
 use Rattle.mh_model.specs.declared.input.Waiting.TheVariants as waiting

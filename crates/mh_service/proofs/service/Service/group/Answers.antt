@@ -1,4 +1,4 @@
-use Rattle.std.proofs.Common.{rules, []}
+use Rattle.std.proofs.Common.{rules}
 use Rattle.mh_service.proofs.Lookups.{lookup_find}
 use Rattle.mh_service.proofs.ServiceLemmas.{apart_under, own_under}
 use Rattle.mh_service.proofs.service.Service.group.Goals as goal

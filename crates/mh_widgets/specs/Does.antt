@@ -1,0 +1,23 @@
+-- What a widget's action or key is answered with, against what the definitions say.
+use Rattle.std.specs.Prelude.{◌≡◌, List, [], Option, Some, None}
+use Rattle.mh_model.specs.declared.act.Act.{Act}
+use Rattle.mh_model.specs.declared.object.Object.{Object}
+use Rattle.mh_model.specs.Edits.{edited_if}
+use Rattle.mh_model.specs.Fields.{Pressed as PressedSaid}
+use Rattle.mh_model.specs.Tokens.{Worked}
+use Rattle.mh_widgets.specs.declared.done.Done.{Done}
+use Rattle.mh_widgets.specs.declared.done.Pressed.{Pressed}
+
+-- the change, what is placed, and the items are those that are said, of this object
+abbrev pub Does : Object → Worked → Done → Type 0
+Does o w d =
+    (edited_if d.edit o.fixed o.body ≡ w.body) × (d.placed.items ≡ w.placed) × (d.items.items ≡ w.items)
+
+abbrev pub Presses : Object → PressedSaid → Pressed → Type 0
+Presses o w d =
+    (edited_if d.edit o.fixed o.body ≡ w.body) × (d.items.items ≡ w.items) × (d.ends ≡ w.ends)
+
+-- the actions of an effect that was found, or none
+abbrev pub acts_of : Option (List Act) → List Act
+acts_of None = []
+acts_of (Some acts) = acts

@@ -1,0 +1,50 @@
+//! The events that a widget emits.
+ghost use Rattle.std.specs.Prelude.{◌≡◌, IfOk};
+ghost use Rattle.mh_model.specs.Items.{plain_event as plain_event_lem};
+ghost use Rattle.mh_model.specs.Tokens.{event_with};
+ghost use Rattle.mh_model.specs.Programs.{counted as counted_lem};
+
+use crate::counts::counted;
+use mh_base::{EventType, ObjRef, Value};
+use mh_model::{Event, Item};
+use std::alloc::AllocError;
+
+/// An event without data.
+pub(crate) fn plain_event(source: &ObjRef, kind: EventType) -> Result<Item, AllocError>
+    ensures { IfOk result (λ item. item ≡ plain_event_lem source.now kind) }
+{
+    let source = source.clone()?;
+    Ok(Item::Emit(Event {
+        source,
+        kind,
+        data: None,
+    }))
+}
+
+/// An event that tells a count.
+pub(crate) fn count_event(
+    source: &ObjRef,
+    kind: EventType,
+    count: usize,
+) -> Result<Item, AllocError>
+    ensures { IfOk result (λ item. item ≡ event_with source.now kind (Value.Int (counted_lem count))) }
+{
+    let source = source.clone()?;
+    Ok(Item::Emit(Event {
+        source,
+        kind,
+        data: Some(Value::Int(counted(count))),
+    }))
+}
+
+/// An event that tells whether something is so.
+pub(crate) fn truth_event(source: &ObjRef, kind: EventType, truth: bool) -> Result<Item, AllocError>
+    ensures { IfOk result (λ item. item ≡ event_with source.now kind (Value.Bool truth)) }
+{
+    let source = source.clone()?;
+    Ok(Item::Emit(Event {
+        source,
+        kind,
+        data: Some(Value::Bool(truth)),
+    }))
+}

@@ -1,0 +1,87 @@
+//! What a list group shows, and what comes of a change of its items or of the first one (ISO/IEC
+//! 13522-5, ListGroup).
+ghost use Rattle.std.specs.Prelude.{None, ◌≡◌, [], true, Some, IfOk};
+ghost use Rattle.mh_model.specs.Lists.{cells_placed as cells_placed_lem, halted_members, list_changed as list_changed_lem, list_items as list_items_lem, list_worked as list_worked_lem, nothing_shown, shows};
+ghost use Rattle.mh_widgets.specs.Does.{Does};
+
+use crate::cells::Cells;
+use crate::done::Done;
+use crate::relisting::relisted;
+use crate::showing::{Showing, cells_placed, list_items};
+use mh_base::{ObjRef, Value};
+use mh_group::ActionName;
+use mh_model::{Edit, Item, Listing, Object};
+use std::alloc::{AllocError, Global};
+
+/// What AddItem, DelItem, ScrollItems or SetFirstItem makes of the list at this reference. While the
+/// list runs, those of its objects halt that are no longer shown, those that are shown are placed, those
+/// run that were not shown before, and what its events tell otherwise is told.
+pub fn list_worked(
+    alloc: Global,
+    name: ActionName,
+    values: &[Value],
+    at: &ObjRef,
+    object: &Object,
+) -> Result<Done, AllocError>
+    ensures { let said = list_worked_lem name values.now at.now object.now.fixed object.now.body in
+        IfOk result (λ done. Does object.now said done) }
+{
+    let list = &object.body.list;
+    match relisted(alloc, name, values, object.fixed.get(), list)? {
+        Some(list) => list_changed(alloc, at, object, list),
+        None => Ok(Done::nothing(alloc)),
+    }
+}
+
+/// What comes of a list whose items, or the first of them, become these.
+fn list_changed(
+    alloc: Global,
+    at: &ObjRef,
+    object: &Object,
+    list: Listing,
+) -> Result<Done, AllocError>
+    ensures { let said = list_changed_lem at.now object.now.fixed object.now.body (Some list) in
+        IfOk result (λ done. Does object.now said done) }
+{
+    let fixed = object.fixed.get();
+    let running = object.body.running;
+    let before = Showing::of(running, fixed, &object.body.list);
+    let after = Showing::of(running, fixed, &list);
+    let items = list_items(alloc, at, &before, &after)?;
+    let placed = cells_placed(alloc, fixed, &after)?;
+    Ok(Done {
+        edit: Some(Edit::List(list)),
+        placed,
+        items,
+    })
+}
+
+/// What comes of a list that begins to run: it shows its items. Its own body is left to who starts it.
+pub fn list_started(alloc: Global, at: &ObjRef, object: &Object) -> Result<Done, AllocError>
+    ensures items { let after = shows true object.now.fixed object.now.body.list in
+        IfOk result (λ done. done.items.items ≡ list_items_lem at.now nothing_shown after) }
+    ensures placed { let after = shows true object.now.fixed object.now.body.list in
+        IfOk result (λ done. done.placed.items ≡ cells_placed_lem object.now.fixed after) }
+    ensures edit { IfOk result (λ done. done.edit ≡ None) }
+{
+    let fixed = object.fixed.get();
+    let after = Showing::of(true, fixed, &object.body.list);
+    let items = list_items(alloc, at, &Showing::nothing(), &after)?;
+    let placed = cells_placed(alloc, fixed, &after)?;
+    Ok(Done {
+        edit: None,
+        placed,
+        items,
+    })
+}
+
+/// What comes of a list that stops: the objects that it shows halt.
+pub fn list_halted(alloc: Global, object: &Object) -> Result<Vec<Item>, AllocError>
+    ensures { let before = shows object.now.body.running object.now.fixed object.now.body.list in
+        IfOk result (λ items. items.items ≡ halted_members before.items []) }
+{
+    let before = Showing::of(object.body.running, object.fixed.get(), &object.body.list);
+    let mut items = Vec::new(alloc);
+    before.cells().halt_all_but(&mut items, &Cells::empty())?;
+    Ok(items)
+}
