@@ -1,6 +1,7 @@
 -- What one action puts, as a list of items.
 use Rattle.std.specs.Prelude.{List, [], ◌∷◌}
 use Rattle.mh_model.specs.declared.item.Item.{Item}
+use Rattle.mh_model.specs.Items.{acts}
 use Rattle.mh_actions.specs.declared.putting.Put.{Put}
 use Rattle.mh_actions.specs.declared.putting.Put.TheVariants as put
 
@@ -8,3 +9,4 @@ abbrev pub listed : Put → List Item
 listed put.Nothing = []
 listed (put.One i) = i ∷ []
 listed (put.Two i j) = i ∷ j ∷ []
+listed (put.Acts effect) = acts effect

@@ -4,14 +4,15 @@ ghost use Rattle.std.specs.Option.{option_copied};
 ghost use Rattle.mh_model.specs.Bodies.{text_of};
 ghost use Rattle.mh_model.specs.Looks.{label_of};
 ghost use Rattle.mh_model.specs.Saying as spec;
-ghost use Rattle.mh_model.specs.Programs.{counted as counted_lem};
 
 use crate::few::Few;
+use crate::items::{cell_told, item_told, status_told};
 use crate::variables::fits;
 use mh_base::{Octets, Value};
 use mh_group::{ActionName, Attribute};
 use mh_model::held::as_pair;
 use mh_model::{Held, Object};
+use mh_widgets::counts::counted;
 use std::alloc::{AllocError, Global};
 
 /// What the object answers to the action, in the order of the receivers; none answers nothing. Only a
@@ -37,6 +38,14 @@ pub fn answers(
         ActionName::GetEntryPoint => Ok(Few::one(Value::Int(counted(object.body.point)))),
         ActionName::GetLabel => label_told(alloc, object),
         ActionName::GetTokenPosition => Ok(Few::one(Value::Int(counted(object.body.token)))),
+        ActionName::GetFirstItem => Ok(Few::one(Value::Int(counted(object.body.list.first())))),
+        ActionName::GetListSize => {
+            let items = object.body.list.entries().len();
+            Ok(Few::one(Value::Int(counted(items))))
+        }
+        ActionName::GetItemStatus => Ok(status_told(values, object)),
+        ActionName::GetListItem => item_told(values, object),
+        ActionName::GetCellItem => cell_told(values, object),
         _ => Ok(Few::none()),
     }
 }
@@ -69,17 +78,6 @@ fn octets_told(octets: &Octets) -> Result<Few<Value>, AllocError>
         return Ok(Few::none());
     }
     Ok(Few::one(Value::Octets(octets.clone()?)))
-}
-
-/// A count as a number; past the largest number it is that.
-fn counted(count: usize) -> i32
-    ensures { result ≡ counted_lem count }
-{
-    if count <= 2147483647 {
-        count as i32
-    } else {
-        i32::MAX
-    }
 }
 
 fn both(pair: (i32, i32)) -> Few<Value>

@@ -14,6 +14,7 @@ pub mod changes;
 pub mod content;
 pub mod few;
 mod fields;
+mod items;
 pub mod judging;
 mod looks;
 mod numerals;

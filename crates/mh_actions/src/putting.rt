@@ -3,11 +3,13 @@ ghost use Rattle.std.specs.Prelude.{◌≡◌, ◌∷◌, [], IfOk, slice_get, S
 ghost use Rattle.std.specs.Option.{option_copied};
 ghost use Rattle.mh_actions.specs.Listed.{listed};
 ghost use Rattle.mh_model.specs.Saying as spec;
+ghost use Rattle.mh_model.specs.Tokens.{slot_items};
 
 use mh_base::{EventType, ObjRef, Value};
 use mh_group::ActionName;
 use mh_model::kinds::test;
-use mh_model::{Event, Item, Object, Operator};
+use mh_model::{Effect, Event, Item, Object, Operator};
+use mh_widgets::tokens::slot_of;
 use std::alloc::AllocError;
 
 /// What one action puts.
@@ -17,6 +19,8 @@ pub enum Put {
     One(Item),
     /// The first one in front.
     Two(Item, Item),
+    /// All actions of an effect.
+    Acts(Effect),
 }
 
 /// What the action puts, done to the object at this reference; nothing where there is none. It takes
@@ -44,6 +48,7 @@ pub fn put_items(
         (ActionName::TestVariable, [Value::Int(number), value]) => {
             tested(at, Operator::of_number(*number), object.value(), value)
         }
+        (ActionName::CallActionSlot, _) => slot_called(values, object),
         _ => Ok(Put::Nothing),
     }
 }
@@ -53,6 +58,17 @@ fn unloading(at: &ObjRef) -> Result<Put, AllocError>
     ensures { IfOk result (λ put. listed put ≡ Item.Halt at.now ∷ Item.Drop at.now ∷ []) }
 {
     Ok(Put::Two(Item::Halt(at.clone()?), Item::Drop(at.clone()?)))
+}
+
+/// What a slot does, of the member that has the token.
+fn slot_called(values: &[Value], object: &Object) -> Result<Put, AllocError>
+    ensures { IfOk result (λ put. listed put
+        ≡ slot_items values.now object.now.fixed object.now.body) }
+{
+    match slot_of(values, object) {
+        Some(effect) => Ok(Put::Acts(effect.clone()?)),
+        None => Ok(Put::Nothing),
+    }
 }
 
 /// The type of events with the number.

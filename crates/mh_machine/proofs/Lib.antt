@@ -2,6 +2,8 @@ pub mod ChangeLemmas
 pub mod TimeLemmas
 pub mod FrameLemmas
 pub mod LinkLemmas
+pub mod PlacingLemmas
 pub mod PlanLemmas
 pub mod StageLemmas
 pub mod StepLemmas
+pub mod WidgetLemmas

@@ -1,6 +1,6 @@
 -- What a plan makes of a state is what the rule of its item makes.
 use Rattle.std.specs.Prelude.{◌≡◌, ℕ, ◌+◌, Bool, true, false, ◌&&◌, if◌then◌else◌, List, [], ◌∷◌, ◌++◌, drop, Option, Some, None, unwrap_or, refl}
-use Rattle.std.proofs.Common.{ap, ◌∙◌, sym}
+use Rattle.std.proofs.Common.{Bor, ap, ◌∙◌, sym}
 use Rattle.mh_base.specs.declared.obj_ref.ObjRef.{ObjRef}
 use Rattle.mh_base.specs.declared.value.Value.{Value}
 use Rattle.mh_group.specs.declared.action_name.ActionName.{ActionName}
@@ -10,7 +10,7 @@ use Rattle.mh_model.specs.declared.edit.Edit.TheVariants as edit
 use Rattle.mh_model.specs.declared.item.Item.{Item}
 use Rattle.mh_model.specs.declared.item.Item.TheVariants as item
 use Rattle.mh_model.specs.declared.object.Object.{Object}
-use Rattle.std.specs.Option.{is_some, option_map_or}
+use Rattle.std.specs.Option.{is_some, option_copied, option_map_or}
 use Rattle.mh_model.specs.declared.act.Argument.{Argument}
 use Rattle.mh_model.specs.declared.file.Wait.{Wait}
 use Rattle.mh_model.specs.declared.object.Fixed.{Fixed}
@@ -23,24 +23,30 @@ use Rattle.mh_model.specs.Files.{awaited, forgotten, comes_to, missing, is_loada
 use Rattle.mh_model.specs.Known.{params_in}
 use Rattle.mh_model.specs.Programs.{ins, outs, said_by, outcome_of}
 use Rattle.mh_model.specs.Edits.{edited}
-use Rattle.mh_model.specs.Lifecycle.{is_available_at, reordered, is_unavailable_at, is_unprepared_at, is_visible_at, loaded_at, lacking_at, waits_if, with_risen, without, prepare_items, run_items, halt_items, drop_items}
+use Rattle.mh_model.specs.Lifecycle.{run_places, is_available_at, reordered, is_unavailable_at, is_unprepared_at, is_visible_at, loaded_at, lacking_at, waits_if, with_risen, without, prepare_items, run_items, halt_items, drop_items}
 use Rattle.mh_model.specs.Saying.{answers_at, put_items_at, load_items, call_items}
 use Rattle.mh_model.specs.Service.{object_at, part_at, parts}
 use Rattle.mh_model.specs.State.{State, Objects, all}
-use Rattle.mh_model.specs.Rules.{changed, filled, change_rule, ask_rule, put_rule, order_rule, load_rule, loaded_with, call_rule, builtin_in, now_of, outcome_at}
+use Rattle.mh_model.specs.Rules.{all_placed, changed, filled, change_rule, ask_rule, put_rule, order_rule, load_rule, loaded_with, call_rule, builtin_in, now_of, outcome_at}
 use Rattle.mh_model.specs.Step.{done}
+use Rattle.mh_model.specs.Worked.{ended_of}
+use Rattle.mh_group.specs.declared.written.Position.{Position}
+use Rattle.mh_widgets.specs.Does.{placed_by}
+use Rattle.mh_machine.proofs.PlacingLemmas.{placing, run_unseen}
 use Rattle.mh_machine.specs.declared.piece.Piece.{Piece}
 use Rattle.mh_machine.specs.declared.plan.Awaiting.{Awaiting}
 use Rattle.mh_machine.specs.declared.plan.Awaiting.TheVariants as awaiting
 use Rattle.mh_machine.specs.declared.plan.Change.{Change}
 use Rattle.mh_machine.specs.declared.plan.Change.TheVariants as change
 use Rattle.mh_machine.specs.declared.plan.Gift.{Gift}
+use Rattle.mh_machine.specs.declared.plan.Interacting.{Interacting}
+use Rattle.mh_machine.specs.declared.plan.Interacting.TheVariants as interacting
 use Rattle.mh_machine.specs.declared.plan.Stacking.{Stacking}
 use Rattle.mh_machine.specs.declared.plan.Stacking.TheVariants as stacking
 use Rattle.mh_machine.specs.Pieces.{written}
 use Rattle.mh_actions.specs.Content.{new_content}
 use Rattle.mh_machine.specs.Loading.{prepare_told, run_told, content_told}
-use Rattle.mh_machine.specs.Plans.{changed_as, given_all, gifts, Makes, restacked, rewaited, wait_if, plan_of, committed, put_for_first, taken_from}
+use Rattle.mh_machine.specs.Plans.{changed_as, change_with, interacted, given_all, gifts, Makes, restacked, rewaited, wait_if, plan_of, committed, put_for_first, taken_from}
 
 rising : (b : Bool) (r : ObjRef) (stack : List ObjRef) → restacked (if b then stacking.Rise r else stacking.Same) stack ≡ (if b then stack ++ r ∷ [] else stack)
 rising true r stack = refl
@@ -79,22 +85,33 @@ prepare_planned s r found text c x a ps here is_text is_change is_rise is_wait i
     let waits = waits_found s r found a is_unavailable_at here is_wait in
     λ i. record s { objects = objects i; stack = stack i; waits = waits i; work = work i; taken = s.taken + 1 }
 
-pub run_planned : (s : State) (r : ObjRef) (found : Option Object) (text : Option (List ℕ)) (c : Change) (x : Stacking) (a : Awaiting) (ps : List Piece) → found ≡ object_at r (all s.objects) → text ≡ loaded_at s.files found → c ≡ change.Edit r (edit.Start text) → x ≡ (if is_unprepared_at found && is_visible_at found then stacking.Rise r else stacking.Same) → a ≡ wait_if (is_unprepared_at found) r (lacking_at s.files found) → written ps ≡ run_told (is_some text) r found → committed (plan_of c x a ps) s ≡ done (item.Run r) s
-run_planned s r found text c x a ps here is_text is_change is_rise is_wait is_put =
+-- what is lent is there where its copy is
+pub some_copied : {X : Type 0} (m : Option (Bor X)) → is_some m ≡ is_some (option_copied m)
+some_copied None = refl
+some_copied (Some x) = refl
+
+pub run_planned : (s : State) (r : ObjRef) (found : Option Object) (text : Option (List ℕ)) (places : List (ObjRef × Position)) (c : Change) (x : Stacking) (a : Awaiting) (ps : List Piece) → found ≡ object_at r (all s.objects) → text ≡ loaded_at s.files found → places ≡ run_places found → c ≡ change_with r (Some (edit.Start text)) places → x ≡ (if is_unprepared_at found && is_visible_at found then stacking.Rise r else stacking.Same) → a ≡ wait_if (is_unprepared_at found) r (lacking_at s.files found) → written ps ≡ run_told (is_some text) r found → committed (plan_of c x a ps) s ≡ done (item.Run r) s
+run_planned s r found text places c x a ps here is_text are_places is_change is_rise is_wait is_put =
     let loaded : text ≡ loaded_at s.files (object_at r (all s.objects)) = is_text ∙ ap (loaded_at s.files) here in
-    let objects : changed_as c s.objects ≡ changed (edited (edit.Start (loaded_at s.files (object_at r (all s.objects))))) r s.objects =
-    ap (λ (y : Change). changed_as y s.objects) is_change ∙ ap (λ (m : Option (List ℕ)). changed (edited (edit.Start m)) r s.objects) loaded in
+    let unseen : places ≡ placed_by places (is_visible_at (object_at r (all s.objects))) =
+    are_places ∙ run_unseen found ∙ (λ i. placed_by (sym are_places i) (is_visible_at (here i))) in
+    let objects : changed_as c s.objects ≡ all_placed (run_places (object_at r (all s.objects))) (changed (edited (edit.Start (loaded_at s.files (object_at r (all s.objects))))) r s.objects) =
+    ap (λ (y : Change). changed_as y s.objects) is_change
+    ∙ placing r (edit.Start text) places s.objects unseen
+    ∙ ap (λ (m : Option (List ℕ)). all_placed places (changed (edited (edit.Start m)) r s.objects)) loaded
+    ∙ ap (λ (qs : List (ObjRef × Position)). all_placed qs (changed (edited (edit.Start (loaded_at s.files (object_at r (all s.objects))))) r s.objects)) (are_places ∙ ap run_places here) in
     let stack = stack_found s r found x is_unprepared_at here is_rise in
     let told : written ps ≡ run_items s.files r found = is_put ∙ ap (λ (m : Option (List ℕ)). run_told (is_some m) r found) is_text in
     let work = put_found s r found ps (run_items s.files) here told in
     let waits = waits_found s r found a is_unprepared_at here is_wait in
     λ i. record s { objects = objects i; stack = stack i; waits = waits i; work = work i; taken = s.taken + 1 }
 
-pub halt_planned : (s : State) (r : ObjRef) (found : Option Object) (c : Change) (ps : List Piece) → found ≡ object_at r (all s.objects) → c ≡ change.Edit r edit.Halt → written ps ≡ halt_items r found → committed (plan_of c stacking.Same awaiting.Same ps) s ≡ done (item.Halt r) s
-halt_planned s r found c ps here is_change is_put =
+pub halt_planned : (s : State) (r : ObjRef) (found : Option Object) (c : Change) (x : Interacting) (ps : List Piece) → found ≡ object_at r (all s.objects) → c ≡ change.Edit r edit.Halt → x ≡ interacting.Ends r → written ps ≡ halt_items r found → committed (record (plan_of c stacking.Same awaiting.Same ps) { interacting = x }) s ≡ done (item.Halt r) s
+halt_planned s r found c x ps here is_change is_end is_put =
     let objects : changed_as c s.objects ≡ changed (edited edit.Halt) r s.objects = ap (λ (y : Change). changed_as y s.objects) is_change in
+    let interaction : interacted x s.interaction ≡ ended_of r s.interaction = ap (λ (y : Interacting). interacted y s.interaction) is_end in
     let work = put_found s r found ps halt_items here is_put in
-    λ i. record s { objects = objects i; work = work i; taken = s.taken + 1 }
+    λ i. record s { objects = objects i; interaction = interaction i; work = work i; taken = s.taken + 1 }
 
 pub drop_planned : (s : State) (r : ObjRef) (found : Option Object) (c : Change) (x : Stacking) (a : Awaiting) (ps : List Piece) → found ≡ object_at r (all s.objects) → c ≡ change.Edit r edit.Drop → x ≡ stacking.Fall r → a ≡ awaiting.Forget r → written ps ≡ drop_items r found → committed (plan_of c x a ps) s ≡ done (item.Drop r) s
 drop_planned s r found c x a ps here is_change is_fall is_forgotten is_put =
@@ -109,7 +126,7 @@ change_planned s n vs r found c here makes =
     let objects = makes s.objects here in
     λ i. record s { objects = objects i; work = drop 1 s.work; taken = s.taken + 1 }
 
-given_gifts : (rs : List ObjRef) (vs : List Value) (os : Objects) → given_all (gifts rs vs) os ≡ filled rs vs os
+pub given_gifts : (rs : List ObjRef) (vs : List Value) (os : Objects) → given_all (gifts rs vs) os ≡ filled rs vs os
 given_gifts [] vs os = refl
 given_gifts (r ∷ rs) [] os = refl
 given_gifts (r ∷ rs) (v ∷ vs) os = given_gifts rs vs (changed (λ p b. stored v b) r os)

@@ -1,21 +1,25 @@
 -- Plans: what an item does, worked out before anything is changed.
-use Rattle.std.specs.Prelude.{◌≡◌, ℕ, ◌+◌, Bool, true, false, if◌then◌else◌, List, [], ◌∷◌, ◌++◌, length, drop, Option, Some, None}
+use Rattle.std.specs.Prelude.{◌≡◌, ℕ, ◌+◌, Bool, true, false, not, ◌&&◌, ◌==◌, if◌then◌else◌, List, [], ◌∷◌, ◌++◌, length, drop, Option, Some, None}
 use Rattle.mh_base.specs.declared.obj_ref.ObjRef.{ObjRef}
 use Rattle.mh_model.specs.declared.edit.Edit.{Edit}
 use Rattle.mh_model.specs.declared.event.Event.{Event}
 use Rattle.mh_model.specs.declared.fault.Fault.{Fault}
 use Rattle.mh_model.specs.declared.input.Waiting.{Waiting}
 use Rattle.mh_model.specs.declared.input.Waiting.TheVariants as waiting
+use Rattle.mh_group.specs.declared.written.Position.{Position}
+use Rattle.mh_model.specs.declared.interaction.Interaction.{Interaction}
 use Rattle.mh_model.specs.declared.item.Item.{Item}
 use Rattle.mh_model.specs.declared.object.Body.{Body}
 use Rattle.mh_model.specs.declared.object.Fixed.{Fixed}
 use Rattle.mh_model.specs.declared.object.Object.{Object}
 use Rattle.mh_base.specs.declared.value.Value.{Value}
+use Rattle.mh_base.specs.declared.value.Value.TheVariants as value
 use Rattle.mh_actions.specs.Moved.{moved}
-use Rattle.mh_model.specs.Bodies.{stored}
+use Rattle.mh_model.specs.Bodies.{stored, text_of}
 use Rattle.mh_model.specs.Edits.{edited}
-use Rattle.mh_model.specs.Lifecycle.{without}
-use Rattle.mh_model.specs.Rules.{changed}
+use Rattle.mh_model.specs.Lifecycle.{is_visible_at, without}
+use Rattle.mh_model.specs.Rules.{changed, all_placed}
+use Rattle.mh_model.specs.Worked.{ended_of}
 use Rattle.mh_model.specs.Service.{object_at}
 use Rattle.mh_model.specs.State.{State, Objects, all}
 use Rattle.mh_model.specs.declared.file.Wait.{Wait}
@@ -26,6 +30,8 @@ use Rattle.mh_machine.specs.declared.plan.Awaiting.TheVariants as awaiting
 use Rattle.mh_machine.specs.declared.plan.Change.{Change}
 use Rattle.mh_machine.specs.declared.plan.Change.TheVariants as change
 use Rattle.mh_machine.specs.declared.plan.Gift.{Gift}
+use Rattle.mh_machine.specs.declared.plan.Interacting.{Interacting}
+use Rattle.mh_machine.specs.declared.plan.Interacting.TheVariants as interacting
 use Rattle.mh_machine.specs.declared.plan.Plan.{Plan}
 use Rattle.mh_machine.specs.declared.plan.Puts.{Puts}
 use Rattle.mh_machine.specs.declared.plan.Puts.TheVariants as puts
@@ -44,15 +50,27 @@ gifts [] vs = []
 gifts (r ∷ rs) [] = []
 gifts (r ∷ rs) (v ∷ vs) = record { at = r; value = v } ∷ gifts rs vs
 
+-- a visible places nothing
+abbrev pub placed_unless : Bool → List (ObjRef × Position) → Objects → Objects
+placed_unless true ps os = os
+placed_unless false ps os = all_placed ps os
+
 abbrev pub changed_as : Change → Objects → Objects
 changed_as change.Nothing os = os
 changed_as (change.Edit r e) os = changed (edited e) r os
 changed_as (change.Give gs) os = given_all gs os
+changed_as (change.Place r e ps) os =
+    placed_unless (is_visible_at (object_at r (all os))) ps (changed (edited e) r os)
 
 -- the change of the object at the reference, if there is one
 abbrev pub change_at : ObjRef → Option Edit → Change
 change_at r None = change.Nothing
 change_at r (Some e) = change.Edit r e
+
+-- what is changed of the object at the reference, if anything is, and what is placed with it
+abbrev pub change_with : ObjRef → Option Edit → List (ObjRef × Position) → Change
+change_with r None ps = change.Nothing
+change_with r (Some e) ps = if length ps == 0 then change.Edit r e else change.Place r e ps
 
 -- the change makes of the object that was found what the rule makes of it
 abbrev pub Makes : Change → (Fixed → Body → Body) → ObjRef → Option Object → Type 0
@@ -67,6 +85,25 @@ restacked stacking.Same stack = stack
 restacked (stacking.Rise r) stack = stack ++ r ∷ []
 restacked (stacking.Fall r) stack = without r stack
 restacked (stacking.Move r how) stack = moved how r stack
+
+-- who interacts
+abbrev pub interacted : Interacting → Option Interaction → Option Interaction
+interacted interacting.Same i = i
+interacted (interacting.Ends r) i = ended_of r i
+interacted (interacting.Begins x) i = Some x
+
+-- what becomes of who interacts where this is said of an object that does, or does not
+abbrev pub begins_as : Bool → ObjRef → Option Object → Interacting
+begins_as interacts r None = interacting.Same
+begins_as interacts r (Some o) =
+    if o.body.running && not interacts
+    then interacting.Begins (record { object = r; before = text_of o.body })
+    else interacting.Same
+
+abbrev pub interacting_as : List Value → Bool → ObjRef → Option Object → Interacting
+interacting_as (value.Bool true ∷ []) interacts r o = begins_as interacts r o
+interacting_as (value.Bool false ∷ []) interacts r o = interacting.Ends r
+interacting_as vs interacts r o = interacting.Same
 
 -- who waits for a file
 abbrev pub rewaited : Awaiting → List Wait → List Wait
@@ -105,6 +142,7 @@ abbrev pub committed : Plan → State → State
 committed p s = record s {
   objects = changed_as p.change s.objects;
   stack = restacked p.stacking s.stack;
+  interaction = interacted p.interacting s.interaction;
   waits = rewaited p.awaiting s.waits;
   queue = queued p.waits s.queue;
   work = worked p.puts s.work;
@@ -115,7 +153,7 @@ committed p s = record s {
 
 -- a plan that changes objects, and puts pieces in the place of the item
 abbrev pub plan_of : Change → Stacking → Awaiting → List Piece → Plan
-plan_of c x a ps = record { change = c; stacking = x; awaiting = a; puts = puts.InFront ps; waits = None; begins = false; fault = None }
+plan_of c x a ps = record { change = c; stacking = x; awaiting = a; interacting = interacting.Same; puts = puts.InFront ps; waits = None; begins = false; fault = None }
 
 -- the state with these items in the place of its first
 abbrev pub put_for_first : List Item → State → State

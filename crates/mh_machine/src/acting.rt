@@ -110,7 +110,8 @@ impl Works {
             Sort::Load => self.do_load(act, at),
             Sort::Call => self.do_call(act, at),
             Sort::Order => self.do_order(act, at),
-            Sort::Widget => Ok(self.pass()),
+            Sort::Widget => self.do_widget(act, at),
+            Sort::Interact => self.do_interact(act, at),
             Sort::Whole => self.do_whole(act, at),
         }
     }

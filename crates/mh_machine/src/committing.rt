@@ -11,6 +11,8 @@ ghost use Rattle.mh_machine.specs.Pieces.{written};
 ghost use Rattle.mh_machine.specs.Plans.{change_at, committed, put_for_first, taken_from, changed_as, given_all, rewaited, queued, worked, noted, room_for};
 
 use crate::agenda::Agenda;
+use crate::interacting::interact;
+use crate::lifecycle::is_visible;
 use crate::piece::Piece;
 use crate::plan::{Awaiting, Change, Gift, Plan, Puts};
 use crate::stage::Stage;
@@ -20,6 +22,7 @@ use mh_actions::fits_value;
 use mh_actions::putting::Put;
 use mh_base::{ObjRef, Value};
 use mh_carousel::Carousel;
+use mh_group::Position;
 use mh_model::{Edit, Event, Fault};
 use std::alloc::AllocError;
 
@@ -38,6 +41,7 @@ impl Works {
             change,
             stacking,
             awaiting,
+            interacting,
             puts,
             waits,
             begins,
@@ -54,6 +58,7 @@ impl Works {
         apply(&mut self.stage, change)?;
         self.stage.restack(stacking);
         rewait(&mut self.carousel, awaiting);
+        interact(&mut self.interaction, interacting);
         put(&mut self.work, puts);
         wait(&mut self.agenda, waits);
         note(&mut self.faults, fault);
@@ -197,6 +202,29 @@ fn apply(stage: &mut Stage, change: Change) -> Result<(), AllocError>
             give(stage, gifts.into_vec());
             Ok(())
         }
+        Change::Place(at, edit, placed) => place(stage, &at, edit, placed.as_slice()),
+    }
+}
+
+/// Changes the body of an object, and places these where that is no visible.
+fn place(
+    stage: &mut Stage,
+    at: &ObjRef,
+    edit: Edit,
+    placed: &[(ObjRef, Position)],
+) -> Result<(), AllocError>
+    ensures changed { OnOk result (stage.new.objects
+        ≡ changed_as (Change.Place at.now edit placed.now) stage.old.objects) }
+    ensures stack { stage.new.stack ≡ stage.old.stack }
+    ensures room { stage.new.room ≡ stage.old.room }
+    ensures own { parts stage.new.objects.application ≡ parts stage.old.objects.application }
+    ensures others { parts stage.new.objects.scene ≡ parts stage.old.objects.scene }
+    ensures kept { OnErr result (stage.new.objects ≡ stage.old.objects) }
+{
+    if is_visible(stage.objects().get(at)) {
+        stage.edit(at, edit)
+    } else {
+        stage.edit_and_place(at, edit, placed)
     }
 }
 

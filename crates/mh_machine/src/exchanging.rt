@@ -4,6 +4,7 @@ ghost use Rattle.mh_group.specs.Table.{is_application};
 ghost use Rattle.mh_model.specs.Configuration.{is_group_of};
 ghost use Rattle.mh_model.specs.Rules.{application_exchanged, scene_exchanged};
 ghost use Rattle.mh_model.specs.Step.{done};
+ghost use Rattle.mh_model.specs.Worked.{interaction_of};
 ghost use Rattle.mh_machine.specs.Plans.{taken_from};
 
 use crate::links::Links;
@@ -11,7 +12,7 @@ use crate::pair::both;
 use crate::puts::entrance;
 use crate::works::Works;
 use mh_base::GroupName;
-use mh_model::Item;
+use mh_model::{Interaction, Item};
 use mh_store::Group;
 use std::alloc::AllocError;
 
@@ -50,6 +51,7 @@ impl Works {
         clear_scene(&mut self.scene);
         self.stage.launch(self.alloc, objects);
         self.links = links;
+        self.interaction = None;
         self.agenda.leave_application();
         self.carousel.clear_waits();
         self.transition = false;
@@ -76,6 +78,7 @@ impl Works {
         set_scene(&mut self.scene, scene);
         self.stage.exchange(objects, &self.application);
         self.links = links;
+        leave_interaction(&mut self.interaction, &self.application);
         self.agenda.leave_scene(&self.application);
         self.carousel.leave_scene(&self.application);
         self.transition = false;
@@ -91,6 +94,19 @@ impl Works {
         self.agenda.end();
         self.ended = true;
         self.pass();
+    }
+}
+
+/// The interaction of an object that is not of this group ends.
+fn leave_interaction(interaction: &mut Option<Interaction>, group: &GroupName)
+    ensures { interaction.new ≡ interaction_of group.now interaction.old }
+{
+    let stays = match interaction {
+        Some(begun) => begun.object.group == *group,
+        None => true,
+    };
+    if !stays {
+        *interaction = None;
     }
 }
 

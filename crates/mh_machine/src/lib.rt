@@ -12,6 +12,7 @@ mod calling;
 mod committing;
 mod exchanging;
 mod inputs;
+mod interacting;
 mod lifecycle;
 mod links;
 mod loading;
@@ -29,6 +30,7 @@ mod stepping;
 mod taking;
 mod timing;
 pub mod unstarted;
+mod widgets;
 mod work;
 mod works;
 

@@ -3,14 +3,18 @@
 ghost use Rattle.std.specs.Prelude.{◌≡◌, ◌&&◌, ◌++◌, IfOk, OnOk, if◌then◌else◌};
 ghost use Rattle.std.specs.Option.{option_copied};
 ghost use Rattle.mh_model.specs.Lifecycle as spec;
+ghost use Rattle.mh_model.specs.Tokens.{members as members_lem};
 ghost use Rattle.mh_machine.specs.Loading.{prepare_told, run_told, content_told};
 ghost use Rattle.mh_machine.specs.Pieces.{written};
 
 use crate::piece::Piece;
 use crate::plan::Stacking;
 use crate::puts::plain_event;
-use mh_base::{EventType, ObjRef};
-use mh_model::Object;
+use mh_base::{EventType, ObjRef, Value};
+use mh_group::{Attribute, Class};
+use mh_model::held::as_members;
+use mh_model::{Event, Fixed, Item, Member, Object};
+use mh_widgets::lists::{list_halted, list_started};
 use std::alloc::{AllocError, Global};
 
 pub fn is_available(found: Option<&Object>) -> bool
@@ -18,15 +22,6 @@ pub fn is_available(found: Option<&Object>) -> bool
 {
     match found {
         Some(object) => object.body.available,
-        None => false,
-    }
-}
-
-pub fn is_running(found: Option<&Object>) -> bool
-    ensures { result ≡ spec.is_running_at (option_copied found.entry) }
-{
-    match found {
-        Some(object) => object.body.running,
         None => false,
     }
 }
@@ -51,16 +46,7 @@ pub fn is_unprepared(found: Option<&Object>) -> bool
     }
 }
 
-fn is_stopped(found: Option<&Object>) -> bool
-    ensures { result ≡ spec.is_stopped_at (option_copied found.entry) }
-{
-    match found {
-        Some(object) => !object.body.running,
-        None => false,
-    }
-}
-
-fn is_visible(found: Option<&Object>) -> bool
+pub fn is_visible(found: Option<&Object>) -> bool
     ensures { result ≡ spec.is_visible_at (option_copied found.entry) }
 {
     match found {
@@ -143,8 +129,108 @@ pub fn run_pieces(
 {
     let mut pieces = Vec::new(alloc);
     push_rise(&mut pieces, is_unprepared(found), loads, at)?;
-    push_event_if(&mut pieces, is_stopped(found), at, EventType::IsRunning)?;
+    push_started(alloc, &mut pieces, at, found)?;
     Ok(pieces)
+}
+
+/// Puts behind these pieces what an object puts that begins to run.
+fn push_started(
+    alloc: Global,
+    pieces: &mut Vec<Piece>,
+    at: &ObjRef,
+    found: Option<&Object>,
+) -> Result<(), AllocError>
+    ensures { OnOk result (written pieces.new.items
+        ≡ written pieces.old.items ++ spec.started_items at.now (option_copied found.entry)) }
+{
+    match found {
+        Some(object) if !object.body.running => push_running(alloc, pieces, at, object),
+        _ => Ok(()),
+    }
+}
+
+fn push_running(
+    alloc: Global,
+    pieces: &mut Vec<Piece>,
+    at: &ObjRef,
+    object: &Object,
+) -> Result<(), AllocError>
+    ensures { OnOk result (written pieces.new.items
+        ≡ written pieces.old.items ++ spec.running_items at.now object.now) }
+{
+    push_group_runs(alloc, pieces, at, object)?;
+    push_event_if(pieces, true, at, EventType::IsRunning)?;
+    push_token(pieces, at, object.fixed.get().class)
+}
+
+/// A token group runs its members, a list what it shows.
+fn push_group_runs(
+    alloc: Global,
+    pieces: &mut Vec<Piece>,
+    at: &ObjRef,
+    object: &Object,
+) -> Result<(), AllocError>
+    ensures { OnOk result (written pieces.new.items
+        ≡ written pieces.old.items ++ spec.group_runs object.now.fixed.class at.now object.now) }
+{
+    match object.fixed.get().class {
+        Class::TokenGroup => push_members_run(pieces, members(object.fixed.get())),
+        Class::ListGroup => push_items(pieces, list_started(alloc, at, object)?.items),
+        _ => Ok(()),
+    }
+}
+
+/// What the token of a token group tells when that runs.
+fn push_token(pieces: &mut Vec<Piece>, at: &ObjRef, class: Class) -> Result<(), AllocError>
+    ensures { OnOk result (written pieces.new.items
+        ≡ written pieces.old.items ++ spec.token_told class at.now) }
+{
+    if matches!(class, Class::TokenGroup) {
+        let source = at.clone()?;
+        pieces.push(Piece::One(Item::Emit(Event {
+            source,
+            kind: EventType::TokenMovedTo,
+            data: Some(Value::Int(1)),
+        })))?;
+    }
+    Ok(())
+}
+
+fn push_members_run(pieces: &mut Vec<Piece>, members: &[Member]) -> Result<(), AllocError>
+    ensures { OnOk result (written pieces.new.items
+        ≡ written pieces.old.items ++ spec.members_run members.now) }
+{
+    for member in members {
+        pieces.push(Piece::One(Item::RunMember(member.object.clone()?)))?;
+    }
+    Ok(())
+}
+
+fn push_members_halted(pieces: &mut Vec<Piece>, members: &[Member]) -> Result<(), AllocError>
+    ensures { OnOk result (written pieces.new.items
+        ≡ written pieces.old.items ++ spec.members_halted members.now) }
+{
+    for member in members {
+        pieces.push(Piece::One(Item::HaltMember(member.object.clone()?)))?;
+    }
+    Ok(())
+}
+
+/// Puts these items behind these pieces.
+pub fn push_items(pieces: &mut Vec<Piece>, items: Vec<Item>) -> Result<(), AllocError>
+    ensures { OnOk result (written pieces.new.items ≡ written pieces.old.items ++ items.items) }
+{
+    for item in items {
+        pieces.push(Piece::One(item))?;
+    }
+    Ok(())
+}
+
+/// The members of a group of objects.
+fn members(fixed: &Fixed) -> &[Member]
+    ensures { result.now ≡ members_lem fixed.now }
+{
+    as_members(fixed.properties.get(Attribute::TokenGroupItems))
 }
 
 /// What is put when the object is to stop.
@@ -157,8 +243,28 @@ pub fn halt_pieces(
         ≡ spec.halt_items at.now (option_copied found.entry)) }
 {
     let mut pieces = Vec::new(alloc);
-    push_event_if(&mut pieces, is_running(found), at, EventType::IsStopped)?;
+    match found {
+        Some(object) if object.body.running => push_stopping(alloc, &mut pieces, at, object)?,
+        _ => {}
+    }
     Ok(pieces)
+}
+
+fn push_stopping(
+    alloc: Global,
+    pieces: &mut Vec<Piece>,
+    at: &ObjRef,
+    object: &Object,
+) -> Result<(), AllocError>
+    ensures { OnOk result (written pieces.new.items
+        ≡ written pieces.old.items ++ spec.stopping_items at.now object.now) }
+{
+    match object.fixed.get().class {
+        Class::TokenGroup => push_members_halted(pieces, members(object.fixed.get()))?,
+        Class::ListGroup => push_items(pieces, list_halted(alloc, object)?)?,
+        _ => {}
+    }
+    push_event_if(pieces, true, at, EventType::IsStopped)
 }
 
 /// What is put when the object is dropped.

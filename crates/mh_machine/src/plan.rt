@@ -6,7 +6,8 @@ use crate::piece::Piece;
 use crate::work::Work;
 use mh_actions::ordering::Reorder;
 use mh_base::{ObjRef, Seq, Value};
-use mh_model::{Edit, Event, Fault, Wait};
+use mh_group::Position;
+use mh_model::{Edit, Event, Fault, Interaction, Wait};
 use std::alloc::Global;
 
 /// What a variable is given.
@@ -24,6 +25,17 @@ pub enum Change {
     Edit(ObjRef, Edit),
     /// Variables are given values, in this order.
     Give(Seq<Gift>),
+    /// Of the object at this reference; and, where that is no visible, these are placed.
+    Place(ObjRef, Edit, Seq<(ObjRef, Position)>),
+}
+
+/// Who interacts.
+#[derive(Drop)]
+pub enum Interacting {
+    Same,
+    /// The object does no longer, if it did.
+    Ends(ObjRef),
+    Begins(Interaction),
 }
 
 /// What becomes of the display stack.
@@ -63,6 +75,7 @@ pub struct Plan {
     pub change: Change,
     pub stacking: Stacking,
     pub awaiting: Awaiting,
+    pub interacting: Interacting,
     pub puts: Puts,
     /// The event that waits in the queue.
     pub waits: Option<Event>,
@@ -80,6 +93,7 @@ impl Plan {
             change,
             stacking,
             awaiting,
+            interacting: Interacting::Same,
             puts: Puts::InFront(Seq::from_vec(pieces)),
             waits: None,
             begins: false,
@@ -106,6 +120,23 @@ impl Plan {
         Plan::of(change, Stacking::Same, Awaiting::Same, Vec::new(alloc))
     }
 
+    /// A plan that changes bodies and who interacts, and puts these pieces.
+    pub fn interacting(change: Change, interacting: Interacting, pieces: Vec<Piece>) -> Plan
+        ensures { result
+            ≡ record (plan_of change Stacking.Same Awaiting.Same pieces.items) { interacting = interacting } }
+    {
+        Plan {
+            change,
+            stacking: Stacking::Same,
+            awaiting: Awaiting::Same,
+            interacting,
+            puts: Puts::InFront(Seq::from_vec(pieces)),
+            waits: None,
+            begins: false,
+            fault: None,
+        }
+    }
+
     /// A plan that only lets an event wait.
     pub fn waiting(alloc: Global, event: Event) -> Plan
         ensures { result
@@ -115,6 +146,7 @@ impl Plan {
             change: Change::Nothing,
             stacking: Stacking::Same,
             awaiting: Awaiting::Same,
+            interacting: Interacting::Same,
             puts: Puts::InFront(Seq::new(alloc)),
             waits: Some(event),
             begins: false,
@@ -131,6 +163,7 @@ impl Plan {
             change: Change::Nothing,
             stacking: Stacking::Same,
             awaiting: Awaiting::Same,
+            interacting: Interacting::Same,
             puts: Puts::InFront(Seq::new(alloc)),
             waits: None,
             begins: false,

@@ -16,8 +16,9 @@ use crate::lifecycle::{
     run_pieces,
 };
 use crate::loading::{awaiting, copied_text, lacking, loaded};
-use crate::plan::{Awaiting, Change, Gift, Plan, Puts, Stacking};
+use crate::plan::{Awaiting, Change, Gift, Interacting, Plan, Puts, Stacking};
 use crate::puts::{leaving, quitting};
+use crate::widgets::{change_of, run_places};
 use crate::work::Work;
 use crate::works::Works;
 use mh_actions::answers::answers;
@@ -75,7 +76,9 @@ impl Works {
         let pieces = run_pieces(self.alloc, at, found, text.is_some())?;
         let stacking = rising(becomes, at, found)?;
         let awaiting = awaiting(becomes, at, lacking(&self.carousel, found))?;
-        let change = Change::Edit(at.clone()?, Edit::Start(copied_text(text)?));
+        let start = Edit::Start(copied_text(text)?);
+        let places = run_places(self.alloc, at, found)?;
+        let change = change_of(at, Some(start), places)?;
         Ok(Plan::of(change, stacking, awaiting, pieces))
     }
 
@@ -96,7 +99,8 @@ impl Works {
     {
         let pieces = halt_pieces(self.alloc, at, self.stage.objects().get(at))?;
         let change = Change::Edit(at.clone()?, Edit::Halt);
-        Ok(Plan::of(change, Stacking::Same, Awaiting::Same, pieces))
+        let interacting = Interacting::Ends(at.clone()?);
+        Ok(Plan::interacting(change, interacting, pieces))
     }
 
     /// An object is no longer available.
@@ -172,6 +176,7 @@ impl Works {
             change: Change::Nothing,
             stacking: Stacking::Same,
             awaiting: Awaiting::Same,
+            interacting: Interacting::Same,
             puts: Puts::Instead(self.way_out(name, target)?),
             waits: None,
             begins: true,

@@ -1,14 +1,16 @@
 //! `Stage`: the objects, the display stack and the screen, which change together.
 //!
 //! What a change can be seen in is marked, and painted when the picture is wanted.
-ghost use Rattle.std.specs.Prelude.{◌≡◌, ◌≤◌, [], filter, IfOk, OnOk, OnErr};
+ghost use Rattle.std.specs.Prelude.{◌≡◌, ◌≤◌, [], false, filter, IfOk, OnOk, OnErr};
 ghost use Rattle.std.specs.Str.{bytes_eq};
 ghost use Rattle.mh_display.specs.Surface.{IsClean};
 ghost use Rattle.mh_model.specs.Bodies.{given};
 ghost use Rattle.mh_model.specs.Edits.{edited};
 ghost use Rattle.mh_model.specs.Picture.{picture as picture_lem};
-ghost use Rattle.mh_model.specs.Rules.{changed, text_brought};
-ghost use Rattle.mh_model.specs.Service.{parts};
+ghost use Rattle.std.specs.Option.{option_map_or};
+ghost use Rattle.mh_group.specs.Table.{is_visible};
+ghost use Rattle.mh_model.specs.Rules.{all_placed, changed, text_brought};
+ghost use Rattle.mh_model.specs.Service.{object_at, parts};
 ghost use Rattle.mh_model.specs.State.{all};
 ghost use Rattle.mh_machine.specs.Plans.{restacked};
 
@@ -16,6 +18,7 @@ use crate::plan::Stacking;
 use mh_actions::ordering::Reorder;
 use mh_base::{GroupName, ObjRef, Octets, Value};
 use mh_display::{Screen, Stack};
+use mh_group::Position;
 use mh_model::{Edit, Picture};
 use mh_store::{Awaits, Group, Objects};
 use std::alloc::{AllocError, Global};
@@ -120,6 +123,28 @@ impl Stage {
         ensures others { parts self.new.objects.scene ≡ parts self.old.objects.scene }
     {
         self.objects.give(at, value);
+    }
+
+    /// Changes the body of an object that is no visible, and places these. Where memory is refused
+    /// everything stays as it was.
+    pub fn edit_and_place(
+        &mut self,
+        at: &ObjRef,
+        edit: Edit,
+        placed: &[(ObjRef, Position)],
+    ) -> Result<(), AllocError>
+        requires { option_map_or (λ o. is_visible o.fixed.class) (object_at at.now (all self.old.objects)) false ≡ false }
+        ensures done { OnOk result (self.new.objects
+            ≡ all_placed placed.now (changed (edited edit) at.now self.old.objects)) }
+        ensures stack { self.new.stack ≡ self.old.stack }
+        ensures room { self.new.room ≡ self.old.room }
+        ensures own { parts self.new.objects.application ≡ parts self.old.objects.application }
+        ensures others { parts self.new.objects.scene ≡ parts self.old.objects.scene }
+        ensures kept { OnErr result (self.new.objects ≡ self.old.objects) }
+    {
+        let _ = self.objects.edit_and_place(at, edit, placed)?;
+        self.screen.spoil_all();
+        Ok(())
     }
 
     /// Gives the objects that are meant this text. Where memory is refused everything stays as it was.

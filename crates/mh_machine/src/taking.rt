@@ -3,6 +3,7 @@ ghost use Rattle.std.specs.Prelude.{◌≡◌, ◌+◌, ◌<◌, ◌≤◌, ◌^
 ghost use Rattle.mh_model.specs.Files.{arrived, waits_for, with_file};
 ghost use Rattle.mh_model.specs.Rules.{text_brought};
 ghost use Rattle.mh_model.specs.Service.{parts};
+ghost use Rattle.mh_model.specs.State.{all};
 ghost use Rattle.mh_model.specs.Step as spec;
 ghost use Rattle.mh_machine.specs.Rest.{answer_by};
 ghost use Rattle.mh_machine.specs.Pieces.{written};
@@ -11,6 +12,7 @@ ghost use Rattle.mh_machine.specs.Taking.{shifted};
 use crate::Stepped;
 use crate::agenda::Agenda;
 use crate::inputs::{WaitingFor, content_events, engine_event, key_pieces, stream_events};
+use crate::interacting::copied_interaction;
 use crate::piece::Piece;
 use crate::stage::Stage;
 use crate::work::Work;
@@ -66,11 +68,24 @@ impl Works {
         self.take_with(pieces)
     }
 
-    /// A key is an event of the scene, if its register lets it through.
+    /// A key goes to the object that interacts, or else to the scene.
     fn take_key(&mut self, key: Key) -> Result<(), AllocError>
         requires { self.old.state.taken + 1 < 2 ^ 64 }
         ensures done { OnOk result (self.new.state
             ≡ spec.taking (Waiting.Input (Input.Key key)) (shifted self.old.state)) }
+        ensures kept { OnErr result (self.new.state ≡ self.old.state) }
+    {
+        match copied_interaction(&self.interaction)? {
+            Some(begun) => self.press(key, &begun),
+            None => self.take_heard(key),
+        }
+    }
+
+    /// A key is an event of the scene, if its register lets it through.
+    fn take_heard(&mut self, key: Key) -> Result<(), AllocError>
+        requires { self.old.state.taken + 1 < 2 ^ 64 }
+        ensures done { let items = spec.key_items key self.old.state.scene (all self.old.state.objects) in
+            OnOk result (self.new.state ≡ record (shifted self.old.state) { work = items }) }
         ensures kept { OnErr result (self.new.state ≡ self.old.state) }
     {
         let pieces = match &self.scene {
@@ -137,6 +152,15 @@ impl Works {
         arrive(&mut self.carousel, kept);
         self.taken += 1;
         Ok(())
+    }
+
+    /// Takes away what waits first, and does nothing else.
+    pub(crate) fn shift(&mut self)
+        requires { self.old.state.taken + 1 < 2 ^ 64 }
+        ensures { self.new.state ≡ shifted self.old.state }
+    {
+        self.agenda.take_first();
+        self.taken += 1;
     }
 
     /// Puts these pieces in the place of the work list, for what waits first.

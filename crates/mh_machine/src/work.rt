@@ -100,6 +100,7 @@ impl Work {
                 put_item(&mut self.frames, second);
                 put_item(&mut self.frames, first);
             }
+            Put::Acts(effect) => put_effect(&mut self.frames, effect),
         }
     }
 

@@ -20,7 +20,7 @@ use crate::stage::Stage;
 use crate::work::Work;
 use mh_base::GroupName;
 use mh_carousel::Carousel;
-use mh_model::{Fault, Item, Outcome, Picture};
+use mh_model::{Fault, Interaction, Item, Outcome, Picture};
 use mh_service::Service;
 use mh_store::Group;
 use std::alloc::{AllocError, Global};
@@ -33,6 +33,8 @@ pub struct Works {
     pub(crate) application: GroupName,
     pub(crate) scene: Option<GroupName>,
     pub(crate) stage: Stage,
+    /// The object that interacts, if one does.
+    pub(crate) interaction: Option<Interaction>,
     pub(crate) links: Links,
     pub(crate) agenda: Agenda,
     pub(crate) work: Work,
@@ -63,6 +65,7 @@ impl Model for Works {
         scene = w.scene;
         objects = w.stage.objects;
         stack = w.stage.stack;
+        interaction = w.interaction;
         timers = w.agenda.timers;
         queue = w.agenda.queue;
         work = w.work.items;
@@ -122,6 +125,7 @@ impl Works {
             application,
             scene: None,
             stage,
+            interaction: None,
             links,
             agenda: Agenda::new(alloc),
             work,

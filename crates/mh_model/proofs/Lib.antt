@@ -4,6 +4,7 @@ pub mod PlanesLemmas
 pub mod PartLemmas
 pub mod ServiceLemmas
 pub mod FaultLemmas
+pub mod ListedLemmas
 pub mod DescribingLemmas
 pub mod GivingLemmas
 pub mod EmittingLemmas
@@ -12,6 +13,7 @@ pub mod StateLemmas
 pub mod TimeLemmas
 pub mod EventLemmas
 pub mod PutLemmas
+pub mod MemberLemmas
 pub mod WholeLemmas
 pub mod ExchangeLemmas
 pub mod RuleLemmas

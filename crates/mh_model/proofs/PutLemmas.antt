@@ -1,20 +1,27 @@
 -- What an action puts is safe, and what it gives to receivers changes bodies alone.
 use Rattle.std.specs.Prelude.{◌≡◌, Bool, true, false, ◌||◌, List, [], ◌∷◌, ◌++◌, slice_get, Option, Some, None, refl}
-use Rattle.std.specs.List.{list_any}
+use Rattle.std.specs.List.{list_all, list_any}
 use Rattle.std.specs.Option.{option_map, option_map_or}
 use Rattle.std.proofs.Common.{inl, inr, ap, ◌∙◌, sym, subst}
+use Rattle.std.proofs.lemmas.List.Elements.{All-contains}
+use Rattle.std.proofs.lemmas.List.Sums.{AllPass-from_list_all}
 use Rattle.mh_base.specs.declared.obj_ref.ObjRef.{ObjRef}
 use Rattle.mh_base.specs.declared.value.Value.{Value}
 use Rattle.mh_base.specs.declared.value.Value.TheVariants as value
 use Rattle.mh_group.specs.declared.action_name.ActionName.{ActionName}
 use Rattle.mh_group.specs.declared.class.Class.{Class}
-use Rattle.mh_group.specs.Table.{needs_of}
+use Rattle.mh_group.specs.declared.class.Class.TheVariants as class
+use Rattle.mh_group.specs.declared.written.Position.{Position}
+use Rattle.mh_group.specs.Table.{needs_of, is_list_group, is_visible}
 use Rattle.mh_group.specs.declared.action_name.ActionName.TheVariants as action
 use Rattle.mh_group.specs.declared.shape.Need.TheVariants as need
 use Rattle.mh_model.specs.declared.act.Act.{Act}
 use Rattle.mh_model.specs.declared.act.Argument.{Argument}
 use Rattle.mh_model.specs.declared.config.Config.{Config}
+use Rattle.mh_model.specs.declared.fault.Fault.{Fault}
+use Rattle.mh_model.specs.declared.fault.FaultKind.TheVariants as fault
 use Rattle.mh_model.specs.declared.item.Item.{Item}
+use Rattle.mh_model.specs.declared.member.Member.{Member}
 use Rattle.mh_model.specs.declared.object.Fixed.{Fixed}
 use Rattle.mh_model.specs.declared.object.Object.{Object}
 use Rattle.mh_model.specs.declared.act.Argument.TheVariants as argument
@@ -23,17 +30,19 @@ use Rattle.mh_model.specs.Property.{as_reference}
 use Rattle.mh_model.specs.Service.{Service, part_at, parts}
 use Rattle.mh_model.specs.State.{Objects}
 use Rattle.mh_model.specs.Known.{known_before, class_at}
-use Rattle.mh_model.specs.Faults.{named_faults, takes_object, arguments_faults, object_faults}
+use Rattle.mh_model.specs.Faults.{named_faults, takes_object, arguments_faults, object_faults, unless}
 use Rattle.mh_model.specs.Arguments.{values}
 use Rattle.mh_model.specs.Bodies.{stored}
-use Rattle.mh_model.specs.Saying.{put_items}
-use Rattle.mh_model.specs.Describing.{Piece, is_sent, can_put, IsOf, IsOneOf, AreOf}
-use Rattle.mh_model.specs.Rules.{changed, filled}
+use Rattle.mh_model.specs.Lifecycle.{members_run, members_halted, group_runs, group_halts, token_told}
+use Rattle.mh_model.specs.Tokens.{members, slot_actions}
+use Rattle.mh_model.specs.Describing.{Piece, is_sent, is_list_piece, is_slot_piece, can_put, IsOf, IsOneOf, AreOf}
+use Rattle.mh_model.specs.Rules.{changed, filled, placed_at, all_placed}
 use Rattle.mh_model.specs.Configuration.{present}
-use Rattle.mh_model.specs.Active.{are_direct}
-use Rattle.mh_model.specs.Safe.{is_there, IsSafeWork}
+use Rattle.mh_model.specs.Active.{are_direct, is_empty, member_faults}
+use Rattle.mh_model.specs.Safe.{is_there, is_fine, IsSafeWork}
 use Rattle.mh_model.specs.Describing as piece
-use Rattle.mh_model.proofs.DescribingLemmas.{plain_puts}
+use Rattle.mh_model.proofs.ServiceLemmas.{and_left, and_right}
+use Rattle.mh_model.proofs.WorkLemmas.{IsSafeFront}
 use Rattle.mh_model.proofs.FaultLemmas.{empty_left, fit_object}
 use Rattle.mh_model.proofs.PartLemmas.{changed-own, changed-others}
 
@@ -82,15 +91,13 @@ named_first : (v : Service) (c : Config) (os : List Object) (n : ActionName) (a 
 named_first v c os action.SendEvent a xs q d e sends first = first_there v c os a xs q d e first
 named_first v c os _ a xs q d e sends first = absurd cc
 
--- an item of a piece, in front of safe work
-safe_piece : (v : Service) (cs : List Config) (c : Config) (r : ObjRef) (vs : List Value) (p : Piece) (i : Item) (rest : List Item) → IsOf r vs p i → is_there r (present v c) ≡ true → (is_sent p ≡ true → (q : ObjRef) → slice_get vs 0 ≡ Some (value.Object q) → is_there q (present v c) ≡ true) → IsSafeWork v cs c rest → IsSafeWork v cs c (i ∷ rest)
-safe_piece v cs c r vs piece.Prepares (item.Prepare x) rest of here_it named k = (tt, k)
-safe_piece v cs c r vs piece.Runs (item.Run x) rest of here_it named k = (tt, k)
-safe_piece v cs c r vs piece.Halts (item.Halt x) rest of here_it named k = (tt, k)
-safe_piece v cs c r vs piece.Drops (item.Drop x) rest of here_it named k = (tt, k)
-safe_piece v cs c r vs (piece.Tells kind) (item.Emit e) rest of here_it named k = (subst (λ (x : ObjRef). is_there x (present v c) ≡ true) (sym of.0) here_it, k)
-safe_piece v cs c r vs piece.Sends (item.Emit e) rest of here_it named k = (named refl e.source of, k)
-safe_piece v cs c r vs _ _ rest of here_it named k = absurd cc
+-- What has to hold where an action puts items of these pieces, done with these values to this object: what it is done
+-- to is there, and what it names to send an event; its slots do nothing that can be stuck; and it is no list.
+pub record Grounds (v : Service) (cs : List Config) (c : Config) (r : ObjRef) (vs : List Value) (o : Object) (ps : List Piece) : Type 0 where
+  pub here_it : is_there r (present v c) ≡ true
+  pub named : list_any is_sent ps ≡ true → (q : ObjRef) → slice_get vs 0 ≡ Some (value.Object q) → is_there q (present v c) ≡ true
+  pub slots : list_any is_slot_piece ps ≡ true → list_all (is_fine v cs c) (slot_actions o.fixed) ≡ true
+  pub unlisted : list_any is_list_piece ps ≡ true → false ≡ true
 
 or_first : (a b : Bool) → a ≡ true → (a || b) ≡ true
 or_first true b h = refl
@@ -100,16 +107,101 @@ or_second : (a b : Bool) → b ≡ true → (a || b) ≡ true
 or_second true b h = refl
 or_second false b h = h
 
-safe_one : (v : Service) (cs : List Config) (c : Config) (r : ObjRef) (vs : List Value) (ps : List Piece) (i : Item) (rest : List Item) → IsOneOf r vs ps i → is_there r (present v c) ≡ true → (list_any is_sent ps ≡ true → (q : ObjRef) → slice_get vs 0 ≡ Some (value.Object q) → is_there q (present v c) ≡ true) → IsSafeWork v cs c rest → IsSafeWork v cs c (i ∷ rest)
-safe_one v cs c r vs [] i rest of here_it named k = absurd cc
-safe_one v cs c r vs (p ∷ ps) i rest (inl of) here_it named k = safe_piece v cs c r vs p i rest of here_it (λ h. named (or_first (is_sent p) (list_any is_sent ps) h)) k
-safe_one v cs c r vs (p ∷ ps) i rest (inr of) here_it named k = safe_one v cs c r vs ps i rest of here_it (λ h. named (or_second (is_sent p) (list_any is_sent ps) h)) k
+rest_grounds : (v : Service) (cs : List Config) (c : Config) (r : ObjRef) (vs : List Value) (o : Object) (p : Piece) (ps : List Piece) → Grounds v cs c r vs o (p ∷ ps) → Grounds v cs c r vs o ps
+rest_grounds v cs c r vs o p ps g = record {
+  here_it = g.here_it;
+  named = λ h. g.named (or_second (is_sent p) (list_any is_sent ps) h);
+  slots = λ h. g.slots (or_second (is_slot_piece p) (list_any is_slot_piece ps) h);
+  unlisted = λ h. g.unlisted (or_second (is_list_piece p) (list_any is_list_piece ps) h);
+}
 
-safe_all : (v : Service) (cs : List Config) (c : Config) (r : ObjRef) (vs : List Value) (ps : List Piece) (is rest : List Item) → AreOf r vs ps is → is_there r (present v c) ≡ true → (list_any is_sent ps ≡ true → (q : ObjRef) → slice_get vs 0 ≡ Some (value.Object q) → is_there q (present v c) ≡ true) → IsSafeWork v cs c rest → IsSafeWork v cs c (is ++ rest)
-safe_all v cs c r vs ps [] rest of here_it named k = k
-safe_all v cs c r vs ps (i ∷ is) rest of here_it named k = safe_one v cs c r vs ps i (is ++ rest) of.0 here_it named (safe_all v cs c r vs ps is rest of.1 here_it named k)
+-- an item of a piece, in front of safe work
+safe_piece : (v : Service) (cs : List Config) (c : Config) (r : ObjRef) (vs : List Value) (o : Object) (p : Piece) (ps : List Piece) (i : Item) (rest : List Item) → IsOf r vs o p i → Grounds v cs c r vs o (p ∷ ps) → IsSafeWork v cs c rest → IsSafeWork v cs c (i ∷ rest)
+safe_piece v cs c r vs o piece.Prepares ps (item.Prepare x) rest of g k = (tt, k)
+safe_piece v cs c r vs o piece.Runs ps (item.Run x) rest of g k = (tt, k)
+safe_piece v cs c r vs o piece.Halts ps (item.Halt x) rest of g k = (tt, k)
+safe_piece v cs c r vs o piece.Drops ps (item.Drop x) rest of g k = (tt, k)
+safe_piece v cs c r vs o (piece.Tells kind) ps (item.Emit e) rest of g k = (subst (λ (x : ObjRef). is_there x (present v c) ≡ true) (sym of.0) g.here_it, k)
+safe_piece v cs c r vs o piece.Sends ps (item.Emit e) rest of g k = (g.named refl e.source of, k)
+safe_piece v cs c r vs o piece.Slots ps (item.Act a) rest of g k = (All-contains (λ (x : Act). is_fine v cs c x ≡ true) (slot_actions o.fixed) a (AllPass-from_list_all (is_fine v cs c) (slot_actions o.fixed) (g.slots refl)) of, k)
+safe_piece v cs c r vs o piece.Lists ps (item.RunMember x) rest of g k = let never : false ≡ true = g.unlisted refl in absurd cc
+safe_piece v cs c r vs o piece.Lists ps (item.HaltMember x) rest of g k = let never : false ≡ true = g.unlisted refl in absurd cc
+safe_piece v cs c r vs o _ ps _ rest of g k = absurd cc
 
--- what an action puts that is done to an object that is there
-pub safe_put : (v : Service) (cs : List Config) (c : Config) (os : List Object) (r : ObjRef) (o : Object) (n : ActionName) (a : Act) (xs : List Argument) (rest : List Item) → are_direct (needs_of n) xs ≡ true → arguments_faults (known_before v (present v c)) a (needs_of n) xs ≡ [] → is_there r (present v c) ≡ true → IsSafeWork v cs c rest → IsSafeWork v cs c (put_items n (values os xs) r o ++ rest)
-safe_put v cs c os r o n a xs rest d e here_it k =
-    safe_all v cs c r (values os xs) (can_put n) (put_items n (values os xs) r o) rest (plain_puts n (values os xs) r o) here_it (λ sends q. named_first v c os n a xs q d e sends) k
+safe_one : (v : Service) (cs : List Config) (c : Config) (r : ObjRef) (vs : List Value) (o : Object) (ps : List Piece) (i : Item) (rest : List Item) → IsOneOf r vs o ps i → Grounds v cs c r vs o ps → IsSafeWork v cs c rest → IsSafeWork v cs c (i ∷ rest)
+safe_one v cs c r vs o [] i rest of g k = absurd cc
+safe_one v cs c r vs o (p ∷ ps) i rest (inl of) g k = safe_piece v cs c r vs o p ps i rest of g k
+safe_one v cs c r vs o (p ∷ ps) i rest (inr of) g k = safe_one v cs c r vs o ps i rest of (rest_grounds v cs c r vs o p ps g) k
+
+pub safe_all : (v : Service) (cs : List Config) (c : Config) (r : ObjRef) (vs : List Value) (o : Object) (ps : List Piece) (is rest : List Item) → AreOf r vs o ps is → Grounds v cs c r vs o ps → IsSafeWork v cs c rest → IsSafeWork v cs c (is ++ rest)
+safe_all v cs c r vs o ps [] rest of g k = k
+safe_all v cs c r vs o ps (i ∷ is) rest of g k = safe_one v cs c r vs o ps i (is ++ rest) of.0 g (safe_all v cs c r vs o ps is rest of.1 g k)
+
+-- the grounds of an action with which nothing is wrong
+pub grounds : (v : Service) (cs : List Config) (c : Config) (os : List Object) (r : ObjRef) (o : Object) (n : ActionName) (a : Act) (xs : List Argument) → are_direct (needs_of n) xs ≡ true → arguments_faults (known_before v (present v c)) a (needs_of n) xs ≡ [] → is_there r (present v c) ≡ true → (list_any is_slot_piece (can_put n) ≡ true → list_all (is_fine v cs c) (slot_actions o.fixed) ≡ true) → (list_any is_list_piece (can_put n) ≡ true → false ≡ true) → Grounds v cs c r (values os xs) o (can_put n)
+grounds v cs c os r o n a xs d e here_it slots unlisted = record {
+  here_it = here_it;
+  named = λ sends q. named_first v c os n a xs q d e sends;
+  slots = slots;
+  unlisted = unlisted;
+}
+
+-- Members that a group runs or halts
+
+empty_is : (fs : List Fault) → is_empty fs ≡ true → fs ≡ []
+empty_is [] h = refl
+empty_is (f ∷ fs) h = absurd cc
+
+-- where nothing is wrong with one action, nothing is with another that takes the same
+alike_faults : (is : Class → Bool) (n m : ActionName) (r : ObjRef) (k : Option Class) → object_faults is n r k ≡ [] → object_faults is m r k ≡ []
+alike_faults is n m r None e = absurd cc
+alike_faults is n m r (Some k) e = by (is k) e
+  where
+    by : (b : Bool) → unless b fault.WrongClass n r ≡ [] → unless b fault.WrongClass m r ≡ []
+    by true h = refl
+    by false h = absurd cc
+
+abbrev AreGood : List Fixed → List Member → Type 0
+AreGood ps ms = list_all (λ m. is_empty (member_faults ps m)) ms ≡ true
+
+first_good : (ps : List Fixed) (m : Member) (ms : List Member) → AreGood ps (m ∷ ms) → member_faults ps m ≡ []
+first_good ps m ms h = empty_is (member_faults ps m) (and_left (is_empty (member_faults ps m)) (list_all (λ x. is_empty (member_faults ps x)) ms) h)
+
+rest_good : (ps : List Fixed) (m : Member) (ms : List Member) → AreGood ps (m ∷ ms) → AreGood ps ms
+rest_good ps m ms h = and_right (is_empty (member_faults ps m)) (list_all (λ x. is_empty (member_faults ps x)) ms) h
+
+safe_members_run : (v : Service) (cs : List Config) (c : Config) (ms : List Member) → AreGood (present v c) ms → IsSafeFront v cs c (members_run ms)
+safe_members_run v cs c [] h rest k = k
+safe_members_run v cs c (m ∷ ms) h rest k =
+    (first_good (present v c) m ms h, safe_members_run v cs c ms (rest_good (present v c) m ms h) rest k)
+
+safe_members_halted : (v : Service) (cs : List Config) (c : Config) (ms : List Member) → AreGood (present v c) ms → IsSafeFront v cs c (members_halted ms)
+safe_members_halted v cs c [] h rest k = k
+safe_members_halted v cs c (m ∷ ms) h rest k =
+    (alike_faults is_visible action.Run action.Stop m.object (class_at m.object (present v c)) (first_good (present v c) m ms h), safe_members_halted v cs c ms (rest_good (present v c) m ms h) rest k)
+
+-- what a group with good members puts that runs or halts
+
+pub safe_group_runs : (v : Service) (cs : List Config) (c : Config) (k : Class) (r : ObjRef) (o : Object) → is_list_group k ≡ false → AreGood (present v c) (members o.fixed) → IsSafeFront v cs c (group_runs k r o)
+safe_group_runs v cs c class.TokenGroup r o none good = safe_members_run v cs c (members o.fixed) good
+safe_group_runs v cs c class.ListGroup r o none good = absurd cc
+safe_group_runs v cs c _ r o none good = λ rest k. k
+
+pub safe_group_halts : (v : Service) (cs : List Config) (c : Config) (k : Class) (o : Object) → is_list_group k ≡ false → AreGood (present v c) (members o.fixed) → IsSafeFront v cs c (group_halts k o)
+safe_group_halts v cs c class.TokenGroup o none good = safe_members_halted v cs c (members o.fixed) good
+safe_group_halts v cs c class.ListGroup o none good = absurd cc
+safe_group_halts v cs c _ o none good = λ rest k. k
+
+pub safe_token_told : (v : Service) (cs : List Config) (c : Config) (k : Class) (r : ObjRef) → is_there r (present v c) ≡ true → IsSafeFront v cs c (token_told k r)
+safe_token_told v cs c class.TokenGroup r here_it = λ rest k. (here_it, k)
+safe_token_told v cs c _ r here_it = λ rest k. k
+
+-- where objects are placed only bodies change
+
+pub placed-own : (ps : List (ObjRef × Position)) (os : Objects) → parts (all_placed ps os).application ≡ parts os.application
+placed-own [] os = refl
+placed-own (p ∷ ps) os = placed-own ps (changed (placed_at p.1) p.0 os) ∙ changed-own (placed_at p.1) p.0 os
+
+pub placed-others : (ps : List (ObjRef × Position)) (os : Objects) → parts (all_placed ps os).scene ≡ parts os.scene
+placed-others [] os = refl
+placed-others (p ∷ ps) os = placed-others ps (changed (placed_at p.1) p.0 os) ∙ changed-others (placed_at p.1) p.0 os

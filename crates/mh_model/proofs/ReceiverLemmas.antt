@@ -60,6 +60,7 @@ alone_next s = unless_ended s.ended
     sorted sort.Call a = unless_stuck (stuck (item.Act a) s) a
     sorted sort.Order a = refl
     sorted sort.Widget a = refl
+    sorted sort.Interact a = refl
     sorted sort.Whole a = refl
 
     item_in : (i : Item) → call_in [] i s ≡ None

@@ -2,9 +2,10 @@
 use Rattle.std.specs.Prelude.{◌≡◌, ℕ, Bool, true, false, ◌&&◌, if◌then◌else◌, List, [], ◌∷◌, ◌++◌, Option, Some, None, refl}
 use Rattle.std.specs.Option.{option_map_or, is_some}
 use Rattle.std.specs.Cmp.Derive.{both_true}
-use Rattle.std.proofs.Common.{sym, subst, append_assoc}
+use Rattle.std.proofs.Common.{sym, subst, append_assoc, ◌∙◌}
 use Rattle.mh_base.specs.declared.obj_ref.ObjRef.{ObjRef}
 use Rattle.mh_base.specs.declared.value.Value.{Value}
+use Rattle.mh_base.specs.declared.value.Value.TheVariants as value
 use Rattle.mh_base.specs.Event.{is_sync}
 use Rattle.mh_base.specs.declared.event.EventType.TheVariants as event
 use Rattle.mh_group.specs.declared.action_name.ActionName.{ActionName}
@@ -26,16 +27,19 @@ use Rattle.mh_model.specs.declared.sort.Sort.TheVariants as sort
 use Rattle.mh_model.specs.declared.program.Outcome.{Outcome}
 use Rattle.mh_model.specs.declared.program.Param.{Param}
 use Rattle.mh_model.specs.Service.{Service, object_at, group_parts}
-use Rattle.mh_model.specs.State.{State, all}
+use Rattle.mh_model.specs.State.{State, Objects, all}
 use Rattle.mh_model.specs.Items.{heard, entering}
-use Rattle.mh_model.specs.Lifecycle.{loaded_at, emit_if, rise_items, is_available_at, is_running_at, is_unavailable_at, is_stopped_at, is_unprepared_at}
+use Rattle.mh_model.specs.Lifecycle.{loaded_at, rise_items, started_items, halt_items, run_places, is_available_at, is_unavailable_at, is_unprepared_at}
 use Rattle.mh_model.specs.Known.{Known, known_before}
 use Rattle.mh_model.specs.Faults.{admitted_faults, called_faults, arguments_faults, faults, passed}
 use Rattle.mh_model.specs.Sort.{sort_of}
 use Rattle.mh_model.specs.Arguments.{values, receivers}
 use Rattle.mh_model.specs.Bodies.{prepared, started, halted, dropped, replaced, changed_by}
-use Rattle.mh_model.specs.Saying.{answers_at, put_items_at, call_items}
-use Rattle.mh_model.specs.Rules.{loaded_with, load_rule, called, rule_by, emitted, rule, noted}
+use Rattle.mh_model.specs.Saying.{answers_at, put_items, put_items_at, call_items, interaction_items}
+use Rattle.mh_model.specs.Tokens.{Worked}
+use Rattle.mh_model.specs.Worked.{worked, is_interacting, ended_of}
+use Rattle.mh_model.specs.Describing.{can_put}
+use Rattle.mh_model.specs.Rules.{changed, all_placed, loaded_with, load_rule, called, widget_at, interaction_set, interact_rule, rule_by, emitted, rule, noted}
 use Rattle.mh_model.specs.Configuration.{present, is_among}
 use Rattle.mh_model.specs.Active.{is_none, is_direct, are_direct, is_good, fault_of, leads_to, has_known_id}
 use Rattle.mh_model.specs.Acceptable.{leads_into}
@@ -46,8 +50,10 @@ use Rattle.mh_model.proofs.FaultLemmas.{none_wrong, empty_left, empty_right}
 use Rattle.mh_model.proofs.PartLemmas.{found_there, changed-own, changed-others}
 use Rattle.mh_model.proofs.ServiceLemmas.{and_left, and_right, all_joined}
 use Rattle.mh_model.proofs.WorkLemmas.{safe_heard, safe_entering}
-use Rattle.mh_model.proofs.StateLemmas.{fine_objects, group_there, fine_group, there, kept, kept_work, kept_bodies, kept_loads, unseen}
-use Rattle.mh_model.proofs.PutLemmas.{filled-own, filled-others, fit_there, safe_put}
+use Rattle.mh_model.proofs.StateLemmas.{fine_objects, group_there, fine_group, there, kept, kept_work, kept_bodies, kept_loads, unseen, unasked}
+use Rattle.mh_model.proofs.PutLemmas.{filled-own, filled-others, placed-own, placed-others, fit_there, Grounds, grounds, safe_all}
+use Rattle.mh_model.proofs.DescribingLemmas.{plain_puts, widget_puts}
+use Rattle.mh_model.proofs.MemberLemmas.{unlisted, slots_safe, safe_started, safe_halted}
 use Rattle.mh_model.proofs.ExchangeLemmas.{safe_exchange}
 use Rattle.mh_model.proofs.EventLemmas.{safe_emit, safe_rise}
 use Rattle.mh_model.proofs.WholeLemmas.{safe_whole}
@@ -85,6 +91,30 @@ safe_call s k said ps name xs r rest n fit behind_it =
     kept_bodies s k _ s.stack _ n (filled-own given (said_by said) s.objects) (filled-others given (said_by said) s.objects)
     (safe_call_items s.service k.accepted.reached (config_of s) name r rest fit behind_it)
 
+-- an object that interacts, or no longer does
+
+safe_interaction_items : (v : Service) (cs : List Config) (c : Config) (vs : List Value) (b : Bool) (r : ObjRef) (rest : List Item) → is_there r (present v c) ≡ true → IsSafeWork v cs c rest → IsSafeWork v cs c (interaction_items vs b r ++ rest)
+safe_interaction_items v cs c (value.Bool false ∷ []) true r rest here_it k = (here_it, k)
+safe_interaction_items v cs c _ b r rest here_it k = k
+
+safe_interact : (s : State) (k : IsSafe s) (name : ActionName) (vs : List Value) (rs : List ObjRef) (r : ObjRef) (rest : List Item) (n : ℕ) → admitted_faults (known_before s.service (present s.service (config_of s))) name r ≡ [] → IsSafeWork s.service k.accepted.reached (config_of s) rest → IsSafe (interact_rule name vs rs r (record s { work = rest; taken = n }))
+safe_interact s k action.SetInteractionStatus vs rs r rest n fit behind_it =
+    let here_it = fit_there (λ x. admits x action.SetInteractionStatus) action.SetInteractionStatus r (present s.service (config_of s)) fit in
+    let work : List Item = interaction_items vs (is_interacting r s.interaction) r ++ rest in
+    unasked (record s { work = work; taken = n })
+    (kept_work s k work s.transition n (safe_interaction_items s.service k.accepted.reached (config_of s) vs (is_interacting r s.interaction) r rest here_it behind_it))
+    (interaction_set vs r (object_at r (all s.objects)) s.interaction)
+safe_interact s k action.GetInteractionStatus vs rs r rest n fit behind_it =
+    let told : List Value = value.Bool (is_interacting r s.interaction) ∷ [] in
+    kept_bodies s k _ s.stack rest n (filled-own rs told s.objects) (filled-others rs told s.objects) behind_it
+safe_interact s k _ vs rs r rest n fit behind_it = kept_work s k rest s.transition n behind_it
+
+-- the grounds of an action with which nothing is wrong, done to an object that is found
+grounds_now : (s : State) (k : IsSafe s) (a : Act) (r : ObjRef) (o : Object) → object_at r (all s.objects) ≡ Some o → are_direct (needs_of a.name) a.arguments ≡ true → admitted_faults (known_before s.service (present s.service (config_of s))) a.name r ≡ [] → arguments_faults (known_before s.service (present s.service (config_of s))) a (needs_of a.name) a.arguments ≡ [] → Grounds s.service k.accepted.reached (config_of s) r (values (all s.objects) a.arguments) o (can_put a.name)
+grounds_now s k a r o e d fit good =
+    grounds s.service k.accepted.reached (config_of s) (all s.objects) r o a.name a a.arguments d good (there s k r (found_there r (all s.objects) o e))
+    (slots_safe s k a.name r o e fit) (unlisted s k a.name r o e fit)
+
 -- an action with which nothing is wrong, by what kind of thing it does
 safe_by_sort : (s : State) (k : IsSafe s) (o : Sort) (a : Act) (r : ObjRef) (rest : List Item) (n : ℕ) → are_direct (needs_of a.name) a.arguments ≡ true → admitted_faults (known_before s.service (present s.service (config_of s))) a.name r ≡ [] → arguments_faults (known_before s.service (present s.service (config_of s))) a (needs_of a.name) a.arguments ≡ [] → option_map_or (is_among k.accepted.reached) (leads_to s.service (config_of s) a.name r) true ≡ true → IsSafeWork s.service k.accepted.reached (config_of s) rest → IsSafe (rule_by o a.name a.arguments r (record s { work = rest; taken = n }))
 safe_by_sort s k sort.Change a r rest n d fit good led behind_it =
@@ -97,11 +127,27 @@ safe_by_sort s k sort.Put a r rest n d fit good led behind_it =
   where
     by : (m : Option Object) → object_at r (all s.objects) ≡ m → IsSafeWork s.service k.accepted.reached (config_of s) (put_items_at a.name (values (all s.objects) a.arguments) r m ++ rest)
     by None e = behind_it
-    by (Some o) e = safe_put s.service k.accepted.reached (config_of s) (all s.objects) r o a.name a a.arguments rest d good (there s k r (found_there r (all s.objects) o e)) behind_it
+    by (Some o) e =
+        let vs : List Value = values (all s.objects) a.arguments in
+        safe_all s.service k.accepted.reached (config_of s) r vs o (can_put a.name) (put_items a.name vs r o) rest (plain_puts a.name vs r o)
+        (grounds_now s k a r o e d fit good) behind_it
 safe_by_sort s k sort.Load a r rest n d fit good led behind_it = safe_load s k (values (all s.objects) a.arguments) r rest n behind_it
 safe_by_sort s k sort.Call a r rest n d fit good led behind_it = safe_call s k _ _ a.name a.arguments r rest n fit behind_it
 safe_by_sort s k sort.Order a r rest n d fit good led behind_it = kept_bodies s k s.objects _ rest n refl refl behind_it
-safe_by_sort s k sort.Widget a r rest n d fit good led behind_it = kept_work s k rest s.transition n behind_it
+safe_by_sort s k sort.Widget a r rest n d fit good led behind_it = by (object_at r (all s.objects)) refl
+  where
+    vs : List Value
+    vs = values (all s.objects) a.arguments
+
+    by : (m : Option Object) → object_at r (all s.objects) ≡ m → IsSafe (widget_at a.name vs r m (record s { work = rest; taken = n }))
+    by None e = kept_work s k rest s.transition n behind_it
+    by (Some o) e =
+        let w : Worked = worked a.name vs r o.fixed o.body in
+        let os : Objects = changed (λ p b. w.body) r s.objects in
+        kept_bodies s k (all_placed w.placed os) s.stack (w.items ++ rest) n
+        (placed-own w.placed os ∙ changed-own (λ p b. w.body) r s.objects) (placed-others w.placed os ∙ changed-others (λ p b. w.body) r s.objects)
+        (safe_all s.service k.accepted.reached (config_of s) r vs o (can_put a.name) w.items rest (widget_puts a.name vs r o) (grounds_now s k a r o e d fit good) behind_it)
+safe_by_sort s k sort.Interact a r rest n d fit good led behind_it = safe_interact s k a.name (values (all s.objects) a.arguments) (receivers a.arguments) r rest n fit behind_it
 safe_by_sort s k sort.Whole a r rest n d fit good led behind_it =
     safe_whole s k a.name (values (all s.objects) a.arguments) r rest n fit led behind_it
 
@@ -141,14 +187,21 @@ safe_prepare_item s k r rest n behind_it =
 
 safe_run_item : (s : State) (k : IsSafe s) (r : ObjRef) (rest : List Item) (n : ℕ) → IsSafeWork s.service k.accepted.reached (config_of s) rest → IsSafe (rule (item.Run r) (record s { work = rest; taken = n }))
 safe_run_item s k r rest n behind_it =
-    let text : Option (List ℕ) = loaded_at s.files (object_at r (all s.objects)) in
-    kept_loads s k _ _ _ _ n (changed-own (started text) r s.objects) (changed-others (started text) r s.objects)
-    (subst (IsSafeWork s.service k.accepted.reached (config_of s)) (sym (append_assoc (rise_items s.files is_unprepared_at r (object_at r (all s.objects))) (emit_if (is_stopped_at (object_at r (all s.objects))) r event.IsRunning) rest))
-    (safe_rise s k s.files is_unprepared_at r _ refl (safe_emit s k r event.IsRunning rest is_stopped_at refl behind_it)))
+    let o : Option Object = object_at r (all s.objects) in
+    let text : Option (List ℕ) = loaded_at s.files o in
+    let os : Objects = changed (started text) r s.objects in
+    kept_loads s k (all_placed (run_places o) os) _ _ _ n
+    (placed-own (run_places o) os ∙ changed-own (started text) r s.objects) (placed-others (run_places o) os ∙ changed-others (started text) r s.objects)
+    (subst (IsSafeWork s.service k.accepted.reached (config_of s)) (sym (append_assoc (rise_items s.files is_unprepared_at r o) (started_items r o) rest))
+    (safe_rise s k s.files is_unprepared_at r _ refl (safe_started s k r rest behind_it)))
 
 safe_halt_item : (s : State) (k : IsSafe s) (r : ObjRef) (rest : List Item) (n : ℕ) → IsSafeWork s.service k.accepted.reached (config_of s) rest → IsSafe (rule (item.Halt r) (record s { work = rest; taken = n }))
 safe_halt_item s k r rest n behind_it =
-    kept_bodies s k _ s.stack _ n (changed-own (λ p b. halted b) r s.objects) (changed-others (λ p b. halted b) r s.objects) (safe_emit s k r event.IsStopped rest is_running_at refl behind_it)
+    let os : Objects = changed (λ p b. halted b) r s.objects in
+    let work : List Item = halt_items r (object_at r (all s.objects)) ++ rest in
+    unasked (record s { objects = os; work = work; taken = n })
+    (kept_bodies s k os s.stack work n (changed-own (λ p b. halted b) r s.objects) (changed-others (λ p b. halted b) r s.objects) (safe_halted s k r rest behind_it))
+    (ended_of r s.interaction)
 
 safe_drop_item : (s : State) (k : IsSafe s) (r : ObjRef) (rest : List Item) (n : ℕ) → IsSafeWork s.service k.accepted.reached (config_of s) rest → IsSafe (rule (item.Drop r) (record s { work = rest; taken = n }))
 safe_drop_item s k r rest n behind_it =

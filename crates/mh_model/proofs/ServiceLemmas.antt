@@ -62,7 +62,7 @@ filter_none {X} p (x ∷ xs) h = by (p x) (and_left (not (p x)) (list_all (λ y.
     by true e none = absurd cc
     by false e none = none
 
-some_same : {X : Type 0} {x y : X} → Some x ≡ Some y → x ≡ y
+pub some_same : {X : Type 0} {x y : X} → Some x ≡ Some y → x ≡ y
 some_same {X} {x} {y} e = ap (λ (m : Option X). option_map_or (λ (z : X). z) m x) e
 
 -- what is found passes the test, and whatever all members pass

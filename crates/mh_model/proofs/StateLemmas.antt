@@ -6,6 +6,7 @@ use Rattle.mh_base.specs.declared.obj_ref.ObjRef.{ObjRef}
 use Rattle.mh_group.specs.Table.{is_scene, is_application}
 use Rattle.mh_model.specs.declared.config.Config.{Config}
 use Rattle.mh_model.specs.declared.input.Waiting.{Waiting}
+use Rattle.mh_model.specs.declared.interaction.Interaction.{Interaction}
 use Rattle.mh_model.specs.declared.item.Item.{Item}
 use Rattle.mh_model.specs.declared.file.File.{File}
 use Rattle.mh_model.specs.declared.file.Wait.{Wait}
@@ -34,7 +35,7 @@ parts_present s k =
 fine_present : (v : Service) (k : IsAcceptable v) (c : Config) → is_among k.reached c ≡ true → list_all (is_fine v k.reached c) (active_actions (present v c)) ≡ true
 fine_present v k c h = all_both (is_good v (present v c)) (leads_into v k.reached c) (active_actions (present v c)) (k.free c h) (k.closed.each c h)
 
-fine_now : (s : State) (k : IsSafe s) → AreFine (is_fine s.service k.accepted.reached (config_of s)) (present s.service (config_of s)) (present s.service (config_of s))
+pub fine_now : (s : State) (k : IsSafe s) → AreFine (is_fine s.service k.accepted.reached (config_of s)) (present s.service (config_of s)) (present s.service (config_of s))
 fine_now s k = fine_present s.service k.accepted (config_of s) k.among
 
 pub fine_objects : (s : State) (k : IsSafe s) → AreFine (is_fine s.service k.accepted.reached (config_of s)) (present s.service (config_of s)) (parts (all s.objects))
@@ -102,6 +103,21 @@ kept_bodies s k os stack work n own others safe = kept s k os stack s.timers s.q
 -- the moments, the lock, the picture that it keeps, and the end are no matter
 pub unseen : (s : State) → IsSafe s → (m : Moments) (ended : Bool) (locks : ℕ) (p : Planes) → IsSafe (record s { moments = m; ended = ended; locks = locks; frozen = p })
 unseen s k m ended locks p = record {
+  accepted = k.accepted;
+  application = k.application;
+  scene = k.scene;
+  among = k.among;
+  own = k.own;
+  others = k.others;
+  work = k.work;
+  timers = k.timers;
+  queue = k.queue;
+  faultless = k.faultless;
+}
+
+-- nor is who interacts
+pub unasked : (s : State) → IsSafe s → (i : Option Interaction) → IsSafe (record s { interaction = i })
+unasked s k i = record {
   accepted = k.accepted;
   application = k.application;
   scene = k.scene;

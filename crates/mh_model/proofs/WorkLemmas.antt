@@ -12,6 +12,7 @@ use Rattle.mh_base.specs.declared.value.Value.TheVariants as value
 use Rattle.mh_base.specs.declared.event.EventType.TheVariants as event
 use Rattle.mh_group.specs.declared.class.Class.{Class}
 use Rattle.mh_group.specs.declared.class.Class.TheVariants as class
+use Rattle.mh_group.specs.declared.attribute.Attribute.{Attribute}
 use Rattle.mh_group.specs.declared.attribute.Attribute.TheVariants as attribute
 use Rattle.mh_group.specs.declared.action_name.ActionName.{ActionName}
 use Rattle.mh_group.specs.declared.action_name.ActionName.TheVariants as action
@@ -30,6 +31,7 @@ use Rattle.mh_model.specs.Faults.{is_transition, object_faults, admitted_faults}
 use Rattle.mh_model.specs.Known.{known_before, class_at}
 use Rattle.mh_model.specs.Configuration.{is_group_of, present, is_among}
 use Rattle.mh_model.specs.Active.{has_source, is_active, actions, leads_to}
+use Rattle.mh_model.specs.Tokens.{slot_actions}
 use Rattle.mh_model.specs.Safe.{is_there, is_fine, IsSafeItem, IsSafeWork}
 use Rattle.mh_model.proofs.FaultLemmas.{fit_object}
 use Rattle.mh_model.proofs.ServiceLemmas.{and_left, and_right, all_left, all_right, same_ref-same, is_whole, found_group, found_numbered}
@@ -66,17 +68,28 @@ fine_left fine all ps qs h = all_left fine (flat_map actions (filter (is_active 
 pub fine_right : (fine : Act → Bool) (all ps qs : List Fixed) → AreFine fine all (ps ++ qs) → AreFine fine all qs
 fine_right fine all ps qs h = all_right fine (flat_map actions (filter (is_active all) ps)) (flat_map actions (filter (is_active all) qs)) (sym (ap (list_all fine) (actions-append all ps qs)) ∙ h)
 
--- the three effects of an object
-start_up_fine : (fine : Act → Bool) (p : Fixed) → list_all fine (actions p) ≡ true → list_all fine (as_effect (held attribute.OnStartUp p.properties)) ≡ true
-start_up_fine fine p h =
-    all_left fine (as_effect (held attribute.OnStartUp p.properties)) (as_effect (held attribute.OnCloseDown p.properties)) (all_left fine (as_effect (held attribute.OnStartUp p.properties) ++ as_effect (held attribute.OnCloseDown p.properties)) (as_effect (held attribute.LinkEffect p.properties)) h)
+-- the effects of an object, and its slots
 
-close_down_fine : (fine : Act → Bool) (p : Fixed) → list_all fine (actions p) ≡ true → list_all fine (as_effect (held attribute.OnCloseDown p.properties)) ≡ true
-close_down_fine fine p h =
-    all_right fine (as_effect (held attribute.OnStartUp p.properties)) (as_effect (held attribute.OnCloseDown p.properties)) (all_left fine (as_effect (held attribute.OnStartUp p.properties) ++ as_effect (held attribute.OnCloseDown p.properties)) (as_effect (held attribute.LinkEffect p.properties)) h)
+abbrev written : Attribute → Fixed → List Act
+written a p = as_effect (held a p.properties)
 
-effect_fine : (fine : Act → Bool) (p : Fixed) → list_all fine (actions p) ≡ true → list_all fine (as_effect (held attribute.LinkEffect p.properties)) ≡ true
-effect_fine fine p h = all_right fine (as_effect (held attribute.OnStartUp p.properties) ++ as_effect (held attribute.OnCloseDown p.properties)) (as_effect (held attribute.LinkEffect p.properties)) h
+effects_fine : (fine : Act → Bool) (p : Fixed) → list_all fine (actions p) ≡ true → list_all fine (written attribute.OnStartUp p ++ written attribute.OnCloseDown p ++ written attribute.LinkEffect p) ≡ true
+effects_fine fine p h = all_left fine (written attribute.OnStartUp p ++ written attribute.OnCloseDown p ++ written attribute.LinkEffect p) (slot_actions p) h
+
+groups_fine : (fine : Act → Bool) (p : Fixed) → list_all fine (actions p) ≡ true → list_all fine (written attribute.OnStartUp p ++ written attribute.OnCloseDown p) ≡ true
+groups_fine fine p h = all_left fine (written attribute.OnStartUp p ++ written attribute.OnCloseDown p) (written attribute.LinkEffect p) (effects_fine fine p h)
+
+start_up_fine : (fine : Act → Bool) (p : Fixed) → list_all fine (actions p) ≡ true → list_all fine (written attribute.OnStartUp p) ≡ true
+start_up_fine fine p h = all_left fine (written attribute.OnStartUp p) (written attribute.OnCloseDown p) (groups_fine fine p h)
+
+close_down_fine : (fine : Act → Bool) (p : Fixed) → list_all fine (actions p) ≡ true → list_all fine (written attribute.OnCloseDown p) ≡ true
+close_down_fine fine p h = all_right fine (written attribute.OnStartUp p) (written attribute.OnCloseDown p) (groups_fine fine p h)
+
+effect_fine : (fine : Act → Bool) (p : Fixed) → list_all fine (actions p) ≡ true → list_all fine (written attribute.LinkEffect p) ≡ true
+effect_fine fine p h = all_right fine (written attribute.OnStartUp p ++ written attribute.OnCloseDown p) (written attribute.LinkEffect p) (effects_fine fine p h)
+
+pub slots_fine : (fine : Act → Bool) (p : Fixed) → list_all fine (actions p) ≡ true → list_all fine (slot_actions p) ≡ true
+slots_fine fine p h = all_right fine (written attribute.OnStartUp p ++ written attribute.OnCloseDown p ++ written attribute.LinkEffect p) (slot_actions p) h
 
 heard_source : (all : List Fixed) (s : Option Value) (source : ObjRef) → hears_source s source ≡ true → is_there source all ≡ true → has_source all s ≡ true
 heard_source all None source h there = absurd cc
@@ -131,7 +144,7 @@ safe_halts v cs c [] rest k = k
 safe_halts v cs c (p ∷ ps) rest k = (tt, safe_halts v cs c ps rest k)
 
 -- the actions of a part that is found, if its effects are active
-found_fine : (fine : Act → Bool) (all ps : List Fixed) (r : ObjRef) (p : Fixed) → is_active all p ≡ true → part_at r ps ≡ Some p → AreFine fine all ps → list_all fine (actions p) ≡ true
+pub found_fine : (fine : Act → Bool) (all ps : List Fixed) (r : ObjRef) (p : Fixed) → is_active all p ≡ true → part_at r ps ≡ Some p → AreFine fine all ps → list_all fine (actions p) ≡ true
 found_fine fine all [] r p active e h = absurd cc
 found_fine fine all (x ∷ ps) r p active e h = by (same_ref r x.key) e (λ rest. found_fine fine all ps r p active rest (fine_rest fine all x ps h))
   where
@@ -185,7 +198,7 @@ safe_entering v cs c g rest is there k =
 abbrev pub IsSafeFront : Service → List Config → Config → List Item → Type 0
 IsSafeFront v cs c is = (rest : List Item) → IsSafeWork v cs c rest → IsSafeWork v cs c (is ++ rest)
 
-both_safe : (v : Service) (cs : List Config) (c : Config) (is js : List Item) → IsSafeFront v cs c is → IsSafeFront v cs c js → IsSafeFront v cs c (is ++ js)
+pub both_safe : (v : Service) (cs : List Config) (c : Config) (is js : List Item) → IsSafeFront v cs c is → IsSafeFront v cs c js → IsSafeFront v cs c (is ++ js)
 both_safe v cs c is js f g rest k = subst (IsSafeWork v cs c) (sym (append_assoc is js rest)) (f (js ++ rest) (g rest k))
 
 abbrev pub IsFineScene : Service → List Config → Config → Option (List ℕ) → Type 0

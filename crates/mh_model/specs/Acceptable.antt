@@ -6,7 +6,7 @@ use Rattle.mh_model.specs.declared.act.Act.{Act}
 use Rattle.mh_model.specs.declared.config.Config.{Config}
 use Rattle.mh_model.specs.Service.{Service}
 use Rattle.mh_model.specs.Configuration.{is_service, is_single, starting, present, is_among}
-use Rattle.mh_model.specs.Active.{active_actions, is_good, leads}
+use Rattle.mh_model.specs.Active.{active_actions, is_good, has_good_members, leads}
 
 -- where an action leads, if it leads anywhere, is among these
 abbrev pub leads_into : Service → List Config → Config → Act → Bool
@@ -21,14 +21,19 @@ pub record IsClosed (s : Service) (cs : List Config) : Type 0 where
 abbrev pub is_free : Service → Config → Bool
 is_free s c = list_all (is_good s (present s c)) (active_actions (present s c))
 
+-- and no member of a group of objects is absent or no visible
+abbrev pub is_manned : Service → Config → Bool
+is_manned s c = list_all (has_good_members (present s c)) (present s c)
+
 -- there is one application and at most one scene; and there is a closed set of configurations, in none of which
--- an active action can be stuck
+-- an active action can be stuck, nor a member of a group
 pub record IsAcceptable (s : Service) : Type 0 where
   pub service : is_service s ≡ true
   pub single : is_single s ≡ true
   pub reached : List Config
   pub closed : IsClosed s reached
   pub free : (c : Config) → is_among reached c ≡ true → is_free s c ≡ true
+  pub manned : (c : Config) → is_among reached c ≡ true → is_manned s c ≡ true
 
 -- the configurations that are reached from the first one: the least closed set
 pub data IsReached (s : Service) : Config → Type 0 where

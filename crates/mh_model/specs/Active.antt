@@ -1,7 +1,7 @@
 -- What can come to be done in a configuration: the actions of its active effects, what is wrong with one of
 -- them, and where it leads.
-use Rattle.std.specs.Prelude.{Bool, true, false, ◌&&◌, ◌==◌, if◌then◌else◌, List, [], ◌∷◌, ◌++◌, filter, Option, Some, None}
-use Rattle.std.specs.List.{flat_map}
+use Rattle.std.specs.Prelude.{Bool, true, false, ◌&&◌, ◌==◌, not, if◌then◌else◌, List, [], ◌∷◌, ◌++◌, filter, Option, Some, None}
+use Rattle.std.specs.List.{flat_map, list_all}
 use Rattle.std.specs.Option.{option_map_or}
 use Rattle.mh_base.specs.declared.obj_ref.ObjRef.{ObjRef}
 use Rattle.mh_base.specs.declared.value.Value.{Value}
@@ -11,7 +11,7 @@ use Rattle.mh_group.specs.declared.action_name.ActionName.{ActionName}
 use Rattle.mh_group.specs.declared.action_name.ActionName.TheVariants as action
 use Rattle.mh_group.specs.declared.shape.Need.{Need}
 use Rattle.mh_group.specs.declared.shape.Need.TheVariants as need
-use Rattle.mh_group.specs.Table.{is_link, is_scene, is_application, needs_of}
+use Rattle.mh_group.specs.Table.{is_link, is_scene, is_application, is_list_group, is_visible, needs_of}
 use Rattle.mh_model.specs.declared.act.Act.{Act}
 use Rattle.mh_model.specs.declared.act.Argument.{Argument}
 use Rattle.mh_model.specs.declared.act.Argument.TheVariants as argument
@@ -19,18 +19,20 @@ use Rattle.mh_model.specs.declared.config.Config.{Config}
 use Rattle.mh_model.specs.declared.act.Target.{Target}
 use Rattle.mh_model.specs.declared.act.Target.TheVariants as target
 use Rattle.mh_model.specs.declared.fault.Fault.{Fault}
+use Rattle.mh_model.specs.declared.member.Member.{Member}
 use Rattle.mh_model.specs.declared.object.Fixed.{Fixed}
 use Rattle.mh_model.specs.Property.{held, as_effect, as_value}
 use Rattle.mh_model.specs.Service.{Service, part_at}
-use Rattle.mh_model.specs.Faults.{fault_known}
-use Rattle.mh_model.specs.Known.{known_before}
+use Rattle.mh_model.specs.Faults.{object_faults, fault_known}
+use Rattle.mh_model.specs.Known.{class_at, known_before}
+use Rattle.mh_model.specs.Tokens.{members, slot_actions}
 use Rattle.mh_model.specs.Configuration.{is_group_of}
 
--- the actions of an object, through its effects: start-up, close-down, and what a link does
+-- the actions of an object, through its effects: start-up, close-down, what a link does, and slots
 abbrev pub actions : Fixed → List Act
 actions p =
     as_effect (held attribute.OnStartUp p.properties) ++ as_effect (held attribute.OnCloseDown p.properties)
-    ++ as_effect (held attribute.LinkEffect p.properties)
+    ++ as_effect (held attribute.LinkEffect p.properties) ++ slot_actions p
 
 -- the source of a link is among the objects
 abbrev pub has_source : List Fixed → Option Value → Bool
@@ -80,6 +82,19 @@ is_none (Some f) = false
 -- nothing is wrong with the action, and it is known what it is done to, and to which timer
 abbrev pub is_good : Service → List Fixed → Act → Bool
 is_good s ps a = is_none (fault_of s ps a) && is_direct a && has_known_id a.name a.arguments
+
+-- Members. What a token group runs and halts is there, and a visible; what a list shows changes, and is not known
+-- beforehand.
+
+abbrev pub member_faults : List Fixed → Member → List Fault
+member_faults ps m = object_faults is_visible action.Run m.object (class_at m.object ps)
+
+abbrev pub is_empty : List Fault → Bool
+is_empty [] = true
+is_empty (f ∷ fs) = false
+
+abbrev pub has_good_members : List Fixed → Fixed → Bool
+has_good_members ps p = not (is_list_group p.class) && list_all (λ m. is_empty (member_faults ps m)) (members p)
 
 -- The configuration to which an action leads: to a scene, under the same application, or to an application,
 -- with no scene.

@@ -74,10 +74,17 @@ overtyped c b = record {
   ends = false;
 }
 
+-- the entry point, within the text
+abbrev pub point_in : Body → ℕ
+point_in b = if nat_lt b.point (length (text_of b)) then b.point else length (text_of b)
+
 -- the octet is put in at the entry point, which is told where the field is full by that
 abbrev pub put_in : ℕ → ObjRef → Fixed → Body → Pressed
 put_in c r p b = record {
-  body = record b { text = Some (take b.point (text_of b) ++ c ∷ drop b.point (text_of b)); point = b.point + 1 };
+  body = record b {
+    text = Some (take (point_in b) (text_of b) ++ c ∷ drop (point_in b) (text_of b));
+    point = point_in b + 1;
+  };
   items =
       if int_eq (pos (length (text_of b) + 1)) (most_typed p) then plain_event r event.EntryFieldFull ∷ [] else [];
   ends = false;

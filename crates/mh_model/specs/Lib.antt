@@ -23,10 +23,11 @@ pub mod Files
 pub mod Programs
 pub mod Bodies
 pub mod Edits
-pub mod Lifecycle
 pub mod Tokens
 pub mod Lists
 pub mod Fields
+pub mod Worked
+pub mod Lifecycle
 pub mod Saying
 pub mod Describing
 pub mod Picture

@@ -1,5 +1,5 @@
 -- What is put, and what becomes of the display stack, when an object is prepared, runs, stops and is dropped.
-use Rattle.std.specs.Prelude.{ℕ, Bool, false, ◌&&◌, not, if◌then◌else◌, List, [], ◌∷◌, ◌++◌, filter, Option, Some, None}
+use Rattle.std.specs.Prelude.{ℕ, Bool, true, false, ◌&&◌, not, if◌then◌else◌, List, [], ◌∷◌, ◌++◌, map, filter, Option, Some, None, pos}
 use Rattle.std.specs.Option.{option_map_or, is_some}
 use Rattle.mh_base.specs.declared.obj_ref.ObjRef.{ObjRef}
 use Rattle.mh_base.specs.declared.value.Value.{Value}
@@ -9,14 +9,21 @@ use Rattle.mh_base.specs.declared.event.EventType.TheVariants as event
 use Rattle.mh_group.specs.declared.action_name.ActionName.{ActionName}
 use Rattle.mh_group.specs.declared.action_name.ActionName.TheVariants as action
 use Rattle.mh_group.specs.Table.{is_visible}
+use Rattle.mh_group.specs.declared.class.Class.{Class}
+use Rattle.mh_group.specs.declared.class.Class.TheVariants as class
+use Rattle.mh_group.specs.declared.written.Position.{Position}
 use Rattle.mh_model.specs.declared.item.Item.{Item}
+use Rattle.mh_model.specs.declared.item.Item.TheVariants as item
+use Rattle.mh_model.specs.declared.member.Member.{Member}
 use Rattle.mh_model.specs.declared.object.Object.{Object}
 use Rattle.mh_model.specs.declared.file.File.{File}
 use Rattle.mh_model.specs.declared.file.Wait.{Wait}
 use Rattle.mh_model.specs.Bodies.{loaded, lacking}
 use Rattle.mh_model.specs.Files.{awaited}
 use Rattle.mh_model.specs.Items.{plain_event}
+use Rattle.mh_model.specs.Lists.{nothing_shown, shows, halted_members, list_items, cells_placed}
 use Rattle.mh_model.specs.Service.{same_ref, object_at}
+use Rattle.mh_model.specs.Tokens.{event_with, members}
 
 abbrev pub is_available_at : Option Object → Bool
 is_available_at o = option_map_or (λ x. x.body.available) o false
@@ -70,12 +77,58 @@ rise_items fs becomes r o =
 abbrev pub prepare_items : List File → ObjRef → Option Object → List Item
 prepare_items fs r o = rise_items fs is_unavailable_at r o
 
--- that it became available, if it did, and that it runs
+-- Groups of objects run and halt others: a token group all its members, a list those that it shows.
+
+abbrev pub members_run : List Member → List Item
+members_run ms = map (λ m. item.RunMember m.object) ms
+
+abbrev pub members_halted : List Member → List Item
+members_halted ms = map (λ m. item.HaltMember m.object) ms
+
+abbrev pub group_runs : Class → ObjRef → Object → List Item
+group_runs class.TokenGroup r o = members_run (members o.fixed)
+group_runs class.ListGroup r o = list_items r nothing_shown (shows true o.fixed o.body.list)
+group_runs _ r o = []
+
+abbrev pub group_halts : Class → Object → List Item
+group_halts class.TokenGroup o = members_halted (members o.fixed)
+group_halts class.ListGroup o = halted_members (shows o.body.running o.fixed o.body.list).items []
+group_halts _ o = []
+
+-- the token of a token group is told when that runs
+abbrev pub token_told : Class → ObjRef → List Item
+token_told class.TokenGroup r = event_with r event.TokenMovedTo (value.Int (pos 1)) ∷ []
+token_told _ r = []
+
+-- what is put by an object that begins to run
+abbrev pub running_items : ObjRef → Object → List Item
+running_items r o =
+    group_runs o.fixed.class r o ++ plain_event r event.IsRunning ∷ token_told o.fixed.class r
+
+abbrev pub stopping_items : ObjRef → Object → List Item
+stopping_items r o = group_halts o.fixed.class o ++ plain_event r event.IsStopped ∷ []
+
+-- where it did not run
+abbrev pub started_items : ObjRef → Option Object → List Item
+started_items r None = []
+started_items r (Some o) = if o.body.running then [] else running_items r o
+
+-- that it became available, if it did, what it runs, and that it runs
 abbrev pub run_items : List File → ObjRef → Option Object → List Item
-run_items fs r o = rise_items fs is_unprepared_at r o ++ emit_if (is_stopped_at o) r event.IsRunning
+run_items fs r o = rise_items fs is_unprepared_at r o ++ started_items r o
 
 abbrev pub halt_items : ObjRef → Option Object → List Item
-halt_items r o = emit_if (is_running_at o) r event.IsStopped
+halt_items r None = []
+halt_items r (Some o) = if o.body.running then stopping_items r o else []
+
+-- where a list that begins to run places what it shows
+abbrev pub places_of : Class → Object → List (ObjRef × Position)
+places_of class.ListGroup o = cells_placed o.fixed (shows true o.fixed o.body.list)
+places_of _ o = []
+
+abbrev pub run_places : Option Object → List (ObjRef × Position)
+run_places None = []
+run_places (Some o) = if o.body.running then [] else places_of o.fixed.class o
 
 abbrev pub drop_items : ObjRef → Option Object → List Item
 drop_items r o = emit_if (is_available_at o) r event.IsDeleted

@@ -1,18 +1,23 @@
 -- One rule for each item and each action. A rule finds its item taken from the work list.
-use Rattle.std.specs.Prelude.{ℕ, ◌+◌, ◌-◌, ◌==◌, Bool, true, false, if◌then◌else◌, List, [], ◌∷◌, ◌++◌, map, filter, Option, Some, None, unwrap_or, option_and_then}
+use Rattle.std.specs.Prelude.{ℕ, ◌+◌, ◌-◌, ◌==◌, Bool, true, false, ◌&&◌, not, if◌then◌else◌, List, [], ◌∷◌, ◌++◌, map, filter, Option, Some, None, unwrap_or, option_and_then}
 use Rattle.std.specs.List.{list_any}
 use Rattle.std.specs.Str.{bytes_eq}
 use Rattle.mh_base.specs.declared.obj_ref.ObjRef.{ObjRef}
 use Rattle.mh_base.specs.declared.value.Value.{Value}
 use Rattle.mh_base.specs.Event.{is_sync}
-use Rattle.mh_group.specs.Table.{is_application}
+use Rattle.mh_base.specs.declared.value.Value.TheVariants as value
+use Rattle.mh_group.specs.Table.{is_application, is_visible}
+use Rattle.mh_group.specs.declared.attribute.Attribute.TheVariants as attribute
+use Rattle.mh_group.specs.declared.written.Position.{Position}
 use Rattle.mh_group.specs.declared.action_name.ActionName.{ActionName}
 use Rattle.mh_group.specs.declared.action_name.ActionName.TheVariants as action
 use Rattle.mh_model.specs.declared.act.Act.{Act}
 use Rattle.mh_model.specs.declared.act.Argument.{Argument}
 use Rattle.mh_model.specs.declared.event.Event.{Event}
+use Rattle.mh_model.specs.declared.held.Held.TheVariants as of
 use Rattle.mh_model.specs.declared.input.Waiting.{Waiting}
 use Rattle.mh_model.specs.declared.input.Waiting.TheVariants as waiting
+use Rattle.mh_model.specs.declared.interaction.Interaction.{Interaction}
 use Rattle.mh_model.specs.declared.item.Item.{Item}
 use Rattle.mh_model.specs.declared.item.Item.TheVariants as item
 use Rattle.mh_model.specs.declared.object.Body.{Body}
@@ -36,11 +41,13 @@ use Rattle.mh_model.specs.Configuration.{is_group_of}
 use Rattle.mh_model.specs.Items.{heard, entering, leaving, quitting}
 use Rattle.mh_model.specs.Sort.{sort_of}
 use Rattle.mh_model.specs.Arguments.{values, receivers, referred}
-use Rattle.mh_model.specs.Bodies.{prepared, started, halted, dropped, stored, replaced, brought, changed_by}
-use Rattle.mh_model.specs.Lifecycle.{prepare_items, run_items, halt_items, drop_items, is_available_at, is_unavailable_at, is_unprepared_at, loaded_at, waits_if, with_risen, without, reordered}
+use Rattle.mh_model.specs.Bodies.{prepared, started, halted, dropped, put, stored, replaced, brought, text_of, changed_by}
+use Rattle.mh_model.specs.Lifecycle.{prepare_items, run_items, halt_items, drop_items, is_available_at, is_unavailable_at, is_unprepared_at, loaded_at, run_places, waits_if, with_risen, without, reordered}
 use Rattle.mh_model.specs.Picture.{looked}
 use Rattle.mh_model.specs.Time.{set_timers}
-use Rattle.mh_model.specs.Saying.{answers_at, put_items_at, load_items, call_items}
+use Rattle.mh_model.specs.Tokens.{Worked}
+use Rattle.mh_model.specs.Worked.{worked, is_interacting, ended_of, interaction_of}
+use Rattle.mh_model.specs.Saying.{answers_at, put_items_at, load_items, call_items, interaction_items}
 
 -- A rule changes the body of an object; what its file says of it stays.
 
@@ -69,7 +76,7 @@ text_brought is text os = record {
   scene = with_text is text os.scene;
 }
 
--- Actions, by what kind of thing they do. Those that are not played yet do nothing.
+-- Actions, by what kind of thing they do.
 
 -- the body of what the action is done to is changed
 abbrev pub change_rule : ActionName → List Value → ObjRef → State → State
@@ -111,6 +118,52 @@ order_rule n vs r s = record s {
       if is_available_at (object_at r (all s.objects)) then reordered n vs r (all s.objects) s.stack
       else s.stack;
 }
+
+-- Widgets. What a list shows is placed, where it is a visible that is there.
+
+abbrev pub placed_at : Position → Fixed → Body → Body
+placed_at q p b = if is_visible p.class then put attribute.OrigPosition (of.Pair q.x q.y) b else b
+
+abbrev pub all_placed : List (ObjRef × Position) → Objects → Objects
+all_placed [] os = os
+all_placed (p ∷ ps) os = all_placed ps (changed (placed_at p.1) p.0 os)
+
+abbrev pub with_work : Worked → ObjRef → State → State
+with_work w r s = record s {
+  objects = all_placed w.placed (changed (λ p b. w.body) r s.objects);
+  work = w.items ++ s.work;
+}
+
+abbrev pub widget_at : ActionName → List Value → ObjRef → Option Object → State → State
+widget_at n vs r None s = s
+widget_at n vs r (Some o) s = with_work (worked n vs r o.fixed o.body) r s
+
+abbrev pub widget_rule : ActionName → List Value → ObjRef → State → State
+widget_rule n vs r s = widget_at n vs r (object_at r (all s.objects)) s
+
+-- Interaction. An object that runs and does not interact begins to, in the place of any other; one that interacts
+-- ends, and that is told.
+
+abbrev pub begins_with : ObjRef → Option Object → Option Interaction → Option Interaction
+begins_with r None i = i
+begins_with r (Some o) i =
+    if o.body.running && not (is_interacting r i)
+    then Some (record { object = r; before = text_of o.body })
+    else i
+
+abbrev pub interaction_set : List Value → ObjRef → Option Object → Option Interaction → Option Interaction
+interaction_set (value.Bool true ∷ []) r o i = begins_with r o i
+interaction_set (value.Bool false ∷ []) r o i = ended_of r i
+interaction_set vs r o i = i
+
+abbrev pub interact_rule : ActionName → List Value → List ObjRef → ObjRef → State → State
+interact_rule action.SetInteractionStatus vs rs r s = record s {
+  interaction = interaction_set vs r (object_at r (all s.objects)) s.interaction;
+  work = interaction_items vs (is_interacting r s.interaction) r ++ s.work;
+}
+interact_rule action.GetInteractionStatus vs rs r s =
+    record s { objects = filled rs (value.Bool (is_interacting r s.interaction) ∷ []) s.objects }
+interact_rule _ vs rs r s = s
 
 -- The lock. The first one keeps the picture that is there, and while it is above 0 that one is shown.
 
@@ -193,7 +246,8 @@ rule_by sort.Put n xs r s = put_rule n (values (all s.objects) xs) r s
 rule_by sort.Load n xs r s = load_rule (values (all s.objects) xs) r s
 rule_by sort.Call n xs r s = call_rule n xs r s
 rule_by sort.Order n xs r s = order_rule n (values (all s.objects) xs) r s
-rule_by sort.Widget n xs r s = s
+rule_by sort.Widget n xs r s = widget_rule n (values (all s.objects) xs) r s
+rule_by sort.Interact n xs r s = interact_rule n (values (all s.objects) xs) (receivers xs) r s
 rule_by sort.Whole n xs r s = whole_rule n (values (all s.objects) xs) r s
 
 -- an action whose target comes to nothing does nothing
@@ -229,12 +283,13 @@ abbrev pub stays : List ℕ → Waiting → Bool
 stays application (waiting.Input i) = true
 stays application (waiting.Event e) = bytes_eq e.source.group application
 
--- another scene: objects, stack places, timers, waiting events and awaited files of the application stay
+-- another scene: objects, stack places, interaction, timers, waiting events and awaited files of the application stay
 abbrev pub scene_exchanged : List ℕ → State → State
 scene_exchanged g s = record s {
   scene = Some g;
   objects = record { application = s.objects.application; scene = group_objects s.service g };
   stack = filter (λ r. bytes_eq r.group s.application) s.stack;
+  interaction = interaction_of s.application s.interaction;
   timers = filter (λ t. bytes_eq t.group s.application) s.timers;
   waits = filter (λ w. bytes_eq w.object.group s.application) s.waits;
   queue = filter (stays s.application) s.queue;
@@ -249,6 +304,7 @@ application_exchanged g s = record s {
   scene = None;
   objects = record { application = group_objects s.service g; scene = [] };
   stack = [];
+  interaction = None;
   timers = [];
   waits = [];
   queue = filter is_input s.queue;
@@ -262,7 +318,9 @@ exchange_rule g s =
 
 abbrev pub run_rule : ObjRef → State → State
 run_rule r s = record s {
-  objects = changed (λ p b. started (loaded_at s.files (object_at r (all s.objects))) p b) r s.objects;
+  objects =
+      all_placed (run_places (object_at r (all s.objects)))
+      (changed (λ p b. started (loaded_at s.files (object_at r (all s.objects))) p b) r s.objects);
   waits =
       waits_if s.files (is_unprepared_at (object_at r (all s.objects))) r (object_at r (all s.objects)) s.waits;
   stack = with_risen (is_unprepared_at (object_at r (all s.objects))) r (object_at r (all s.objects)) s.stack;
@@ -272,6 +330,7 @@ run_rule r s = record s {
 abbrev pub halt_rule : ObjRef → State → State
 halt_rule r s = record s {
   objects = changed (λ p b. halted b) r s.objects;
+  interaction = ended_of r s.interaction;
   work = halt_items r (object_at r (all s.objects)) ++ s.work;
 }
 

@@ -1,6 +1,6 @@
 -- What an action says: the answers for its receivers, and the items that it puts.
-use Rattle.std.specs.Prelude.{ℕ, ◌&&◌, if◌then◌else◌, List, [], ◌∷◌, slice_get, Option, Some, None, ℤ, pos, negsuc}
-use Rattle.std.specs.Option.{is_some}
+use Rattle.std.specs.Prelude.{ℕ, Bool, true, false, ◌&&◌, if◌then◌else◌, List, [], ◌∷◌, length, slice_get, Option, Some, None, ℤ, pos, negsuc}
+use Rattle.std.specs.Option.{is_some, option_map}
 use Rattle.mh_base.specs.declared.obj_ref.ObjRef.{ObjRef}
 use Rattle.mh_base.specs.declared.value.Value.{Value}
 use Rattle.mh_base.specs.declared.value.Value.TheVariants as value
@@ -10,6 +10,7 @@ use Rattle.mh_base.specs.Event.{event_of}
 use Rattle.mh_group.specs.declared.action_name.ActionName.{ActionName}
 use Rattle.mh_group.specs.declared.action_name.ActionName.TheVariants as action
 use Rattle.mh_group.specs.declared.attribute.Attribute.TheVariants as attribute
+use Rattle.mh_model.specs.declared.listing.Entry.{Entry}
 use Rattle.mh_model.specs.declared.item.Item.{Item}
 use Rattle.mh_model.specs.declared.item.Item.TheVariants as item
 use Rattle.mh_model.specs.declared.object.Object.{Object}
@@ -19,9 +20,11 @@ use Rattle.mh_model.specs.declared.file.File.{File}
 use Rattle.mh_model.specs.Files.{comes_to, is_loadable}
 use Rattle.mh_model.specs.Items.{plain_event}
 use Rattle.mh_model.specs.Lifecycle.{emit_if, is_available_at}
+use Rattle.mh_model.specs.Lists.{shows}
 use Rattle.mh_model.specs.Looks.{label_of}
 use Rattle.mh_model.specs.Programs.{counted}
 use Rattle.mh_model.specs.Property.{read, as_pair, value_held}
+use Rattle.mh_model.specs.Tokens.{numbered, slot_items}
 use Rattle.mh_model.specs.Variables.{fits_octets, operator_of, test}
 
 -- Answers
@@ -32,6 +35,16 @@ both (x, y) = value.Int x ∷ value.Int y ∷ []
 -- what is too long is not answered
 abbrev pub octets_answered : List ℕ → List Value
 octets_answered os = if fits_octets os then value.Octets os ∷ [] else []
+
+-- of a list: whether an item is selected, and which object it is, where there is such an item
+
+abbrev pub status_told : Option Entry → List Value
+status_told None = []
+status_told (Some e) = value.Bool e.selected ∷ []
+
+abbrev pub item_told : Option ObjRef → List Value
+item_told None = []
+item_told (Some r) = value.Object r ∷ []
 
 -- what the object answers to the action
 abbrev pub answers : ActionName → List Value → Object → List Value
@@ -44,6 +57,12 @@ answers action.GetHighlightStatus vs o = value.Bool o.body.highlighted ∷ []
 answers action.GetEntryPoint vs o = value.Int (counted o.body.point) ∷ []
 answers action.GetLabel vs o = octets_answered (label_of o.fixed o.body)
 answers action.GetTokenPosition vs o = value.Int (counted o.body.token) ∷ []
+answers action.GetFirstItem vs o = value.Int (counted o.body.list.first) ∷ []
+answers action.GetListSize vs o = value.Int (counted (length o.body.list.entries)) ∷ []
+answers action.GetItemStatus (value.Int (pos n) ∷ []) o = status_told (numbered o.body.list.entries n)
+answers action.GetListItem (value.Int (pos n) ∷ []) o = item_told (option_map (λ e. e.object) (numbered o.body.list.entries n))
+answers action.GetCellItem (value.Int (pos n) ∷ []) o =
+    item_told (numbered (shows o.body.running o.fixed o.body.list).items n)
 answers _ vs o = []
 
 abbrev pub answers_at : ActionName → List Value → Option Object → List Value
@@ -79,6 +98,7 @@ put_items action.Activate vs r o = item.Run r ∷ []
 put_items action.Deactivate vs r o = item.Halt r ∷ []
 put_items action.SendEvent (value.Object source ∷ value.Int kind ∷ more) r o = sent source (event_numbered kind) more
 put_items action.TestVariable (value.Int n ∷ v ∷ []) r o = tested r (operator_of n) (value_held o.fixed o.body) v
+put_items action.CallActionSlot vs r o = slot_items vs o.fixed o.body
 put_items _ vs r o = []
 
 -- that new content is there, of an object that is available, where these files are
@@ -91,6 +111,11 @@ load_items fs vs r o = []
 abbrev pub call_items : ActionName → ObjRef → List Item
 call_items action.Fork r = plain_event r event.AsyncStopped ∷ []
 call_items _ r = []
+
+-- that an object no longer interacts
+abbrev pub interaction_items : List Value → Bool → ObjRef → List Item
+interaction_items (value.Bool false ∷ []) true r = plain_event r event.InteractionCompleted ∷ []
+interaction_items vs interacts r = []
 
 abbrev pub put_items_at : ActionName → List Value → ObjRef → Option Object → List Item
 put_items_at n vs r None = []

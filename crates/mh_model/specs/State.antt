@@ -8,6 +8,7 @@ use Rattle.mh_model.specs.declared.input.Waiting.{Waiting}
 use Rattle.mh_model.specs.declared.fault.Fault.{Fault}
 use Rattle.mh_model.specs.declared.file.File.{File}
 use Rattle.mh_model.specs.declared.file.Wait.{Wait}
+use Rattle.mh_model.specs.declared.interaction.Interaction.{Interaction}
 use Rattle.mh_model.specs.declared.program.Outcome.{Outcome}
 use Rattle.mh_model.specs.declared.program.Outcome.TheVariants as outcome
 use Rattle.mh_model.specs.declared.time.Moments.{Moments}
@@ -34,6 +35,8 @@ pub record State : Type 0 where
   pub objects : Objects
   -- the display stack, the bottom first
   pub stack : List ObjRef
+  -- the object that interacts, if one does
+  pub interaction : Option Interaction
   -- the timers that are set, in the order in which they were
   pub timers : List Timer
   -- what waits to be taken: inputs, and events that are not dealt with at once
@@ -68,6 +71,7 @@ begun s mjd = record {
   scene = None;
   objects = record { application = group_objects s s.start; scene = [] };
   stack = [];
+  interaction = None;
   timers = [];
   queue = [];
   work = item.Enter s.start ∷ [];

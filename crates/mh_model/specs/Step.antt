@@ -18,9 +18,11 @@ use Rattle.mh_model.specs.declared.input.Waiting.{Waiting}
 use Rattle.mh_model.specs.declared.input.Waiting.TheVariants as waiting
 use Rattle.mh_model.specs.declared.input.Move.{Move}
 use Rattle.mh_model.specs.declared.input.Move.TheVariants as move
+use Rattle.mh_model.specs.declared.interaction.Interaction.{Interaction}
 use Rattle.mh_model.specs.declared.item.Item.{Item}
 use Rattle.mh_model.specs.declared.key.Key.{Key}
 use Rattle.mh_model.specs.declared.object.Object.{Object}
+use Rattle.mh_model.specs.Fields.{Pressed, pressed_of}
 use Rattle.mh_model.specs.Key.{key_number, passes}
 use Rattle.mh_model.specs.Property.{read, as_int}
 use Rattle.mh_model.specs.Service.{object_at, group_ref}
@@ -28,7 +30,7 @@ use Rattle.mh_model.specs.State.{State, all}
 use Rattle.mh_model.specs.Items.{heard}
 use Rattle.mh_model.specs.Stuck.{stuck}
 use Rattle.mh_model.specs.Files.{with_file, waits_for, arrived, is_too_large, is_too_many}
-use Rattle.mh_model.specs.Rules.{rule, text_brought, is_input}
+use Rattle.mh_model.specs.Rules.{rule, changed, text_brought, is_input}
 use Rattle.mh_model.specs.Time.{most_moment, is_due, due, timer_event}
 
 -- Taking. What is taken has left the queue, and the step is counted; the work list is empty.
@@ -47,6 +49,24 @@ abbrev pub key_items : Key → Option (List ℕ) → List Object → List Item
 key_items k None os = []
 key_items k (Some g) os =
     if passes (register_of (object_at (group_ref g) os)) k then heard (key_event k (group_ref g)) os else []
+
+-- while an object interacts every key goes to it
+
+abbrev pub with_pressed : Pressed → ObjRef → State → State
+with_pressed w r s = record s {
+  objects = changed (λ p b. w.body) r s.objects;
+  interaction = if w.ends then None else s.interaction;
+  work = w.items;
+}
+
+abbrev pub pressed_at : Key → Interaction → Option Object → State → State
+pressed_at k i None s = s
+pressed_at k i (Some o) s =
+    with_pressed (pressed_of o.fixed.class k i.before i.object o.fixed o.body) i.object s
+
+abbrev pub key_taken : Key → Option Interaction → State → State
+key_taken k None s = record s { work = key_items k s.scene (all s.objects) }
+key_taken k (Some i) s = pressed_at k i (object_at i.object (all s.objects)) s
 
 -- an event of the engine is one of the active application
 abbrev pub engine_event : ℤ → List ℕ → Event
@@ -97,7 +117,7 @@ file_taken f s = record s {
 -- what becomes of the state when this is taken
 abbrev pub taking : Waiting → State → State
 taking (waiting.Event e) s = record s { work = heard e (all s.objects) }
-taking (waiting.Input (input.Key k)) s = record s { work = key_items k s.scene (all s.objects) }
+taking (waiting.Input (input.Key k)) s = key_taken k s.interaction s
 taking (waiting.Input (input.Tick n)) s = ticked n s
 taking (waiting.Input (input.Stream n)) s = record s { queue = s.queue ++ streams_told n s }
 taking (waiting.Input (input.Engine n)) s =

@@ -1,5 +1,6 @@
 -- Groups of objects: their members, and the token that one of their positions has.
 use Rattle.std.specs.Prelude.{ℕ, zero, suc, ◌==◌, Bool, ◌&&◌, not, nat_le, if◌then◌else◌, List, [], ◌∷◌, length, slice_get, Option, Some, None, unwrap_or, option_and_then, ℤ, pos, negsuc}
+use Rattle.std.specs.List.{flat_map}
 use Rattle.mh_base.specs.declared.obj_ref.ObjRef.{ObjRef}
 use Rattle.mh_base.specs.declared.value.Value.{Value}
 use Rattle.mh_base.specs.declared.value.Value.TheVariants as value
@@ -87,6 +88,13 @@ abbrev pub token_worked : ActionName → List Value → ObjRef → Fixed → Bod
 token_worked n vs r p b = turned r p b (token_wanted n vs p b)
 
 -- Slots
+
+-- the actions of the slots of all members
+abbrev pub member_actions : Member → List Act
+member_actions m = flat_map (λ (slot : List Act). slot) m.slots
+
+abbrev pub slot_actions : Fixed → List Act
+slot_actions p = flat_map member_actions (members p)
 
 -- what the slot with this number does, of the member that has the token
 abbrev pub slot_of : ℕ → Fixed → Body → List Act

@@ -4,13 +4,19 @@ use Rattle.std.specs.Prelude.{◌≡◌, ℕ, Bool, true, false, List, [], ◌�
 use Rattle.mh_base.specs.declared.obj_ref.ObjRef.{ObjRef}
 use Rattle.mh_base.specs.declared.value.Value.{Value}
 use Rattle.mh_base.specs.declared.value.Value.TheVariants as value
+use Rattle.mh_base.specs.declared.event.EventType.{EventType}
 use Rattle.mh_base.specs.declared.event.EventType.TheVariants as event
 use Rattle.mh_group.specs.declared.class.Class.TheVariants as class
 use Rattle.mh_group.specs.declared.action_name.ActionName.{ActionName}
 use Rattle.mh_group.specs.declared.action_name.ActionName.TheVariants as action
 use Rattle.mh_group.specs.declared.attribute.Attribute.TheVariants as attribute
 use Rattle.mh_group.specs.declared.written.Position.{Position}
+use Rattle.mh_model.specs.declared.act.Act.{Act}
+use Rattle.mh_model.specs.declared.act.Argument.TheVariants as argument
 use Rattle.mh_model.specs.declared.held.Held.TheVariants as of
+use Rattle.mh_model.specs.declared.input.Input.TheVariants as input
+use Rattle.mh_model.specs.declared.input.Move.{Move}
+use Rattle.mh_model.specs.declared.input.Move.TheVariants as move
 use Rattle.mh_model.specs.declared.item.Item.{Item}
 use Rattle.mh_model.specs.declared.item.Item.TheVariants as item
 use Rattle.mh_model.specs.declared.key.Key.{Key}
@@ -19,11 +25,15 @@ use Rattle.mh_model.specs.declared.member.Member.{Member}
 use Rattle.mh_model.specs.declared.object.Body.{Body}
 use Rattle.mh_model.specs.declared.object.Fixed.{Fixed}
 use Rattle.mh_model.specs.Bodies.{text_of}
-use Rattle.mh_model.specs.Computing.{here}
+use Rattle.mh_model.specs.Computing.{act, here, on_red, service_of, to_number}
+use Rattle.mh_model.specs.Example.{move_it, rectangle, shows_red, steps}
 use Rattle.mh_model.specs.Fields.{Pressed, field_pressed, button_set}
 use Rattle.mh_model.specs.Items.{plain_event}
 use Rattle.mh_model.specs.Lists.{in_cells, list_items, list_worked, nothing_shown, selection_worked, shows}
-use Rattle.mh_model.specs.Service.{fresh}
+use Rattle.mh_model.specs.Picture.{cell_at}
+use Rattle.mh_model.specs.Service.{Service, fresh, group_ref}
+use Rattle.mh_model.specs.State.{State, all, begun}
+use Rattle.mh_model.specs.Step.{run, is_idle}
 use Rattle.mh_model.specs.Tokens.{Worked, event_with, token_worked}
 
 abbrev pub one : ObjRef
@@ -146,6 +156,86 @@ typed_over = press key.Digit5 (record typed_two.body { point = 0; overwrites = t
 abbrev pub full : List Item
 full = plain_event one event.EntryFieldFull ∷ []
 
+-- A scene with a field of two octets that interacts from the start on, and ends that when it is full
+
+abbrev pub field_shown : Fixed
+field_shown = record {
+  key = here 10;
+  class = class.EntryField;
+  properties =
+      record { attribute = attribute.OrigBoxSize; held = of.Pair (pos 24) (pos 16) }
+      ∷ record { attribute = attribute.MaxLength; held = of.Value (value.Int (pos 2)) }
+      ∷ [];
+}
+
+-- a link without data
+abbrev pub link_to : ℕ → ObjRef → EventType → Act → Fixed
+link_to n source kind a = record {
+  key = here n;
+  class = class.Link;
+  properties =
+      record { attribute = attribute.EventSource; held = of.Value (value.Object source) }
+      ∷ record { attribute = attribute.EventType; held = of.Event kind }
+      ∷ record { attribute = attribute.LinkEffect; held = of.Effect (a ∷ []) }
+      ∷ [];
+}
+
+abbrev pub interact : Bool → Act
+interact on = act action.SetInteractionStatus 10 (argument.Direct (value.Bool on) ∷ [])
+
+abbrev pub typing : Service
+typing =
+    service_of
+    (field_shown ∷ link_to 11 (here 10) event.EntryFieldFull (interact false)
+    ∷ link_to 12 (group_ref (here 10).group) event.IsRunning (interact true) ∷ [])
+
+unfoldable pub asked_for : State
+asked_for = run (steps 15) (begun typing 60000)
+
+abbrev pub post_key : Key → Move
+post_key k = move.Post (input.Key k)
+
+unfoldable pub typed_in : State
+typed_in = run (post_key key.Digit1 ∷ post_key key.Digit2 ∷ post_key key.Digit3 ∷ steps 8) asked_for
+
+-- the characters of the first three cells
+abbrev pub row_of : State → List ℕ
+row_of x = map (λ c. (cell_at (all x.objects) x.stack c).scalar) (0 ∷ 1 ∷ 2 ∷ [])
+
+-- A token group of two rectangles in a scene, which runs them, and whose slot moves the first
+
+abbrev pub red_one : Fixed
+red_one = rectangle
+
+abbrev pub group_shown : Fixed
+group_shown = record {
+  key = here 1;
+  class = class.TokenGroup;
+  properties =
+      record {
+        attribute = attribute.TokenGroupItems;
+        held = of.Members (record { object = here 10; slots = (move_it 10 ∷ []) ∷ [] } ∷ []);
+      }
+      ∷ [];
+}
+
+abbrev pub grouped : Service
+grouped =
+    service_of
+    (record red_one { properties = record { attribute = attribute.InitiallyActive; held = of.Value (value.Bool false) } ∷ red_one.properties }
+    ∷ group_shown
+    ∷ on_red (act action.CallActionSlot 1 (to_number (pos 1) ∷ []) ∷ act action.Stop 1 [] ∷ [])
+    ∷ [])
+
+unfoldable pub group_runs_it : State
+group_runs_it = run (steps 30) (begun grouped 60000)
+
+unfoldable pub group_moves_it : State
+group_moves_it = run (post_key key.Red ∷ steps 3) group_runs_it
+
+unfoldable pub group_stops_it : State
+group_stops_it = run (steps 30) group_moves_it
+
 pub record WorksWidgets : Type 0 where
   -- a list that begins to run shows three of five, and is scrolled to the last three, and no further
   pub begun_items : list_items one nothing_shown (shows true (list_of false) (running_list false).list) ≡ item.RunMember (here 11) ∷ item.RunMember (here 12) ∷ item.RunMember (here 13) ∷ event_with one event.FirstItemPresented (truth true) ∷ event_with one event.TailItems (count 2) ∷ []
@@ -184,4 +274,18 @@ pub record WorksWidgets : Type 0 where
   pub cancelled_ends : (press key.Cancel typed_two.body).ends ≡ true
   -- a button is selected once
   pub button_on : (button_set true one (fresh field).body).items ≡ plain_event one event.IsSelected ∷ []
+  -- 15 steps, then 8 for three keys: two are typed, and the third goes to the scene
+  pub asked_taken : asked_for.taken ≡ 15
+  pub asked_idle : is_idle asked_for ≡ true
+  pub typed_taken : typed_in.taken ≡ 23
+  pub typed_idle : is_idle typed_in ≡ true
+  pub typed_shows : row_of typed_in ≡ 49 ∷ 50 ∷ 32 ∷ []
+  pub typed_faultless : typed_in.faults ≡ []
+  -- a group runs its member, a slot moves it, and it stops with the group
+  pub group_idle : is_idle group_runs_it ≡ true
+  pub group_shows : shows_red (61 ∷ 62 ∷ 121 ∷ 122 ∷ []) group_runs_it ≡ true
+  pub group_moves : shows_red (62 ∷ 63 ∷ 122 ∷ 123 ∷ []) group_moves_it ≡ true
+  pub group_stops : shows_red [] group_stops_it ≡ true
+  pub group_stops_idle : is_idle group_stops_it ≡ true
+  pub group_faultless : group_stops_it.faults ≡ []
   pub button_stays : (button_set true one (button_set true one (fresh field).body).body).items ≡ []

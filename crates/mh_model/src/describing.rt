@@ -1,5 +1,5 @@
 //! What follows from an action beforehand, against its rule.
-ghost use Rattle.mh_model.specs.Describing.{PutsWhatItCan, GivesWhatItSays, AnswersNoReference};
+ghost use Rattle.mh_model.specs.Describing.{PutsWhatItCan, GivesWhatItSays, ListsWhatItSays, AnswersItems};
 ghost use Rattle.mh_model.specs.Describing.{EmitsWhatIsListed, ListsWhatIsEmitted};
 
 /// The law that what an action puts is of the pieces that its description lists.
@@ -7,10 +7,12 @@ pub fn puts_what_it_can()
     ensures { PutsWhatItCan }
 {}
 
-/// The law that an action hands on no reference but those that its description says, and answers none.
+/// The law that an action hands on no reference but those that its description says, to a variable or a
+/// list, and answers none but the items of the list that it asks.
 pub fn gives_what_it_says()
     ensures given { GivesWhatItSays }
-    ensures answered { AnswersNoReference }
+    ensures listed { ListsWhatItSays }
+    ensures answered { AnswersItems }
 {}
 
 /// The law that the events which the table lists for an action and a class are those that come of it:

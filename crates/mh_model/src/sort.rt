@@ -19,8 +19,10 @@ pub enum Sort {
     Call,
     /// It moves its target in the display stack.
     Order,
-    /// It changes a group of objects, a field or a button, and puts items. None is played yet.
+    /// It changes a group of objects, a field or a button, places what a list shows, and puts items.
     Widget,
+    /// It sets or asks who interacts.
+    Interact,
     /// It is a matter of the whole machine: the configuration, timers, the lock.
     Whole,
 }
@@ -56,7 +58,6 @@ pub fn sort_of(name: ActionName) -> Sort
         | ActionName::GetPosition
         | ActionName::GetBoxSize
         | ActionName::GetTextData
-        | ActionName::GetInteractionStatus
         | ActionName::GetHighlightStatus
         | ActionName::GetEntryPoint
         | ActionName::GetLabel
@@ -85,14 +86,14 @@ pub fn sort_of(name: ActionName) -> Sort
         | ActionName::SendEvent
         | ActionName::Activate
         | ActionName::Deactivate
-        | ActionName::TestVariable => Sort::Put,
-        ActionName::SetInteractionStatus
-        | ActionName::SetHighlightStatus
+        | ActionName::TestVariable
+        | ActionName::CallActionSlot => Sort::Put,
+        ActionName::SetInteractionStatus | ActionName::GetInteractionStatus => Sort::Interact,
+        ActionName::SetHighlightStatus
         | ActionName::Select
         | ActionName::Deselect
         | ActionName::Move
         | ActionName::MoveTo
-        | ActionName::CallActionSlot
         | ActionName::AddItem
         | ActionName::DelItem
         | ActionName::ScrollItems

@@ -10,4 +10,3 @@ why_number why.DoubleNumber = 32
 why_number why.NotAnApplication = 33
 why_number why.Limit = 34
 why_number why.BadReference = 35
-why_number why.NotYet = 36

@@ -60,7 +60,6 @@ impl Service {
     {
         refusing::refuse_before(alloc, &start, files.as_slice())?;
         let groups = groups(alloc, files.as_slice())?;
-        refusing::refuse(Why::NotYet, refusing::first_unplayed(files.as_slice()))?;
         Ok(Service {
             groups,
             start,

@@ -21,8 +21,6 @@ pub enum Why {
     Limit,
     /// It writes a name that leads to no group.
     BadReference,
-    /// It is not played yet.
-    NotYet,
 }
 
 /// Why files could not be made a service.
@@ -46,7 +44,6 @@ impl Why {
             Why::NotAnApplication => 33,
             Why::Limit => 34,
             Why::BadReference => 35,
-            Why::NotYet => 36,
         }
     }
 }

@@ -11,10 +11,12 @@ use Rattle.mh_model.specs.declared.object.Fixed.{Fixed}
 use Rattle.mh_model.specs.declared.object.Object.{Object}
 use Rattle.mh_model.specs.Bodies.{given}
 use Rattle.mh_model.specs.Edits.{edited}
+use Rattle.mh_model.specs.First.{change_first}
 use Rattle.mh_model.specs.Rules.{is_at, on_body, changed_in, changed}
 use Rattle.mh_model.specs.Service.{object_at, parts}
 use Rattle.mh_model.specs.State.{Objects, all}
 use Rattle.mh_model.proofs.PartLemmas.{changed-own, changed-others}
+use Rattle.mh_store.specs.Placing.{renewed, renewed_in}
 use Rattle.mh_store.specs.Trying.{left_over}
 
 -- the application's objects hide those of the scene
@@ -28,7 +30,7 @@ pub found_behind : (r : ObjRef) (os : Objects) (x : Option Object) → None ≡ 
 found_behind r os x none behind = rw (object_at-all r os, ← none) behind
 
 -- the test of a change says whether an object is found
-list_any-object_at : (r : ObjRef) (os : List Object) → list_any (is_at r) os ≡ is_some (object_at r os)
+pub list_any-object_at : (r : ObjRef) (os : List Object) → list_any (is_at r) os ≡ is_some (object_at r os)
 list_any-object_at r [] = refl
 list_any-object_at r (o ∷ os) = by (is_at r o) (list_any-object_at r os)
   where
@@ -37,31 +39,46 @@ list_any-object_at r (o ∷ os) = by (is_at r o) (list_any-object_at r os)
     by false below = below
 
 -- where no object is at the reference nothing is changed
-pub changed_in-nowhere : (f : Fixed → Body → Body) (r : ObjRef) (os : List Object) → object_at r os ≡ None → os ≡ changed_in f r os
-changed_in-nowhere f r [] none = refl
-changed_in-nowhere f r (o ∷ os) none = by (is_at r o) (changed_in-nowhere f r os) none
+change_first-nowhere : (f : Object → Object) (r : ObjRef) (os : List Object) → object_at r os ≡ None → os ≡ change_first (is_at r) f os
+change_first-nowhere f r [] none = refl
+change_first-nowhere f r (o ∷ os) none = by (is_at r o) (change_first-nowhere f r os) none
   where
-    by : (t : Bool) → (object_at r os ≡ None → os ≡ changed_in f r os) → cond t (Some o) (object_at r os) ≡ None → o ∷ os ≡ (if t then on_body f o ∷ os else o ∷ changed_in f r os)
+    by : (t : Bool) → (object_at r os ≡ None → os ≡ change_first (is_at r) f os) → cond t (Some o) (object_at r os) ≡ None → o ∷ os ≡ (if t then f o ∷ os else o ∷ change_first (is_at r) f os)
     by true below h = absurd cc
     by false below h = ap (λ (t : List Object). o ∷ t) (below h)
 
--- an object of the application was changed
-pub changed-first : (f : Fixed → Body → Body) (r : ObjRef) (os : Objects) (own : List Object) → is_some (object_at r os.application) ≡ true → own ≡ changed_in f r os.application → record os { application = own } ≡ changed f r os
-changed-first f r os own there is = by (list_any (is_at r) os.application) (list_any-object_at r os.application ∙ there)
+pub changed_in-nowhere : (f : Fixed → Body → Body) (r : ObjRef) (os : List Object) → object_at r os ≡ None → os ≡ changed_in f r os
+changed_in-nowhere f r os none = change_first-nowhere (on_body f) r os none
+
+-- the objects with the one at this reference made another
+abbrev pub done_at : (Object → Object) → ObjRef → Objects → Objects
+done_at f r os =
+    if list_any (is_at r) os.application then record os { application = change_first (is_at r) f os.application }
+    else record os { scene = change_first (is_at r) f os.scene }
+
+-- it was the application's
+done-first : (f : Object → Object) (r : ObjRef) (os : Objects) (own : List Object) → is_some (object_at r os.application) ≡ true → own ≡ change_first (is_at r) f os.application → record os { application = own } ≡ done_at f r os
+done-first f r os own there is = by (list_any (is_at r) os.application) (list_any-object_at r os.application ∙ there)
   where
-    by : (t : Bool) → t ≡ true → record os { application = own } ≡ (if t then record os { application = changed_in f r os.application } else record os { scene = changed_in f r os.scene })
+    by : (t : Bool) → t ≡ true → record os { application = own } ≡ (if t then record os { application = change_first (is_at r) f os.application } else record os { scene = change_first (is_at r) f os.scene })
     by true h = rw is refl
     by false h = absurd cc
 
 -- the application had no such object, so the scene was tried
-pub changed-behind : (f : Fixed → Body → Body) (r : ObjRef) (os : Objects) (own others : List Object) → object_at r os.application ≡ None → own ≡ changed_in f r os.application → others ≡ changed_in f r os.scene → record { application = own; scene = others } ≡ changed f r os
-changed-behind f r os own others none is behind = by (list_any (is_at r) os.application) (list_any-object_at r os.application ∙ ap is_some none)
+done-behind : (f : Object → Object) (r : ObjRef) (os : Objects) (own others : List Object) → object_at r os.application ≡ None → own ≡ change_first (is_at r) f os.application → others ≡ change_first (is_at r) f os.scene → record { application = own; scene = others } ≡ done_at f r os
+done-behind f r os own others none is behind = by (list_any (is_at r) os.application) (list_any-object_at r os.application ∙ ap is_some none)
   where
-    by : (t : Bool) → t ≡ false → record { application = own; scene = others } ≡ (if t then record os { application = changed_in f r os.application } else record os { scene = changed_in f r os.scene })
+    by : (t : Bool) → t ≡ false → record { application = own; scene = others } ≡ (if t then record os { application = change_first (is_at r) f os.application } else record os { scene = change_first (is_at r) f os.scene })
     by true h = absurd cc
     by false h =
-        let kept : own ≡ os.application = is ∙ sym (changed_in-nowhere f r os.application none) in
+        let kept : own ≡ os.application = is ∙ sym (change_first-nowhere f r os.application none) in
         rw (kept, behind) refl
+
+pub changed-first : (f : Fixed → Body → Body) (r : ObjRef) (os : Objects) (own : List Object) → is_some (object_at r os.application) ≡ true → own ≡ changed_in f r os.application → record os { application = own } ≡ changed f r os
+changed-first f r os own there is = done-first (on_body f) r os own there is
+
+pub changed-behind : (f : Fixed → Body → Body) (r : ObjRef) (os : Objects) (own others : List Object) → object_at r os.application ≡ None → own ≡ changed_in f r os.application → others ≡ changed_in f r os.scene → record { application = own; scene = others } ≡ changed f r os
+changed-behind f r os own others none is behind = done-behind (on_body f) r os own others none is behind
 
 -- What came of a change
 
@@ -119,3 +136,14 @@ given-behind v back r os own others came is behind =
     let left = back-nowhere v back (object_at r os.application) came in
     let there : others ≡ changed_in (λ _ b. given v b) r os.scene = behind ∙ ap (λ (x : Value). changed_in (λ _ b. given x b) r os.scene) left.1 in
     changed-behind (λ _ b. given v b) r os own others left.0 is there
+
+-- and of an object that is put where the one with its reference is
+
+pub renewed-first : (o : Object) (os : Objects) (own : List Object) → None ≡ left_over o (object_at o.fixed.key os.application) → own ≡ renewed_in o os.application → record os { application = own } ≡ renewed o os
+renewed-first o os own taken is = done-first (λ _. o) o.fixed.key os own (taken-there o (object_at o.fixed.key os.application) taken) is
+
+pub renewed-behind : (o back : Object) (os : Objects) (own others : List Object) → Some back ≡ left_over o (object_at o.fixed.key os.application) → own ≡ renewed_in o os.application → others ≡ renewed_in back os.scene → record { application = own; scene = others } ≡ renewed o os
+renewed-behind o back os own others came is behind =
+    let left = back-nowhere o back (object_at o.fixed.key os.application) came in
+    let there : others ≡ renewed_in o os.scene = behind ∙ ap (λ (x : Object). renewed_in x os.scene) left.1 in
+    done-behind (λ _. o) o.fixed.key os own others left.0 is there

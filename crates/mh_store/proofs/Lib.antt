@@ -3,6 +3,7 @@ pub mod FreshLemmas
 pub mod BothLemmas
 pub mod KeepingLemmas
 mod BringingLemmas
+mod PlacingLemmas
 mod LineLemmas
 mod TextLemmas
 mod ScalarLemmas

@@ -8,8 +8,11 @@ use Rattle.mh_model.specs.declared.edit.Edit.{Edit}
 use Rattle.mh_model.specs.declared.object.Body.{Body}
 use Rattle.mh_model.specs.declared.object.Fixed.{Fixed}
 use Rattle.mh_model.specs.declared.object.Object.{Object}
+use Rattle.mh_model.specs.First.{change_first}
 use Rattle.mh_model.specs.Rules.{is_at, on_body, changed_in}
 use Rattle.mh_model.specs.Service.{same_ref, object_at}
+use Rattle.mh_model.proofs.ServiceLemmas.{same_ref-same}
+use Rattle.mh_store.specs.Placing.{renewed_in}
 use Rattle.mh_store.specs.Table.{IsKeyed, objects_of, key_of, with_body, changed_at}
 use Rattle.mh_store.specs.Trying.{left_over}
 
@@ -73,9 +76,39 @@ pub object_at-elsewhere : (r : ObjRef) (g : List ℕ) (es : List (ℕ × Object)
 object_at-elsewhere r g [] other keyed = refl
 object_at-elsewhere r g (e ∷ es) other keyed = rw (is_at-keyed r g e keyed.0, other) (object_at-elsewhere r g es other keyed.1)
 
+pub change_first-elsewhere : (f : Object → Object) (r : ObjRef) (g : List ℕ) (es : List (ℕ × Object)) → bytes_eq r.group g ≡ false → IsKeyed g es → objects_of es ≡ change_first (is_at r) f (objects_of es)
+change_first-elsewhere f r g [] other keyed = refl
+change_first-elsewhere f r g (e ∷ es) other keyed = rw (is_at-keyed r g e keyed.0, other) (ap (λ (t : List Object). e.1 ∷ t) (change_first-elsewhere f r g es other keyed.1))
+
 pub changed_in-elsewhere : (f : Fixed → Body → Body) (r : ObjRef) (g : List ℕ) (es : List (ℕ × Object)) → bytes_eq r.group g ≡ false → IsKeyed g es → objects_of es ≡ changed_in f r (objects_of es)
-changed_in-elsewhere f r g [] other keyed = refl
-changed_in-elsewhere f r g (e ∷ es) other keyed = rw (is_at-keyed r g e keyed.0, other) (ap (λ (t : List Object). e.1 ∷ t) (changed_in-elsewhere f r g es other keyed.1))
+changed_in-elsewhere f r g es other keyed = change_first-elsewhere (on_body f) r g es other keyed
+
+-- What is put where the object with its reference is
+
+pub set_value-none : (n : ℕ) (es : List (ℕ × Object)) (o : Object) → None ≡ lookup (nat_eq n) es → es ≡ set_value (nat_eq n) es o
+set_value-none n [] o none = refl
+set_value-none n (e ∷ es) o none = by (nat_eq n e.0) (set_value-none n es o) none
+  where
+    by : (t : Bool) → (None ≡ lookup (nat_eq n) es → es ≡ set_value (nat_eq n) es o) → None ≡ cond t (Some e.1) (lookup (nat_eq n) es) → e ∷ es ≡ cond t ((e.0, o) ∷ es) (e ∷ set_value (nat_eq n) es o)
+    by true below h = absurd cc
+    by false below h = ap (λ (t : List (ℕ × Object)). e ∷ t) (below h)
+
+pub set_value-renewed_in : (o : Object) (g : List ℕ) (es : List (ℕ × Object)) → bytes_eq o.fixed.key.group g ≡ true → IsKeyed g es → objects_of (set_value (nat_eq o.fixed.key.number) es o) ≡ renewed_in o (objects_of es)
+set_value-renewed_in o g [] own keyed = refl
+set_value-renewed_in o g (e ∷ es) own keyed = rw (is_at-keyed o.fixed.key g e keyed.0, own) (by (nat_eq o.fixed.key.number e.0) (set_value-renewed_in o g es own keyed.1))
+  where
+    by : (t : Bool) → objects_of (set_value (nat_eq o.fixed.key.number) es o) ≡ renewed_in o (objects_of es) → objects_of (cond t ((e.0, o) ∷ es) (e ∷ set_value (nat_eq o.fixed.key.number) es o)) ≡ (if t then o ∷ objects_of es else e.1 ∷ renewed_in o (objects_of es))
+    by true below = refl
+    by false below = ap (λ (t : List Object). e.1 ∷ t) below
+
+-- it stands under its own number
+pub keyed-renewed : (o : Object) (g : List ℕ) (es : List (ℕ × Object)) → bytes_eq o.fixed.key.group g ≡ true → IsKeyed g es → IsKeyed g (set_value (nat_eq o.fixed.key.number) es o)
+keyed-renewed o g [] own keyed = tt
+keyed-renewed o g (e ∷ es) own keyed = by (nat_eq o.fixed.key.number e.0) refl (keyed-renewed o g es own keyed.1)
+  where
+    by : (t : Bool) → nat_eq o.fixed.key.number e.0 ≡ t → IsKeyed g (set_value (nat_eq o.fixed.key.number) es o) → IsKeyed g (cond t ((e.0, o) ∷ es) (e ∷ set_value (nat_eq o.fixed.key.number) es o))
+    by true same below = (same_ref-same o.fixed.key (key_of g e.0) (rw (own, same) refl), keyed.1)
+    by false other below = (keyed.0, below)
 
 -- A change that may be refused memory
 

@@ -3,3 +3,4 @@ pub mod Trying
 pub mod Laws
 pub mod Keeping
 pub mod Bringing
+pub mod Placing

@@ -52,7 +52,7 @@ fn put_one(table: &mut IndexMap<u32, Kept>, one: Ready)
     }
 }
 
-fn put_kept(place: &mut Kept, kept: Kept)
+pub(crate) fn put_kept(place: &mut Kept, kept: Kept)
     ensures { place.new ≡ kept }
 {
     *place = kept;

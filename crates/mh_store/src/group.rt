@@ -1,18 +1,19 @@
 //! `Group`: the objects of one group.
 ghost use Rattle.std.specs.Prelude.{◌≡◌, ◌<◌, ◌^◌, IfOk, OnOk, OnErr, true, ◌∷◌, ◌++◌, [], map, length, nat_eq, slice_get};
 ghost use Rattle.std.specs.List.{list_all};
-ghost use Rattle.std.specs.Map.{lookup};
+ghost use Rattle.std.specs.Map.{lookup, set_value};
 ghost use Rattle.std.specs.Option.{option_copied};
 ghost use Rattle.mh_model.specs.Bodies.{given};
 ghost use Rattle.mh_model.specs.Configuration.{are_apart};
 ghost use Rattle.mh_model.specs.Edits.{edited};
 ghost use Rattle.mh_model.specs.Service.{object_at, is_in, fresh as fresh_lem};
 ghost use Rattle.mh_store.specs.Bringing.{ready_from, all_put, keys_of, AreOwn};
+ghost use Rattle.mh_store.specs.Placing.{renewed_in};
 ghost use Rattle.mh_store.specs.Table.{changed_at, entry_of, is_new};
 ghost use Rattle.mh_store.specs.Trying.{left_over, edited_in, given_in};
 
 use crate::Awaits;
-use crate::bringing::{add_ready, put_all};
+use crate::bringing::{add_ready, put_all, put_kept};
 use crate::kept::Kept;
 use crate::ready::Ready;
 use indexmap::IndexMap;
@@ -144,6 +145,17 @@ impl Group {
         put_all(&mut self.table, ready);
     }
 
+    /// Puts this where the object with its reference is. Where there is none it comes back.
+    pub(crate) fn renew(&mut self, kept: Kept) -> Option<Kept>
+        ensures done { self.new ≡ renewed_in kept self.old }
+        ensures back { result ≡ left_over kept (object_at kept.fixed.key self.old) }
+    {
+        if !kept.is_in(&self.name) {
+            return Some(kept);
+        }
+        renew_under(&mut self.table, kept.number(), kept)
+    }
+
     /// Gives the variable at this reference a value. Where there is none the value comes back.
     pub(crate) fn give(&mut self, at: &ObjRef, value: Value) -> Option<Value>
         ensures done { self.new ≡ given_in value at.now self.old }
@@ -187,6 +199,20 @@ fn give_under(table: &mut IndexMap<u32, Kept>, at: u32, value: Value) -> Option<
             None
         }
         None => Some(value),
+    }
+}
+
+/// Puts this where the object under this number is. Where there is none it comes back.
+fn renew_under(table: &mut IndexMap<u32, Kept>, at: u32, kept: Kept) -> Option<Kept>
+    ensures done { table.new.entries ≡ set_value (nat_eq at) table.old.entries kept }
+    ensures back { result ≡ left_over kept (lookup (nat_eq at) table.old.entries) }
+{
+    match table.get_mut(&at) {
+        Some(place) => {
+            put_kept(place, kept);
+            None
+        }
+        None => Some(kept),
     }
 }
 

@@ -1,15 +1,19 @@
 //! `Kept`: an object with the lines of its text.
-ghost use Rattle.std.specs.Prelude.{◌≡◌, IfOk, OnOk, OnErr};
+ghost use Rattle.std.specs.Prelude.{◌≡◌, true, IfOk, OnOk, OnErr};
+ghost use Rattle.std.specs.Str.{bytes_eq};
+ghost use Rattle.mh_group.specs.Table.{is_visible as is_visible_lem};
 ghost use Rattle.mh_model.specs.Bodies.{given};
 ghost use Rattle.mh_model.specs.Edits.{edited};
 ghost use Rattle.mh_model.specs.Looks.{lines_of as lines_of_lem};
 ghost use Rattle.mh_model.specs.Service.{fresh as fresh_lem};
 ghost use Rattle.mh_store.specs.Bringing.{with_brought};
+ghost use Rattle.mh_store.specs.Placing.{with_place};
 ghost use Rattle.mh_store.specs.Table.{with_body};
 
 use crate::keeping::{are_same_lines, leaves_lines, lines_for};
-use mh_base::{Octets, Seq, Value};
-use mh_model::{Edit, FixedPart, Line, Object};
+use mh_base::{GroupName, Octets, Seq, Value};
+use mh_group::{Attribute, Position};
+use mh_model::{Edit, FixedPart, Held, Line, Object};
 use std::alloc::{AllocError, Global};
 use std::marker::Model;
 
@@ -72,6 +76,40 @@ impl Kept {
         let object = brought_copy(alloc, &self.object, text)?;
         let lines = lines_for(alloc, &object)?;
         Ok(Kept { object, lines })
+    }
+
+    /// The number of its reference.
+    pub(crate) fn number(&self) -> u32
+        ensures { result ≡ self.now.fixed.key.number }
+    {
+        self.object.fixed.get().key.number
+    }
+
+    /// Whether it is an object of the group of this name.
+    pub(crate) fn is_in(&self, name: &GroupName) -> bool
+        ensures { result ≡ bytes_eq self.now.fixed.key.group name.now }
+    {
+        self.object.fixed.get().key.group == *name
+    }
+
+    pub(crate) fn is_visible(&self) -> bool
+        ensures { result ≡ is_visible_lem self.now.fixed.class }
+    {
+        self.object.fixed.get().class.is_visible()
+    }
+
+    /// A copy of a visible that is placed here, laid out.
+    pub(crate) fn placed(&self, alloc: Global, position: Position) -> Result<Kept, AllocError>
+        ensures { IfOk result (λ kept. is_visible_lem self.now.fixed.class ≡ true
+            → kept ≡ with_place position self.now) }
+    {
+        let edit = Edit::Put(Attribute::OrigPosition, Held::Pair(position.x, position.y));
+        let placed = edited_copy(alloc, &self.object, edit)?;
+        let lines = lines_for(alloc, &placed)?;
+        Ok(Kept {
+            object: placed,
+            lines,
+        })
     }
 
     /// Changes the body of the object, and lays its text out anew where its lines can differ.

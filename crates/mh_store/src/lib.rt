@@ -3,8 +3,8 @@
 //! Promise: what is found, changed and put in place of other objects is what the definitions of
 //! `mh_model` say of plain lists. An object is found by the name of its group and the hash of its
 //! number. Beside each object lie the lines of its text, which are laid out anew only where they can
-//! differ. A text is brought to several objects at once, or to none. When a change is made, and what
-//! follows from it, is left to the machine.
+//! differ. A text is brought to several objects at once, or to none; so are visibles placed. When a
+//! change is made, and what follows from it, is left to the machine.
 #![tactic(auto)]
 
 pub mod awaits;
@@ -17,6 +17,7 @@ mod layout;
 mod line;
 pub mod looks;
 pub mod objects;
+mod placing;
 mod ready;
 mod scalars;
 mod wrapping;

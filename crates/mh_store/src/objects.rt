@@ -1,17 +1,21 @@
 //! `Objects`: those of the application and those of the scene.
-ghost use Rattle.std.specs.Prelude.{◌≡◌, ◌<◌, ◌^◌, IfOk, OnOk, OnErr, [], length, slice_get};
-ghost use Rattle.std.specs.Option.{option_copied};
+ghost use Rattle.std.specs.Prelude.{◌≡◌, ◌<◌, ◌^◌, IfOk, OnOk, OnErr, [], false, length, slice_get};
+ghost use Rattle.std.specs.Option.{option_copied, option_map_or};
+ghost use Rattle.mh_group.specs.Table.{is_visible};
 ghost use Rattle.mh_model.specs.Bodies.{given};
 ghost use Rattle.mh_model.specs.Edits.{edited};
-ghost use Rattle.mh_model.specs.Rules.{changed, text_brought};
+ghost use Rattle.mh_model.specs.Rules.{changed, text_brought, all_placed};
 ghost use Rattle.mh_model.specs.Service.{object_at, parts};
 ghost use Rattle.mh_model.specs.State.{all};
 ghost use Rattle.mh_store.specs.Bringing.{ready_from, all_put, keys_of, AreOwn};
+ghost use Rattle.mh_store.specs.Placing.{renewed, renewed_in};
 ghost use Rattle.mh_store.specs.Trying.{of_scene, edited_in, given_in};
 
+use crate::placing::{ready_placed, renew_all};
 use crate::ready::Ready;
 use crate::{Awaits, Group, Kept};
 use mh_base::{ObjRef, Octets, Value};
+use mh_group::Position;
 use mh_model::{Edit, Object};
 use std::alloc::{AllocError, Global};
 use std::marker::Model;
@@ -122,6 +126,48 @@ impl Objects {
         Ok(())
     }
 
+    /// Places these visibles where it is said, one after another; what is absent or no visible is passed
+    /// over. All that wants memory is made before the first of them is changed.
+    pub fn place_all(&mut self, placed: &[(ObjRef, Position)]) -> Result<(), AllocError>
+        ensures done { OnOk result (self.new ≡ all_placed placed.now self.old) }
+        ensures own { parts self.new.application ≡ parts self.old.application }
+        ensures others { parts self.new.scene ≡ parts self.old.scene }
+        ensures kept { OnErr result (self.new ≡ self.old) }
+    {
+        let ready = ready_placed(self.application.allocator(), self, placed)?;
+        renew_all(self, ready);
+        Ok(())
+    }
+
+    /// Changes the body of the object at this reference, which is no visible, and then places these, as
+    /// above. Where memory is refused neither is done.
+    pub fn edit_and_place(
+        &mut self,
+        at: &ObjRef,
+        edit: Edit,
+        placed: &[(ObjRef, Position)],
+    ) -> Result<(), AllocError>
+        requires { option_map_or (λ o. is_visible o.fixed.class) (object_at at.now (all self.old)) false ≡ false }
+        ensures done { OnOk result (self.new ≡ all_placed placed.now (changed (edited edit) at.now self.old)) }
+        ensures own { parts self.new.application ≡ parts self.old.application }
+        ensures others { parts self.new.scene ≡ parts self.old.scene }
+        ensures kept { OnErr result (self.new ≡ self.old) }
+    {
+        let ready = ready_placed(self.application.allocator(), self, placed)?;
+        self.edit(at, edit)?;
+        renew_all(self, ready);
+        Ok(())
+    }
+
+    /// Puts this where the object with its reference is; where there is none, nothing. It takes no memory.
+    pub(crate) fn renew(&mut self, kept: Kept)
+        ensures { self.new ≡ renewed kept self.old }
+    {
+        if let Some(kept) = self.application.renew(kept) {
+            renew_in(&mut self.scene, kept);
+        }
+    }
+
     /// Puts the objects of another application, with no scene, in the place of all that are there. It
     /// takes no memory.
     pub fn launch(&mut self, application: Group)
@@ -223,5 +269,14 @@ fn put_in(scene: &mut Option<Group>, ready: Vec<Ready>)
 {
     if let Some(group) = scene {
         group.put(ready);
+    }
+}
+
+/// Puts this where the scene's object with its reference is.
+fn renew_in(scene: &mut Option<Group>, kept: Kept)
+    ensures { of_scene scene.new ≡ renewed_in kept (of_scene scene.old) }
+{
+    if let Some(group) = scene {
+        group.renew(kept);
     }
 }

@@ -180,7 +180,7 @@ fn report(alloc: Global) -> Option<Vec<u8>> {
     files.push(file(alloc, "a", APPLICATION)?).ok()?;
     files.push(file(alloc, "s", SCENE)?).ok()?;
     files.push(file(alloc, "today", TODAY)?).ok()?;
-    reported(alloc, files.as_slice(), SCRIPT)
+    reported(alloc, files.as_slice(), SCRIPT, false)
 }
 
 #[test]

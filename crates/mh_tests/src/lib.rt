@@ -76,12 +76,18 @@ mod text;
 #[cfg(test)]
 mod text_forms;
 #[cfg(test)]
+mod typing;
+#[cfg(test)]
 mod variables;
 #[cfg(test)]
 mod verify;
 #[cfg(test)]
 mod visibles;
 #[cfg(test)]
+mod vote;
+#[cfg(test)]
 mod whole;
+#[cfg(test)]
+mod widgets;
 #[cfg(test)]
 mod words;

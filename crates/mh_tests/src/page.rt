@@ -210,11 +210,11 @@ pub fn file(alloc: Global, path: &str, text: &str) -> Option<File> {
     Some((GroupName::of_path(alloc, path.as_bytes()).ok()?, held))
 }
 
-/// What the play of a script writes, if it ends well.
-pub fn reported(alloc: Global, files: &[File], script: &str) -> Option<Vec<u8>> {
+/// What the play of a script writes, lenient or not, if it ends well.
+pub fn reported(alloc: Global, files: &[File], script: &str, lenient: bool) -> Option<Vec<u8>> {
     let options = Options {
         start: Vec::from_slice(alloc, b"a").ok()?,
-        lenient: false,
+        lenient,
         mjd: DAY,
     };
     let mut sink = ListSink {
@@ -231,7 +231,7 @@ fn report(alloc: Global) -> Option<Vec<u8>> {
     let mut files = Vec::new(alloc);
     files.push(file(alloc, "a", APPLICATION)?).ok()?;
     files.push(file(alloc, "s", SCENE)?).ok()?;
-    reported(alloc, files.as_slice(), SCRIPT)
+    reported(alloc, files.as_slice(), SCRIPT, false)
 }
 
 #[test]

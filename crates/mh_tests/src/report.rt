@@ -71,12 +71,13 @@ no application to look at
 check @scene
 => service 31 a|exit 2|"#;
 
-/// Applications that are not played yet, or that name what lies above the folder, and what is said.
-static UNPLAYED: &str = r#"
-application {:Application ("a" 0) :Items ( {:EntryField 1 :OrigBoxSize 1 1 } ) } => service 36 a|exit 2|;;
-application {:Application ("a" 0) :OnStartUp ( :SetLabel (1 'x') ) } => service 36 a|exit 2|;;
-application {:Application ("a" 0) :OnStartUp ( :Move (1 1) ) } => service 36 a|exit 2|;;
-application {:Application ("a" 0) :OnStartUp ( :SetEntryPoint (1 5) ) } => service 36 a|exit 2|;;
+/// Applications, and what is said of them before anything is played: a name that leads above the folder is
+/// refused wherever it stands.
+static APPLICATIONS: &str = r#"
+application {:Application ("a" 0) :Items ( {:EntryField 1 :OrigBoxSize 1 1 } ) } => total 0|exit 0|;;
+application {:Application ("a" 0) :OnStartUp ( :SetLabel (1 'x') ) } => total 0|exit 0|;;
+application {:Application ("a" 0) :OnStartUp ( :Move (1 1) ) } => total 0|exit 0|;;
+application {:Application ("a" 0) :OnStartUp ( :SetEntryPoint (1 5) ) } => total 0|exit 0|;;
 application {:Application ("a" 0) :OnStartUp ( :Add (1 :IndirectRef 1) ) } => total 0|exit 0|;;
 application {:Application ("a" 0) :OnStartUp ( :SetVariable (1 :GBoolean true) ) } => total 0|exit 0|;;
 application {:Application ("a" 0) :Items ( {:ContentRefVar 1 :OrigValue :ContentRef ("..") } ) } => service 35 a|exit 2|;;
@@ -166,7 +167,7 @@ fn plays_and_checks(rt: HostRuntime) {
 
 #[test]
 fn reads_applications_and_scripts(rt: HostRuntime) {
-    all_hold::<Play>(&rt, rt.alloc(), UNPLAYED);
+    all_hold::<Play>(&rt, rt.alloc(), APPLICATIONS);
     all_hold::<Play>(&rt, rt.alloc(), SCRIPTS);
     all_hold::<Play>(&rt, rt.alloc(), KEYS);
 }

@@ -110,10 +110,10 @@ a limit, a bad target
 made @a 0 0 {:Application ("~/other" 0) :OnStartUp (:TransitionTo(("../x" 0))) }
 @s 1025 0 {:Scene ("~/other" 0) :OnStartUp () :Items () }
 => 34 s;;
-a bad target, an action that is not played
-made @a 0 0 {:Application ("~/other" 0) :OnStartUp (:Launch(("~/x" 0))) }
-@s 0 0 {:Scene ("~/other" 0) :OnStartUp (:TransitionTo(("../x" 0))) }
-=> 35 s"#;
+a bad target, numbers twice
+made @a 0 0 {:Application ("~/other" 0) :OnStartUp (:TransitionTo(("../x" 0))) }
+@s 0 0 {:Scene ("~/other" 0) :Items ( {:PushButton 1 :OrigBoxSize 12 16} {:ListGroup 1 :Positions ()} ) }
+=> 32 s"#;
 
 /// Each name is looked at.
 static NAMES: &str = r#"
@@ -147,20 +147,36 @@ a bad indirect target
 made @a 0 0 {:Application ("~/other" 0) :OnStartUp (:TransitionTo(:IndirectRef (".." 0))) }
 => 35 a"#;
 
-/// What is not played is named.
-static UNPLAYED: &str = r#"
-a class
+/// Whatever a group may hold is taken.
+static TAKEN: &str = r#"
+a token group with a slot
 made @a 0 0 {:Application ("~/other" 0) :Items ( {:TokenGroup 6000 :TokenGroupItems ((("x" 0)
 (:TransitionTo(("x" 0))))) } ) }
-=> 36 a;;
-an action
-made @a 0 0 {:Application ("~/other" 0) :OnStartUp (:SetLabel(("x" 0) 'y')) }
-=> 36 a;;
-an action of the scene
+=> made;;
+a list, a field and a button
+made @a 0 0 {:Application ("~/other" 0) :Items ( {:ListGroup 1 :TokenGroupItems ((2) (3) (9)) :Positions ((0
+0) (0 16)) :WrapAround true :MultipleSelection true} {:EntryField 2 :OrigBoxSize 24 16 :MaxLength 2}
+{:PushButton 3 :OrigBoxSize 24 16 :OrigLabel 'y'} ) }
+=> made;;
+what is done to a button
+made @a 0 0 {:Application ("~/other" 0) :OnStartUp (:SetLabel(("x" 0) 'y') :GetLabel(1 2) :Select(1)
+:Deselect(1) :SetHighlightStatus(1 true) :GetHighlightStatus(1 2)) }
+=> made;;
+what is done to a field of the scene
 made @a 0 0 {:Application ("~/other" 0) :OnStartUp () :Items () }
-@s 0 0 {:Scene ("~/other" 0) :OnStartUp (:SetLabel(("~/x" 0) 'y')) }
-=> 36 s;;
-an indirect target is played
+@s 0 0 {:Scene ("~/other" 0) :OnStartUp (:SetInteractionStatus(("~/x" 0) true) :GetInteractionStatus(1 2)
+:SetEntryPoint(1 5) :GetEntryPoint(1 2) :SetOverwriteMode(1 :IndirectRef 2)) }
+=> made;;
+what is done to groups of objects
+made @a 0 0 {:Application ("~/other" 0) :OnStartUp (:Move(1 1) :MoveTo(1 0) :GetTokenPosition(1 2)
+:CallActionSlot(1 1)) }
+=> made;;
+what is done to a list
+made @a 0 0 {:Application ("~/other" 0) :OnStartUp (:AddItem(1 1 2) :DelItem(1 2) :ScrollItems(1 -1)
+:SetFirstItem(1 1) :GetFirstItem(1 2) :SelectItem(1 1) :DeselectItem(1 1) :ToggleItem(1 1) :GetItemStatus(1
+1 2) :GetListItem(1 1 2) :GetListSize(1 2) :GetCellItem(1 1 2)) }
+=> made;;
+an indirect target
 made @a 0 0 {:Application ("~/other" 0) :OnStartUp () :Items () }
 @s 0 0 {:Scene ("~/other" 0) :OnStartUp (:TransitionTo(:IndirectRef ("~/x" 0))) }
 => made;;
@@ -175,12 +191,7 @@ launching, quitting, timers, streams and input registers
 made @a 0 0 {:Application ("~/other" 0) :OnStartUp (:Launch(("~/x" 0)) :Quit(0) :SetTimer(0 1)) :Items (
 {:Stream 1} ) }
 @s 0 0 {:Scene ("~/other" 0) :OnStartUp (:SetInputRegister(0 3)) }
-=> made;;
-two causes
-made @a 0 0 {:Application ("~/other" 0) :OnStartUp () :Items () }
-@t 0 0 {:Scene ("~/other" 0) :OnStartUp (:SetLabel(("~/x" 0) 'y')) }
-@s 0 0 {:Scene ("~/other" 0) :OnStartUp () :Items ( {:TokenGroup 1} ) }
-=> 36 s"#;
+=> made"#;
 
 /// The limits are kept.
 static LIMITS: &str = r#"
@@ -222,6 +233,6 @@ made @a 0 65535 {:Application ("~/other" 0) :OnStartUp () :Items () }
 fn makes_and_refuses(rt: HostRuntime) {
     all_hold::<Asked>(&rt, rt.alloc(), IN_ORDER);
     all_hold::<Asked>(&rt, rt.alloc(), NAMES);
-    all_hold::<Asked>(&rt, rt.alloc(), UNPLAYED);
+    all_hold::<Asked>(&rt, rt.alloc(), TAKEN);
     all_hold::<Asked>(&rt, rt.alloc(), LIMITS);
 }

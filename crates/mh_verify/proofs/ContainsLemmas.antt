@@ -91,3 +91,27 @@ empty_joined {X} {Y} f xs x h k = by (f x) refl
 pub no_members : {X : Type 0} (xs : List X) → ((x : X) → Contains xs x → ⊥) → xs ≡ []
 no_members [] f = refl
 no_members (x ∷ xs) f = absurd (f x (here x xs))
+
+-- Lists joined that come to none.
+
+pub nil_append : {X : Type 0} (xs ys : List X) → xs ≡ [] → ys ≡ [] → xs ++ ys ≡ []
+nil_append [] ys h k = k
+nil_append (x ∷ xs) ys h k = cc
+
+pub nil_parts : {X : Type 0} (xs ys : List X) → xs ++ ys ≡ [] → (xs ≡ []) × (ys ≡ [])
+nil_parts [] ys h = (refl, h)
+nil_parts (x ∷ xs) ys h = cc
+
+-- where each one that passes gives none
+pub joined_none : {X Y : Type 0} (f : X → List Y) (p : X → Bool) → ((x : X) → p x ≡ true → f x ≡ []) → (xs : List X) → list_all p xs ≡ true → flat_map f xs ≡ []
+joined_none f p k [] h = refl
+joined_none f p k (x ∷ xs) h =
+    let two = halves (p x) (list_all p xs) h in
+    nil_append (f x) (flat_map f xs) (k x two.0) (joined_none f p k xs two.1)
+
+-- where each one that gives none passes
+pub all_where_none : {X Y : Type 0} (f : X → List Y) (p : X → Bool) → ((x : X) → f x ≡ [] → p x ≡ true) → (xs : List X) → flat_map f xs ≡ [] → list_all p xs ≡ true
+all_where_none f p k [] h = refl
+all_where_none f p k (x ∷ xs) h =
+    let two = nil_parts (f x) (flat_map f xs) h in
+    both (p x) (list_all p xs) (k x two.0) (all_where_none f p k xs two.1)

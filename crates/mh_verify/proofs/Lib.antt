@@ -3,6 +3,7 @@ pub mod LeastLemmas
 pub mod SearchLemmas
 pub mod ContainsLemmas
 pub mod ConfigLemmas
+pub mod MannedLemmas
 pub mod OrderLemmas
 pub mod RefusalLemmas
 pub mod TakenLemmas

@@ -1,6 +1,7 @@
--- Lists: what is found in two parts, and what a test says of them.
-use Rattle.std.proofs.Common.{◌≡◌, Bool, true, false, cond, List, [], ◌∷◌, ◌++◌, filter, Some, None, refl, ap}
-use Rattle.std.specs.List.{find}
+-- Lists: what is found in two parts, what a test says of them, and lists joined.
+use Rattle.std.proofs.Common.{◌≡◌, Bool, true, false, cond, List, [], ◌∷◌, ◌++◌, append_assoc, filter, Some, None, refl, ap, sym, ◌∙◌}
+use Rattle.std.specs.List.{find, flat_map}
+use Rattle.std.proofs.lemmas.List.Concat.{flat_map-append}
 
 pub find_front : {X : Type 0} (p : X → Bool) (xs ys : List X) (x : X) → find p xs ≡ Some x → find p (xs ++ ys) ≡ Some x
 find_front p [] ys x h = cc
@@ -25,3 +26,12 @@ filter_append {X} p (x ∷ xs) ys = by (p x) (filter_append p xs ys)
     by : (b : Bool) → filter p (xs ++ ys) ≡ filter p xs ++ filter p ys → cond b (x ∷ filter p (xs ++ ys)) (filter p (xs ++ ys)) ≡ cond b (x ∷ filter p xs) (filter p xs) ++ filter p ys
     by true ih = ap (λ zs. x ∷ zs) ih
     by false ih = ih
+
+-- pieces that are walked over: one more, and what is left of all
+pub piece_joined : {X Y Z : Type 0} (f : Y → List Z) (g : X → List Y) (x : X) (rest left : List X) (before now all : List Z) → left ≡ x ∷ rest → now ≡ before ++ flat_map f (g x) → before ++ flat_map f (flat_map g left) ≡ all → now ++ flat_map f (flat_map g rest) ≡ all
+piece_joined {X} {Y} {Z} f g x rest left before now all is more so_far =
+    ap (λ (zs : List Z). zs ++ flat_map f (flat_map g rest)) more
+    ∙ append_assoc before (flat_map f (g x)) (flat_map f (flat_map g rest))
+    ∙ ap (λ (zs : List Z). before ++ zs) (sym (flat_map-append f (g x) (flat_map g rest)))
+    ∙ ap (λ (xs : List X). before ++ flat_map f (flat_map g xs)) (sym is)
+    ∙ so_far

@@ -1,4 +1,4 @@
--- A configuration has no refusals exactly where it is free; so what is found says what the contract says.
+-- A configuration has no refusals exactly where it is free and manned; so what is found says what the contract says.
 use Rattle.std.proofs.Common.{◌≡◌, inl, inr, ℕ, ◌+◌, Bool, true, false, cond, ◌&&◌, not, List, [], ◌∷◌, ◌++◌, filter, Option, Some, None, refl, ap, sym, ◌∙◌, subst}
 use Rattle.std.specs.List.{Contains, list_all, flat_map}
 use Rattle.std.specs.Option.{option_to_list, option_map_or}
@@ -15,17 +15,18 @@ use Rattle.mh_model.specs.declared.object.Fixed.{Fixed}
 use Rattle.mh_model.specs.Service.{Service}
 use Rattle.mh_model.specs.Configuration.{present, is_among, is_single, starting, same_config}
 use Rattle.mh_model.specs.Active.{actions, is_active, active_actions, is_direct, has_known_id, is_none, is_good}
-use Rattle.mh_model.specs.Acceptable.{IsReached, start, led, IsClosed, is_free, leads_into}
+use Rattle.mh_model.specs.Acceptable.{IsReached, start, led, IsClosed, is_free, is_manned, leads_into}
 use Rattle.mh_verify.specs.declared.refusal.Found.{Found}
-use Rattle.mh_verify.specs.Refusals.{found_at, timer_at, called_at, not_yet_at, id_variable, fault_beside, miscalls, refused_for, wrong_from, wrong_with, several, several_at, refusals_of_effects, refusals_in, RefusedIsNot}
+use Rattle.mh_verify.specs.Refusals.{found_at, timer_at, called_at, not_yet_at, id_variable, fault_beside, miscalls, refused_for, wrong_from, wrong_with, several, several_at, refusals_of_members, refusals_of_effects, refusals_in, RefusedIsNot}
 use Rattle.mh_verify.specs.Order.{IsFirst}
 use Rattle.mh_verify.specs.Least.{least_of}
 use Rattle.mh_verify.specs.Free.{AreFree}
 use Rattle.mh_verify.specs.Reach.{AreReached}
-use Rattle.mh_verify.proofs.ContainsLemmas.{all_append, all_front, all_back, no_member, first_or_behind, in_joined, joined_from, all_of, empty_joined}
+use Rattle.mh_verify.proofs.ContainsLemmas.{nil_append, nil_parts, all_append, all_front, all_back, no_member, first_or_behind, in_joined, joined_from, all_of, empty_joined}
 use Rattle.mh_verify.proofs.ConfigLemmas.{config_is, config_itself, member_of, among_of}
 use Rattle.mh_verify.proofs.OrderLemmas.{first_of, none_of}
 use Rattle.mh_verify.proofs.CallLemmas.{parted}
+use Rattle.mh_verify.proofs.MannedLemmas.{none_where_manned, manned_where_none, config_of_members}
 
 -- no variable holds the id of a timer
 abbrev is_unheld : Option ObjRef → Bool
@@ -71,14 +72,6 @@ all_good s ps c key n (a ∷ acts) h =
     by None (Some v) m d k e h ih = cc
     by (Some f) v m d k e h ih = cc
 
-nil_append : {X : Type 0} (xs ys : List X) → xs ≡ [] → ys ≡ [] → xs ++ ys ≡ []
-nil_append [] ys h k = k
-nil_append (x ∷ xs) ys h k = cc
-
-nil_parts : {X : Type 0} (xs ys : List X) → xs ++ ys ≡ [] → (xs ≡ []) × (ys ≡ [])
-nil_parts [] ys h = (refl, h)
-nil_parts (x ∷ xs) ys h = cc
-
 nothing_wrong_with : (s : Service) (ps : List Fixed) (c : Config) (parts : List Fixed) → list_all (is_good s ps) (flat_map actions parts) ≡ true → flat_map (wrong_with s ps c) parts ≡ []
 nothing_wrong_with s ps c [] h = refl
 nothing_wrong_with s ps c (p ∷ parts) h =
@@ -100,18 +93,32 @@ none_where_single s c h = by (same_config c (starting s)) (is_single s) h
     by true false e = cc
     by false t e = refl
 
-none_where_free : (s : Service) (c : Config) → is_single s ≡ true → is_free s c ≡ true → refusals_in s c ≡ []
-none_where_free s c e h =
-    nil_append (several_at s c) (refusals_of_effects s c) (none_where_single s c e) (nothing_wrong_with s (present s c) c (filter (is_active (present s c)) (present s c)) h)
+none_where_good : (s : Service) (c : Config) → is_single s ≡ true → is_free s c ≡ true → is_manned s c ≡ true → refusals_in s c ≡ []
+none_where_good s c e h k =
+    let members = refusals_of_members s c in
+    let front = nil_append (several_at s c) members (none_where_single s c e) (none_where_manned s c k) in
+    nil_append (several_at s c ++ members) (refusals_of_effects s c) front (nothing_wrong_with s (present s c) c (filter (is_active (present s c)) (present s c)) h)
 
-free_where_none : (s : Service) (c : Config) → refusals_in s c ≡ [] → is_free s c ≡ true
+-- of each of the three parts there is none then
+record HasNone (s : Service) (c : Config) : Type 0 where
+  several : several_at s c ≡ []
+  members : refusals_of_members s c ≡ []
+  effects : refusals_of_effects s c ≡ []
+
+none_of_each : (s : Service) (c : Config) → refusals_in s c ≡ [] → HasNone s c
+none_of_each s c h =
+    let both = nil_parts (several_at s c ++ refusals_of_members s c) (refusals_of_effects s c) h in
+    let front = nil_parts (several_at s c) (refusals_of_members s c) both.0 in
+    record { several = front.0; members = front.1; effects = both.1 }
+
+free_where_none : (s : Service) (c : Config) → HasNone s c → is_free s c ≡ true
 free_where_none s c h =
-    all_good_with s (present s c) c (filter (is_active (present s c)) (present s c)) (nil_parts (several_at s c) (refusals_of_effects s c) h).1
+    all_good_with s (present s c) c (filter (is_active (present s c)) (present s c)) h.effects
 
 -- it is said of the start
-single_where_none : (s : Service) → refusals_in s (starting s) ≡ [] → is_single s ≡ true
+single_where_none : (s : Service) → HasNone s (starting s) → is_single s ≡ true
 single_where_none s h =
-    by (same_config (starting s) (starting s)) (is_single s) (config_itself (starting s)) (nil_parts (several_at s (starting s)) (refusals_of_effects s (starting s)) h).0
+    by (same_config (starting s) (starting s)) (is_single s) (config_itself (starting s)) h.several
   where
     by : (b t : Bool) → b ≡ true → cond (b && not t) (several s ∷ []) [] ≡ [] → t ≡ true
     by true true e k = refl
@@ -144,9 +151,13 @@ config_of_effects s c x m =
     let from = joined_from (wrong_with s (present s c) c) (filter (is_active (present s c)) (present s c)) x m in
     config_from s (present s c) c from.0.key 1 (actions from.0) x from.2
 
+config_of_front : (s : Service) (c : Config) (x : Found) → Contains (several_at s c ++ refusals_of_members s c) x → x.config ≡ c
+config_of_front s c x m =
+    elim (Contains-append_cases (several_at s c) (refusals_of_members s c) x m) [ inl k ↦ config_of_several s c x k | inr k ↦ config_of_members s c x k ]
+
 config_of : (s : Service) (c : Config) (x : Found) → Contains (refusals_in s c) x → x.config ≡ c
 config_of s c x m =
-    elim (Contains-append_cases (several_at s c) (refusals_of_effects s c) x m) [ inl k ↦ config_of_several s c x k | inr k ↦ config_of_effects s c x k ]
+    elim (Contains-append_cases (several_at s c ++ refusals_of_members s c) (refusals_of_effects s c) x m) [ inl k ↦ config_of_front s c x k | inr k ↦ config_of_effects s c x k ]
 
 -- A closed set has what is reached.
 
@@ -161,12 +172,13 @@ has_reached s cs k _ (led c a d r m e) =
 
 pub free_of : (s : Service) (cs : List Config) → AreReached s cs → least_of None (flat_map (refusals_in s) cs) ≡ None → AreFree s cs
 free_of s cs h e =
-    let none : (c : Config) → is_among cs c ≡ true → refusals_in s c ≡ [] = λ c m. empty_joined (refusals_in s) cs c (none_of (flat_map (refusals_in s) cs) e) (member_of cs c m) in
+    let none : (c : Config) → is_among cs c ≡ true → HasNone s c = λ c m. none_of_each s c (empty_joined (refusals_in s) cs c (none_of (flat_map (refusals_in s) cs) e) (member_of cs c m)) in
     record {
       service = h.service;
       single = single_where_none s (none (starting s) h.closed.start);
       closed = h.closed;
       free = λ c m. free_where_none s c (none c m);
+      manned = λ c m. manned_where_none s c (none c m).members;
     }
 
 pub first_found : (s : Service) (cs : List Config) (x : Found) → AreReached s cs → least_of None (flat_map (refusals_in s) cs) ≡ Some x → IsFirst s x
@@ -182,5 +194,6 @@ first_found s cs x h e =
 
 pub refused_is_not : RefusedIsNot
 refused_is_not s x r m good =
-    let free = good.free x.config (has_reached s good.reached good.closed x.config r) in
-    no_member x (subst (λ (xs : List Found). Contains xs x) (none_where_free s x.config good.single free) m)
+    let among = has_reached s good.reached good.closed x.config r in
+    let none = none_where_good s x.config good.single (good.free x.config among) (good.manned x.config among) in
+    no_member x (subst (λ (xs : List Found). Contains xs x) none m)

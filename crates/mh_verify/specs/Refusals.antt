@@ -1,5 +1,5 @@
 -- Why a configuration is refused, with the place of each refusal: an active action, or the start application.
-use Rattle.std.specs.Prelude.{ℕ, ◌+◌, Bool, true, false, ◌&&◌, not, if◌then◌else◌, List, [], ◌∷◌, ◌++◌, filter, Option, Some, None}
+use Rattle.std.specs.Prelude.{ℕ, ◌+◌, Bool, true, false, ◌&&◌, not, if◌then◌else◌, List, [], ◌∷◌, ◌++◌, map, filter, Option, Some, None}
 use Rattle.std.specs.List.{flat_map, Contains}
 use Rattle.std.specs.Option.{option_to_list}
 use Rattle.mh_base.specs.declared.obj_ref.ObjRef.{ObjRef}
@@ -10,13 +10,15 @@ use Rattle.mh_model.specs.declared.act.Argument.{Argument}
 use Rattle.mh_model.specs.declared.act.Argument.TheVariants as argument
 use Rattle.mh_model.specs.declared.config.Config.{Config}
 use Rattle.mh_model.specs.declared.fault.Fault.{Fault}
+use Rattle.mh_model.specs.declared.member.Member.{Member}
 use Rattle.mh_model.specs.declared.object.Fixed.{Fixed}
-use Rattle.mh_group.specs.Table.{needs_of}
+use Rattle.mh_group.specs.Table.{needs_of, is_list_group}
 use Rattle.mh_model.specs.Known.{Known, known_before}
 use Rattle.mh_model.specs.Faults.{written_at, target_faults, called_faults, arguments_faults, least_fault}
 use Rattle.mh_model.specs.Service.{Service, group_ref}
 use Rattle.mh_model.specs.Configuration.{is_single, starting, present, same_config}
-use Rattle.mh_model.specs.Active.{actions, is_active, is_direct}
+use Rattle.mh_model.specs.Active.{actions, is_active, is_direct, member_faults}
+use Rattle.mh_model.specs.Tokens.{members}
 use Rattle.mh_model.specs.Acceptable.{IsReached, IsAcceptable}
 use Rattle.mh_verify.specs.declared.refusal.Found.{Found}
 use Rattle.mh_verify.specs.declared.refusal.RefusalKind.{RefusalKind}
@@ -96,6 +98,34 @@ wrong_with s ps c p = wrong_from s ps c p.key 1 (actions p)
 abbrev pub refusals_of_effects : Service → Config → List Found
 refusals_of_effects s c = flat_map (wrong_with s (present s c) c) (filter (is_active (present s c)) (present s c))
 
+-- Members of groups of objects. What is refused of one stands at its group, in front of all actions of it.
+
+-- a refusal of an object itself
+abbrev pub refusal_of_part : Config → ObjRef → RefusalKind → ObjRef → Found
+refusal_of_part c key k r = record {
+  kind = k;
+  place = record { group = key.group; object = key.number; index = 0 };
+  action = None;
+  object = r;
+  config = c;
+}
+
+abbrev pub found_of_part : Config → ObjRef → Fault → Found
+found_of_part c key f = refusal_of_part c key (kind_of f.what) f.at
+
+-- those that are absent or no visible
+abbrev pub members_refused : List Fixed → Config → ObjRef → List Member → List Found
+members_refused ps c key ms = map (found_of_part c key) (flat_map (member_faults ps) ms)
+
+-- what a list shows changes, and is not verified yet
+abbrev pub part_refused : List Fixed → Config → Fixed → List Found
+part_refused ps c p =
+    if is_list_group p.class then refusal_of_part c p.key kind.NotYet p.key ∷ []
+    else members_refused ps c p.key (members p)
+
+abbrev pub refusals_of_members : Service → Config → List Found
+refusals_of_members s c = flat_map (part_refused (present s c) c) (present s c)
+
 -- A service with several applications or scenes is not verified yet, which is said of its start.
 
 abbrev pub several : Service → Found
@@ -110,9 +140,9 @@ several s = record {
 abbrev pub several_at : Service → Config → List Found
 several_at s c = if same_config c (starting s) && not (is_single s) then several s ∷ [] else []
 
--- the refusals of the service itself, and those of its effects
+-- the refusals of the service itself, those of members of groups, and those of effects
 abbrev pub refusals_in : Service → Config → List Found
-refusals_in s c = several_at s c ++ refusals_of_effects s c
+refusals_in s c = several_at s c ++ refusals_of_members s c ++ refusals_of_effects s c
 
 -- a service with a refusal in a configuration that is reached is not acceptable
 abbrev pub RefusedIsNot : Type 0

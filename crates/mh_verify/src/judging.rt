@@ -3,18 +3,20 @@ ghost use Rattle.std.specs.Prelude.{◌≡◌, ◌+◌, ◌&&◌, not, None, IfO
 ghost use Rattle.std.specs.List.{flat_map};
 ghost use Rattle.mh_model.specs.Active.{is_active};
 ghost use Rattle.mh_model.specs.Configuration.{is_single, same_config, starting as starting_lem};
+ghost use Rattle.mh_model.specs.Tokens.{member_actions};
 ghost use Rattle.mh_verify.specs.Refusals.{several as several_lem, several_at};
-ghost use Rattle.mh_verify.specs.Refusals.{refusals_of_effects, wrong_from, wrong_with, refusals_in};
+ghost use Rattle.mh_verify.specs.Refusals.{part_refused, wrong_from, wrong_with, refusals_in};
 ghost use Rattle.mh_verify.specs.Least.{least_of};
 
 use crate::equipped::Equipped;
+use crate::members::{least_of_groups, members};
 use crate::ordering::lesser;
 use crate::present::{Present, effects};
 use crate::reaching::starting;
 use crate::telling::{Scope, refused_at};
 use crate::{Found, Place, RefusalKind};
 use mh_base::ObjRef;
-use mh_model::{Act, Config, Fixed, FixedPart};
+use mh_model::{Act, Config, Effect, Fixed, FixedPart, Member};
 use std::alloc::AllocError;
 
 /// The number of the next action. More than can be counted have no room in memory.
@@ -49,7 +51,58 @@ fn least_of_actions(
     Ok((best, index))
 }
 
-/// The first of what is wrong with the effects of an object, and of the best so far.
+/// The first of what is wrong with the slots of a member, and of the best so far. Their actions are counted
+/// on from those in front of them; beside it stands how many there are then.
+fn least_of_slots(
+    best: Option<Found>,
+    scope: &Scope<'_>,
+    key: &ObjRef,
+    counted: usize,
+    slots: &[Effect],
+) -> Result<(Option<Found>, usize), AllocError>
+    ensures least { IfOk result (λ r. r.0 ≡ least_of best
+        (wrong_from scope.now.service.now scope.now.present scope.now.config.now
+        key.now (counted + 1) (flat_map (λ slot. slot) slots.now))) }
+    ensures counted { IfOk result (λ r. r.1
+        ≡ counted + length (flat_map (λ slot. slot) slots.now)) }
+{
+    let mut best = best;
+    let mut index = counted;
+    for slot in slots {
+        let (least, counted) = least_of_actions(best, scope, key, index, slot.as_slice())?;
+        best = least;
+        index = counted;
+    }
+    Ok((best, index))
+}
+
+/// The first of what is wrong with the slots of these members, and of the best so far. They too are counted
+/// on, and beside it stands how many there are then.
+fn least_of_member_slots(
+    best: Option<Found>,
+    scope: &Scope<'_>,
+    key: &ObjRef,
+    counted: usize,
+    members: &[Member],
+) -> Result<(Option<Found>, usize), AllocError>
+    ensures least { IfOk result (λ r. r.0 ≡ least_of best
+        (wrong_from scope.now.service.now scope.now.present scope.now.config.now
+        key.now (counted + 1) (flat_map member_actions members.now))) }
+    ensures counted { IfOk result (λ r. r.1
+        ≡ counted + length (flat_map member_actions members.now)) }
+{
+    let mut best = best;
+    let mut index = counted;
+    for member in members {
+        let slots = member.slots.as_slice();
+        let (least, counted) = least_of_slots(best, scope, key, index, slots)?;
+        best = least;
+        index = counted;
+    }
+    Ok((best, index))
+}
+
+/// The first of what is wrong with the effects of an object, its slots last, and of the best so far.
 fn least_of_part(
     best: Option<Found>,
     scope: &Scope<'_>,
@@ -61,7 +114,8 @@ fn least_of_part(
     let (start_up, close_down, link) = effects(part);
     let (best, counted) = least_of_actions(best, scope, &part.key, 0, start_up)?;
     let (best, counted) = least_of_actions(best, scope, &part.key, counted, close_down)?;
-    let (best, _) = least_of_actions(best, scope, &part.key, counted, link)?;
+    let (best, counted) = least_of_actions(best, scope, &part.key, counted, link)?;
+    let (best, _) = least_of_member_slots(best, scope, &part.key, counted, members(part))?;
     Ok(best)
 }
 
@@ -85,23 +139,28 @@ fn least_of_parts(
     Ok(best)
 }
 
-/// The first of what is wrong with the active effects of the configuration, and of the best so far.
-fn least_of_effects(
-    best: Option<Found>,
-    service: &Equipped<'_>,
-    config: &Config,
-) -> Result<Option<Found>, AllocError>
-    ensures { IfOk result (λ least. least ≡ least_of best
-        (refusals_of_effects service.now config.now)) }
+/// The first of what is wrong with the active effects of what is present, and of the best so far.
+fn least_of_effects(best: Option<Found>, scope: &Scope<'_>) -> Result<Option<Found>, AllocError>
+    ensures { let ps = scope.now.present in
+        IfOk result (λ least. least ≡ least_of best
+        (flat_map (wrong_with scope.now.service.now ps scope.now.config.now)
+        (filter (is_active ps) ps))) }
 {
-    let scope = Scope {
-        service,
-        config,
-        present: Present::of(service, config),
-    };
     let (application, scene) = scope.present.parts();
-    let best = least_of_parts(best, &scope, application)?;
-    least_of_parts(best, &scope, scene)
+    let best = least_of_parts(best, scope, application)?;
+    least_of_parts(best, scope, scene)
+}
+
+/// The first of what is wrong with the members of what is present, and of the best so far.
+#[tactic(auto, using(crate::proofs::LeastLemmas::least_joined))]
+fn least_of_present(best: Option<Found>, scope: &Scope<'_>) -> Result<Option<Found>, AllocError>
+    ensures { let ps = scope.now.present in
+        IfOk result (λ least. least ≡ least_of best
+        (flat_map (part_refused ps scope.now.config.now) ps)) }
+{
+    let (application, scene) = scope.present.parts();
+    let best = least_of_groups(best, scope, application)?;
+    least_of_groups(best, scope, scene)
 }
 
 /// A service with several applications or scenes is not verified yet, which is said of its start.
@@ -161,8 +220,14 @@ fn least_in(
 ) -> Result<Option<Found>, AllocError>
     ensures { IfOk result (λ least. least ≡ least_of best (refusals_in service.now config.now)) }
 {
+    let scope = Scope {
+        service,
+        config,
+        present: Present::of(service, config),
+    };
     let best = least_of_several(best, service, config)?;
-    least_of_effects(best, service, config)
+    let best = least_of_present(best, &scope)?;
+    least_of_effects(best, &scope)
 }
 
 /// The first of what is wrong in these configurations.

@@ -9,6 +9,7 @@ pub mod accepted;
 mod calling;
 mod equipped;
 mod judging;
+mod members;
 mod ordering;
 mod present;
 mod reaching;

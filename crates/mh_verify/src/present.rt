@@ -12,6 +12,7 @@ ghost use Rattle.mh_model.specs.Configuration.{present, scene_parts as scene_par
 ghost use Rattle.mh_model.specs.Known.{known_before};
 ghost use Rattle.mh_model.specs.Property.{held, as_value};
 ghost use Rattle.mh_model.specs.Service.{part_at as part_at_lem};
+ghost use Rattle.mh_model.specs.Tokens.{slot_actions};
 
 use crate::equipped::Equipped;
 use mh_base::{GroupName, ObjRef, Value};
@@ -259,9 +260,11 @@ fn to_application(service: &Equipped<'_>, at: &ObjRef) -> Result<Option<Config>,
     }))
 }
 
-/// The effects of an object in their written order: start-up, close-down, and what a link does.
+/// The effects of an object in their written order: start-up, close-down, and what a link does. The slots
+/// of members, which come behind them, are left to the callers.
 pub fn effects(part: &Fixed) -> (&[Act], &[Act], &[Act])
-    ensures { result.0.now ++ result.1.now ++ result.2.now ≡ actions part.now }
+    ensures { result.0.now ++ result.1.now ++ result.2.now ++ slot_actions part.now
+        ≡ actions part.now }
 {
     (
         effect_of(part, Attribute::OnStartUp),

@@ -5,12 +5,14 @@ ghost use Rattle.std.specs.Prelude.{◌≡◌, ◌++◌, ◌∷◌, [], ◌<◌,
 ghost use Rattle.std.specs.List.{flat_map, position, remove};
 ghost use Rattle.mh_model.specs.Active.{actions, is_active};
 ghost use Rattle.mh_model.specs.Configuration.{same_config as same_config_lem, same_scene as same_scene_lem, starting as starting_lem};
+ghost use Rattle.mh_model.specs.Tokens.{member_actions};
 ghost use Rattle.mh_verify.specs.Reach.{led_by, led_to as led_to_lem, taken, without, all_taken, all_without, AreReached};
 
 use crate::equipped::Equipped;
+use crate::members::members;
 use crate::present::{Present, effects, leads};
 use mh_base::GroupName;
-use mh_model::{Act, Config, Fixed, FixedPart};
+use mh_model::{Act, Config, Effect, Fixed, FixedPart, Member};
 use std::alloc::{AllocError, Global};
 
 fn same_config(first: &Config, second: &Config) -> bool
@@ -56,7 +58,39 @@ fn push_led(
     Ok(())
 }
 
-/// Puts behind these where the effects of an object lead.
+/// Puts behind these where the slots of a member lead.
+fn push_led_by_slots(
+    led: &mut Vec<Config>,
+    service: &Equipped<'_>,
+    config: &Config,
+    slots: &[Effect],
+) -> Result<(), AllocError>
+    ensures { OnOk result (led.new.items ≡ led.old.items
+        ++ led_by service.now config.now (flat_map (λ slot. slot) slots.now)) }
+{
+    for slot in slots {
+        push_led(led, service, config, slot.as_slice())?;
+    }
+    Ok(())
+}
+
+/// Puts behind these where the slots of members lead.
+fn push_led_by_members(
+    led: &mut Vec<Config>,
+    service: &Equipped<'_>,
+    config: &Config,
+    members: &[Member],
+) -> Result<(), AllocError>
+    ensures { OnOk result (led.new.items ≡ led.old.items
+        ++ led_by service.now config.now (flat_map member_actions members.now)) }
+{
+    for member in members {
+        push_led_by_slots(led, service, config, member.slots.as_slice())?;
+    }
+    Ok(())
+}
+
+/// Puts behind these where the effects of an object lead, its slots last.
 fn push_led_by(
     led: &mut Vec<Config>,
     service: &Equipped<'_>,
@@ -69,7 +103,8 @@ fn push_led_by(
     let (start_up, close_down, link) = effects(part);
     push_led(led, service, config, start_up)?;
     push_led(led, service, config, close_down)?;
-    push_led(led, service, config, link)
+    push_led(led, service, config, link)?;
+    push_led_by_members(led, service, config, members(part))
 }
 
 /// Puts behind these where the effects lead that are active.

@@ -8,7 +8,7 @@ use mh_model::{Config, FaultKind};
 use mh_service::Service;
 use thiserror::Error;
 
-/// What is wrong with an action, or with the service itself.
+/// What is wrong with an action, with a member of a group of objects, or with the service itself.
 #[derive(Clone, Copy, Debug, PartialEq, Eq, Error)]
 pub enum RefusalKind {
     #[error("V1: an object that is named is absent")]
@@ -56,7 +56,8 @@ impl RefusalKind {
 }
 
 /// The place of an action: an object, and the number of the action there, counted from 1 through the
-/// effects of the object in their written order. With the index 0 it is the place of a group itself.
+/// effects of the object in their written order, slots last. With the index 0 it is the place of the object
+/// itself, or with the number 0 of a group itself.
 #[derive(Clone, Drop, PartialEq, Eq)]
 pub struct Place {
     pub group: GroupName,
@@ -64,22 +65,22 @@ pub struct Place {
     pub index: usize,
 }
 
-/// Something wrong with an active action, or with the service itself.
+/// Something wrong with an active action, with a member of a group of objects, or with the service itself.
 #[derive(Drop)]
 pub struct Found {
     pub kind: RefusalKind,
     pub place: Place,
-    /// None where the place is that of a group itself.
+    /// None where the place is that of an object or of a group itself.
     pub action: Option<ActionName>,
     /// The reference at the place that is wrong; the target's, of a call that does not fit its
-    /// program or of an action that is not verified yet; of a group itself, its own.
+    /// program or of an action that is not verified yet; of a list or of a group itself, its own.
     pub object: ObjRef,
     /// The configuration in which it is wrong.
     pub config: Config,
 }
 
-/// A service that is not accepted, and why. For want of memory there is no place; at that of a group itself
-/// there is no action.
+/// A service that is not accepted, and why. For want of memory there is no place; at that of an object or of
+/// a group itself there is no action.
 #[derive(Drop)]
 pub struct Refusal {
     pub kind: RefusalKind,

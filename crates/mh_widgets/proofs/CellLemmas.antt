@@ -1,6 +1,6 @@
 -- Cells: two parts of a list's items as one list of the objects that they are.
-use Rattle.std.specs.Prelude.{◌≡◌, ℕ, zero, suc, ◌-◌, Bool, true, false, ◌||◌, if◌then◌else◌, List, [], ◌∷◌, ◌++◌, length, take, drop, map, refl}
-use Rattle.std.proofs.Common.{ap, ◌∙◌, sym, arith, append_assoc}
+use Rattle.std.specs.Prelude.{◌≡◌, ℕ, zero, suc, ◌-◌, ◌<◌, ◌≤◌, slice_get, Bool, true, false, ◌||◌, if◌then◌else◌, List, [], ◌∷◌, ◌++◌, length, take, drop, map, refl}
+use Rattle.std.proofs.Common.{rules, ap, ◌∙◌, sym, arith, append_assoc}
 use Rattle.std.specs.List.{zip, drop-map, take-map}
 use Rattle.std.proofs.lemmas.List.{length-map, append-nil}
 use Rattle.std.proofs.lemmas.List.Folds.{list_any-append}
@@ -63,3 +63,21 @@ placed_both es fs ps left before middle after behind one two =
     two ∙ ap (λ (t : List (ObjRef × Position)). t ++ zip (objects_of fs) left) one
     ∙ append_assoc before (zip (objects_of es) ps) (zip (objects_of fs) left)
     ∙ ap (λ (t : List (ObjRef × Position)). before ++ t) (sym both)
+
+-- a member of two lists of objects, by its place: in the one, or behind it in the other
+
+pub got_front : (es : List Entry) (ys : List ObjRef) (k : ℕ) → k < length es → slice_get (objects_of es ++ ys) k ≡ slice_get (objects_of es) k
+got_front [] ys k h = absurd (search (rules, h))
+got_front (e ∷ es) ys zero h = refl
+got_front (e ∷ es) ys (suc k) h = got_front es ys k (search (rules, h))
+
+pub got_behind : (es : List Entry) (ys : List ObjRef) (k : ℕ) → length es ≤ k → slice_get (objects_of es ++ ys) k ≡ slice_get ys (k - length es)
+got_behind [] ys k h = ap (slice_get ys) (same k)
+  where
+    same : (n : ℕ) → n ≡ n - 0
+    same n = omega arith
+got_behind (e ∷ es) ys zero h = absurd (search (rules, h))
+got_behind (e ∷ es) ys (suc k) h = got_behind es ys k (search (rules, h)) ∙ ap (slice_get ys) (less k (length es))
+  where
+    less : (n m : ℕ) → n - m ≡ suc n - suc m
+    less n m = omega arith

@@ -1,8 +1,9 @@
 //! The items in the cells of a list group.
-ghost use Rattle.std.specs.Prelude.{◌≡◌, ◌++◌, ◌-◌, ◌==◌, [], length, take, if◌then◌else◌, OnOk};
+ghost use Rattle.std.specs.Prelude.{◌≡◌, ◌++◌, ◌-◌, ◌==◌, [], length, slice_get, take, if◌then◌else◌, OnOk};
+ghost use Rattle.std.specs.Option.{option_copied};
 ghost use Rattle.std.specs.List.{zip};
 ghost use Rattle.mh_model.specs.Lists.{wraps as wraps_lem, before_first as before_first_lem, objects_of, in_cells, is_shown, halted_members, run_members as run_members_lem};
-ghost use Rattle.mh_model.specs.Tokens.{positions as positions_lem};
+ghost use Rattle.mh_model.specs.Tokens.{numbered, positions as positions_lem};
 
 use crate::slices::{behind_of, front_of};
 use mh_base::ObjRef;
@@ -99,6 +100,27 @@ impl<'a> Cells<'a> {
         is_listed(self.some, object) || is_listed(self.wrapped, object)
     }
 
+    /// The object in the cell with this number, from 1 on.
+    pub(crate) fn at(&self, number: usize) -> Option<&'a ObjRef>
+        ensures { option_copied result ≡ numbered self.now number }
+    {
+        match number {
+            0 => None,
+            _ => self.in_place(number - 1),
+        }
+    }
+
+    fn in_place(&self, place: usize) -> Option<&'a ObjRef>
+        ensures { option_copied result ≡ slice_get self.now place }
+    {
+        let some = self.some.len();
+        if place < some {
+            object_at(self.some, place)
+        } else {
+            object_at(self.wrapped, place - some)
+        }
+    }
+
     /// Puts that those halt which are in none of these other cells.
     pub(crate) fn halt_all_but(
         &self,
@@ -138,6 +160,16 @@ impl<'a> Cells<'a> {
         let left = behind_of(positions, self.some.len());
         place_entries(placed, self.wrapped, left)?;
         Ok(())
+    }
+}
+
+/// The object that the item at this place is.
+fn object_at(entries: &[Entry], place: usize) -> Option<&ObjRef>
+    ensures { option_copied result ≡ slice_get (objects_of entries.now) place }
+{
+    match entries.get(place) {
+        Some(entry) => Some(&entry.object),
+        None => None,
     }
 }
 

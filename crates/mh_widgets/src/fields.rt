@@ -1,12 +1,13 @@
 //! Entry fields and push buttons: highlight, selection, and what a key does to the one that interacts
 //! (ISO/IEC 13522-5, Interactible, EntryField and PushButton).
-ghost use Rattle.std.specs.Prelude.{◌≡◌, ◌++◌, ◌∷◌, ◌+◌, ◌<◌, IfOk, length, take, drop, slice_set, pos, int_lt, nat_lt, ◌&&◌, ◌-◌, [], true};
+ghost use Rattle.std.specs.Prelude.{◌≡◌, ◌++◌, ◌∷◌, ◌+◌, ◌<◌, ◌≤◌, IfOk, length, take, drop, slice_set, pos, int_lt, nat_lt, ◌&&◌, ◌-◌, [], true};
 ghost use Rattle.std.specs.Ordering.{int_eq};
+ghost use Rattle.mh_group.specs.Table.{is_visible};
 ghost use Rattle.mh_model.specs.Fields as spec;
 ghost use Rattle.mh_model.specs.Fields.{button_worked as button_worked_lem, pressed_of};
 ghost use Rattle.mh_model.specs.Bodies.{text_of};
 ghost use Rattle.mh_model.specs.Items.{plain_event as plain_event_lem};
-ghost use Rattle.mh_widgets.specs.Does.{Does, Presses};
+ghost use Rattle.mh_widgets.specs.Does.{Does, Presses, placed_by, placed_with};
 
 use crate::done::{Done, Pressed};
 use crate::events::plain_event;
@@ -29,8 +30,11 @@ pub fn button_worked(
     at: &ObjRef,
     object: &Object,
 ) -> Result<Done, AllocError>
-    ensures { let said = button_worked_lem name values.now at.now object.now.fixed object.now.body in
+    ensures done { let said = button_worked_lem name values.now at.now object.now.fixed object.now.body in
         IfOk result (λ done. Does object.now said done) }
+    ensures edited { IfOk result (λ done. done.placed.items ≡ placed_with done.edit done.placed.items) }
+    ensures unseen { let seen = is_visible object.now.fixed.class in
+        IfOk result (λ done. done.placed.items ≡ placed_by done.placed.items seen) }
 {
     match (name, values) {
         (ActionName::SetHighlightStatus, [Value::Bool(on)]) => highlit(alloc, at, object, *on),
@@ -41,8 +45,11 @@ pub fn button_worked(
 }
 
 fn highlit(alloc: Global, at: &ObjRef, object: &Object, on: bool) -> Result<Done, AllocError>
-    ensures { let said = spec.highlit on at.now object.now.body in
+    ensures done { let said = spec.highlit on at.now object.now.body in
         IfOk result (λ done. Does object.now said done) }
+    ensures edited { IfOk result (λ done. done.placed.items ≡ placed_with done.edit done.placed.items) }
+    ensures unseen { let seen = is_visible object.now.fixed.class in
+        IfOk result (λ done. done.placed.items ≡ placed_by done.placed.items seen) }
 {
     if object.body.highlighted == on {
         return Ok(Done::nothing(alloc));
@@ -60,8 +67,11 @@ fn highlit(alloc: Global, at: &ObjRef, object: &Object, on: bool) -> Result<Done
 }
 
 fn button_set(alloc: Global, at: &ObjRef, object: &Object, on: bool) -> Result<Done, AllocError>
-    ensures { let said = spec.button_set on at.now object.now.body in
+    ensures done { let said = spec.button_set on at.now object.now.body in
         IfOk result (λ done. Does object.now said done) }
+    ensures edited { IfOk result (λ done. done.placed.items ≡ placed_with done.edit done.placed.items) }
+    ensures unseen { let seen = is_visible object.now.fixed.class in
+        IfOk result (λ done. done.placed.items ≡ placed_by done.placed.items seen) }
 {
     if object.body.selected == on {
         return Ok(Done::nothing(alloc));
@@ -269,14 +279,23 @@ fn put_in(alloc: Global, octet: u8, at: &ObjRef, object: &Object) -> Result<Pres
     } else {
         Vec::new(alloc)
     };
-    let text = with_octet(alloc, octet, object.text(), object.body.point)?;
-    // A point that cannot be counted stands behind no text: it is answered like want of memory.
-    let point = object.body.point.checked_add(1).ok_or(AllocError)?;
+    let point = point_in(object);
+    let text = with_octet(alloc, octet, object.text(), point)?;
     Ok(Pressed {
-        edit: Some(Edit::Type(text, point)),
+        edit: Some(Edit::Type(text, point + 1)),
         items,
         ends: false,
     })
+}
+
+/// The entry point, within the text.
+fn point_in(object: &Object) -> usize
+    ensures is { result ≡ spec.point_in object.now.body }
+    ensures within { result ≤ length (text_of object.now.body) }
+{
+    let point = object.body.point;
+    let end = object.text().len();
+    if point < end { point } else { end }
 }
 
 /// The text with the octet behind so many of its octets.

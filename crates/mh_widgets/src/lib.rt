@@ -7,7 +7,7 @@
 #![tactic(auto)]
 
 mod cells;
-mod counts;
+pub mod counts;
 pub mod done;
 mod entries;
 mod events;
@@ -18,5 +18,7 @@ pub mod selection;
 mod showing;
 mod slices;
 pub mod tokens;
+mod working;
 
 pub use done::{Done, Pressed};
+pub use working::worked;

@@ -1,8 +1,10 @@
 //! What a list group shows, and what comes of a change of its items or of the first one (ISO/IEC
 //! 13522-5, ListGroup).
 ghost use Rattle.std.specs.Prelude.{None, ◌≡◌, [], true, Some, IfOk};
+ghost use Rattle.std.specs.Option.{option_copied};
 ghost use Rattle.mh_model.specs.Lists.{cells_placed as cells_placed_lem, halted_members, list_changed as list_changed_lem, list_items as list_items_lem, list_worked as list_worked_lem, nothing_shown, shows};
-ghost use Rattle.mh_widgets.specs.Does.{Does};
+ghost use Rattle.mh_model.specs.Tokens.{numbered};
+ghost use Rattle.mh_widgets.specs.Does.{Does, placed_with};
 
 use crate::cells::Cells;
 use crate::done::Done;
@@ -23,8 +25,9 @@ pub fn list_worked(
     at: &ObjRef,
     object: &Object,
 ) -> Result<Done, AllocError>
-    ensures { let said = list_worked_lem name values.now at.now object.now.fixed object.now.body in
+    ensures done { let said = list_worked_lem name values.now at.now object.now.fixed object.now.body in
         IfOk result (λ done. Does object.now said done) }
+    ensures edited { IfOk result (λ done. done.placed.items ≡ placed_with done.edit done.placed.items) }
 {
     let list = &object.body.list;
     match relisted(alloc, name, values, object.fixed.get(), list)? {
@@ -40,8 +43,9 @@ fn list_changed(
     object: &Object,
     list: Listing,
 ) -> Result<Done, AllocError>
-    ensures { let said = list_changed_lem at.now object.now.fixed object.now.body (Some list) in
+    ensures done { let said = list_changed_lem at.now object.now.fixed object.now.body (Some list) in
         IfOk result (λ done. Does object.now said done) }
+    ensures edited { IfOk result (λ done. done.placed.items ≡ placed_with done.edit done.placed.items) }
 {
     let fixed = object.fixed.get();
     let running = object.body.running;
@@ -73,6 +77,17 @@ pub fn list_started(alloc: Global, at: &ObjRef, object: &Object) -> Result<Done,
         placed,
         items,
     })
+}
+
+/// The object in the cell of a list with this number, from 1 on, while it runs.
+pub fn in_cell(object: &Object, number: usize) -> Option<&ObjRef>
+    ensures { let now = shows object.now.body.running object.now.fixed object.now.body.list in
+        option_copied result ≡ numbered now.items number }
+{
+    if !object.body.running {
+        return None;
+    }
+    Cells::of(object.fixed.get(), &object.body.list).at(number)
 }
 
 /// What comes of a list that stops: the objects that it shows halt.

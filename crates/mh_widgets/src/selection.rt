@@ -1,10 +1,11 @@
 //! Which items of a list group are selected (ISO/IEC 13522-5, ListGroup).
 ghost use Rattle.std.specs.Prelude.{◌≡◌, ◌<◌, ◌+◌, ◌^◌, length, slice_get, vec_len, IfOk, IfSome};
 ghost use Rattle.std.specs.List.{position};
+ghost use Rattle.mh_group.specs.Table.{is_visible};
 ghost use Rattle.mh_model.specs.declared.listing.Entry.{Entry as EntryValue};
 ghost use Rattle.mh_model.specs.Lists as spec;
 ghost use Rattle.mh_model.specs.Lists.{selection_worked as selection_worked_lem};
-ghost use Rattle.mh_widgets.specs.Does.{Does};
+ghost use Rattle.mh_widgets.specs.Does.{Does, placed_by, placed_with};
 
 use crate::done::Done;
 use crate::entries::push_copies;
@@ -24,8 +25,11 @@ pub fn selection_worked(
     at: &ObjRef,
     object: &Object,
 ) -> Result<Done, AllocError>
-    ensures { let said = selection_worked_lem name values.now at.now object.now.fixed object.now.body in
+    ensures done { let said = selection_worked_lem name values.now at.now object.now.fixed object.now.body in
         IfOk result (λ done. Does object.now said done) }
+    ensures edited { IfOk result (λ done. done.placed.items ≡ placed_with done.edit done.placed.items) }
+    ensures unseen { let seen = is_visible object.now.fixed.class in
+        IfOk result (λ done. done.placed.items ≡ placed_by done.placed.items seen) }
 {
     match values {
         [Value::Int(number)] if *number > 0 => {
@@ -43,9 +47,12 @@ fn selection_at(
     at: &ObjRef,
     object: &Object,
 ) -> Result<Done, AllocError>
-    ensures { let said = spec.selection_at name place (slice_get object.now.body.list.entries place)
+    ensures done { let said = spec.selection_at name place (slice_get object.now.body.list.entries place)
         at.now object.now.fixed object.now.body in
         IfOk result (λ done. Does object.now said done) }
+    ensures edited { IfOk result (λ done. done.placed.items ≡ placed_with done.edit done.placed.items) }
+    ensures unseen { let seen = is_visible object.now.fixed.class in
+        IfOk result (λ done. done.placed.items ≡ placed_by done.placed.items seen) }
 {
     let Some(entry) = object.body.list.entries().get(place) else {
         return Ok(Done::nothing(alloc));
@@ -80,8 +87,11 @@ fn item_selected(
     object: &Object,
 ) -> Result<Done, AllocError>
     requires { place < length object.now.body.list.entries }
-    ensures { let said = spec.item_selected place at.now object.now.fixed object.now.body in
+    ensures done { let said = spec.item_selected place at.now object.now.fixed object.now.body in
         IfOk result (λ done. Does object.now said done) }
+    ensures edited { IfOk result (λ done. done.placed.items ≡ placed_with done.edit done.placed.items) }
+    ensures unseen { let seen = is_visible object.now.fixed.class in
+        IfOk result (λ done. done.placed.items ≡ placed_by done.placed.items seen) }
 {
     let list = &object.body.list;
     let other = other_marked(object.fixed.get(), list.entries());
@@ -129,8 +139,11 @@ fn item_deselected(
     object: &Object,
 ) -> Result<Done, AllocError>
     requires { place < length object.now.body.list.entries }
-    ensures { let said = spec.item_deselected place at.now object.now.body in
+    ensures done { let said = spec.item_deselected place at.now object.now.body in
         IfOk result (λ done. Does object.now said done) }
+    ensures edited { IfOk result (λ done. done.placed.items ≡ placed_with done.edit done.placed.items) }
+    ensures unseen { let seen = is_visible object.now.fixed.class in
+        IfOk result (λ done. done.placed.items ≡ placed_by done.placed.items seen) }
 {
     let list = &object.body.list;
     let mut entries = Vec::new(alloc);

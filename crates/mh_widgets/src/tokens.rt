@@ -2,10 +2,11 @@
 //! TokenGroup).
 ghost use Rattle.std.specs.Prelude.{◌≡◌, IfOk, Some, pos};
 ghost use Rattle.std.specs.Option.{option_copied};
+ghost use Rattle.mh_group.specs.Table.{is_visible};
 ghost use Rattle.mh_model.specs.Items.{acts};
 ghost use Rattle.mh_model.specs.Tokens as spec;
 ghost use Rattle.mh_model.specs.Tokens.{slot_items, token_worked as token_worked_lem};
-ghost use Rattle.mh_widgets.specs.Does.{Does, acts_of};
+ghost use Rattle.mh_widgets.specs.Does.{Does, acts_of, placed_by, placed_with};
 
 use crate::counts::numbered;
 use crate::done::Done;
@@ -25,8 +26,11 @@ pub fn token_worked(
     at: &ObjRef,
     object: &Object,
 ) -> Result<Done, AllocError>
-    ensures { let said = token_worked_lem name values.now at.now object.now.fixed object.now.body in
+    ensures done { let said = token_worked_lem name values.now at.now object.now.fixed object.now.body in
         IfOk result (λ done. Does object.now said done) }
+    ensures edited { IfOk result (λ done. done.placed.items ≡ placed_with done.edit done.placed.items) }
+    ensures unseen { let seen = is_visible object.now.fixed.class in
+        IfOk result (λ done. done.placed.items ≡ placed_by done.placed.items seen) }
 {
     match token_wanted(name, values, object) {
         Some(wanted) => turned(alloc, at, object, wanted),
@@ -61,8 +65,11 @@ fn by_row(object: &Object, row: usize) -> Option<i32>
 
 /// What comes of a token that is to go there.
 fn turned(alloc: Global, at: &ObjRef, object: &Object, wanted: i32) -> Result<Done, AllocError>
-    ensures { let said = spec.turned at.now object.now.fixed object.now.body (Some wanted) in
+    ensures done { let said = spec.turned at.now object.now.fixed object.now.body (Some wanted) in
         IfOk result (λ done. Does object.now said done) }
+    ensures edited { IfOk result (λ done. done.placed.items ≡ placed_with done.edit done.placed.items) }
+    ensures unseen { let seen = is_visible object.now.fixed.class in
+        IfOk result (λ done. done.placed.items ≡ placed_by done.placed.items seen) }
 {
     if wanted < 0 {
         return Ok(Done::nothing(alloc));
@@ -76,8 +83,11 @@ fn turned_to(
     object: &Object,
     position: usize,
 ) -> Result<Done, AllocError>
-    ensures { let said = spec.turned at.now object.now.fixed object.now.body (Some (pos position)) in
+    ensures done { let said = spec.turned at.now object.now.fixed object.now.body (Some (pos position)) in
         IfOk result (λ done. Does object.now said done) }
+    ensures edited { IfOk result (λ done. done.placed.items ≡ placed_with done.edit done.placed.items) }
+    ensures unseen { let seen = is_visible object.now.fixed.class in
+        IfOk result (λ done. done.placed.items ≡ placed_by done.placed.items seen) }
 {
     if !can_turn(object, position) {
         return Ok(Done::nothing(alloc));

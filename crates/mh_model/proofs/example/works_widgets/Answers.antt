@@ -1,9 +1,12 @@
 use Rattle.std.proofs.Common.{refl}
-use Rattle.mh_model.specs.Widgets.{scrolled, scrolled_again, deleted, added, chosen, chosen_again, turned_once, turned_twice, turned_off, typed_one, typed_two, typed_over}
+use Rattle.mh_model.specs.Widgets.{scrolled, scrolled_again, deleted, added, chosen, chosen_again, turned_once, turned_twice, turned_off, typed_one, typed_two, typed_over, asked_for, typed_in, group_runs_it, group_moves_it, group_stops_it}
+use Rattle.mh_model.specs.Lines.{lines_in}
+use Rattle.mh_model.specs.Scalars.{piece, scalars_in}
+use Rattle.mh_model.specs.Picture.{plane}
 use Rattle.mh_model.proofs.example.works_widgets.Goals as goal
 
 pub returns : goal.returns
-unfolding scrolled scrolled_again deleted added chosen chosen_again turned_once turned_twice turned_off typed_one typed_two typed_over
+unfolding scrolled scrolled_again deleted added chosen chosen_again turned_once turned_twice turned_off typed_one typed_two typed_over asked_for typed_in group_runs_it group_moves_it group_stops_it lines_in piece scalars_in plane
 returns c = record {
   begun_items = refl;
   scrolled_items = refl;
@@ -35,5 +38,17 @@ returns c = record {
   cancelled = refl;
   cancelled_ends = refl;
   button_on = refl;
+  asked_taken = refl;
+  asked_idle = refl;
+  typed_taken = refl;
+  typed_idle = refl;
+  typed_shows = refl;
+  typed_faultless = refl;
+  group_idle = refl;
+  group_shows = refl;
+  group_moves = refl;
+  group_stops = refl;
+  group_stops_idle = refl;
+  group_faultless = refl;
   button_stays = refl;
 }

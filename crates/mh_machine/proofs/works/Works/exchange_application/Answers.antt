@@ -31,6 +31,7 @@ returns-clause-done c =
       scene = scene i;
       objects = objects i;
       stack = stack i;
+      interaction = None;
       timers = timers i;
       queue = queue i;
       work = work i;

@@ -4,6 +4,7 @@ use Rattle.std.proofs.Common.{rules, ap, ◌∙◌, arith}
 use Rattle.mh_model.specs.declared.item.Item.TheVariants as item
 use Rattle.mh_model.specs.Rules.{stays, scene_exchanged}
 use Rattle.mh_model.specs.Service.{group_objects}
+use Rattle.mh_model.specs.Worked.{interaction_of}
 use Rattle.mh_machine.specs.Working.{Working}
 use Rattle.mh_machine.specs.Plans.{taken_from}
 use Rattle.mh_machine.proofs.ChangeLemmas.{exchanged}
@@ -26,12 +27,14 @@ returns-clause-done c =
     let waits : c.leave_scene-2.new.self.waits ≡ filter (λ w. bytes_eq w.object.group c.self.inside.application) c.self.inside.carousel.waits = search rules in
     let files : c.leave_scene-2.new.self.files ≡ c.self.inside.carousel.files = search rules in
     let scene : c.set_scene.new.scene ≡ Some c.args.group.now = search rules in
+    let interaction : c.leave_interaction.new.interaction ≡ interaction_of c.self.inside.application c.self.inside.interaction = search rules in
     (λ i. record {
       service = c.self.inside.service;
       application = c.self.inside.application;
       scene = scene i;
       objects = objects i;
       stack = stack i;
+      interaction = interaction i;
       timers = timers i;
       queue = queue i;
       work = work i;

@@ -36,6 +36,7 @@ returns-clause-done c =
       scene = c.self.inside.scene;
       objects = objects i;
       stack = stack i;
+      interaction = c.self.inside.interaction;
       timers = timers i;
       queue = told i;
       work = c.self.inside.work.items;

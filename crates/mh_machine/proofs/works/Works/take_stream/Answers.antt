@@ -25,6 +25,7 @@ returns-clause-done c =
       scene = c.self.inside.scene;
       objects = c.self.inside.stage.objects;
       stack = c.self.inside.stage.stack;
+      interaction = c.self.inside.interaction;
       timers = timers i;
       queue = queue i;
       work = c.self.inside.work.items;
