@@ -58,8 +58,9 @@ started text p b =
 abbrev pub halted : Body → Body
 halted b = record b { running = false }
 
+-- one that is not available stays as it is
 abbrev pub dropped : Body → Body
-dropped b = record b { available = false; text = None; point = 0 }
+dropped b = if b.available then record b { available = false; text = None; point = 0 } else b
 
 -- Values and attributes
 

@@ -89,7 +89,7 @@ token_worked n vs r p b = turned r p b (token_wanted n vs p b)
 
 -- Slots
 
--- the actions of the slots of all members
+-- the actions of all slots of a member, and of all members
 abbrev pub member_actions : Member → List Act
 member_actions m = flat_map (λ (slot : List Act). slot) m.slots
 

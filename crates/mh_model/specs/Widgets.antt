@@ -87,7 +87,7 @@ scrolled = on_list false action.ScrollItems (int (pos 2)) (running_list false)
 unfoldable pub scrolled_again : Worked
 scrolled_again = on_list false action.ScrollItems (int (pos 1)) scrolled.body
 
--- the second item goes, which is the first to be shown
+-- the second item goes, which stands before those that are shown
 unfoldable pub deleted : Worked
 deleted = on_list false action.DelItem (value.Object (here 12) ∷ []) scrolled.body
 
@@ -202,7 +202,7 @@ typed_in = run (post_key key.Digit1 ∷ post_key key.Digit2 ∷ post_key key.Dig
 abbrev pub row_of : State → List ℕ
 row_of x = map (λ c. (cell_at (all x.objects) x.stack c).scalar) (0 ∷ 1 ∷ 2 ∷ [])
 
--- A token group of two rectangles in a scene, which runs them, and whose slot moves the first
+-- A token group of one rectangle in a scene, which runs it, and whose slot moves it
 
 abbrev pub red_one : Fixed
 red_one = rectangle

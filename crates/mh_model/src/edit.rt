@@ -151,9 +151,11 @@ impl Body {
     fn forget(&mut self)
         ensures { self.new ≡ dropped self.old }
     {
-        self.available = false;
-        self.text = None;
-        self.point = 0;
+        if self.available {
+            self.available = false;
+            self.text = None;
+            self.point = 0;
+        }
     }
 }
 

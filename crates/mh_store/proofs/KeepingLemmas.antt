@@ -98,6 +98,16 @@ start_left text o h = by o.body.running
     by true = refl
     by false = start_unrun text (token_started o.fixed o.body) o h
 
+abbrev forgotten : Body → Body
+forgotten b = record b { available = false; text = None; point = 0 }
+
+drop_left : (o : Object) → has_no_text o ≡ true → lines_of (with_body (λ _ b. dropped b) o) ≡ lines_of o
+drop_left o h = by o.body.available
+  where
+    by : (a : Bool) → lines_of (record o { body = if a then forgotten o.body else o.body }) ≡ lines_of o
+    by true = without_text o (forgotten o.body) h refl
+    by false = refl
+
 -- an edit that can be seen to leave the lines does so
 pub lines-left : (e : Edit) (o : Object) → leaves_lines e o ≡ true → lines_of (with_body (edited e) o) ≡ lines_of o
 lines-left (edit.Give v) o h = untouched o (given v o.body) refl (record { columns = refl; rows = refl; wraps = refl; justification = refl })
@@ -108,7 +118,7 @@ lines-left edit.Clear o h = untouched o (cleared o.body) refl (record { columns 
 lines-left (edit.Prepare text) o h = prepare_left text o h
 lines-left (edit.Start text) o h = start_left text o h
 lines-left edit.Halt o h = untouched o (halted o.body) refl (record { columns = refl; rows = refl; wraps = refl; justification = refl })
-lines-left edit.Drop o h = without_text o (dropped o.body) h refl
+lines-left edit.Drop o h = drop_left o h
 lines-left (edit.Turn n) o h = untouched o (record o.body { token = n }) refl (record { columns = refl; rows = refl; wraps = refl; justification = refl })
 lines-left (edit.List l) o h = untouched o (record o.body { list = l }) refl (record { columns = refl; rows = refl; wraps = refl; justification = refl })
 lines-left (edit.Point n) o h = untouched o (record o.body { point = n }) refl (record { columns = refl; rows = refl; wraps = refl; justification = refl })

@@ -26,6 +26,8 @@ mod der_values;
 #[cfg(test)]
 mod display;
 #[cfg(test)]
+mod embedding;
+#[cfg(test)]
 mod engine;
 #[cfg(test)]
 mod examples;

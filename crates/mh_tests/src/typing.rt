@@ -63,6 +63,13 @@ lenient run|key 5|key 6|engine 1|run|show|engine 2|key 8|run|show|key cancel|run
 {:Link 7 :EventSource 0 :EventType EngineEvent :EventData 2 :LinkEffect ( :Preload (1) ) } ) }
 => did 31 idle|did 5 idle|frame 1|row 01: 0-1 ffffff/000000 "56"|did 7 idle|frame 2|row 00: 0-1 ffffff/000000 "78"|did
 3 idle|frame 3|row 00: 0-0 ffffff/000000 "7"|total 46|exit 0|;;
+one that is dropped again while it runs keeps what was typed
+lenient run|engine 1|run|key 5|run|engine 2|run|show| @a {:Application ("~/a" 0) :Items ( {:EntryField 10 :OrigBoxSize
+120 16 :OrigContent 'abc' } {:Text 20 :OrigBoxSize 120 16 } {:OStringVar 1 :OrigValue 'x' } {:Link 11 :EventSource 10
+:EventType IsStopped :LinkEffect ( :Run (10) :SetInteractionStatus (10 true) ) } {:Link 12 :EventSource 0 :EventType
+EngineEvent :EventData 1 :LinkEffect ( :Unload (10) ) } {:Link 13 :EventSource 0 :EventType EngineEvent :EventData 2
+:LinkEffect ( :Deactivate (11) :Unload (10) :GetTextData (10 1) :SetData (20 :IndirectRef 1) ) } ) }
+=> did 19 idle|did 10 idle|did 1 idle|did 12 idle|frame 1|row 00: 0-0 ffffff/000000 "5"|total 42|exit 0|;;
 a file comes that is longer than the field, digits are typed over it, and Cancel brings nothing back
 play run|key 5|file x 313233|run|show|key 9|run|show|engine 1|key 9|run|show|key cancel|run|show| @a {:Application
 ("~/a" 0) :Items ( {:EntryField 1 :OrigBoxSize 60 16 :OrigContent :ContentRef ("x") :MaxLength 2 } {:Link 5

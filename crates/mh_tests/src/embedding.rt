@@ -1,0 +1,198 @@
+//! The page on embedding (`docs/EMBEDDING.md`): the code that it shows, as it stands there, and the example
+//! `first`, played by it.
+use crate::cases::are;
+use crate::page::file;
+use mh_base::{GroupName, Octets};
+use mh_codec::decode_group;
+use mh_engine::Engine;
+use mh_group::Group;
+use mh_model::picture::CELLS;
+use mh_model::{Cell, File, Input, Key, Picture};
+use mh_service::Service;
+use mh_text::read_group;
+use mh_verify::verify;
+use std::alloc::Global;
+
+/// A file: its path in the folder of the service, and its bytes.
+type Source = (GroupName, Vec<u8>);
+
+/// Whether a file is a group. Every other one is content.
+fn is_group(source: &Source) -> bool {
+    let bytes = source.1.as_slice();
+    mh_text::begins_group(bytes) || mh_codec::begins_group(bytes)
+}
+
+/// The group of a file, in the notation in which it begins, under the name of the file.
+fn named(alloc: Global, source: &Source) -> Option<(GroupName, Group)> {
+    let group = group(alloc, source.1.as_slice())?;
+    Some((source.0.clone().ok()?, group))
+}
+
+fn group(alloc: Global, bytes: &[u8]) -> Option<Group> {
+    if mh_codec::begins_group(bytes) {
+        decode_group(alloc, bytes).ok()
+    } else {
+        read_group(alloc, bytes).ok()
+    }
+}
+
+/// The service of the files, which begins with the application `a`.
+fn service(alloc: Global, sources: &[Source]) -> Option<Service> {
+    let mut groups = Vec::new(alloc);
+    for source in sources {
+        if is_group(source) {
+            groups.push(named(alloc, source)?).ok()?;
+        }
+    }
+    Service::of_files(alloc, groups, GroupName::of_path(alloc, b"a").ok()?).ok()
+}
+
+/// An engine of the service, if the verifier accepts it, which begins on the modified Julian day 60,000.
+fn start(alloc: Global, sources: &[Source]) -> Option<Engine> {
+    let accepted = verify(alloc, service(alloc, sources)?, &[]).ok()?;
+    Engine::start(alloc, accepted, 60_000).ok()
+}
+
+/// A file as content.
+fn content(alloc: Global, source: &Source) -> Option<File> {
+    Some(File {
+        name: source.0.clone().ok()?,
+        content: Octets::from_slice(alloc, source.1.as_slice()).ok()?,
+    })
+}
+
+/// Puts the content files there before the first move.
+fn preset(alloc: Global, engine: &mut Engine, sources: &[Source]) -> Option<()> {
+    for source in sources {
+        if !is_group(source) {
+            engine.preset(content(alloc, source)?).ok()?;
+        }
+    }
+    Some(())
+}
+
+/// Plays: what is shown at first, and what is shown once the red key was pressed.
+fn play(alloc: Global, engine: &mut Engine, sources: &[Source]) -> Option<Vec<u8>> {
+    let mut screen = Vec::new(alloc);
+    preset(alloc, engine, sources)?;
+    turn(alloc, engine, &mut screen)?;
+    engine.post(Input::Key(Key::Red)).ok()?;
+    turn(alloc, engine, &mut screen)?;
+    Some(screen)
+}
+
+/// Makes the steps that there are to make, tells how many were made so far, and draws what is shown.
+fn turn(alloc: Global, engine: &mut Engine, screen: &mut Vec<u8>) -> Option<()> {
+    engine.advance(1_000_000).ok()?;
+    let taken = engine.taken();
+    let line = format!(in alloc; "{taken} steps\n").ok()?;
+    screen.extend_from_slice(line.as_bytes()).ok()?;
+    draw(alloc, engine.picture(), screen)
+}
+
+/// Whether a cell is a space before black.
+fn is_black(cell: Cell) -> bool {
+    cell.scalar == 32 && cell.back == 0
+}
+
+/// Draws all cells but the black ones.
+fn draw(alloc: Global, picture: &Picture, screen: &mut Vec<u8>) -> Option<()> {
+    for at in 0..CELLS {
+        let cell = picture.cell(at);
+        if !is_black(cell) {
+            draw_cell(alloc, at, cell, screen)?;
+        }
+    }
+    Some(())
+}
+
+/// Draws a cell: its row and column, its character, the colour of that, and the colour behind it.
+fn draw_cell(alloc: Global, at: usize, cell: Cell, screen: &mut Vec<u8>) -> Option<()> {
+    let (row, column) = (at / 60, at % 60);
+    let (scalar, fore, back) = (cell.scalar, cell.fore, cell.back);
+    let line = format!(in alloc; "{row} {column}: {scalar} {fore:06x} {back:06x}\n").ok()?;
+    screen.extend_from_slice(line.as_bytes()).ok()
+}
+
+/// What is played. Its owner below is generic, since a function that owns an engine by name is dear to
+/// prove.
+trait Played {
+    fn screens(&mut self, alloc: Global, sources: &[Source]) -> Option<Vec<u8>>;
+}
+
+impl Played for Engine {
+    fn screens(&mut self, alloc: Global, sources: &[Source]) -> Option<Vec<u8>> {
+        play(alloc, self, sources)
+    }
+}
+
+fn of_played<P: Played + Drop>(
+    alloc: Global,
+    played: Option<P>,
+    sources: &[Source],
+) -> Option<Vec<u8>> {
+    let mut played = played;
+    played.as_mut()?.screens(alloc, sources)
+}
+
+static APPLICATION: &str =
+    r#"// A first service. This file is its application: the group that is there as long as the service is
+// played. A file is one group, and its path inside the folder is the group's name: this one is `~/a`.
+{:Application ("~/a" 0)
+    // What is done when the application has started: it brings in the scene of the file `s`.
+    :OnStartUp ( :TransitionTo (("~/s" 0)) )
+}
+"#;
+
+static SCENE: &str =
+    r#"// The scene: what is on the screen, and what the keys do. Its name is `~/s`.
+{:Scene ("~/s" 0)
+    // Register 3 lets the four colour keys, Text and Cancel through to the scene.
+    :InputEventReg 3
+    // The scene is laid out on 720 by 576 units.
+    :SceneCS 720 576
+    :Items (
+        // A red box, two cells wide and two high: a cell is 12 units wide and 16 high. The colour is red,
+        // green, blue and transparency, each an octet in hexadecimal digits.
+        {:Rectangle 10
+            :OrigBoxSize 24 32
+            :OrigPosition 12 16
+            :OrigLineWidth 0
+            :OrigRefFillColour '=FF=00=00=00'
+        }
+        // A link waits for an event. Its source is object 0, the scene itself; the event is a key that
+        // the scene hears, and 100 is the red key. What it does: object 10, the box, goes to 24, 16.
+        {:Link 11
+            :EventSource 0
+            :EventType UserInput
+            :EventData 100
+            :LinkEffect ( :SetPosition (10 24 16) )
+        }
+    )
+}
+"#;
+
+/// The steps and the cells of the two frames.
+static SCREENS: &str = r#"11 steps
+1 1: 32 000000 ff0000
+1 2: 32 000000 ff0000
+2 1: 32 000000 ff0000
+2 2: 32 000000 ff0000
+13 steps
+1 2: 32 000000 ff0000
+1 3: 32 000000 ff0000
+2 2: 32 000000 ff0000
+2 3: 32 000000 ff0000
+"#;
+
+fn screens(alloc: Global) -> Option<Vec<u8>> {
+    let mut sources = Vec::new(alloc);
+    sources.push(file(alloc, "a", APPLICATION)?).ok()?;
+    sources.push(file(alloc, "s", SCENE)?).ok()?;
+    of_played(alloc, start(alloc, sources.as_slice()), sources.as_slice())
+}
+
+#[test]
+fn first_is_embedded(rt: HostRuntime) {
+    assert!(rt; are(screens(rt.alloc()), SCREENS.as_bytes()));
+}
