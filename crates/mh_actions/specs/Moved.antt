@@ -3,7 +3,7 @@ use Rattle.std.specs.Prelude.{List}
 use Rattle.mh_base.specs.declared.obj_ref.ObjRef.{ObjRef}
 use Rattle.mh_actions.specs.declared.ordering.Reorder.{Reorder}
 use Rattle.mh_actions.specs.declared.ordering.Reorder.TheVariants as reorder
-use Rattle.mh_model.specs.Lifecycle.{brought_to_front, sent_to_back, just_above, just_below, without}
+use Rattle.mh_model.specs.Stack.{brought_to_front, sent_to_back, just_above, just_below, without}
 
 abbrev pub moved : Reorder → ObjRef → List ObjRef → List ObjRef
 moved reorder.Nothing r stack = stack

@@ -2,7 +2,8 @@
 ghost use Rattle.std.specs.Prelude.{◌≡◌, List, IfOk};
 ghost use Rattle.mh_base.specs.declared.obj_ref.ObjRef.{ObjRef as ObjRefValue};
 ghost use Rattle.mh_actions.specs.Moved.{moved};
-ghost use Rattle.mh_model.specs.Lifecycle.{are_two as are_two_lem, is_available_at, reordered};
+ghost use Rattle.mh_model.specs.Lifecycle.{is_available_at};
+ghost use Rattle.mh_model.specs.Stack.{are_two as are_two_lem, reordered};
 ghost use Rattle.mh_model.specs.Service.{object_at};
 ghost use Rattle.mh_model.specs.State.{all};
 

@@ -9,7 +9,8 @@ use Rattle.std.proofs.lemmas.List.{take_all}
 use Rattle.std.proofs.lemmas.Slice.Eq.{bytes_eq-Decides}
 use Rattle.mh_model.specs.declared.file.File.{File}
 use Rattle.mh_model.specs.declared.input.Waiting.{Waiting}
-use Rattle.mh_model.specs.Files.{is_named, is_too_many, most_files, with_file}
+use Rattle.mh_model.specs.Files.{is_named, is_too_many, with_file}
+use Rattle.mh_model.specs.Limits.{most_files}
 use Rattle.mh_model.specs.Step.{file_in, files_ahead, stored_by}
 use Rattle.mh_carousel.specs.Ahead.{brings, file_at, has, is_for, number_with}
 

@@ -5,7 +5,7 @@ ghost use Rattle.std.specs.Map.{lookup};
 ghost use Rattle.std.specs.Str.{bytes_eq};
 ghost use Rattle.indexmap.specs.IndexMap.{spare};
 ghost use Rattle.mh_model.specs.Files.{arrived as arrived_lem, awaited, forgotten, waits_for};
-ghost use Rattle.mh_model.specs.Service.{same_ref};
+ghost use Rattle.mh_model.specs.Reference.{same_ref};
 ghost use Rattle.mh_carousel.specs.Carried.{waits_of};
 
 use indexmap::IndexMap;

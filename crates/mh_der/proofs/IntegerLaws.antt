@@ -11,7 +11,7 @@ use Rattle.mh_der.specs.declared.der_error.Why.TheVariants.{BadInteger, BadBoole
 use Rattle.mh_der.specs.Integer.{is_padded, shortest, integer_octets, boolean_octets}
 use Rattle.mh_der.specs.Laws.{AreNoInteger, AreNoBoolean}
 use Rattle.mh_der.specs.Reading.{sign_octet, octets, extended, integer_of, boolean_of}
-use Rattle.mh_der.proofs.TagLemmas.{same_value}
+use Rattle.mh_der.proofs.TagLemmas.{same_value, no_value}
 use Rattle.mh_der.proofs.DigitLemmas.{AreBytes, bytes_below, below_bytes}
 
 -- the sign of more of the sign
@@ -213,12 +213,8 @@ integer_given x fits =
     ∙ ap (λ (m : ℕ). Ok (cast_signed w32 m)) (from_be_bytes-to_be_bytes_4 n small)
     ∙ ap Ok (to_z-of_z w32 x fits)
 
--- where nothing is read no integer stands
-no_reading : {A : Type 0} {w : Why} {r : Result A Why} {x : A} → r ≡ Err w → r ≡ Ok x → ⊥
-no_reading e is = cc
-
 pub integer_none : (bs : List ℕ) (why : Why) → integer_of bs ≡ Err why → AreNoInteger bs
-integer_none bs why e x fits is = no_reading e (ap integer_of is ∙ integer_given x fits)
+integer_none bs why e x fits is = no_value e (ap integer_of is ∙ integer_given x fits)
 
 same_number : (a n : ℕ) → (a == n) ≡ true → a ≡ n
 same_number a n h = grind (arith, nat_tests)
@@ -246,4 +242,4 @@ boolean_given false = refl
 
 -- where nothing is read no truth value stands
 pub boolean_none : (bs : List ℕ) (why : Why) → boolean_of bs ≡ Err why → AreNoBoolean bs
-boolean_none bs why e b is = no_reading e (ap boolean_of is ∙ boolean_given b)
+boolean_none bs why e b is = no_value e (ap boolean_of is ∙ boolean_given b)

@@ -4,8 +4,8 @@ use Rattle.std.specs.List.{insert, position, position_or_len}
 use Rattle.std.proofs.Common.{ap, ◌∙◌, sym, subst, arith}
 use Rattle.mh_base.proofs.PathLemmas.{position-some, position-none}
 use Rattle.mh_base.specs.declared.obj_ref.ObjRef.{ObjRef}
-use Rattle.mh_model.specs.Lifecycle.{just_above, just_below}
-use Rattle.mh_model.specs.Service.{same_ref}
+use Rattle.mh_model.specs.Stack.{just_above, just_below}
+use Rattle.mh_model.specs.Reference.{same_ref}
 
 above : (r q : ObjRef) (xs : List ObjRef) → position_or_len (same_ref q) xs < length xs → just_above r q xs ≡ insert xs (position_or_len (same_ref q) xs + 1) r
 above r q [] inside = absurd (omega (arith, inside))

@@ -5,8 +5,8 @@ ghost use Rattle.std.specs.Prelude.{◌≡◌, ◌++◌, ◌∷◌, ◌+◌, ◌
 ghost use Rattle.std.specs.List.{insert, position};
 ghost use Rattle.std.specs.Str.{bytes_eq};
 ghost use Rattle.std.specs.Vec.{vec_capacity};
-ghost use Rattle.mh_model.specs.Lifecycle.{without, brought_to_front, sent_to_back, just_above, just_below};
-ghost use Rattle.mh_model.specs.Service.{same_ref as same_ref_lem};
+ghost use Rattle.mh_model.specs.Stack.{without, brought_to_front, sent_to_back, just_above, just_below};
+ghost use Rattle.mh_model.specs.Reference.{same_ref as same_ref_lem};
 
 use mh_base::{GroupName, ObjRef};
 use mh_model::parts::same_ref;

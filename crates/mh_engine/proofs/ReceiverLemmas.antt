@@ -8,7 +8,8 @@ use Rattle.mh_model.specs.declared.program.Outcome.{Outcome}
 use Rattle.mh_model.specs.declared.program.Signature.{Signature}
 use Rattle.mh_model.specs.Receiver.{IsStep, IsStepWith, call_first, call_next, told}
 use Rattle.mh_model.specs.State.{State}
-use Rattle.mh_model.specs.Step.{is_empty, is_settled, most_steps, step}
+use Rattle.mh_model.specs.Step.{is_empty, is_settled, step}
+use Rattle.mh_model.specs.Limits.{most_steps}
 use Rattle.mh_model.proofs.ReceiverLemmas.{uncalled_step}
 use Rattle.mh_engine.specs.Answer.{is_ready}
 use Rattle.mh_engine.specs.Play.{Play}

@@ -9,7 +9,8 @@ use Rattle.mh_model.specs.declared.input.Obstacle.{Obstacle}
 use Rattle.mh_model.specs.declared.input.Obstacle.TheVariants as obstacle
 use Rattle.mh_model.specs.declared.file.File.{File}
 use Rattle.mh_model.specs.Service.{Service}
-use Rattle.mh_model.specs.Step.{is_empty, is_settled, obstacle as obstacle_to, preset_obstacle, moved, most_steps}
+use Rattle.mh_model.specs.Step.{is_empty, is_settled, obstacle as obstacle_to, preset_obstacle, moved}
+use Rattle.mh_model.specs.Limits.{most_steps}
 use Rattle.mh_engine.specs.Play.{Play}
 use Rattle.mh_engine.specs.declared.refusal.RefusedWhy.{RefusedWhy}
 use Rattle.mh_engine.specs.declared.refusal.RefusedWhy.TheVariants as refused

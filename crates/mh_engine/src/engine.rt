@@ -2,7 +2,8 @@
 ghost use Rattle.std.specs.Prelude.{◌≡◌, ◌+◌, ◌<◌, ◌^◌, true, false, None, Some, [], IfOk, IfErr, OnOk, OnErr, IsErrOf, IsErrAnd, MatchOption};
 ghost use Rattle.mh_model.specs.State.{begun};
 ghost use Rattle.mh_model.specs.declared.input.Obstacle.{Obstacle};
-ghost use Rattle.mh_model.specs.Step.{step as step_lem, is_empty, posted, preset as preset_lem, preset_obstacle, obstacle, is_settled, advanced, most_steps};
+ghost use Rattle.mh_model.specs.Step.{step as step_lem, is_empty, posted, preset as preset_lem, preset_obstacle, obstacle, is_settled, advanced};
+ghost use Rattle.mh_model.specs.Limits.{most_steps};
 ghost use Rattle.mh_model.specs.Headline.{front_fault};
 ghost use Rattle.mh_model.specs.Safe.{IsSafe};
 ghost use Rattle.mh_model.specs.Picture.{shown};
@@ -150,8 +151,8 @@ impl Engine {
     }
 
     /// Makes so many steps, or as many as there is something to do and as are counted; the picture is
-    /// painted once, behind the last of them. Where memory is refused some of the steps were made, and the
-    /// engine makes no further one.
+    /// painted once, behind the last of them. Where memory is refused some of the steps were made, there is
+    /// more to do, and the engine makes no further one; where nothing is left to do no memory is asked for.
     pub fn advance(&mut self, most: u32) -> Result<(), StepError>
         ensures all { OnOk result (self.new ≡ record self.old { state = advanced most self.old.state }) }
         ensures running { OnOk result (self.old.stopped ≡ false) }

@@ -6,7 +6,8 @@ ghost use Rattle.std.specs.Prelude.{drop, filter, length, map, nat_lt, not, slic
 ghost use Rattle.std.specs.Option.{option_copied};
 ghost use Rattle.std.specs.VecDeque.{deque_len, deque_capacity};
 ghost use Rattle.mh_model.specs.Rules.{is_input as is_input_lem, stays as stays_lem};
-ghost use Rattle.mh_model.specs.Step.{inputs, is_empty as is_empty_lem, most_inputs};
+ghost use Rattle.mh_model.specs.Step.{inputs, is_empty as is_empty_lem};
+ghost use Rattle.mh_model.specs.Limits.{most_inputs};
 ghost use Rattle.mh_model.specs.Step.{time_ahead as time_ahead_lem, time_of as time_of_lem};
 
 use crate::counting::{MOST_INPUTS, is_input, stays, time_of};

@@ -20,27 +20,6 @@ use Rattle.mh_machine.specs.Plans.{Makes, change_at}
 use Rattle.mh_machine.specs.Holds.{Holds}
 use Rattle.mh_machine.specs.Links.{IsIndex}
 
--- the change of a list of two parts
-in_both : (f : Fixed → Body → Body) (r : ObjRef) (os ps : List Object) → changed_in f r (os ++ ps) ≡ (if list_any (is_at r) os then changed_in f r os ++ ps else os ++ changed_in f r ps)
-in_both f r [] ps = refl
-in_both f r (o ∷ os) ps =
-    elim (is_at r o) as (λ (b : Bool). (if b then on_body f o ∷ (os ++ ps) else o ∷ changed_in f r (os ++ ps)) ≡ (if b || list_any (is_at r) os then (if b then on_body f o ∷ os else o ∷ changed_in f r os) ++ ps else o ∷ os ++ changed_in f r ps)) [
-      | true ↦ refl
-      | false ↦ ap (λ (t : List Object). o ∷ t) (in_both f r os ps) ∙ by (list_any (is_at r) os)
-    ]
-  where
-    by : (b : Bool) → o ∷ (if b then changed_in f r os ++ ps else os ++ changed_in f r ps) ≡ (if b then (o ∷ changed_in f r os) ++ ps else o ∷ os ++ changed_in f r ps)
-    by true = refl
-    by false = refl
-
-pub all_changed : (f : Fixed → Body → Body) (r : ObjRef) (os : Objects) → all (changed f r os) ≡ changed_in f r (all os)
-all_changed f r os =
-    by (list_any (is_at r) os.application) ∙ sym (in_both f r os.application os.scene)
-  where
-    by : (b : Bool) → all (if b then record os { application = changed_in f r os.application } else record os { scene = changed_in f r os.scene }) ≡ (if b then changed_in f r os.application ++ os.scene else os.application ++ changed_in f r os.scene)
-    by true = refl
-    by false = refl
-
 -- what is known of the object may be used
 found_in : (f : Fixed → Body → Body) (r : ObjRef) (os : List Object) (o : Object) → object_at r os ≡ Some o → changed_in (λ p b. f o.fixed o.body) r os ≡ changed_in f r os
 found_in f r [] o e = refl

@@ -15,7 +15,8 @@ use Rattle.mh_model.specs.declared.object.Fixed.{Fixed}
 use Rattle.mh_model.specs.declared.object.Object.{Object}
 use Rattle.mh_model.specs.Items.{hears_source, hears_type, hears_data, matches, heard, acts}
 use Rattle.mh_model.specs.Property.{held, as_value, as_event, as_effect}
-use Rattle.mh_model.specs.Service.{same_ref, parts, fresh}
+use Rattle.mh_model.specs.Service.{parts, fresh}
+use Rattle.mh_model.specs.Reference.{same_ref}
 use Rattle.mh_model.proofs.PartLemmas.{parts-fresh}
 use Rattle.mh_model.specs.Property.{as_reference}
 use Rattle.mh_machine.specs.Links.{waits_for, place_of, places, waiting, IsIndex, is_awake, answer, answer_at, answers}

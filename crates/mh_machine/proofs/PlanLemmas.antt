@@ -23,7 +23,8 @@ use Rattle.mh_model.specs.Files.{awaited, forgotten, comes_to, missing, is_loada
 use Rattle.mh_model.specs.Known.{params_in}
 use Rattle.mh_model.specs.Programs.{ins, outs, said_by, outcome_of}
 use Rattle.mh_model.specs.Edits.{edited}
-use Rattle.mh_model.specs.Lifecycle.{run_places, is_available_at, reordered, is_unavailable_at, is_unprepared_at, is_visible_at, loaded_at, lacking_at, waits_if, with_risen, without, prepare_items, run_items, halt_items, drop_items}
+use Rattle.mh_model.specs.Lifecycle.{run_places, is_available_at, is_unavailable_at, is_unprepared_at, is_visible_at, loaded_at, lacking_at, waits_if, prepare_items, run_items, halt_items, drop_items}
+use Rattle.mh_model.specs.Stack.{reordered, with_risen, without}
 use Rattle.mh_model.specs.Saying.{answers_at, put_items_at, load_items, call_items}
 use Rattle.mh_model.specs.Service.{object_at, part_at, parts}
 use Rattle.mh_model.specs.State.{State, Objects, all}

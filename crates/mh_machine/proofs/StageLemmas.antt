@@ -15,20 +15,21 @@ use Rattle.mh_model.specs.declared.object.Body.{Body}
 use Rattle.mh_model.specs.declared.object.Fixed.{Fixed}
 use Rattle.mh_model.specs.declared.object.Object.{Object}
 use Rattle.mh_model.specs.Bodies.{given}
-use Rattle.mh_model.specs.Lifecycle.{without, just_above, just_below}
+use Rattle.mh_model.specs.Stack.{without, just_above, just_below}
 use Rattle.mh_group.specs.declared.attribute.Attribute.TheVariants as attribute
 use Rattle.mh_model.specs.declared.line.Line.{Line}
 use Rattle.mh_model.specs.Looks.{Paint, nothing, paint_by, text_paint, area_of, colour_of, transparent_black, opaque_white, lines_of_text, shown_text}
 use Rattle.mh_model.specs.Picture.{cell_of, back_or, back_under, mark_or, mark_under, is_seen, painted, paint_at, cell_at, picture}
 use Rattle.mh_model.specs.Planes.{Planes, IsWhole, blank}
 use Rattle.mh_model.specs.Rules.{is_at, on_body, changed_in, changed}
-use Rattle.mh_model.specs.Service.{same_ref, object_at}
+use Rattle.mh_model.specs.Service.{object_at}
+use Rattle.mh_model.specs.Reference.{same_ref}
 use Rattle.mh_model.specs.State.{Objects, all}
 use Rattle.mh_model.proofs.PlanesLemmas.{is_picture, cell_of-picture, blank-picture}
 use Rattle.mh_model.proofs.ServiceLemmas.{same_ref-same}
 use Rattle.mh_machine.specs.declared.plan.Stacking.TheVariants as stacking
 use Rattle.mh_machine.specs.Plans.{restacked}
-use Rattle.mh_machine.proofs.ChangeLemmas.{all_changed}
+use Rattle.mh_store.proofs.PlacingLemmas.{all-changed}
 
 -- Cells, painted from the bottom of the stack up.
 
@@ -188,19 +189,19 @@ right_changed f r os last stack was now s t u made e e2 same same2 first second 
     let behind : (is_stale t.marks c ≡ false) × (painted c now ≡ nothing) = second c inside clean in
     let before : (is_stale s.marks c ≡ false) × (painted c was ≡ nothing) = first c inside behind.0 in
     let found : object_at r (all last) ≡ option_map (on_body f) (object_at r (all os)) =
-    ap (λ (x : Objects). object_at r (all x)) made ∙ ap (object_at r) (all_changed f r os) ∙ found_changed f r (all os) in
+    ap (λ (x : Objects). object_at r (all x)) made ∙ ap (object_at r) (all-changed f r os) ∙ found_changed f r (all os) in
     let none : paint_at (all os) c r ≡ nothing = sym (ap (painted c) e) ∙ before.1 in
     let none_behind : painted c (option_map (on_body f) (object_at r (all os))) ≡ nothing = sym (ap (painted c) (e2 ∙ found)) ∙ behind.1 in
     ap (λ (p : Planes). cell_of p c) (same2 ∙ same) ∙ right c inside before.0
     ∙ sym (ap (λ (x : Objects). cell_at (all x) stack c) made
-    ∙ ap (λ (x : List Object). cell_at x stack c) (all_changed f r os)
+    ∙ ap (λ (x : List Object). cell_at x stack c) (all-changed f r os)
     ∙ same_cells (all os) (changed_in f r (all os)) stack c (paint_changed f r (all os) c none none_behind))
 
 pub right_given : (v : Value) (r : ObjRef) (os last : Objects) (stack : List ObjRef) (s : Surface) → last ≡ changed (λ p b. given v b) r os → IsRight (all os) stack s → IsRight (all last) stack s
 right_given v r os last stack s made right c inside clean =
     right c inside clean
     ∙ sym (ap (λ (x : Objects). cell_at (all x) stack c) made
-    ∙ ap (λ (x : List Object). cell_at x stack c) (all_changed (λ p b. given v b) r os)
+    ∙ ap (λ (x : List Object). cell_at x stack c) (all-changed (λ p b. given v b) r os)
     ∙ same_cells (all os) (changed_in (λ p b. given v b) r (all os)) stack c (λ at. paint_given v r at (all os) c))
 
 -- the stack, in which one object moves

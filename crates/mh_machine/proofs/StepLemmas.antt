@@ -2,14 +2,9 @@
 use Rattle.std.specs.Prelude.{◌≡◌, ℕ, ◌+◌, ◌-◌, ◌<◌, ◌≤◌, ◌==◌, Bool, true, false, ◌&&◌, ◌||◌, if◌then◌else◌, cond, List, [], ◌∷◌, Option, Some, None, slice_get, suc, zero, refl}
 use Rattle.std.proofs.Common.{ap, ◌∙◌, sym, arith, inl, inr}
 use Rattle.std.proofs.lemmas.Bool.Decides.{eqb_tells}
-use Rattle.mh_model.specs.declared.fault.Fault.{Fault}
-use Rattle.mh_model.specs.declared.item.Item.{Item}
-use Rattle.mh_model.specs.Stuck.{stuck}
-use Rattle.mh_machine.specs.declared.stepped.Stepped.TheVariants.{Ended}
-use Rattle.mh_machine.specs.Rest.{judged, answer_by, answer_of, is_rest}
 use Rattle.mh_model.specs.State.{State}
-use Rattle.mh_model.specs.declared.input.Waiting.{Waiting}
-use Rattle.mh_model.specs.Step.{step, step_by, stepped, is_empty, is_idle, is_settled, most_steps, advanced}
+use Rattle.mh_model.specs.Step.{step, step_by, stepped, is_empty, is_idle, is_settled, advanced}
+use Rattle.mh_model.specs.Limits.{most_steps}
 
 cond_same : {X : Type 0} (b : Bool) (x : X) → cond b x x ≡ x
 cond_same true x = refl
@@ -31,32 +26,16 @@ empty_get (x ∷ xs) empty = cc
 pub stepped_full : (s : State) → s.taken ≡ most_steps → stepped s ≡ s
 stepped_full s full = rw full refl
 
-judged_works : (f : Option Fault) → is_rest (judged f) ≡ true → ⊥
-judged_works None rests = cc
-judged_works (Some f) rests = cc
-
-still_by : (w : Option Item) (q : Option Waiting) (s : State) → is_rest (answer_by w q s) ≡ true → step_by w q s ≡ s
-still_by (Some i) q s rests = absurd (judged_works (stuck i s) rests)
-still_by None (Some i) s rests = cc
-still_by None None s rests = refl
-
--- where there was nothing to do, the step changed nothing
-pub step_at_rest : (s : State) → is_rest (answer_of s) ≡ true → step s ≡ s
-step_at_rest s rests =
-    elim s.ended as (λ (b : Bool). is_rest (if b then Ended else answer_by (slice_get s.work 0) (slice_get s.queue 0) s) ≡ true → (if b then s else step_by (slice_get s.work 0) (slice_get s.queue 0) s) ≡ s) [
-      | true ↦ λ h. refl
-      | false ↦ λ h. still_by (slice_get s.work 0) (slice_get s.queue 0) s h
-    ] rests
-
-pub stepped_at_rest : (s : State) → is_rest (answer_of s) ≡ true → stepped s ≡ s
-stepped_at_rest s rests = rw (step_at_rest s rests) (cond_same (s.taken == most_steps) s)
-
 step_settled : (s : State) → is_settled s ≡ true → step s ≡ s
 step_settled s settled =
     elim s.ended as (λ (b : Bool). (b || is_idle s) ≡ true → (if b then s else step_by (slice_get s.work 0) (slice_get s.queue 0) s) ≡ s) [
       | true ↦ λ h. refl
       | false ↦ λ h. rw (empty_get s.work (first_true _ _ h), empty_get s.queue (second_true (is_empty s.work) _ h)) refl
     ] settled
+
+-- where nothing is left to do a step of the run changes nothing
+pub stepped_settled : (s : State) → is_settled s ≡ true → stepped s ≡ s
+stepped_settled s settled = rw (step_settled s settled) (cond_same (s.taken == most_steps) s)
 
 -- where all steps are counted only with nothing left to do, a step of the run is a step
 pub stepped_room : (s : State) → (s.taken ≡ most_steps → is_settled s ≡ true) → stepped s ≡ step s

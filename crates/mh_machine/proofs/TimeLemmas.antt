@@ -13,7 +13,8 @@ use Rattle.mh_model.specs.declared.object.Object.{Object}
 use Rattle.mh_model.specs.declared.time.Timer.{Timer}
 use Rattle.mh_model.specs.State.{State}
 use Rattle.mh_model.specs.Step.{time_of, time_ahead, obstacle, is_in_range, is_over_size, is_over_number, is_past_the_last, is_full}
-use Rattle.mh_model.specs.Time.{most_moment, timer_event}
+use Rattle.mh_model.specs.Time.{timer_event}
+use Rattle.mh_model.specs.Limits.{most_moment}
 use Rattle.mh_machine.specs.Agenda.{Coming, is_late}
 use Rattle.mh_machine.specs.Taking.{event_by}
 

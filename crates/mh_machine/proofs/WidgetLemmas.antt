@@ -16,7 +16,7 @@ use Rattle.mh_model.specs.declared.object.Body.{Body}
 use Rattle.mh_model.specs.declared.object.Object.{Object}
 use Rattle.mh_model.specs.Bodies.{text_of}
 use Rattle.mh_model.specs.Edits.{edited_if}
-use Rattle.mh_model.specs.Fields.{pressed_of}
+use Rattle.mh_model.specs.EntryFields.{pressed_of}
 use Rattle.mh_model.specs.Lifecycle.{is_visible_at}
 use Rattle.mh_model.specs.Rules.{all_placed, changed, filled, interact_rule, interaction_set, widget_at, widget_rule}
 use Rattle.mh_model.specs.Saying.{interaction_items}

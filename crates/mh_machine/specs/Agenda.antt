@@ -6,7 +6,7 @@ use Rattle.mh_model.specs.declared.input.Waiting.{Waiting}
 use Rattle.mh_model.specs.declared.time.Moments.{Moments}
 use Rattle.mh_model.specs.declared.time.Timer.{Timer}
 use Rattle.mh_model.specs.Step.{time_ahead}
-use Rattle.mh_model.specs.Time.{most_moment}
+use Rattle.mh_model.specs.Limits.{most_moment}
 
 -- the moments, the timers that are set, and what waits, with the room for more
 pub record Coming : Type 0 where

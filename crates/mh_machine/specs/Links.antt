@@ -12,7 +12,7 @@ use Rattle.mh_model.specs.declared.object.Fixed.{Fixed}
 use Rattle.mh_model.specs.declared.object.Object.{Object}
 use Rattle.mh_model.specs.Items.{hears_type, hears_data, acts}
 use Rattle.mh_model.specs.Property.{as_reference, held, as_value, as_event, as_effect}
-use Rattle.mh_model.specs.Service.{same_ref}
+use Rattle.mh_model.specs.Reference.{same_ref}
 
 -- the object whose events a link waits for
 abbrev pub source_of : Fixed → Option ObjRef

@@ -17,7 +17,8 @@ use Rattle.mh_base.specs.declared.value.Value.TheVariants as value
 use Rattle.mh_actions.specs.Moved.{moved}
 use Rattle.mh_model.specs.Bodies.{stored, text_of}
 use Rattle.mh_model.specs.Edits.{edited}
-use Rattle.mh_model.specs.Lifecycle.{is_visible_at, without}
+use Rattle.mh_model.specs.Lifecycle.{is_visible_at}
+use Rattle.mh_model.specs.Stack.{without}
 use Rattle.mh_model.specs.Rules.{changed, all_placed}
 use Rattle.mh_model.specs.Worked.{ended_of}
 use Rattle.mh_model.specs.Service.{object_at}

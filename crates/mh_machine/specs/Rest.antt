@@ -6,8 +6,8 @@ use Rattle.mh_model.specs.declared.item.Item.{Item}
 use Rattle.mh_model.specs.State.{State}
 use Rattle.mh_model.specs.Step.{is_idle}
 use Rattle.mh_model.specs.Stuck.{stuck}
-use Rattle.mh_machine.specs.declared.rest.Rest.{Rest}
-use Rattle.mh_machine.specs.declared.rest.Rest.TheVariants as rest
+use Rattle.mh_model.specs.declared.rest.Rest.{Rest}
+use Rattle.mh_model.specs.declared.rest.Rest.TheVariants as rest
 use Rattle.mh_machine.specs.declared.stepped.Stepped.{Stepped}
 use Rattle.mh_machine.specs.declared.stepped.Stepped.TheVariants as answer
 
@@ -23,12 +23,6 @@ answer_by None None s = answer.Idle
 -- Ended where the engine has, Idle where there is nothing to do, Faulted where the first item is stuck, else Did
 abbrev pub answer_of : State → Stepped
 answer_of s = if s.ended then answer.Ended else answer_by (slice_get s.work 0) (slice_get s.queue 0) s
-
--- there was nothing to do
-abbrev pub is_rest : Stepped → Bool
-is_rest answer.Idle = true
-is_rest answer.Ended = true
-is_rest _ = false
 
 abbrev pub is_faulted : Stepped → Bool
 is_faulted answer.Idle = false

@@ -1,11 +1,9 @@
 //! Many steps at once.
 ghost use Rattle.std.specs.Prelude.{◌≡◌, false, true, IfOk, OnOk, OnErr};
 ghost use Rattle.mh_model.specs.Safe.{IsSafe};
-ghost use Rattle.mh_model.specs.Step.{advanced, stepped};
-ghost use Rattle.mh_machine.specs.Rest.{is_rest};
+ghost use Rattle.mh_model.specs.Step.{advanced, is_settled, stepped};
 ghost use Rattle.mh_machine.specs.Working.{IsPartly};
 
-use crate::Stepped;
 use crate::works::Works;
 use std::alloc::AllocError;
 
@@ -37,39 +35,35 @@ impl Works {
         Ok(())
     }
 
-    #[tactic(auto, using(crate::proofs::StepLemmas::stepped_room, crate::proofs::StepLemmas::stepped_at_rest, crate::proofs::StepLemmas::step_at_rest, crate::proofs::StepLemmas::stepped_full))]
-    /// Makes a step, if another is counted, and tells whether one more may change anything.
+    /// Makes a step, if there is something to do and another step is counted, and tells whether one was made.
+    #[tactic(auto, using(crate::proofs::StepLemmas::stepped_room, crate::proofs::StepLemmas::stepped_settled, crate::proofs::StepLemmas::stepped_full))]
     fn go_on(&mut self) -> Result<bool, AllocError>
         ensures made { OnOk result (self.new.state ≡ stepped self.old.state) }
         ensures over { IfOk result (λ more. more ≡ false → stepped self.new.state ≡ self.new.state) }
         ensures kept { OnErr result (self.new.state ≡ self.old.state) }
+        ensures more { OnErr result (is_settled self.new.state ≡ false) }
     {
-        if self.taken == u64::MAX {
+        if self.is_settled() || self.taken == u64::MAX {
             return Ok(false);
         }
-        let answer = self.step()?;
-        Ok(goes_on(&answer))
+        self.step()?;
+        Ok(true)
     }
 
-    #[tactic(auto, using(crate::proofs::StepLemmas::stepped_room, crate::proofs::StepLemmas::stepped_at_rest, crate::proofs::StepLemmas::step_at_rest, crate::proofs::StepLemmas::stepped_full))]
     /// The same from a safe state, which stays safe.
+    #[tactic(auto, using(crate::proofs::StepLemmas::stepped_room, crate::proofs::StepLemmas::stepped_settled, crate::proofs::StepLemmas::stepped_full))]
     fn go_on_free(&mut self) -> Result<bool, AllocError>
         requires { IsSafe self.old.state }
         ensures made { OnOk result (self.new.state ≡ stepped self.old.state) }
         ensures over { IfOk result (λ more. more ≡ false → stepped self.new.state ≡ self.new.state) }
         ensures safe { OnOk result (IsSafe self.new.state) }
         ensures kept { OnErr result (self.new.state ≡ self.old.state) }
+        ensures more { OnErr result (is_settled self.new.state ≡ false) }
     {
-        if self.taken == u64::MAX {
+        if self.is_settled() || self.taken == u64::MAX {
             return Ok(false);
         }
-        let answer = self.step_free()?;
-        Ok(goes_on(&answer))
+        self.step_free()?;
+        Ok(true)
     }
-}
-
-fn goes_on(answer: &Stepped) -> bool
-    ensures { result ≡ false → is_rest answer.now ≡ true }
-{
-    !matches!(answer, Stepped::Idle | Stepped::Ended)
 }

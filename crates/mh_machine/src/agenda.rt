@@ -5,7 +5,8 @@ ghost use Rattle.std.specs.Str.{bytes_eq};
 ghost use Rattle.mh_model.specs.Files.{is_too_many};
 ghost use Rattle.mh_model.specs.Rules.{is_input, stays};
 ghost use Rattle.mh_model.specs.Step as spec;
-ghost use Rattle.mh_model.specs.Time.{due, is_due, most_moment, set_timers as set_timers_lem, timer_event};
+ghost use Rattle.mh_model.specs.Time.{due, is_due, set_timers as set_timers_lem, timer_event};
+ghost use Rattle.mh_model.specs.Limits.{most_inputs, most_moment};
 ghost use Rattle.mh_machine.specs.Agenda.{is_late as is_late_lem};
 ghost use Rattle.mh_machine.specs.Taking.{entered, fired};
 
@@ -31,7 +32,7 @@ pub struct Agenda {
 impl Model for Agenda {
     ghost use Rattle.std.specs.Prelude.{◌+◌, ◌≤◌};
     ghost use Rattle.mh_model.specs.Step.{time_ahead};
-    ghost use Rattle.mh_model.specs.Time.{most_moment};
+    ghost use Rattle.mh_model.specs.Limits.{most_moment};
     ghost use Rattle.mh_machine.specs.Agenda.{Coming};
 
     ghost Value = { Coming };
@@ -86,7 +87,7 @@ impl Agenda {
 
     /// Whether as many inputs wait as may.
     pub fn is_full(&self) -> bool
-        ensures { result ≡ not (nat_lt (spec.inputs self.now.queue) spec.most_inputs) }
+        ensures { result ≡ not (nat_lt (spec.inputs self.now.queue) most_inputs) }
     {
         self.queue.is_full()
     }

@@ -15,6 +15,7 @@ use crate::interacting::interact;
 use crate::lifecycle::is_visible;
 use crate::piece::Piece;
 use crate::plan::{Awaiting, Change, Gift, Plan, Puts};
+use crate::room::make_room;
 use crate::stage::Stage;
 use crate::work::Work;
 use crate::works::Works;
@@ -142,47 +143,6 @@ impl Works {
         self.work.take_first();
         self.taken += 1;
         Ok(())
-    }
-}
-
-/// Makes room for all that a plan may put.
-fn make_room(
-    work: &mut Work,
-    stage: &mut Stage,
-    agenda: &mut Agenda,
-    faults: &mut Vec<Fault>,
-    carousel: &mut Carousel,
-    puts: &Puts,
-) -> Result<(), AllocError>
-    ensures work { work.new.items ≡ work.old.items }
-    ensures objects { stage.new.objects ≡ stage.old.objects }
-    ensures stack { stage.new.stack ≡ stage.old.stack }
-    ensures moments { agenda.new.moments ≡ agenda.old.moments }
-    ensures timers { agenda.new.timers ≡ agenda.old.timers }
-    ensures queue { agenda.new.queue ≡ agenda.old.queue }
-    ensures faults { faults.new.items ≡ faults.old.items }
-    ensures files { carousel.new.files ≡ carousel.old.files }
-    ensures waits { carousel.new.waits ≡ carousel.old.waits }
-    ensures pieces { OnOk result (room_for puts.now ≤ work.new.room) }
-    ensures place { OnOk result (1 ≤ stage.new.room) }
-    ensures event { OnOk result (1 ≤ agenda.new.room) }
-    ensures wait { OnOk result (1 ≤ carousel.new.room) }
-    ensures fault { OnOk result (vec_len faults.new + 1 ≤ vec_capacity faults.new) }
-{
-    stage.reserve()?;
-    agenda.reserve(1)?;
-    faults.reserve(1)?;
-    carousel.reserve_wait()?;
-    make_work_room(work, puts)
-}
-
-fn make_work_room(work: &mut Work, puts: &Puts) -> Result<(), AllocError>
-    ensures same { work.new.items ≡ work.old.items }
-    ensures room { OnOk result (room_for puts.now ≤ work.new.room) }
-{
-    match puts {
-        Puts::InFront(pieces) => work.reserve(pieces.len()),
-        Puts::Instead(_) => Ok(()),
     }
 }
 

@@ -23,7 +23,7 @@ mod plan;
 mod planning;
 mod posting;
 mod puts;
-pub mod rest;
+mod room;
 mod stage;
 pub mod stepped;
 mod stepping;
@@ -35,6 +35,6 @@ mod work;
 mod works;
 
 pub use machine::Machine;
-pub use rest::Rest;
+pub use mh_model::Rest;
 pub use stepped::Stepped;
 pub use unstarted::Unstarted;

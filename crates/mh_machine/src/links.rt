@@ -3,7 +3,8 @@ ghost use Rattle.std.specs.Prelude.{◌≡◌, ◌++◌, ◌+◌, ◌^◌, ◌<�
 ghost use Rattle.std.specs.Map.{lookup};
 ghost use Rattle.std.specs.Option.{option_copied};
 ghost use Rattle.mh_model.specs.Items.{hears_data as hears_data_lem, hears_type as hears_type_lem, heard as heard_lem};
-ghost use Rattle.mh_model.specs.Service.{parts, same_ref as same_ref_lem};
+ghost use Rattle.mh_model.specs.Service.{parts};
+ghost use Rattle.mh_model.specs.Reference.{same_ref as same_ref_lem};
 ghost use Rattle.mh_model.specs.State.{all};
 ghost use Rattle.mh_machine.specs.Links.{source_of as source_of_lem, place_of, places, waiting, IsIndex, is_awake as is_awake_lem, answer, answers};
 ghost use Rattle.mh_machine.specs.Pieces.{written};

@@ -2,13 +2,10 @@
 //! alone. An effect is put as one piece, which shares its actions.
 ghost use Rattle.std.specs.Prelude.{◌≡◌, ◌++◌, ◌∷◌, [], IfOk, OnOk, filter, vec_len};
 ghost use Rattle.std.specs.Option.{option_map};
-ghost use Rattle.mh_model.specs.Items.{acts, runs, plain_event as plain_event_lem};
-ghost use Rattle.mh_model.specs.Items.{is_initially_active as is_initially_active_lem};
-ghost use Rattle.mh_model.specs.Items.{is_shared as is_shared_lem};
+ghost use Rattle.mh_model.specs.Items.{acts, plain_event as plain_event_lem};
+ghost use Rattle.mh_model.specs.Groups.{runs, is_initially_active as is_initially_active_lem, is_shared as is_shared_lem, unshared_halts, group_effect, all_halts, scene_closing, scene_halts, entering as entering_lem, leaving as leaving_lem, quitting as quitting_lem};
 ghost use Rattle.mh_model.specs.Property.{as_effect, held};
 ghost use Rattle.mh_machine.specs.Pieces.{items_of, written};
-ghost use Rattle.mh_model.specs.Items.{unshared_halts, group_effect, all_halts, scene_closing, scene_halts};
-ghost use Rattle.mh_model.specs.Items.{entering as entering_lem, leaving as leaving_lem, quitting as quitting_lem};
 
 use crate::piece::Piece;
 use mh_base::{EventType, GroupName, ObjRef};

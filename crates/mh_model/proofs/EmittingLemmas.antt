@@ -32,8 +32,10 @@ use Rattle.mh_model.specs.Listed.{Listed}
 use Rattle.mh_model.specs.Lists.{Shown, nothing_shown, shows, is_shown, are_same, truth_told, count_told, halted_members, run_members, list_items}
 use Rattle.mh_model.specs.Programs.{counted}
 use Rattle.mh_model.specs.Property.{read_of, value_held}
-use Rattle.mh_model.specs.Service.{fresh, no_list}
-use Rattle.mh_model.specs.Tokens.{event_with, members}
+use Rattle.mh_model.specs.Service.{fresh}
+use Rattle.mh_model.specs.ListItems.{no_list}
+use Rattle.mh_model.specs.Tokens.{members}
+use Rattle.mh_model.specs.Widget.{event_with}
 use Rattle.mh_model.specs.Variables.{operator_of}
 use Rattle.mh_model.specs.Bodies.{loaded}
 use Rattle.mh_model.specs.Saying.{event_numbered, sent, tested}

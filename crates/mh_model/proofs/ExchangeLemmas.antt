@@ -14,7 +14,8 @@ use Rattle.mh_model.specs.declared.object.Fixed.{Fixed}
 use Rattle.mh_model.specs.declared.time.Timer.{Timer}
 use Rattle.mh_model.specs.declared.input.Waiting.TheVariants as waiting
 use Rattle.mh_model.specs.declared.item.Item.TheVariants as item
-use Rattle.mh_model.specs.Service.{Service, same_ref, part_at, group_ref, group_parts, is_in}
+use Rattle.mh_model.specs.Service.{Service, part_at, group_parts, is_in}
+use Rattle.mh_model.specs.Reference.{same_ref, group_ref}
 use Rattle.mh_model.specs.State.{State}
 use Rattle.mh_model.specs.Rules.{stays, rule, scene_exchanged, application_exchanged, is_input}
 use Rattle.mh_model.specs.Configuration.{is_group_of, is_service, scene_parts, present, is_among}

@@ -32,7 +32,7 @@ least_fault_append (Some b) (x ∷ xs) ys = least_fault_append (Some (if nat_lt 
 
 -- Nothing is wrong where no fault is the least.
 
-some_is_least : (b : Fault) (fs : List Fault) → is_none (least_fault (Some b) fs) ≡ false
+pub some_is_least : (b : Fault) (fs : List Fault) → is_none (least_fault (Some b) fs) ≡ false
 some_is_least b [] = refl
 some_is_least b (f ∷ fs) = some_is_least (if nat_lt (rank f.what) (rank b.what) then f else b) fs
 

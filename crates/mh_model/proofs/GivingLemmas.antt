@@ -23,17 +23,20 @@ use Rattle.mh_model.specs.declared.object.Fixed.{Fixed}
 use Rattle.mh_model.specs.declared.object.Object.{Object}
 use Rattle.mh_model.specs.Property.{held, value_held, as_value, as_reference}
 use Rattle.mh_model.specs.Variables.{converted, fits_int, fits_octets}
-use Rattle.mh_model.specs.Bodies.{number_of as number_held, octets_of, given_number, given_octets, stored, divided, text_of, coloured, most_drawings, is_drawable, drawn, pointed, changed_by}
+use Rattle.mh_model.specs.Bodies.{number_of as number_held, octets_of, given_number, given_octets, stored, divided, text_of, coloured, is_drawable, drawn, pointed, changed_by}
+use Rattle.mh_model.specs.Limits.{most_drawings}
 use Rattle.mh_model.specs.Looks.{label_of}
 use Rattle.mh_model.specs.Describing.{says, IsSaid, IsListed, GivesWhatItSays, ListsWhatItSays, AnswersItems}
-use Rattle.mh_model.specs.Fields.{highlit, button_set, button_worked}
+use Rattle.mh_model.specs.EntryFields.{highlit, button_set, button_worked}
 use Rattle.mh_model.specs.Items.{plain_event}
 use Rattle.mh_model.specs.Listed.{Listed}
 use Rattle.mh_model.specs.Lists.{are_same, shows, relisted, list_changed, list_worked, marked_at, other_marked, unmarked, selection_wanted, selection_by, selection_at, selection_worked}
 use Rattle.mh_model.specs.Programs.{counted}
 use Rattle.mh_model.specs.Saying.{answers, item_told, status_told}
-use Rattle.mh_model.specs.Service.{same_ref, has_item}
-use Rattle.mh_model.specs.Tokens.{Worked, no_work, event_with, numbered, token_wanted, can_turn, turned}
+use Rattle.mh_model.specs.ListItems.{has_item}
+use Rattle.mh_model.specs.Reference.{same_ref}
+use Rattle.mh_model.specs.Tokens.{numbered, token_wanted, can_turn, turned}
+use Rattle.mh_model.specs.Widget.{Worked, no_work, event_with}
 use Rattle.mh_model.proofs.ListedLemmas.{Each, EntriesListed, IsListedIf, own_among, shown_among, relisted_among}
 use Rattle.mh_model.proofs.ServiceLemmas.{same_ref-same}
 

@@ -20,3 +20,6 @@ pub mod RuleLemmas
 pub mod TakenLemmas
 pub mod SafeLemmas
 pub mod ReceiverLemmas
+pub mod NumberLemmas
+pub mod FrameLemmas
+pub mod StretchLemmas

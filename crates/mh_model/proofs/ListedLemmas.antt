@@ -18,8 +18,10 @@ use Rattle.mh_model.specs.declared.object.Body.{Body}
 use Rattle.mh_model.specs.declared.object.Fixed.{Fixed}
 use Rattle.mh_model.specs.declared.object.Object.{Object}
 use Rattle.mh_model.specs.Listed.{Listed}
-use Rattle.mh_model.specs.Lists.{objects_of, wraps, before_first, shows, most_items, inserted, removed, first_set, scrolled_to, relisted}
-use Rattle.mh_model.specs.Service.{same_ref, has_item}
+use Rattle.mh_model.specs.Lists.{objects_of, wraps, before_first, shows, inserted, removed, first_set, scrolled_to, relisted}
+use Rattle.mh_model.specs.Limits.{most_items}
+use Rattle.mh_model.specs.ListItems.{has_item}
+use Rattle.mh_model.specs.Reference.{same_ref}
 use Rattle.mh_model.specs.Tokens.{members, positions, member_actions, numbered, slot_actions, slot_of}
 use Rattle.mh_model.specs.Describing.{IsListed}
 

@@ -16,7 +16,8 @@ use Rattle.mh_model.specs.declared.object.Fixed.{Fixed}
 use Rattle.mh_model.specs.declared.object.Object.{Object}
 use Rattle.mh_model.specs.Items.{plain_event}
 use Rattle.mh_model.specs.Lifecycle.{group_runs, group_halts, token_told, running_items, stopping_items, started_items, halt_items}
-use Rattle.mh_model.specs.Service.{same_ref, part_at, object_at}
+use Rattle.mh_model.specs.Service.{part_at, object_at}
+use Rattle.mh_model.specs.Reference.{same_ref}
 use Rattle.mh_model.specs.State.{State, all}
 use Rattle.mh_model.specs.Known.{class_at, known_before}
 use Rattle.mh_model.specs.Faults.{object_faults, admitted_faults}

@@ -24,7 +24,8 @@ use Rattle.mh_model.specs.Receiver.{is_added_by, if_added, added_name, call_at, 
 use Rattle.mh_model.specs.Service.{part_at, parts}
 use Rattle.mh_model.specs.Sort.{sort_of}
 use Rattle.mh_model.specs.State.{State, all}
-use Rattle.mh_model.specs.Step.{step, stepped, run, most_steps, posted}
+use Rattle.mh_model.specs.Step.{step, stepped, run, posted}
+use Rattle.mh_model.specs.Limits.{most_steps}
 use Rattle.mh_model.specs.Stuck.{stuck}
 
 added : (b : Option Builtin) (name : List ℕ) → is_added_by b [] name ≡ false

@@ -28,7 +28,8 @@ use Rattle.mh_model.specs.declared.program.Outcome.{Outcome}
 use Rattle.mh_model.specs.declared.program.Param.{Param}
 use Rattle.mh_model.specs.Service.{Service, object_at, group_parts}
 use Rattle.mh_model.specs.State.{State, Objects, all}
-use Rattle.mh_model.specs.Items.{heard, entering}
+use Rattle.mh_model.specs.Items.{heard}
+use Rattle.mh_model.specs.Groups.{entering}
 use Rattle.mh_model.specs.Lifecycle.{loaded_at, rise_items, started_items, halt_items, run_places, is_available_at, is_unavailable_at, is_unprepared_at}
 use Rattle.mh_model.specs.Known.{Known, known_before}
 use Rattle.mh_model.specs.Faults.{admitted_faults, called_faults, arguments_faults, faults, passed}
@@ -36,7 +37,7 @@ use Rattle.mh_model.specs.Sort.{sort_of}
 use Rattle.mh_model.specs.Arguments.{values, receivers}
 use Rattle.mh_model.specs.Bodies.{prepared, started, halted, dropped, replaced, changed_by}
 use Rattle.mh_model.specs.Saying.{answers_at, put_items, put_items_at, call_items, interaction_items}
-use Rattle.mh_model.specs.Tokens.{Worked}
+use Rattle.mh_model.specs.Widget.{Worked}
 use Rattle.mh_model.specs.Worked.{worked, is_interacting, ended_of}
 use Rattle.mh_model.specs.Describing.{can_put}
 use Rattle.mh_model.specs.Rules.{changed, all_placed, loaded_with, load_rule, called, widget_at, interaction_set, interact_rule, rule_by, emitted, rule, noted}

@@ -25,7 +25,8 @@ use Rattle.mh_model.specs.Known.{class_at, as_integer}
 use Rattle.mh_model.specs.Faults.{object_faults, fault_known}
 use Rattle.mh_model.specs.Stuck.{member_fault, stuck}
 use Rattle.mh_model.specs.Arguments.{held_by}
-use Rattle.mh_model.specs.Step.{done, did, step_by, step, posted, most_steps, stepped, moved, run, obstacle, posted_by, preset}
+use Rattle.mh_model.specs.Step.{done, did, step_by, step, posted, stepped, moved, run, obstacle, posted_by, preset}
+use Rattle.mh_model.specs.Limits.{most_steps}
 use Rattle.mh_model.specs.Configuration.{is_group_of, is_service, present}
 use Rattle.mh_model.specs.Active.{is_none, is_direct, is_good, fault_of, has_known_id}
 use Rattle.mh_model.specs.Acceptable.{IsAcceptable, leads_into}

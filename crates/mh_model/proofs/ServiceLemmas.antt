@@ -14,7 +14,8 @@ use Rattle.mh_group.specs.declared.class.Class.TheVariants as class
 use Rattle.mh_group.specs.Table.{is_link, is_group_class, is_application}
 use Rattle.mh_model.specs.declared.config.Config.{Config}
 use Rattle.mh_model.specs.declared.object.Fixed.{Fixed}
-use Rattle.mh_model.specs.Service.{Service, same_ref, part_at, group_ref, group_parts, is_in}
+use Rattle.mh_model.specs.Service.{Service, part_at, group_parts, is_in}
+use Rattle.mh_model.specs.Reference.{same_ref, group_ref}
 use Rattle.mh_model.specs.Configuration.{is_group_of, is_ingredient_of, is_group_list, is_service, scene_parts, present}
 use Rattle.mh_model.specs.Safe.{is_there}
 

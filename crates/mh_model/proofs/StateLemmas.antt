@@ -11,7 +11,8 @@ use Rattle.mh_model.specs.declared.item.Item.{Item}
 use Rattle.mh_model.specs.declared.file.File.{File}
 use Rattle.mh_model.specs.declared.file.Wait.{Wait}
 use Rattle.mh_model.specs.declared.object.Fixed.{Fixed}
-use Rattle.mh_model.specs.Service.{Service, parts, group_ref, group_parts}
+use Rattle.mh_model.specs.Service.{Service, parts, group_parts}
+use Rattle.mh_model.specs.Reference.{group_ref}
 use Rattle.mh_model.specs.State.{State, Objects, all}
 use Rattle.mh_model.specs.Planes.{Planes}
 use Rattle.mh_model.specs.Configuration.{is_group_of, scene_parts, present, is_among}

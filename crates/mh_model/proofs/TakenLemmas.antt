@@ -19,13 +19,14 @@ use Rattle.mh_model.specs.declared.object.Object.{Object}
 use Rattle.mh_model.specs.declared.key.Key.{Key}
 use Rattle.mh_model.specs.declared.key.Key.TheVariants as key
 use Rattle.mh_model.specs.Key.{passes}
-use Rattle.mh_model.specs.Service.{Service, object_at, group_ref}
+use Rattle.mh_model.specs.Service.{Service, object_at}
+use Rattle.mh_model.specs.Reference.{group_ref}
 use Rattle.mh_model.specs.State.{State, Objects, all}
 use Rattle.mh_model.specs.Items.{heard, plain_event}
-use Rattle.mh_model.specs.Fields.{Pressed, not_pressed, pressed_by, most_typed, overtyped, put_in, typed, field_pressed, button_pressed, pressed_of}
+use Rattle.mh_model.specs.EntryFields.{Pressed, not_pressed, pressed_by, most_typed, overtyped, put_in, typed, field_pressed, button_pressed, pressed_of}
 use Rattle.mh_model.specs.Bodies.{text_of}
 use Rattle.mh_model.specs.Lists.{are_same}
-use Rattle.mh_model.specs.Tokens.{no_work}
+use Rattle.mh_model.specs.Widget.{no_work}
 use Rattle.mh_model.specs.Step.{register_of, key_event, key_items, key_taken, pressed_at, took, engine_event, streams_told, timers_fired, contents_told}
 use Rattle.mh_model.specs.Configuration.{present}
 use Rattle.mh_model.specs.Files.{with_file, arrived}

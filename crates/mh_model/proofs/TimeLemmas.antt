@@ -12,7 +12,8 @@ use Rattle.mh_base.specs.declared.value.Value.TheVariants as value
 use Rattle.mh_model.specs.declared.file.Wait.{Wait}
 use Rattle.mh_model.specs.declared.object.Fixed.{Fixed}
 use Rattle.mh_model.specs.declared.object.Object.{Object}
-use Rattle.mh_model.specs.Service.{same_ref, parts, group_ref}
+use Rattle.mh_model.specs.Service.{parts}
+use Rattle.mh_model.specs.Reference.{same_ref, group_ref}
 use Rattle.mh_model.specs.Step.{is_streaming, stream_event, is_waiting, content_event}
 use Rattle.mh_model.specs.Safe.{is_there, has_origin, has_group}
 use Rattle.mh_model.specs.declared.time.Moments.{Moments}

@@ -25,8 +25,10 @@ use Rattle.mh_model.specs.declared.item.Item.TheVariants as item
 use Rattle.mh_model.specs.declared.object.Fixed.{Fixed}
 use Rattle.mh_model.specs.declared.object.Object.{Object}
 use Rattle.mh_model.specs.Property.{held, as_effect, as_value, as_event}
-use Rattle.mh_model.specs.Service.{Service, same_ref, part_at, parts, group_ref, group_parts, with_parts}
-use Rattle.mh_model.specs.Items.{hears_source, hears_type, hears_data, matches, acts, heard, plain_event, is_initially_active, runs, halts, effect_of, group_effect, entering, is_shared, scene_closing, scene_halts, leaving, quitting}
+use Rattle.mh_model.specs.Service.{Service, part_at, parts, group_parts, with_parts}
+use Rattle.mh_model.specs.Reference.{same_ref, group_ref}
+use Rattle.mh_model.specs.Items.{hears_source, hears_type, hears_data, matches, acts, heard, plain_event}
+use Rattle.mh_model.specs.Groups.{is_initially_active, runs, halts, effect_of, group_effect, entering, is_shared, scene_closing, scene_halts, leaving, quitting}
 use Rattle.mh_model.specs.Faults.{is_transition, object_faults, admitted_faults}
 use Rattle.mh_model.specs.Known.{known_before, class_at}
 use Rattle.mh_model.specs.Configuration.{is_group_of, present, is_among}

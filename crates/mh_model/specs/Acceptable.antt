@@ -1,4 +1,6 @@
--- Which services are acceptable: in no configuration that may be reached can an active action be stuck.
+-- Which services are acceptable for now: in no configuration that may be reached can an active action be stuck.
+-- Services of several applications or scenes, with lists, or with objects that are named through variables are
+-- none yet.
 use Rattle.std.specs.Prelude.{◌≡◌, Bool, true, List, Some}
 use Rattle.std.specs.List.{list_all, Contains}
 use Rattle.std.specs.Option.{option_map_or}
@@ -25,7 +27,7 @@ is_free s c = list_all (is_good s (present s c)) (active_actions (present s c))
 abbrev pub is_manned : Service → Config → Bool
 is_manned s c = list_all (has_good_members (present s c)) (present s c)
 
--- there is one application and at most one scene; and there is a closed set of configurations, in none of which
+-- for now there is one application and at most one scene; and there is a closed set of configurations, in none of which
 -- an active action can be stuck, nor a member of a group
 pub record IsAcceptable (s : Service) : Type 0 where
   pub service : is_service s ≡ true

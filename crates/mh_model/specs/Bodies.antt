@@ -21,6 +21,7 @@ use Rattle.mh_model.specs.Files.{by_content, comes_to, missing}
 use Rattle.mh_model.specs.Looks.{has_line, line_of, fill_of}
 use Rattle.mh_model.specs.Property.{read_of, with_held, value_held, as_number, as_octets}
 use Rattle.mh_model.specs.Variables.{fits_int, fits_octets, converted}
+use Rattle.mh_model.specs.Limits.{most_drawings}
 
 -- Content
 
@@ -122,9 +123,6 @@ coloured a (r ∷ g ∷ b ∷ t ∷ []) body =
 coloured a _ body = body
 
 -- Drawings. One keeps the colours and the line width that there are when it is drawn.
-
-abbrev pub most_drawings : ℕ
-most_drawings = 256
 
 abbrev pub is_near : ℤ → Bool
 is_near n = int_le (negsuc 9999) n && int_le n (pos 10000)

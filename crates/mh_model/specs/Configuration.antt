@@ -8,7 +8,8 @@ use Rattle.mh_group.specs.declared.class.Class.{Class}
 use Rattle.mh_group.specs.Table.{is_group_class, is_scene, is_application}
 use Rattle.mh_model.specs.declared.config.Config.{Config}
 use Rattle.mh_model.specs.declared.object.Fixed.{Fixed}
-use Rattle.mh_model.specs.Service.{Service, same_ref, part_at, group_ref, group_parts, is_in}
+use Rattle.mh_model.specs.Service.{Service, part_at, group_parts, is_in}
+use Rattle.mh_model.specs.Reference.{same_ref, group_ref}
 
 -- the group of this name is of such a class: its object with number 0 is
 abbrev pub is_group_of : (Class → Bool) → Service → List ℕ → Bool

@@ -24,7 +24,7 @@ use Rattle.mh_model.specs.Lifecycle.{prepare_items, run_items, halt_items, drop_
 use Rattle.mh_model.specs.Property.{value_held, as_reference}
 use Rattle.mh_model.specs.Bodies.{changed_by}
 use Rattle.mh_model.specs.Saying.{answers, put_items, load_items, call_items, interaction_items}
-use Rattle.mh_model.specs.Service.{has_item}
+use Rattle.mh_model.specs.ListItems.{has_item}
 use Rattle.mh_model.specs.Sort.{sort_of}
 use Rattle.mh_model.specs.Tokens.{slot_actions}
 use Rattle.mh_model.specs.Worked.{worked}

@@ -11,8 +11,9 @@ use Rattle.mh_model.specs.declared.file.Wait.{Wait}
 use Rattle.mh_model.specs.declared.held.Held.{Held}
 use Rattle.mh_model.specs.declared.held.Held.TheVariants as of
 use Rattle.mh_model.specs.First.{put_first}
-use Rattle.mh_model.specs.Service.{same_ref}
+use Rattle.mh_model.specs.Reference.{same_ref}
 use Rattle.mh_model.specs.Variables.{fits_octets}
+use Rattle.mh_model.specs.Limits.{most_files}
 
 abbrev pub is_named : List ℕ → File → Bool
 is_named name f = bytes_eq f.name name
@@ -26,9 +27,6 @@ abbrev pub with_file : File → List File → List File
 with_file f fs = put_first (is_named f.name) f fs
 
 -- Limits
-
-abbrev pub most_files : ℕ
-most_files = 1024
 
 abbrev pub is_too_large : File → Bool
 is_too_large f = not (fits_octets f.content)

@@ -1,47 +1,72 @@
+-- What an object is, and what a service says of it
 pub mod First
-pub mod Key
-pub mod Listed
+pub mod Limits
+pub mod Reference
 pub mod Property
+pub mod Listed
+pub mod ListItems
 pub mod Service
+
+-- The state of the machine
 pub mod Planes
-pub mod Time
 pub mod State
-pub mod Items
+pub mod Time
+pub mod Files
+pub mod Programs
 pub mod Variables
+pub mod Key
+
+-- What an action is given, and what is wrong with one
 pub mod Arguments
 pub mod Known
 pub mod Faults
 pub mod Stuck
+
+-- What is done to objects, and what follows
+pub mod Items
+pub mod Groups
+pub mod Bodies
+pub mod Widget
+pub mod Tokens
+pub mod Lists
+pub mod EntryFields
+pub mod Worked
+pub mod Lifecycle
+pub mod Stack
+pub mod Saying
 pub mod Sort
+
+-- The picture, and how it is printed
+pub mod Looks
 pub mod Boxes
 pub mod Scalars
 pub mod Lines
 pub mod Layout
 pub mod Drawn
-pub mod Looks
-pub mod Files
-pub mod Programs
-pub mod Bodies
-pub mod Edits
-pub mod Tokens
-pub mod Lists
-pub mod Fields
-pub mod Worked
-pub mod Lifecycle
-pub mod Saying
-pub mod Describing
 pub mod Picture
+pub mod Printing
+pub mod Frame
+pub mod Stretch
+pub mod Told
+
+-- Rules, steps and runs
 pub mod Rules
 pub mod Step
 pub mod Receiver
+pub mod Describing
+
+-- What is accepted, and the headline
 pub mod Configuration
 pub mod Active
 pub mod Acceptable
 pub mod Safe
 pub mod Headline
-pub mod Example
-pub mod Computing
-pub mod Showing
-pub mod Passing
-pub mod Handing
-pub mod Widgets
+pub mod Edits
+
+-- Examples
+pub mod ExampleFirst
+pub mod ExampleComputing
+pub mod ExampleShowing
+pub mod ExamplePassing
+pub mod ExampleHanding
+pub mod ExampleWidgets

@@ -1,13 +1,10 @@
 -- What is put, and what becomes of the display stack, when an object is prepared, runs, stops and is dropped.
-use Rattle.std.specs.Prelude.{ℕ, Bool, true, false, ◌&&◌, not, if◌then◌else◌, List, [], ◌∷◌, ◌++◌, map, filter, Option, Some, None, pos}
+use Rattle.std.specs.Prelude.{ℕ, Bool, true, false, ◌&&◌, not, if◌then◌else◌, List, [], ◌∷◌, ◌++◌, map, Option, Some, None, pos}
 use Rattle.std.specs.Option.{option_map_or, is_some}
 use Rattle.mh_base.specs.declared.obj_ref.ObjRef.{ObjRef}
-use Rattle.mh_base.specs.declared.value.Value.{Value}
 use Rattle.mh_base.specs.declared.value.Value.TheVariants as value
 use Rattle.mh_base.specs.declared.event.EventType.{EventType}
 use Rattle.mh_base.specs.declared.event.EventType.TheVariants as event
-use Rattle.mh_group.specs.declared.action_name.ActionName.{ActionName}
-use Rattle.mh_group.specs.declared.action_name.ActionName.TheVariants as action
 use Rattle.mh_group.specs.Table.{is_visible}
 use Rattle.mh_group.specs.declared.class.Class.{Class}
 use Rattle.mh_group.specs.declared.class.Class.TheVariants as class
@@ -22,21 +19,15 @@ use Rattle.mh_model.specs.Bodies.{loaded, lacking}
 use Rattle.mh_model.specs.Files.{awaited}
 use Rattle.mh_model.specs.Items.{plain_event}
 use Rattle.mh_model.specs.Lists.{nothing_shown, shows, halted_members, list_items, cells_placed}
-use Rattle.mh_model.specs.Service.{same_ref, object_at}
-use Rattle.mh_model.specs.Tokens.{event_with, members}
+use Rattle.mh_model.specs.Tokens.{members}
+use Rattle.mh_model.specs.Widget.{event_with}
 
 abbrev pub is_available_at : Option Object → Bool
 is_available_at o = option_map_or (λ x. x.body.available) o false
 
-abbrev pub is_running_at : Option Object → Bool
-is_running_at o = option_map_or (λ x. x.body.running) o false
-
 -- the object is there, and is not available
 abbrev pub is_unavailable_at : Option Object → Bool
 is_unavailable_at o = option_map_or (λ x. not x.body.available) o false
-
-abbrev pub is_stopped_at : Option Object → Bool
-is_stopped_at o = option_map_or (λ x. not x.body.running) o false
 
 -- the object is there, does not run, and is not available
 abbrev pub is_unprepared_at : Option Object → Bool
@@ -132,41 +123,3 @@ run_places (Some o) = if o.body.running then [] else places_of o.fixed.class o
 
 abbrev pub drop_items : ObjRef → Option Object → List Item
 drop_items r o = emit_if (is_available_at o) r event.IsDeleted
-
--- a visible that becomes available goes on top of the display stack
-abbrev pub with_risen : Bool → ObjRef → Option Object → List ObjRef → List ObjRef
-with_risen b r o stack = if b && is_visible_at o then stack ++ r ∷ [] else stack
-
--- one that is dropped goes off it
-abbrev pub without : ObjRef → List ObjRef → List ObjRef
-without r stack = filter (λ x. not (same_ref r x)) stack
-
--- Actions that move an object in the stack. They do nothing where it is not available, or where the object
--- beside which it is put is not, or is the same.
-
-abbrev pub brought_to_front : ObjRef → List ObjRef → List ObjRef
-brought_to_front r stack = without r stack ++ r ∷ []
-
-abbrev pub sent_to_back : ObjRef → List ObjRef → List ObjRef
-sent_to_back r stack = r ∷ without r stack
-
--- r just above q, in a stack without it
-abbrev pub just_above : ObjRef → ObjRef → List ObjRef → List ObjRef
-just_above r q [] = r ∷ []
-just_above r q (x ∷ xs) = if same_ref q x then x ∷ r ∷ xs else x ∷ just_above r q xs
-
-abbrev pub just_below : ObjRef → ObjRef → List ObjRef → List ObjRef
-just_below r q [] = r ∷ []
-just_below r q (x ∷ xs) = if same_ref q x then r ∷ x ∷ xs else x ∷ just_below r q xs
-
-abbrev pub are_two : ObjRef → ObjRef → List Object → Bool
-are_two r q os = is_available_at (object_at q os) && not (same_ref r q)
-
-abbrev pub reordered : ActionName → List Value → ObjRef → List Object → List ObjRef → List ObjRef
-reordered action.BringToFront vs r os stack = brought_to_front r stack
-reordered action.SendToBack vs r os stack = sent_to_back r stack
-reordered action.PutBefore (value.Object q ∷ []) r os stack =
-    if are_two r q os then just_above r q (without r stack) else stack
-reordered action.PutBehind (value.Object q ∷ []) r os stack =
-    if are_two r q os then just_below r q (without r stack) else stack
-reordered _ vs r os stack = stack

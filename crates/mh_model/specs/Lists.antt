@@ -20,8 +20,11 @@ use Rattle.mh_model.specs.declared.object.Fixed.{Fixed}
 use Rattle.mh_model.specs.Listed.{Listed}
 use Rattle.mh_model.specs.Programs.{counted}
 use Rattle.mh_model.specs.Property.{held, as_bool}
-use Rattle.mh_model.specs.Service.{same_ref, has_item}
-use Rattle.mh_model.specs.Tokens.{Worked, no_work, event_with, positions}
+use Rattle.mh_model.specs.ListItems.{has_item}
+use Rattle.mh_model.specs.Reference.{same_ref}
+use Rattle.mh_model.specs.Tokens.{positions}
+use Rattle.mh_model.specs.Widget.{Worked, no_work, event_with}
+use Rattle.mh_model.specs.Limits.{most_items}
 
 -- What a list shows
 
@@ -118,10 +121,6 @@ abbrev pub cells_placed : Fixed → Shown → List (ObjRef × Position)
 cells_placed p s = zip s.items (positions p)
 
 -- Changes of the items and of the first one; none where nothing is changed
-
--- the most items of a list
-abbrev pub most_items : ℕ
-most_items = 256
 
 -- an item with this number, from 1 on, that is not among them yet, where there is room for it
 abbrev pub inserted : ℕ → ObjRef → Listed → Option Listed

@@ -1,5 +1,5 @@
 -- What a visible looks like: what it paints into each cell.
-use Rattle.std.specs.Prelude.{ℕ, ◌+◌, ◌*◌, ◌==◌, Bool, true, false, if◌then◌else◌, List, [], Option, Some, None, ℤ, pos, int_lt}
+use Rattle.std.specs.Prelude.{ℕ, ◌+◌, ◌*◌, ◌==◌, Bool, false, if◌then◌else◌, List, [], Option, Some, None, ℤ, pos, int_lt}
 use Rattle.mh_base.specs.declared.area.Area.{Area}
 use Rattle.mh_base.specs.declared.colour.Colour.{Colour}
 use Rattle.mh_group.specs.declared.attribute.Attribute.{Attribute}
@@ -15,6 +15,7 @@ use Rattle.mh_model.specs.Boxes.{covers, column_of, row_of, x_of, y_of, box_back
 use Rattle.mh_model.specs.Drawn.{drawn_over}
 use Rattle.mh_model.specs.Layout.{laid, character_at}
 use Rattle.mh_model.specs.Property.{held, read, read_of, as_bool, as_pair, as_int, as_colour, as_justification, as_octets, as_value}
+use Rattle.mh_group.specs.Table.{is_push_button}
 
 -- what a visible puts into a cell: a colour behind it, and a character with the character's colour
 pub record Paint : Type 0 where
@@ -94,10 +95,6 @@ lines_of_text (Some text) o =
 
 abbrev pub label_of : Fixed → Body → List ℕ
 label_of p b = as_octets (as_value (read_of attribute.OrigLabel p b))
-
-abbrev pub is_push_button : Class → Bool
-is_push_button class.PushButton = true
-is_push_button _ = false
 
 -- a push button shows its label
 abbrev pub shown_text : Object → Option (List ℕ)

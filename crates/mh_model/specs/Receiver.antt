@@ -26,7 +26,8 @@ use Rattle.mh_model.specs.Rules.{now_of}
 use Rattle.mh_model.specs.Service.{part_at, parts}
 use Rattle.mh_model.specs.Sort.{sort_of}
 use Rattle.mh_model.specs.State.{State, all}
-use Rattle.mh_model.specs.Step.{step, posted, most_steps}
+use Rattle.mh_model.specs.Step.{step, posted}
+use Rattle.mh_model.specs.Limits.{most_steps}
 use Rattle.mh_model.specs.Stuck.{stuck}
 
 -- Which program of the receiver the next step calls, if it calls one, and with what.

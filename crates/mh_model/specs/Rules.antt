@@ -35,17 +35,20 @@ use Rattle.mh_model.specs.Files.{comes_to, missing, is_loadable, forgotten, awai
 use Rattle.mh_model.specs.Faults.{passed}
 use Rattle.mh_model.specs.Known.{program_name, params_in}
 use Rattle.mh_model.specs.Programs.{builtin_named, ins, outs, said_by, outcome_of}
-use Rattle.mh_model.specs.Service.{same_ref, part_at, parts, object_at, group_parts, group_objects, with_parts}
+use Rattle.mh_model.specs.Service.{part_at, parts, object_at, group_parts, group_objects, with_parts}
+use Rattle.mh_model.specs.Reference.{same_ref}
 use Rattle.mh_model.specs.State.{State, Objects, all}
 use Rattle.mh_model.specs.Configuration.{is_group_of}
-use Rattle.mh_model.specs.Items.{heard, entering, leaving, quitting}
+use Rattle.mh_model.specs.Items.{heard}
+use Rattle.mh_model.specs.Groups.{entering, leaving, quitting}
 use Rattle.mh_model.specs.Sort.{sort_of}
 use Rattle.mh_model.specs.Arguments.{values, receivers, referred}
 use Rattle.mh_model.specs.Bodies.{prepared, started, halted, dropped, put, stored, replaced, brought, text_of, changed_by}
-use Rattle.mh_model.specs.Lifecycle.{prepare_items, run_items, halt_items, drop_items, is_available_at, is_unavailable_at, is_unprepared_at, loaded_at, run_places, waits_if, with_risen, without, reordered}
+use Rattle.mh_model.specs.Lifecycle.{prepare_items, run_items, halt_items, drop_items, is_available_at, is_unavailable_at, is_unprepared_at, loaded_at, run_places, waits_if}
+use Rattle.mh_model.specs.Stack.{with_risen, without, reordered}
 use Rattle.mh_model.specs.Picture.{looked}
 use Rattle.mh_model.specs.Time.{set_timers}
-use Rattle.mh_model.specs.Tokens.{Worked}
+use Rattle.mh_model.specs.Widget.{Worked}
 use Rattle.mh_model.specs.Worked.{worked, is_interacting, ended_of, interaction_of}
 use Rattle.mh_model.specs.Saying.{answers_at, put_items_at, load_items, call_items, interaction_items}
 

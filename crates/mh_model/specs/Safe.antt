@@ -13,7 +13,8 @@ use Rattle.mh_model.specs.declared.item.Item.{Item}
 use Rattle.mh_model.specs.declared.item.Item.TheVariants as item
 use Rattle.mh_model.specs.declared.object.Fixed.{Fixed}
 use Rattle.mh_model.specs.declared.time.Timer.{Timer}
-use Rattle.mh_model.specs.Service.{Service, part_at, parts, group_ref, group_parts}
+use Rattle.mh_model.specs.Service.{Service, part_at, parts, group_parts}
+use Rattle.mh_model.specs.Reference.{group_ref}
 use Rattle.mh_model.specs.Faults.{object_faults}
 use Rattle.mh_model.specs.Known.{class_at}
 use Rattle.mh_model.specs.State.{State}

@@ -1,18 +1,14 @@
 -- Services: groups by their names, each a list of what its file says of its objects, the group itself first.
-use Rattle.std.specs.Prelude.{ℕ, Bool, false, ◌==◌, ◌&&◌, if◌then◌else◌, List, [], ◌∷◌, ◌++◌, map, Option, None, unwrap_or}
-use Rattle.std.specs.List.{find, list_any}
+use Rattle.std.specs.Prelude.{ℕ, Bool, false, List, [], map, Option, None, unwrap_or}
+use Rattle.std.specs.List.{find}
 use Rattle.std.specs.Option.{option_map}
 use Rattle.std.specs.Str.{bytes_eq}
 use Rattle.mh_base.specs.declared.obj_ref.ObjRef.{ObjRef}
-use Rattle.mh_group.specs.declared.attribute.Attribute.TheVariants as attribute
-use Rattle.mh_group.specs.Table.{is_list_group}
-use Rattle.mh_model.specs.declared.listing.Entry.{Entry}
-use Rattle.mh_model.specs.declared.member.Member.{Member}
 use Rattle.mh_model.specs.declared.object.Fixed.{Fixed}
 use Rattle.mh_model.specs.declared.object.Object.{Object}
 use Rattle.mh_model.specs.declared.program.Signature.{Signature}
-use Rattle.mh_model.specs.Listed.{Listed}
-use Rattle.mh_model.specs.Property.{held, as_members}
+use Rattle.mh_model.specs.Reference.{same_ref}
+use Rattle.mh_model.specs.ListItems.{listed_at_first}
 
 -- a finite map from the names of groups to what they say of their objects, and the application to start with;
 -- and the programs that the receiver has for it besides the built-in ones
@@ -20,9 +16,6 @@ pub record Service : Type 0 where
   pub groups : List (List ℕ × List Fixed)
   pub start : List ℕ
   pub programs : List Signature
-
-abbrev pub same_ref : ObjRef → ObjRef → Bool
-same_ref a b = bytes_eq a.group b.group && a.number == b.number
 
 -- the part to which a reference leads, if it is among these
 abbrev pub part_at : ObjRef → List Fixed → Option Fixed
@@ -43,30 +36,6 @@ group_parts s g = unwrap_or (option_map (λ e. e.1) (find (λ e. bytes_eq e.0 g)
 -- a scene with its parts, if there is one
 abbrev pub with_parts : Service → Option (List ℕ) → Option (List ℕ × List Fixed)
 with_parts s scene = option_map (λ g. (g, group_parts s g)) scene
-
--- The items of a list group: its members, each once.
-
-abbrev pub has_item : ObjRef → List Entry → Bool
-has_item r es = list_any (λ e. same_ref r e.object) es
-
--- an item at the end, unless it is among them; it is not selected
-abbrev pub with_item : ObjRef → List Entry → List Entry
-with_item r es = if has_item r es then es else es ++ record { object = r; selected = false } ∷ []
-
-abbrev pub entries_once : List Entry → List Member → List Entry
-entries_once es [] = es
-entries_once es (m ∷ ms) = entries_once (with_item m.object es) ms
-
--- the list with its first item first
-abbrev pub listed_once : List Member → Listed
-listed_once ms = record { entries = entries_once [] ms; first = 1 }
-
-abbrev pub no_list : Listed
-no_list = record { entries = []; first = 1 }
-
-abbrev pub listed_at_first : Fixed → Listed
-listed_at_first p =
-    if is_list_group p.class then listed_once (as_members (held attribute.TokenGroupItems p.properties)) else no_list
 
 -- an object when its group is entered: nothing is changed, and it is neither available nor running
 abbrev pub fresh : Fixed → Object
@@ -90,10 +59,6 @@ fresh p = record {
 
 abbrev pub group_objects : Service → List ℕ → List Object
 group_objects s g = map fresh (group_parts s g)
-
--- the group itself
-abbrev pub group_ref : List ℕ → ObjRef
-group_ref g = record { group = g; number = 0 }
 
 abbrev pub is_in : List ℕ → Fixed → Bool
 is_in g p = bytes_eq p.key.group g

@@ -22,16 +22,18 @@ use Rattle.mh_model.specs.declared.interaction.Interaction.{Interaction}
 use Rattle.mh_model.specs.declared.item.Item.{Item}
 use Rattle.mh_model.specs.declared.key.Key.{Key}
 use Rattle.mh_model.specs.declared.object.Object.{Object}
-use Rattle.mh_model.specs.Fields.{Pressed, pressed_of}
+use Rattle.mh_model.specs.EntryFields.{Pressed, pressed_of}
 use Rattle.mh_model.specs.Key.{key_number, passes}
 use Rattle.mh_model.specs.Property.{read, as_int}
-use Rattle.mh_model.specs.Service.{object_at, group_ref}
+use Rattle.mh_model.specs.Service.{object_at}
+use Rattle.mh_model.specs.Reference.{group_ref}
 use Rattle.mh_model.specs.State.{State, all}
 use Rattle.mh_model.specs.Items.{heard}
 use Rattle.mh_model.specs.Stuck.{stuck}
 use Rattle.mh_model.specs.Files.{with_file, waits_for, arrived, is_too_large, is_too_many}
 use Rattle.mh_model.specs.Rules.{rule, changed, text_brought, is_input}
-use Rattle.mh_model.specs.Time.{most_moment, is_due, due, timer_event}
+use Rattle.mh_model.specs.Time.{is_due, due, timer_event}
+use Rattle.mh_model.specs.Limits.{longest_tick, most_moment, most_inputs, most_steps}
 
 -- Taking. What is taken has left the queue, and the step is counted; the work list is empty.
 
@@ -164,10 +166,6 @@ is_idle s = is_empty s.work && is_empty s.queue
 abbrev pub is_settled : State → Bool
 is_settled s = s.ended || is_idle s
 
--- the most inputs that wait; events are not counted
-abbrev pub most_inputs : ℕ
-most_inputs = 256
-
 abbrev pub inputs : List Waiting → ℕ
 inputs ws = length (filter is_input ws)
 
@@ -176,7 +174,7 @@ is_full s = not (nat_lt (inputs s.queue) most_inputs)
 
 -- a tick is of 1 to 60,000 milliseconds
 abbrev pub is_in_range : Input → Bool
-is_in_range (input.Tick n) = nat_le 1 n && nat_le n 60000
+is_in_range (input.Tick n) = nat_le 1 n && nat_le n longest_tick
 is_in_range _ = true
 
 -- how much time will have passed when all that waits is taken
@@ -248,10 +246,6 @@ preset_obstacle f s =
 
 abbrev pub preset : File → State → State
 preset f s = record s { files = with_file f s.files }
-
--- the most steps that are counted
-abbrev pub most_steps : ℕ
-most_steps = 18446744073709551615
 
 -- a step move of a run: with all steps counted nothing changes
 abbrev pub stepped : State → State

@@ -21,13 +21,6 @@ member_fault n r os = slice_get (object_faults is_visible n r (class_at r (parts
 -- visible; no other item ever is
 abbrev pub stuck : Item → State → Option Fault
 stuck (item.Act a) s = fault_known (known_in s.service (all s.objects)) a
-stuck (item.Prepare r) s = None
-stuck (item.Run r) s = None
-stuck (item.Halt r) s = None
 stuck (item.RunMember r) s = member_fault action.Run r (all s.objects)
 stuck (item.HaltMember r) s = member_fault action.Stop r (all s.objects)
-stuck (item.Drop r) s = None
-stuck (item.Emit e) s = None
-stuck (item.Enter g) s = None
-stuck (item.Exchange g) s = None
-stuck item.End s = None
+stuck _ s = None

@@ -4,7 +4,6 @@ use Rattle.std.specs.List.{flat_map}
 use Rattle.mh_base.specs.declared.obj_ref.ObjRef.{ObjRef}
 use Rattle.mh_base.specs.declared.value.Value.{Value}
 use Rattle.mh_base.specs.declared.value.Value.TheVariants as value
-use Rattle.mh_base.specs.declared.event.EventType.{EventType}
 use Rattle.mh_base.specs.declared.event.EventType.TheVariants as event
 use Rattle.mh_group.specs.declared.action_name.ActionName.{ActionName}
 use Rattle.mh_group.specs.declared.action_name.ActionName.TheVariants as action
@@ -13,28 +12,13 @@ use Rattle.mh_group.specs.declared.written.Position.{Position}
 use Rattle.mh_group.specs.Table.{is_list_group}
 use Rattle.mh_model.specs.declared.act.Act.{Act}
 use Rattle.mh_model.specs.declared.item.Item.{Item}
-use Rattle.mh_model.specs.declared.item.Item.TheVariants as item
 use Rattle.mh_model.specs.declared.member.Member.{Member}
 use Rattle.mh_model.specs.declared.object.Body.{Body}
 use Rattle.mh_model.specs.declared.object.Fixed.{Fixed}
 use Rattle.mh_model.specs.Items.{acts}
 use Rattle.mh_model.specs.Programs.{counted}
 use Rattle.mh_model.specs.Property.{held, as_members, as_rows, as_positions}
-
--- What a widget's action comes to: what is made of the widget's body, the objects that are placed and where, and
--- the items that are put.
-pub record Worked : Type 0 where
-  pub body : Body
-  pub placed : List (ObjRef × Position)
-  pub items : List Item
-
--- nothing
-abbrev pub no_work : Body → Worked
-no_work b = record { body = b; placed = []; items = [] }
-
--- an event with this value
-abbrev pub event_with : ObjRef → EventType → Value → Item
-event_with r kind v = item.Emit (record { source = r; kind = kind; «data» = Some v })
+use Rattle.mh_model.specs.Widget.{Worked, no_work, event_with}
 
 -- What is written of a group of objects
 

@@ -14,7 +14,8 @@ use Rattle.mh_group.specs.declared.class.Class.{Class}
 use Rattle.mh_group.specs.declared.class.Class.TheVariants as class
 use Rattle.mh_model.specs.declared.operator.Operator.{Operator}
 use Rattle.mh_model.specs.declared.operator.Operator.TheVariants as operator
-use Rattle.mh_model.specs.Service.{same_ref}
+use Rattle.mh_model.specs.Reference.{same_ref}
+use Rattle.mh_model.specs.Limits.{most_octets}
 
 -- Kinds
 
@@ -53,10 +54,6 @@ converts to from = same_kind to from
 
 abbrev pub fits_int : ℤ → Bool
 fits_int x = int_le (negsuc 2147483647) x && int_le x (pos 2147483647)
-
--- the most octets of one string
-abbrev pub most_octets : ℕ
-most_octets = 65535
 
 abbrev pub fits_octets : List ℕ → Bool
 fits_octets os = nat_le (length os) most_octets

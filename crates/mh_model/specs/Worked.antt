@@ -9,10 +9,11 @@ use Rattle.mh_group.specs.Table.{is_list_group}
 use Rattle.mh_model.specs.declared.interaction.Interaction.{Interaction}
 use Rattle.mh_model.specs.declared.object.Body.{Body}
 use Rattle.mh_model.specs.declared.object.Fixed.{Fixed}
-use Rattle.mh_model.specs.Fields.{button_worked}
+use Rattle.mh_model.specs.EntryFields.{button_worked}
 use Rattle.mh_model.specs.Lists.{list_worked, selection_worked}
-use Rattle.mh_model.specs.Service.{same_ref}
-use Rattle.mh_model.specs.Tokens.{Worked, no_work, token_worked}
+use Rattle.mh_model.specs.Reference.{same_ref}
+use Rattle.mh_model.specs.Tokens.{token_worked}
+use Rattle.mh_model.specs.Widget.{Worked, no_work}
 
 -- what changes the items of a list does nothing to any other object
 abbrev pub if_list : Fixed → Body → Worked → Worked

@@ -1,10 +1,10 @@
 //! Examples, played by the definitions alone.
-ghost use Rattle.mh_model.specs.Computing.{Computes};
-ghost use Rattle.mh_model.specs.Example.{PlaysFirst, PlaysOthers};
-ghost use Rattle.mh_model.specs.Handing.{Hands};
-ghost use Rattle.mh_model.specs.Passing.{Passes};
-ghost use Rattle.mh_model.specs.Showing.{Shows};
-ghost use Rattle.mh_model.specs.Widgets.{WorksWidgets};
+ghost use Rattle.mh_model.specs.ExampleComputing.{Computes};
+ghost use Rattle.mh_model.specs.ExampleFirst.{PlaysFirst, PlaysOthers};
+ghost use Rattle.mh_model.specs.ExampleHanding.{Hands};
+ghost use Rattle.mh_model.specs.ExamplePassing.{Passes};
+ghost use Rattle.mh_model.specs.ExampleShowing.{Shows};
+ghost use Rattle.mh_model.specs.ExampleWidgets.{WorksWidgets};
 
 /// The law that the definitions play the first example as its report says: 11 steps, then 2, with the
 /// rectangle where it should be.

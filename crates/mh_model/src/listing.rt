@@ -1,6 +1,6 @@
 //! `Listing`: the items of a list group.
 ghost use Rattle.std.specs.Prelude.{◌≡◌, [], ◌≤◌, length, suc, IfOk};
-ghost use Rattle.mh_model.specs.Service.{has_item, with_item, entries_once, listed_once};
+ghost use Rattle.mh_model.specs.ListItems.{has_item, with_item, entries_once, listed_once};
 
 use crate::Member;
 use crate::parts::same_ref;

@@ -2,7 +2,8 @@
 ghost use Rattle.std.specs.Prelude.{◌≡◌, ◌==◌, ◌&&◌, IfOk, [], Some, None};
 ghost use Rattle.std.specs.Option.{option_copied};
 ghost use Rattle.mh_model.specs.Property.{read as read_lem, value_held};
-ghost use Rattle.mh_model.specs.Service.{fresh as fresh_lem, listed_at_first};
+ghost use Rattle.mh_model.specs.Service.{fresh as fresh_lem};
+ghost use Rattle.mh_model.specs.ListItems.{listed_at_first};
 ghost use Rattle.mh_model.specs.Bodies.{text_of};
 
 use crate::held::{as_members, as_value};

@@ -1,7 +1,8 @@
 //! Look-up among the parts of groups, and what is read off one.
 ghost use Rattle.std.specs.Prelude.{◌≡◌, IfOk};
 ghost use Rattle.std.specs.Option.{option_copied};
-ghost use Rattle.mh_model.specs.Service.{same_ref as same_ref_lem, part_at as part_at_lem, group_ref as group_ref_lem};
+ghost use Rattle.mh_model.specs.Service.{part_at as part_at_lem};
+ghost use Rattle.mh_model.specs.Reference.{same_ref as same_ref_lem, group_ref as group_ref_lem};
 ghost use Rattle.mh_model.specs.Property.{held, as_effect as as_effect_lem};
 ghost use Rattle.mh_model.specs.Faults.{is_transition as is_transition_lem};
 

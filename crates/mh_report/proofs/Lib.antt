@@ -1,9 +1,6 @@
 pub mod ScriptLemmas
 pub mod SinkLemmas
-pub mod FrameLemmas
-pub mod StretchLemmas
 pub mod ChangeLemmas
-pub mod NumberLemmas
 pub mod PostLemmas
 pub mod PresetLemmas
 pub mod ContentLemmas

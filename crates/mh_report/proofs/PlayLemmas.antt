@@ -7,7 +7,8 @@ use Rattle.mh_report.specs.declared.script.Command.TheVariants.{Post, Step, Show
 use Rattle.mh_report.specs.declared.status.Status.{Status}
 use Rattle.std.specs.Io.KnownBytes.{Appends}
 use Rattle.mh_report.specs.Sink.{IsBeginning}
-use Rattle.mh_report.specs.Report.{Session, played, ended, script_lines, command_lines, total_line, status_of}
+use Rattle.mh_report.specs.Report.{Session, played, ended, script_lines, command_lines, status_of}
+use Rattle.mh_model.specs.Told.{total_line}
 use Rattle.std.proofs.KnownBytes.{Appends-nil, Appends-trans}
 use Rattle.mh_report.proofs.SinkLemmas.{later_beginning}
 
@@ -61,15 +62,15 @@ cut-item cs at c start now before after new so inside is b =
     cut-one cs at c start now before after new so inside (subst (λ (x : Command). IsBeginning after new (command_lines x now)) is b)
 
 -- when all commands are done, the total is left
-last : (cs : List Command) (at : ℕ) (start now : Session) (before after : Option (List ℕ)) (so : IsPlayed cs at start now before after) → length cs ≤ at → so.done ++ total_line now.state ≡ script_lines cs start
+last : (cs : List Command) (at : ℕ) (start now : Session) (before after : Option (List ℕ)) (so : IsPlayed cs at start now before after) → length cs ≤ at → so.done ++ total_line now.state.taken ≡ script_lines cs start
 last cs at start now before after so past =
     sym (ap (λ (l : List Command). so.done ++ script_lines l now) (drop_of_length-le cs past)) ∙ so.whole
 
-pub whole-last : (cs : List Command) (at : ℕ) (start now : Session) (before after new : Option (List ℕ)) (text : List ℕ) → IsPlayed cs at start now before after → length cs ≤ at → text ≡ total_line now.state → Appends after new text → Appends before new (script_lines cs start)
+pub whole-last : (cs : List Command) (at : ℕ) (start now : Session) (before after new : Option (List ℕ)) (text : List ℕ) → IsPlayed cs at start now before after → length cs ≤ at → text ≡ total_line now.state.taken → Appends after new text → Appends before new (script_lines cs start)
 whole-last cs at start now before after new text so past total wrote =
     subst (λ (t : List ℕ). Appends before new t) (ap (λ (t : List ℕ). so.done ++ t) total ∙ last cs at start now before after so past) (Appends-trans before after new so.done text so.taken wrote)
 
-pub cut-last : (cs : List Command) (at : ℕ) (start now : Session) (before after new : Option (List ℕ)) (text : List ℕ) → IsPlayed cs at start now before after → length cs ≤ at → text ≡ total_line now.state → IsBeginning after new text → IsBeginning before new (script_lines cs start)
+pub cut-last : (cs : List Command) (at : ℕ) (start now : Session) (before after new : Option (List ℕ)) (text : List ℕ) → IsPlayed cs at start now before after → length cs ≤ at → text ≡ total_line now.state.taken → IsBeginning after new text → IsBeginning before new (script_lines cs start)
 cut-last cs at start now before after new text so past total b =
     let whole : so.done ++ (text ++ []) ≡ script_lines cs start =
     ap (λ (t : List ℕ). so.done ++ t) (append-nil text ∙ total) ∙ last cs at start now before after so past in

@@ -1,8 +1,5 @@
-pub mod Text
 pub mod Script
 pub mod Sink
-pub mod Frame
-pub mod Stretch
 pub mod Report
 pub mod Reading
 pub mod Presets

@@ -1,19 +1,13 @@
 -- The report of a play: the bytes that it writes, as a function of the machine's states.
-use Rattle.std.specs.Prelude.{ℕ, ◌+◌, ◌-◌, false, List, [], ◌∷◌, ◌++◌, length, drop, Option, Some, None, codes}
+use Rattle.std.specs.Prelude.{ℕ, ◌+◌, ◌-◌, false, List, [], ◌∷◌, ◌++◌, length, drop, Option, Some, None}
 use Rattle.std.specs.List.{flat_map}
-use Rattle.std.specs.Fmt.{decimal}
-use Rattle.mh_group.specs.Words.{action_word}
 use Rattle.mh_model.specs.declared.fault.Fault.{Fault}
-use Rattle.mh_model.specs.declared.fault.FaultKind.{FaultKind}
-use Rattle.mh_model.specs.declared.fault.FaultKind.TheVariants as fault
 use Rattle.mh_model.specs.declared.input.Input.{Input}
 use Rattle.mh_model.specs.Planes.{Planes, blank}
 use Rattle.mh_model.specs.Picture.{shown}
 use Rattle.mh_model.specs.State.{State}
 use Rattle.mh_model.specs.Step.{advanced, posted}
 use Rattle.mh_machine.specs.Rest.{rest_of}
-use Rattle.mh_machine.specs.declared.rest.Rest.{Rest}
-use Rattle.mh_machine.specs.declared.rest.Rest.TheVariants as rest
 use Rattle.mh_engine.specs.Play.{Play}
 use Rattle.mh_engine.specs.Answer.{post_refusal, refusal_number}
 use Rattle.mh_engine.specs.declared.refusal.RefusedWhy.{RefusedWhy}
@@ -21,7 +15,8 @@ use Rattle.mh_report.specs.declared.script.Command.{Command}
 use Rattle.mh_report.specs.declared.script.Command.TheVariants as command
 use Rattle.mh_report.specs.declared.status.Status.{Status}
 use Rattle.mh_report.specs.declared.status.Status.TheVariants as status
-use Rattle.mh_report.specs.Frame.{frame_text}
+use Rattle.mh_model.specs.Frame.{frame_text}
+use Rattle.mh_model.specs.Told.{fault_line, refused_line, did_line, total_line}
 
 -- what is known between two commands: the machine's state, the frame that was shown last, and how
 -- many frames were shown
@@ -42,20 +37,6 @@ played command.Show p = record p { frame = shown p.state; frames = p.frames + 1 
 
 -- The lines.
 
-abbrev pub fault_word : FaultKind → List ℕ
-fault_word fault.Absent = codes "absent"
-fault_word fault.WrongClass = codes "class"
-fault_word fault.WrongKind = codes "kind"
-
--- a fault: what is wrong, the action, and the reference at the wrong place
-unfoldable pub fault_line : Fault → List ℕ
-fault_line f =
-    codes "fault " ++ fault_word f.what ++ codes " " ++ action_word f.action ++ codes " " ++ f.at.group ++ codes " " ++ decimal f.at.number ++ 10 ∷ []
-
--- a post that is refused, with the number of why
-unfoldable pub refused_line : ℕ → List ℕ
-refused_line n = codes "refused " ++ decimal n ++ 10 ∷ []
-
 abbrev pub number_line : Option ℕ → List ℕ
 number_line None = []
 number_line (Some n) = refused_line n
@@ -72,23 +53,15 @@ going s = record { state = s; stopped = false; accepted = false }
 abbrev pub post_lines : Input → State → List ℕ
 post_lines i s = why_line (post_refusal i (going s))
 
-abbrev pub rest_word : Rest → List ℕ
-rest_word rest.Idle = codes " idle"
-rest_word rest.More = codes " more"
-rest_word rest.Ended = codes " ended"
-
 -- what happened up to this state since there were so many steps and so many faults: the faults since
 -- then, the steps, and whether there is more to do
 abbrev pub progress_since : ℕ → ℕ → State → List ℕ
 progress_since steps faults s =
-    flat_map fault_line (drop faults s.faults) ++ codes "did " ++ decimal (s.taken - steps) ++ rest_word (rest_of s) ++ 10 ∷ []
+    flat_map fault_line (drop faults s.faults) ++ did_line (s.taken - steps) (rest_of s)
 
 -- what happened from one state to another
 abbrev pub progress_lines : State → State → List ℕ
 progress_lines s t = progress_since s.taken (length s.faults) t
-
-abbrev pub total_line : State → List ℕ
-total_line s = codes "total " ++ decimal s.taken ++ 10 ∷ []
 
 -- what a command prints
 abbrev pub command_lines : Command → Session → List ℕ
@@ -98,7 +71,7 @@ command_lines command.Show p = frame_text (p.frames + 1) p.frame (shown p.state)
 
 -- what the commands of a script print, and the steps taken at the end
 abbrev pub script_lines : List Command → Session → List ℕ
-script_lines [] p = total_line p.state
+script_lines [] p = total_line p.state.taken
 script_lines (c ∷ cs) p = command_lines c p ++ script_lines cs (played c p)
 
 -- the session after all commands

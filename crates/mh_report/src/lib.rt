@@ -22,7 +22,6 @@ mod script;
 pub mod sink;
 mod status;
 mod telling;
-mod text;
 mod unplayable;
 mod verdict;
 mod words;

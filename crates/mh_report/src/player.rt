@@ -5,7 +5,8 @@ ghost use Rattle.mh_model.specs.Planes.{blank};
 ghost use Rattle.mh_model.specs.Step.{advanced};
 ghost use Rattle.std.specs.Io.KnownBytes.{Appends};
 ghost use Rattle.mh_report.specs.Sink.{IsBeginning};
-ghost use Rattle.mh_report.specs.Report.{played, total_line, command_lines, script_lines, ended, status_of};
+ghost use Rattle.mh_report.specs.Report.{played, command_lines, script_lines, ended, status_of};
+ghost use Rattle.mh_model.specs.Told.{total_line};
 ghost use Rattle.mh_report.specs.Reading.{Gives};
 ghost use Rattle.mh_report.specs.Presets.{begins, opened, presets};
 
@@ -16,7 +17,8 @@ use crate::script::Command;
 use crate::sink::{Sink, write_all};
 use crate::status::Status;
 use crate::telling::{progress, refusal};
-use crate::text::Text;
+use mh_model::text::Text;
+use mh_model::told::put_total;
 use crate::unplayable::Unplayable;
 use mh_engine::{Engine, Refused, RefusedWhy};
 use mh_model::{File, Input, Picture};
@@ -164,12 +166,10 @@ impl Player {
 
     /// The line at the end: the steps taken.
     fn total(&self) -> Result<Text, AllocError>
-        ensures { IfOk result (λ text. text ≡ total_line self.now.state) }
+        ensures { IfOk result (λ text. text ≡ total_line self.now.state.taken) }
     {
         let mut text = Text::new(self.alloc);
-        text.put(b"total ")?;
-        text.put_number(self.engine.taken())?;
-        text.put(b"\n")?;
+        put_total(&mut text, self.engine.taken())?;
         Ok(text)
     }
 

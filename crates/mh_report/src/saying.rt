@@ -4,11 +4,11 @@ ghost use Rattle.std.specs.Fmt.{decimal};
 ghost use Rattle.mh_report.specs.Played.{complaint};
 ghost use Rattle.mh_report.specs.Verdict.{refusal_lines, place_words, action_words, scene_word, config_line, object_line, further_lines};
 
-use crate::text::Text;
 use crate::unplayable::Unplayable;
 use mh_base::{GroupName, ObjRef};
 use mh_group::ActionName;
 use mh_model::Config;
+use mh_model::text::Text;
 use mh_verify::{Place, Refusal, RefusalKind};
 use std::alloc::{AllocError, Global};
 

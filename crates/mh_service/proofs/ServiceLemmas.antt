@@ -17,7 +17,8 @@ use Rattle.mh_group.specs.Table.{is_group_class, is_application}
 use Rattle.mh_group.specs.Fit.{is_group, misfit_of, fields_misfit, ingredient_misfit, ingredients_misfit, items_of}
 use Rattle.mh_model.specs.declared.object.Fixed.{Fixed}
 use Rattle.mh_model.specs.declared.program.Signature.{Signature}
-use Rattle.mh_model.specs.Service.{Service, part_at, group_ref, is_in}
+use Rattle.mh_model.specs.Service.{Service, part_at, is_in}
+use Rattle.mh_model.specs.Reference.{group_ref}
 use Rattle.mh_model.specs.Configuration.{is_service, is_group_list, is_ingredient_of, has_keys, is_keyed, are_apart}
 use Rattle.mh_model.proofs.ServiceLemmas.{and_left, and_right, found, group_parts_in}
 use Rattle.mh_service.specs.Resolved.{parts_of, part_of, resolved, parts_under}

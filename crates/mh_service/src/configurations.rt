@@ -5,7 +5,8 @@
 ghost use Rattle.std.specs.Prelude.{◌≡◌, ◌++◌, true, false, None, Some, IfOk, OnOk, map, length, nat_le};
 ghost use Rattle.mh_group.specs.Table.{is_scene, is_application};
 ghost use Rattle.mh_model.specs.Configuration.{configurations as configurations_lem, names as names_lem, is_single as is_single_lem, with_scenes, is_group_of, is_service, same_config};
-ghost use Rattle.mh_model.specs.Service.{part_at, group_ref, same_ref};
+ghost use Rattle.mh_model.specs.Service.{part_at};
+ghost use Rattle.mh_model.specs.Reference.{group_ref, same_ref};
 ghost use Rattle.std.specs.List.{flat_map, IsDistinct};
 ghost use Rattle.std.specs.Str.{bytes_eq};
 ghost use Rattle.std.specs.Option.{option_copied, option_map_or};

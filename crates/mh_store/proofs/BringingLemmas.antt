@@ -5,11 +5,9 @@ use Rattle.std.proofs.lemmas.List.{length-append}
 use Rattle.std.proofs.Math.Seq.{set-append_seam}
 use Rattle.indexmap.specs.IndexMap.{set_value_at}
 use Rattle.mh_base.specs.declared.obj_ref.ObjRef.{ObjRef}
-use Rattle.mh_model.specs.declared.object.Fixed.{Fixed}
 use Rattle.mh_model.specs.declared.object.Object.{Object}
 use Rattle.mh_model.specs.Rules.{with_text, text_brought}
 use Rattle.mh_model.specs.State.{Objects}
-use Rattle.mh_model.specs.Service.{parts}
 use Rattle.mh_store.specs.declared.ready.Ready.{Ready}
 use Rattle.mh_store.specs.Bringing.{with_brought, found_ready, ready_from, all_put, entries_put, keys_of, AreOwn}
 use Rattle.mh_store.specs.Table.{IsKeyed, objects_of}
@@ -123,15 +121,6 @@ put_from is text (o ∷ os) n ps at = by (is o.fixed.key) (λ x. behind x (put_f
 
 pub put_text : (is : ObjRef → Bool) (text : List ℕ) (os : List Object) → all_put (ready_from 0 is text os) os ≡ with_text is text os
 put_text is text os = put_from is text os 0 [] refl
-
--- what the files say stays
-pub parts-text : (is : ObjRef → Bool) (text : List ℕ) (os : List Object) → parts (with_text is text os) ≡ parts os
-parts-text is text [] = refl
-parts-text is text (o ∷ os) = by (is o.fixed.key) (parts-text is text os)
-  where
-    by : (b : Bool) → parts (with_text is text os) ≡ parts os → parts ((if b then with_brought text o else o) ∷ with_text is text os) ≡ o.fixed ∷ parts os
-    by true h = ap (λ (t : List Fixed). o.fixed ∷ t) h
-    by false h = ap (λ (t : List Fixed). o.fixed ∷ t) h
 
 -- The same of what was made, as it came out
 

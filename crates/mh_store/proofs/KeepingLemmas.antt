@@ -12,7 +12,8 @@ use Rattle.mh_model.specs.declared.object.Object.{Object}
 use Rattle.mh_model.specs.Bodies.{given, put, end_of, prepared, started, token_started, halted, dropped, replaced, cleared}
 use Rattle.mh_model.specs.Edits.{edited}
 use Rattle.mh_model.specs.Layout.{text_lines}
-use Rattle.mh_model.specs.Looks.{is_push_button, label_of, shown_text, lines_of, lines_of_text}
+use Rattle.mh_model.specs.Looks.{label_of, shown_text, lines_of, lines_of_text}
+use Rattle.mh_group.specs.Table.{is_push_button}
 use Rattle.mh_model.specs.Scalars.{scalars_of}
 use Rattle.mh_store.specs.Keeping.{AreLaidAlike, has_no_text, leaves_lines, loads_no_text, stays_without}
 use Rattle.mh_store.specs.Table.{with_body}

@@ -1,9 +1,10 @@
 pub mod TableLemmas
+pub mod PlaceLemmas
 pub mod FreshLemmas
 pub mod BothLemmas
 pub mod KeepingLemmas
 mod BringingLemmas
-mod PlacingLemmas
+pub mod PlacingLemmas
 mod LineLemmas
 mod TextLemmas
 mod ScalarLemmas

@@ -187,7 +187,7 @@ renewed_made ps os after made is put = put ∙ ap (λ (xs : List Object). all_re
 
 -- A change of an object that is no visible is not seen by those that are made ready.
 
-changed-both : (f : Fixed → Body → Body) (r : ObjRef) (os ps : List Object) → changed_in f r (os ++ ps) ≡ (if list_any (is_at r) os then changed_in f r os ++ ps else os ++ changed_in f r ps)
+pub changed-both : (f : Fixed → Body → Body) (r : ObjRef) (os ps : List Object) → changed_in f r (os ++ ps) ≡ (if list_any (is_at r) os then changed_in f r os ++ ps else os ++ changed_in f r ps)
 changed-both f r [] ps = refl
 changed-both f r (o ∷ os) ps = by (is_at r o) (list_any (is_at r) os) (changed-both f r os ps)
   where
@@ -196,7 +196,7 @@ changed-both f r (o ∷ os) ps = by (is_at r o) (list_any (is_at r) os) (changed
     by false true below = ap (λ (t : List Object). o ∷ t) below
     by false false below = ap (λ (t : List Object). o ∷ t) below
 
-all-changed : (f : Fixed → Body → Body) (r : ObjRef) (os : Objects) → all (changed f r os) ≡ changed_in f r (all os)
+pub all-changed : (f : Fixed → Body → Body) (r : ObjRef) (os : Objects) → all (changed f r os) ≡ changed_in f r (all os)
 all-changed f r os = by (list_any (is_at r) os.application) ∙ sym (changed-both f r os.application os.scene)
   where
     by : (t : Bool) → all (if t then record os { application = changed_in f r os.application } else record os { scene = changed_in f r os.scene }) ≡ (if t then changed_in f r os.application ++ os.scene else os.application ++ changed_in f r os.scene)

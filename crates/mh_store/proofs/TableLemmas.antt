@@ -10,7 +10,8 @@ use Rattle.mh_model.specs.declared.object.Fixed.{Fixed}
 use Rattle.mh_model.specs.declared.object.Object.{Object}
 use Rattle.mh_model.specs.First.{change_first}
 use Rattle.mh_model.specs.Rules.{is_at, on_body, changed_in}
-use Rattle.mh_model.specs.Service.{same_ref, object_at}
+use Rattle.mh_model.specs.Service.{object_at}
+use Rattle.mh_model.specs.Reference.{same_ref}
 use Rattle.mh_model.proofs.ServiceLemmas.{same_ref-same}
 use Rattle.mh_store.specs.Placing.{renewed_in}
 use Rattle.mh_store.specs.Table.{IsKeyed, objects_of, key_of, with_body, changed_at}

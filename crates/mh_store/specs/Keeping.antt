@@ -6,7 +6,8 @@ use Rattle.mh_model.specs.declared.edit.Edit.{Edit}
 use Rattle.mh_model.specs.declared.edit.Edit.TheVariants as edit
 use Rattle.mh_model.specs.declared.object.Object.{Object}
 use Rattle.mh_model.specs.Boxes.{columns_of, rows_of}
-use Rattle.mh_model.specs.Looks.{area_of, is_push_button}
+use Rattle.mh_model.specs.Looks.{area_of}
+use Rattle.mh_group.specs.Table.{is_push_button}
 use Rattle.mh_model.specs.Property.{read, as_bool, as_justification}
 
 -- no text is shown

@@ -1,5 +1,5 @@
 -- The objects of one group under their numbers, as a table has them.
-use Rattle.std.specs.Prelude.{◌≡◌, ℕ, nat_eq, Bool, not, if◌then◌else◌, List, [], ◌∷◌, map}
+use Rattle.std.specs.Prelude.{◌≡◌, ℕ, zero, suc, nat_eq, Bool, true, false, not, if◌then◌else◌, List, [], ◌∷◌, map}
 use Rattle.std.specs.List.{list_all}
 use Rattle.mh_base.specs.declared.obj_ref.ObjRef.{ObjRef}
 use Rattle.mh_model.specs.declared.object.Body.{Body}
@@ -28,6 +28,13 @@ with_body f o = record o { body = f o.fixed o.body }
 abbrev pub changed_at : (Fixed → Body → Body) → ℕ → List (ℕ × Object) → List (ℕ × Object)
 changed_at f n [] = []
 changed_at f n (e ∷ es) = if nat_eq n e.0 then (e.0, with_body f e.1) ∷ es else e ∷ changed_at f n es
+
+-- what stands before this place is not under the number, and what stands there is; or nothing is, and the place is
+-- behind all
+abbrev pub IsPlace : ℕ → List (ℕ × Object) → ℕ → Type 0
+IsPlace n [] i = Unit {0}
+IsPlace n (e ∷ es) zero = nat_eq n e.0 ≡ true
+IsPlace n (e ∷ es) (suc i) = (nat_eq n e.0 ≡ false) × IsPlace n es i
 
 -- nothing stands under the number
 abbrev pub is_new : ℕ → List (ℕ × Object) → Bool

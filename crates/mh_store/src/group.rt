@@ -9,7 +9,7 @@ ghost use Rattle.mh_model.specs.Edits.{edited};
 ghost use Rattle.mh_model.specs.Service.{object_at, is_in, fresh as fresh_lem};
 ghost use Rattle.mh_store.specs.Bringing.{ready_from, all_put, keys_of, AreOwn};
 ghost use Rattle.mh_store.specs.Placing.{renewed_in};
-ghost use Rattle.mh_store.specs.Table.{changed_at, entry_of, is_new};
+ghost use Rattle.mh_store.specs.Table.{changed_at, entry_of, is_new, IsPlace};
 ghost use Rattle.mh_store.specs.Trying.{left_over, edited_in, given_in};
 
 use crate::Awaits;
@@ -73,7 +73,7 @@ impl Group {
         if at.group != self.name {
             return None;
         }
-        self.table.get(&at.number)
+        find(&self.table, at.number)
     }
 
     /// The object at this place.
@@ -168,6 +168,28 @@ impl Group {
     }
 }
 
+/// The object under this number. Mostly it stands at the place of that number, since a file numbers the objects
+/// of its group in order: then nothing is hashed.
+fn find(table: &IndexMap<u32, Kept>, at: u32) -> Option<&Kept>
+    ensures { option_copied result ≡ lookup (nat_eq at) table.now.entries }
+{
+    match table.get_index(at as usize) {
+        Some((own, kept)) if *own == at => Some(kept),
+        _ => table.get(&at),
+    }
+}
+
+/// Where the object under this number stands, looked for as above; behind all where there is none.
+fn place_of(table: &IndexMap<u32, Kept>, at: u32) -> usize
+    ensures { IsPlace at table.now.entries result }
+{
+    let behind = table.len();
+    match table.get_index(at as usize) {
+        Some((own, _)) if *own == at => at as usize,
+        _ => table.get_index_of(&at).unwrap_or(behind),
+    }
+}
+
 /// Changes the body of the object under this number. Where there is none the change comes back.
 fn edit_under(
     alloc: Global,
@@ -179,7 +201,8 @@ fn edit_under(
     ensures back { IfOk result (λ back. back ≡ left_over edit (lookup (nat_eq at) table.old.entries)) }
     ensures kept { OnErr result (table.new.entries ≡ table.old.entries) }
 {
-    match table.get_mut(&at) {
+    let place = place_of(table, at);
+    match table.get_index_mut(place) {
         Some(kept) => {
             kept.edit(alloc, edit)?;
             Ok(None)
@@ -193,7 +216,8 @@ fn give_under(table: &mut IndexMap<u32, Kept>, at: u32, value: Value) -> Option<
     ensures done { table.new.entries ≡ changed_at (λ _ b. given value b) at table.old.entries }
     ensures back { result ≡ left_over value (lookup (nat_eq at) table.old.entries) }
 {
-    match table.get_mut(&at) {
+    let place = place_of(table, at);
+    match table.get_index_mut(place) {
         Some(variable) => {
             variable.give(value);
             None
@@ -207,9 +231,10 @@ fn renew_under(table: &mut IndexMap<u32, Kept>, at: u32, kept: Kept) -> Option<K
     ensures done { table.new.entries ≡ set_value (nat_eq at) table.old.entries kept }
     ensures back { result ≡ left_over kept (lookup (nat_eq at) table.old.entries) }
 {
-    match table.get_mut(&at) {
-        Some(place) => {
-            put_kept(place, kept);
+    let place = place_of(table, at);
+    match table.get_index_mut(place) {
+        Some(there) => {
+            put_kept(there, kept);
             None
         }
         None => Some(kept),

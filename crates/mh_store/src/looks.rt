@@ -2,7 +2,8 @@
 ghost use Rattle.std.specs.Prelude.{◌≡◌, false};
 ghost use Rattle.std.specs.Option.{option_copied};
 ghost use Rattle.mh_group.specs.declared.attribute.Attribute.TheVariants as attribute;
-ghost use Rattle.mh_model.specs.Looks.{area_of as area_of_lem, has_line as has_line_lem, line_of as line_of_lem, fill_of as fill_of_lem, colour_of as colour_of_lem, label_of as label_of_lem, shown_text as shown_text_lem, is_push_button as is_push_button_lem, paint_of as paint_of_lem};
+ghost use Rattle.mh_model.specs.Looks.{area_of as area_of_lem, has_line as has_line_lem, line_of as line_of_lem, fill_of as fill_of_lem, colour_of as colour_of_lem, label_of as label_of_lem, shown_text as shown_text_lem, paint_of as paint_of_lem};
+ghost use Rattle.mh_group.specs.Table.{is_push_button as is_push_button_lem};
 ghost use Rattle.mh_model.specs.Property.{read, as_bool as as_bool_lem, as_justification as as_justification_lem};
 
 use mh_base::{Area, Colour, Value};

@@ -126,21 +126,9 @@ impl Objects {
         Ok(())
     }
 
-    /// Places these visibles where it is said, one after another; what is absent or no visible is passed
-    /// over. All that wants memory is made before the first of them is changed.
-    pub fn place_all(&mut self, placed: &[(ObjRef, Position)]) -> Result<(), AllocError>
-        ensures done { OnOk result (self.new ≡ all_placed placed.now self.old) }
-        ensures own { parts self.new.application ≡ parts self.old.application }
-        ensures others { parts self.new.scene ≡ parts self.old.scene }
-        ensures kept { OnErr result (self.new ≡ self.old) }
-    {
-        let ready = ready_placed(self.application.allocator(), self, placed)?;
-        renew_all(self, ready);
-        Ok(())
-    }
-
-    /// Changes the body of the object at this reference, which is no visible, and then places these, as
-    /// above. Where memory is refused neither is done.
+    /// Changes the body of the object at this reference, which is no visible, and then places these visibles
+    /// where it is said, one after another; what is absent or no visible is passed over. All that wants memory
+    /// is made before the first of them is changed.
     pub fn edit_and_place(
         &mut self,
         at: &ObjRef,

@@ -11,22 +11,17 @@ use Rattle.mh_text.specs.declared.sign.Sign.{Sign}
 use Rattle.mh_text.specs.declared.sign.Sign.TheVariants as sign
 use Rattle.mh_text.specs.declared.text_error.Why.{Why}
 use Rattle.mh_text.specs.declared.text_error.Why.TheVariants as why
-use Rattle.mh_text.specs.Signs.{sign_of, sign_or, or_else, word_sign, integer_sign, integer_of}
+use Rattle.mh_text.specs.Signs.{sign_of, or_else, word_sign, integer_sign, integer_of}
 use Rattle.mh_text.specs.Rest.{Left, Piece, piece, bad_at}
 use Rattle.mh_text.specs.Left.{Lexed, finished, bad, token, lexed, meant, left_in, left}
 use Rattle.mh_text.specs.Words.{AreWords, IsWord, needs_gap}
 use Rattle.mh_text.specs.Spelling.{IsGroup, Spells}
 use Rattle.mh_text.specs.Reading.{ended, group, read}
 use Rattle.mh_text.proofs.LeftLemmas.{left_is, lexed_shorter}
-use Rattle.mh_text.proofs.SignLemmas.{keyword_kind, word_kind}
+use Rattle.mh_text.proofs.SignLemmas.{keyword_kind, word_kind, or_gives}
 use Rattle.mh_text.proofs.PieceLemmas.{kind_of, word_of, words, AreGood}
 use Rattle.mh_text.proofs.TokenLemmas.{IsCut, lexed_token, lexed_finished}
 use Rattle.mh_text.proofs.FoundGroups.{group_found}
-
--- a meaning tells the kind
-or_means : (w : Why) (o : Option Sign) (s : Sign) → sign_or w o ≡ Ok s → o ≡ Some s
-or_means w (Some t) s e = cc
-or_means w None s e = absurd cc
 
 integer_if : (o : Option ℤ) (s : Sign) → or_else sign.Integer o None ≡ Some s → kind_of s ≡ kind.Integer
 integer_if (Some x) s e =
@@ -46,9 +41,9 @@ kind_means kind.OpenBrace text s e = ap kind_of (ok_why e)
 kind_means kind.CloseBrace text s e = ap kind_of (ok_why e)
 kind_means kind.OpenParenthesis text s e = ap kind_of (ok_why e)
 kind_means kind.CloseParenthesis text s e = ap kind_of (ok_why e)
-kind_means kind.Keyword text s e = sym (keyword_kind text s (or_means why.UnknownName _ s e))
-kind_means kind.Word text s e = sym (word_kind text s (or_means why.UnknownName _ s e))
-kind_means kind.Integer text s e = sym (integer_kind text s (or_means why.Range _ s e))
+kind_means kind.Keyword text s e = sym (keyword_kind text s (or_gives why.UnknownName _ s e))
+kind_means kind.Word text s e = sym (word_kind text s (or_gives why.UnknownName _ s e))
+kind_means kind.Integer text s e = sym (integer_kind text s (or_gives why.Range _ s e))
 kind_means kind.Text text s e = ap kind_of (ok_why e)
 kind_means kind.Quoted text s e = ap kind_of (ok_why e)
 

@@ -69,7 +69,7 @@ found_in Is f word name [] other s here behind e = behind e
 found_in Is f word name (y ∷ ys) other s here behind e =
     found_first Is f y (bytes_eq (word y) name) _ other s (λ h. here y ((bytes_eq-Decides (word y) name).0 h)) (found_in Is f word name ys other s here behind) e
 
-or_gives : (w : Why) (o : Option Sign) (s : Sign) → sign_or w o ≡ Ok s → o ≡ Some s
+pub or_gives : (w : Why) (o : Option Sign) (s : Sign) → sign_or w o ≡ Ok s → o ≡ Some s
 or_gives w (Some t) s e = cc
 or_gives w None s e = absurd cc
 

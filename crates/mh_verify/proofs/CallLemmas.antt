@@ -22,14 +22,15 @@ use Rattle.mh_model.specs.Service.{Service}
 use Rattle.mh_model.specs.Known.{Known, known_before}
 use Rattle.mh_model.specs.Faults.{rank, least_fault, is_call, unless, object_faults, admitted_faults, target_class, target_faults, target_at, faults_behind, call_faults, called_faults, calls_well, passed, passed_faults, receiver_faults, arguments_faults}
 use Rattle.mh_model.specs.Active.{fault_of, is_none, is_direct, is_direct_target}
-use Rattle.mh_model.proofs.FaultLemmas.{least_fault_append}
+use Rattle.mh_model.proofs.FaultLemmas.{least_fault_append, some_is_least}
 use Rattle.mh_verify.specs.declared.refusal.Found.{Found}
 use Rattle.mh_verify.specs.declared.refusal.RefusalKind.{RefusalKind}
 use Rattle.mh_verify.specs.declared.refusal.RefusalKind.TheVariants as refusal
 use Rattle.mh_verify.specs.Kinds.{kind_of}
 use Rattle.mh_verify.specs.Refusals.{refusal_at, id_variable, fault_beside, are_some, miscalls, refused_for, refused_at, found_at}
 use Rattle.mh_verify.specs.Calling.{first_at, passed_wrong, call_wrong, is_kind, may_miscall, miscalled}
-use Rattle.mh_verify.proofs.ContainsLemmas.{halves, all_front, all_back}
+use Rattle.mh_verify.proofs.ContainsLemmas.{halves}
+use Rattle.mh_model.proofs.ServiceLemmas.{all_left, all_right}
 
 pub first_of_two : (xs ys : List Fault) → first_at (xs ++ ys) ≡ option_or (first_at xs) (first_at ys)
 first_of_two [] ys = refl
@@ -37,22 +38,18 @@ first_of_two (x ∷ xs) ys = refl
 
 -- Nothing is wrong with an action exactly where nothing is beside the call, and the call fits.
 
-least_is_some : (b : Fault) (fs : List Fault) → is_none (least_fault (Some b) fs) ≡ false
-least_is_some b [] = refl
-least_is_some b (f ∷ fs) = least_is_some (if nat_lt (rank f.what) (rank b.what) then f else b) fs
-
 none_of_three : (ts cs xs : List Fault) → is_none (least_fault None ((ts ++ cs) ++ xs)) ≡ (is_none (least_fault None (ts ++ xs)) && not (are_some cs))
 none_of_three [] [] xs = by (is_none (least_fault None xs))
   where
     by : (b : Bool) → b ≡ (b && true)
     by true = refl
     by false = refl
-none_of_three [] (c ∷ cs) xs = least_is_some c (cs ++ xs) ∙ by (is_none (least_fault None xs))
+none_of_three [] (c ∷ cs) xs = some_is_least c (cs ++ xs) ∙ by (is_none (least_fault None xs))
   where
     by : (b : Bool) → false ≡ (b && false)
     by true = refl
     by false = refl
-none_of_three (t ∷ ts) cs xs = least_is_some t ((ts ++ cs) ++ xs) ∙ sym (ap (λ (b : Bool). b && not (are_some cs)) (least_is_some t (ts ++ xs)))
+none_of_three (t ∷ ts) cs xs = some_is_least t ((ts ++ cs) ++ xs) ∙ sym (ap (λ (b : Bool). b && not (are_some cs)) (some_is_least t (ts ++ xs)))
 
 pub parted : (s : Service) (ps : List Fixed) (a : Act) → is_none (fault_of s ps a) ≡ (is_none (fault_beside s ps a) && not (miscalls s ps a))
 parted s ps a =
@@ -235,7 +232,7 @@ told_lists (t ∷ ts) cs xs c key n a f d none e h = cc
 told_lists [] [] [] c key n a f d none e h = cc
 told_lists [] (x ∷ cs) [] c key n a f d none e h = refl
 told_lists [] cs (x ∷ xs) c key n a f d none e h =
-    let two = halves (is_late x) (list_all is_late xs) (all_back is_late cs (x ∷ xs) h) in
+    let two = halves (is_late x) (list_all is_late xs) (all_right is_late cs (x ∷ xs) h) in
     let named = first_of_late x xs two.1 in
     ap (λ (k : RefusalKind). Some (refusal_at c key n k a.name x.at)) (sym (late_kind x.what two.0))
     ∙ ap (λ (o : Option Fault). refused_for c key n a o None (are_some cs) d) (sym named)
@@ -251,7 +248,7 @@ call_same k a (x ∷ xs) = ap (λ (fs : List Fault). receiver_faults kind.Bool k
 told_direct : (ts cs xs ys : List Fault) (c : Config) (key : ObjRef) (n : ℕ) (a : Act) (f : Fault) (d : Bool) → (list_all is_late ts ≡ true → ts ≡ []) → xs ≡ ys → least_fault None ((ts ++ cs) ++ xs) ≡ Some f → is_late f ≡ true → Some (miscalled c key n a (first_at ys)) ≡ refused_for c key n a (least_fault None (ts ++ xs)) None (are_some cs) d
 told_direct ts cs xs ys c key n a f d early same e h =
     let all = all_latest ((ts ++ cs) ++ xs) f e h in
-    let front = all_front is_late ts cs (all_front is_late (ts ++ cs) xs all) in
+    let front = all_left is_late ts cs (all_left is_late (ts ++ cs) xs all) in
     ap (λ (zs : List Fault). Some (miscalled c key n a (first_at zs))) (sym same)
     ∙ told_lists ts cs xs c key n a f d (early front) e all
 

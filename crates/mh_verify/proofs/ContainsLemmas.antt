@@ -2,6 +2,7 @@
 use Rattle.std.proofs.Common.{◌≡◌, ◌⊎◌, inl, inr, suc, zero, Bool, true, false, ◌&&◌, List, [], ◌∷◌, ◌++◌, refl, sym, subst, arith}
 use Rattle.std.proofs.lemmas.List.Elements.{Contains-append_left, Contains-append_right, Contains-append_cases}
 use Rattle.std.specs.List.{Contains, flat_map, list_all}
+use Rattle.mh_model.proofs.FaultLemmas.{both_empty}
 
 -- Tests.
 
@@ -12,28 +13,6 @@ both false b p q = p
 pub halves : (a b : Bool) → (a && b) ≡ true → (a ≡ true) × (b ≡ true)
 halves true b h = (refl, h)
 halves false b h = cc
-
-pub all_append : {X : Type 0} (p : X → Bool) (xs ys : List X) → list_all p xs ≡ true → list_all p ys ≡ true → list_all p (xs ++ ys) ≡ true
-all_append p [] ys h k = k
-all_append p (x ∷ xs) ys h k =
-    let two = halves (p x) (list_all p xs) h in
-    both (p x) (list_all p (xs ++ ys)) two.0 (all_append p xs ys two.1 k)
-
-pub all_front : {X : Type 0} (p : X → Bool) (xs ys : List X) → list_all p (xs ++ ys) ≡ true → list_all p xs ≡ true
-all_front p [] ys h = refl
-all_front p (x ∷ xs) ys h =
-    let two = halves (p x) (list_all p (xs ++ ys)) h in
-    both (p x) (list_all p xs) two.0 (all_front p xs ys two.1)
-
-pub all_back : {X : Type 0} (p : X → Bool) (xs ys : List X) → list_all p (xs ++ ys) ≡ true → list_all p ys ≡ true
-all_back p [] ys h = h
-all_back p (x ∷ xs) ys h = all_back p xs ys (halves (p x) (list_all p (xs ++ ys)) h).1
-
-pub all_weaker : {X : Type 0} (p q : X → Bool) → ((x : X) → p x ≡ true → q x ≡ true) → (xs : List X) → list_all p xs ≡ true → list_all q xs ≡ true
-all_weaker p q f [] h = refl
-all_weaker p q f (x ∷ xs) h =
-    let two = halves (p x) (list_all p xs) h in
-    both (q x) (list_all q xs) (f x two.0) (all_weaker p q f xs two.1)
 
 -- Members.
 
@@ -94,10 +73,6 @@ no_members (x ∷ xs) f = absurd (f x (here x xs))
 
 -- Lists joined that come to none.
 
-pub nil_append : {X : Type 0} (xs ys : List X) → xs ≡ [] → ys ≡ [] → xs ++ ys ≡ []
-nil_append [] ys h k = k
-nil_append (x ∷ xs) ys h k = cc
-
 pub nil_parts : {X : Type 0} (xs ys : List X) → xs ++ ys ≡ [] → (xs ≡ []) × (ys ≡ [])
 nil_parts [] ys h = (refl, h)
 nil_parts (x ∷ xs) ys h = cc
@@ -107,7 +82,7 @@ pub joined_none : {X Y : Type 0} (f : X → List Y) (p : X → Bool) → ((x : X
 joined_none f p k [] h = refl
 joined_none f p k (x ∷ xs) h =
     let two = halves (p x) (list_all p xs) h in
-    nil_append (f x) (flat_map f xs) (k x two.0) (joined_none f p k xs two.1)
+    both_empty (f x) (flat_map f xs) (k x two.0) (joined_none f p k xs two.1)
 
 -- where each one that gives none passes
 pub all_where_none : {X Y : Type 0} (f : X → List Y) (p : X → Bool) → ((x : X) → f x ≡ [] → p x ≡ true) → (xs : List X) → flat_map f xs ≡ [] → list_all p xs ≡ true

@@ -14,7 +14,8 @@ use Rattle.mh_model.specs.declared.config.Config.{Config}
 use Rattle.mh_model.specs.declared.act.Target.{Target}
 use Rattle.mh_model.specs.declared.act.Target.TheVariants as target
 use Rattle.mh_model.specs.declared.object.Fixed.{Fixed}
-use Rattle.mh_model.specs.Service.{Service, part_at, group_ref}
+use Rattle.mh_model.specs.Service.{Service, part_at}
+use Rattle.mh_model.specs.Reference.{group_ref}
 use Rattle.mh_model.specs.Configuration.{is_service, is_group_of, is_group_list, names, with_scenes, configurations}
 use Rattle.mh_model.specs.Active.{leads_to, leads_by}
 use Rattle.mh_model.specs.Acceptable.{IsReached, start, led}

@@ -22,11 +22,13 @@ use Rattle.mh_verify.specs.Order.{IsFirst}
 use Rattle.mh_verify.specs.Least.{least_of}
 use Rattle.mh_verify.specs.Free.{AreFree}
 use Rattle.mh_verify.specs.Reach.{AreReached}
-use Rattle.mh_verify.proofs.ContainsLemmas.{nil_append, nil_parts, all_append, all_front, all_back, no_member, first_or_behind, in_joined, joined_from, all_of, empty_joined}
+use Rattle.mh_verify.proofs.ContainsLemmas.{nil_parts, no_member, first_or_behind, in_joined, joined_from, all_of, empty_joined}
 use Rattle.mh_verify.proofs.ConfigLemmas.{config_is, config_itself, member_of, among_of}
 use Rattle.mh_verify.proofs.OrderLemmas.{first_of, none_of}
 use Rattle.mh_verify.proofs.CallLemmas.{parted}
 use Rattle.mh_verify.proofs.MannedLemmas.{none_where_manned, manned_where_none, config_of_members}
+use Rattle.mh_model.proofs.ServiceLemmas.{all_joined, all_left, all_right}
+use Rattle.mh_model.proofs.FaultLemmas.{both_empty}
 
 -- no variable holds the id of a timer
 abbrev is_unheld : Option ObjRef → Bool
@@ -75,15 +77,15 @@ all_good s ps c key n (a ∷ acts) h =
 nothing_wrong_with : (s : Service) (ps : List Fixed) (c : Config) (parts : List Fixed) → list_all (is_good s ps) (flat_map actions parts) ≡ true → flat_map (wrong_with s ps c) parts ≡ []
 nothing_wrong_with s ps c [] h = refl
 nothing_wrong_with s ps c (p ∷ parts) h =
-    let front = all_front (is_good s ps) (actions p) (flat_map actions parts) h in
-    let back = all_back (is_good s ps) (actions p) (flat_map actions parts) h in
-    nil_append (wrong_with s ps c p) (flat_map (wrong_with s ps c) parts) (nothing_wrong s ps c p.key 1 (actions p) front) (nothing_wrong_with s ps c parts back)
+    let front = all_left (is_good s ps) (actions p) (flat_map actions parts) h in
+    let back = all_right (is_good s ps) (actions p) (flat_map actions parts) h in
+    both_empty (wrong_with s ps c p) (flat_map (wrong_with s ps c) parts) (nothing_wrong s ps c p.key 1 (actions p) front) (nothing_wrong_with s ps c parts back)
 
 all_good_with : (s : Service) (ps : List Fixed) (c : Config) (parts : List Fixed) → flat_map (wrong_with s ps c) parts ≡ [] → list_all (is_good s ps) (flat_map actions parts) ≡ true
 all_good_with s ps c [] h = refl
 all_good_with s ps c (p ∷ parts) h =
     let two = nil_parts (wrong_with s ps c p) (flat_map (wrong_with s ps c) parts) h in
-    all_append (is_good s ps) (actions p) (flat_map actions parts) (all_good s ps c p.key 1 (actions p) two.0) (all_good_with s ps c parts two.1)
+    all_joined (is_good s ps) (actions p) (flat_map actions parts) (all_good s ps c p.key 1 (actions p) two.0) (all_good_with s ps c parts two.1)
 
 none_where_single : (s : Service) (c : Config) → is_single s ≡ true → several_at s c ≡ []
 none_where_single s c h = by (same_config c (starting s)) (is_single s) h
@@ -96,8 +98,8 @@ none_where_single s c h = by (same_config c (starting s)) (is_single s) h
 none_where_good : (s : Service) (c : Config) → is_single s ≡ true → is_free s c ≡ true → is_manned s c ≡ true → refusals_in s c ≡ []
 none_where_good s c e h k =
     let members = refusals_of_members s c in
-    let front = nil_append (several_at s c) members (none_where_single s c e) (none_where_manned s c k) in
-    nil_append (several_at s c ++ members) (refusals_of_effects s c) front (nothing_wrong_with s (present s c) c (filter (is_active (present s c)) (present s c)) h)
+    let front = both_empty (several_at s c) members (none_where_single s c e) (none_where_manned s c k) in
+    both_empty (several_at s c ++ members) (refusals_of_effects s c) front (nothing_wrong_with s (present s c) c (filter (is_active (present s c)) (present s c)) h)
 
 -- of each of the three parts there is none then
 record HasNone (s : Service) (c : Config) : Type 0 where

@@ -12,10 +12,11 @@ use Rattle.mh_model.specs.Configuration.{is_service, configurations, starting, p
 use Rattle.mh_model.specs.Active.{active_actions, leads}
 use Rattle.mh_model.specs.Acceptable.{IsReached, start, led, leads_into}
 use Rattle.mh_verify.specs.Reach.{led_by, led_to, taken, without, all_taken, all_without, AreReached}
-use Rattle.mh_verify.proofs.ContainsLemmas.{both, all_append, all_weaker, no_member, here, behind, first_or_behind, in_joined, all_of, all_by_members}
+use Rattle.mh_verify.proofs.ContainsLemmas.{both, no_member, here, behind, first_or_behind, in_joined, all_of, all_by_members}
 use Rattle.mh_verify.proofs.ConfigLemmas.{config_is, member_of, among_of, among_append}
 use Rattle.mh_verify.proofs.TakenLemmas.{kept_one, kept_all, then_later, taken_one, taken_all, count_all}
 use Rattle.mh_verify.proofs.ListedLemmas.{is_listed}
+use Rattle.mh_model.proofs.ServiceLemmas.{all_joined, all_follow}
 
 abbrev pub AllReached : Service → List Config → Type 0
 AllReached s [] = Unit {0}
@@ -99,7 +100,7 @@ abbrev leads_within : Service → List Config → Config → Bool
 leads_within s cs x = list_all (is_among cs) (led_to s x)
 
 still_within : (s : Service) (reached more : List Config) (x : Config) → leads_within s reached x ≡ true → leads_within s (reached ++ more) x ≡ true
-still_within s reached more x h = all_weaker (is_among reached) (is_among (reached ++ more)) (still_known reached more) (led_to s x) h
+still_within s reached more x h = all_follow (is_among reached) (is_among (reached ++ more)) (still_known reached more) (led_to s x) h
 
 pub searched : (s : Service) (next : ℕ) (reached left cs : List Config) (d : Config) → IsSearch s next reached left → next < length reached → cs ≡ led_to s (slice_index_or reached next d) → IsSearch s (next + 1) (reached ++ all_taken left cs) (all_without left cs)
 searched s next reached left cs d h inside e =
@@ -109,7 +110,7 @@ searched s next reached left cs d h inside e =
     let are : AllReached s cs = subst (λ (xs : List Config). AllReached s xs) (sym e) (reached_led s c (active_actions (present s c)) is (λ a m. m)) in
     let meant : list_all (is_among (reached ++ more)) cs ≡ true = meant_is_known s next reached left cs h are in
     let last : leads_within s (reached ++ more) c ≡ true = subst (λ (xs : List Config). list_all (is_among (reached ++ more)) xs ≡ true) e meant in
-    let front : list_all (leads_within s (reached ++ more)) (take next reached) ≡ true = all_weaker (leads_within s reached) (leads_within s (reached ++ more)) (still_within s reached more) (take next reached) h.closed in
+    let front : list_all (leads_within s (reached ++ more)) (take next reached) ≡ true = all_follow (leads_within s reached) (leads_within s (reached ++ more)) (still_within s reached more) (take next reached) h.closed in
     let first_ones : take (next + 1) (reached ++ more) ≡ take next reached ++ c ∷ [] = take-append-le (next + 1) reached more (omega (arith, inside)) ∙ take_more reached next d inside in
     record {
       within = omega (arith, inside, length-append reached more);
@@ -117,7 +118,7 @@ searched s next reached left cs d h inside e =
       sound = reached_append s reached more h.sound (reached_all_taken s left cs are);
       covers = λ x listed. subst (λ (b : Bool). (b || is_among (all_without left cs) x) ≡ true) (sym (among_append reached more x)) (then_later (is_among reached x) (is_among left x) (is_among more x) (is_among (all_without left cs) x) (h.covers x listed) (kept_all left cs x));
       start = still_known reached more (starting s) h.start;
-      closed = subst (λ (xs : List Config). list_all (leads_within s (reached ++ more)) xs ≡ true) (sym first_ones) (all_append (leads_within s (reached ++ more)) (take next reached) (c ∷ []) front (both (leads_within s (reached ++ more) c) true last refl));
+      closed = subst (λ (xs : List Config). list_all (leads_within s (reached ++ more)) xs ≡ true) (sym first_ones) (all_joined (leads_within s (reached ++ more)) (take next reached) (c ∷ []) front (both (leads_within s (reached ++ more) c) true last refl));
     }
 
 -- what is left to do becomes less

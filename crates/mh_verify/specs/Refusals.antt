@@ -15,7 +15,8 @@ use Rattle.mh_model.specs.declared.object.Fixed.{Fixed}
 use Rattle.mh_group.specs.Table.{needs_of, is_list_group}
 use Rattle.mh_model.specs.Known.{Known, known_before}
 use Rattle.mh_model.specs.Faults.{written_at, target_faults, called_faults, arguments_faults, least_fault}
-use Rattle.mh_model.specs.Service.{Service, group_ref}
+use Rattle.mh_model.specs.Service.{Service}
+use Rattle.mh_model.specs.Reference.{group_ref}
 use Rattle.mh_model.specs.Configuration.{is_single, starting, present, same_config}
 use Rattle.mh_model.specs.Active.{actions, is_active, is_direct, member_faults}
 use Rattle.mh_model.specs.Tokens.{members}

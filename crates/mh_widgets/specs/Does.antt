@@ -6,8 +6,8 @@ use Rattle.mh_model.specs.declared.act.Act.{Act}
 use Rattle.mh_model.specs.declared.edit.Edit.{Edit}
 use Rattle.mh_model.specs.declared.object.Object.{Object}
 use Rattle.mh_model.specs.Edits.{edited_if}
-use Rattle.mh_model.specs.Fields.{Pressed as PressedSaid}
-use Rattle.mh_model.specs.Tokens.{Worked}
+use Rattle.mh_model.specs.EntryFields.{Pressed as PressedSaid}
+use Rattle.mh_model.specs.Widget.{Worked}
 use Rattle.mh_widgets.specs.declared.done.Done.{Done}
 use Rattle.mh_widgets.specs.declared.done.Pressed.{Pressed}
 

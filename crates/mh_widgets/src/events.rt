@@ -1,13 +1,13 @@
 //! The events that a widget emits.
-ghost use Rattle.std.specs.Prelude.{◌≡◌, IfOk};
+ghost use Rattle.std.specs.Prelude.{◌≡◌, ◌∷◌, [], IfOk};
 ghost use Rattle.mh_model.specs.Items.{plain_event as plain_event_lem};
-ghost use Rattle.mh_model.specs.Tokens.{event_with};
+ghost use Rattle.mh_model.specs.Widget.{event_with};
 ghost use Rattle.mh_model.specs.Programs.{counted as counted_lem};
 
 use crate::counts::counted;
 use mh_base::{EventType, ObjRef, Value};
 use mh_model::{Event, Item};
-use std::alloc::AllocError;
+use std::alloc::{AllocError, Global};
 
 /// An event without data.
 pub(crate) fn plain_event(source: &ObjRef, kind: EventType) -> Result<Item, AllocError>
@@ -47,4 +47,13 @@ pub(crate) fn truth_event(source: &ObjRef, kind: EventType, truth: bool) -> Resu
         kind,
         data: Some(Value::Bool(truth)),
     }))
+}
+
+/// One event without data.
+pub(crate) fn one_event(alloc: Global, at: &ObjRef, kind: EventType) -> Result<Vec<Item>, AllocError>
+    ensures { IfOk result (λ items. items.items ≡ plain_event_lem at.now kind ∷ []) }
+{
+    let mut items = Vec::new(alloc);
+    items.push(plain_event(at, kind)?)?;
+    Ok(items)
 }

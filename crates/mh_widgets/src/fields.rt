@@ -1,101 +1,23 @@
-//! Entry fields and push buttons: highlight, selection, and what a key does to the one that interacts
-//! (ISO/IEC 13522-5, Interactible, EntryField and PushButton).
+//! Entry fields: what a key does to the field, or the button, that interacts (ISO/IEC 13522-5, EntryField).
 ghost use Rattle.std.specs.Prelude.{◌≡◌, ◌++◌, ◌∷◌, ◌+◌, ◌<◌, ◌≤◌, IfOk, length, take, drop, slice_set, pos, int_lt, nat_lt, ◌&&◌, ◌-◌, [], true};
 ghost use Rattle.std.specs.Ordering.{int_eq};
-ghost use Rattle.mh_group.specs.Table.{is_visible};
-ghost use Rattle.mh_model.specs.Fields as spec;
-ghost use Rattle.mh_model.specs.Fields.{button_worked as button_worked_lem, pressed_of};
+ghost use Rattle.mh_model.specs.EntryFields as spec;
+ghost use Rattle.mh_model.specs.EntryFields.{pressed_of};
 ghost use Rattle.mh_model.specs.Bodies.{text_of};
-ghost use Rattle.mh_model.specs.Items.{plain_event as plain_event_lem};
-ghost use Rattle.mh_widgets.specs.Does.{Does, Presses, placed_by, placed_with};
+ghost use Rattle.mh_widgets.specs.Does.{Presses};
 
-use crate::done::{Done, Pressed};
-use crate::events::plain_event;
+use crate::buttons::{button_pressed, completed};
+use crate::done::Pressed;
+use crate::events::one_event;
 use crate::slices::{behind_of, front_of};
-use mh_base::{EventType, ObjRef, Octets, Value};
-use mh_group::{ActionName, Attribute, Class};
+use mh_base::{EventType, ObjRef, Octets};
+use mh_group::{Attribute, Class};
 use mh_model::held::as_int;
-use mh_model::{Edit, Fixed, Item, Key, Object};
+use mh_model::{Edit, Fixed, Key, Object};
 use std::alloc::{AllocError, Global};
 
 /// How many octets can be typed into a field of which the files do not say it.
 const MOST_TYPED: i32 = 255;
-
-/// What SetHighlightStatus, Select or Deselect makes of the field or button at this reference. Only a
-/// change is told.
-pub fn button_worked(
-    alloc: Global,
-    name: ActionName,
-    values: &[Value],
-    at: &ObjRef,
-    object: &Object,
-) -> Result<Done, AllocError>
-    ensures done { let said = button_worked_lem name values.now at.now object.now.fixed object.now.body in
-        IfOk result (λ done. Does object.now said done) }
-    ensures edited { IfOk result (λ done. done.placed.items ≡ placed_with done.edit done.placed.items) }
-    ensures unseen { let seen = is_visible object.now.fixed.class in
-        IfOk result (λ done. done.placed.items ≡ placed_by done.placed.items seen) }
-{
-    match (name, values) {
-        (ActionName::SetHighlightStatus, [Value::Bool(on)]) => highlit(alloc, at, object, *on),
-        (ActionName::Select, _) => button_set(alloc, at, object, true),
-        (ActionName::Deselect, _) => button_set(alloc, at, object, false),
-        _ => Ok(Done::nothing(alloc)),
-    }
-}
-
-fn highlit(alloc: Global, at: &ObjRef, object: &Object, on: bool) -> Result<Done, AllocError>
-    ensures done { let said = spec.highlit on at.now object.now.body in
-        IfOk result (λ done. Does object.now said done) }
-    ensures edited { IfOk result (λ done. done.placed.items ≡ placed_with done.edit done.placed.items) }
-    ensures unseen { let seen = is_visible object.now.fixed.class in
-        IfOk result (λ done. done.placed.items ≡ placed_by done.placed.items seen) }
-{
-    if object.body.highlighted == on {
-        return Ok(Done::nothing(alloc));
-    }
-    let kind = if on {
-        EventType::HighlightOn
-    } else {
-        EventType::HighlightOff
-    };
-    Ok(Done {
-        edit: Some(Edit::Highlight(on)),
-        placed: Vec::new(alloc),
-        items: one_event(alloc, at, kind)?,
-    })
-}
-
-fn button_set(alloc: Global, at: &ObjRef, object: &Object, on: bool) -> Result<Done, AllocError>
-    ensures done { let said = spec.button_set on at.now object.now.body in
-        IfOk result (λ done. Does object.now said done) }
-    ensures edited { IfOk result (λ done. done.placed.items ≡ placed_with done.edit done.placed.items) }
-    ensures unseen { let seen = is_visible object.now.fixed.class in
-        IfOk result (λ done. done.placed.items ≡ placed_by done.placed.items seen) }
-{
-    if object.body.selected == on {
-        return Ok(Done::nothing(alloc));
-    }
-    let kind = if on {
-        EventType::IsSelected
-    } else {
-        EventType::IsDeselected
-    };
-    Ok(Done {
-        edit: Some(Edit::Select(on)),
-        placed: Vec::new(alloc),
-        items: one_event(alloc, at, kind)?,
-    })
-}
-
-/// One event without data.
-fn one_event(alloc: Global, at: &ObjRef, kind: EventType) -> Result<Vec<Item>, AllocError>
-    ensures { IfOk result (λ items. items.items ≡ plain_event_lem at.now kind ∷ []) }
-{
-    let mut items = Vec::new(alloc);
-    items.push(plain_event(at, kind)?)?;
-    Ok(items)
-}
 
 /// What a key makes of the field or button at this reference, which interacts and had this text when that
 /// began.
@@ -143,43 +65,6 @@ fn field_pressed(
         Key::Cancel => completed(alloc, at, Some(restored(before)?)),
         _ => Ok(Pressed::only(alloc, None)),
     }
-}
-
-fn button_pressed(
-    alloc: Global,
-    key: Key,
-    at: &ObjRef,
-    object: &Object,
-) -> Result<Pressed, AllocError>
-    ensures { let said = spec.button_pressed key at.now object.now.body in
-        IfOk result (λ pressed. Presses object.now said pressed) }
-{
-    match key {
-        Key::Select => {
-            let done = button_set(alloc, at, object, true)?;
-            Ok(Pressed {
-                edit: done.edit,
-                items: done.items,
-                ends: false,
-            })
-        }
-        Key::Cancel => completed(alloc, at, None),
-        _ => Ok(Pressed::only(alloc, None)),
-    }
-}
-
-/// Interaction ends with this change, which is told.
-fn completed(alloc: Global, at: &ObjRef, edit: Option<Edit>) -> Result<Pressed, AllocError>
-    ensures edit { IfOk result (λ pressed. pressed.edit ≡ edit) }
-    ensures items { IfOk result (λ pressed.
-        pressed.items.items ≡ plain_event_lem at.now EventType.InteractionCompleted ∷ []) }
-    ensures ends { IfOk result (λ pressed. pressed.ends ≡ true) }
-{
-    Ok(Pressed {
-        edit,
-        items: one_event(alloc, at, EventType::InteractionCompleted)?,
-        ends: true,
-    })
 }
 
 /// The text is again the one that there was when interaction began.

@@ -6,6 +6,7 @@
 //! in their place and keeps who interacts.
 #![tactic(auto)]
 
+mod buttons;
 mod cells;
 pub mod counts;
 pub mod done;

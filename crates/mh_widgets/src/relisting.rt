@@ -1,9 +1,11 @@
 //! What AddItem, DelItem, ScrollItems and SetFirstItem make of the items of a list group.
 ghost use Rattle.std.specs.Prelude.{◌≡◌, ◌∷◌, ◌<◌, ◌≤◌, ◌++◌, length, take, drop, nat_le, nat_lt, ◌&&◌, ◌+◌, not, false, IfOk};
 ghost use Rattle.std.specs.List.{position};
+ghost use Rattle.mh_model.specs.Limits.{most_items};
 ghost use Rattle.mh_model.specs.Lists as spec;
 ghost use Rattle.mh_model.specs.Lists.{relisted as relisted_lem};
-ghost use Rattle.mh_model.specs.Service.{has_item, same_ref as same_ref_lem};
+ghost use Rattle.mh_model.specs.ListItems.{has_item};
+ghost use Rattle.mh_model.specs.Reference.{same_ref as same_ref_lem};
 
 use crate::cells::{before_first, wraps};
 use crate::entries::push_copies;
@@ -64,14 +66,14 @@ fn inserted(
 
 fn can_insert(number: usize, object: &ObjRef, entries: &[Entry]) -> bool
     ensures { result ≡ (nat_le 1 number && nat_le number (length entries.now + 1)
-        && nat_lt (length entries.now) spec.most_items && not (has_item object.now entries.now)) }
+        && nat_lt (length entries.now) most_items && not (has_item object.now entries.now)) }
 {
     1 <= number && number <= entries.len() + 1 && has_room(entries) && !is_listed(entries, object)
 }
 
 /// Whether the list can have one more item.
 fn has_room(entries: &[Entry]) -> bool
-    ensures { result ≡ nat_lt (length entries.now) spec.most_items }
+    ensures { result ≡ nat_lt (length entries.now) most_items }
 {
     entries.len() < MOST_ITEMS
 }

@@ -5,8 +5,8 @@ ghost use Rattle.mh_model.specs.Lists.{list_worked as list_worked_lem};
 ghost use Rattle.mh_model.specs.Worked.{if_list as if_list_lem, worked as worked_lem};
 ghost use Rattle.mh_widgets.specs.Does.{Does, placed_by, placed_with};
 
+use crate::buttons::button_worked;
 use crate::done::Done;
-use crate::fields::button_worked;
 use crate::lists::list_worked;
 use crate::selection::selection_worked;
 use crate::tokens::token_worked;

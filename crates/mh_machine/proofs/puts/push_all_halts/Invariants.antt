@@ -1,7 +1,7 @@
 use Rattle.std.proofs.Common.{◌≡◌, ◌++◌}
 use Rattle.std.specs.Prelude.{filter, map}
 use Rattle.mh_group.specs.Table.{is_runnable}
-use Rattle.mh_model.specs.Items.{halts}
+use Rattle.mh_model.specs.Groups.{halts}
 use Rattle.mh_machine.specs.Pieces.{written}
 use Rattle.mh_machine.proofs.puts.push_all_halts.Given as goal
 

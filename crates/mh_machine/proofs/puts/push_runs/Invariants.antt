@@ -1,6 +1,6 @@
 use Rattle.std.proofs.Common.{◌≡◌, ◌++◌, drop}
 use Rattle.std.specs.Prelude.{filter}
-use Rattle.mh_model.specs.Items.{runs, is_initially_active}
+use Rattle.mh_model.specs.Groups.{runs, is_initially_active}
 use Rattle.mh_machine.specs.Pieces.{written}
 use Rattle.mh_machine.proofs.puts.push_runs.Given as goal
 

@@ -1,5 +1,5 @@
 use Rattle.std.proofs.Common.{refl}
-use Rattle.mh_model.specs.Computing.{computed, moved_through, missed_through, no_reference}
+use Rattle.mh_model.specs.ExampleComputing.{computed, moved_through, missed_through, no_reference}
 use Rattle.mh_model.proofs.example.computes.Goals as goal
 
 pub returns : goal.returns

@@ -3,7 +3,7 @@ use Rattle.mh_model.specs.Lines.{lines_in}
 use Rattle.mh_model.specs.Scalars.{piece, scalars_in}
 use Rattle.mh_model.specs.Drawn.{gone}
 use Rattle.mh_model.specs.Picture.{plane}
-use Rattle.mh_model.specs.Handing.{waited, handed, handed_before, sized, ready, called, failed, asked, doubled}
+use Rattle.mh_model.specs.ExampleHanding.{waited, handed, handed_before, sized, ready, called, failed, asked, doubled}
 use Rattle.mh_model.proofs.example.hands.Goals as goal
 
 pub returns : goal.returns

@@ -1,5 +1,5 @@
 use Rattle.std.proofs.Common.{refl}
-use Rattle.mh_model.specs.Passing.{entered, fired, streamed, told, in_first, in_second, near_the_end, ended}
+use Rattle.mh_model.specs.ExamplePassing.{entered, fired, streamed, told, in_first, in_second, near_the_end, ended}
 use Rattle.mh_model.proofs.example.passes.Goals as goal
 
 pub returns : goal.returns

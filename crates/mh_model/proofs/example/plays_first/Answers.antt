@@ -1,5 +1,5 @@
 use Rattle.std.proofs.Common.{refl}
-use Rattle.mh_model.specs.Example.{settled, moved_on}
+use Rattle.mh_model.specs.ExampleFirst.{settled, moved_on}
 use Rattle.mh_model.proofs.example.plays_first.Goals as goal
 
 pub returns : goal.returns

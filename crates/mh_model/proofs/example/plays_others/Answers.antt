@@ -1,5 +1,5 @@
 use Rattle.std.proofs.Common.{refl}
-use Rattle.mh_model.specs.Example.{settled, rested, missed}
+use Rattle.mh_model.specs.ExampleFirst.{settled, rested, missed}
 use Rattle.mh_model.proofs.example.plays_others.Goals as goal
 
 pub returns : goal.returns

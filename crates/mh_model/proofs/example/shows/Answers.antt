@@ -3,7 +3,7 @@ use Rattle.mh_model.specs.Lines.{lines_in}
 use Rattle.mh_model.specs.Scalars.{piece, scalars_in}
 use Rattle.mh_model.specs.Drawn.{gone}
 use Rattle.mh_model.specs.Picture.{plane}
-use Rattle.mh_model.specs.Showing.{news_lines, drew, locked_still, back_shown}
+use Rattle.mh_model.specs.ExampleShowing.{news_lines, drew, locked_still, back_shown}
 use Rattle.mh_model.proofs.example.shows.Goals as goal
 
 pub returns : goal.returns

@@ -1,5 +1,5 @@
 use Rattle.std.proofs.Common.{refl}
-use Rattle.mh_model.specs.Widgets.{scrolled, scrolled_again, deleted, added, chosen, chosen_again, turned_once, turned_twice, turned_off, typed_one, typed_two, typed_over, asked_for, typed_in, group_runs_it, group_moves_it, group_stops_it}
+use Rattle.mh_model.specs.ExampleWidgets.{scrolled, scrolled_again, deleted, added, chosen, chosen_again, turned_once, turned_twice, turned_off, typed_one, typed_two, typed_over, asked_for, typed_in, group_runs_it, group_moves_it, group_stops_it}
 use Rattle.mh_model.specs.Lines.{lines_in}
 use Rattle.mh_model.specs.Scalars.{piece, scalars_in}
 use Rattle.mh_model.specs.Picture.{plane}

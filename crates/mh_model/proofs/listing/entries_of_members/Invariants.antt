@@ -1,5 +1,5 @@
 use Rattle.std.proofs.Common.{◌≡◌, drop, []}
-use Rattle.mh_model.specs.Service.{entries_once}
+use Rattle.mh_model.specs.ListItems.{entries_once}
 use Rattle.mh_model.proofs.listing.entries_of_members.Given as goal
 
 abbrev pub invariant-loop-member : goal.invariant-loop-member

@@ -7,4 +7,4 @@ pub step_free-requires-clause-free : goal.step_free-requires-clause-free
 step_free-requires-clause-free c = safe_front c.args.self.now.state c.requires
 
 pub returns-clause-safe : goal.returns-clause-safe
-returns-clause-safe c = subst IsSafe (sym c.in_ok-answer.ensures.step) (safe_step c.args.self.now.state c.requires)
+returns-clause-safe c = subst IsSafe (sym c.in_ok-step_free.ensures.step) (safe_step c.args.self.now.state c.requires)

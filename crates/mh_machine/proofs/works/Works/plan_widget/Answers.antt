@@ -3,7 +3,7 @@ use Rattle.std.proofs.Common.{rules, ap, ◌∙◌}
 use Rattle.mh_base.specs.declared.value.Value.{Value}
 use Rattle.mh_model.specs.Arguments.{values}
 use Rattle.mh_model.specs.State.{all}
-use Rattle.mh_model.specs.Tokens.{Worked}
+use Rattle.mh_model.specs.Widget.{Worked}
 use Rattle.mh_model.specs.Worked.{worked}
 use Rattle.mh_machine.specs.declared.plan.Plan.{Plan}
 use Rattle.mh_machine.specs.Plans.{committed}

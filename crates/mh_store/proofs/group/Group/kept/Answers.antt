@@ -11,4 +11,4 @@ returns-then-ne c =
 pub returns : goal.returns
 returns c =
     let own = is_own (bytes_eq c.args.at.now.group c.self.inside.name) c.if-ne.ensures in
-    rw (← c.self.view_is) (c.get.ensures.value ∙ lookup-object_at c.args.at.now c.self.inside.name c.self.inside.table.entries own c.self.invariant)
+    rw (← c.self.view_is) (c.find.ensures ∙ lookup-object_at c.args.at.now c.self.inside.name c.self.inside.table.entries own c.self.invariant)

@@ -1,7 +1,8 @@
 use Rattle.std.proofs.Common.{◌∙◌, [], unwrap_or, ap}
 use Rattle.mh_model.specs.Service.{parts}
 use Rattle.mh_store.specs.Trying.{of_scene}
-use Rattle.mh_store.proofs.BringingLemmas.{own_made, parts-text, both_brought}
+use Rattle.mh_model.proofs.PartLemmas.{with_text-parts}
+use Rattle.mh_store.proofs.BringingLemmas.{own_made, both_brought}
 use Rattle.mh_store.proofs.objects.Objects.bring_text.Goals as goal
 
 pub put-requires : goal.put-requires
@@ -16,7 +17,7 @@ returns-clause-done g c =
     (both_brought (g.A.Awaits.is c.args.awaiting.now) c.args.text.now (record { application = c.self.inside.application; scene = unwrap_or c.self.inside.scene [] }) c.put.new.self (of_scene c.put_in.new.scene) c.in_ok-application.application.items c.in_ok-scene.scene.items c.in_ok-application.ensures c.in_ok-scene.ensures c.put.ensures c.put_in.ensures)
 
 pub returns-clause-own : goal.returns-clause-own
-returns-clause-own g c = ap (λ os. parts os.application) (returns-clause-done g c) ∙ parts-text (g.A.Awaits.is c.args.awaiting.now) c.args.text.now c.args.self.now.application
+returns-clause-own g c = ap (λ os. parts os.application) (returns-clause-done g c) ∙ with_text-parts (g.A.Awaits.is c.args.awaiting.now) c.args.text.now c.args.self.now.application
 
 pub returns-clause-others : goal.returns-clause-others
-returns-clause-others g c = ap (λ os. parts os.scene) (returns-clause-done g c) ∙ parts-text (g.A.Awaits.is c.args.awaiting.now) c.args.text.now c.args.self.now.scene
+returns-clause-others g c = ap (λ os. parts os.scene) (returns-clause-done g c) ∙ with_text-parts (g.A.Awaits.is c.args.awaiting.now) c.args.text.now c.args.self.now.scene
