@@ -6,7 +6,6 @@ pub mod Property
 pub mod Listed
 pub mod ListItems
 pub mod Service
-
 -- The state of the machine
 pub mod Planes
 pub mod State
@@ -15,13 +14,11 @@ pub mod Files
 pub mod Programs
 pub mod Variables
 pub mod Key
-
 -- What an action is given, and what is wrong with one
 pub mod Arguments
 pub mod Known
 pub mod Faults
 pub mod Stuck
-
 -- What is done to objects, and what follows
 pub mod Items
 pub mod Groups
@@ -35,7 +32,6 @@ pub mod Lifecycle
 pub mod Stack
 pub mod Saying
 pub mod Sort
-
 -- The picture, and how it is printed
 pub mod Looks
 pub mod Boxes
@@ -48,13 +44,11 @@ pub mod Printing
 pub mod Frame
 pub mod Stretch
 pub mod Told
-
 -- Rules, steps and runs
 pub mod Rules
 pub mod Step
 pub mod Receiver
 pub mod Describing
-
 -- What is accepted, and the headline
 pub mod Configuration
 pub mod Active
@@ -62,7 +56,6 @@ pub mod Acceptable
 pub mod Safe
 pub mod Headline
 pub mod Edits
-
 -- Examples
 pub mod ExampleFirst
 pub mod ExampleComputing

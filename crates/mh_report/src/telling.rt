@@ -45,7 +45,11 @@ pub fn progress(
 {
     let mut text = Text::new(alloc);
     put_faults(&mut text, engine.faults(), faults)?;
-    put_did(&mut text, engine.taken().saturating_sub(steps), engine.rest())?;
+    put_did(
+        &mut text,
+        engine.taken().saturating_sub(steps),
+        engine.rest(),
+    )?;
     Ok(text)
 }
 

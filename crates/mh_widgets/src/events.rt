@@ -50,7 +50,11 @@ pub(crate) fn truth_event(source: &ObjRef, kind: EventType, truth: bool) -> Resu
 }
 
 /// One event without data.
-pub(crate) fn one_event(alloc: Global, at: &ObjRef, kind: EventType) -> Result<Vec<Item>, AllocError>
+pub(crate) fn one_event(
+    alloc: Global,
+    at: &ObjRef,
+    kind: EventType,
+) -> Result<Vec<Item>, AllocError>
     ensures { IfOk result (λ items. items.items ≡ plain_event_lem at.now kind ∷ []) }
 {
     let mut items = Vec::new(alloc);
