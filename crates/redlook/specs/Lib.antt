@@ -1,0 +1,13 @@
+pub mod Report
+pub mod Reading
+pub mod Frames
+pub mod Shown
+pub mod Page
+pub mod Image
+pub mod CommandLine
+pub mod Telling
+pub mod Cells
+pub mod Front
+pub mod Lines
+pub mod Changes
+pub mod Parts

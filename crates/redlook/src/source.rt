@@ -1,0 +1,79 @@
+//! Reports, read from files or from standard input.
+use crate::report::{ReadError, Report, read_report};
+use std::alloc::{AllocError, Global};
+use std::io::Read;
+use std::rt::Runtime;
+use std::{fs, io};
+use thiserror::Error;
+
+/// Why nothing could be shown.
+#[derive(Debug, Drop, Error)]
+pub enum Failure {
+    /// The file that this names could not be read.
+    #[error("cannot read {0}")]
+    Unreadable(String),
+    /// What the file that this names has in a line, counted from 1, is no report's.
+    #[error("line {1} of {0} is not of a report")]
+    NoReport(String, usize),
+    /// There is no frame with this number.
+    #[error("there is no frame {0}")]
+    NoFrame(u64),
+    /// Memory or writing failed.
+    #[error("memory or writing failed")]
+    Failed,
+}
+
+impl From<AllocError> for Failure {
+    fn from(_refused: AllocError) -> Failure {
+        Failure::Failed
+    }
+}
+
+impl From<io::Error> for Failure {
+    fn from(_failed: io::Error) -> Failure {
+        Failure::Failed
+    }
+}
+
+/// The report of the file with this name, or of standard input for `-`.
+pub fn report_of<R: Runtime + AllocGlobal>(rt: &R, name: &str) -> Result<Report, Failure> {
+    let alloc = rt.alloc();
+    let bytes = match bytes_of(rt, name) {
+        Ok(bytes) => bytes,
+        Err(error) => return Err(unreadable(alloc, &error, called(name))),
+    };
+    match read_report(alloc, bytes.as_slice()) {
+        Ok(report) => Ok(report),
+        Err(ReadError::Line(line)) => {
+            let name = String::from_str(alloc, called(name))?;
+            Err(Failure::NoReport(name, line))
+        }
+        Err(ReadError::NoMemory) => Err(Failure::Failed),
+    }
+}
+
+/// The bytes of the file with this name, or of standard input.
+fn bytes_of<R: Runtime + AllocGlobal>(rt: &R, name: &str) -> io::Result<Vec<u8>> {
+    if name == "-" {
+        let mut bytes = Vec::new(rt.alloc());
+        rt.reader().read_to_end(&mut bytes)?;
+        Ok(bytes)
+    } else {
+        fs::read(rt, name)
+    }
+}
+
+/// What a message calls the file with this name.
+fn called(name: &str) -> &str {
+    if name == "-" { "standard input" } else { name }
+}
+
+fn unreadable(alloc: Global, error: &io::Error, name: &str) -> Failure {
+    if error.kind() == io::ErrorKind::OutOfMemory {
+        return Failure::Failed;
+    }
+    match String::from_str(alloc, name) {
+        Ok(name) => Failure::Unreadable(name),
+        Err(_) => Failure::Failed,
+    }
+}
