@@ -1,5 +1,5 @@
 -- What was found for an argument, and the number that a text writes.
-use Rattle.std.specs.Prelude.{◌≡◌, ℕ, ◌≤◌, Bool, true, false, if◌then◌else◌, Option, Result, Ok, Err, option_map, refl}
+use Rattle.std.specs.Prelude.{◌≡◌, ℕ, ◌≤◌, Bool, true, false, if◌then◌else◌, List, Option, Some, None, unwrap_or, Result, Ok, Err, option_map, refl}
 use Rattle.std.specs.Borrow.{Bor}
 use Rattle.std.specs.Str.Parse.{ParsesUnsigned, digits_value, without_leading_plus}
 use Rattle.std.proofs.Common.{ap, arith, sym, subst, ◌∙◌}
@@ -41,3 +41,8 @@ number_unread {E} text (Ok d) why read is = absurd cc
 number_unread {E} text (Err e) why read is =
     let n : ℕ = digits_value 10 (without_leading_plus text) in
     sym (ap (λ (b : Bool). if b then n else 0) (no_number text (λ within. read (within.0, within.1))))
+
+-- what is lent, or an empty text
+pub or_nothing : (o : Option (Bor (List ℕ))) (d r : Bor (List ℕ)) → r ≡ unwrap_or o d → r.now ≡ unwrap_or (option_map (λ (s : Bor (List ℕ)). s.now) o) d.now
+or_nothing None d r is = ap (λ (s : Bor (List ℕ)). s.now) is
+or_nothing (Some s) d r is = ap (λ (s : Bor (List ℕ)). s.now) is

@@ -88,7 +88,7 @@ fn showing<'a>(given: &ArgMatches<'a>) -> Task<'a>
     Task::Show {
         report: text_of(given, "REPORT"),
         frame: frame_of(given),
-        plain: is_set(given, "plain"),
+        plain: is_plain(given),
     }
 }
 
@@ -114,17 +114,14 @@ fn comparing<'a>(given: &ArgMatches<'a>) -> Task<'a>
 fn text_of<'a>(given: &ArgMatches<'a>, name: &str) -> &'a str
     ensures { result.now ≡ text_of_lem name.now (rows_of (found_of given.now)) }
 {
-    match given.get_str(name) {
-        Some(text) => text,
-        None => "",
-    }
+    given.get_str(name).unwrap_or("")
 }
 
-/// Whether a flag was given.
-fn is_set<'a>(given: &ArgMatches<'a>, name: &str) -> bool
-    ensures { result ≡ is_set_lem name.now (rows_of (found_of given.now)) }
+/// Whether colours are left out.
+fn is_plain<'a>(given: &ArgMatches<'a>) -> bool
+    ensures { result ≡ is_set_lem (codes "plain") (rows_of (found_of given.now)) }
 {
-    match given.get_str(name) {
+    match given.get_str("plain") {
         Some(text) => text == "true",
         None => false,
     }
