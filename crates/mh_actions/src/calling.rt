@@ -1,6 +1,6 @@
 //! Calls of programs (ISO/IEC 13522-5, Call and Fork): which program, what goes in, where the
 //! answers go, and what is put. The call itself is left to who has the programs.
-ghost use Rattle.std.specs.Prelude.{◌≡◌, ◌++◌, ◌∷◌, [], IfOk, OnOk, unwrap_or};
+ghost use Rattle.std.specs.Prelude.{◌≡◌, ◌++◌, ◌∷◌, [], map, IfOk, OnOk, unwrap_or};
 ghost use Rattle.std.specs.List.{list_any};
 ghost use Rattle.std.specs.Option.{option_copied};
 ghost use Rattle.std.specs.Str.{bytes_eq};
@@ -22,7 +22,7 @@ use mh_base::{EventType, ObjRef, Value};
 use mh_group::ActionName;
 use mh_model::act::passed;
 use mh_model::{Argument, Builtin, Event, Fixed, Item, Param, Signature};
-use mh_resident::{builtin_named, program_name, takes};
+use mh_resident::{Resident, builtin_named, program_name, program_named, takes};
 use mh_store::Objects;
 use std::alloc::{AllocError, Global};
 
@@ -41,21 +41,27 @@ fn builtin_in(part: Option<&Fixed>) -> Option<Builtin>
 
 /// The name of the program to which the reference leads, if it is none of the built-in ones and one
 /// of these has it.
-pub fn added_name<'a>(programs: &[Signature], objects: &'a Objects, at: &ObjRef) -> Option<&'a [u8]>
+pub fn added_name<'a, P: Resident>(
+    programs: &[P],
+    objects: &'a Objects,
+    at: &ObjRef,
+) -> Option<&'a [u8]>
     ensures { let part = part_at at.now (parts (all objects.now)) in
-        option_copied result ≡ added_name_lem programs.now part }
+        option_copied result ≡ added_name_lem (map P.signature_of programs.now) part }
 {
     added_name_in(programs, present_part(objects, at))
 }
 
-fn added_name_in<'a>(programs: &[Signature], part: Option<&'a Fixed>) -> Option<&'a [u8]>
-    ensures { option_copied result ≡ added_name_lem programs.now (option_copied part.entry) }
+fn added_name_in<'a, P: Resident>(programs: &[P], part: Option<&'a Fixed>) -> Option<&'a [u8]>
+    ensures { let signatures = map P.signature_of programs.now in
+        option_copied result ≡ added_name_lem signatures (option_copied part.entry) }
 {
     if_added(programs, program_name(part?))
 }
 
-fn if_added<'a>(programs: &[Signature], name: Option<&'a [u8]>) -> Option<&'a [u8]>
-    ensures { option_copied result ≡ if_added_lem programs.now (option_copied name.entry) }
+fn if_added<'a, P: Resident>(programs: &[P], name: Option<&'a [u8]>) -> Option<&'a [u8]>
+    ensures { let signatures = map P.signature_of programs.now in
+        option_copied result ≡ if_added_lem signatures (option_copied name.entry) }
 {
     match name {
         Some(name) if is_added(programs, name) => Some(name),
@@ -63,8 +69,8 @@ fn if_added<'a>(programs: &[Signature], name: Option<&'a [u8]>) -> Option<&'a [u
     }
 }
 
-fn is_added(programs: &[Signature], name: &[u8]) -> bool
-    ensures { result ≡ is_added_lem programs.now name.now }
+fn is_added<P: Resident>(programs: &[P], name: &[u8]) -> bool
+    ensures { result ≡ is_added_lem (map P.signature_of programs.now) name.now }
 {
     match builtin_named(name) {
         Some(_) => false,
@@ -72,12 +78,13 @@ fn is_added(programs: &[Signature], name: &[u8]) -> bool
     }
 }
 
-fn has_name(programs: &[Signature], name: &[u8]) -> bool
-    ensures { result ≡ list_any (λ s. bytes_eq name.now s.name) programs.now }
+fn has_name<P: Resident>(programs: &[P], name: &[u8]) -> bool
+    ensures { result ≡ list_any (λ s. bytes_eq name.now s.name) (map P.signature_of programs.now) }
 {
-    programs
-        .iter()
-        .any(|program| name == program.name.as_slice())
+    match program_named(programs, name) {
+        Some(_) => true,
+        None => false,
+    }
 }
 
 /// The parameters of the program to which the reference leads, where the receiver has these

@@ -36,14 +36,15 @@ pub(crate) fn is_awaited(waits: &IndexMap<ObjRef, GroupName>, name: &GroupName) 
     false
 }
 
-/// Lets the object wait for nothing any more.
+/// Lets the object wait for nothing any more. Where nothing waits, nothing is looked for.
 pub(crate) fn forget(waits: &mut IndexMap<ObjRef, GroupName>, object: &ObjRef)
     ensures waits { waits_of waits.new.entries ≡ forgotten object.now (waits_of waits.old.entries) }
     ensures gone { lookup (same_ref object.now) waits.new.entries ≡ None }
     ensures room { spare waits.old ≤ spare waits.new }
 {
-    let _ = waits.len();
-    waits.shift_remove(object);
+    if waits.len() != 0 {
+        waits.shift_remove(object);
+    }
 }
 
 /// Lets the object wait for this file alone, where there is room.

@@ -1,6 +1,6 @@
 -- Painting from the top of the display stack down, cell by cell: what is settled of a cell, and what is still
 -- sought.
-use Rattle.std.specs.Prelude.{◌≡◌, ◌≢◌, ℕ, ◌/◌, ◌<◌, ◌≤◌, ◌==◌, nat_lt, ◌&&◌, if◌then◌else◌, List, [], map, Option, Some, None, length, slice_index, slice_set}
+use Rattle.std.specs.Prelude.{◌≡◌, ◌≢◌, ℕ, Bool, true, ◌/◌, ◌<◌, ◌≤◌, ◌==◌, nat_lt, ◌&&◌, if◌then◌else◌, List, [], map, Option, Some, None, length, slice_index, slice_set}
 use Rattle.mh_base.specs.declared.obj_ref.ObjRef.{ObjRef}
 use Rattle.mh_model.specs.declared.cell.Cell.{Cell}
 use Rattle.mh_model.specs.declared.object.Object.{Object}
@@ -9,7 +9,7 @@ use Rattle.mh_model.specs.Picture.{cell_of, back_under, cell_under, paint_at}
 use Rattle.mh_model.specs.Planes.{IsWhole, with_cell}
 use Rattle.mh_display.specs.declared.marked.Marked.{Marked}
 use Rattle.mh_display.specs.declared.window.Window.{Window}
-use Rattle.mh_display.specs.Surface.{Surface}
+use Rattle.mh_display.specs.Surface.{IsStale, Surface}
 use Rattle.mh_display.specs.Windows.{has}
 
 -- a cell with its number: 0 where it is right, 1 where the colour behind it is still sought, and any other one
@@ -88,6 +88,11 @@ IsPainted g old new = IsAll (λ c. put (g c)) (marked_at old) (marked_at new)
 pub record IsComplete (s : Surface) : Type 0 where
   pub planes : IsWhole s.planes
   pub marks : length s.marks ≡ 2160
+
+-- it is complete, and where it is said so every cell is stale
+pub record IsMarked (spoilt : Bool) (s : Surface) : Type 0 where
+  pub whole : IsComplete s
+  pub stale : spoilt ≡ true → IsStale s.marks
 
 -- what was sought among these references, the topmost first, is now sought among those that are left
 pub record IsDown (os : List Object) (rs left : List ObjRef) (old new : Surface) : Type 0 where

@@ -1,5 +1,5 @@
 -- A picture that is kept, and which of its cells are still to be painted.
-use Rattle.std.specs.Prelude.{◌≡◌, ℕ, ◌<◌, ◌==◌, Bool, false, not, List, Option, slice_index}
+use Rattle.std.specs.Prelude.{◌≡◌, ℕ, ◌<◌, ◌==◌, Bool, true, false, not, List, Option, slice_index}
 use Rattle.mh_base.specs.declared.obj_ref.ObjRef.{ObjRef}
 use Rattle.mh_model.specs.declared.object.Object.{Object}
 use Rattle.mh_model.specs.Looks.{nothing}
@@ -17,6 +17,10 @@ is_stale marks c = not (slice_index marks c == 0)
 -- no cell is left to be painted
 abbrev pub IsClean : List ℕ → Type 0
 IsClean marks = (c : ℕ) → c < 2160 → is_stale marks c ≡ false
+
+-- every cell is left to be painted
+abbrev pub IsStale : List ℕ → Type 0
+IsStale marks = (c : ℕ) → c < 2160 → is_stale marks c ≡ true
 
 -- the cells that are not stale are those of these objects on this display stack
 abbrev pub IsRight : List Object → List ObjRef → Surface → Type 0

@@ -3,7 +3,7 @@ ghost use Rattle.std.specs.Prelude.{◌≡◌, ◌==◌, ◌<◌, ◌≤◌, ◌
 ghost use Rattle.std.specs.Option.{option_copied};
 ghost use Rattle.mh_model.specs.Planes.{blank};
 ghost use Rattle.mh_display.specs.Painting.{IsComplete, IsSet, marked_at, put as put_lem, with_marked};
-ghost use Rattle.mh_display.specs.Surface.{IsClean, Spoils, is_stale};
+ghost use Rattle.mh_display.specs.Surface.{IsClean, IsStale, Spoils};
 
 use crate::marked::{Marked, put};
 use crate::spoiling::spoil_found;
@@ -19,17 +19,19 @@ pub struct Screen {
     picture: Picture,
     /// A number for each cell: 0 where it is right.
     marks: Vec<u8>,
+    /// Whether nothing has been painted since all cells were to be painted anew.
+    spoilt: bool,
 }
 
 impl Model for Screen {
-    ghost use Rattle.mh_display.specs.Painting.{IsComplete};
+    ghost use Rattle.mh_display.specs.Painting.{IsMarked};
     ghost use Rattle.mh_display.specs.Surface.{Surface};
 
     ghost Value = { Surface };
 
     ghost view = { λ s. record { planes = s.picture; marks = s.marks.items } };
 
-    ghost invariant = { λ s. IsComplete (record { planes = s.picture; marks = s.marks.items }) };
+    ghost invariant = { λ s. IsMarked s.spoilt (record { planes = s.picture; marks = s.marks.items }) };
 }
 
 impl Screen {
@@ -41,7 +43,11 @@ impl Screen {
         let picture = Picture::black(alloc)?;
         let marks = vec![in alloc; 0; CELLS]?;
         let _ = picture.cells();
-        Ok(Screen { picture, marks })
+        Ok(Screen {
+            picture,
+            marks,
+            spoilt: false,
+        })
     }
 
     /// The picture. Its stale cells may not be right.
@@ -54,9 +60,19 @@ impl Screen {
     /// All cells are to be painted anew.
     pub fn spoil_all(&mut self)
         ensures same { self.new.planes ≡ self.old.planes }
-        ensures all { (c : ℕ) → c < 2160 → is_stale self.new.marks c ≡ true }
+        ensures all { IsStale self.new.marks }
     {
-        fill(&mut self.marks);
+        if !self.spoilt {
+            fill(&mut self.marks);
+            self.spoilt = true;
+        }
+    }
+
+    /// Whether it is known that all cells are to be painted anew, so that no more can be spoilt.
+    pub fn is_spoilt(&self) -> bool
+        ensures { result ≡ true → IsStale self.now.marks }
+    {
+        self.spoilt
     }
 
     /// The cells of the object's box are to be painted anew, if it is painted.
@@ -128,6 +144,7 @@ impl Screen {
         ensures { IsSet (marked_at self.old) (marked_at self.new) at (record { mark = 2; cell = (marked_at self.old at).cell }) }
     {
         self.marks[at] = 2;
+        self.spoilt = false;
     }
 
     /// Puts a cell with its mark.
@@ -139,13 +156,14 @@ impl Screen {
         self.picture.set_mark(at, new.cell.scalar, new.cell.fore);
         self.picture.set_back(at, new.cell.back);
         self.marks[at] = new.mark;
+        self.spoilt = false;
     }
 }
 
 fn fill(marks: &mut Vec<u8>)
     requires { vec_len marks.old ≡ 2160 }
     ensures len { vec_len marks.new ≡ 2160 }
-    ensures all { (c : ℕ) → c < 2160 → is_stale marks.new.items c ≡ true }
+    ensures all { IsStale marks.new.items }
 {
     marks.as_mut_slice().fill(2);
 }

@@ -1,5 +1,5 @@
 //! What an engine does for whoever plays it beside programs of a receiver.
-ghost use Rattle.std.specs.Prelude.{◌≡◌, true, false, None, IfOk, IfErr};
+ghost use Rattle.std.specs.Prelude.{◌≡◌, map, true, false, None, IfOk, IfErr};
 ghost use Rattle.mh_model.specs.State.{begun};
 ghost use Rattle.mh_model.specs.Headline.{front_fault};
 ghost use Rattle.mh_model.specs.Receiver.{call_next as call_next_lem, told};
@@ -9,6 +9,7 @@ use crate::engine::Engine;
 use crate::refusal::{StartError, Unaccepted};
 use mh_machine::Machine;
 use mh_model::{Call, Outcome, Signature};
+use mh_resident::Resident;
 use mh_verify::Accepted;
 use std::alloc::{AllocError, Global};
 
@@ -47,8 +48,8 @@ impl Engine {
     }
 
     /// Which of these programs of the receiver the next step calls, if it calls one, and with what.
-    pub(crate) fn call_next(&self, programs: &[Signature]) -> Result<Option<Call>, AllocError>
-        ensures { IfOk result (λ call. call ≡ call_next_lem programs.now self.now.state) }
+    pub(crate) fn call_next<P: Resident>(&self, programs: &[P]) -> Result<Option<Call>, AllocError>
+        ensures { IfOk result (λ call. call ≡ call_next_lem (map P.signature_of programs.now) self.now.state) }
     {
         self.machine.call_next(programs)
     }

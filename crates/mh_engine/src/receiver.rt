@@ -27,8 +27,6 @@ use std::alloc::{AllocError, Global};
 pub struct Receiver<P: Resident> {
     engine: Engine,
     programs: Vec<P>,
-    signatures: Vec<Signature>,
-    ghost theirs: { signatures.items ≡ map P.signature_of programs.items },
 }
 
 /// An accepted service that was not started beside these programs. Both are handed back.
@@ -63,15 +61,11 @@ impl<P: Resident> Receiver<P> {
         ensures back { IfErr result (λ refused. (record refused.service { programs = service.programs } ≡ service)
             × (refused.programs ≡ programs)) }
     {
-        let Ok((own, others)) = both_signatures(alloc, programs.as_slice()) else {
+        let Ok(signatures) = signatures_of(alloc, programs.as_slice()) else {
             return Err(Unequipped { service, programs });
         };
-        match Engine::start_lenient(alloc, service.with_programs(others), mjd) {
-            Ok(engine) => Ok(Receiver {
-                engine,
-                programs,
-                signatures: own,
-            }),
+        match Engine::start_lenient(alloc, service.with_programs(signatures), mjd) {
+            Ok(engine) => Ok(Receiver { engine, programs }),
             Err(unstarted) => Err(Unequipped {
                 service: unstarted.service,
                 programs,
@@ -97,9 +91,9 @@ impl<P: Resident> Receiver<P> {
         ensures back { IfErr result (λ refused. (refused.accepted ≡ accepted) × (refused.programs ≡ programs)) }
     {
         match matching(alloc, programs.as_slice(), accepted.programs()) {
-            Ok((own, others)) => {
-                let begun = Engine::begin(alloc, accepted, others, mjd);
-                Receiver::of_engine(begun, programs, own)
+            Ok(signatures) => {
+                let begun = Engine::begin(alloc, accepted, signatures, mjd);
+                Receiver::of_engine(begun, programs)
             }
             Err(why) => Err(Unready {
                 why,
@@ -113,20 +107,14 @@ impl<P: Resident> Receiver<P> {
     fn of_engine(
         begun: Result<Engine, Unaccepted>,
         programs: Vec<P>,
-        signatures: Vec<Signature>,
     ) -> Result<Receiver<P>, Unready<P>>
-        requires { signatures.items ≡ map P.signature_of programs.items }
         ensures begun { IfOk result (λ receiver. begun ≡ Ok receiver.engine) }
         ensures programs { IfOk result (λ receiver. receiver.programs ≡ programs) }
         ensures back { IfErr result (λ refused. (begun ≡ Err (record { why = refused.why; accepted = refused.accepted }))
             × (refused.programs ≡ programs)) }
     {
         match begun {
-            Ok(engine) => Ok(Receiver {
-                engine,
-                programs,
-                signatures,
-            }),
+            Ok(engine) => Ok(Receiver { engine, programs }),
             Err(refused) => Err(Unready {
                 why: refused.why,
                 accepted: refused.accepted,
@@ -174,7 +162,8 @@ impl<P: Resident> Receiver<P> {
     /// by the program too, the state stays as it was, and no further step is made.
     pub fn step(&mut self) -> Result<Stepped, StepError>
         ensures step { let may = MayCome P.signature_of P.may_answer self.old.programs.items in
-            OnOk result (IsStep self.old.signatures.items may self.old.engine.state self.new.engine.state) }
+            let signatures = map P.signature_of self.old.programs.items in
+            OnOk result (IsStep signatures may self.old.engine.state self.new.engine.state) }
         ensures same { self.new.programs ≡ self.old.programs }
         ensures accepted { self.new.engine.accepted ≡ self.old.engine.accepted }
         ensures answer { IfOk result (λ answer. answer ≡ answer_of self.old.engine.state) }
@@ -204,10 +193,11 @@ impl<P: Resident> Receiver<P> {
     /// What comes of the call that the next step makes, if it makes one.
     fn ask(&self) -> Result<Option<Outcome>, AllocError>
         ensures { let may = MayCome P.signature_of P.may_answer self.now.programs.items in
-            let call = call_next self.now.signatures.items self.now.engine.state in
+            let signatures = map P.signature_of self.now.programs.items in
+            let call = call_next signatures self.now.engine.state in
             IfOk result (IsTold may call) }
     {
-        match self.engine.call_next(self.signatures.as_slice())? {
+        match self.engine.call_next(self.programs.as_slice())? {
             Some(call) => Ok(Some(call_program(self.programs.as_slice(), &call)?)),
             None => Ok(None),
         }
@@ -251,33 +241,19 @@ fn step_told(engine: &mut Engine, said: Outcome) -> Result<Stepped, StepError>
     }
 }
 
-/// The signatures of programs, twice: the machine has its own.
-fn both_signatures<P: Resident>(
-    alloc: Global,
-    programs: &[P],
-) -> Result<(Vec<Signature>, Vec<Signature>), AllocError>
-    ensures { IfOk result (λ both. (both.0.items ≡ map P.signature_of programs.now)
-        × (both.1.items ≡ map P.signature_of programs.now)) }
-{
-    let own = signatures_of(alloc, programs)?;
-    let others = signatures_of(alloc, programs)?;
-    Ok((own, others))
-}
-
-/// The same, where they are those that are wanted.
+/// The signatures of programs, where they are those that are wanted.
 fn matching<P: Resident>(
     alloc: Global,
     programs: &[P],
     wanted: &[Signature],
-) -> Result<(Vec<Signature>, Vec<Signature>), StartError>
-    ensures found { IfOk result (λ both. (both.0.items ≡ map P.signature_of programs.now)
-        × (both.1.items ≡ map P.signature_of programs.now)) }
+) -> Result<Vec<Signature>, StartError>
+    ensures found { IfOk result (λ own. own.items ≡ map P.signature_of programs.now) }
     ensures same { OnOk result (map P.signature_of programs.now ≡ wanted.now) }
     ensures differ { IsErrOf result StartError.ProgramsDiffer → map P.signature_of programs.now ≡ wanted.now → ⊥ }
 {
-    let (own, others) = both_signatures(alloc, programs)?;
+    let own = signatures_of(alloc, programs)?;
     if same_signatures(own.as_slice(), wanted) {
-        Ok((own, others))
+        Ok(own)
     } else {
         Err(StartError::ProgramsDiffer)
     }

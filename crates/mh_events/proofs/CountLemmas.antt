@@ -66,3 +66,9 @@ counted_kept p all ws n t counted = record {
   number = counted.number ∙ inputs-keep p all ws;
   time = counted.time ∙ time-keep p all ws;
 }
+
+-- where inputs alone wait, and none of them goes, all stays
+pub all_kept : (p : Waiting → Bool) → ((i : Input) → p (waiting.Input i) ≡ true) → (ws : List Waiting) → length ws ≤ inputs ws → ws ≡ filter p ws
+all_kept p all [] none = refl
+all_kept p all (waiting.Input i ∷ ws) none = rw (all i) (ap (λ (t : List Waiting). waiting.Input i ∷ t) (all_kept p all ws (omega (arith, none))))
+all_kept p all (waiting.Event e ∷ ws) none = absurd (omega (arith, none, inputs_within ws))

@@ -6,7 +6,7 @@ ghost use Rattle.std.specs.Prelude.{drop, filter, length, map, nat_lt, not, slic
 ghost use Rattle.std.specs.Option.{option_copied};
 ghost use Rattle.std.specs.VecDeque.{deque_len, deque_capacity};
 ghost use Rattle.mh_model.specs.Rules.{is_input as is_input_lem, stays as stays_lem};
-ghost use Rattle.mh_model.specs.Step.{inputs, is_empty as is_empty_lem};
+ghost use Rattle.mh_model.specs.Step.{inputs as inputs_lem, is_empty as is_empty_lem};
 ghost use Rattle.mh_model.specs.Limits.{most_inputs};
 ghost use Rattle.mh_model.specs.Step.{time_ahead as time_ahead_lem, time_of as time_of_lem};
 
@@ -85,7 +85,7 @@ impl Queue {
 
     /// Whether as many inputs wait as may.
     pub fn is_full(&self) -> bool
-        ensures { result ≡ not (nat_lt (inputs self.now.items) most_inputs) }
+        ensures { result ≡ not (nat_lt (inputs_lem self.now.items) most_inputs) }
     {
         self.inputs >= MOST_INPUTS
     }
@@ -149,7 +149,7 @@ impl Queue {
     pub fn keep(&mut self, application: &GroupName)
         ensures { self.new.items ≡ filter (stays_lem application.now) self.old.items }
     {
-        keep_of(&mut self.entries, application);
+        keep_of(&mut self.entries, self.inputs, application);
     }
 
     /// Keeps inputs alone.
@@ -177,10 +177,14 @@ fn push_events(entries: &mut VecDeque<Waiting>, events: Vec<Event>)
     }
 }
 
-fn keep_of(entries: &mut VecDeque<Waiting>, application: &GroupName)
+/// Where inputs alone wait, all of them stay, and none is looked at.
+fn keep_of(entries: &mut VecDeque<Waiting>, inputs: usize, application: &GroupName)
+    requires { inputs ≡ inputs_lem entries.old.items }
     ensures { entries.new.items ≡ filter (stays_lem application.now) entries.old.items }
 {
-    entries.retain(|waiting| stays(waiting, application));
+    if inputs < entries.len() {
+        entries.retain(|waiting| stays(waiting, application));
+    }
 }
 
 fn keep_inputs_of(entries: &mut VecDeque<Waiting>)

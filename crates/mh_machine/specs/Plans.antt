@@ -2,6 +2,7 @@
 use Rattle.std.specs.Prelude.{◌≡◌, ℕ, ◌+◌, Bool, true, false, not, ◌&&◌, ◌==◌, if◌then◌else◌, List, [], ◌∷◌, ◌++◌, length, drop, Option, Some, None}
 use Rattle.mh_base.specs.declared.obj_ref.ObjRef.{ObjRef}
 use Rattle.mh_model.specs.declared.edit.Edit.{Edit}
+use Rattle.mh_model.specs.declared.edit.Edit.TheVariants as edit
 use Rattle.mh_model.specs.declared.event.Event.{Event}
 use Rattle.mh_model.specs.declared.fault.Fault.{Fault}
 use Rattle.mh_model.specs.declared.input.Waiting.{Waiting}
@@ -38,6 +39,7 @@ use Rattle.mh_machine.specs.declared.plan.Puts.{Puts}
 use Rattle.mh_machine.specs.declared.plan.Puts.TheVariants as puts
 use Rattle.mh_machine.specs.declared.plan.Stacking.{Stacking}
 use Rattle.mh_machine.specs.declared.plan.Stacking.TheVariants as stacking
+use Rattle.mh_machine.specs.declared.plan.Turn.{Turn}
 use Rattle.mh_machine.specs.Pieces.{written}
 
 -- variables are given values that they can hold, one after another
@@ -155,6 +157,14 @@ committed p s = record s {
 -- a plan that changes objects, and puts pieces in the place of the item
 abbrev pub plan_of : Change → Stacking → Awaiting → List Piece → Plan
 plan_of c x a ps = record { change = c; stacking = x; awaiting = a; interacting = interacting.Same; puts = puts.InFront ps; waits = None; begins = false; fault = None }
+
+-- of one object that runs
+abbrev pub turn_plan : Turn → Plan
+turn_plan t = plan_of t.change t.stacking t.awaiting t.pieces.items
+
+-- of one that stops, whose interaction ends
+abbrev pub halt_plan : ObjRef → List Piece → Plan
+halt_plan r ps = record (plan_of (change.Edit r edit.Halt) stacking.Same awaiting.Same ps) { interacting = interacting.Ends r }
 
 -- the state with these items in the place of its first
 abbrev pub put_for_first : List Item → State → State

@@ -1,6 +1,6 @@
 //! What the next step asks of the programs of a receiver. The machine calls none of them: whoever has them
 //! asks beforehand which call the step makes, and tells the machine what came of it.
-ghost use Rattle.std.specs.Prelude.{◌≡◌, IfOk};
+ghost use Rattle.std.specs.Prelude.{◌≡◌, map, IfOk};
 ghost use Rattle.std.specs.Option.{option_copied};
 ghost use Rattle.mh_model.specs.Receiver.{call_at as call_at_lem, call_by as call_by_lem, call_in as call_in_lem, call_made as call_made_lem, call_next, call_unless as call_unless_lem, told};
 ghost use Rattle.mh_model.specs.Service.{part_at, parts};
@@ -14,14 +14,15 @@ use mh_actions::calling::{added_name, call_ins, params_at};
 use mh_base::{ObjRef, Octets, Seq};
 use mh_model::act::passed;
 use mh_model::sort::{Sort, sort_of};
-use mh_model::{Act, Argument, Call, Fault, Item, Outcome, Signature};
+use mh_model::{Act, Argument, Call, Fault, Item, Outcome};
+use mh_resident::Resident;
 use std::alloc::AllocError;
 use std::mem;
 
 impl Works {
     /// Which of these programs the next step calls, if it calls one, and with what.
-    pub(crate) fn call_next(&self, programs: &[Signature]) -> Result<Option<Call>, AllocError>
-        ensures { IfOk result (λ call. call ≡ call_next programs.now self.now.state) }
+    pub(crate) fn call_next<P: Resident>(&self, programs: &[P]) -> Result<Option<Call>, AllocError>
+        ensures { IfOk result (λ call. call ≡ call_next (map P.signature_of programs.now) self.now.state) }
     {
         if self.ended {
             return Ok(None);
@@ -42,8 +43,9 @@ impl Works {
         mem::replace(&mut self.said, said)
     }
 
-    fn call_in(&self, programs: &[Signature], item: &Item) -> Result<Option<Call>, AllocError>
-        ensures { IfOk result (λ call. call ≡ call_in_lem programs.now item.now self.now.state) }
+    fn call_in<P: Resident>(&self, programs: &[P], item: &Item) -> Result<Option<Call>, AllocError>
+        ensures { let signatures = map P.signature_of programs.now in
+            IfOk result (λ call. call ≡ call_in_lem signatures item.now self.now.state) }
     {
         match item {
             Item::Act(act) => self.call_by(programs, act, item),
@@ -51,15 +53,16 @@ impl Works {
         }
     }
 
-    fn call_by(
+    fn call_by<P: Resident>(
         &self,
-        programs: &[Signature],
+        programs: &[P],
         act: &Act,
         item: &Item,
     ) -> Result<Option<Call>, AllocError>
         requires { item.now ≡ Item.Act act.now }
         ensures { let sort = sort_of_lem act.now.name in
-            IfOk result (λ call. call ≡ call_by_lem programs.now sort act.now self.now.state) }
+            let signatures = map P.signature_of programs.now in
+            IfOk result (λ call. call ≡ call_by_lem signatures sort act.now self.now.state) }
     {
         match sort_of(act.name) {
             Sort::Call => self.call_unless(self.why_stuck(item)?, programs, act),
@@ -67,13 +70,14 @@ impl Works {
         }
     }
 
-    fn call_unless(
+    fn call_unless<P: Resident>(
         &self,
         fault: Option<Fault>,
-        programs: &[Signature],
+        programs: &[P],
         act: &Act,
     ) -> Result<Option<Call>, AllocError>
-        ensures { IfOk result (λ call. call ≡ call_unless_lem fault programs.now act.now self.now.state) }
+        ensures { let signatures = map P.signature_of programs.now in
+            IfOk result (λ call. call ≡ call_unless_lem fault signatures act.now self.now.state) }
     {
         match fault {
             Some(_) => Ok(None),
@@ -84,14 +88,15 @@ impl Works {
         }
     }
 
-    fn call_at(
+    fn call_at<P: Resident>(
         &self,
-        programs: &[Signature],
+        programs: &[P],
         at: Option<&ObjRef>,
         arguments: &[Argument],
     ) -> Result<Option<Call>, AllocError>
         ensures { let at = option_copied at.entry in
-            IfOk result (λ call. call ≡ call_at_lem programs.now at arguments.now self.now.state) }
+            let signatures = map P.signature_of programs.now in
+            IfOk result (λ call. call ≡ call_at_lem signatures at arguments.now self.now.state) }
     {
         let Some(at) = at else {
             return Ok(None);

@@ -1,20 +1,20 @@
 //! A plan is carried out: room is made first, then bodies are changed, and behind that nothing can fail.
 //!
 //! What most steps do has a shorter way: pieces that are put, and one body that is changed, need no plan.
-ghost use Rattle.std.specs.Prelude.{◌≡◌, ◌+◌, ◌<◌, ◌≤◌, ◌^◌, OnOk, OnErr, vec_len, vec_capacity};
+ghost use Rattle.std.specs.Prelude.{◌≡◌, ◌+◌, ◌<◌, ◌≤◌, ◌^◌, true, [], OnOk, OnErr, vec_len, vec_capacity};
 ghost use Rattle.mh_actions.specs.Listed.{listed};
 ghost use Rattle.mh_model.specs.Bodies.{given, stored};
 ghost use Rattle.mh_model.specs.Edits.{edited};
 ghost use Rattle.mh_model.specs.Rules.{changed};
 ghost use Rattle.mh_model.specs.Service.{parts};
 ghost use Rattle.mh_machine.specs.Pieces.{written};
-ghost use Rattle.mh_machine.specs.Plans.{change_at, committed, put_for_first, taken_from, changed_as, given_all, rewaited, queued, worked, noted, room_for};
+ghost use Rattle.mh_machine.specs.Plans.{change_at, committed, halt_plan, turn_plan, put_for_first, taken_from, changed_as, given_all, rewaited, queued, worked, noted, room_for};
 
 use crate::agenda::Agenda;
-use crate::interacting::interact;
+use crate::interacting::{end_of, interact};
 use crate::lifecycle::is_visible;
 use crate::piece::Piece;
-use crate::plan::{Awaiting, Change, Gift, Plan, Puts};
+use crate::plan::{Awaiting, Change, Gift, Plan, Puts, Turn};
 use crate::room::make_room;
 use crate::stage::Stage;
 use crate::work::Work;
@@ -68,12 +68,16 @@ impl Works {
         Ok(())
     }
 
-    /// Puts these pieces in the place of the first item.
+    /// Puts these pieces in the place of the first item. Most events are heard by no link, and put none.
     pub(crate) fn commit_pieces(&mut self, pieces: Vec<Piece>) -> Result<(), AllocError>
         requires { self.old.state.taken + 1 < 2 ^ 64 }
         ensures done { OnOk result (self.new.state ≡ put_for_first (written pieces.items) self.old.state) }
         ensures kept { OnErr result (self.new.state ≡ self.old.state) }
     {
+        if are_none(&pieces) {
+            self.pass();
+            return Ok(());
+        }
         self.work.reserve(pieces.len())?;
         self.work.put_for_first(pieces);
         self.taken += 1;
@@ -88,6 +92,45 @@ impl Works {
     {
         self.work.reserve(MOST_PUT)?;
         self.work.put_by_act(put);
+        self.taken += 1;
+        Ok(())
+    }
+
+    /// Carries out what becomes of one object.
+    #[inline(never)]
+    pub(crate) fn commit_turn(&mut self, turn: Turn) -> Result<(), AllocError>
+        requires { self.old.state.taken + 1 < 2 ^ 64 }
+        ensures done { OnOk result (self.new.state ≡ committed (turn_plan turn) self.old.state) }
+        ensures kept { OnErr result (self.new.state ≡ self.old.state) }
+    {
+        let Turn {
+            change,
+            stacking,
+            awaiting,
+            pieces,
+        } = turn;
+        self.stage.reserve()?;
+        self.carousel.reserve_wait()?;
+        self.work.reserve(pieces.len())?;
+        apply(&mut self.stage, change)?;
+        self.stage.restack(stacking);
+        rewait(&mut self.carousel, awaiting);
+        self.work.put_for_first(pieces);
+        self.taken += 1;
+        Ok(())
+    }
+
+    /// Stops the object at this reference, and puts these pieces in the place of the first item.
+    #[inline(never)]
+    pub(crate) fn commit_halt(&mut self, at: &ObjRef, pieces: Vec<Piece>) -> Result<(), AllocError>
+        requires { self.old.state.taken + 1 < 2 ^ 64 }
+        ensures done { OnOk result (self.new.state ≡ committed (halt_plan at.now pieces.items) self.old.state) }
+        ensures kept { OnErr result (self.new.state ≡ self.old.state) }
+    {
+        self.work.reserve(pieces.len())?;
+        self.stage.edit(at, Edit::Halt)?;
+        end_of(&mut self.interaction, at);
+        self.work.put_for_first(pieces);
         self.taken += 1;
         Ok(())
     }
@@ -257,4 +300,10 @@ fn note(faults: &mut Vec<Fault>, fault: Option<Fault>)
     if let Some(fault) = fault {
         faults.push_reserved(fault);
     }
+}
+
+fn are_none(pieces: &Vec<Piece>) -> bool
+    ensures { result ≡ true → pieces.now.items ≡ [] }
+{
+    pieces.is_empty()
 }

@@ -100,7 +100,7 @@ pub fn interact(interaction: &mut Option<Interaction>, interacting: Interacting)
 }
 
 /// The object interacts no longer, if it did.
-fn end_of(interaction: &mut Option<Interaction>, at: &ObjRef)
+pub fn end_of(interaction: &mut Option<Interaction>, at: &ObjRef)
     ensures { interaction.new ≡ ended_of at.now interaction.old }
 {
     if is_interacting(at, interaction) {

@@ -1,17 +1,17 @@
-//! The links, found by the objects whose events they wait for.
+//! The links, found by the numbers of the objects whose events they wait for.
+//!
+//! An event mostly has no link that waits for an object of its number, and then no name is looked at.
 ghost use Rattle.std.specs.Prelude.{◌≡◌, ◌++◌, ◌+◌, ◌^◌, ◌<◌, IfOk, OnOk, Some, length, [], ◌∷◌, if◌then◌else◌};
 ghost use Rattle.std.specs.Map.{lookup};
 ghost use Rattle.std.specs.Option.{option_copied};
-ghost use Rattle.mh_model.specs.Items.{hears_data as hears_data_lem, hears_type as hears_type_lem, heard as heard_lem};
+ghost use Rattle.mh_model.specs.Items.{hears_data as hears_data_lem, hears_source as hears_source_lem, hears_type as hears_type_lem, heard as heard_lem};
 ghost use Rattle.mh_model.specs.Service.{parts};
-ghost use Rattle.mh_model.specs.Reference.{same_ref as same_ref_lem};
 ghost use Rattle.mh_model.specs.State.{all};
-ghost use Rattle.mh_machine.specs.Links.{source_of as source_of_lem, place_of, places, waiting, IsIndex, is_awake as is_awake_lem, answer, answers};
+ghost use Rattle.mh_machine.specs.Links.{source_of as source_of_lem, place_of, places, same_number, waiting, IsIndex, is_awake as is_awake_lem, answer, answers};
 ghost use Rattle.mh_machine.specs.Pieces.{written};
 
 use crate::piece::Piece;
 use crate::puts::push_effect;
-use indexmap::IndexMap;
 use mh_base::{EventType, ObjRef, Seq, Value};
 use mh_group::{Attribute, Class};
 use mh_model::held::{as_event, as_value};
@@ -19,21 +19,21 @@ use mh_model::kinds::same_value;
 use mh_model::{Event, Fixed, FixedPart, Object};
 use mh_store::Objects;
 use std::alloc::{AllocError, Global};
+use std::collections::BTreeMap;
 use std::marker::Model;
 
-/// The links among the objects that are present, by the objects whose events they wait for.
+/// The links among the objects that are present, by the numbers of the objects whose events they wait for.
 /// A contract sees the entries; `IsIndex` says of which parts they are the index.
 #[derive(Drop)]
 pub struct Links {
-    /// For each object the places of the links that wait for its events, in order.
-    table: IndexMap<ObjRef, Seq<usize>>,
+    /// For each number the places of the links that wait for an object of that number, in order.
+    table: BTreeMap<u32, Seq<usize>>,
 }
 
 impl Model for Links {
     ghost use Rattle.std.specs.Prelude.{ℕ, List};
-    ghost use Rattle.mh_base.specs.declared.obj_ref.ObjRef.{ObjRef};
 
-    ghost Value = { List (ObjRef × List ℕ) };
+    ghost Value = { List (ℕ × List ℕ) };
 
     ghost view = { λ links. links.table.entries };
 }
@@ -47,14 +47,14 @@ impl Links {
     ) -> Result<Links, AllocError>
         ensures { IfOk result (λ links. IsIndex links (application.now ++ scene.now)) }
     {
-        let mut table = IndexMap::new(alloc);
+        let mut table = BTreeMap::new(alloc);
         add_parts(alloc, &mut table, 0, application)?;
         add_parts(alloc, &mut table, application.len(), scene)?;
         Ok(Links { table })
     }
 
     /// The effects of all links that hear the event, in the order of the objects. Only the links
-    /// that wait for its source are asked.
+    /// that wait for an object of its source's number are asked.
     pub fn heard(
         &self,
         alloc: Global,
@@ -65,14 +65,14 @@ impl Links {
         ensures { IfOk result
             (λ pieces. written pieces.items ≡ heard_lem event.now (all objects.now)) }
     {
-        heard_at(alloc, self.places_of(&event.source), event, objects)
+        heard_at(alloc, self.places_of(event.source.number), event, objects)
     }
 
-    /// The places of the links that wait for the object.
-    fn places_of(&self, source: &ObjRef) -> &[usize]
-        ensures { result.now ≡ waiting source.now self.now }
+    /// The places of the links that wait for an object of this number.
+    fn places_of(&self, number: u32) -> &[usize]
+        ensures { result.now ≡ waiting number self.now }
     {
-        match self.table.get(source) {
+        match self.table.get(&number) {
             Some(places) => places.as_slice(),
             None => &[],
         }
@@ -81,14 +81,14 @@ impl Links {
 
 fn add_parts(
     alloc: Global,
-    table: &mut IndexMap<ObjRef, Seq<usize>>,
+    table: &mut BTreeMap<u32, Seq<usize>>,
     first: usize,
     parts: &[FixedPart],
 ) -> Result<(), AllocError>
     requires { first + length parts.now < 2 ^ 64 }
     ensures { OnOk result
-        ((r : _) →
-        waiting r table.new.entries ≡ waiting r table.old.entries ++ places first r parts.now) }
+        ((n : _) →
+        waiting n table.new.entries ≡ waiting n table.old.entries ++ places first n parts.now) }
 {
     for (index, part) in parts.iter().enumerate() {
         add_part(alloc, table, first + index, part.get())?;
@@ -98,16 +98,16 @@ fn add_parts(
 
 fn add_part(
     alloc: Global,
-    table: &mut IndexMap<ObjRef, Seq<usize>>,
+    table: &mut BTreeMap<u32, Seq<usize>>,
     place: usize,
     part: &Fixed,
 ) -> Result<(), AllocError>
     ensures { OnOk result
-        ((r : _) →
-        waiting r table.new.entries ≡ waiting r table.old.entries ++ place_of place r part.now) }
+        ((n : _) →
+        waiting n table.new.entries ≡ waiting n table.old.entries ++ place_of place n part.now) }
 {
     match source_of(part) {
-        Some(source) => add_place(alloc, table, source, place),
+        Some(source) => add_place(alloc, table, source.number, place),
         None => Ok(()),
     }
 }
@@ -127,37 +127,36 @@ fn source_of(part: &Fixed) -> Option<&ObjRef>
 
 fn add_place(
     alloc: Global,
-    table: &mut IndexMap<ObjRef, Seq<usize>>,
-    source: &ObjRef,
+    table: &mut BTreeMap<u32, Seq<usize>>,
+    number: u32,
     place: usize,
 ) -> Result<(), AllocError>
     ensures { OnOk result
-        ((r : _) →
-        waiting r table.new.entries
-        ≡ waiting r table.old.entries ++ (if same_ref_lem source.now r then place ∷ [] else [])) }
+        ((n : _) →
+        waiting n table.new.entries
+        ≡ waiting n table.old.entries ++ (if same_number number n then place ∷ [] else [])) }
 {
-    match table.get_mut(source) {
+    match table.get_mut(&number) {
         Some(places) => places.push(place),
-        None => start(alloc, table, source, place),
+        None => start(alloc, table, number, place),
     }
 }
 
-/// Puts the first place for the source.
+/// Puts the first place for the number.
 fn start(
     alloc: Global,
-    table: &mut IndexMap<ObjRef, Seq<usize>>,
-    source: &ObjRef,
+    table: &mut BTreeMap<u32, Seq<usize>>,
+    number: u32,
     place: usize,
 ) -> Result<(), AllocError>
     ensures { OnOk result
-        ((r : _) →
-        lookup (same_ref_lem r) table.new.entries
-        ≡ (if same_ref_lem source.now r then Some (place ∷ [])
-        else lookup (same_ref_lem r) table.old.entries)) }
+        ((n : _) →
+        lookup (same_number n) table.new.entries
+        ≡ (if same_number number n then Some (place ∷ []) else lookup (same_number n) table.old.entries)) }
 {
     let mut places = Seq::new(alloc);
     places.push(place)?;
-    table.insert(source.clone()?, places)?;
+    table.insert(number, places)?;
     Ok(())
 }
 
@@ -190,7 +189,7 @@ fn put_answer(pieces: &mut Vec<Piece>, event: &Event, object: &Object) -> Result
     Ok(())
 }
 
-/// Whether a link that waits for the event's source runs, and waits for its type and data.
+/// Whether a link runs, and waits for the event's type, source and data.
 fn is_awake(event: &Event, link: &Object) -> bool
     ensures { result ≡ is_awake_lem event.now link.now }
 {
@@ -201,7 +200,19 @@ fn is_awake(event: &Event, link: &Object) -> bool
     if !hears_type(as_event(written.get(Attribute::EventType)), event.kind) {
         return false;
     }
+    if !hears_source(as_value(written.get(Attribute::EventSource)), &event.source) {
+        return false;
+    }
     hears_data(as_value(written.get(Attribute::EventData)), &event.data)
+}
+
+fn hears_source(heard: Option<&Value>, source: &ObjRef) -> bool
+    ensures { result ≡ hears_source_lem (option_copied heard.entry) source.now }
+{
+    match heard {
+        Some(Value::Object(at)) => at == source,
+        _ => false,
+    }
 }
 
 fn hears_type(heard: Option<EventType>, kind: EventType) -> bool

@@ -1,5 +1,5 @@
 //! `Machine`: the state of the object machine, with the picture that it shows.
-ghost use Rattle.std.specs.Prelude.{◌≡◌, ◌+◌, ◌<◌, ◌^◌, false, None, IfOk, IfErr, OnOk, OnErr};
+ghost use Rattle.std.specs.Prelude.{◌≡◌, ◌+◌, ◌<◌, ◌^◌, map, false, None, IfOk, IfErr, OnOk, OnErr};
 ghost use Rattle.mh_model.specs.Headline.{front_fault};
 ghost use Rattle.mh_model.specs.Picture.{shown};
 ghost use Rattle.mh_model.specs.Receiver.{call_next as call_next_lem, told};
@@ -11,7 +11,8 @@ ghost use Rattle.mh_machine.specs.Working.{IsPartly};
 
 use crate::works::Works;
 use crate::{Rest, Stepped, Unstarted};
-use mh_model::{Call, Fault, File, Input, Obstacle, Outcome, Picture, Signature};
+use mh_model::{Call, Fault, File, Input, Obstacle, Outcome, Picture};
+use mh_resident::Resident;
 use mh_service::Service;
 use std::alloc::{AllocError, Global};
 use std::marker::Model;
@@ -76,8 +77,8 @@ impl Machine {
     }
 
     /// Which of these programs of the receiver the next step calls, if it calls one, and with what.
-    pub fn call_next(&self, programs: &[Signature]) -> Result<Option<Call>, AllocError>
-        ensures { IfOk result (λ call. call ≡ call_next_lem programs.now self.now) }
+    pub fn call_next<P: Resident>(&self, programs: &[P]) -> Result<Option<Call>, AllocError>
+        ensures { IfOk result (λ call. call ≡ call_next_lem (map P.signature_of programs.now) self.now) }
     {
         self.works.call_next(programs)
     }

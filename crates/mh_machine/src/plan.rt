@@ -84,6 +84,15 @@ pub struct Plan {
     pub fault: Option<Fault>,
 }
 
+/// What becomes of one object that runs, and what it puts: all that is planned of it.
+#[derive(Drop)]
+pub struct Turn {
+    pub change: Change,
+    pub stacking: Stacking,
+    pub awaiting: Awaiting,
+    pub pieces: Vec<Piece>,
+}
+
 impl Plan {
     /// A plan that changes objects, and puts these pieces.
     pub fn of(change: Change, stacking: Stacking, awaiting: Awaiting, pieces: Vec<Piece>) -> Plan

@@ -9,14 +9,14 @@ ghost use Rattle.mh_model.specs.Arguments as said;
 ghost use Rattle.mh_model.specs.Rules.{ask_rule, order_rule, transition_rule, way_out as way_out_lem};
 ghost use Rattle.mh_model.specs.Service.{with_parts};
 ghost use Rattle.std.specs.Option.{option_map};
-ghost use Rattle.mh_machine.specs.Plans.{committed, gifts, taken_from};
+ghost use Rattle.mh_machine.specs.Plans.{committed, gifts, taken_from, turn_plan};
 
 use crate::lifecycle::{
     drop_pieces, halt_pieces, is_available, is_unavailable, is_unprepared, prepare_pieces, rising,
     run_pieces,
 };
 use crate::loading::{awaiting, copied_text, lacking, loaded};
-use crate::plan::{Awaiting, Change, Gift, Interacting, Plan, Puts, Stacking};
+use crate::plan::{Awaiting, Change, Gift, Interacting, Plan, Puts, Stacking, Turn};
 use crate::puts::{leaving, quitting};
 use crate::widgets::{change_of, run_places};
 use crate::work::Work;
@@ -62,12 +62,12 @@ impl Works {
         ensures done { OnOk result (self.new.state ≡ done (Item.Run at.now) self.old.state) }
         ensures kept { OnErr result (self.new.state ≡ self.old.state) }
     {
-        let plan = self.plan_run(at)?;
-        self.commit(plan)
+        let turn = self.turn_of_run(at)?;
+        self.commit_turn(turn)
     }
 
-    fn plan_run(&self, at: &ObjRef) -> Result<Plan, AllocError>
-        ensures { IfOk result (λ plan. committed plan self.now.state
+    fn turn_of_run(&self, at: &ObjRef) -> Result<Turn, AllocError>
+        ensures { IfOk result (λ turn. committed (turn_plan turn) self.now.state
             ≡ done (Item.Run at.now) self.now.state) }
     {
         let found = self.stage.objects().get(at);
@@ -79,7 +79,12 @@ impl Works {
         let start = Edit::Start(copied_text(text)?);
         let places = run_places(self.alloc, at, found)?;
         let change = change_of(at, Some(start), places)?;
-        Ok(Plan::of(change, stacking, awaiting, pieces))
+        Ok(Turn {
+            change,
+            stacking,
+            awaiting,
+            pieces,
+        })
     }
 
     /// An object stops.
@@ -89,18 +94,8 @@ impl Works {
         ensures done { OnOk result (self.new.state ≡ done (Item.Halt at.now) self.old.state) }
         ensures kept { OnErr result (self.new.state ≡ self.old.state) }
     {
-        let plan = self.plan_halt(at)?;
-        self.commit(plan)
-    }
-
-    fn plan_halt(&self, at: &ObjRef) -> Result<Plan, AllocError>
-        ensures { IfOk result (λ plan. committed plan self.now.state
-            ≡ done (Item.Halt at.now) self.now.state) }
-    {
         let pieces = halt_pieces(self.alloc, at, self.stage.objects().get(at))?;
-        let change = Change::Edit(at.clone()?, Edit::Halt);
-        let interacting = Interacting::Ends(at.clone()?);
-        Ok(Plan::interacting(change, interacting, pieces))
+        self.commit_halt(at, pieces)
     }
 
     /// An object is no longer available.

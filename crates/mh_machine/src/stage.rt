@@ -3,7 +3,7 @@
 //! What a change can be seen in is marked, and painted when the picture is wanted.
 ghost use Rattle.std.specs.Prelude.{◌≡◌, ◌≤◌, [], false, filter, IfOk, OnOk, OnErr};
 ghost use Rattle.std.specs.Str.{bytes_eq};
-ghost use Rattle.mh_display.specs.Surface.{IsClean};
+ghost use Rattle.mh_display.specs.Surface.{IsClean, Spoils};
 ghost use Rattle.mh_model.specs.Bodies.{given};
 ghost use Rattle.mh_model.specs.Edits.{edited};
 ghost use Rattle.mh_model.specs.Picture.{picture as picture_lem};
@@ -108,9 +108,9 @@ impl Stage {
         ensures others { parts self.new.objects.scene ≡ parts self.old.objects.scene }
         ensures kept { OnErr result (self.new.objects ≡ self.old.objects) }
     {
-        self.screen.spoil(self.objects.get(at));
+        spoil_at(&mut self.screen, &self.objects, at);
         let _ = self.objects.edit(at, edit)?;
-        self.screen.spoil(self.objects.get(at));
+        spoil_at(&mut self.screen, &self.objects, at);
         Ok(())
     }
 
@@ -171,11 +171,11 @@ impl Stage {
         match stacking {
             Stacking::Same => {}
             Stacking::Rise(at) => {
-                self.screen.spoil(self.objects.get(&at));
+                spoil_at(&mut self.screen, &self.objects, &at);
                 self.stack.rise(at);
             }
             Stacking::Fall(at) => {
-                self.screen.spoil(self.objects.get(&at));
+                spoil_at(&mut self.screen, &self.objects, &at);
                 self.stack.fall(&at);
             }
             Stacking::Move(at, how) => self.reorder(at, how),
@@ -187,7 +187,7 @@ impl Stage {
         ensures objects { self.new.objects ≡ self.old.objects }
         ensures stack { self.new.stack ≡ restacked (Stacking.Move at how) self.old.stack }
     {
-        self.screen.spoil(self.objects.get(&at));
+        spoil_at(&mut self.screen, &self.objects, &at);
         reorder(&mut self.stack, at, how);
     }
 
@@ -230,6 +230,16 @@ impl Stage {
         let picture = self.screen.picture();
         let _ = picture.cells();
         picture
+    }
+}
+
+/// The object at this reference is to be painted anew. Where all is, the object is not even looked for.
+fn spoil_at(screen: &mut Screen, objects: &Objects, at: &ObjRef)
+    ensures same { screen.new.planes ≡ screen.old.planes }
+    ensures spoilt { Spoils (object_at at.now (all objects.now)) screen.old.marks screen.new.marks }
+{
+    if !screen.is_spoilt() {
+        screen.spoil(objects.get(at));
     }
 }
 

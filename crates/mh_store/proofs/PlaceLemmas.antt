@@ -1,5 +1,5 @@
 -- Where an entry stands: what is found there, and what putting another in its place gives.
-use Rattle.std.specs.Prelude.{◌≡◌, ℕ, zero, suc, ◌+◌, ◌<◌, nat_eq, Bool, true, false, cond, not, List, [], ◌∷◌, length, slice_get, Option, Some, None, unwrap_or, refl}
+use Rattle.std.specs.Prelude.{◌≡◌, ℕ, zero, suc, ◌+◌, ◌<◌, nat_eq, Bool, true, false, cond, List, [], ◌∷◌, length, slice_get, Option, Some, None, unwrap_or, refl}
 use Rattle.std.specs.Option.{is_some}
 use Rattle.std.specs.List.{position, position_or_len, AllByRecursion, IsDistinct}
 use Rattle.std.specs.Map.{keys_of, values_of, lookup, set_value}

@@ -168,12 +168,20 @@ impl Group {
     }
 }
 
-/// The object under this number. Mostly it stands at the place of that number, since a file numbers the objects
-/// of its group in order: then nothing is hashed.
+/// Where the object under this number stands, if the objects behind the group itself are numbered one by one
+/// from that of the first of them on, as a file mostly does. It is a guess: who asks looks whether it is right.
+fn likely_place(table: &IndexMap<u32, Kept>, at: u32) -> usize {
+    match table.get_index(1) {
+        Some((first, _)) if *first <= at => (at - *first) as usize + 1,
+        _ => 0,
+    }
+}
+
+/// The object under this number. Where it stands at its likely place nothing is hashed.
 fn find(table: &IndexMap<u32, Kept>, at: u32) -> Option<&Kept>
     ensures { option_copied result ≡ lookup (nat_eq at) table.now.entries }
 {
-    match table.get_index(at as usize) {
+    match table.get_index(likely_place(table, at)) {
         Some((own, kept)) if *own == at => Some(kept),
         _ => table.get(&at),
     }
@@ -184,8 +192,9 @@ fn place_of(table: &IndexMap<u32, Kept>, at: u32) -> usize
     ensures { IsPlace at table.now.entries result }
 {
     let behind = table.len();
-    match table.get_index(at as usize) {
-        Some((own, _)) if *own == at => at as usize,
+    let likely = likely_place(table, at);
+    match table.get_index(likely) {
+        Some((own, _)) if *own == at => likely,
         _ => table.get_index_of(&at).unwrap_or(behind),
     }
 }

@@ -1,5 +1,5 @@
 -- The programs of the receiver that the tests have.
-use Rattle.std.specs.Prelude.{◌≡◌, ℕ, List, [], ◌∷◌, ℤ, ◌+ℤ◌, FitsSigned, Bool, true, false}
+use Rattle.std.specs.Prelude.{◌≡◌, ℕ, List, [], ◌∷◌, ℤ, ◌+ℤ◌, FitsSigned}
 use Rattle.std.specs.Int.{w32}
 use Rattle.mh_base.specs.declared.value.Value.{Value}
 use Rattle.mh_base.specs.declared.value.Value.TheVariants as value
@@ -21,8 +21,3 @@ IsDouble n outcome.Failed = FitsSigned w32 (n +ℤ n) → ⊥
 abbrev pub MayDouble : List Value → Outcome → Type 0
 MayDouble (value.Int n ∷ []) o = IsDouble n o
 MayDouble vs o = o ≡ outcome.Failed
-
--- the other program always fails
-abbrev pub MayAnswer : Bool → List Value → Outcome → Type 0
-MayAnswer true vs o = MayDouble vs o
-MayAnswer false vs o = o ≡ outcome.Failed

@@ -8,7 +8,7 @@ ghost use Rattle.mh_model.specs.declared.program.Outcome.TheVariants as outcome_
 ghost use Rattle.mh_resident.specs.declared.answer.CallFailed.TheVariants as call_failed;
 ghost use Rattle.mh_model.specs.declared.program.Param.TheVariants as param;
 ghost use Rattle.mh_model.specs.declared.program.Plain.TheVariants as plain;
-ghost use Rattle.mh_tests.specs.Doubling.{numbers, IsDouble, MayAnswer};
+ghost use Rattle.mh_tests.specs.Doubling.{numbers, IsDouble, MayDouble};
 
 use crate::cases::{Question, all_hold, word};
 use crate::playing::DAY;
@@ -31,30 +31,18 @@ fn signature(alloc: Global, name: &[u8]) -> Result<Signature, AllocError>
     Ok(Signature { name, params })
 }
 
-/// One that doubles a number, and fails where the double is none of 32 bits, or one that always fails.
+/// One that doubles a number, and fails where the double is none of 32 bits.
 #[derive(Drop)]
-struct Program {
+struct Doubling {
     alloc: Global,
-    doubles: bool,
     signature: Signature,
-    ghost its_own: { signature.params ≡ param.In plain.Int ∷ param.Out plain.Int ∷ [] },
+    ghost its_own: { signature ≡ numbers (codes "DBL") },
 }
 
-impl Program {
-    fn new(alloc: Global, name: &[u8], doubles: bool) -> Result<Program, AllocError> {
-        let signature = signature(alloc, name)?;
-        Ok(Program {
-            alloc,
-            doubles,
-            signature,
-        })
-    }
-}
+impl Resident for Doubling {
+    ghost signature_of = { λ _. numbers (codes "DBL") };
 
-impl Resident for Program {
-    ghost signature_of = { λ p. p.signature };
-
-    ghost may_answer = { λ p _ values outcome. MayAnswer p.doubles values outcome };
+    ghost may_answer = { λ _ _ values outcome. MayDouble values outcome };
 
     fn signature(&self) -> &Signature {
         &self.signature
@@ -62,9 +50,30 @@ impl Resident for Program {
 
     fn call(&self, _: Now, args: &[Value]) -> Result<Answer, CallFailed> {
         match args {
-            [Value::Int(number)] if self.doubles => double(self.alloc, *number),
+            [Value::Int(number)] => double(self.alloc, *number),
             _ => Err(CallFailed::Failed),
         }
+    }
+}
+
+/// One that always fails.
+#[derive(Drop)]
+struct Failing {
+    signature: Signature,
+    ghost its_own: { signature ≡ numbers (codes "NOT") },
+}
+
+impl Resident for Failing {
+    ghost signature_of = { λ _. numbers (codes "NOT") };
+
+    ghost may_answer = { λ _ _ _ outcome. outcome ≡ outcome_lem.Failed };
+
+    fn signature(&self) -> &Signature {
+        &self.signature
+    }
+
+    fn call(&self, _: Now, _: &[Value]) -> Result<Answer, CallFailed> {
+        Err(CallFailed::Failed)
     }
 }
 
@@ -134,14 +143,23 @@ fn outcome<P: Resident>(
 }
 
 /// The service, verified beside these programs.
-fn verified(alloc: Global, asked: &str, doubling: &Program, failing: &Program) -> Option<Accepted> {
+fn verified(alloc: Global, asked: &str, programs: &[Box<dyn Resident>]) -> Option<Accepted> {
     let program = if word(asked, 1) == "DBL" { "1" } else { "2" };
     let service = service(alloc, program, word(asked, 2))?;
-    let known = vec![in alloc;
-        doubling.signature.clone().ok()?,
-        failing.signature.clone().ok()?,
-    ];
-    verify(alloc, service, known.ok()?.as_slice()).ok()
+    let known = signatures_of(alloc, programs).ok()?;
+    verify(alloc, service, known.as_slice()).ok()
+}
+
+fn push_doubling(programs: &mut Vec<Box<dyn Resident>>, alloc: Global) -> Option<()> {
+    let signature = signature(alloc, b"DBL").ok()?;
+    let program: Box<dyn Resident> = Box::new(alloc, Doubling { alloc, signature }).ok()?;
+    programs.push(program).ok()
+}
+
+fn push_failing(programs: &mut Vec<Box<dyn Resident>>, alloc: Global) -> Option<()> {
+    let signature = signature(alloc, b"NOT").ok()?;
+    let program: Box<dyn Resident> = Box::new(alloc, Failing { signature }).ok()?;
+    programs.push(program).ok()
 }
 
 /// Which programs there are, the one that is called, and a number.
@@ -149,14 +167,15 @@ struct Beside;
 
 impl Question for Beside {
     fn answer(alloc: Global, asked: &str, _: &[u8]) -> Option<Vec<u8>> {
-        let doubling = Program::new(alloc, b"DBL", true).ok()?;
-        let failing = Program::new(alloc, b"NOT", false).ok()?;
-        let accepted = verified(alloc, asked, &doubling, &failing)?;
-        let programs = match word(asked, 0) {
-            "both" => vec![in alloc; doubling, failing].ok()?,
-            "turned" => vec![in alloc; failing, doubling].ok()?,
-            _ => vec![in alloc; doubling].ok()?,
-        };
+        let mut programs: Vec<Box<dyn Resident>> = Vec::new(alloc);
+        push_doubling(&mut programs, alloc)?;
+        push_failing(&mut programs, alloc)?;
+        let accepted = verified(alloc, asked, programs.as_slice())?;
+        match word(asked, 0) {
+            "turned" => programs.swap(0, 1),
+            "one" => programs.truncate(1),
+            _ => {}
+        }
         outcome(alloc, Receiver::start(alloc, accepted, programs, DAY))
     }
 }

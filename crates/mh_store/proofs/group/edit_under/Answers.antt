@@ -1,4 +1,4 @@
-use Rattle.std.proofs.Common.{ap, ◌∙◌}
+use Rattle.std.proofs.Common.{ap}
 use Rattle.mh_model.specs.Edits.{edited}
 use Rattle.mh_store.specs.Trying.{left_over}
 use Rattle.mh_store.proofs.TableLemmas.{none-under, on_error}

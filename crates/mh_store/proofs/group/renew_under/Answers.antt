@@ -1,4 +1,4 @@
-use Rattle.std.proofs.Common.{ap, ◌∙◌}
+use Rattle.std.proofs.Common.{ap}
 use Rattle.mh_store.specs.Trying.{left_over}
 use Rattle.mh_store.proofs.TableLemmas.{set_value-none}
 use Rattle.mh_store.proofs.PlaceLemmas.{found_at, put_place}

@@ -4,3 +4,9 @@ use Rattle.mh_display.proofs.screen.Screen.new.Goals as goal
 
 pub returns-clause-clean : goal.returns-clause-clean
 returns-clause-clean c = clean_at_first _ (search rules)
+
+pub invariant_of-result : goal.invariant_of-result
+invariant_of-result c = record {
+  whole = record { planes = search rules; marks = search rules };
+  stale = λ e. absurd cc;
+}

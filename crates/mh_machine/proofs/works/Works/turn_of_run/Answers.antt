@@ -2,12 +2,11 @@ use Rattle.std.specs.Prelude.{◌≡◌, ℕ, Bool, List, Option}
 use Rattle.std.specs.Option.{is_some, option_copied}
 use Rattle.std.proofs.Common.{rules, ap, ◌∙◌, sym}
 use Rattle.mh_model.specs.Lifecycle.{lacking_at, is_unprepared_at}
-use Rattle.mh_machine.specs.declared.plan.Plan.{Plan}
 use Rattle.mh_machine.specs.Loading.{run_told}
-use Rattle.mh_machine.specs.Plans.{committed, wait_if}
+use Rattle.mh_machine.specs.Plans.{wait_if}
 use Rattle.mh_machine.specs.Working.{Working}
 use Rattle.mh_machine.proofs.PlanLemmas.{run_planned, some_copied}
-use Rattle.mh_machine.proofs.works.Works.plan_run.Goals as goal
+use Rattle.mh_machine.proofs.works.Works.turn_of_run.Goals as goal
 
 pub returns : goal.returns
 returns c =
@@ -18,7 +17,6 @@ returns c =
     ∙ ap (λ (b : Bool). wait_if b c.args.at.now (lacking_at c.args.self.now.state.files (option_copied c.get-found.result))) becomes in
     let there : c.is_some.result ≡ is_some c.in_ok-copied_text.field-0 = c.is_some.ensures ∙ some_copied c.loaded-text.result ∙ ap (λ (m : Option (List ℕ)). is_some m) (sym c.in_ok-copied_text.ensures) in
     let told = c.in_ok-pieces.ensures ∙ ap (λ (b : Bool). run_told b c.args.at.now (option_copied c.get-found.result)) there in
-    ap (λ (p : Plan). committed p c.args.self.now.state) c.of.ensures
-    ∙ run_planned c.args.self.now.state c.args.at.now (option_copied c.get-found.result) c.in_ok-copied_text.field-0 c.in_ok-places.places.items
+    run_planned c.args.self.now.state c.args.at.now (option_copied c.get-found.result) c.in_ok-copied_text.field-0 c.in_ok-places.places.items
     c.in_ok-change.change c.in_ok-stacking.stacking c.in_ok-awaiting.awaiting c.in_ok-pieces.pieces.items
     (search rules) (search rules) c.in_ok-places.ensures c.in_ok-change.ensures (search rules) waits told
