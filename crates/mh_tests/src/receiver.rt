@@ -150,29 +150,28 @@ fn verified(alloc: Global, asked: &str, programs: &[Box<dyn Resident>]) -> Optio
     verify(alloc, service, known.as_slice()).ok()
 }
 
-fn push_doubling(programs: &mut Vec<Box<dyn Resident>>, alloc: Global) -> Option<()> {
-    let signature = signature(alloc, b"DBL").ok()?;
-    let program: Box<dyn Resident> = Box::new(alloc, Doubling { alloc, signature }).ok()?;
-    programs.push(program).ok()
-}
-
-fn push_failing(programs: &mut Vec<Box<dyn Resident>>, alloc: Global) -> Option<()> {
-    let signature = signature(alloc, b"NOT").ok()?;
-    let program: Box<dyn Resident> = Box::new(alloc, Failing { signature }).ok()?;
-    programs.push(program).ok()
-}
-
 /// Which programs there are, the one that is called, and a number.
 struct Beside;
 
 impl Question for Beside {
     fn answer(alloc: Global, asked: &str, _: &[u8]) -> Option<Vec<u8>> {
         let mut programs: Vec<Box<dyn Resident>> = Vec::new(alloc);
-        push_doubling(&mut programs, alloc)?;
-        push_failing(&mut programs, alloc)?;
+        let named = signature(alloc, b"DBL").ok()?;
+        let doubling: Box<dyn Resident> = Box::new(
+            alloc,
+            Doubling {
+                alloc,
+                signature: named,
+            },
+        )
+        .ok()?;
+        programs.push(doubling).ok()?;
+        let named = signature(alloc, b"NOT").ok()?;
+        let failing: Box<dyn Resident> = Box::new(alloc, Failing { signature: named }).ok()?;
+        programs.push(failing).ok()?;
         let accepted = verified(alloc, asked, programs.as_slice())?;
         match word(asked, 0) {
-            "turned" => programs.swap(0, 1),
+            "turned" => programs.reverse(),
             "one" => programs.truncate(1),
             _ => {}
         }
