@@ -4,6 +4,7 @@ pub mod ListLemmas
 pub mod FieldLemmas
 pub mod PieceLemmas
 pub mod SignLemmas
+pub mod KeywordLemmas
 pub mod FoundLemmas
 pub mod FoundSettings
 pub mod FoundGroups

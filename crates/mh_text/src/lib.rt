@@ -9,6 +9,7 @@
 mod effect;
 mod field;
 mod form;
+mod keyword;
 pub mod laws;
 mod lexing;
 pub mod object;

@@ -1,10 +1,11 @@
 //! `Sign`: what a token means. Keywords, words and integers are looked up here, wherever they stand;
 //! what may stand where is left to the readers.
 ghost use Rattle.std.specs.Prelude.{◌≡◌, Some, None, nat_le, if◌then◌else◌, ◌+◌, ◌*◌};
-ghost use Rattle.mh_text.specs.Signs.{sign_of as sign_of_lem, keyword_sign as keyword_sign_lem, name_sign as name_sign_lem, mark_sign as mark_sign_lem, word_sign as word_sign_lem, integer_sign as integer_sign_lem, integer_of as integer_of_lem, positive as positive_lem, negative as negative_lem};
+ghost use Rattle.mh_text.specs.Signs.{sign_of as sign_of_lem, keyword_sign as keyword_sign_lem, word_sign as word_sign_lem, integer_sign as integer_sign_lem, integer_of as integer_of_lem, positive as positive_lem, negative as negative_lem};
 ghost use Rattle.mh_text.specs.Bytes.{number_behind};
 ghost use Rattle.mh_text.specs.Reading.{is_open as is_open_lem, is_close as is_close_lem, is_open_brace as is_open_brace_lem, is_close_brace as is_close_brace_lem, is_indirect as is_indirect_lem, is_content_ref as is_content_ref_lem};
 
+use crate::keyword::name_sign;
 use crate::{TokenKind, Why};
 use mh_base::{EventType, Kind};
 use mh_group::{ActionName, Attribute, Class, Justification};
@@ -97,40 +98,6 @@ fn keyword_sign(text: &[u8]) -> Option<Sign>
         [_, name @ ..] => name_sign(name),
         [] => None,
     }
-}
-
-/// What the name of a keyword means.
-#[tactic(auto, unfolding(crate::specs::Signs::name_sign))]
-fn name_sign(name: &[u8]) -> Option<Sign>
-    ensures { result ≡ name_sign_lem name.now }
-{
-    if let Some(class) = Class::of_word(name) {
-        return Some(Sign::Class(class));
-    }
-    if let Some(attribute) = Attribute::of_word(name) {
-        return Some(Sign::Attribute(attribute));
-    }
-    if let Some(action) = ActionName::of_word(name) {
-        return Some(Sign::Action(action));
-    }
-    if let Some(kind) = mh_group::kind_of_word(name) {
-        return Some(Sign::Kind(kind));
-    }
-    mark_sign(name)
-}
-
-/// What a keyword means that no table has.
-#[tactic(auto, unfolding(crate::specs::Signs::mark_sign))]
-fn mark_sign(name: &[u8]) -> Option<Sign>
-    ensures { result ≡ mark_sign_lem name.now }
-{
-    if name == b"ContentRef".as_slice() {
-        return Some(Sign::ContentRef);
-    }
-    if name == b"IndirectRef".as_slice() {
-        return Some(Sign::IndirectRef);
-    }
-    None
 }
 
 #[tactic(auto, unfolding(crate::specs::Signs::word_sign))]
