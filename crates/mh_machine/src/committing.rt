@@ -3,27 +3,23 @@
 //! What most steps do has a shorter way: pieces that are put, and one body that is changed, need no plan.
 ghost use Rattle.std.specs.Prelude.{◌≡◌, ◌+◌, ◌<◌, ◌≤◌, ◌^◌, true, [], OnOk, OnErr, vec_len, vec_capacity};
 ghost use Rattle.mh_actions.specs.Listed.{listed};
-ghost use Rattle.mh_model.specs.Bodies.{given, stored};
+ghost use Rattle.mh_model.specs.Bodies.{given};
 ghost use Rattle.mh_model.specs.Edits.{edited};
 ghost use Rattle.mh_model.specs.Rules.{changed};
-ghost use Rattle.mh_model.specs.Service.{parts};
 ghost use Rattle.mh_machine.specs.Pieces.{written};
-ghost use Rattle.mh_machine.specs.Plans.{change_at, committed, halt_plan, turn_plan, put_for_first, taken_from, changed_as, given_all, rewaited, queued, worked, noted, room_for};
+ghost use Rattle.mh_machine.specs.Plans.{change_at, committed, halt_plan, turn_plan, put_for_first, taken_from, changed_as, rewaited, queued, worked, noted, room_for};
 
 use crate::agenda::Agenda;
+use crate::applying::apply;
 use crate::interacting::{end_of, interact};
-use crate::lifecycle::is_visible;
 use crate::piece::Piece;
-use crate::plan::{Awaiting, Change, Gift, Plan, Puts, Turn};
+use crate::plan::{Awaiting, Plan, Puts, Turn};
 use crate::room::make_room;
-use crate::stage::Stage;
 use crate::work::Work;
 use crate::works::Works;
-use mh_actions::fits_value;
 use mh_actions::putting::Put;
 use mh_base::{ObjRef, Value};
 use mh_carousel::Carousel;
-use mh_group::Position;
 use mh_model::{Edit, Event, Fault};
 use std::alloc::AllocError;
 
@@ -187,76 +183,6 @@ impl Works {
         self.taken += 1;
         Ok(())
     }
-}
-
-/// Changes bodies.
-fn apply(stage: &mut Stage, change: Change) -> Result<(), AllocError>
-    ensures changed { OnOk result (stage.new.objects ≡ changed_as change stage.old.objects) }
-    ensures stack { stage.new.stack ≡ stage.old.stack }
-    ensures room { stage.new.room ≡ stage.old.room }
-    ensures own { parts stage.new.objects.application ≡ parts stage.old.objects.application }
-    ensures others { parts stage.new.objects.scene ≡ parts stage.old.objects.scene }
-    ensures kept { OnErr result (stage.new.objects ≡ stage.old.objects) }
-{
-    match change {
-        Change::Nothing => Ok(()),
-        Change::Edit(at, edit) => stage.edit(&at, edit),
-        Change::Give(gifts) => {
-            give(stage, gifts.into_vec());
-            Ok(())
-        }
-        Change::Place(at, edit, placed) => place(stage, &at, edit, placed.as_slice()),
-    }
-}
-
-/// Changes the body of an object, and places these where that is no visible.
-fn place(
-    stage: &mut Stage,
-    at: &ObjRef,
-    edit: Edit,
-    placed: &[(ObjRef, Position)],
-) -> Result<(), AllocError>
-    ensures changed { OnOk result (stage.new.objects
-        ≡ changed_as (Change.Place at.now edit placed.now) stage.old.objects) }
-    ensures stack { stage.new.stack ≡ stage.old.stack }
-    ensures room { stage.new.room ≡ stage.old.room }
-    ensures own { parts stage.new.objects.application ≡ parts stage.old.objects.application }
-    ensures others { parts stage.new.objects.scene ≡ parts stage.old.objects.scene }
-    ensures kept { OnErr result (stage.new.objects ≡ stage.old.objects) }
-{
-    if is_visible(stage.objects().get(at)) {
-        stage.edit(at, edit)
-    } else {
-        stage.edit_and_place(at, edit, placed)
-    }
-}
-
-/// Gives variables their values, one after another.
-fn give(stage: &mut Stage, gifts: Vec<Gift>)
-    ensures given { stage.new.objects ≡ given_all gifts.items stage.old.objects }
-    ensures stack { stage.new.stack ≡ stage.old.stack }
-    ensures room { stage.new.room ≡ stage.old.room }
-    ensures own { parts stage.new.objects.application ≡ parts stage.old.objects.application }
-    ensures others { parts stage.new.objects.scene ≡ parts stage.old.objects.scene }
-{
-    for gift in gifts {
-        give_one(stage, gift);
-    }
-}
-
-/// Gives a variable its value, where it can hold it.
-fn give_one(stage: &mut Stage, gift: Gift)
-    ensures given { stage.new.objects ≡ changed (λ _ b. stored gift.value b) gift.at stage.old.objects }
-    ensures stack { stage.new.stack ≡ stage.old.stack }
-    ensures room { stage.new.room ≡ stage.old.room }
-    ensures own { parts stage.new.objects.application ≡ parts stage.old.objects.application }
-    ensures others { parts stage.new.objects.scene ≡ parts stage.old.objects.scene }
-{
-    let Gift { at, value } = gift;
-    if !fits_value(&value) {
-        return;
-    }
-    stage.give(&at, value);
 }
 
 fn put(work: &mut Work, puts: Puts)

@@ -7,6 +7,7 @@
 mod acting;
 mod advancing;
 mod agenda;
+mod applying;
 mod asking;
 mod calling;
 mod committing;

@@ -1,7 +1,7 @@
 use Rattle.std.proofs.Common.{◌≡◌}
 use Rattle.mh_model.specs.Service.{parts}
 use Rattle.mh_machine.specs.Plans.{given_all}
-use Rattle.mh_machine.proofs.committing.give.Given as goal
+use Rattle.mh_machine.proofs.applying.give.Given as goal
 
 abbrev pub invariant-loop-gift : goal.invariant-loop-gift
 invariant-loop-gift l =
