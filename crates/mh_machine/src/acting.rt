@@ -21,6 +21,9 @@ use mh_model::{Act, Argument, Edit, Event, Item, Object, Target, Waiting};
 use mh_store::Objects;
 use std::alloc::{AllocError, Global};
 
+/// The most items that one action puts.
+const MOST_PUT: usize = 2;
+
 impl Works {
     /// An event: the actions of all links that hear it, at once or when it is taken from the queue.
     pub(crate) fn do_emit(&mut self, event: &Event) -> Result<(), AllocError>
@@ -145,7 +148,7 @@ impl Works {
         self.commit(plan)
     }
 
-    /// An action that puts items.
+    /// An action that puts items. Room for them is made before they are.
     fn do_put(&mut self, act: &Act, at: &ObjRef) -> Result<(), AllocError>
         requires { self.old.state.taken + 1 < 2 ^ 64 }
         ensures done { let values = said.values (all self.old.state.objects) act.now.arguments in
@@ -153,10 +156,12 @@ impl Works {
             ≡ put_rule act.now.name values at.now (taken_from self.old.state)) }
         ensures kept { OnErr result (self.new.state ≡ self.old.state) }
     {
+        self.work.reserve(MOST_PUT)?;
         let values = values(self.alloc, self.stage.objects(), act.arguments.as_slice())?;
         let found = self.stage.objects().get(at);
         let put = put_items(act.name, values.as_slice(), at, found)?;
-        self.commit_put(put)?;
+        self.work.put_by_act(put);
+        self.taken += 1;
         Ok(())
     }
 

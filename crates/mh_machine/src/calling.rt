@@ -6,6 +6,7 @@ ghost use Rattle.mh_model.specs.Saying.{call_items};
 ghost use Rattle.mh_machine.specs.Pieces.{written};
 ghost use Rattle.mh_machine.specs.Plans.{committed, taken_from};
 
+use crate::pair::both;
 use crate::piece::Piece;
 use crate::plan::{Awaiting, Change, Plan, Stacking};
 use crate::planning::gifts_of;
@@ -41,10 +42,10 @@ impl Works {
         let arguments = act.arguments.as_slice();
         let ins = call_ins(self.alloc, objects, params, passed(arguments))?;
         let which = builtin_at(objects, at);
-        let said = self.said_of(which, ins.as_slice())?;
-        let receivers = call_receivers(self.alloc, params, arguments)?;
-        let gifts = gifts_of(self.alloc, receivers.as_slice(), said.as_slice())?;
-        let pieces = call_pieces(self.alloc, act.name, at)?;
+        let said = self.said_of(which, ins.as_slice());
+        let (said, receivers) = both(said, call_receivers(self.alloc, params, arguments))?;
+        let gifts = gifts_of(self.alloc, receivers.as_slice(), said.as_slice());
+        let (gifts, pieces) = both(gifts, call_pieces(self.alloc, act.name, at))?;
         let change = Change::Give(Seq::from_vec(gifts));
         Ok(Plan::of(change, Stacking::Same, Awaiting::Same, pieces))
     }

@@ -2,7 +2,6 @@
 //!
 //! What most steps do has a shorter way: pieces that are put, and one body that is changed, need no plan.
 ghost use Rattle.std.specs.Prelude.{◌≡◌, ◌+◌, ◌<◌, ◌≤◌, ◌^◌, true, [], OnOk, OnErr, vec_len, vec_capacity};
-ghost use Rattle.mh_actions.specs.Listed.{listed};
 ghost use Rattle.mh_model.specs.Bodies.{given};
 ghost use Rattle.mh_model.specs.Edits.{edited};
 ghost use Rattle.mh_model.specs.Rules.{changed};
@@ -12,19 +11,16 @@ ghost use Rattle.mh_machine.specs.Plans.{change_at, committed, halt_plan, turn_p
 use crate::agenda::Agenda;
 use crate::applying::apply;
 use crate::interacting::{end_of, interact};
+use crate::pair::given;
 use crate::piece::Piece;
 use crate::plan::{Awaiting, Plan, Puts, Turn};
 use crate::room::make_room;
 use crate::work::Work;
 use crate::works::Works;
-use mh_actions::putting::Put;
 use mh_base::{ObjRef, Value};
 use mh_carousel::Carousel;
 use mh_model::{Edit, Event, Fault};
 use std::alloc::AllocError;
-
-/// The most items that one action puts.
-const MOST_PUT: usize = 2;
 
 impl Works {
     /// Carries out a plan for the first item.
@@ -34,6 +30,14 @@ impl Works {
         ensures done { OnOk result (self.new.state ≡ committed plan self.old.state) }
         ensures kept { OnErr result (self.new.state ≡ self.old.state) }
     {
+        let room = make_room(
+            &mut self.work,
+            &mut self.stage,
+            &mut self.agenda,
+            &mut self.faults,
+            &mut self.carousel,
+            &plan.puts,
+        );
         let Plan {
             change,
             stacking,
@@ -43,16 +47,10 @@ impl Works {
             waits,
             begins,
             fault,
-        } = plan;
-        make_room(
-            &mut self.work,
-            &mut self.stage,
-            &mut self.agenda,
-            &mut self.faults,
-            &mut self.carousel,
-            &puts,
-        )?;
-        apply(&mut self.stage, change)?;
+        } = given(room, plan)?;
+        let changed = apply(&mut self.stage, change);
+        let beside = (stacking, awaiting, interacting, puts, waits, fault);
+        let (stacking, awaiting, interacting, puts, waits, fault) = given(changed, beside)?;
         self.stage.restack(stacking);
         rewait(&mut self.carousel, awaiting);
         interact(&mut self.interaction, interacting);
@@ -80,18 +78,6 @@ impl Works {
         Ok(())
     }
 
-    /// Puts what an action puts in the place of the first item.
-    pub(crate) fn commit_put(&mut self, put: Put) -> Result<(), AllocError>
-        requires { self.old.state.taken + 1 < 2 ^ 64 }
-        ensures done { OnOk result (self.new.state ≡ put_for_first (listed put) self.old.state) }
-        ensures kept { OnErr result (self.new.state ≡ self.old.state) }
-    {
-        self.work.reserve(MOST_PUT)?;
-        self.work.put_by_act(put);
-        self.taken += 1;
-        Ok(())
-    }
-
     /// Carries out what becomes of one object.
     #[inline(never)]
     pub(crate) fn commit_turn(&mut self, turn: Turn) -> Result<(), AllocError>
@@ -99,16 +85,17 @@ impl Works {
         ensures done { OnOk result (self.new.state ≡ committed (turn_plan turn) self.old.state) }
         ensures kept { OnErr result (self.new.state ≡ self.old.state) }
     {
+        let turn = given(self.stage.reserve(), turn)?;
+        let turn = given(self.carousel.reserve_wait(), turn)?;
+        let room = self.work.reserve(turn.pieces.len());
         let Turn {
             change,
             stacking,
             awaiting,
             pieces,
-        } = turn;
-        self.stage.reserve()?;
-        self.carousel.reserve_wait()?;
-        self.work.reserve(pieces.len())?;
-        apply(&mut self.stage, change)?;
+        } = given(room, turn)?;
+        let changed = apply(&mut self.stage, change);
+        let (stacking, awaiting, pieces) = given(changed, (stacking, awaiting, pieces))?;
         self.stage.restack(stacking);
         rewait(&mut self.carousel, awaiting);
         self.work.put_for_first(pieces);

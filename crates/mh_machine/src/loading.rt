@@ -9,6 +9,7 @@ ghost use Rattle.mh_model.specs.State.{all};
 ghost use Rattle.mh_machine.specs.Plans.{committed, taken_from, wait_if};
 
 use crate::lifecycle::{content_pieces, is_available};
+use crate::pair::both;
 use crate::plan::{Awaiting, Change, Plan, Stacking};
 use crate::works::Works;
 use mh_actions::arguments::values;
@@ -30,14 +31,8 @@ impl Works {
     {
         let values = values(self.alloc, self.stage.objects(), act.arguments.as_slice())?;
         match new_content(values.as_slice()) {
-            Some(content) => {
-                self.replace(at, content)?;
-                Ok(())
-            }
-            None => {
-                self.pass();
-                Ok(())
-            }
+            Some(content) => self.replace(at, content),
+            None => Ok(self.pass()),
         }
     }
 
@@ -60,9 +55,13 @@ impl Works {
     {
         let is_there = is_available(self.stage.objects().get(at));
         let text = comes_to(&self.carousel, content);
-        let awaiting = awaiting(is_there, at, missing(&self.carousel, content))?;
-        let pieces = content_pieces(self.alloc, at, is_loaded(is_there, text))?;
-        let change = Change::Edit(at.clone()?, load(content, text)?);
+        let told = both(
+            awaiting(is_there, at, missing(&self.carousel, content)),
+            content_pieces(self.alloc, at, is_loaded(is_there, text)),
+        );
+        let changed = both(at.clone(), load(content, text));
+        let ((awaiting, pieces), (at, edit)) = both(told, changed)?;
+        let change = Change::Edit(at, edit);
         Ok(Plan::of(change, Stacking::Same, awaiting, pieces))
     }
 }

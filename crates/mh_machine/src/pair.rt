@@ -1,5 +1,6 @@
-//! Two results as one.
-ghost use Rattle.std.specs.Prelude.{◌≡◌, IfOk, Ok};
+//! Results joined, by functions that are generic in what they hold: who asks through them whether memory was
+//! refused has no large value to drop where it was.
+ghost use Rattle.std.specs.Prelude.{◌≡◌, Err, IfErr, IfOk, IsOk, Ok, OnOk};
 
 use std::alloc::AllocError;
 
@@ -11,4 +12,16 @@ pub fn both<A: Drop, B: Drop>(
     ensures { IfOk result (λ pair. (first ≡ Ok pair.0) × (second ≡ Ok pair.1)) }
 {
     Ok((first?, second?))
+}
+
+/// The value, where memory was not refused.
+pub fn given<T: Drop>(made: Result<(), AllocError>, value: T) -> Result<T, AllocError>
+    ensures same { IfOk result (λ given. given ≡ value) }
+    ensures good { OnOk result (IsOk made) }
+    ensures refused { IfErr result (λ why. made ≡ Err why) }
+{
+    match made {
+        Ok(()) => Ok(value),
+        Err(why) => Err(why),
+    }
 }

@@ -16,6 +16,7 @@ use crate::lifecycle::{
     run_pieces,
 };
 use crate::loading::{awaiting, copied_text, lacking, loaded};
+use crate::pair::both;
 use crate::plan::{Awaiting, Change, Gift, Interacting, Plan, Puts, Stacking, Turn};
 use crate::puts::{leaving, quitting};
 use crate::widgets::{change_of, run_places};
@@ -48,10 +49,12 @@ impl Works {
         let found = self.stage.objects().get(at);
         let becomes = is_unavailable(found);
         let text = loaded(&self.carousel, found);
-        let pieces = prepare_pieces(self.alloc, at, found, text.is_some())?;
-        let stacking = rising(becomes, at, found)?;
-        let awaiting = awaiting(becomes, at, lacking(&self.carousel, found))?;
-        let change = Change::Edit(at.clone()?, Edit::Prepare(copied_text(text)?));
+        let pieces = prepare_pieces(self.alloc, at, found, text.is_some());
+        let awaiting = awaiting(becomes, at, lacking(&self.carousel, found));
+        let told = both(pieces, both(rising(becomes, at, found), awaiting));
+        let changed = both(at.clone(), copied_text(text));
+        let ((pieces, (stacking, awaiting)), (at, text)) = both(told, changed)?;
+        let change = Change::Edit(at, Edit::Prepare(text));
         Ok(Plan::of(change, stacking, awaiting, pieces))
     }
 
@@ -73,12 +76,13 @@ impl Works {
         let found = self.stage.objects().get(at);
         let becomes = is_unprepared(found);
         let text = loaded(&self.carousel, found);
+        let target = at.clone()?;
+        let shown = copied_text(text)?;
+        let places = run_places(self.alloc, at, found)?;
         let pieces = run_pieces(self.alloc, at, found, text.is_some())?;
         let stacking = rising(becomes, at, found)?;
         let awaiting = awaiting(becomes, at, lacking(&self.carousel, found))?;
-        let start = Edit::Start(copied_text(text)?);
-        let places = run_places(self.alloc, at, found)?;
-        let change = change_of(at, Some(start), places)?;
+        let change = change_of(target, Some(Edit::Start(shown)), places);
         Ok(Turn {
             change,
             stacking,
@@ -113,10 +117,12 @@ impl Works {
         ensures { IfOk result (λ plan. committed plan self.now.state
             ≡ done (Item.Drop at.now) self.now.state) }
     {
-        let pieces = drop_pieces(self.alloc, at, self.stage.objects().get(at))?;
-        let change = Change::Edit(at.clone()?, Edit::Drop);
-        let awaiting = Awaiting::Forget(at.clone()?);
-        Ok(Plan::of(change, Stacking::Fall(at.clone()?), awaiting, pieces))
+        let pieces = drop_pieces(self.alloc, at, self.stage.objects().get(at));
+        let (changed, fallen) = both(at.clone(), at.clone())?;
+        let (forgotten, pieces) = both(at.clone(), pieces)?;
+        let change = Change::Edit(changed, Edit::Drop);
+        let stacking = Stacking::Fall(fallen);
+        Ok(Plan::of(change, stacking, Awaiting::Forget(forgotten), pieces))
     }
 
     /// An action that asks its target.
@@ -128,8 +134,8 @@ impl Works {
     {
         let values = values(self.alloc, self.stage.objects(), act.arguments.as_slice())?;
         let found = self.stage.objects().get(at);
-        let told = answers(self.alloc, act.name, values.as_slice(), found)?;
-        let receivers = receivers(self.alloc, act.arguments.as_slice())?;
+        let told = answers(self.alloc, act.name, values.as_slice(), found);
+        let (told, receivers) = both(told, receivers(self.alloc, act.arguments.as_slice()))?;
         let gifts = gifts_of(self.alloc, receivers.as_slice(), told.as_slice())?;
         Ok(Plan::changing(self.alloc, Change::Give(Seq::from_vec(gifts))))
     }
@@ -145,11 +151,11 @@ impl Works {
             return Ok(Plan::nothing(self.alloc));
         }
         let values = values(self.alloc, objects, act.arguments.as_slice())?;
-        let how = reorder_by(act.name, values.as_slice(), at, objects)?;
-        let stacking = Stacking::Move(at.clone()?, how);
+        let how = reorder_by(act.name, values.as_slice(), at, objects);
+        let (at, how) = both(at.clone(), how)?;
         Ok(Plan::of(
             Change::Nothing,
-            stacking,
+            Stacking::Move(at, how),
             Awaiting::Same,
             Vec::new(self.alloc),
         ))
@@ -167,12 +173,13 @@ impl Works {
         if self.transition {
             return Ok(Plan::nothing(self.alloc));
         }
+        let work = self.way_out(name, target)?;
         Ok(Plan {
             change: Change::Nothing,
             stacking: Stacking::Same,
             awaiting: Awaiting::Same,
             interacting: Interacting::Same,
-            puts: Puts::Instead(self.way_out(name, target)?),
+            puts: Puts::Instead(work),
             waits: None,
             begins: true,
             fault: None,

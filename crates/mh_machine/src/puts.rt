@@ -73,12 +73,28 @@ pub fn quitting(
         IfOk result (λ pieces. written pieces.items
         ≡ quitting_lem application.now parts.now left last) }
 {
+    let mut pieces = closing(alloc, application, parts, scene)?;
+    push(&mut pieces, Piece::One(last))?;
+    Ok(pieces)
+}
+
+/// What leaves the application and the scene: both close down, and all their objects halt.
+fn closing(
+    alloc: Global,
+    application: &GroupName,
+    parts: &[FixedPart],
+    scene: Option<(&GroupName, &[FixedPart])>,
+) -> Result<Vec<Piece>, AllocError>
+    ensures { let left = option_map (λ s. (s.0.now, s.1.now)) scene.entry in
+        let effect = group_effect application.now parts.now Attribute.OnCloseDown in
+        IfOk result (λ pieces. written pieces.items
+        ≡ scene_closing left ++ effect ++ scene_halts left ++ all_halts parts.now) }
+{
     let mut pieces = Vec::new(alloc);
     push_scene_closing(&mut pieces, scene)?;
     push_group_effect(&mut pieces, application, parts, Attribute::OnCloseDown)?;
     push_scene_halts(&mut pieces, scene)?;
     push_all_halts(&mut pieces, parts)?;
-    push(&mut pieces, Piece::One(last))?;
     Ok(pieces)
 }
 
@@ -175,6 +191,14 @@ fn push_runs(pieces: &mut Vec<Piece>, parts: &[FixedPart]) -> Result<(), AllocEr
     Ok(())
 }
 
+fn push_halt(pieces: &mut Vec<Piece>, part: &Fixed) -> Result<(), AllocError>
+    ensures { let halt = Item.Halt part.now.key in
+        OnOk result (written pieces.new.items ≡ written pieces.old.items ++ halt ∷ []) }
+{
+    let halt = Item::Halt(part.key.clone()?);
+    push(pieces, Piece::One(halt))
+}
+
 /// Puts a Halt of each part that can run behind these pieces, the last first.
 fn push_all_halts(pieces: &mut Vec<Piece>, parts: &[FixedPart]) -> Result<(), AllocError>
     ensures { let halted = all_halts parts.now in
@@ -183,7 +207,7 @@ fn push_all_halts(pieces: &mut Vec<Piece>, parts: &[FixedPart]) -> Result<(), Al
     for part in parts.iter().rev() {
         let part = part.get();
         if part.class.is_runnable() {
-            push(pieces, Piece::One(Item::Halt(part.key.clone()?)))?;
+            push_halt(pieces, part)?;
         }
     }
     Ok(())
@@ -197,7 +221,7 @@ fn push_unshared_halts(pieces: &mut Vec<Piece>, parts: &[FixedPart]) -> Result<(
     for part in parts.iter().rev() {
         let part = part.get();
         if part.class.is_runnable() && !is_shared(part) {
-            push(pieces, Piece::One(Item::Halt(part.key.clone()?)))?;
+            push_halt(pieces, part)?;
         }
     }
     Ok(())

@@ -12,6 +12,7 @@ ghost use Rattle.mh_machine.specs.Plans.{begins_as, change_with, committed, inte
 
 use crate::interacting::is_interacting;
 use crate::lifecycle::push_items;
+use crate::pair::both;
 use crate::piece::Piece;
 use crate::plan::{Awaiting, Change, Interacting, Plan, Stacking};
 use crate::planning::gifts_of;
@@ -20,7 +21,7 @@ use crate::works::Works;
 use mh_actions::arguments::{receivers, values};
 use mh_base::{EventType, ObjRef, Octets, Seq, Value};
 use mh_group::{ActionName, Class, Position};
-use mh_model::{Act, Edit, Interaction, Object};
+use mh_model::{Act, Edit, Interaction, Item, Object};
 use mh_widgets::lists::list_started;
 use mh_widgets::{Done, worked};
 use std::alloc::{AllocError, Global};
@@ -51,9 +52,8 @@ impl Works {
         };
         let values = values(self.alloc, objects, act.arguments.as_slice())?;
         let done = worked(self.alloc, act.name, values.as_slice(), at, object)?;
-        let mut pieces = Vec::new(self.alloc);
-        push_items(&mut pieces, done.items)?;
-        let change = change_of(at, done.edit, done.placed)?;
+        let change = change_of(at.clone()?, done.edit, done.placed);
+        let pieces = pieces_of(self.alloc, done.items)?;
         Ok(Plan::of(change, Stacking::Same, Awaiting::Same, pieces))
     }
 
@@ -94,8 +94,9 @@ impl Works {
         let values = values(self.alloc, objects, act.arguments.as_slice())?;
         let interacts = is_interacting(at, &self.interaction);
         let found = objects.get(at);
-        let interacting = interacting_by(self.alloc, values.as_slice(), interacts, at, found)?;
-        let pieces = interaction_pieces(self.alloc, values.as_slice(), interacts, at)?;
+        let interacting = interacting_by(self.alloc, values.as_slice(), interacts, at, found);
+        let pieces = interaction_pieces(self.alloc, values.as_slice(), interacts, at);
+        let (interacting, pieces) = both(interacting, pieces)?;
         Ok(Plan::interacting(Change::Nothing, interacting, pieces))
     }
 
@@ -112,23 +113,27 @@ impl Works {
     }
 }
 
+/// These items as pieces.
+fn pieces_of(alloc: Global, items: Vec<Item>) -> Result<Vec<Piece>, AllocError>
+    ensures { IfOk result (λ pieces. written pieces.items ≡ items.items) }
+{
+    let mut pieces = Vec::new(alloc);
+    push_items(&mut pieces, items)?;
+    Ok(pieces)
+}
+
 /// What is changed of the object at this reference, if anything is, and what is placed with it.
-pub fn change_of(
-    at: &ObjRef,
-    edit: Option<Edit>,
-    placed: Vec<(ObjRef, Position)>,
-) -> Result<Change, AllocError>
-    ensures { IfOk result (λ change. change ≡ change_with at.now edit placed.items) }
+pub fn change_of(at: ObjRef, edit: Option<Edit>, placed: Vec<(ObjRef, Position)>) -> Change
+    ensures { result ≡ change_with at edit placed.items }
 {
     let Some(edit) = edit else {
-        return Ok(Change::Nothing);
+        return Change::Nothing;
     };
-    let at = at.clone()?;
     let placed = Seq::from_vec(placed);
     if placed.is_empty() {
-        Ok(Change::Edit(at, edit))
+        Change::Edit(at, edit)
     } else {
-        Ok(Change::Place(at, edit, placed))
+        Change::Place(at, edit, placed)
     }
 }
 

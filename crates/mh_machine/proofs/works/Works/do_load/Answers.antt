@@ -12,11 +12,6 @@ replace-requires-clause-loadable c =
     let given : Some c.in-Some.content.now ≡ new_content (values (all c.args.self.now.state.objects) c.args.act.now.arguments) = search rules in
     (load_some (values (all c.args.self.now.state.objects) c.args.act.now.arguments) c.in-Some.content.now c.args.at.now c.args.self.now.state given).0
 
-pub returns-in-Some-clause-done : goal.returns-in-Some-clause-done
-returns-in-Some-clause-done c =
-    let given : Some c.in-Some.content.now ≡ new_content (values (all c.args.self.now.state.objects) c.args.act.now.arguments) = search rules in
-    c.in_ok-replace-in-Some.ensures.done ∙ (load_some (values (all c.args.self.now.state.objects) c.args.act.now.arguments) c.in-Some.content.now c.args.at.now (taken_from c.args.self.now.state) given).1
-
 pub returns-clause-done : goal.returns-clause-done
 returns-clause-done c =
     let given : None ≡ new_content (values (all c.args.self.now.state.objects) c.args.act.now.arguments) = search rules in

@@ -13,6 +13,7 @@ use Rattle.mh_machine.proofs.works.Works.plan_ask.Goals as goal
 pub returns : goal.returns
 returns c =
     let given : c.as_slice-2.result.now ≡ values (all c.args.self.now.state.objects) c.args.act.now.arguments = search rules in
-    let told = c.in_ok-told.ensures ∙ ap (λ (vs : List Value). answers_at c.args.act.now.name vs (option_copied c.get-found.result)) given in
+    let answered : c.in_ok-told.told ≡ answers_at c.args.act.now.name c.as_slice-2.result.now (option_copied c.get-found.result) = search rules in
+    let told = answered ∙ ap (λ (vs : List Value). answers_at c.args.act.now.name vs (option_copied c.get-found.result)) given in
     ap (λ (p : Plan). committed p c.args.self.now.state) c.changing.ensures
-    ∙ ask_planned c.args.self.now.state c.args.act.now.name (values (all c.args.self.now.state.objects) c.args.act.now.arguments) c.in_ok-told.told (receivers c.args.act.now.arguments) c.in_ok-receivers.receivers c.args.at.now (option_copied c.get-found.result) c.from_vec.result (search rules) told (search rules) (search rules)
+    ∙ ask_planned c.args.self.now.state c.args.act.now.name (values (all c.args.self.now.state.objects) c.args.act.now.arguments) c.in_ok-told.told (receivers c.args.act.now.arguments) c.in_ok-told.receivers c.args.at.now (option_copied c.get-found.result) c.from_vec.result (search rules) told (search rules) (search rules)

@@ -5,7 +5,9 @@ use Rattle.mh_model.specs.Files.{comes_to, missing}
 use Rattle.mh_model.specs.Lifecycle.{is_available_at}
 use Rattle.mh_machine.specs.declared.plan.Change.TheVariants as change
 use Rattle.mh_machine.specs.declared.plan.Plan.{Plan}
+use Rattle.mh_model.specs.declared.edit.Edit.TheVariants as edit
 use Rattle.mh_machine.specs.Loading.{content_told}
+use Rattle.mh_machine.specs.Pieces.{written}
 use Rattle.mh_machine.specs.Plans.{committed, wait_if}
 use Rattle.mh_machine.specs.Working.{Working}
 use Rattle.mh_machine.proofs.PlanLemmas.{load_planned}
@@ -16,13 +18,16 @@ returns c =
     let text = c.comes_to-text.ensures ∙ ap (λ (w : Working). comes_to w.state.files c.args.content.now) c.self.view_is in
     let lacks = c.missing.ensures ∙ ap (λ (w : Working). missing w.state.files c.args.content.now) c.self.view_is in
     let there : c.is_available-is_there.result ≡ is_available_at (option_copied c.get.result) = search rules in
-    let waits = c.in_ok-awaiting.ensures
+    let awaits : c.in_ok-awaiting.awaiting ≡ wait_if c.is_available-is_there.result c.args.at.now (option_copied c.missing.result) = search rules in
+    let waits = awaits
     ∙ ap (λ (m : Option (List ℕ)). wait_if c.is_available-is_there.result c.args.at.now m) lacks
     ∙ ap (λ (b : Bool). wait_if b c.args.at.now (missing c.args.self.now.state.files c.args.content.now)) there in
-    let told = c.in_ok-pieces.ensures
+    let tells : written c.in_ok-awaiting.pieces.items ≡ content_told c.is_loaded.result c.args.at.now = search rules in
+    let told = tells
     ∙ ap (λ (b : Bool). content_told b c.args.at.now) (c.is_loaded.ensures ∙ ap (λ (b : Bool). b && is_some (option_copied c.comes_to-text.result)) there) in
-    let at : c.in_ok-clone.field-0 ≡ c.args.at.now = search rules in
+    let at : c.in_ok-awaiting.at ≡ c.args.at.now = search rules in
+    let loads : c.in_ok-awaiting.edit ≡ edit.Load c.args.content.now (option_copied c.comes_to-text.result) = search rules in
     ap (λ (p : Plan). committed p c.args.self.now.state) c.of.ensures
     ∙ load_planned c.args.self.now.state c.args.content.now c.args.at.now (option_copied c.get.result) (option_copied c.comes_to-text.result)
-    (change.Edit c.in_ok-clone.field-0 c.in_ok-load.field-0) c.in_ok-awaiting.awaiting c.in_ok-pieces.pieces.items
-    c.requires (search rules) text (λ i. change.Edit (at i) (c.in_ok-load.ensures i)) waits told
+    (change.Edit c.in_ok-awaiting.at c.in_ok-awaiting.edit) c.in_ok-awaiting.awaiting c.in_ok-awaiting.pieces.items
+    c.requires (search rules) text (λ i. change.Edit (at i) (loads i)) waits told
