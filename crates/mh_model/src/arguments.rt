@@ -1,7 +1,8 @@
 //! What is wrong with an argument of an action, by what is needed at its place.
 //!
-//! Each function is given the best so far, and answers the one that is named of it and of its own.
-ghost use Rattle.std.specs.Prelude.{◌≡◌};
+//! Each function is given the best so far, and leaves there the one that is named of it and of its own.
+//! Where nothing is wrong it is not touched.
+ghost use Rattle.std.specs.Prelude.{◌≡◌, Some};
 ghost use Rattle.mh_model.specs.Faults as spec;
 ghost use Rattle.mh_model.specs.Faults.{least_fault};
 
@@ -18,27 +19,25 @@ use mh_group::{ActionName, Need};
 /// All arguments, each by what is needed at its place, while there are both.
 #[tactic(auto, using(crate::proofs::FaultLemmas::least_fault_append))]
 pub(crate) fn arguments<'a, K: Known>(
-    best: Best<'a>,
+    best: &mut Best<'a>,
     known: &'a K,
     act: &'a Act,
     needs: &[Need],
     arguments: &'a [Argument],
-) -> Best<'a>
+)
     ensures { let k = K.known known.now in
-        result ≡ least_fault best.entry (spec.arguments_faults k act.now needs.now arguments.now) }
+        best.new ≡ least_fault best.old (spec.arguments_faults k act.now needs.now arguments.now) }
 {
-    let mut best = best;
     let mut needs = needs;
     let mut arguments = arguments;
     while let Some((need, needs_behind)) = needs.split_first() {
         let Some((argument, arguments_behind)) = arguments.split_first() else {
-            return best;
+            return;
         };
-        best = needed(best, known, act, *need, argument);
+        needed(best, known, act, *need, argument);
         needs = behind(*need, needs_behind);
         arguments = arguments_behind;
     }
-    best
 }
 
 /// What is needed behind this.
@@ -53,14 +52,14 @@ fn behind(need: Need, needs: &[Need]) -> &[Need]
 
 /// An argument where this is needed.
 fn needed<'a, K: Known>(
-    best: Best<'a>,
+    best: &mut Best<'a>,
     known: &'a K,
     act: &'a Act,
     need: Need,
     argument: &'a Argument,
-) -> Best<'a>
+)
     ensures { let k = K.known known.now in
-        result ≡ least_fault best.entry (spec.argument_faults k act.now need argument.now) }
+        best.new ≡ least_fault best.old (spec.argument_faults k act.now need argument.now) }
 {
     match need {
         Need::Bool => value(best, known, act, &Kind::Bool, argument),
@@ -78,15 +77,15 @@ fn needed<'a, K: Known>(
 
 /// A value of a kind that passes.
 fn value<'a, K: Known, F: Fit>(
-    best: Best<'a>,
+    best: &mut Best<'a>,
     known: &K,
     act: &'a Act,
     fit: &F,
     argument: &'a Argument,
-) -> Best<'a>
+)
     ensures { let fits = F.fits fit.now in
         let k = K.known known.now in
-        result ≡ least_fault best.entry (spec.value_faults fits k act.now argument.now) }
+        best.new ≡ least_fault best.old (spec.value_faults fits k act.now argument.now) }
 {
     match argument {
         Argument::Direct(value) => {
@@ -106,14 +105,14 @@ fn value<'a, K: Known, F: Fit>(
 
 /// A variable that receives an answer of the kind.
 fn receiver<'a, K: Known>(
-    best: Best<'a>,
+    best: &mut Best<'a>,
     known: &K,
     act: &'a Act,
     kind: Kind,
     argument: &'a Argument,
-) -> Best<'a>
+)
     ensures { let k = K.known known.now in
-        result ≡ least_fault best.entry (spec.receiver_faults kind k act.now argument.now) }
+        best.new ≡ least_fault best.old (spec.receiver_faults kind k act.now argument.now) }
 {
     match argument {
         Argument::Direct(_) => found(
@@ -128,14 +127,9 @@ fn receiver<'a, K: Known>(
 }
 
 /// The reference of an object. A variable comes before what it holds.
-fn reference<'a, K: Known>(
-    best: Best<'a>,
-    known: &'a K,
-    act: &'a Act,
-    argument: &'a Argument,
-) -> Best<'a>
+fn reference<'a, K: Known>(best: &mut Best<'a>, known: &'a K, act: &'a Act, argument: &'a Argument)
     ensures { let k = K.known known.now in
-        result ≡ least_fault best.entry (spec.reference_faults k act.now argument.now) }
+        best.new ≡ least_fault best.old (spec.reference_faults k act.now argument.now) }
 {
     match argument {
         Argument::Direct(Value::Object(at)) => named(best, known, act.name, at),
@@ -146,10 +140,9 @@ fn reference<'a, K: Known>(
             act.target.written_at(),
         ),
         Argument::Through(at, _) => {
-            let best = variable(best, &Kind::Object, act.name, at, known.class_of(at));
-            match known.refers(at) {
-                Some(at) => named(best, known, act.name, at),
-                None => best,
+            variable(best, &Kind::Object, act.name, at, known.class_of(at));
+            if let Some(at) = known.refers(at) {
+                named(best, known, act.name, at);
             }
         }
         Argument::Receiver(at) => found(best, FaultKind::WrongKind, act.name, at),
@@ -157,45 +150,45 @@ fn reference<'a, K: Known>(
 }
 
 /// A value with its kind, which has to go with that of the target.
-#[tactic(auto, using(crate::proofs::FaultLemmas::least_fault_append))]
-fn typed<'a, K: Known>(
-    best: Best<'a>,
-    known: &'a K,
-    act: &'a Act,
-    argument: &'a Argument,
-) -> Best<'a>
+fn typed<'a, K: Known>(best: &mut Best<'a>, known: &'a K, act: &'a Act, argument: &'a Argument)
     ensures { let k = K.known known.now in
-        result ≡ least_fault best.entry (spec.typed_faults k act.now argument.now) }
+        best.new ≡ least_fault best.old (spec.typed_faults k act.now argument.now) }
 {
     match argument {
         Argument::Direct(value) => {
             untaken(best, known, act, &GoesWith(act.name, kind_of(value)))
         }
-        Argument::Through(at, Some(kind)) => {
-            let best = variable(best, kind, act.name, at, known.class_of(at));
-            untaken_through(best, known, act, &GoesWith(act.name, *kind), at)
-        }
+        Argument::Through(at, Some(kind)) => typed_through(best, known, act, at, *kind),
         Argument::Through(at, None) => found(best, FaultKind::WrongKind, act.name, at),
         Argument::Receiver(at) => found(best, FaultKind::WrongKind, act.name, at),
     }
 }
 
-/// A number. That of a test is its operator.
+/// The value that a variable holds, which is written to be of this kind.
 #[tactic(auto, using(crate::proofs::FaultLemmas::least_fault_append))]
-fn integer<'a, K: Known>(
-    best: Best<'a>,
+fn typed_through<'a, K: Known>(
+    best: &mut Best<'a>,
     known: &'a K,
     act: &'a Act,
-    argument: &'a Argument,
-) -> Best<'a>
+    at: &'a ObjRef,
+    kind: Kind,
+)
     ensures { let k = K.known known.now in
-        result ≡ least_fault best.entry (spec.integer_faults k act.now argument.now) }
+        best.new ≡ least_fault best.old (spec.typed_faults k act.now (Argument.Through at.now (Some kind))) }
 {
-    let best = value(best, known, act, &Kind::Int, argument);
+    variable(best, &kind, act.name, at, known.class_of(at));
+    untaken_through(best, known, act, &GoesWith(act.name, kind), at);
+}
+
+/// A number. That of a test is its operator.
+#[tactic(auto, using(crate::proofs::FaultLemmas::least_fault_append))]
+fn integer<'a, K: Known>(best: &mut Best<'a>, known: &'a K, act: &'a Act, argument: &'a Argument)
+    ensures { let k = K.known known.now in
+        best.new ≡ least_fault best.old (spec.integer_faults k act.now argument.now) }
+{
+    value(best, known, act, &Kind::Int, argument);
     if is_test(act.name) {
-        operator(best, known, act, argument)
-    } else {
-        best
+        operator(best, known, act, argument);
     }
 }
 
@@ -206,14 +199,9 @@ fn is_test(action: ActionName) -> bool
 }
 
 /// An operator, which the variable that is tested has to have.
-fn operator<'a, K: Known>(
-    best: Best<'a>,
-    known: &'a K,
-    act: &'a Act,
-    argument: &'a Argument,
-) -> Best<'a>
+fn operator<'a, K: Known>(best: &mut Best<'a>, known: &'a K, act: &'a Act, argument: &'a Argument)
     ensures { let k = K.known known.now in
-        result ≡ least_fault best.entry (spec.operator_faults k act.now argument.now) }
+        best.new ≡ least_fault best.old (spec.operator_faults k act.now argument.now) }
 {
     match argument {
         Argument::Direct(Value::Int(number)) => untaken(
@@ -223,20 +211,20 @@ fn operator<'a, K: Known>(
             &ComparedBy(Operator::of_number(*number)),
         ),
         Argument::Through(at, _) => operator_through(best, known, act, at, known.number(at)),
-        _ => best,
+        _ => {}
     }
 }
 
 /// The operator that a variable holds. One of which nothing is known is wrong.
 fn operator_through<'a, K: Known>(
-    best: Best<'a>,
+    best: &mut Best<'a>,
     known: &K,
     act: &Act,
     at: &'a ObjRef,
     number: Option<i32>,
-) -> Best<'a>
+)
     ensures { let k = K.known known.now in
-        result ≡ least_fault best.entry (spec.unfit_through k act.now at.now number) }
+        best.new ≡ least_fault best.old (spec.unfit_through k act.now at.now number) }
 {
     match number {
         Some(number) => untaken_through(

@@ -1,6 +1,7 @@
 //! Calls of programs: whether what is passed fits the program's parameters.
 //!
-//! Each function that judges is given the best so far, and answers the one that is named of it and of its own.
+//! Each function that judges is given the best so far, and leaves there the one that is named of it and of its
+//! own.
 ghost use Rattle.std.specs.Prelude.{◌≡◌};
 ghost use Rattle.std.specs.Option.{option_copied};
 ghost use Rattle.mh_model.specs.Faults as spec;
@@ -17,19 +18,20 @@ use mh_base::{Kind, ObjRef};
 use mh_group::ActionName;
 
 /// A call that does not fit its program.
-pub(crate) fn called<'a, K: Known>(best: Best<'a>, known: &'a K, act: &'a Act) -> Best<'a>
+pub(crate) fn called<'a, K: Known>(best: &mut Best<'a>, known: &'a K, act: &'a Act)
     ensures { let k = K.known known.now in
-        result ≡ least_fault best.entry (spec.called_faults k act.now) }
+        best.new ≡ least_fault best.old (spec.called_faults k act.now) }
 {
     if !is_call(act.name) {
-        return best;
+        return;
     }
     match &act.target {
         Target::Direct(at) => call(best, known, act, at),
-        Target::Through(at) => match known.refers(at) {
-            Some(at) => call(best, known, act, at),
-            None => best,
-        },
+        Target::Through(at) => {
+            if let Some(at) = known.refers(at) {
+                call(best, known, act, at);
+            }
+        }
     }
 }
 
@@ -40,9 +42,9 @@ fn is_call(name: ActionName) -> bool
 }
 
 /// A call of this program.
-fn call<'a, K: Known>(best: Best<'a>, known: &'a K, act: &'a Act, at: &'a ObjRef) -> Best<'a>
+fn call<'a, K: Known>(best: &mut Best<'a>, known: &'a K, act: &'a Act, at: &'a ObjRef)
     ensures { let k = K.known known.now in
-        result ≡ least_fault best.entry (spec.call_faults k act.now at.now) }
+        best.new ≡ least_fault best.old (spec.call_faults k act.now at.now) }
 {
     let fits = calls_well(known.takes(at), passed(act.arguments.as_slice()));
     unless(best, fits, FaultKind::WrongKind, act.name, at)
@@ -100,16 +102,16 @@ fn is_plain(plain: Plain, kind: Kind) -> bool
 
 /// An argument that is passed: a variable has to be of the kind that is written.
 pub(crate) fn passed_one<'a, K: Known>(
-    best: Best<'a>,
+    best: &mut Best<'a>,
     known: &'a K,
     act: &'a Act,
     argument: &'a Argument,
-) -> Best<'a>
+)
     ensures { let k = K.known known.now in
-        result ≡ least_fault best.entry (spec.passed_faults k act.now argument.now) }
+        best.new ≡ least_fault best.old (spec.passed_faults k act.now argument.now) }
 {
     match argument {
-        Argument::Direct(_) => best,
+        Argument::Direct(_) => {}
         Argument::Through(at, Some(kind)) => {
             variable(best, kind, act.name, at, known.class_of(at))
         }

@@ -58,6 +58,15 @@ pub fn fault_known<K: Known>(known: &K, act: &Act) -> Result<Option<Fault>, Allo
 fn least<'a, K: Known>(known: &'a K, act: &'a Act) -> Best<'a>
     ensures { result ≡ spec.fault_known (K.known known.now) act.now }
 {
-    let best = called(target(None, known, act), known, act);
-    arguments(best, known, act, act.name.needs(), act.arguments.as_slice())
+    let mut best = None;
+    target(&mut best, known, act);
+    called(&mut best, known, act);
+    arguments(
+        &mut best,
+        known,
+        act,
+        act.name.needs(),
+        act.arguments.as_slice(),
+    );
+    best
 }

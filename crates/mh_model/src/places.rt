@@ -1,7 +1,7 @@
 //! What is wrong with an object that is named at a place of an action: as a target, as a parameter,
 //! or as a variable that holds one.
 //!
-//! Each function is given the best so far, and answers the one that is named of it and of its own.
+//! Each function is given the best so far, and leaves there the one that is named of it and of its own.
 ghost use Rattle.std.specs.Prelude.{◌≡◌};
 ghost use Rattle.std.specs.Option.{option_copied, option_map_or};
 ghost use Rattle.mh_model.specs.Faults as spec;
@@ -19,14 +19,14 @@ use mh_group::{ActionName, Class};
 
 /// A variable that has to be there, and to hold values of a kind that passes.
 pub(crate) fn variable<'a, F: Fit>(
-    best: Best<'a>,
+    best: &mut Best<'a>,
     fit: &F,
     action: ActionName,
     at: &'a ObjRef,
     class: Option<Class>,
-) -> Best<'a>
+)
     ensures { let fits = F.fits fit.now in
-        result ≡ least_fault best.entry (spec.variable_faults fits action at.now class) }
+        best.new ≡ least_fault best.old (spec.variable_faults fits action at.now class) }
 {
     match class {
         None => found(best, FaultKind::Absent, action, at),
@@ -51,26 +51,25 @@ fn holds<F: Fit>(fit: &F, class: Class, otherwise: bool) -> bool
 }
 
 /// The target. For that through a variable, the variable comes before what it holds.
-pub(crate) fn target<'a, K: Known>(best: Best<'a>, known: &'a K, act: &'a Act) -> Best<'a>
+pub(crate) fn target<'a, K: Known>(best: &mut Best<'a>, known: &'a K, act: &'a Act)
     ensures { let k = K.known known.now in
-        result ≡ least_fault best.entry (spec.target_faults k act.now.name act.now.target) }
+        best.new ≡ least_fault best.old (spec.target_faults k act.now.name act.now.target) }
 {
     match &act.target {
         Target::Direct(at) => admitted(best, known, act.name, at),
         Target::Through(at) => {
-            let best = variable(best, &Kind::Object, act.name, at, known.class_of(at));
-            match known.refers(at) {
-                Some(at) => admitted(best, known, act.name, at),
-                None => best,
+            variable(best, &Kind::Object, act.name, at, known.class_of(at));
+            if let Some(at) = known.refers(at) {
+                admitted(best, known, act.name, at);
             }
         }
     }
 }
 
 /// An object for which the action has to have a rule.
-fn admitted<'a, K: Known>(best: Best<'a>, known: &K, action: ActionName, at: &'a ObjRef) -> Best<'a>
+fn admitted<'a, K: Known>(best: &mut Best<'a>, known: &K, action: ActionName, at: &'a ObjRef)
     ensures { let k = K.known known.now in
-        result ≡ least_fault best.entry (spec.admitted_faults k action at.now) }
+        best.new ≡ least_fault best.old (spec.admitted_faults k action at.now) }
 {
     match target_class(known, action, at) {
         None => found(best, FaultKind::Absent, action, at),
@@ -97,13 +96,13 @@ fn target_class<K: Known>(known: &K, action: ActionName, at: &ObjRef) -> Option<
 
 /// An object as a parameter.
 pub(crate) fn named<'a, K: Known>(
-    best: Best<'a>,
+    best: &mut Best<'a>,
     known: &K,
     action: ActionName,
     at: &'a ObjRef,
-) -> Best<'a>
+)
     ensures { let k = K.known known.now in
-        result ≡ least_fault best.entry (spec.named_faults k action at.now) }
+        best.new ≡ least_fault best.old (spec.named_faults k action at.now) }
 {
     match known.class_of(at) {
         None => found(best, FaultKind::Absent, action, at),
@@ -129,18 +128,18 @@ fn takes_object(action: ActionName, class: Class) -> bool
 
 /// A direct value, which the target has to take.
 pub(crate) fn untaken<'a, K: Known, F: Fit>(
-    best: Best<'a>,
+    best: &mut Best<'a>,
     known: &'a K,
     act: &'a Act,
     fit: &F,
-) -> Best<'a>
+)
     ensures { let k = K.known known.now in
         let wrong = spec.untaken k act.now.name (F.fits fit.now) in
         let target = spec.target_at k act.now.target in
-        result ≡ least_fault best.entry (spec.faults_behind wrong target) }
+        best.new ≡ least_fault best.old (spec.faults_behind wrong target) }
 {
     match target_at(known, &act.target) {
-        None => best,
+        None => {}
         Some(at) => {
             let takes = target_takes(known, at, fit);
             unless(best, takes, FaultKind::WrongKind, act.name, at)
@@ -150,19 +149,19 @@ pub(crate) fn untaken<'a, K: Known, F: Fit>(
 
 /// A value through a variable, which the target has to take.
 pub(crate) fn untaken_through<'a, K: Known, F: Fit>(
-    best: Best<'a>,
+    best: &mut Best<'a>,
     known: &K,
     act: &Act,
     fit: &F,
     variable: &'a ObjRef,
-) -> Best<'a>
+)
     ensures { let k = K.known known.now in
         let wrong = spec.untaken_through k act.now.name (F.fits fit.now) variable.now in
         let target = spec.target_at k act.now.target in
-        result ≡ least_fault best.entry (spec.faults_behind wrong target) }
+        best.new ≡ least_fault best.old (spec.faults_behind wrong target) }
 {
     match target_at(known, &act.target) {
-        None => best,
+        None => {}
         Some(at) => {
             let takes = target_takes(known, at, fit);
             unless(best, takes, FaultKind::WrongKind, act.name, variable)

@@ -2,7 +2,8 @@
 //!
 //! Promise: what is absent goes before a wrong class, and that before a wrong kind; of each the
 //! first. Nothing is copied until the one that is named is known.
-ghost use Rattle.std.specs.Prelude.{◌≡◌, IfOk};
+ghost use Rattle.std.specs.Prelude.{◌≡◌, nat_lt, true, IfOk};
+ghost use Rattle.std.specs.Option.{option_map_or};
 ghost use Rattle.mh_model.specs.Faults as spec;
 ghost use Rattle.mh_model.specs.Faults.{least_fault};
 
@@ -62,34 +63,36 @@ fn rank(what: FaultKind) -> u8
     }
 }
 
-/// The one that is named of the best so far and of this.
-pub(crate) fn found<'a>(
-    best: Best<'a>,
-    what: FaultKind,
-    action: ActionName,
-    at: &'a ObjRef,
-) -> Best<'a>
-    ensures { result ≡ least_fault best.entry (spec.wrong what action at.now) }
+/// Whether one of this kind is named where this is the best so far.
+fn is_named<'a>(what: FaultKind, best: &Best<'a>) -> bool
+    ensures { result ≡ option_map_or (λ b. nat_lt (spec.rank what) (spec.rank b.what)) best.now true }
 {
     match best {
-        Some(best) if best.rank() <= rank(what) => Some(best),
-        _ => Some(Wrong { what, action, at }),
+        Some(best) => rank(what) < best.rank(),
+        None => true,
     }
 }
 
-/// The best so far where this holds, else the one that is named of it and of this.
+/// The one that is named of the best so far and of this.
+pub(crate) fn found<'a>(best: &mut Best<'a>, what: FaultKind, action: ActionName, at: &'a ObjRef)
+    ensures { best.new ≡ least_fault best.old (spec.wrong what action at.now) }
+{
+    if is_named(what, best) {
+        *best = Some(Wrong { what, action, at });
+    }
+}
+
+/// The best so far stays where this holds, else the one is named that comes first of it and of this.
 pub(crate) fn unless<'a>(
-    best: Best<'a>,
+    best: &mut Best<'a>,
     holds: bool,
     what: FaultKind,
     action: ActionName,
     at: &'a ObjRef,
-) -> Best<'a>
-    ensures { result ≡ least_fault best.entry (spec.unless holds what action at.now) }
+)
+    ensures { best.new ≡ least_fault best.old (spec.unless holds what action at.now) }
 {
-    if holds {
-        best
-    } else {
-        found(best, what, action, at)
+    if !holds {
+        found(best, what, action, at);
     }
 }
