@@ -10,3 +10,4 @@ mod TextLemmas
 mod ScalarLemmas
 mod DivisionLemmas
 mod BoxLemmas
+mod ApartLemmas

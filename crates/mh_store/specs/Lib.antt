@@ -4,3 +4,4 @@ pub mod Laws
 pub mod Keeping
 pub mod Bringing
 pub mod Placing
+pub mod Apart

@@ -7,6 +7,7 @@ use Rattle.mh_model.specs.declared.object.Object.{Object}
 use Rattle.mh_model.specs.Bodies.{given}
 use Rattle.mh_model.specs.Edits.{edited}
 use Rattle.mh_model.specs.Rules.{changed_in}
+use Rattle.mh_model.specs.State.{Objects}
 
 -- what is left of what was given: all of it, where there is no such object
 abbrev pub left_over : {X : Type 0} → X → Option Object → Option X
@@ -16,6 +17,10 @@ left_over x (Some o) = None
 -- the objects of a scene, if there is one
 abbrev pub of_scene : Option (List Object) → List Object
 of_scene os = unwrap_or os []
+
+-- the objects of an application, and those of a scene, if there is one
+abbrev pub with_scene : List Object → Option (List Object) → Objects
+with_scene os ps = record { application = os; scene = of_scene ps }
 
 -- the objects with the change carried out on the one at the reference
 abbrev pub edited_in : Edit → ObjRef → List Object → List Object

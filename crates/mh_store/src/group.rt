@@ -7,6 +7,7 @@ ghost use Rattle.mh_model.specs.Bodies.{given};
 ghost use Rattle.mh_model.specs.Configuration.{are_apart};
 ghost use Rattle.mh_model.specs.Edits.{edited};
 ghost use Rattle.mh_model.specs.Service.{object_at, is_in, fresh as fresh_lem};
+ghost use Rattle.mh_store.specs.Apart.{AreApart};
 ghost use Rattle.mh_store.specs.Bringing.{ready_from, all_put, keys_of, AreOwn};
 ghost use Rattle.mh_store.specs.Placing.{renewed_in};
 ghost use Rattle.mh_store.specs.Table.{changed_at, entry_of, is_new, IsPlace};
@@ -56,16 +57,6 @@ impl Group {
         Ok(Group { alloc, name, table })
     }
 
-    /// The object to which the reference leads, if it is here.
-    pub(crate) fn get(&self, at: &ObjRef) -> Option<&Object>
-        ensures { option_copied result ≡ object_at at.now self.now }
-    {
-        match self.kept(at) {
-            Some(kept) => Some(kept.object()),
-            None => None,
-        }
-    }
-
     /// The object to which the reference leads, with its lines, if it is here.
     pub(crate) fn kept(&self, at: &ObjRef) -> Option<&Kept>
         ensures { option_copied result ≡ object_at at.now self.now }
@@ -94,6 +85,13 @@ impl Group {
             Some((_, kept)) => Some(kept),
             None => None,
         }
+    }
+
+    /// Whether the two have different names, so that no reference leads into both.
+    pub(crate) fn is_apart(&self, other: &Group) -> bool
+        ensures { AreApart result self.now other.now }
+    {
+        self.name != other.name
     }
 
     pub(crate) fn allocator(&self) -> Global {

@@ -1,5 +1,5 @@
 //! `Objects`: those of the application and those of the scene.
-ghost use Rattle.std.specs.Prelude.{◌≡◌, ◌<◌, ◌^◌, IfOk, OnOk, OnErr, [], false, length, slice_get};
+ghost use Rattle.std.specs.Prelude.{◌≡◌, ◌<◌, ◌^◌, IfOk, OnOk, OnErr, [], true, false, length, slice_get};
 ghost use Rattle.std.specs.Option.{option_copied, option_map_or};
 ghost use Rattle.mh_group.specs.Table.{is_visible};
 ghost use Rattle.mh_model.specs.Bodies.{given};
@@ -9,7 +9,8 @@ ghost use Rattle.mh_model.specs.Service.{object_at, parts};
 ghost use Rattle.mh_model.specs.State.{all};
 ghost use Rattle.mh_store.specs.Bringing.{ready_from, all_put, keys_of, AreOwn};
 ghost use Rattle.mh_store.specs.Placing.{renewed, renewed_in};
-ghost use Rattle.mh_store.specs.Trying.{of_scene, edited_in, given_in};
+ghost use Rattle.mh_store.specs.Trying.{of_scene, with_scene, edited_in, given_in, left_over};
+ghost use Rattle.mh_store.specs.Apart.{AreApart};
 
 use crate::placing::{ready_placed, renew_all};
 use crate::ready::Ready;
@@ -25,15 +26,21 @@ use std::marker::Model;
 pub struct Objects {
     application: Group,
     scene: Option<Group>,
+    /// There is a scene, and its name is not the application's. No reference leads into both then, so
+    /// that the scene, where most are found, can be asked first.
+    apart: bool,
 }
 
 impl Model for Objects {
-    ghost use Rattle.std.specs.Prelude.{[], unwrap_or};
     ghost use Rattle.mh_model.specs.State.{Objects as ObjectsValue};
+    ghost use Rattle.mh_store.specs.Apart.{AreApart};
+    ghost use Rattle.mh_store.specs.Trying.{of_scene, with_scene};
 
     ghost Value = { ObjectsValue };
 
-    ghost view = { λ o. record { application = o.application; scene = unwrap_or o.scene [] } };
+    ghost view = { λ o. with_scene o.application o.scene };
+
+    ghost invariant = { λ o. AreApart o.apart o.application (of_scene o.scene) };
 }
 
 impl Objects {
@@ -44,6 +51,7 @@ impl Objects {
         Objects {
             application,
             scene: None,
+            apart: false,
         }
     }
 
@@ -51,9 +59,9 @@ impl Objects {
     pub fn get(&self, at: &ObjRef) -> Option<&Object>
         ensures { option_copied result ≡ object_at at.now (all self.now) }
     {
-        match self.application.get(at) {
-            Some(object) => Some(object),
-            None => get_in(&self.scene, at),
+        match self.kept(at) {
+            Some(kept) => Some(kept.object()),
+            None => None,
         }
     }
 
@@ -61,6 +69,11 @@ impl Objects {
     pub fn kept(&self, at: &ObjRef) -> Option<&Kept>
         ensures { option_copied result ≡ object_at at.now (all self.now) }
     {
+        if self.apart
+            && let Some(kept) = kept_in(&self.scene, at)
+        {
+            return Some(kept);
+        }
         match self.application.kept(at) {
             Some(kept) => Some(kept),
             None => kept_in(&self.scene, at),
@@ -93,9 +106,10 @@ impl Objects {
         ensures others { parts self.new.scene ≡ parts self.old.scene }
         ensures kept { OnErr result (self.new ≡ self.old) }
     {
-        match self.application.edit(at, edit)? {
-            None => Ok(()),
-            Some(edit) => edit_in(&mut self.scene, at, edit),
+        if self.apart {
+            edit_scene_first(&mut self.application, &mut self.scene, at, edit)
+        } else {
+            edit_application_first(&mut self.application, &mut self.scene, at, edit)
         }
     }
 
@@ -105,8 +119,10 @@ impl Objects {
         ensures own { parts self.new.application ≡ parts self.old.application }
         ensures others { parts self.new.scene ≡ parts self.old.scene }
     {
-        if let Some(value) = self.application.give(at, value) {
-            give_in(&mut self.scene, at, value);
+        if self.apart {
+            give_scene_first(&mut self.application, &mut self.scene, at, value);
+        } else {
+            give_application_first(&mut self.application, &mut self.scene, at, value);
         }
     }
 
@@ -161,6 +177,7 @@ impl Objects {
     pub fn launch(&mut self, application: Group)
         ensures { self.new ≡ record { application = application; scene = [] } }
     {
+        self.apart = false;
         self.application = application;
         self.scene = None;
     }
@@ -169,21 +186,12 @@ impl Objects {
     pub fn exchange(&mut self, scene: Group)
         ensures { self.new ≡ record self.old { scene = scene } }
     {
+        self.apart = self.application.is_apart(&scene);
         self.scene = Some(scene);
     }
 }
 
 /// The object of the scene, if there is one, to which the reference leads.
-fn get_in<'a>(scene: &'a Option<Group>, at: &ObjRef) -> Option<&'a Object>
-    ensures { option_copied result ≡ object_at at.now (of_scene scene.now) }
-{
-    match scene {
-        Some(group) => group.get(at),
-        None => None,
-    }
-}
-
-/// The same with its lines.
 fn kept_in<'a>(scene: &'a Option<Group>, at: &ObjRef) -> Option<&'a Kept>
     ensures { option_copied result ≡ object_at at.now (of_scene scene.now) }
 {
@@ -214,23 +222,105 @@ fn len_in(scene: &Option<Group>) -> usize
     }
 }
 
-/// Changes the body of the scene's object at this reference.
-fn edit_in(scene: &mut Option<Group>, at: &ObjRef, edit: Edit) -> Result<(), AllocError>
-    ensures done { OnOk result (of_scene scene.new ≡ edited_in edit at.now (of_scene scene.old)) }
-    ensures kept { OnErr result (of_scene scene.new ≡ of_scene scene.old) }
+/// Changes the body of the object at this reference, where the two are apart.
+fn edit_scene_first(
+    application: &mut Group,
+    scene: &mut Option<Group>,
+    at: &ObjRef,
+    edit: Edit,
+) -> Result<(), AllocError>
+    requires { AreApart true application.old (of_scene scene.old) }
+    ensures done { OnOk result (with_scene application.new scene.new
+        ≡ changed (edited edit) at.now (with_scene application.old scene.old)) }
+    ensures kept { OnErr result (with_scene application.new scene.new ≡ with_scene application.old scene.old) }
 {
-    if let Some(group) = scene {
-        group.edit(at, edit)?;
+    match edit_in(scene, at, edit)? {
+        None => Ok(()),
+        Some(edit) => edit_alone(application, at, edit),
     }
+}
+
+/// The same where a reference may lead into both: then the application's object is meant.
+fn edit_application_first(
+    application: &mut Group,
+    scene: &mut Option<Group>,
+    at: &ObjRef,
+    edit: Edit,
+) -> Result<(), AllocError>
+    ensures done { OnOk result (with_scene application.new scene.new
+        ≡ changed (edited edit) at.now (with_scene application.old scene.old)) }
+    ensures kept { OnErr result (with_scene application.new scene.new ≡ with_scene application.old scene.old) }
+{
+    match application.edit(at, edit)? {
+        None => Ok(()),
+        Some(edit) => edit_scene(scene, at, edit),
+    }
+}
+
+/// Changes the body of the application's object at this reference; where there is none, nothing.
+fn edit_alone(application: &mut Group, at: &ObjRef, edit: Edit) -> Result<(), AllocError>
+    ensures done { OnOk result (application.new ≡ edited_in edit at.now application.old) }
+    ensures kept { OnErr result (application.new ≡ application.old) }
+{
+    application.edit(at, edit)?;
     Ok(())
 }
 
-/// Gives the scene's variable at this reference a value.
-fn give_in(scene: &mut Option<Group>, at: &ObjRef, value: Value)
-    ensures { of_scene scene.new ≡ given_in value at.now (of_scene scene.old) }
+/// Changes the body of the scene's object at this reference; where there is none, nothing.
+fn edit_scene(scene: &mut Option<Group>, at: &ObjRef, edit: Edit) -> Result<(), AllocError>
+    ensures done { OnOk result (of_scene scene.new ≡ edited_in edit at.now (of_scene scene.old)) }
+    ensures kept { OnErr result (of_scene scene.new ≡ of_scene scene.old) }
 {
-    if let Some(group) = scene {
-        group.give(at, value);
+    edit_in(scene, at, edit)?;
+    Ok(())
+}
+
+/// Changes the body of the scene's object at this reference. Where there is none the change comes back.
+fn edit_in(scene: &mut Option<Group>, at: &ObjRef, edit: Edit) -> Result<Option<Edit>, AllocError>
+    ensures done { OnOk result (of_scene scene.new ≡ edited_in edit at.now (of_scene scene.old)) }
+    ensures back { IfOk result (λ back. back ≡ left_over edit (object_at at.now (of_scene scene.old))) }
+    ensures kept { OnErr result (of_scene scene.new ≡ of_scene scene.old) }
+{
+    match scene {
+        Some(group) => group.edit(at, edit),
+        None => Ok(Some(edit)),
+    }
+}
+
+/// Gives the variable at this reference a value, where the two are apart.
+fn give_scene_first(application: &mut Group, scene: &mut Option<Group>, at: &ObjRef, value: Value)
+    requires { AreApart true application.old (of_scene scene.old) }
+    ensures { with_scene application.new scene.new
+        ≡ changed (λ _ b. given value b) at.now (with_scene application.old scene.old) }
+{
+    if let Some(value) = give_in(scene, at, value) {
+        application.give(at, value);
+    }
+}
+
+/// The same where a reference may lead into both: then the application's variable is meant.
+fn give_application_first(
+    application: &mut Group,
+    scene: &mut Option<Group>,
+    at: &ObjRef,
+    value: Value,
+)
+    ensures { with_scene application.new scene.new
+        ≡ changed (λ _ b. given value b) at.now (with_scene application.old scene.old) }
+{
+    if let Some(value) = application.give(at, value) {
+        give_in(scene, at, value);
+    }
+}
+
+/// Gives the scene's variable at this reference a value. Where there is none the value comes back.
+fn give_in(scene: &mut Option<Group>, at: &ObjRef, value: Value) -> Option<Value>
+    ensures done { of_scene scene.new ≡ given_in value at.now (of_scene scene.old) }
+    ensures back { result ≡ left_over value (object_at at.now (of_scene scene.old)) }
+{
+    match scene {
+        Some(group) => group.give(at, value),
+        None => Some(value),
     }
 }
 
