@@ -1,15 +1,19 @@
 -- Frames, against the list of items that they stand for.
 use Rattle.std.specs.Prelude.{◌≡◌, ℕ, zero, suc, ◌+◌, ◌<◌, ◌==◌, true, false, nat_lt, List, [], ◌∷◌, ◌++◌, length, drop, slice_get, Some, refl}
 use Rattle.std.specs.List.{list_all}
-use Rattle.std.proofs.Common.{subst, ◌∙◌, arith}
+use Rattle.std.proofs.Common.{ap, sym, subst, ◌∙◌, arith, get_or, Option}
 use Rattle.std.proofs.lemmas.List.{drop_all}
 use Rattle.mh_model.specs.declared.act.Act.{Act}
 use Rattle.mh_model.specs.declared.item.Item.{Item}
+use Rattle.mh_model.specs.declared.item.Item.TheVariants as item
 use Rattle.mh_model.specs.Step.{is_empty}
 use Rattle.mh_model.proofs.ServiceLemmas.{and_left, and_right}
 use Rattle.mh_machine.specs.declared.work.Frame.{Frame}
 use Rattle.mh_machine.specs.declared.work.Frame.TheVariants as frame
-use Rattle.mh_machine.specs.Frames.{AreLive, left_of, flat, is_live, goes_on, passed_first}
+use Rattle.mh_machine.specs.declared.work.Front.{Front}
+use Rattle.mh_machine.specs.declared.work.Front.TheVariants as front
+use Rattle.mh_model.specs.Items.{acts}
+use Rattle.mh_machine.specs.Frames.{AreLive, IsFront, left_of, flat, is_live, goes_on, passed_first}
 
 -- within an effect an action stands at each place
 opened : (effect : List Act) (n : ℕ) → nat_lt n (length effect) ≡ true → (a : Act) × (drop n effect ≡ a ∷ drop (n + 1) effect)
@@ -74,3 +78,38 @@ live_ended (f ∷ fs) h = and_right (is_live f) (list_all is_live fs) h
 
 -- what is known of frames whose first item is passed over
 pub ruleset passing = (flat_passed, live_passed, flat_ended, live_ended)
+
+-- What comes first, looked at without copying an action
+
+first_there : (effect : List Act) (n : ℕ) (a : Act) → slice_get effect n ≡ Some a → slice_get (acts (drop n effect)) 0 ≡ Some (item.Act a)
+first_there [] n a h = absurd cc
+first_there (x ∷ xs) zero a h = let same : x ≡ a = cc in ap (λ (y : Act). Some (item.Act y)) same
+first_there (x ∷ xs) (suc n) a h = first_there xs n a h
+
+pub front_in_acts : (f : Frame) (effect copy : List Act) (n : ℕ) → f ≡ frame.Acts effect n → copy ≡ effect → is_live f ≡ true → IsFront (Some (front.Act copy n)) (left_of f)
+front_in_acts f effect copy n is same live = rw (is, same) (ap is_live (sym is) ∙ live, λ a h. first_there effect n a h)
+
+first_or_both : (xs ys : List Item) (i : Item) → slice_get xs 0 ≡ Some i → slice_get (xs ++ ys) 0 ≡ Some i
+first_or_both [] ys i h = absurd cc
+first_or_both (x ∷ xs) ys i h = h
+
+front_of_both : (x : Front) (xs ys : List Item) → IsFront (Some x) xs → IsFront (Some x) (xs ++ ys)
+front_of_both (front.Act effect n) xs ys h = (h.0, λ a at. first_or_both xs ys (item.Act a) (h.1 a at))
+front_of_both (front.Item i) xs ys h = first_or_both xs ys i h
+
+pub front_in_first : (fs : List Frame) (f : Frame) (x : Front) → slice_get fs 0 ≡ Some f → IsFront (Some x) (left_of f) → IsFront (Some x) (flat fs)
+front_in_first [] f x at h = absurd cc
+front_in_first (y ∷ fs) f x at h =
+    let same : f ≡ y = cc in
+    front_of_both x (left_of y) (flat fs) (subst (λ (z : Frame). IsFront (Some x) (left_of z)) same h)
+
+got : (xs : List Act) (n : ℕ) (a : Act) → nat_lt n (length xs) ≡ true → a ≡ get_or xs n a → slice_get xs n ≡ Some a
+got [] n a h is = let bad : n < 0 = grind (arith, h) in absurd (omega arith)
+got (x ∷ xs) zero a h is = ap (λ (y : Act). Some y) (sym is)
+got (x ∷ xs) (suc n) a h is = got xs n a (grind (arith, h)) is
+
+-- the action that stands at the place is the first item
+pub front_act : (m : Option Front) (is : List Item) (effect acts : List Act) (n : ℕ) (a : Act) → IsFront m is → m ≡ Some (front.Act effect n) → acts ≡ effect → a ≡ get_or acts n a → slice_get is 0 ≡ Some (item.Act a)
+front_act m is effect acts n a h e same at =
+    let live = subst (λ (x : Option Front). IsFront x is) e h in
+    live.1 a (got effect n a live.0 (at ∙ ap (λ (xs : List Act). get_or xs n a) same))

@@ -25,10 +25,10 @@ use Rattle.mh_model.specs.Programs.{ins, outs, said_by, outcome_of}
 use Rattle.mh_model.specs.Edits.{edited}
 use Rattle.mh_model.specs.Lifecycle.{run_places, is_available_at, is_unavailable_at, is_unprepared_at, is_visible_at, loaded_at, lacking_at, waits_if, prepare_items, run_items, halt_items, drop_items}
 use Rattle.mh_model.specs.Stack.{reordered, with_risen, without}
-use Rattle.mh_model.specs.Saying.{answers_at, put_items_at, load_items, call_items}
+use Rattle.mh_model.specs.Saying.{answers_at, load_items, call_items}
 use Rattle.mh_model.specs.Service.{object_at, part_at, parts}
 use Rattle.mh_model.specs.State.{State, Objects, all}
-use Rattle.mh_model.specs.Rules.{all_placed, changed, filled, change_rule, ask_rule, put_rule, order_rule, load_rule, loaded_with, call_rule, builtin_in, now_of, outcome_at}
+use Rattle.mh_model.specs.Rules.{all_placed, changed, filled, change_rule, ask_rule, order_rule, load_rule, loaded_with, call_rule, builtin_in, now_of, outcome_at}
 use Rattle.mh_model.specs.Step.{done}
 use Rattle.mh_model.specs.Worked.{ended_of}
 use Rattle.mh_group.specs.declared.written.Position.{Position}
@@ -47,7 +47,7 @@ use Rattle.mh_machine.specs.declared.plan.Stacking.TheVariants as stacking
 use Rattle.mh_machine.specs.Pieces.{written}
 use Rattle.mh_actions.specs.Content.{new_content}
 use Rattle.mh_machine.specs.Loading.{prepare_told, run_told, content_told}
-use Rattle.mh_machine.specs.Plans.{changed_as, change_with, interacted, given_all, gifts, Makes, restacked, rewaited, wait_if, plan_of, committed, put_for_first, taken_from}
+use Rattle.mh_machine.specs.Plans.{changed_as, change_with, interacted, given_all, gifts, Makes, restacked, rewaited, wait_if, plan_of, committed, taken_from}
 
 rising : (b : Bool) (r : ObjRef) (stack : List ObjRef) → restacked (if b then stacking.Rise r else stacking.Same) stack ≡ (if b then stack ++ r ∷ [] else stack)
 rising true r stack = refl
@@ -140,12 +140,6 @@ ask_planned s n vs told rs receivers r found gs here is_told is_receivers are_gi
     ∙ ap (λ (x : List ObjRef). filled x told s.objects) is_receivers ∙ ap (λ (x : List Value). filled rs x s.objects) answers in
     λ i. record s { objects = objects i; work = drop 1 s.work; taken = s.taken + 1 }
 
--- what an action puts
-pub put_planned : (s : State) (n : ActionName) (vs : List Value) (r : ObjRef) (found : Option Object) (is : List Item) → found ≡ object_at r (all s.objects) → is ≡ put_items_at n vs r found → put_for_first is s ≡ put_rule n vs r (taken_from s)
-put_planned s n vs r found is here is_put =
-    let work : is ++ drop 1 s.work ≡ put_items_at n vs r (object_at r (all s.objects)) ++ drop 1 s.work = ap (λ (x : List Item). x ++ drop 1 s.work) (is_put ∙ ap (put_items_at n vs r) here) in
-    λ i. record s { work = work i; taken = s.taken + 1 }
-
 -- new content
 pub load_planned : (s : State) (v : Value) (r : ObjRef) (found : Option Object) (text : Option (List ℕ)) (c : Change) (a : Awaiting) (ps : List Piece) → is_loadable v ≡ true → found ≡ object_at r (all s.objects) → text ≡ comes_to s.files v → c ≡ change.Edit r (edit.Load v text) → a ≡ wait_if (is_available_at found) r (missing s.files v) → written ps ≡ content_told (is_available_at found && is_some text) r → committed (plan_of c stacking.Same a ps) s ≡ loaded_with v r (taken_from s)
 load_planned s v r found text c a ps loadable here is_text is_change is_wait is_put =
@@ -172,16 +166,16 @@ load_planned s v r found text c a ps loadable here is_text is_change is_wait is_
 
 -- whether there is new content is told by the values
 
-pub load_some : (vs : List Value) (v : Value) (r : ObjRef) (s : State) → Some v ≡ new_content vs → (is_loadable v ≡ true) × (loaded_with v r s ≡ load_rule vs r s)
-load_some [] v r s e = absurd cc
-load_some (x ∷ []) v r s e = by (is_loadable x) refl e
+pub load_some : (vs : List Value) (v : Value) → Some v ≡ new_content vs → is_loadable v ≡ true
+load_some [] v e = absurd cc
+load_some (x ∷ []) v e = by (is_loadable x) refl e
   where
-    by : (b : Bool) → is_loadable x ≡ b → Some v ≡ (if b then Some x else None) → (is_loadable v ≡ true) × (loaded_with v r s ≡ (if b then loaded_with x r s else s))
+    by : (b : Bool) → is_loadable x ≡ b → Some v ≡ (if b then Some x else None) → is_loadable v ≡ true
     by true is h =
         let same : v ≡ x = ap (λ (m : Option Value). option_map_or (λ (y : Value). y) m v) h in
-        (ap is_loadable same ∙ is, ap (λ (y : Value). loaded_with y r s) same)
+        ap is_loadable same ∙ is
     by false is h = absurd cc
-load_some (x ∷ y ∷ vs) v r s e = absurd cc
+load_some (x ∷ y ∷ vs) v e = absurd cc
 
 pub load_none : (vs : List Value) (r : ObjRef) (s : State) → None ≡ new_content vs → s ≡ load_rule vs r s
 load_none [] r s e = refl

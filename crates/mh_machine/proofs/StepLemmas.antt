@@ -1,9 +1,16 @@
 -- Steps of the machine, and so many of them.
 use Rattle.std.specs.Prelude.{◌≡◌, ℕ, ◌+◌, ◌-◌, ◌<◌, ◌≤◌, ◌==◌, Bool, true, false, ◌&&◌, ◌||◌, if◌then◌else◌, cond, List, [], ◌∷◌, None, slice_get, suc, zero, refl}
-use Rattle.std.proofs.Common.{ap, ◌∙◌, sym, arith, inl, inr}
+use Rattle.std.proofs.Common.{ap, ◌∙◌, sym, arith, inl, inr, Option, Some, Result, Ok, Err, OnOk, IfOk}
 use Rattle.std.proofs.lemmas.Bool.Decides.{eqb_tells}
 use Rattle.mh_model.specs.State.{State}
-use Rattle.mh_model.specs.Step.{step, step_by, stepped, is_empty, is_idle, is_settled, advanced}
+use Rattle.mh_model.specs.declared.fault.Fault.{Fault}
+use Rattle.mh_model.specs.declared.item.Item.{Item}
+use Rattle.mh_model.specs.Headline.{fault_at, front_fault}
+use Rattle.mh_model.specs.Stuck.{stuck}
+use Rattle.mh_machine.specs.Rest.{answer_of, judged}
+use Rattle.mh_machine.specs.declared.stepped.Stepped.{Stepped}
+use Rattle.mh_machine.specs.declared.stepped.Stepped.TheVariants as told
+use Rattle.mh_model.specs.Step.{did, done, step, step_by, stepped, is_empty, is_idle, is_settled, advanced}
 use Rattle.mh_model.specs.Limits.{most_steps}
 
 cond_same : {X : Type 0} (b : Bool) (x : X) → cond b x x ≡ x
@@ -71,3 +78,24 @@ unfolding advanced
 advanced_behind n s =
     let next : n + 1 ≡ suc n = omega arith in
     ap (λ (k : ℕ). advanced k s) next ∙ stepped_behind n s
+
+-- What the first item does, or does not, is the step
+
+pub step_first : {T E : Type 0} (answer : Result T E) (s after : State) (i : Item) → s.ended ≡ false → slice_get s.work 0 ≡ Some i → OnOk answer (after ≡ did (stuck i s) i s) → OnOk answer (after ≡ step s)
+step_first (Ok x) s after i ended first done = done ∙ rw (ended, first) refl
+step_first (Err y) s after i ended first done = done
+
+pub answer_first : {E : Type 0} (answer : Result Stepped E) (s : State) (i : Item) → s.ended ≡ false → slice_get s.work 0 ≡ Some i → IfOk answer (λ a. a ≡ judged (stuck i s)) → IfOk answer (λ a. a ≡ answer_of s)
+answer_first (Ok x) s i ended first is = is ∙ rw (ended, first) refl
+answer_first (Err y) s i ended first is = is
+
+first_free : (s : State) (i : Item) → front_fault s ≡ None → slice_get s.work 0 ≡ Some i → stuck i s ≡ None
+first_free s i free first = sym (ap (λ (m : Option Item). fault_at m s) first) ∙ free
+
+pub free_first : {T E : Type 0} (answer : Result T E) (s after : State) (i : Item) → front_fault s ≡ None → s.ended ≡ false → slice_get s.work 0 ≡ Some i → OnOk answer (after ≡ done i s) → OnOk answer (after ≡ step s)
+free_first (Ok x) s after i free ended first is = is ∙ ap (λ (f : Option Fault). did f i s) (sym (first_free s i free first)) ∙ rw (ended, first) refl
+free_first (Err y) s after i free ended first is = is
+
+pub free_answer : {E : Type 0} (answer : Result Stepped E) (s : State) (i : Item) → front_fault s ≡ None → s.ended ≡ false → slice_get s.work 0 ≡ Some i → IfOk answer (λ a. a ≡ told.Did) → IfOk answer (λ a. a ≡ answer_of s)
+free_answer (Ok x) s i free ended first is = is ∙ ap judged (sym (first_free s i free first)) ∙ rw (ended, first) refl
+free_answer (Err y) s i free ended first is = is

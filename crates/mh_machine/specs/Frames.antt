@@ -1,10 +1,14 @@
 -- The work list: what a contract sees of it, and the frames in which it is kept.
-use Rattle.std.specs.Prelude.{◌≡◌, ℕ, ◌+◌, Bool, true, false, nat_lt, List, [], ◌∷◌, length, drop}
+use Rattle.std.specs.Prelude.{◌≡◌, ℕ, ◌+◌, Bool, true, false, nat_lt, List, [], ◌∷◌, length, drop, slice_get, Option, Some, None}
 use Rattle.std.specs.List.{flat_map, list_all}
+use Rattle.mh_model.specs.declared.act.Act.{Act}
 use Rattle.mh_model.specs.declared.item.Item.{Item}
+use Rattle.mh_model.specs.declared.item.Item.TheVariants as item
 use Rattle.mh_model.specs.Items.{acts}
 use Rattle.mh_machine.specs.declared.work.Frame.{Frame}
 use Rattle.mh_machine.specs.declared.work.Frame.TheVariants as frame
+use Rattle.mh_machine.specs.declared.work.Front.{Front}
+use Rattle.mh_machine.specs.declared.work.Front.TheVariants as front
 
 -- the items, the first one in front, and for how many more pieces there is room
 pub record WorkList : Type 0 where
@@ -44,3 +48,10 @@ goes_on (f ∷ fs) = has_more f
 abbrev pub passed_first : List Frame → List Frame
 passed_first [] = []
 passed_first (f ∷ fs) = passed f ∷ fs
+
+-- What comes first, looked at without copying an action.
+
+abbrev pub IsFront : Option Front → List Item → Type 0
+IsFront None is = slice_get is 0 ≡ None
+IsFront (Some (front.Act effect place)) is = (nat_lt place (length effect) ≡ true) × ((a : Act) → slice_get effect place ≡ Some a → slice_get is 0 ≡ Some (item.Act a))
+IsFront (Some (front.Item i)) is = slice_get is 0 ≡ Some i

@@ -5,6 +5,7 @@ ghost use Rattle.std.specs.Prelude.{◌≡◌, Err, IfErr, IfOk, IsOk, Ok, OnOk}
 use std::alloc::AllocError;
 
 /// Both, where neither was refused memory.
+#[inline(always)]
 pub fn both<A: Drop, B: Drop>(
     first: Result<A, AllocError>,
     second: Result<B, AllocError>,
@@ -14,7 +15,8 @@ pub fn both<A: Drop, B: Drop>(
     Ok((first?, second?))
 }
 
-/// The value, where memory was not refused.
+/// The value, where memory was not refused. It is not moved for it, so it is put in its caller's place.
+#[inline(always)]
 pub fn given<T: Drop>(made: Result<(), AllocError>, value: T) -> Result<T, AllocError>
     ensures same { IfOk result (λ given. given ≡ value) }
     ensures good { OnOk result (IsOk made) }

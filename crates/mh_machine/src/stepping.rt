@@ -10,6 +10,7 @@ ghost use Rattle.mh_machine.specs.Rest.{answer_of, judged};
 
 use crate::Stepped;
 use crate::plan::Plan;
+use crate::work::Front;
 use crate::works::Works;
 use mh_actions::judging::{why_member_stuck, why_stuck};
 use mh_group::ActionName;
@@ -30,8 +31,9 @@ impl Works {
         if self.ended {
             return Ok(Stepped::Ended);
         }
-        match self.work.first()? {
-            Some(item) => self.work_on(&item),
+        match self.work.front()? {
+            Some(Front::Act(effect, place)) => self.work_on_act(&effect.as_slice()[place]),
+            Some(Front::Item(item)) => self.work_on(&item),
             None => self.take_first(),
         }
     }
@@ -47,12 +49,24 @@ impl Works {
         if self.ended {
             return Ok(Stepped::Ended);
         }
-        match self.work.first()? {
-            Some(item) => {
-                self.do_item(&item)?;
-                Ok(Stepped::Did)
-            }
+        match self.work.front()? {
+            Some(Front::Act(effect, place)) => self.did_act(&effect.as_slice()[place]),
+            Some(Front::Item(item)) => self.did_item(&item),
             None => self.take_first(),
+        }
+    }
+
+    /// Does the first item, which is this action, or removes it where it is stuck.
+    fn work_on_act(&mut self, act: &Act) -> Result<Stepped, AllocError>
+        requires { self.old.state.taken + 1 < 2 ^ 64 }
+        ensures done { let i = Item.Act act.now in
+            OnOk result (self.new.state ≡ did (stuck i self.old.state) i self.old.state) }
+        ensures answer { IfOk result (λ a. a ≡ judged (stuck (Item.Act act.now) self.old.state)) }
+        ensures kept { OnErr result (self.new.state ≡ self.old.state) }
+    {
+        match why_act_stuck(&self.service, self.stage.objects(), act)? {
+            Some(fault) => self.fault(fault),
+            None => self.did_act(act),
         }
     }
 
@@ -64,16 +78,44 @@ impl Works {
         ensures kept { OnErr result (self.new.state ≡ self.old.state) }
     {
         match self.why_stuck(item)? {
-            Some(fault) => {
-                let noted = fault.clone()?;
-                self.note(noted)?;
-                Ok(Stepped::Faulted(fault))
-            }
-            None => {
-                self.do_item(item)?;
-                Ok(Stepped::Did)
-            }
+            Some(fault) => self.fault(fault),
+            None => self.did_item(item),
         }
+    }
+
+    /// Removes the first item, which is stuck, notes its fault, and tells it.
+    #[inline(never)]
+    fn fault(&mut self, fault: Fault) -> Result<Stepped, AllocError>
+        requires { self.old.state.taken + 1 < 2 ^ 64 }
+        ensures done { OnOk result (self.new.state ≡ faulted fault self.old.state) }
+        ensures answer { IfOk result (λ a. a ≡ Stepped.Faulted fault) }
+        ensures kept { OnErr result (self.new.state ≡ self.old.state) }
+    {
+        let noted = fault.clone()?;
+        self.note(noted)?;
+        Ok(Stepped::Faulted(fault))
+    }
+
+    /// Does the first item, which is this action and is not stuck, and tells so.
+    fn did_act(&mut self, act: &Act) -> Result<Stepped, AllocError>
+        requires { self.old.state.taken + 1 < 2 ^ 64 }
+        ensures done { OnOk result (self.new.state ≡ done (Item.Act act.now) self.old.state) }
+        ensures answer { IfOk result (λ a. a ≡ Stepped.Did) }
+        ensures kept { OnErr result (self.new.state ≡ self.old.state) }
+    {
+        self.do_act(act)?;
+        Ok(Stepped::Did)
+    }
+
+    /// Does the first item, which is this one and is not stuck, and tells so.
+    fn did_item(&mut self, item: &Item) -> Result<Stepped, AllocError>
+        requires { self.old.state.taken + 1 < 2 ^ 64 }
+        ensures done { OnOk result (self.new.state ≡ done item.now self.old.state) }
+        ensures answer { IfOk result (λ a. a ≡ Stepped.Did) }
+        ensures kept { OnErr result (self.new.state ≡ self.old.state) }
+    {
+        self.do_item(item)?;
+        Ok(Stepped::Did)
     }
 
     /// Why the item cannot be done, if it cannot.

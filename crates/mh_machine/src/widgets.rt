@@ -52,8 +52,9 @@ impl Works {
         };
         let values = values(self.alloc, objects, act.arguments.as_slice())?;
         let done = worked(self.alloc, act.name, values.as_slice(), at, object)?;
-        let change = change_of(at.clone()?, done.edit, done.placed);
-        let pieces = pieces_of(self.alloc, done.items)?;
+        let made = both(at.clone(), pieces_of(self.alloc, done.items));
+        let ((at, pieces), (edit, placed)) = both(made, Ok((done.edit, done.placed)))?;
+        let change = change_of(at, edit, placed);
         Ok(Plan::of(change, Stacking::Same, Awaiting::Same, pieces))
     }
 

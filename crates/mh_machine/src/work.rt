@@ -7,7 +7,7 @@ ghost use Rattle.mh_actions.specs.Listed.{listed};
 ghost use Rattle.mh_model.specs.Items.{acts};
 ghost use Rattle.mh_model.specs.Step.{is_empty as is_empty_lem};
 ghost use Rattle.mh_machine.specs.Pieces.{items_of, written};
-ghost use Rattle.mh_machine.specs.Frames.{AreLive, flat, goes_on, has_more, is_live, left_of};
+ghost use Rattle.mh_machine.specs.Frames.{AreLive, IsFront, flat, goes_on, has_more, is_live, left_of};
 ghost use Rattle.mh_machine.specs.Frames.{passed, passed_first};
 
 use crate::piece::Piece;
@@ -23,6 +23,13 @@ enum Frame {
     /// The actions of an effect from this place on; there is one at least.
     Acts(Effect, usize),
     One(Item),
+}
+
+/// What comes first: an action, at its place in the effect that holds it, or an item.
+#[derive(Drop)]
+pub enum Front {
+    Act(Effect, usize),
+    Item(Item),
 }
 
 /// The work that is to be done. A contract sees the items, and for how many more pieces there is
@@ -69,6 +76,13 @@ impl Work {
         ensures { IfOk result (λ item. item ≡ slice_get self.now.items 0) }
     {
         first_of(&self.frames)
+    }
+
+    /// What comes first. An action is not copied: the effect that holds it is shared.
+    pub fn front(&self) -> Result<Option<Front>, AllocError>
+        ensures { IfOk result (λ front. IsFront front self.now.items) }
+    {
+        front_of(&self.frames)
     }
 
     /// Makes room for so many more pieces.
@@ -130,6 +144,27 @@ fn first_of(frames: &VecDeque<Frame>) -> Result<Option<Item>, AllocError>
     match frames.front() {
         Some(frame) => Ok(Some(top(frame)?)),
         None => Ok(None),
+    }
+}
+
+fn front_of(frames: &VecDeque<Frame>) -> Result<Option<Front>, AllocError>
+    requires { AreLive frames.now.items }
+    ensures { IfOk result (λ front. IsFront front (flat frames.now.items)) }
+{
+    match frames.front() {
+        Some(frame) => Ok(Some(front_in(frame)?)),
+        None => Ok(None),
+    }
+}
+
+/// What comes first in a frame.
+fn front_in(frame: &Frame) -> Result<Front, AllocError>
+    requires { is_live frame.now ≡ true }
+    ensures { IfOk result (λ front. IsFront (Some front) (left_of frame.now)) }
+{
+    match frame {
+        Frame::Acts(effect, next) => Ok(Front::Act(effect.clone()?, *next)),
+        Frame::One(item) => Ok(Front::Item(copied(item)?)),
     }
 }
 

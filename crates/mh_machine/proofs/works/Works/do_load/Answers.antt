@@ -10,7 +10,7 @@ use Rattle.mh_machine.proofs.works.Works.do_load.Goals as goal
 pub replace-requires-clause-loadable : goal.replace-requires-clause-loadable
 replace-requires-clause-loadable c =
     let given : Some c.in-Some.content.now ≡ new_content (values (all c.args.self.now.state.objects) c.args.act.now.arguments) = search rules in
-    (load_some (values (all c.args.self.now.state.objects) c.args.act.now.arguments) c.in-Some.content.now c.args.at.now c.args.self.now.state given).0
+    load_some (values (all c.args.self.now.state.objects) c.args.act.now.arguments) c.in-Some.content.now given
 
 pub returns-clause-done : goal.returns-clause-done
 returns-clause-done c =
