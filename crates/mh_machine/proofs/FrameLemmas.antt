@@ -1,17 +1,17 @@
 -- Frames, against the list of items that they stand for.
 use Rattle.std.specs.Prelude.{◌≡◌, ℕ, zero, suc, ◌+◌, ◌<◌, ◌==◌, true, false, nat_lt, List, [], ◌∷◌, ◌++◌, length, drop, slice_get, Some, refl}
 use Rattle.std.specs.List.{list_all}
-use Rattle.std.proofs.Common.{ap, sym, subst, ◌∙◌, arith, get_or, Option}
+use Rattle.std.proofs.Common.{ap, sym, subst, ◌∙◌, arith, get_or, Option, None, IfSome}
 use Rattle.std.proofs.lemmas.List.{drop_all}
 use Rattle.mh_model.specs.declared.act.Act.{Act}
 use Rattle.mh_model.specs.declared.item.Item.{Item}
 use Rattle.mh_model.specs.declared.item.Item.TheVariants as item
 use Rattle.mh_model.specs.Step.{is_empty}
 use Rattle.mh_model.proofs.ServiceLemmas.{and_left, and_right}
-use Rattle.mh_machine.specs.declared.work.Frame.{Frame}
-use Rattle.mh_machine.specs.declared.work.Frame.TheVariants as frame
-use Rattle.mh_machine.specs.declared.work.Front.{Front}
-use Rattle.mh_machine.specs.declared.work.Front.TheVariants as front
+use Rattle.mh_machine.specs.declared.frame.Frame.{Frame}
+use Rattle.mh_machine.specs.declared.frame.Frame.TheVariants as frame
+use Rattle.mh_machine.specs.declared.frame.Front.{Front}
+use Rattle.mh_machine.specs.declared.frame.Front.TheVariants as front
 use Rattle.mh_model.specs.Items.{acts}
 use Rattle.mh_machine.specs.Frames.{AreLive, IsFront, left_of, flat, is_live, goes_on, passed_first}
 
@@ -113,3 +113,8 @@ pub front_act : (m : Option Front) (is : List Item) (effect acts : List Act) (n 
 front_act m is effect acts n a h e same at =
     let live = subst (λ (x : Option Front). IsFront x is) e h in
     live.1 a (got effect n a live.0 (at ∙ ap (λ (xs : List Act). get_or xs n a) same))
+
+-- what holds of what was found
+pub some_also : {X : Type 0} (P Q : X → Type 0) (m : Option X) → ((x : X) → P x → Q x) → IfSome m P → IfSome m Q
+some_also P Q None f h = tt
+some_also P Q (Some x) f h = f x h

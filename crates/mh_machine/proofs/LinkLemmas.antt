@@ -137,3 +137,11 @@ heard-behind e front (o ∷ os) =
 pub heard-indexed : (e : Event) (es : List (ℕ × List ℕ)) (os : List Object) → IsIndex es (parts os) → answers e os (waiting e.source.number es) ≡ heard e os
 unfolding IsIndex
 heard-indexed e es os index = ap (answers e os) (index e.source.number) ∙ heard-behind e [] os
+
+none_of : (ns : List ℕ) → (length ns == 0) ≡ true → ns ≡ []
+none_of [] h = refl
+none_of (n ∷ ns) h = absurd (grind (arith, h))
+
+-- where no link waits for an object of the source's number, none hears the event
+pub unheard-indexed : (e : Event) (es : List (ℕ × List ℕ)) (os : List Object) (ns : List ℕ) → IsIndex es (parts os) → ns ≡ waiting e.source.number es → (length ns == 0) ≡ true → heard e os ≡ []
+unheard-indexed e es os ns index is none = sym (heard-indexed e es os index) ∙ ap (answers e os) (sym is ∙ none_of ns none)

@@ -5,10 +5,10 @@ use Rattle.mh_model.specs.declared.act.Act.{Act}
 use Rattle.mh_model.specs.declared.item.Item.{Item}
 use Rattle.mh_model.specs.declared.item.Item.TheVariants as item
 use Rattle.mh_model.specs.Items.{acts}
-use Rattle.mh_machine.specs.declared.work.Frame.{Frame}
-use Rattle.mh_machine.specs.declared.work.Frame.TheVariants as frame
-use Rattle.mh_machine.specs.declared.work.Front.{Front}
-use Rattle.mh_machine.specs.declared.work.Front.TheVariants as front
+use Rattle.mh_machine.specs.declared.frame.Frame.{Frame}
+use Rattle.mh_machine.specs.declared.frame.Frame.TheVariants as frame
+use Rattle.mh_machine.specs.declared.frame.Front.{Front}
+use Rattle.mh_machine.specs.declared.frame.Front.TheVariants as front
 
 -- the items, the first one in front, and for how many more pieces there is room
 pub record WorkList : Type 0 where

@@ -1,10 +1,11 @@
 -- What a step answers, and what is left to do.
-use Rattle.std.specs.Prelude.{Option, Some, None, slice_get, if◌then◌else◌, Bool, true, false}
+use Rattle.std.specs.Prelude.{◌≡◌, Option, Some, None, slice_get, if◌then◌else◌, Bool, true, false}
 use Rattle.mh_model.specs.declared.fault.Fault.{Fault}
 use Rattle.mh_model.specs.declared.input.Waiting.{Waiting}
 use Rattle.mh_model.specs.declared.item.Item.{Item}
 use Rattle.mh_model.specs.State.{State}
-use Rattle.mh_model.specs.Step.{is_idle}
+use Rattle.mh_model.specs.Step.{done, is_idle}
+use Rattle.mh_machine.specs.Plans.{taken_from}
 use Rattle.mh_model.specs.Stuck.{stuck}
 use Rattle.mh_model.specs.declared.rest.Rest.{Rest}
 use Rattle.mh_model.specs.declared.rest.Rest.TheVariants as rest
@@ -33,3 +34,7 @@ is_faulted (answer.Faulted f) = true
 -- what is left to do
 abbrev pub rest_of : State → Rest
 rest_of s = if s.ended then rest.Ended else (if is_idle s then rest.Idle else rest.More)
+
+-- the first item is not stuck, and to do it is to take it off
+abbrev pub IsPassed : State → Type 0
+IsPassed s = (i : Item) × ((slice_get s.work 0 ≡ Some i) × ((stuck i s ≡ None) × (done i s ≡ taken_from s)))

@@ -12,6 +12,7 @@ mod asking;
 mod calling;
 mod committing;
 mod exchanging;
+mod frame;
 mod inputs;
 mod interacting;
 mod lifecycle;

@@ -1,7 +1,7 @@
 //! The links, found by the numbers of the objects whose events they wait for.
 //!
 //! An event mostly has no link that waits for an object of its number, and then no name is looked at.
-ghost use Rattle.std.specs.Prelude.{◌≡◌, ◌++◌, ◌+◌, ◌^◌, ◌<◌, IfOk, OnOk, Some, length, [], ◌∷◌, if◌then◌else◌};
+ghost use Rattle.std.specs.Prelude.{◌≡◌, ◌++◌, ◌+◌, ◌^◌, ◌<◌, IfOk, OnOk, Some, length, true, [], ◌∷◌, if◌then◌else◌};
 ghost use Rattle.std.specs.Map.{lookup};
 ghost use Rattle.std.specs.Option.{option_copied};
 ghost use Rattle.mh_model.specs.Items.{hears_data as hears_data_lem, hears_source as hears_source_lem, hears_type as hears_type_lem, heard as heard_lem};
@@ -66,6 +66,14 @@ impl Links {
             (λ pieces. written pieces.items ≡ heard_lem event.now (all objects.now)) }
     {
         heard_at(alloc, self.places_of(event.source.number), event, objects)
+    }
+
+    /// Whether no link waits for an object of the number of the event's source, so that none hears it.
+    pub fn hears_none(&self, event: &Event, objects: &Objects) -> bool
+        requires { IsIndex self.now (parts (all objects.now)) }
+        ensures { result ≡ true → heard_lem event.now (all objects.now) ≡ [] }
+    {
+        self.places_of(event.source.number).is_empty()
     }
 
     /// The places of the links that wait for an object of this number.

@@ -1,20 +1,21 @@
 //! One step: an item is planned and carried out, or what waits first is taken.
-ghost use Rattle.std.specs.Prelude.{◌≡◌, ◌+◌, ◌<◌, ◌^◌, None, IfOk, OnOk, OnErr};
+ghost use Rattle.std.specs.Prelude.{◌≡◌, ◌+◌, ◌<◌, ◌^◌, None, true, IfOk, OnOk, OnErr};
 ghost use Rattle.mh_model.specs.Faults.{fault_known};
 ghost use Rattle.mh_model.specs.Known.{known_in};
 ghost use Rattle.mh_model.specs.State.{all};
 ghost use Rattle.mh_model.specs.Stuck.{stuck};
 ghost use Rattle.mh_model.specs.Headline.{front_fault};
 ghost use Rattle.mh_model.specs.Step.{done, faulted, did, step};
-ghost use Rattle.mh_machine.specs.Rest.{answer_of, judged};
+ghost use Rattle.mh_machine.specs.Plans.{taken_from};
+ghost use Rattle.mh_machine.specs.Rest.{answer_of, judged, IsPassed};
 
 use crate::Stepped;
+use crate::frame::Front;
 use crate::plan::Plan;
-use crate::work::Front;
 use crate::works::Works;
 use mh_actions::judging::{why_member_stuck, why_stuck};
 use mh_group::ActionName;
-use mh_model::{Act, Fault, Item};
+use mh_model::{Act, Event, Fault, Item};
 use mh_service::Service;
 use mh_store::Objects;
 use std::alloc::AllocError;
@@ -30,6 +31,10 @@ impl Works {
     {
         if self.ended {
             return Ok(Stepped::Ended);
+        }
+        if self.is_unheard() {
+            self.pass();
+            return Ok(Stepped::Did);
         }
         match self.work.front()? {
             Some(Front::Act(effect, place)) => self.work_on_act(&effect.as_slice()[place]),
@@ -49,11 +54,36 @@ impl Works {
         if self.ended {
             return Ok(Stepped::Ended);
         }
+        if self.is_unheard() {
+            self.pass();
+            return Ok(Stepped::Did);
+        }
         match self.work.front()? {
             Some(Front::Act(effect, place)) => self.did_act(&effect.as_slice()[place]),
             Some(Front::Item(item)) => self.did_item(&item),
             None => self.take_first(),
         }
+    }
+
+    /// Whether the first item is an event that is heard at once, and for whose source no link waits. Most
+    /// events are such ones: they are only taken off.
+    fn is_unheard(&self) -> bool
+        ensures { result ≡ true → IsPassed self.now.state }
+    {
+        match self.work.first_event() {
+            Some(event) => self.hears_none(event),
+            None => false,
+        }
+    }
+
+    /// Whether the event is heard at once, and no link waits for its source.
+    fn hears_none(&self, event: &Event) -> bool
+        ensures { result ≡ true → done (Item.Emit event.now) self.now.state ≡ taken_from self.now.state }
+    {
+        if !event.kind.is_sync() {
+            return false;
+        }
+        self.links.hears_none(event, self.stage.objects())
     }
 
     /// Does the first item, which is this action, or removes it where it is stuck.

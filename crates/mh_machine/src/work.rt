@@ -1,7 +1,7 @@
 //! The work list, as a stack of frames: looking at its first item, and putting pieces in the place of
 //! that item, cost the same however long the list is.
 ghost use Rattle.std.specs.Prelude.{◌≡◌, ◌∷◌, ◌++◌, ◌+◌, ◌<◌, ◌≤◌, true, drop, slice_get, vec_len};
-ghost use Rattle.std.specs.Prelude.{IfOk, OnOk};
+ghost use Rattle.std.specs.Prelude.{IfOk, IfSome, OnOk, Some};
 ghost use Rattle.std.specs.VecDeque.{deque_len, deque_capacity};
 ghost use Rattle.mh_actions.specs.Listed.{listed};
 ghost use Rattle.mh_model.specs.Items.{acts};
@@ -10,27 +10,13 @@ ghost use Rattle.mh_machine.specs.Pieces.{items_of, written};
 ghost use Rattle.mh_machine.specs.Frames.{AreLive, IsFront, flat, goes_on, has_more, is_live, left_of};
 ghost use Rattle.mh_machine.specs.Frames.{passed, passed_first};
 
+use crate::frame::{Frame, Front, event_of, front_in, pass, top};
 use crate::piece::Piece;
 use mh_actions::putting::Put;
-use mh_model::{Act, Effect, Item};
+use mh_model::{Effect, Event, Item};
 use std::alloc::{AllocError, Global};
 use std::collections::VecDeque;
 use std::marker::Model;
-
-/// What was put as one piece, as far as it is not done.
-#[derive(Drop)]
-enum Frame {
-    /// The actions of an effect from this place on; there is one at least.
-    Acts(Effect, usize),
-    One(Item),
-}
-
-/// What comes first: an action, at its place in the effect that holds it, or an item.
-#[derive(Drop)]
-pub enum Front {
-    Act(Effect, usize),
-    Item(Item),
-}
 
 /// The work that is to be done. A contract sees the items, and for how many more pieces there is
 /// room.
@@ -83,6 +69,13 @@ impl Work {
         ensures { IfOk result (λ front. IsFront front self.now.items) }
     {
         front_of(&self.frames)
+    }
+
+    /// The first item, where that is an event to emit.
+    pub fn first_event(&self) -> Option<&Event>
+        ensures { IfSome result (λ event. IsFront (Some (Front.Item (Item.Emit event.now))) self.now.items) }
+    {
+        first_event_of(&self.frames)
     }
 
     /// Makes room for so many more pieces.
@@ -147,6 +140,16 @@ fn first_of(frames: &VecDeque<Frame>) -> Result<Option<Item>, AllocError>
     }
 }
 
+fn first_event_of(frames: &VecDeque<Frame>) -> Option<&Event>
+    requires { AreLive frames.now.items }
+    ensures { IfSome result (λ event. IsFront (Some (Front.Item (Item.Emit event.now))) (flat frames.now.items)) }
+{
+    match frames.front() {
+        Some(frame) => event_of(frame),
+        None => None,
+    }
+}
+
 fn front_of(frames: &VecDeque<Frame>) -> Result<Option<Front>, AllocError>
     requires { AreLive frames.now.items }
     ensures { IfOk result (λ front. IsFront front (flat frames.now.items)) }
@@ -155,40 +158,6 @@ fn front_of(frames: &VecDeque<Frame>) -> Result<Option<Front>, AllocError>
         Some(frame) => Ok(Some(front_in(frame)?)),
         None => Ok(None),
     }
-}
-
-/// What comes first in a frame.
-fn front_in(frame: &Frame) -> Result<Front, AllocError>
-    requires { is_live frame.now ≡ true }
-    ensures { IfOk result (λ front. IsFront (Some front) (left_of frame.now)) }
-{
-    match frame {
-        Frame::Acts(effect, next) => Ok(Front::Act(effect.clone()?, *next)),
-        Frame::One(item) => Ok(Front::Item(copied(item)?)),
-    }
-}
-
-/// A copy of the first item of a frame.
-fn top(frame: &Frame) -> Result<Item, AllocError>
-    requires { is_live frame.now ≡ true }
-    ensures { IfOk result (λ item. Some item ≡ slice_get (left_of frame.now) 0) }
-{
-    match frame {
-        Frame::Acts(effect, next) => act_item(&effect.as_slice()[*next]),
-        Frame::One(item) => copied(item),
-    }
-}
-
-fn act_item(act: &Act) -> Result<Item, AllocError>
-    ensures { IfOk result (λ item. item ≡ Item.Act act.now) }
-{
-    Ok(Item::Act(act.clone()?))
-}
-
-fn copied(item: &Item) -> Result<Item, AllocError>
-    ensures { IfOk result (λ copy. copy ≡ item.now) }
-{
-    item.clone()
 }
 
 /// Takes the first item away, if there is one.
@@ -218,21 +187,6 @@ fn pass_first(frames: &mut VecDeque<Frame>) -> bool
     ensures capacity { deque_capacity frames.new ≡ deque_capacity frames.old }
 {
     pass(&mut frames[0])
-}
-
-fn pass(frame: &mut Frame) -> bool
-    requires { is_live frame.old ≡ true }
-    ensures more { result ≡ has_more frame.old }
-    ensures after { frame.new ≡ passed frame.old }
-{
-    match frame {
-        Frame::Acts(effect, next) => {
-            let count = effect.as_slice().len();
-            *next += 1;
-            *next < count
-        }
-        Frame::One(_) => false,
-    }
 }
 
 fn drop_frame(frames: &mut VecDeque<Frame>)

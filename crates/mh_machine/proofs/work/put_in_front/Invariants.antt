@@ -2,7 +2,7 @@ use Rattle.std.proofs.Common.{◌≡◌, ◌++◌, ◌+◌, ◌≤◌, vec_len, 
 use Rattle.std.specs.VecDeque.{deque_len, deque_capacity}
 use Rattle.mh_model.specs.declared.item.Item.{Item}
 use Rattle.mh_machine.specs.declared.piece.Piece.{Piece}
-use Rattle.mh_machine.specs.declared.work.Frame.{Frame}
+use Rattle.mh_machine.specs.declared.frame.Frame.{Frame}
 use Rattle.mh_machine.specs.Pieces.{written}
 use Rattle.mh_machine.specs.Frames.{AreLive, flat}
 use Rattle.mh_machine.proofs.work.put_in_front.Given as goal
