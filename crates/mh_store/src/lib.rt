@@ -20,6 +20,7 @@ pub mod objects;
 mod placing;
 mod ready;
 mod scalars;
+mod trying;
 mod wrapping;
 
 pub use awaits::Awaits;

@@ -9,11 +9,13 @@ ghost use Rattle.mh_model.specs.Service.{object_at, parts};
 ghost use Rattle.mh_model.specs.State.{all};
 ghost use Rattle.mh_store.specs.Bringing.{ready_from, all_put, keys_of, AreOwn};
 ghost use Rattle.mh_store.specs.Placing.{renewed, renewed_in};
-ghost use Rattle.mh_store.specs.Trying.{of_scene, with_scene, edited_in, given_in, left_over};
-ghost use Rattle.mh_store.specs.Apart.{AreApart};
+ghost use Rattle.mh_store.specs.Trying.{of_scene};
 
 use crate::placing::{ready_placed, renew_all};
 use crate::ready::Ready;
+use crate::trying::{
+    edit_application_first, edit_scene_first, give_application_first, give_scene_first,
+};
 use crate::{Awaits, Group, Kept};
 use mh_base::{ObjRef, Octets, Value};
 use mh_group::Position;
@@ -219,108 +221,6 @@ fn len_in(scene: &Option<Group>) -> usize
     match scene {
         Some(group) => group.len(),
         None => 0,
-    }
-}
-
-/// Changes the body of the object at this reference, where the two are apart.
-fn edit_scene_first(
-    application: &mut Group,
-    scene: &mut Option<Group>,
-    at: &ObjRef,
-    edit: Edit,
-) -> Result<(), AllocError>
-    requires { AreApart true application.old (of_scene scene.old) }
-    ensures done { OnOk result (with_scene application.new scene.new
-        ≡ changed (edited edit) at.now (with_scene application.old scene.old)) }
-    ensures kept { OnErr result (with_scene application.new scene.new ≡ with_scene application.old scene.old) }
-{
-    match edit_in(scene, at, edit)? {
-        None => Ok(()),
-        Some(edit) => edit_alone(application, at, edit),
-    }
-}
-
-/// The same where a reference may lead into both: then the application's object is meant.
-fn edit_application_first(
-    application: &mut Group,
-    scene: &mut Option<Group>,
-    at: &ObjRef,
-    edit: Edit,
-) -> Result<(), AllocError>
-    ensures done { OnOk result (with_scene application.new scene.new
-        ≡ changed (edited edit) at.now (with_scene application.old scene.old)) }
-    ensures kept { OnErr result (with_scene application.new scene.new ≡ with_scene application.old scene.old) }
-{
-    match application.edit(at, edit)? {
-        None => Ok(()),
-        Some(edit) => edit_scene(scene, at, edit),
-    }
-}
-
-/// Changes the body of the application's object at this reference; where there is none, nothing.
-fn edit_alone(application: &mut Group, at: &ObjRef, edit: Edit) -> Result<(), AllocError>
-    ensures done { OnOk result (application.new ≡ edited_in edit at.now application.old) }
-    ensures kept { OnErr result (application.new ≡ application.old) }
-{
-    application.edit(at, edit)?;
-    Ok(())
-}
-
-/// Changes the body of the scene's object at this reference; where there is none, nothing.
-fn edit_scene(scene: &mut Option<Group>, at: &ObjRef, edit: Edit) -> Result<(), AllocError>
-    ensures done { OnOk result (of_scene scene.new ≡ edited_in edit at.now (of_scene scene.old)) }
-    ensures kept { OnErr result (of_scene scene.new ≡ of_scene scene.old) }
-{
-    edit_in(scene, at, edit)?;
-    Ok(())
-}
-
-/// Changes the body of the scene's object at this reference. Where there is none the change comes back.
-fn edit_in(scene: &mut Option<Group>, at: &ObjRef, edit: Edit) -> Result<Option<Edit>, AllocError>
-    ensures done { OnOk result (of_scene scene.new ≡ edited_in edit at.now (of_scene scene.old)) }
-    ensures back { IfOk result (λ back. back ≡ left_over edit (object_at at.now (of_scene scene.old))) }
-    ensures kept { OnErr result (of_scene scene.new ≡ of_scene scene.old) }
-{
-    match scene {
-        Some(group) => group.edit(at, edit),
-        None => Ok(Some(edit)),
-    }
-}
-
-/// Gives the variable at this reference a value, where the two are apart.
-fn give_scene_first(application: &mut Group, scene: &mut Option<Group>, at: &ObjRef, value: Value)
-    requires { AreApart true application.old (of_scene scene.old) }
-    ensures { with_scene application.new scene.new
-        ≡ changed (λ _ b. given value b) at.now (with_scene application.old scene.old) }
-{
-    if let Some(value) = give_in(scene, at, value) {
-        application.give(at, value);
-    }
-}
-
-/// The same where a reference may lead into both: then the application's variable is meant.
-fn give_application_first(
-    application: &mut Group,
-    scene: &mut Option<Group>,
-    at: &ObjRef,
-    value: Value,
-)
-    ensures { with_scene application.new scene.new
-        ≡ changed (λ _ b. given value b) at.now (with_scene application.old scene.old) }
-{
-    if let Some(value) = application.give(at, value) {
-        give_in(scene, at, value);
-    }
-}
-
-/// Gives the scene's variable at this reference a value. Where there is none the value comes back.
-fn give_in(scene: &mut Option<Group>, at: &ObjRef, value: Value) -> Option<Value>
-    ensures done { of_scene scene.new ≡ given_in value at.now (of_scene scene.old) }
-    ensures back { result ≡ left_over value (object_at at.now (of_scene scene.old)) }
-{
-    match scene {
-        Some(group) => group.give(at, value),
-        None => Some(value),
     }
 }
 

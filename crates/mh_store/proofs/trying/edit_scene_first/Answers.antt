@@ -2,7 +2,7 @@ use Rattle.std.proofs.Common.{true, refl, sym, ◌∙◌}
 use Rattle.mh_store.specs.Trying.{of_scene, with_scene}
 use Rattle.mh_store.proofs.ApartLemmas.{edited_apart, edited_own}
 use Rattle.mh_store.proofs.BothLemmas.{IsEdited}
-use Rattle.mh_store.proofs.objects.edit_scene_first.Goals as goal
+use Rattle.mh_store.proofs.trying.edit_scene_first.Goals as goal
 
 -- the object is the scene's
 pub returns-in-None-clause-done : goal.returns-in-None-clause-done

@@ -1,7 +1,7 @@
 use Rattle.std.proofs.Common.{sym, ◌∙◌}
 use Rattle.mh_store.specs.Trying.{of_scene, with_scene}
 use Rattle.mh_store.proofs.BothLemmas.{IsEdited, edited-first, edited-behind}
-use Rattle.mh_store.proofs.objects.edit_application_first.Goals as goal
+use Rattle.mh_store.proofs.trying.edit_application_first.Goals as goal
 
 -- the object is the application's
 pub returns-in-None-clause-done : goal.returns-in-None-clause-done
