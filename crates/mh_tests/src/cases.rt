@@ -53,6 +53,13 @@ pub fn said(alloc: Global, answer: &[u8]) -> Option<Vec<u8>> {
     Vec::from_slice(alloc, answer).ok()
 }
 
+/// What stands between the first two quotation marks of what was told.
+pub fn quoted(alloc: Global, told: &[u8]) -> Option<Vec<u8>> {
+    let (_, behind) = str::from_utf8(told).ok()?.split_once('"')?;
+    let (found, _) = behind.split_once('"')?;
+    said(alloc, found.as_bytes())
+}
+
 /// An answer of a number and a place.
 pub fn placed(alloc: Global, number: u32, place: usize) -> Option<Vec<u8>> {
     Some(format!(in alloc; "{number} {place}").ok()?.into_bytes())

@@ -99,13 +99,21 @@ impl Question for Shown {
         let lines = lines_of(alloc, form, b"one two three\rx")?;
         let column = word(asked, 0).parse::<u32>().ok()?;
         let row = word(asked, 1).parse::<u32>().ok()?;
-        match character_at(lines.as_slice(), &area_of(form)?, column, row) {
-            Some(scalar) => {
-                let scalar = char::from_u32(scalar)?;
-                Some(format!(in alloc; "{scalar}").ok()?.into_bytes())
-            }
-            None => said(alloc, b"none"),
+        character_told(
+            alloc,
+            character_at(lines.as_slice(), &area_of(form)?, column, row),
+        )
+    }
+}
+
+/// A character, if there is one.
+fn character_told(alloc: Global, found: Option<u32>) -> Option<Vec<u8>> {
+    match found {
+        Some(scalar) => {
+            let scalar = char::from_u32(scalar)?;
+            Some(format!(in alloc; "{scalar}").ok()?.into_bytes())
         }
+        None => said(alloc, b"none"),
     }
 }
 

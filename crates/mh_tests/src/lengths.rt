@@ -1,31 +1,41 @@
 //! Octets at the limit of what is kept: 65,535 are, and more change nothing.
-use crate::cases::{Question, all_hold, said};
+use crate::cases::{Question, all_hold, quoted};
 use crate::playing::outcome;
 use std::alloc::Global;
 
-/// How many octets are held in the end by OStringVar 6, which holds one at first, where this is done and
-/// OStringVar 5 holds so many.
-fn length(alloc: Global, done: &str, count: usize) -> Option<Vec<u8>> {
+/// Two variables of octets, the first of which holds so many, and two texts.
+fn octets(alloc: Global, count: usize) -> Option<String> {
     let letters = "x".repeat(alloc, count).ok()?;
-    let programs = "{:ResidentPrg 1 :Name 'GSL' } {:ResidentPrg 2 :Name 'GSS' } \
-        {:BooleanVar 3 :OrigValue false } {:IntegerVar 4 :OrigValue 0 }";
-    let octets = format!(in alloc;
+    format!(in alloc;
         "{{:OStringVar 5 :OrigValue '{letters}' }} {{:OStringVar 6 :OrigValue '-' }} \
          {{:OStringVar 7 :OrigValue '' }} {{:Text 8 :OrigBoxSize 12 16 :OrigPosition 0 16 \
          :OrigContent '-' }} {{:Text 9 :OrigBoxSize 72 16 }}"
     )
-    .ok()?;
+    .ok()
+}
+
+/// An application with these octets that does this, and then shows how many OStringVar 6 holds.
+fn application(alloc: Global, done: &str, octets: &str) -> Option<String> {
+    let programs = "{:ResidentPrg 1 :Name 'GSL' } {:ResidentPrg 2 :Name 'GSS' } \
+        {:BooleanVar 3 :OrigValue false } {:IntegerVar 4 :OrigValue 0 }";
     let told_length = ":Call (1 3 ( :GOctetString :IndirectRef 6 :GInteger :IndirectRef 4 )) \
         :SetVariable (7 :GInteger :IndirectRef 4) :SetData (9 :IndirectRef 7)";
-    let file = format!(in alloc;
+    format!(in alloc;
         "a {{:Application (\"~/a\" 0) :Items ( {programs} {octets} {{:Link 10 :EventSource 0 \
          :EventType IsRunning :LinkEffect ( {done} {told_length} ) }} ) }}"
     )
-    .ok()?;
-    let told = outcome(alloc, "play run|show|", file.as_str())?;
-    let (_, shown) = str::from_utf8(told.as_slice()).ok()?.split_once('"')?;
-    let (shown, _) = shown.split_once('"')?;
-    said(alloc, shown.as_bytes())
+    .ok()
+}
+
+/// How many octets are held in the end by OStringVar 6, which holds one at first, where this is done and
+/// OStringVar 5 holds so many.
+fn length(alloc: Global, done: &str, count: usize) -> Option<Vec<u8>> {
+    let octets = octets(alloc, count)?;
+    let file = application(alloc, done, octets.as_str())?;
+    quoted(
+        alloc,
+        outcome(alloc, "play run|show|", file.as_str())?.as_slice(),
+    )
 }
 
 /// What is done; the answer is the lengths where as many octets stand there as may, and one more.

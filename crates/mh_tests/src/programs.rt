@@ -1,6 +1,6 @@
 //! Resident programs: what the six answer that each engine has, calls that do not fit, and what a call
 //! does to its variables.
-use crate::cases::{Question, all_hold, are, said};
+use crate::cases::{Question, all_hold, are, quoted};
 use crate::playing::{Task, outcome};
 use std::alloc::Global;
 
@@ -27,10 +27,7 @@ fn called(alloc: Global, task: &str, call: &str, event: &str) -> Option<Vec<u8>>
          :EventSource 0 :EventType {event} :LinkEffect ( :Call (1 2 ( {arguments} )) {behind} ) }} ) }}"
     )
     .ok()?;
-    let told = outcome(alloc, task, file.as_str())?;
-    let (_, shown) = str::from_utf8(told.as_slice()).ok()?.split_once('"')?;
-    let (shown, _) = shown.split_once('"')?;
-    said(alloc, shown.as_bytes())
+    quoted(alloc, outcome(alloc, task, file.as_str())?.as_slice())
 }
 
 /// A program's name and what it is called with; the answer is what variables 5, 3 and 4 then hold.
@@ -213,12 +210,17 @@ impl Question for Fitting {
         )
         .ok()?;
         let checked = outcome(alloc, "check", file.as_str())?;
-        let played = outcome(alloc, "lenient run|", file.as_str())?;
-        let mut told = refusal(alloc, str::from_utf8(checked.as_slice()).ok()?)?;
-        let fault = between(str::from_utf8(played.as_slice()).ok()?, "fault ", "\ndid")?;
-        told.extend_from_slice(fault.as_bytes()).ok()?;
-        Some(told)
+        with_fault(alloc, checked.as_slice(), file.as_str())
     }
+}
+
+/// The refusal, and behind it the fault of the same file where it is played all the same.
+fn with_fault(alloc: Global, checked: &[u8], file: &str) -> Option<Vec<u8>> {
+    let mut told = refusal(alloc, str::from_utf8(checked).ok()?)?;
+    let played = outcome(alloc, "lenient run|", file)?;
+    let fault = between(str::from_utf8(played.as_slice()).ok()?, "fault ", "\ndid")?;
+    told.extend_from_slice(fault.as_bytes()).ok()?;
+    Some(told)
 }
 
 #[test]

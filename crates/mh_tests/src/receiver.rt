@@ -14,7 +14,7 @@ use crate::cases::{Question, all_hold, word};
 use crate::playing::DAY;
 use crate::service::all_named;
 use mh_base::{GroupName, Octets, Shared, Value};
-use mh_engine::{Receiver, Stepped, Unready};
+use mh_engine::{Receiver, StartError, Stepped, Unready};
 use mh_model::{Now, Param, Plain, Signature};
 use mh_resident::{Answer, CallFailed, Resident, signatures_of};
 use mh_service::Service;
@@ -131,15 +131,18 @@ fn shown<P: Resident>(alloc: Global, receiver: &mut Receiver<P>) -> Option<Vec<u
 /// What is shown, or the number of the refusal.
 fn outcome<P: Resident>(
     alloc: Global,
-    started: Result<Receiver<P>, Unready<P>>,
+    started: &mut Result<Receiver<P>, Unready<P>>,
 ) -> Option<Vec<u8>> {
     match started {
-        Ok(mut receiver) => shown(alloc, &mut receiver),
-        Err(refused) => {
-            let number = refused.why.number()?;
-            Some(format!(in alloc; "{number}").ok()?.into_bytes())
-        }
+        Ok(receiver) => shown(alloc, receiver),
+        Err(refused) => told(alloc, &refused.why),
     }
+}
+
+/// The number of a refusal.
+fn told(alloc: Global, why: &StartError) -> Option<Vec<u8>> {
+    let number = why.number()?;
+    Some(format!(in alloc; "{number}").ok()?.into_bytes())
 }
 
 /// The service, verified beside these programs.
@@ -175,7 +178,8 @@ impl Question for Beside {
             "one" => programs.truncate(1),
             _ => {}
         }
-        outcome(alloc, Receiver::start(alloc, accepted, programs, DAY))
+        let mut started = Receiver::start(alloc, accepted, programs, DAY);
+        outcome(alloc, &mut started)
     }
 }
 
