@@ -89,13 +89,9 @@ first_there (x ∷ xs) (suc n) a h = first_there xs n a h
 pub front_in_acts : (f : Frame) (effect copy : List Act) (n : ℕ) → f ≡ frame.Acts effect n → copy ≡ effect → is_live f ≡ true → IsFront (Some (front.Act copy n)) (left_of f)
 front_in_acts f effect copy n is same live = rw (is, same) (ap is_live (sym is) ∙ live, λ a h. first_there effect n a h)
 
-first_or_both : (xs ys : List Item) (i : Item) → slice_get xs 0 ≡ Some i → slice_get (xs ++ ys) 0 ≡ Some i
-first_or_both [] ys i h = absurd cc
-first_or_both (x ∷ xs) ys i h = h
-
 front_of_both : (x : Front) (xs ys : List Item) → IsFront (Some x) xs → IsFront (Some x) (xs ++ ys)
-front_of_both (front.Act effect n) xs ys h = (h.0, λ a at. first_or_both xs ys (item.Act a) (h.1 a at))
-front_of_both (front.Item i) xs ys h = first_or_both xs ys i h
+front_of_both (front.Act effect n) xs ys h = (h.0, λ a at. sym (first_of_both xs ys (item.Act a) (sym (h.1 a at))))
+front_of_both (front.Item i) xs ys h = sym (first_of_both xs ys i (sym h))
 
 pub front_in_first : (fs : List Frame) (f : Frame) (x : Front) → slice_get fs 0 ≡ Some f → IsFront (Some x) (left_of f) → IsFront (Some x) (flat fs)
 front_in_first [] f x at h = absurd cc

@@ -15,7 +15,7 @@ pub fn both<A: Drop, B: Drop>(
     Ok((first?, second?))
 }
 
-/// The value, where memory was not refused. It is not moved for it, so it is put in its caller's place.
+/// The value, where memory was not refused. It stands in its caller, so that a large value is not moved for it.
 #[inline(always)]
 pub fn given<T: Drop>(made: Result<(), AllocError>, value: T) -> Result<T, AllocError>
     ensures same { IfOk result (λ given. given ≡ value) }

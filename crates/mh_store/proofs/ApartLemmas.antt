@@ -23,7 +23,7 @@ use Rattle.mh_store.specs.Apart.{AreApart}
 use Rattle.mh_store.specs.Placing.{renewed_in}
 use Rattle.mh_store.specs.Table.{IsKeyed, objects_of}
 use Rattle.mh_store.specs.Trying.{left_over}
-use Rattle.mh_store.proofs.BothLemmas.{IsEdited, back-nowhere, taken-there, list_any-object_at, found_behind}
+use Rattle.mh_store.proofs.BothLemmas.{IsEdited, changed-edited, back-nowhere, taken-there, list_any-object_at, found_behind}
 use Rattle.mh_store.proofs.TableLemmas.{object_at-elsewhere}
 
 -- What keeps them apart: whatever keeps what the objects are found by
@@ -136,22 +136,14 @@ changed_own f r os own others none is behind = by (list_any (is_at r) os.applica
         let same : own ≡ os.application = is ∙ sym (change_none (on_body f) r os.application h) in
         λ i. record { application = same i; scene = behind i }
 
-edits : {T E : Type 0} (e : Edit) (r : ObjRef) (os after : Objects) (x : T) → after ≡ changed (edited e) r os → IsEdited {E = E} e r os after (Ok x)
-edits e r os after x is = record {
-  done = is;
-  own = ap (λ (x : Objects). parts x.application) is ∙ changed-own (edited e) r os;
-  others = ap (λ (x : Objects). parts x.scene) is ∙ changed-others (edited e) r os;
-  kept = tt;
-}
-
 pub edited_apart : {T E : Type 0} (b : Bool) (e : Edit) (r : ObjRef) (os : Objects) (others : List Object) (x : T) → b ≡ true → AreApart b os.application os.scene → None ≡ left_over e (object_at r os.scene) → others ≡ changed_in (edited e) r os.scene → IsEdited {E = E} e r os (record os { scene = others }) (Ok x)
-edited_apart b e r os others x yes_is apart taken is = edits e r os (record os { scene = others }) x (changed_apart b (edited e) r os others yes_is apart (taken-there e (object_at r os.scene) taken) is)
+edited_apart b e r os others x yes_is apart taken is = changed-edited e r os (record os { scene = others }) x (changed_apart b (edited e) r os others yes_is apart (taken-there e (object_at r os.scene) taken) is)
 
 pub edited_own : {T E : Type 0} (answer : Result T E) (e back : Edit) (r : ObjRef) (os : Objects) (own others : List Object) → Some back ≡ left_over e (object_at r os.scene) → others ≡ changed_in (edited e) r os.scene → OnOk answer (own ≡ changed_in (edited back) r os.application) → OnErr answer (own ≡ os.application) → IsEdited e r os (record { application = own; scene = others }) answer
 edited_own (Ok x) e back r os own others came is behind same =
     let left = back-nowhere e back (object_at r os.scene) came in
     let there : own ≡ changed_in (edited e) r os.application = behind ∙ ap (λ (x : Edit). changed_in (edited x) r os.application) left.1 in
-    edits e r os (record { application = own; scene = others }) x (changed_own (edited e) r os own others left.0 there is)
+    changed-edited e r os (record { application = own; scene = others }) x (changed_own (edited e) r os own others left.0 there is)
 edited_own (Err why) e back r os own others came is behind same =
     let left = back-nowhere e back (object_at r os.scene) came in
     let there = list_any-object_at r os.scene ∙ ap is_some left.0 in

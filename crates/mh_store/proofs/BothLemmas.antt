@@ -100,7 +100,7 @@ pub record IsEdited {T E : Type 0} (e : Edit) (r : ObjRef) (os after : Objects) 
   pub kept : OnErr answer (after ≡ os)
 
 -- each part of it, where the change was carried out
-changed-edited : {T E : Type 0} (e : Edit) (r : ObjRef) (os after : Objects) (x : T) → after ≡ changed (edited e) r os → IsEdited {E = E} e r os after (Ok x)
+pub changed-edited : {T E : Type 0} (e : Edit) (r : ObjRef) (os after : Objects) (x : T) → after ≡ changed (edited e) r os → IsEdited {E = E} e r os after (Ok x)
 changed-edited e r os after x is = record {
   done = is;
   own = ap (λ (x : Objects). parts x.application) is ∙ changed-own (edited e) r os;
