@@ -46,13 +46,6 @@ first_of_both : (xs ys : List Item) (i : Item) → Some i ≡ slice_get xs 0 →
 first_of_both [] ys i h = absurd cc
 first_of_both (x ∷ xs) ys i h = h
 
--- the first item stands in the first frame
-pub flat_first : (fs : List Frame) (f : Frame) (i : Item) → slice_get fs 0 ≡ Some f → Some i ≡ slice_get (left_of f) 0 → Some i ≡ slice_get (flat fs) 0
-flat_first [] f i at h = absurd cc
-flat_first (x ∷ fs) f i at h =
-    let same : f ≡ x = cc in
-    first_of_both (left_of x) (flat fs) i (subst (λ (y : Frame). Some i ≡ slice_get (left_of y) 0) same h)
-
 pub flat_passed : (fs : List Frame) → AreLive fs → goes_on fs ≡ true → flat (passed_first fs) ≡ drop 1 (flat fs)
 flat_passed [] h more = refl
 flat_passed (frame.One i ∷ fs) h more = absurd cc

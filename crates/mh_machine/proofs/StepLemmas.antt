@@ -1,11 +1,14 @@
 -- Steps of the machine, and so many of them.
 use Rattle.std.specs.Prelude.{◌≡◌, ℕ, ◌+◌, ◌-◌, ◌<◌, ◌≤◌, ◌==◌, Bool, true, false, ◌&&◌, ◌||◌, if◌then◌else◌, cond, List, [], ◌∷◌, None, slice_get, suc, zero, refl}
-use Rattle.std.proofs.Common.{ap, ◌∙◌, sym, arith, inl, inr, Option, Some, Result, Ok, Err, OnOk, IfOk}
+use Rattle.std.proofs.Common.{ap, subst, ◌∙◌, sym, arith, inl, inr, Option, Some, Result, Ok, Err, OnOk, IfOk}
 use Rattle.std.proofs.lemmas.Bool.Decides.{eqb_tells}
 use Rattle.mh_model.specs.State.{State}
 use Rattle.mh_model.specs.declared.fault.Fault.{Fault}
 use Rattle.mh_model.specs.declared.item.Item.{Item}
+use Rattle.mh_model.specs.declared.program.Call.{Call}
+use Rattle.mh_model.specs.declared.program.Signature.{Signature}
 use Rattle.mh_model.specs.Headline.{fault_at, front_fault}
+use Rattle.mh_model.specs.Receiver.{call_first, call_in, call_next}
 use Rattle.mh_model.specs.Stuck.{stuck}
 use Rattle.mh_machine.specs.Rest.{answer_of, judged}
 use Rattle.mh_machine.specs.declared.stepped.Stepped.{Stepped}
@@ -32,6 +35,13 @@ empty_get (x ∷ xs) empty = cc
 -- with all steps counted a step changes nothing
 pub stepped_full : (s : State) → s.taken ≡ most_steps → stepped s ≡ s
 stepped_full s full = rw full refl
+
+-- what the next step calls is what its first item calls
+pub called_first : {E : Type 0} (ss : List Signature) (s : State) (i : Item) (answer : Result (Option Call) E) → s.ended ≡ false → slice_get s.work 0 ≡ Some i → IfOk answer (λ (call : Option Call). call ≡ call_in ss i s) → IfOk answer (λ (call : Option Call). call ≡ call_next ss s)
+called_first ss s i answer runs first told =
+    let opened : call_next ss s ≡ call_first ss (slice_get s.work 0) s = ap (λ (b : Bool). if b then None else call_first ss (slice_get s.work 0) s) runs in
+    let same : call_next ss s ≡ call_in ss i s = opened ∙ ap (λ (m : Option Item). call_first ss m s) first in
+    subst (λ (x : Option Call). IfOk answer (λ (call : Option Call). call ≡ x)) (sym same) told
 
 step_settled : (s : State) → is_settled s ≡ true → step s ≡ s
 step_settled s settled =

@@ -158,9 +158,9 @@ committed p s = record s {
 abbrev pub plan_of : Change → Stacking → Awaiting → List Piece → Plan
 plan_of c x a ps = record { change = c; stacking = x; awaiting = a; interacting = interacting.Same; puts = puts.InFront ps; waits = None; begins = false; fault = None }
 
--- of one object that runs
-abbrev pub turn_plan : Turn → Plan
-turn_plan t = plan_of t.change t.stacking t.awaiting t.pieces.items
+-- of the object at the reference, which runs
+abbrev pub turn_plan : ObjRef → Turn → Plan
+turn_plan r t = plan_of (change_with r (Some (edit.Start t.text)) t.places.items) t.stacking t.awaiting t.pieces.items
 
 -- of one that stops, whose interaction ends
 abbrev pub halt_plan : ObjRef → List Piece → Plan

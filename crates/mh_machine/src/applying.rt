@@ -1,16 +1,16 @@
 //! What a plan changes of the bodies of objects is carried out. Where memory is refused, all bodies stay
 //! as they were.
-ghost use Rattle.std.specs.Prelude.{◌≡◌, OnOk, OnErr};
+ghost use Rattle.std.specs.Prelude.{◌≡◌, OnOk, OnErr, Some};
 ghost use Rattle.mh_model.specs.Bodies.{stored};
 ghost use Rattle.mh_model.specs.Rules.{changed};
 ghost use Rattle.mh_model.specs.Service.{parts};
-ghost use Rattle.mh_machine.specs.Plans.{changed_as, given_all};
+ghost use Rattle.mh_machine.specs.Plans.{change_with, changed_as, given_all};
 
 use crate::lifecycle::is_visible;
 use crate::plan::{Change, Gift};
 use crate::stage::Stage;
 use mh_actions::fits_value;
-use mh_base::ObjRef;
+use mh_base::{ObjRef, Octets};
 use mh_group::Position;
 use mh_model::Edit;
 use std::alloc::AllocError;
@@ -32,6 +32,29 @@ pub(crate) fn apply(stage: &mut Stage, change: Change) -> Result<(), AllocError>
             Ok(())
         }
         Change::Place(at, edit, placed) => place(stage, &at, edit, placed.as_slice()),
+    }
+}
+
+/// An object runs, with this as its text; and, where it is no visible, these are placed.
+#[inline(always)]
+pub(crate) fn start(
+    stage: &mut Stage,
+    at: &ObjRef,
+    text: Option<Octets>,
+    places: Vec<(ObjRef, Position)>,
+) -> Result<(), AllocError>
+    ensures changed { OnOk result (stage.new.objects
+        ≡ changed_as (change_with at.now (Some (Edit.Start text)) places.items) stage.old.objects) }
+    ensures stack { stage.new.stack ≡ stage.old.stack }
+    ensures room { stage.new.room ≡ stage.old.room }
+    ensures own { parts stage.new.objects.application ≡ parts stage.old.objects.application }
+    ensures others { parts stage.new.objects.scene ≡ parts stage.old.objects.scene }
+    ensures kept { OnErr result (stage.new.objects ≡ stage.old.objects) }
+{
+    if places.is_empty() {
+        stage.edit(at, Edit::Start(text))
+    } else {
+        place(stage, at, Edit::Start(text), places.as_slice())
     }
 }
 

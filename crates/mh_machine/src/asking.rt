@@ -2,12 +2,12 @@
 //! asks beforehand which call the step makes, and tells the machine what came of it.
 ghost use Rattle.std.specs.Prelude.{◌≡◌, map, IfOk};
 ghost use Rattle.std.specs.Option.{option_copied};
-ghost use Rattle.mh_model.specs.Receiver.{call_at as call_at_lem, call_by as call_by_lem, call_in as call_in_lem, call_made as call_made_lem, call_next, call_unless as call_unless_lem, told};
+ghost use Rattle.mh_model.specs.Receiver.{call_at as call_at_lem, call_in as call_in_lem, call_made as call_made_lem, call_next, call_unless as call_unless_lem, told};
 ghost use Rattle.mh_model.specs.Service.{part_at, parts};
-ghost use Rattle.mh_model.specs.Sort.{sort_of as sort_of_lem};
 ghost use Rattle.mh_model.specs.State.{all};
-ghost use Rattle.mh_model.specs.Stuck.{stuck};
 
+use crate::frame::Front;
+use crate::stepping::why_act_stuck;
 use crate::works::Works;
 use mh_actions::arguments::referred;
 use mh_actions::calling::{added_name, call_ins, params_at};
@@ -27,9 +27,10 @@ impl Works {
         if self.ended {
             return Ok(None);
         }
-        match self.work.first()? {
-            Some(item) => self.call_in(programs, &item),
-            None => Ok(None),
+        match self.work.front()? {
+            Some(Front::Act(effect, place)) => self.call_in(programs, &effect.as_slice()[place]),
+            Some(Front::Item(Item::Act(act))) => self.call_in(programs, &act),
+            _ => Ok(None),
         }
     }
 
@@ -43,29 +44,16 @@ impl Works {
         mem::replace(&mut self.said, said)
     }
 
-    fn call_in<P: Resident>(&self, programs: &[P], item: &Item) -> Result<Option<Call>, AllocError>
+    /// Which of these programs the action calls, if it calls one.
+    fn call_in<P: Resident>(&self, programs: &[P], act: &Act) -> Result<Option<Call>, AllocError>
         ensures { let signatures = map P.signature_of programs.now in
-            IfOk result (λ call. call ≡ call_in_lem signatures item.now self.now.state) }
-    {
-        match item {
-            Item::Act(act) => self.call_by(programs, act, item),
-            _ => Ok(None),
-        }
-    }
-
-    fn call_by<P: Resident>(
-        &self,
-        programs: &[P],
-        act: &Act,
-        item: &Item,
-    ) -> Result<Option<Call>, AllocError>
-        requires { item.now ≡ Item.Act act.now }
-        ensures { let sort = sort_of_lem act.now.name in
-            let signatures = map P.signature_of programs.now in
-            IfOk result (λ call. call ≡ call_by_lem signatures sort act.now self.now.state) }
+            IfOk result (λ call. call ≡ call_in_lem signatures (Item.Act act.now) self.now.state) }
     {
         match sort_of(act.name) {
-            Sort::Call => self.call_unless(self.why_stuck(item)?, programs, act),
+            Sort::Call => {
+                let fault = why_act_stuck(&self.service, self.stage.objects(), act)?;
+                self.call_unless(fault, programs, act)
+            }
             _ => Ok(None),
         }
     }

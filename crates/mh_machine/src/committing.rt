@@ -6,14 +6,14 @@ ghost use Rattle.mh_model.specs.Bodies.{given};
 ghost use Rattle.mh_model.specs.Edits.{edited};
 ghost use Rattle.mh_model.specs.Rules.{changed};
 ghost use Rattle.mh_machine.specs.Pieces.{written};
-ghost use Rattle.mh_machine.specs.Plans.{change_at, committed, halt_plan, turn_plan, put_for_first, taken_from, changed_as, rewaited, queued, worked, noted, room_for};
+ghost use Rattle.mh_machine.specs.Plans.{change_at, committed, halt_plan, put_for_first, taken_from, changed_as, rewaited, queued, worked, noted, room_for};
 
 use crate::agenda::Agenda;
 use crate::applying::apply;
 use crate::interacting::{end_of, interact};
 use crate::pair::given;
 use crate::piece::Piece;
-use crate::plan::{Awaiting, Plan, Puts, Turn};
+use crate::plan::{Awaiting, Plan, Puts};
 use crate::room::make_room;
 use crate::work::Work;
 use crate::works::Works;
@@ -73,31 +73,6 @@ impl Works {
             return Ok(());
         }
         self.work.reserve(pieces.len())?;
-        self.work.put_for_first(pieces);
-        self.taken += 1;
-        Ok(())
-    }
-
-    /// Carries out what becomes of one object.
-    #[inline(never)]
-    pub(crate) fn commit_turn(&mut self, turn: Turn) -> Result<(), AllocError>
-        requires { self.old.state.taken + 1 < 2 ^ 64 }
-        ensures done { OnOk result (self.new.state ≡ committed (turn_plan turn) self.old.state) }
-        ensures kept { OnErr result (self.new.state ≡ self.old.state) }
-    {
-        let turn = given(self.stage.reserve(), turn)?;
-        let turn = given(self.carousel.reserve_wait(), turn)?;
-        let room = self.work.reserve(turn.pieces.len());
-        let Turn {
-            change,
-            stacking,
-            awaiting,
-            pieces,
-        } = given(room, turn)?;
-        let changed = apply(&mut self.stage, change);
-        let (stacking, awaiting, pieces) = given(changed, (stacking, awaiting, pieces))?;
-        self.stage.restack(stacking);
-        rewait(&mut self.carousel, awaiting);
         self.work.put_for_first(pieces);
         self.taken += 1;
         Ok(())
@@ -183,7 +158,7 @@ fn put(work: &mut Work, puts: Puts)
 }
 
 /// Notes who waits for a file.
-fn rewait(carousel: &mut Carousel, awaiting: Awaiting)
+pub(crate) fn rewait(carousel: &mut Carousel, awaiting: Awaiting)
     requires { 1 ≤ carousel.old.room }
     ensures files { carousel.new.files ≡ carousel.old.files }
     ensures waits { carousel.new.waits ≡ rewaited awaiting carousel.old.waits }

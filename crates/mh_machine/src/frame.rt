@@ -1,8 +1,8 @@
 //! A frame of the work list: what was put as one piece, as far as it is not done.
-ghost use Rattle.std.specs.Prelude.{◌≡◌, true, IfOk, IfSome, Some, slice_get};
+ghost use Rattle.std.specs.Prelude.{◌≡◌, true, IfOk, IfSome, Some};
 ghost use Rattle.mh_machine.specs.Frames.{IsFront, has_more, is_live, left_of, passed};
 
-use mh_model::{Act, Effect, Event, Item};
+use mh_model::{Effect, Event, Item};
 use std::alloc::AllocError;
 
 /// What was put as one piece, as far as it is not done.
@@ -39,23 +39,6 @@ pub(crate) fn event_of(frame: &Frame) -> Option<&Event>
         Frame::One(Item::Emit(event)) => Some(event),
         _ => None,
     }
-}
-
-/// A copy of the first item of a frame.
-pub(crate) fn top(frame: &Frame) -> Result<Item, AllocError>
-    requires { is_live frame.now ≡ true }
-    ensures { IfOk result (λ item. Some item ≡ slice_get (left_of frame.now) 0) }
-{
-    match frame {
-        Frame::Acts(effect, next) => act_item(&effect.as_slice()[*next]),
-        Frame::One(item) => copied(item),
-    }
-}
-
-fn act_item(act: &Act) -> Result<Item, AllocError>
-    ensures { IfOk result (λ item. item ≡ Item.Act act.now) }
-{
-    Ok(Item::Act(act.clone()?))
 }
 
 fn copied(item: &Item) -> Result<Item, AllocError>

@@ -1,6 +1,6 @@
 //! What is put, and what becomes of the display stack, when an object is prepared, runs, stops and is
 //! dropped.
-ghost use Rattle.std.specs.Prelude.{◌≡◌, ◌&&◌, ◌++◌, IfOk, OnOk, if◌then◌else◌};
+ghost use Rattle.std.specs.Prelude.{◌≡◌, ◌&&◌, ◌++◌, [], IfOk, OnOk, if◌then◌else◌};
 ghost use Rattle.std.specs.Option.{option_copied};
 ghost use Rattle.mh_model.specs.Lifecycle as spec;
 ghost use Rattle.mh_model.specs.Tokens.{members as members_lem};
@@ -69,6 +69,7 @@ pub fn rising(rises: bool, at: &ObjRef, found: Option<&Object>) -> Result<Stacki
 }
 
 /// Puts an event behind these pieces, if it comes.
+#[inline(always)]
 fn push_event_if(
     pieces: &mut Vec<Piece>,
     comes: bool,
@@ -117,17 +118,19 @@ pub fn prepare_pieces(
     Ok(pieces)
 }
 
-/// What is put when the object is to run, and its content is there or not.
+/// What is put when the object is to run, and its content is there or not, in this list.
 pub fn run_pieces(
     alloc: Global,
+    spare: Vec<Piece>,
     at: &ObjRef,
     found: Option<&Object>,
     loads: bool,
 ) -> Result<Vec<Piece>, AllocError>
+    requires { spare.items ≡ [] }
     ensures { IfOk result (λ pieces. written pieces.items
         ≡ run_told loads at.now (option_copied found.entry)) }
 {
-    let mut pieces = Vec::new(alloc);
+    let mut pieces = spare;
     push_rise(&mut pieces, is_unprepared(found), loads, at)?;
     push_started(alloc, &mut pieces, at, found)?;
     Ok(pieces)
@@ -233,16 +236,18 @@ fn members(fixed: &Fixed) -> &[Member]
     as_members(fixed.properties.get(Attribute::TokenGroupItems))
 }
 
-/// What is put when the object is to stop.
+/// What is put when the object is to stop, in this list.
 pub fn halt_pieces(
     alloc: Global,
+    spare: Vec<Piece>,
     at: &ObjRef,
     found: Option<&Object>,
 ) -> Result<Vec<Piece>, AllocError>
+    requires { spare.items ≡ [] }
     ensures { IfOk result (λ pieces. written pieces.items
         ≡ spec.halt_items at.now (option_copied found.entry)) }
 {
-    let mut pieces = Vec::new(alloc);
+    let mut pieces = spare;
     match found {
         Some(object) if object.body.running => push_stopping(alloc, &mut pieces, at, object)?,
         _ => {}

@@ -5,7 +5,7 @@ ghost use Rattle.mh_machine.specs.Plans.{plan_of};
 use crate::piece::Piece;
 use crate::work::Work;
 use mh_actions::ordering::Reorder;
-use mh_base::{ObjRef, Seq, Value};
+use mh_base::{ObjRef, Octets, Seq, Value};
 use mh_group::Position;
 use mh_model::{Edit, Event, Fault, Interaction, Wait};
 use std::alloc::Global;
@@ -87,7 +87,10 @@ pub struct Plan {
 /// What becomes of one object that runs, and what it puts: all that is planned of it.
 #[derive(Drop)]
 pub struct Turn {
-    pub change: Change,
+    /// What it loads.
+    pub text: Option<Octets>,
+    /// Where it places what it shows, if it is a list.
+    pub places: Vec<(ObjRef, Position)>,
     pub stacking: Stacking,
     pub awaiting: Awaiting,
     pub pieces: Vec<Piece>,

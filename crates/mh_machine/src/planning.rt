@@ -11,15 +11,18 @@ ghost use Rattle.mh_model.specs.Service.{with_parts};
 ghost use Rattle.std.specs.Option.{option_map};
 ghost use Rattle.mh_machine.specs.Plans.{committed, gifts, taken_from, turn_plan};
 
+use crate::applying::start;
+use crate::committing::rewait;
 use crate::lifecycle::{
     drop_pieces, halt_pieces, is_available, is_unavailable, is_unprepared, prepare_pieces, rising,
     run_pieces,
 };
 use crate::loading::{awaiting, copied_text, lacking, loaded};
-use crate::pair::both;
+use crate::pair::{both, given};
+use crate::piece::Piece;
 use crate::plan::{Awaiting, Change, Gift, Interacting, Plan, Puts, Stacking, Turn};
 use crate::puts::{leaving, quitting};
-use crate::widgets::{change_of, run_places};
+use crate::widgets::run_places;
 use crate::work::Work;
 use crate::works::Works;
 use mh_actions::answers::answers;
@@ -65,26 +68,44 @@ impl Works {
         ensures done { OnOk result (self.new.state ≡ done (Item.Run at.now) self.old.state) }
         ensures kept { OnErr result (self.new.state ≡ self.old.state) }
     {
-        let turn = self.turn_of_run(at)?;
-        self.commit_turn(turn)
+        self.stage.reserve()?;
+        self.carousel.reserve_wait()?;
+        let spare = self.work.spare(self.alloc);
+        let turn = self.turn_of_run(at, spare)?;
+        let room = self.work.reserve(turn.pieces.len());
+        let Turn {
+            text,
+            places,
+            stacking,
+            awaiting,
+            pieces,
+        } = given(room, turn)?;
+        let changed = start(&mut self.stage, at, text, places);
+        let (stacking, awaiting, pieces) = given(changed, (stacking, awaiting, pieces))?;
+        self.stage.restack(stacking);
+        rewait(&mut self.carousel, awaiting);
+        self.work.put_for_first(pieces);
+        self.taken += 1;
+        Ok(())
     }
 
-    fn turn_of_run(&self, at: &ObjRef) -> Result<Turn, AllocError>
-        ensures { IfOk result (λ turn. committed (turn_plan turn) self.now.state
+    /// What becomes of an object that runs. What it puts is put into this list.
+    fn turn_of_run(&self, at: &ObjRef, spare: Vec<Piece>) -> Result<Turn, AllocError>
+        requires { spare.items ≡ [] }
+        ensures { IfOk result (λ turn. committed (turn_plan at.now turn) self.now.state
             ≡ done (Item.Run at.now) self.now.state) }
     {
         let found = self.stage.objects().get(at);
         let becomes = is_unprepared(found);
         let text = loaded(&self.carousel, found);
-        let target = at.clone()?;
-        let shown = copied_text(text)?;
+        let pieces = run_pieces(self.alloc, spare, at, found, text.is_some())?;
+        let text = copied_text(text)?;
         let places = run_places(self.alloc, at, found)?;
-        let pieces = run_pieces(self.alloc, at, found, text.is_some())?;
         let stacking = rising(becomes, at, found)?;
         let awaiting = awaiting(becomes, at, lacking(&self.carousel, found))?;
-        let change = change_of(target, Some(Edit::Start(shown)), places);
         Ok(Turn {
-            change,
+            text,
+            places,
             stacking,
             awaiting,
             pieces,
@@ -98,7 +119,8 @@ impl Works {
         ensures done { OnOk result (self.new.state ≡ done (Item.Halt at.now) self.old.state) }
         ensures kept { OnErr result (self.new.state ≡ self.old.state) }
     {
-        let pieces = halt_pieces(self.alloc, at, self.stage.objects().get(at))?;
+        let spare = self.work.spare(self.alloc);
+        let pieces = halt_pieces(self.alloc, spare, at, self.stage.objects().get(at))?;
         self.commit_halt(at, pieces)
     }
 

@@ -16,6 +16,7 @@ use mh_model::{Event, Fixed, FixedPart, Held, Item};
 use std::alloc::{AllocError, Global};
 
 /// An event without data.
+#[inline(always)]
 pub fn plain_event(source: &ObjRef, kind: EventType) -> Result<Item, AllocError>
     ensures { IfOk result (λ item. item ≡ plain_event_lem source.now kind) }
 {
@@ -34,7 +35,7 @@ pub fn entering(
 ) -> Result<Vec<Piece>, AllocError>
     ensures { IfOk result (λ pieces. written pieces.items ≡ entering_lem group.now parts.now) }
 {
-    let mut pieces = Vec::new(alloc);
+    let mut pieces = Vec::with_capacity(alloc, parts.len())?;
     push_group_effect(&mut pieces, group, parts, Attribute::OnStartUp)?;
     push_runs(&mut pieces, parts)?;
     let running = plain_event(&group_ref(group)?, EventType::IsRunning)?;
@@ -53,7 +54,7 @@ pub fn leaving(
     ensures { let left = option_map (λ s. (s.0.now, s.1.now)) scene.entry in
         IfOk result (λ pieces. written pieces.items ≡ leaving_lem application.now left target.now) }
 {
-    let mut pieces = Vec::new(alloc);
+    let mut pieces = with_room(alloc, scene)?;
     push_scene_closing(&mut pieces, scene)?;
     push_scene_halts(&mut pieces, scene)?;
     push_unshared_halts(&mut pieces, application)?;
@@ -96,6 +97,19 @@ fn closing(
     push_scene_halts(&mut pieces, scene)?;
     push_all_halts(&mut pieces, parts)?;
     Ok(pieces)
+}
+
+/// No pieces yet, with room for one for each part of the scene.
+fn with_room(
+    alloc: Global,
+    scene: Option<(&GroupName, &[FixedPart])>,
+) -> Result<Vec<Piece>, AllocError>
+    ensures { IfOk result (λ pieces. pieces.items ≡ []) }
+{
+    match scene {
+        Some((_, parts)) => Vec::with_capacity(alloc, parts.len()),
+        None => Ok(Vec::new(alloc)),
+    }
 }
 
 /// Puts what the scene does when it closes down behind these pieces, if there is one.

@@ -100,6 +100,7 @@ impl Stage {
 
     /// Changes the body of an object. It can be seen in the box before the change, and in the one behind
     /// it.
+    #[inline(always)]
     fn edit_seen(&mut self, at: &ObjRef, edit: Edit) -> Result<(), AllocError>
         ensures done { OnOk result (self.new.objects ≡ changed (edited edit) at.now self.old.objects) }
         ensures stack { self.new.stack ≡ self.old.stack }

@@ -194,7 +194,7 @@ impl Works {
 }
 
 /// What is wrong with the action, if anything is.
-fn why_act_stuck(
+pub(crate) fn why_act_stuck(
     service: &Service,
     objects: &Objects,
     act: &Act,

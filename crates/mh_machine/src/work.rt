@@ -1,6 +1,6 @@
 //! The work list, as a stack of frames: looking at its first item, and putting pieces in the place of
 //! that item, cost the same however long the list is.
-ghost use Rattle.std.specs.Prelude.{◌≡◌, ◌∷◌, ◌++◌, ◌+◌, ◌<◌, ◌≤◌, true, drop, slice_get, vec_len};
+ghost use Rattle.std.specs.Prelude.{◌≡◌, ◌∷◌, ◌++◌, ◌+◌, ◌<◌, ◌≤◌, true, drop, vec_len, []};
 ghost use Rattle.std.specs.Prelude.{IfOk, IfSome, OnOk, Some};
 ghost use Rattle.std.specs.VecDeque.{deque_len, deque_capacity};
 ghost use Rattle.mh_actions.specs.Listed.{listed};
@@ -10,13 +10,14 @@ ghost use Rattle.mh_machine.specs.Pieces.{items_of, written};
 ghost use Rattle.mh_machine.specs.Frames.{AreLive, IsFront, flat, goes_on, has_more, is_live, left_of};
 ghost use Rattle.mh_machine.specs.Frames.{passed, passed_first};
 
-use crate::frame::{Frame, Front, event_of, front_in, pass, top};
+use crate::frame::{Frame, Front, event_of, front_in, pass};
 use crate::piece::Piece;
 use mh_actions::putting::Put;
 use mh_model::{Effect, Event, Item};
 use std::alloc::{AllocError, Global};
 use std::collections::VecDeque;
 use std::marker::Model;
+use std::mem;
 
 /// The work that is to be done. A contract sees the items, and for how many more pieces there is
 /// room.
@@ -24,10 +25,12 @@ use std::marker::Model;
 pub struct Work {
     /// The first one in front.
     frames: VecDeque<Frame>,
+    /// A list of nothing, in whose memory the next pieces are made.
+    spare: Vec<Piece>,
 }
 
 impl Model for Work {
-    ghost use Rattle.std.specs.Prelude.{◌-◌};
+    ghost use Rattle.std.specs.Prelude.{◌≡◌, ◌-◌, []};
     ghost use Rattle.std.specs.VecDeque.{deque_len, deque_capacity};
     ghost use Rattle.mh_machine.specs.Frames.{AreLive, WorkList, flat};
 
@@ -38,7 +41,7 @@ impl Model for Work {
       room = deque_capacity w.frames - deque_len w.frames;
     } };
 
-    ghost invariant = { λ w. AreLive w.frames.items };
+    ghost invariant = { λ w. AreLive w.frames.items × (w.spare.items ≡ []) };
 }
 
 impl Work {
@@ -47,21 +50,14 @@ impl Work {
         ensures items { IfOk result (λ work. work.items ≡ written pieces.items) }
     {
         let mut frames = VecDeque::with_capacity(alloc, pieces.len())?;
-        put_in_front(&mut frames, pieces);
-        Ok(Work { frames })
+        let spare = put_in_front(&mut frames, pieces);
+        Ok(Work { frames, spare })
     }
 
     pub fn is_empty(&self) -> bool
         ensures { result ≡ is_empty_lem self.now.items }
     {
         holds_nothing(&self.frames)
-    }
-
-    /// A copy of the first item, which shares what is large.
-    pub fn first(&self) -> Result<Option<Item>, AllocError>
-        ensures { IfOk result (λ item. item ≡ slice_get self.now.items 0) }
-    {
-        first_of(&self.frames)
     }
 
     /// What comes first. An action is not copied: the effect that holds it is shared.
@@ -118,7 +114,15 @@ impl Work {
         ensures { self.new.items ≡ written pieces.items ++ drop 1 self.old.items }
     {
         drop_first(&mut self.frames);
-        put_in_front(&mut self.frames, pieces);
+        self.spare = put_in_front(&mut self.frames, pieces);
+    }
+
+    /// A list of nothing, for pieces that are put next: mostly in memory that earlier pieces have left.
+    pub fn spare(&mut self, alloc: Global) -> Vec<Piece>
+        ensures empty { result.items ≡ [] }
+        ensures same { self.new ≡ self.old }
+    {
+        mem::replace(&mut self.spare, Vec::new(alloc))
     }
 }
 
@@ -128,16 +132,6 @@ fn holds_nothing(frames: &VecDeque<Frame>) -> bool
     ensures { result ≡ is_empty_lem (flat frames.now.items) }
 {
     frames.is_empty()
-}
-
-fn first_of(frames: &VecDeque<Frame>) -> Result<Option<Item>, AllocError>
-    requires { AreLive frames.now.items }
-    ensures { IfOk result (λ item. item ≡ slice_get (flat frames.now.items) 0) }
-{
-    match frames.front() {
-        Some(frame) => Ok(Some(top(frame)?)),
-        None => Ok(None),
-    }
 }
 
 fn first_event_of(frames: &VecDeque<Frame>) -> Option<&Event>
@@ -197,19 +191,22 @@ fn drop_frame(frames: &mut VecDeque<Frame>)
     let _ = frames.pop_front();
 }
 
-/// Puts these pieces in front, for which there is room.
-fn put_in_front(frames: &mut VecDeque<Frame>, pieces: Vec<Piece>)
+/// Puts these pieces in front, for which there is room. What is left of their list comes back.
+fn put_in_front(frames: &mut VecDeque<Frame>, pieces: Vec<Piece>) -> Vec<Piece>
     requires live { AreLive frames.old.items }
     requires room { deque_len frames.old + vec_len pieces ≤ deque_capacity frames.old }
     ensures items { flat frames.new.items ≡ written pieces.items ++ flat frames.old.items }
     ensures live { AreLive frames.new.items }
+    ensures empty { result.items ≡ [] }
 {
     let mut left = pieces;
     while let Some(piece) = left.pop() {
         put_piece(frames, piece);
     }
+    left
 }
 
+#[inline(always)]
 fn put_piece(frames: &mut VecDeque<Frame>, piece: Piece)
     requires live { AreLive frames.old.items }
     requires room { deque_len frames.old < deque_capacity frames.old }
@@ -224,6 +221,7 @@ fn put_piece(frames: &mut VecDeque<Frame>, piece: Piece)
     }
 }
 
+#[inline(always)]
 fn put_item(frames: &mut VecDeque<Frame>, item: Item)
     requires live { AreLive frames.old.items }
     requires room { deque_len frames.old < deque_capacity frames.old }
@@ -236,6 +234,7 @@ fn put_item(frames: &mut VecDeque<Frame>, item: Item)
 }
 
 /// An effect without actions makes no frame, so that the first item stands in the first frame.
+#[inline(always)]
 fn put_effect(frames: &mut VecDeque<Frame>, effect: Effect)
     requires live { AreLive frames.old.items }
     requires room { deque_len frames.old < deque_capacity frames.old }

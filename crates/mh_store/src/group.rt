@@ -107,6 +107,7 @@ impl Group {
     }
 
     /// Changes the body of the object at this reference. Where there is none the change comes back.
+    #[inline(always)]
     pub(crate) fn edit(&mut self, at: &ObjRef, edit: Edit) -> Result<Option<Edit>, AllocError>
         ensures done { OnOk result (self.new ≡ edited_in edit at.now self.old) }
         ensures back { IfOk result (λ back. back ≡ left_over edit (object_at at.now self.old)) }
@@ -198,6 +199,7 @@ fn place_of(table: &IndexMap<u32, Kept>, at: u32) -> usize
 }
 
 /// Changes the body of the object under this number. Where there is none the change comes back.
+#[inline(always)]
 fn edit_under(
     alloc: Global,
     table: &mut IndexMap<u32, Kept>,

@@ -113,6 +113,7 @@ impl Kept {
     }
 
     /// Changes the body of the object, and lays its text out anew where its lines can differ.
+    #[inline(always)]
     pub(crate) fn edit(&mut self, alloc: Global, edit: Edit) -> Result<(), AllocError>
         ensures done { OnOk result (self.new ≡ with_body (edited edit) self.old) }
         ensures kept { OnErr result (self.new ≡ self.old) }
@@ -131,6 +132,7 @@ impl Kept {
 }
 
 /// Changes the body of an object in place.
+#[inline(always)]
 fn edit_object(object: &mut Object, edit: Edit) -> Result<(), AllocError>
     ensures done { OnOk result (object.new ≡ with_body (edited edit) object.old) }
     ensures kept { OnErr result (object.new ≡ object.old) }

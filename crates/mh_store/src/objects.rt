@@ -102,6 +102,7 @@ impl Objects {
     }
 
     /// Changes the body of the object at this reference; where there is none, nothing.
+    #[inline(always)]
     pub fn edit(&mut self, at: &ObjRef, edit: Edit) -> Result<(), AllocError>
         ensures done { OnOk result (self.new ≡ changed (edited edit) at.now self.old) }
         ensures own { parts self.new.application ≡ parts self.old.application }

@@ -13,6 +13,7 @@ use mh_model::Edit;
 use std::alloc::AllocError;
 
 /// Changes the body of the object at this reference, where the two are apart.
+#[inline(always)]
 pub(crate) fn edit_scene_first(
     application: &mut Group,
     scene: &mut Option<Group>,
@@ -66,6 +67,7 @@ fn edit_scene(scene: &mut Option<Group>, at: &ObjRef, edit: Edit) -> Result<(), 
 }
 
 /// Changes the body of the scene's object at this reference. Where there is none the change comes back.
+#[inline(always)]
 fn edit_in(scene: &mut Option<Group>, at: &ObjRef, edit: Edit) -> Result<Option<Edit>, AllocError>
     ensures done { OnOk result (of_scene scene.new ≡ edited_in edit at.now (of_scene scene.old)) }
     ensures back { IfOk result (λ back. back ≡ left_over edit (object_at at.now (of_scene scene.old))) }
