@@ -17,8 +17,6 @@ mod resident;
 mod residents;
 mod same;
 mod signatures;
-#[cfg(test)]
-mod tests;
 
 pub use answer::{Answer, CallFailed};
 pub use answers::answer_of;

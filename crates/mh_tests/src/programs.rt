@@ -55,6 +55,13 @@ GSS :GOctetString 'abcdef' :GInteger 7 :GInteger 9 :GOctetString :IndirectRef 5 
 GSS :GOctetString 'abcdef' :GInteger 3 :GInteger 2 :GOctetString :IndirectRef 5 => /0/0;;
 GSS :GOctetString 'abcdef' :GInteger -3 :GInteger -1 :GOctetString :IndirectRef 5 => /0/0;;
 GSS :GOctetString :IndirectRef 5 :GInteger 1 :GInteger 1 :GOctetString :IndirectRef 5 => -/0/0;;
+GSL :GOctetString 'teletext' :GInteger :IndirectRef 3 => -/8/0;;
+GSS :GOctetString 'teletext' :GInteger 5 :GInteger 6 :GOctetString :IndirectRef 5 => te/0/0;;
+GSS :GOctetString 'teletext' :GInteger -3 :GInteger 4 :GOctetString :IndirectRef 5 => tele/0/0;;
+GSS :GOctetString 'teletext' :GInteger 5 :GInteger 99 :GOctetString :IndirectRef 5 => text/0/0;;
+GSS :GOctetString 'teletext' :GInteger 6 :GInteger 5 :GOctetString :IndirectRef 5 => /0/0;;
+SSS :GOctetString 'teletext' :GInteger 2 :GOctetString 'te' :GInteger :IndirectRef 3 => -/5/0;;
+SSS :GOctetString 'teletext' :GInteger 6 :GOctetString 'te' :GInteger :IndirectRef 3 => -/-1/0;;
 SSS :GOctetString 'abcabc' :GInteger 2 :GOctetString 'a' :GInteger :IndirectRef 3 => -/4/0;;
 SSS :GOctetString 'abcabc' :GInteger 1 :GOctetString 'a' :GInteger :IndirectRef 3 => -/1/0;;
 SSS :GOctetString 'abcabc' :GInteger -5 :GOctetString 'bc' :GInteger :IndirectRef 3 => -/2/0;;
@@ -71,6 +78,10 @@ SES :GOctetString 'k=3Dv;x' :GInteger 3 :GOctetString ';' :GOctetString :Indirec
 :GInteger :IndirectRef 3 => v/5/0;;
 SES :GOctetString 'k=3Dv;x' :GInteger 0 :GOctetString '=3D' :GOctetString :IndirectRef 5
 :GInteger :IndirectRef 3 => k/3/0;;
+SES :GOctetString 'teletext' :GInteger 2 :GOctetString 'te' :GOctetString :IndirectRef 5
+:GInteger :IndirectRef 3 => ele/7/0;;
+SES :GOctetString 'teletext' :GInteger 6 :GOctetString 'te' :GOctetString :IndirectRef 5
+:GInteger :IndirectRef 3 => ext/-1/0;;
 SES :GOctetString 'abc' :GInteger 2 :GOctetString 'x' :GOctetString :IndirectRef 5
 :GInteger :IndirectRef 3 => bc/-1/0;;
 SES :GOctetString 'abc' :GInteger 3 :GOctetString 'c' :GOctetString :IndirectRef 5
@@ -83,6 +94,7 @@ SES :GOctetString 'abc' :GInteger 2 :GOctetString '' :GOctetString :IndirectRef 
 /// 0 is Sunday. A play begins on day 60000.
 static DAYS: &str = r#"
 GDW :GInteger 0 :GInteger :IndirectRef 3 => -/3/0;;
+GDW :GInteger 61368 :GInteger :IndirectRef 3 => -/2/0 -- 24 November 2026, a Tuesday;;
 GDW :GInteger -3 :GInteger :IndirectRef 3 => -/0/0;;
 GDW :GInteger -4 :GInteger :IndirectRef 3 => -/6/0;;
 GDW :GInteger 4 :GInteger :IndirectRef 3 => -/0/0;;

@@ -11,8 +11,8 @@ const CONTENT_REF: &[u8] = b"ContentRef";
 
 const INDIRECT_REF: &[u8] = b"IndirectRef";
 
-/// All keywords: the shorter names first, and those of one length in the order of their letters. What is
-/// found here counts only where it has the name that is looked for, so a wrong order would cost time alone.
+/// All keywords, the shorter names first. What is found here counts only where it has the name that is
+/// looked for, so a wrong order would cost time alone.
 static IN_ORDER: [Sign; 132] = [
     Sign::Action(ActionName::Add),
     Sign::Action(ActionName::Run),
@@ -148,6 +148,11 @@ static IN_ORDER: [Sign; 132] = [
     Sign::Action(ActionName::GetAvailabilityStatus),
 ];
 
+/// Where the keywords of each length begin among them, from the length 0 on.
+static STARTS: [usize; 23] = [
+    0, 0, 0, 0, 2, 10, 15, 24, 29, 40, 52, 73, 89, 101, 112, 117, 119, 124, 127, 129, 129, 131, 132,
+];
+
 /// What the name of a keyword means.
 pub(crate) fn name_sign(name: &[u8]) -> Option<Sign>
     ensures { result ≡ name_sign_lem name.now }
@@ -160,12 +165,21 @@ pub(crate) fn name_sign(name: &[u8]) -> Option<Sign>
 
 /// The keyword that has this name if any has.
 fn likely_sign(name: &[u8]) -> Option<Sign> {
-    let place = IN_ORDER.partition_point(|sign| is_before(name_of(*sign), name));
-    IN_ORDER.get(place).copied()
+    let from = *STARTS.get(name.len())?;
+    let to = *STARTS.get(name.len() + 1)?;
+    let of_length = IN_ORDER.get(from..to)?;
+    of_length
+        .iter()
+        .copied()
+        .find(|sign| is_alike(name_of(*sign), name))
 }
 
-fn is_before(first: &[u8], second: &[u8]) -> bool {
-    first.len() < second.len() || first.len() == second.len() && first < second
+/// Whether two names of one length have three letters in common, which no two keywords have.
+fn is_alike(keyword: &[u8], name: &[u8]) -> bool {
+    let middle = (name.len() / 2).saturating_sub(1);
+    keyword.first() == name.first()
+        && keyword.last() == name.last()
+        && keyword.get(middle) == name.get(middle)
 }
 
 /// The name of a keyword; none of what is no keyword.
