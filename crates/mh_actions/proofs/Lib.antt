@@ -1,3 +1,5 @@
 pub mod CallLemmas
 pub mod FilterLemmas
 pub mod NumeralLemmas
+pub mod FrameLemmas
+pub mod LinkLemmas

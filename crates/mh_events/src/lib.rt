@@ -1,4 +1,4 @@
-//! What waits until it is taken, and the timers.
+//! What waits until it is taken, and the timers, with what an action makes of them.
 //!
 //! Promise: the queue is first in, first out, and tells without counting how many inputs wait and how
 //! much time they bring; timers are due in the order that the definitions of `mh_model` give. Whether
@@ -9,6 +9,7 @@ mod counting;
 mod order;
 pub mod queue;
 pub mod timers;
+pub mod timing;
 
 pub use queue::Queue;
 pub use timers::Timers;

@@ -1,7 +1,5 @@
 pub mod ChangeLemmas
 pub mod TimeLemmas
-pub mod FrameLemmas
-pub mod LinkLemmas
 pub mod PlacingLemmas
 pub mod PlanLemmas
 pub mod StageLemmas

@@ -34,7 +34,7 @@ use Rattle.mh_model.specs.Worked.{ended_of}
 use Rattle.mh_group.specs.declared.written.Position.{Position}
 use Rattle.mh_widgets.specs.Does.{placed_by}
 use Rattle.mh_machine.proofs.PlacingLemmas.{placing, run_unseen}
-use Rattle.mh_machine.specs.declared.piece.Piece.{Piece}
+use Rattle.mh_actions.specs.declared.piece.Piece.{Piece}
 use Rattle.mh_machine.specs.declared.plan.Awaiting.{Awaiting}
 use Rattle.mh_machine.specs.declared.plan.Awaiting.TheVariants as awaiting
 use Rattle.mh_machine.specs.declared.plan.Change.{Change}
@@ -44,9 +44,9 @@ use Rattle.mh_machine.specs.declared.plan.Interacting.{Interacting}
 use Rattle.mh_machine.specs.declared.plan.Interacting.TheVariants as interacting
 use Rattle.mh_machine.specs.declared.plan.Stacking.{Stacking}
 use Rattle.mh_machine.specs.declared.plan.Stacking.TheVariants as stacking
-use Rattle.mh_machine.specs.Pieces.{written}
+use Rattle.mh_actions.specs.Pieces.{written}
 use Rattle.mh_actions.specs.Content.{new_content}
-use Rattle.mh_machine.specs.Loading.{prepare_told, run_told, content_told}
+use Rattle.mh_actions.specs.Loading.{prepare_told, run_told, content_told}
 use Rattle.mh_machine.specs.Plans.{changed_as, change_with, interacted, given_all, gifts, Makes, restacked, rewaited, wait_if, plan_of, committed, taken_from}
 
 rising : (b : Bool) (r : ObjRef) (stack : List ObjRef) → restacked (if b then stacking.Rise r else stacking.Same) stack ≡ (if b then stack ++ r ∷ [] else stack)

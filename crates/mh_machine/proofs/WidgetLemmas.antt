@@ -25,7 +25,7 @@ use Rattle.mh_model.specs.State.{State, all}
 use Rattle.mh_model.specs.Step.{pressed_at}
 use Rattle.mh_model.specs.Worked.{worked, is_interacting}
 use Rattle.mh_widgets.specs.Does.{placed_with, placed_by}
-use Rattle.mh_machine.specs.declared.piece.Piece.{Piece}
+use Rattle.mh_actions.specs.declared.piece.Piece.{Piece}
 use Rattle.mh_machine.specs.declared.plan.Awaiting.TheVariants as awaiting
 use Rattle.mh_machine.specs.declared.plan.Change.{Change}
 use Rattle.mh_machine.specs.declared.plan.Change.TheVariants as change
@@ -33,7 +33,7 @@ use Rattle.mh_machine.specs.declared.plan.Gift.{Gift}
 use Rattle.mh_machine.specs.declared.plan.Interacting.{Interacting}
 use Rattle.mh_machine.specs.declared.plan.Interacting.TheVariants as interacting
 use Rattle.mh_machine.specs.declared.plan.Stacking.TheVariants as stacking
-use Rattle.mh_machine.specs.Pieces.{written}
+use Rattle.mh_actions.specs.Pieces.{written}
 use Rattle.mh_machine.specs.Plans.{changed_as, change_at, change_with, given_all, gifts, interacted, interacting_as, plan_of, committed, taken_from}
 use Rattle.mh_machine.specs.Taking.{shifted}
 use Rattle.mh_machine.proofs.ChangeLemmas.{makes_edit}

@@ -1,9 +1,5 @@
 pub mod Agenda
-pub mod Frames
 pub mod Holds
-pub mod Links
-pub mod Loading
-pub mod Pieces
 pub mod Plans
 pub mod Rest
 pub mod Stage

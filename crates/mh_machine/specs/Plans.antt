@@ -26,7 +26,7 @@ use Rattle.mh_model.specs.Service.{object_at}
 use Rattle.mh_model.specs.State.{State, Objects, all}
 use Rattle.mh_model.specs.declared.file.Wait.{Wait}
 use Rattle.mh_model.specs.Files.{forgotten, awaited}
-use Rattle.mh_machine.specs.declared.piece.Piece.{Piece}
+use Rattle.mh_actions.specs.declared.piece.Piece.{Piece}
 use Rattle.mh_machine.specs.declared.plan.Awaiting.{Awaiting}
 use Rattle.mh_machine.specs.declared.plan.Awaiting.TheVariants as awaiting
 use Rattle.mh_machine.specs.declared.plan.Change.{Change}
@@ -40,7 +40,7 @@ use Rattle.mh_machine.specs.declared.plan.Puts.TheVariants as puts
 use Rattle.mh_machine.specs.declared.plan.Stacking.{Stacking}
 use Rattle.mh_machine.specs.declared.plan.Stacking.TheVariants as stacking
 use Rattle.mh_machine.specs.declared.plan.Turn.{Turn}
-use Rattle.mh_machine.specs.Pieces.{written}
+use Rattle.mh_actions.specs.Pieces.{written}
 
 -- variables are given values that they can hold, one after another
 abbrev pub given_all : List Gift → Objects → Objects

@@ -9,10 +9,10 @@ ghost use Rattle.mh_model.specs.Rules.{act_on, change_rule, ask_rule, put_rule, 
 ghost use Rattle.mh_machine.specs.Plans.{taken_from, MakesFound};
 
 use crate::plan::Plan;
-use crate::puts::entering;
 use crate::works::Works;
 use mh_actions::arguments::{referred, values};
 use mh_actions::changes::edit_with;
+use mh_actions::groups::entering;
 use mh_actions::putting::put_items;
 use mh_base::{GroupName, ObjRef};
 use mh_group::ActionName;

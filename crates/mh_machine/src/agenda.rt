@@ -10,9 +10,9 @@ ghost use Rattle.mh_model.specs.Limits.{most_inputs, most_moment};
 ghost use Rattle.mh_machine.specs.Agenda.{is_late as is_late_lem};
 ghost use Rattle.mh_machine.specs.Taking.{entered, fired};
 
-use crate::timing::set_timers;
 use mh_base::{GroupName, Value};
 use mh_carousel::Carousel;
+use mh_events::timing::set_timers;
 use mh_events::{Queue, Timers};
 use mh_model::{Event, File, Input, Moments, Waiting};
 use std::alloc::{AllocError, Global};

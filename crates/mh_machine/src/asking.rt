@@ -6,9 +6,9 @@ ghost use Rattle.mh_model.specs.Receiver.{call_at as call_at_lem, call_in as cal
 ghost use Rattle.mh_model.specs.Service.{part_at, parts};
 ghost use Rattle.mh_model.specs.State.{all};
 
-use crate::frame::Front;
 use crate::stepping::why_act_stuck;
 use crate::works::Works;
+use mh_actions::Front;
 use mh_actions::arguments::referred;
 use mh_actions::calling::{added_name, call_ins, params_at};
 use mh_base::{ObjRef, Octets, Seq};

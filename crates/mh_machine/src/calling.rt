@@ -3,16 +3,16 @@ ghost use Rattle.std.specs.Prelude.{◌≡◌, ◌+◌, ◌<◌, ◌^◌, ◌∷
 ghost use Rattle.mh_model.specs.Programs.{answer, said_by, outcome_of};
 ghost use Rattle.mh_model.specs.Rules.{call_rule, now_of};
 ghost use Rattle.mh_model.specs.Saying.{call_items};
-ghost use Rattle.mh_machine.specs.Pieces.{written};
+ghost use Rattle.mh_actions.specs.Pieces.{written};
 ghost use Rattle.mh_machine.specs.Plans.{committed, taken_from};
 
 use crate::pair::both;
-use crate::piece::Piece;
 use crate::plan::{Awaiting, Change, Plan, Stacking};
 use crate::planning::gifts_of;
-use crate::puts::{plain_event, push};
 use crate::works::Works;
+use mh_actions::Piece;
 use mh_actions::calling::{builtin_at, call_ins, call_receivers, params_at};
+use mh_actions::groups::{plain_event, push};
 use mh_base::{EventType, ObjRef, Seq, Value};
 use mh_group::ActionName;
 use mh_model::act::passed;

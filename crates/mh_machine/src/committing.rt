@@ -5,18 +5,17 @@ ghost use Rattle.std.specs.Prelude.{◌≡◌, ◌+◌, ◌<◌, ◌≤◌, ◌^
 ghost use Rattle.mh_model.specs.Bodies.{given};
 ghost use Rattle.mh_model.specs.Edits.{edited};
 ghost use Rattle.mh_model.specs.Rules.{changed};
-ghost use Rattle.mh_machine.specs.Pieces.{written};
+ghost use Rattle.mh_actions.specs.Pieces.{written};
 ghost use Rattle.mh_machine.specs.Plans.{change_at, committed, halt_plan, put_for_first, taken_from, changed_as, rewaited, queued, worked, noted, room_for};
 
 use crate::agenda::Agenda;
 use crate::applying::apply;
 use crate::interacting::{end_of, interact};
 use crate::pair::given;
-use crate::piece::Piece;
 use crate::plan::{Awaiting, Plan, Puts};
 use crate::room::make_room;
-use crate::work::Work;
 use crate::works::Works;
+use mh_actions::{Piece, Work};
 use mh_base::{ObjRef, Value};
 use mh_carousel::Carousel;
 use mh_model::{Edit, Event, Fault};

@@ -4,12 +4,11 @@ ghost use Rattle.std.specs.Option.{option_copied};
 ghost use Rattle.mh_model.specs.Service.{parts};
 ghost use Rattle.mh_model.specs.State.{all};
 ghost use Rattle.mh_model.specs.Step as spec;
-ghost use Rattle.mh_machine.specs.Links.{IsIndex};
+ghost use Rattle.mh_actions.specs.Links.{IsIndex};
 ghost use Rattle.mh_machine.specs.Taking.{told_by, content_by};
-ghost use Rattle.mh_machine.specs.Pieces.{written};
+ghost use Rattle.mh_actions.specs.Pieces.{written};
 
-use crate::links::Links;
-use crate::piece::Piece;
+use mh_actions::{Links, Piece};
 use mh_base::{EventType, GroupName, ObjRef, Value};
 use mh_carousel::Carousel;
 use mh_group::{Attribute, Class};

@@ -7,11 +7,11 @@ ghost use Rattle.mh_model.specs.Worked.{ended_of, is_interacting as is_interacti
 ghost use Rattle.mh_machine.specs.Plans.{changed_as, change_at, interacted};
 ghost use Rattle.mh_machine.specs.Taking.{shifted};
 
-use crate::lifecycle::push_items;
 use crate::plan::Interacting;
 use crate::stage::Stage;
-use crate::work::Work;
 use crate::works::Works;
+use mh_actions::Work;
+use mh_actions::lifecycle::push_items;
 use mh_base::ObjRef;
 use mh_model::parts::same_ref;
 use mh_model::{Edit, Interaction, Item, Key};

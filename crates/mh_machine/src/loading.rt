@@ -1,19 +1,20 @@
-//! Content: what an object loads, and for which file it waits where that is not there.
-ghost use Rattle.std.specs.Prelude.{◌≡◌, ◌&&◌, ◌+◌, ◌<◌, ◌^◌, true, IfOk, OnOk, OnErr};
+//! Content: what an object loads, and for which file it waits where that is not there; and the place in the
+//! display stack of what becomes available.
+ghost use Rattle.std.specs.Prelude.{◌≡◌, ◌&&◌, ◌+◌, ◌<◌, ◌^◌, true, if◌then◌else◌, IfOk, OnOk, OnErr};
 ghost use Rattle.std.specs.Option.{is_some, option_copied};
 ghost use Rattle.mh_model.specs.Arguments as said;
 ghost use Rattle.mh_model.specs.Files as files;
-ghost use Rattle.mh_model.specs.Lifecycle.{loaded_at, lacking_at};
+ghost use Rattle.mh_model.specs.Lifecycle.{is_visible_at, loaded_at, lacking_at};
 ghost use Rattle.mh_model.specs.Rules.{load_rule, loaded_with};
 ghost use Rattle.mh_model.specs.State.{all};
 ghost use Rattle.mh_machine.specs.Plans.{committed, taken_from, wait_if};
 
-use crate::lifecycle::{content_pieces, is_available};
 use crate::pair::both;
 use crate::plan::{Awaiting, Change, Plan, Stacking};
 use crate::works::Works;
 use mh_actions::arguments::values;
 use mh_actions::content::new_content;
+use mh_actions::lifecycle::{content_pieces, is_available, is_visible};
 use mh_base::{GroupName, ObjRef, Octets, Value};
 use mh_carousel::Carousel;
 use mh_group::Attribute;
@@ -159,5 +160,18 @@ pub fn copied_text(text: Option<&Octets>) -> Result<Option<Octets>, AllocError>
     match text {
         Some(text) => Ok(Some(text.clone()?)),
         None => Ok(None),
+    }
+}
+
+/// A visible that becomes available goes on top of the display stack.
+pub fn rising(rises: bool, at: &ObjRef, found: Option<&Object>) -> Result<Stacking, AllocError>
+    ensures { IfOk result (λ stacking. stacking
+        ≡ (if rises && is_visible_at (option_copied found.entry)
+        then Stacking.Rise at.now else Stacking.Same)) }
+{
+    if rises && is_visible(found) {
+        Ok(Stacking::Rise(at.clone()?))
+    } else {
+        Ok(Stacking::Same)
     }
 }

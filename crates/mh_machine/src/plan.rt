@@ -2,9 +2,8 @@
 ghost use Rattle.std.specs.Prelude.{◌≡◌, [], Some};
 ghost use Rattle.mh_machine.specs.Plans.{plan_of};
 
-use crate::piece::Piece;
-use crate::work::Work;
 use mh_actions::ordering::Reorder;
+use mh_actions::{Piece, Work};
 use mh_base::{ObjRef, Octets, Seq, Value};
 use mh_group::Position;
 use mh_model::{Edit, Event, Fault, Interaction, Wait};

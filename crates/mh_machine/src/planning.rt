@@ -13,21 +13,20 @@ ghost use Rattle.mh_machine.specs.Plans.{committed, gifts, taken_from, turn_plan
 
 use crate::applying::start;
 use crate::committing::rewait;
-use crate::lifecycle::{
-    drop_pieces, halt_pieces, is_available, is_unavailable, is_unprepared, prepare_pieces, rising,
-    run_pieces,
-};
-use crate::loading::{awaiting, copied_text, lacking, loaded};
+use crate::loading::{awaiting, copied_text, lacking, loaded, rising};
 use crate::pair::{both, given};
-use crate::piece::Piece;
 use crate::plan::{Awaiting, Change, Gift, Interacting, Plan, Puts, Stacking, Turn};
-use crate::puts::{leaving, quitting};
 use crate::widgets::run_places;
-use crate::work::Work;
 use crate::works::Works;
 use mh_actions::answers::answers;
 use mh_actions::arguments::{receivers, values};
+use mh_actions::groups::{leaving, quitting};
+use mh_actions::lifecycle::{
+    drop_pieces, halt_pieces, is_available, is_unavailable, is_unprepared, prepare_pieces,
+    run_pieces,
+};
 use mh_actions::ordering::reorder_by;
+use mh_actions::{Piece, Work};
 use mh_base::{GroupName, ObjRef, Seq, Value};
 use mh_group::ActionName;
 use mh_model::{Act, Edit, FixedPart, Item};

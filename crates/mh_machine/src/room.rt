@@ -6,7 +6,7 @@ ghost use Rattle.mh_machine.specs.Plans.{room_for};
 use crate::agenda::Agenda;
 use crate::plan::Puts;
 use crate::stage::Stage;
-use crate::work::Work;
+use mh_actions::Work;
 use mh_carousel::Carousel;
 use mh_model::Fault;
 use std::alloc::AllocError;

@@ -10,9 +10,9 @@ ghost use Rattle.mh_machine.specs.Plans.{taken_from};
 ghost use Rattle.mh_machine.specs.Rest.{answer_of, judged, IsPassed};
 
 use crate::Stepped;
-use crate::frame::Front;
 use crate::plan::Plan;
 use crate::works::Works;
+use mh_actions::Front;
 use mh_actions::judging::{why_member_stuck, why_stuck};
 use mh_group::ActionName;
 use mh_model::{Act, Event, Fault, Item};

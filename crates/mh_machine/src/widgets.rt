@@ -7,18 +7,18 @@ ghost use Rattle.mh_model.specs.Lifecycle.{places_of as places_of_lem, run_place
 ghost use Rattle.mh_model.specs.Rules.{interact_rule, widget_rule};
 ghost use Rattle.mh_model.specs.Saying.{interaction_items};
 ghost use Rattle.mh_model.specs.State.{all};
-ghost use Rattle.mh_machine.specs.Pieces.{written};
+ghost use Rattle.mh_actions.specs.Pieces.{written};
 ghost use Rattle.mh_machine.specs.Plans.{begins_as, change_with, committed, interacting_as, taken_from};
 
 use crate::interacting::is_interacting;
-use crate::lifecycle::push_items;
 use crate::pair::both;
-use crate::piece::Piece;
 use crate::plan::{Awaiting, Change, Interacting, Plan, Stacking};
 use crate::planning::gifts_of;
-use crate::puts::{plain_event, push};
 use crate::works::Works;
+use mh_actions::Piece;
 use mh_actions::arguments::{receivers, values};
+use mh_actions::groups::{plain_event, push};
+use mh_actions::lifecycle::push_items;
 use mh_base::{EventType, ObjRef, Octets, Seq, Value};
 use mh_group::{ActionName, Class, Position};
 use mh_model::{Act, Edit, Interaction, Item, Object};

@@ -9,15 +9,14 @@ ghost use Rattle.mh_model.specs.State.{begun, all};
 ghost use Rattle.mh_model.specs.Step.{is_idle as is_idle_lem, is_settled as is_settled_lem};
 ghost use Rattle.mh_model.specs.Picture.{shown};
 ghost use Rattle.mh_model.specs.Planes.{blank};
-ghost use Rattle.mh_machine.specs.Links.{IsIndex};
+ghost use Rattle.mh_actions.specs.Links.{IsIndex};
 
 use crate::Unstarted;
 use crate::agenda::Agenda;
-use crate::links::Links;
 use crate::pair::both;
-use crate::puts::entrance;
 use crate::stage::Stage;
-use crate::work::Work;
+use mh_actions::groups::entrance;
+use mh_actions::{Links, Work};
 use mh_base::GroupName;
 use mh_carousel::Carousel;
 use mh_model::{Fault, Interaction, Item, Outcome, Picture};

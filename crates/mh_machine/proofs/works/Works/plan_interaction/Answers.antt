@@ -6,7 +6,7 @@ use Rattle.mh_model.specs.Arguments.{values, receivers}
 use Rattle.mh_model.specs.Saying.{interaction_items}
 use Rattle.mh_model.specs.State.{all}
 use Rattle.mh_machine.specs.declared.plan.Plan.{Plan}
-use Rattle.mh_machine.specs.Pieces.{written}
+use Rattle.mh_actions.specs.Pieces.{written}
 use Rattle.mh_machine.specs.Plans.{committed, interacting_as}
 use Rattle.mh_machine.proofs.WidgetLemmas.{interaction_planned}
 use Rattle.mh_machine.proofs.works.Works.plan_interaction.Goals as goal

@@ -6,8 +6,8 @@ use Rattle.mh_model.specs.Lifecycle.{is_available_at}
 use Rattle.mh_machine.specs.declared.plan.Change.TheVariants as change
 use Rattle.mh_machine.specs.declared.plan.Plan.{Plan}
 use Rattle.mh_model.specs.declared.edit.Edit.TheVariants as edit
-use Rattle.mh_machine.specs.Loading.{content_told}
-use Rattle.mh_machine.specs.Pieces.{written}
+use Rattle.mh_actions.specs.Loading.{content_told}
+use Rattle.mh_actions.specs.Pieces.{written}
 use Rattle.mh_machine.specs.Plans.{committed, wait_if}
 use Rattle.mh_machine.specs.Working.{Working}
 use Rattle.mh_machine.proofs.PlanLemmas.{load_planned}

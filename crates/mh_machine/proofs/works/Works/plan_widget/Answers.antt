@@ -6,7 +6,7 @@ use Rattle.mh_model.specs.State.{all}
 use Rattle.mh_model.specs.Widget.{Worked}
 use Rattle.mh_model.specs.Worked.{worked}
 use Rattle.mh_machine.specs.declared.plan.Plan.{Plan}
-use Rattle.mh_machine.specs.Pieces.{written}
+use Rattle.mh_actions.specs.Pieces.{written}
 use Rattle.mh_machine.specs.Plans.{committed, change_with}
 use Rattle.mh_machine.proofs.WidgetLemmas.{widget_planned, widget_absent}
 use Rattle.mh_machine.proofs.works.Works.plan_widget.Goals as goal

@@ -1,7 +1,7 @@
 use Rattle.std.specs.Prelude.{◌≡◌, slice_get, Some}
 use Rattle.std.proofs.Common.{rules}
 use Rattle.mh_model.specs.declared.item.Item.TheVariants as item
-use Rattle.mh_machine.proofs.FrameLemmas.{front_act}
+use Rattle.mh_actions.proofs.FrameLemmas.{front_act}
 use Rattle.mh_machine.proofs.StepLemmas.{free_answer, free_first}
 use Rattle.mh_machine.proofs.works.Works.step_free.Goals as goal
 

@@ -3,7 +3,7 @@ use Rattle.std.specs.Option.{is_some, option_copied}
 use Rattle.std.proofs.Common.{rules, ap, refl, ◌∙◌, sym}
 use Rattle.mh_model.specs.declared.edit.Edit.TheVariants as edit
 use Rattle.mh_model.specs.Lifecycle.{lacking_at, loaded_at, is_unprepared_at}
-use Rattle.mh_machine.specs.Loading.{run_told}
+use Rattle.mh_actions.specs.Loading.{run_told}
 use Rattle.mh_machine.specs.Plans.{change_with, wait_if}
 use Rattle.mh_machine.specs.Working.{Working}
 use Rattle.mh_machine.proofs.PlanLemmas.{run_planned, some_copied}
