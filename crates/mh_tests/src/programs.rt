@@ -247,15 +247,17 @@ fn calls_are_judged_and_made(rt: HostRuntime) {
     all_hold::<Fitting>(&rt, rt.alloc(), REFUSED);
 }
 
-/// What the date is a day and a second after the play began. A day has 1,440 ticks of a minute.
+/// What the date is a day and 90.5 seconds after the play began. A day has 1,440 ticks of a minute.
 fn next_day(alloc: Global) -> Option<Vec<u8>> {
     let ticks = "tick 60000|run|".repeat(alloc, 1440).ok()?;
-    let task = format!(in alloc; "day 60000 run|{ticks}tick 1000|engine 1|run|show|").ok()?;
+    let task = format!(in alloc;
+        "day 61368 run|{ticks}tick 60000|run|tick 30500|engine 1|run|show|"
+    ).ok()?;
     let call = "GCD :GInteger :IndirectRef 3 :GInteger :IndirectRef 4";
     called(alloc, task.as_str(), call, "EngineEvent")
 }
 
 #[test]
 fn a_day_passes(rt: HostRuntime) {
-    assert!(rt; are(next_day(rt.alloc()), b"-/60001/1"));
+    assert!(rt; are(next_day(rt.alloc()), b"-/61369/90"));
 }
