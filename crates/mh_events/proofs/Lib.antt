@@ -1,2 +1,3 @@
+mod AheadLemmas
 mod CountLemmas
 mod PlaceLemmas

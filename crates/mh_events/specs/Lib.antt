@@ -1,2 +1,3 @@
+pub mod Agenda
 pub mod Order
 pub mod Queued

@@ -1,4 +1,3 @@
-pub mod Agenda
 pub mod Holds
 pub mod Plans
 pub mod Rest

@@ -1,28 +1,14 @@
 -- Taking what waits first.
-use Rattle.std.specs.Prelude.{ℕ, ℤ, Bool, ◌+◌, if◌then◌else◌, List, [], ◌∷◌, drop, filter, map, Option, Some, None}
-use Rattle.std.specs.Str.{bytes_eq}
-use Rattle.mh_model.specs.declared.input.Waiting.{Waiting}
-use Rattle.mh_model.specs.declared.input.Waiting.TheVariants as waiting
-use Rattle.mh_model.specs.declared.time.Moments.{Moments}
-use Rattle.mh_model.specs.declared.time.Timer.{Timer}
+use Rattle.std.specs.Prelude.{ℕ, ℤ, Bool, ◌+◌, List, [], ◌∷◌, drop, filter, map, Option, Some, None}
 use Rattle.mh_model.specs.declared.event.Event.{Event}
 use Rattle.mh_model.specs.declared.object.Object.{Object}
 use Rattle.mh_model.specs.State.{State}
 use Rattle.mh_model.specs.declared.file.Wait.{Wait}
 use Rattle.mh_model.specs.Step.{is_streaming, stream_event, is_waiting, content_event}
-use Rattle.mh_model.specs.Time.{due, timer_event}
 
 -- the state with the first that waits taken from the queue, and the step counted
 abbrev pub shifted : State → State
 shifted s = record s { queue = drop 1 s.queue; taken = s.taken + 1 }
-
--- the events of the timers that are due, as they wait
-abbrev pub fired : ℕ → List ℕ → List Timer → List Waiting
-fired now app ts = map (λ t. waiting.Event (timer_event t)) (due now app ts)
-
--- the moments, when a group is entered
-abbrev pub entered : List ℕ → List ℕ → Moments → Moments
-entered app g m = if bytes_eq g app then record m { application = m.present } else record m { scene = m.present }
 
 -- the event of an object that was found, if it is meant
 abbrev pub event_by : (Object → Bool) → (Object → Event) → Option Object → List Event

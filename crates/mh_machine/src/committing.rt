@@ -8,16 +8,15 @@ ghost use Rattle.mh_model.specs.Rules.{changed};
 ghost use Rattle.mh_actions.specs.Pieces.{written};
 ghost use Rattle.mh_machine.specs.Plans.{change_at, committed, halt_plan, put_for_first, taken_from, changed_as, rewaited, queued, worked, noted, room_for};
 
-use crate::agenda::Agenda;
 use crate::applying::apply;
 use crate::interacting::{end_of, interact};
-use crate::pair::given;
 use crate::plan::{Awaiting, Plan, Puts};
 use crate::room::make_room;
 use crate::works::Works;
 use mh_actions::{Piece, Work};
 use mh_base::{ObjRef, Value};
 use mh_carousel::Carousel;
+use mh_events::Agenda;
 use mh_model::{Edit, Event, Fault};
 use std::alloc::AllocError;
 
@@ -46,10 +45,10 @@ impl Works {
             waits,
             begins,
             fault,
-        } = given(room, plan)?;
+        } = room.and(Ok(plan))?;
         let changed = apply(&mut self.stage, change);
         let beside = (stacking, awaiting, interacting, puts, waits, fault);
-        let (stacking, awaiting, interacting, puts, waits, fault) = given(changed, beside)?;
+        let (stacking, awaiting, interacting, puts, waits, fault) = changed.and(Ok(beside))?;
         self.stage.restack(stacking);
         rewait(&mut self.carousel, awaiting);
         interact(&mut self.interaction, interacting);

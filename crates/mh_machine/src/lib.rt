@@ -6,7 +6,6 @@
 
 mod acting;
 mod advancing;
-mod agenda;
 mod applying;
 mod asking;
 mod calling;

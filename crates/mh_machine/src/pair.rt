@@ -14,16 +14,3 @@ pub fn both<A: Drop, B: Drop>(
 {
     Ok((first?, second?))
 }
-
-/// The value, where memory was not refused. It stands in its caller, so that a large value is not moved for it.
-#[inline(always)]
-pub fn given<T: Drop>(made: Result<(), AllocError>, value: T) -> Result<T, AllocError>
-    ensures same { IfOk result (λ given. given ≡ value) }
-    ensures good { OnOk result (IsOk made) }
-    ensures refused { IfErr result (λ why. made ≡ Err why) }
-{
-    match made {
-        Ok(()) => Ok(value),
-        Err(why) => Err(why),
-    }
-}

@@ -14,7 +14,7 @@ ghost use Rattle.mh_machine.specs.Plans.{committed, gifts, taken_from, turn_plan
 use crate::applying::start;
 use crate::committing::rewait;
 use crate::loading::{awaiting, copied_text, lacking, loaded, rising};
-use crate::pair::{both, given};
+use crate::pair::both;
 use crate::plan::{Awaiting, Change, Gift, Interacting, Plan, Puts, Stacking, Turn};
 use crate::widgets::run_places;
 use crate::works::Works;
@@ -78,9 +78,9 @@ impl Works {
             stacking,
             awaiting,
             pieces,
-        } = given(room, turn)?;
+        } = room.and(Ok(turn))?;
         let changed = start(&mut self.stage, at, text, places);
-        let (stacking, awaiting, pieces) = given(changed, (stacking, awaiting, pieces))?;
+        let (stacking, awaiting, pieces) = changed.and(Ok((stacking, awaiting, pieces)))?;
         self.stage.restack(stacking);
         rewait(&mut self.carousel, awaiting);
         self.work.put_for_first(pieces);

@@ -44,7 +44,7 @@ impl Works {
         ensures { result ≡ is_over_number_lem input.now self.now.state }
     {
         match input {
-            Input::Arrive(file) => self.agenda.is_one_too_many(&self.carousel, file),
+            Input::Arrive(file) => self.carousel.is_one_too_many(file, self.agenda.queue()),
             _ => false,
         }
     }
@@ -57,7 +57,7 @@ impl Works {
             Some(Obstacle::Begun)
         } else if is_large(file) {
             Some(Obstacle::TooLarge)
-        } else if self.agenda.is_one_too_many(&self.carousel, file) {
+        } else if self.carousel.is_one_too_many(file, self.agenda.queue()) {
             Some(Obstacle::TooMany)
         } else {
             None

@@ -3,11 +3,11 @@
 ghost use Rattle.std.specs.Prelude.{◌≡◌, ◌+◌, ◌≤◌, OnOk, vec_len, vec_capacity};
 ghost use Rattle.mh_machine.specs.Plans.{room_for};
 
-use crate::agenda::Agenda;
 use crate::plan::Puts;
 use crate::stage::Stage;
 use mh_actions::Work;
 use mh_carousel::Carousel;
+use mh_events::Agenda;
 use mh_model::Fault;
 use std::alloc::AllocError;
 

@@ -10,13 +10,13 @@ ghost use Rattle.mh_actions.specs.Pieces.{written};
 ghost use Rattle.mh_machine.specs.Taking.{shifted};
 
 use crate::Stepped;
-use crate::agenda::Agenda;
 use crate::inputs::{WaitingFor, content_events, engine_event, key_pieces, stream_events};
 use crate::interacting::copied_interaction;
 use crate::stage::Stage;
 use crate::works::Works;
 use mh_actions::{Piece, Work};
 use mh_carousel::Carousel;
+use mh_events::Agenda;
 use mh_model::{Event, File, Input, Key, Waiting};
 use std::alloc::AllocError;
 

@@ -12,7 +12,6 @@ use Rattle.mh_model.specs.declared.object.Fixed.{Fixed}
 use Rattle.mh_model.specs.declared.object.Object.{Object}
 use Rattle.mh_model.specs.Bodies.{given}
 use Rattle.mh_model.specs.Edits.{edited}
-use Rattle.mh_model.specs.First.{change_first}
 use Rattle.mh_model.specs.Reference.{same_ref}
 use Rattle.mh_model.specs.Rules.{is_at, on_body, changed_in, changed}
 use Rattle.mh_model.specs.Service.{object_at, parts}
@@ -23,7 +22,7 @@ use Rattle.mh_store.specs.Apart.{AreApart}
 use Rattle.mh_store.specs.Placing.{renewed_in}
 use Rattle.mh_store.specs.Table.{IsKeyed, objects_of}
 use Rattle.mh_store.specs.Trying.{left_over}
-use Rattle.mh_store.proofs.BothLemmas.{IsEdited, changed-edited, back-nowhere, taken-there, list_any-object_at, found_behind}
+use Rattle.mh_store.proofs.BothLemmas.{IsEdited, change_first-nowhere, changed-edited, back-nowhere, taken-there, list_any-object_at, found_behind}
 use Rattle.mh_store.proofs.TableLemmas.{object_at-elsewhere}
 
 -- What keeps them apart: whatever keeps what the objects are found by
@@ -103,14 +102,6 @@ found_apart true r os o is apart found =
 
 -- Changes, where the second is tried first
 
-change_none : (f : Object → Object) (r : ObjRef) (os : List Object) → list_any (is_at r) os ≡ false → os ≡ change_first (is_at r) f os
-change_none f r [] none = refl
-change_none f r (o ∷ os) none = by (is_at r o) (change_none f r os) none
-  where
-    by : (t : Bool) → (list_any (is_at r) os ≡ false → os ≡ change_first (is_at r) f os) → (t || list_any (is_at r) os) ≡ false → o ∷ os ≡ (if t then f o ∷ os else o ∷ change_first (is_at r) f os)
-    by true below h = absurd cc
-    by false below h = ap (λ (t : List Object). o ∷ t) (below h)
-
 -- it was there
 pub changed_apart : (b : Bool) (f : Fixed → Body → Body) (r : ObjRef) (os : Objects) (others : List Object) → b ≡ true → AreApart b os.application os.scene → is_some (object_at r os.scene) ≡ true → others ≡ changed_in f r os.scene → record os { scene = others } ≡ changed f r os
 changed_apart false f r os others true_is apart there is = absurd cc
@@ -128,12 +119,12 @@ changed_own f r os own others none is behind = by (list_any (is_at r) os.applica
     there = list_any-object_at r os.scene ∙ ap is_some none
 
     kept : others ≡ os.scene
-    kept = behind ∙ sym (change_none (on_body f) r os.scene there)
+    kept = behind ∙ sym (change_first-nowhere (on_body f) r os.scene there)
 
     by : (t : Bool) → list_any (is_at r) os.application ≡ t → record { application = own; scene = others } ≡ (if t then record os { application = changed_in f r os.application } else record os { scene = changed_in f r os.scene })
     by true h = λ i. record { application = is i; scene = kept i }
     by false h =
-        let same : own ≡ os.application = is ∙ sym (change_none (on_body f) r os.application h) in
+        let same : own ≡ os.application = is ∙ sym (change_first-nowhere (on_body f) r os.application h) in
         λ i. record { application = same i; scene = behind i }
 
 pub edited_apart : {T E : Type 0} (b : Bool) (e : Edit) (r : ObjRef) (os : Objects) (others : List Object) (x : T) → b ≡ true → AreApart b os.application os.scene → None ≡ left_over e (object_at r os.scene) → others ≡ changed_in (edited e) r os.scene → IsEdited {E = E} e r os (record os { scene = others }) (Ok x)
@@ -147,7 +138,7 @@ edited_own (Ok x) e back r os own others came is behind same =
 edited_own (Err why) e back r os own others came is behind same =
     let left = back-nowhere e back (object_at r os.scene) came in
     let there = list_any-object_at r os.scene ∙ ap is_some left.0 in
-    let kept : others ≡ os.scene = is ∙ sym (change_none (on_body (edited e)) r os.scene there) in
+    let kept : others ≡ os.scene = is ∙ sym (change_first-nowhere (on_body (edited e)) r os.scene there) in
     record {
       done = tt;
       own = ap parts same;

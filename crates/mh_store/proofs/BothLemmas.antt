@@ -39,16 +39,16 @@ list_any-object_at r (o ∷ os) = by (is_at r o) (list_any-object_at r os)
     by false below = below
 
 -- where no object is at the reference nothing is changed
-change_first-nowhere : (f : Object → Object) (r : ObjRef) (os : List Object) → object_at r os ≡ None → os ≡ change_first (is_at r) f os
+pub change_first-nowhere : (f : Object → Object) (r : ObjRef) (os : List Object) → list_any (is_at r) os ≡ false → os ≡ change_first (is_at r) f os
 change_first-nowhere f r [] none = refl
 change_first-nowhere f r (o ∷ os) none = by (is_at r o) (change_first-nowhere f r os) none
   where
-    by : (t : Bool) → (object_at r os ≡ None → os ≡ change_first (is_at r) f os) → cond t (Some o) (object_at r os) ≡ None → o ∷ os ≡ (if t then f o ∷ os else o ∷ change_first (is_at r) f os)
+    by : (t : Bool) → (list_any (is_at r) os ≡ false → os ≡ change_first (is_at r) f os) → (t || list_any (is_at r) os) ≡ false → o ∷ os ≡ (if t then f o ∷ os else o ∷ change_first (is_at r) f os)
     by true below h = absurd cc
     by false below h = ap (λ (t : List Object). o ∷ t) (below h)
 
 pub changed_in-nowhere : (f : Fixed → Body → Body) (r : ObjRef) (os : List Object) → object_at r os ≡ None → os ≡ changed_in f r os
-changed_in-nowhere f r os none = change_first-nowhere (on_body f) r os none
+changed_in-nowhere f r os none = change_first-nowhere (on_body f) r os (list_any-object_at r os ∙ ap is_some none)
 
 -- the objects with the one at this reference made another
 abbrev pub done_at : (Object → Object) → ObjRef → Objects → Objects
@@ -66,12 +66,15 @@ done-first f r os own there is = by (list_any (is_at r) os.application) (list_an
 
 -- the application had no such object, so the scene was tried
 done-behind : (f : Object → Object) (r : ObjRef) (os : Objects) (own others : List Object) → object_at r os.application ≡ None → own ≡ change_first (is_at r) f os.application → others ≡ change_first (is_at r) f os.scene → record { application = own; scene = others } ≡ done_at f r os
-done-behind f r os own others none is behind = by (list_any (is_at r) os.application) (list_any-object_at r os.application ∙ ap is_some none)
+done-behind f r os own others none is behind = by (list_any (is_at r) os.application) nowhere
   where
+    nowhere : list_any (is_at r) os.application ≡ false
+    nowhere = list_any-object_at r os.application ∙ ap is_some none
+
     by : (t : Bool) → t ≡ false → record { application = own; scene = others } ≡ (if t then record os { application = change_first (is_at r) f os.application } else record os { scene = change_first (is_at r) f os.scene })
     by true h = absurd cc
     by false h =
-        let kept : own ≡ os.application = is ∙ sym (change_first-nowhere f r os.application none) in
+        let kept : own ≡ os.application = is ∙ sym (change_first-nowhere f r os.application nowhere) in
         rw (kept, behind) refl
 
 pub changed-first : (f : Fixed → Body → Body) (r : ObjRef) (os : Objects) (own : List Object) → is_some (object_at r os.application) ≡ true → own ≡ changed_in f r os.application → record os { application = own } ≡ changed f r os

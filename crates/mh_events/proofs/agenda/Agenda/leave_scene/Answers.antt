@@ -1,8 +1,8 @@
 use Rattle.std.proofs.Common.{ap, arith}
 use Rattle.mh_model.specs.Rules.{stays}
 use Rattle.mh_model.specs.Step.{time_ahead}
-use Rattle.mh_machine.proofs.TimeLemmas.{ahead_filter}
-use Rattle.mh_machine.proofs.agenda.Agenda.leave_scene.Goals as goal
+use Rattle.mh_events.proofs.AheadLemmas.{ahead_filter}
+use Rattle.mh_events.proofs.agenda.Agenda.leave_scene.Goals as goal
 
 pub invariant_of-self : goal.invariant_of-self
 invariant_of-self c =

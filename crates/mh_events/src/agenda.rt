@@ -2,19 +2,17 @@
 ghost use Rattle.std.specs.Prelude.{◌≡◌, ◌+◌, ◌≤◌, ◌++◌, ◌∷◌, [], false, None, Some, OnOk, OnErr, drop, filter, map, nat_lt, not, slice_get, vec_len};
 ghost use Rattle.std.specs.Option.{option_copied};
 ghost use Rattle.std.specs.Str.{bytes_eq};
-ghost use Rattle.mh_model.specs.Files.{is_too_many};
 ghost use Rattle.mh_model.specs.Rules.{is_input, stays};
 ghost use Rattle.mh_model.specs.Step as spec;
 ghost use Rattle.mh_model.specs.Time.{due, is_due, set_timers as set_timers_lem, timer_event};
 ghost use Rattle.mh_model.specs.Limits.{most_inputs, most_moment};
-ghost use Rattle.mh_machine.specs.Agenda.{is_late as is_late_lem};
-ghost use Rattle.mh_machine.specs.Taking.{entered, fired};
+ghost use Rattle.mh_events.specs.Agenda.{is_late as is_late_lem, entered, fired};
 
+use crate::queue::Queue;
+use crate::timers::Timers;
+use crate::timing::set_timers;
 use mh_base::{GroupName, Value};
-use mh_carousel::Carousel;
-use mh_events::timing::set_timers;
-use mh_events::{Queue, Timers};
-use mh_model::{Event, File, Input, Moments, Waiting};
+use mh_model::{Event, Input, Moments, Waiting};
 use std::alloc::{AllocError, Global};
 use std::marker::Model;
 
@@ -33,7 +31,7 @@ impl Model for Agenda {
     ghost use Rattle.std.specs.Prelude.{◌+◌, ◌≤◌};
     ghost use Rattle.mh_model.specs.Step.{time_ahead};
     ghost use Rattle.mh_model.specs.Limits.{most_moment};
-    ghost use Rattle.mh_machine.specs.Agenda.{Coming};
+    ghost use Rattle.mh_events.specs.Agenda.{Coming};
 
     ghost Value = { Coming };
 
@@ -71,6 +69,13 @@ impl Agenda {
         &self.moments
     }
 
+    /// What waits, in the order in which it came.
+    pub fn queue(&self) -> &Queue
+        ensures { result.now.items ≡ self.now.queue }
+    {
+        &self.queue
+    }
+
     /// What waits first.
     pub fn first(&self) -> Option<&Waiting>
         ensures { option_copied result ≡ slice_get self.now.queue 0 }
@@ -103,13 +108,6 @@ impl Agenda {
             }
             _ => false,
         }
-    }
-
-    /// Whether the file has a name for which there is no room, behind all that wait.
-    pub fn is_one_too_many(&self, carousel: &Carousel, file: &File) -> bool
-        ensures { result ≡ is_too_many file.now (spec.files_ahead carousel.now.files self.now.queue) }
-    {
-        carousel.is_one_too_many(file, &self.queue)
     }
 
     /// Adds an input at the end of the queue.

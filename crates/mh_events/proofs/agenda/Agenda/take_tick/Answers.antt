@@ -6,10 +6,9 @@ use Rattle.mh_model.specs.declared.input.Waiting.{Waiting}
 use Rattle.mh_model.specs.declared.input.Waiting.TheVariants as waiting
 use Rattle.mh_model.specs.Step.{time_ahead}
 use Rattle.mh_model.specs.Time.{due}
-use Rattle.mh_machine.specs.Agenda.{Coming}
-use Rattle.mh_machine.specs.Taking.{fired}
-use Rattle.mh_machine.proofs.TimeLemmas.{ahead_first, ahead_events, fired_as}
-use Rattle.mh_machine.proofs.agenda.Agenda.take_tick.Goals as goal
+use Rattle.mh_events.specs.Agenda.{Coming, fired}
+use Rattle.mh_events.proofs.AheadLemmas.{ahead_first, ahead_events, fired_as}
+use Rattle.mh_events.proofs.agenda.Agenda.take_tick.Goals as goal
 
 pub overflow_add-now : goal.overflow_add-now
 overflow_add-now c =

@@ -1,7 +1,7 @@
 use Rattle.std.proofs.Common.{ap, arith}
 use Rattle.mh_model.specs.Step.{time_ahead}
-use Rattle.mh_machine.proofs.TimeLemmas.{ahead_behind, ahead_events}
-use Rattle.mh_machine.proofs.agenda.Agenda.take_reserved.Goals as goal
+use Rattle.mh_events.proofs.AheadLemmas.{ahead_behind, ahead_events}
+use Rattle.mh_events.proofs.agenda.Agenda.take_reserved.Goals as goal
 
 pub invariant_of-self : goal.invariant_of-self
 invariant_of-self c =
