@@ -6,14 +6,13 @@ ghost use Rattle.mh_model.specs.Saying.{call_items};
 ghost use Rattle.mh_actions.specs.Pieces.{written};
 ghost use Rattle.mh_machine.specs.Plans.{committed, taken_from};
 
-use crate::pair::both;
 use crate::plan::{Awaiting, Change, Plan, Stacking};
 use crate::planning::gifts_of;
 use crate::works::Works;
 use mh_actions::Piece;
 use mh_actions::calling::{builtin_at, call_ins, call_receivers, params_at};
 use mh_actions::groups::{plain_event, push};
-use mh_base::{EventType, ObjRef, Seq, Value};
+use mh_base::{EventType, ObjRef, Seq, Value, both};
 use mh_group::ActionName;
 use mh_model::act::passed;
 use mh_model::{Act, Builtin, Now, Outcome};

@@ -7,11 +7,10 @@ ghost use Rattle.mh_model.specs.Step.{done};
 ghost use Rattle.mh_model.specs.Worked.{interaction_of};
 ghost use Rattle.mh_machine.specs.Plans.{taken_from};
 
-use crate::pair::both;
 use crate::works::Works;
 use mh_actions::Links;
 use mh_actions::groups::entrance;
-use mh_base::GroupName;
+use mh_base::{GroupName, both};
 use mh_model::{Interaction, Item};
 use mh_store::Group;
 use std::alloc::AllocError;

@@ -12,7 +12,7 @@ use crate::stage::Stage;
 use crate::works::Works;
 use mh_actions::Work;
 use mh_actions::lifecycle::push_items;
-use mh_base::ObjRef;
+use mh_base::{ObjRef, both};
 use mh_model::parts::same_ref;
 use mh_model::{Edit, Interaction, Item, Key};
 use mh_widgets::Pressed;
@@ -46,8 +46,8 @@ impl Works {
         ensures kept { OnErr result (self.new.state ≡ self.old.state) }
     {
         let Pressed { edit, items, ends } = pressed;
-        let work = work_of(self.alloc, items)?;
-        change_body(&mut self.stage, at, edit)?;
+        let (work, edit) = both(work_of(self.alloc, items), Ok(edit))?;
+        let work = change_body(&mut self.stage, at, edit).and(Ok(work))?;
         end_if(&mut self.interaction, ends);
         self.work = work;
         self.agenda.take_first();

@@ -15,7 +15,6 @@ mod inputs;
 mod interacting;
 mod loading;
 pub mod machine;
-mod pair;
 mod plan;
 mod planning;
 mod posting;

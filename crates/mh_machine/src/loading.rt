@@ -9,13 +9,12 @@ ghost use Rattle.mh_model.specs.Rules.{load_rule, loaded_with};
 ghost use Rattle.mh_model.specs.State.{all};
 ghost use Rattle.mh_machine.specs.Plans.{committed, taken_from, wait_if};
 
-use crate::pair::both;
 use crate::plan::{Awaiting, Change, Plan, Stacking};
 use crate::works::Works;
 use mh_actions::arguments::values;
 use mh_actions::content::new_content;
 use mh_actions::lifecycle::{content_pieces, is_available, is_visible};
-use mh_base::{GroupName, ObjRef, Octets, Value};
+use mh_base::{GroupName, ObjRef, Octets, Value, both};
 use mh_carousel::Carousel;
 use mh_group::Attribute;
 use mh_model::{Act, Edit, Held, Object, Wait};

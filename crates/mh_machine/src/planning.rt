@@ -14,7 +14,6 @@ ghost use Rattle.mh_machine.specs.Plans.{committed, gifts, taken_from, turn_plan
 use crate::applying::start;
 use crate::committing::rewait;
 use crate::loading::{awaiting, copied_text, lacking, loaded, rising};
-use crate::pair::both;
 use crate::plan::{Awaiting, Change, Gift, Interacting, Plan, Puts, Stacking, Turn};
 use crate::widgets::run_places;
 use crate::works::Works;
@@ -27,7 +26,7 @@ use mh_actions::lifecycle::{
 };
 use mh_actions::ordering::reorder_by;
 use mh_actions::{Piece, Work};
-use mh_base::{GroupName, ObjRef, Seq, Value};
+use mh_base::{GroupName, ObjRef, Seq, Value, both};
 use mh_group::ActionName;
 use mh_model::{Act, Edit, FixedPart, Item};
 use std::alloc::{AllocError, Global};

@@ -11,7 +11,6 @@ ghost use Rattle.mh_actions.specs.Pieces.{written};
 ghost use Rattle.mh_machine.specs.Plans.{begins_as, change_with, committed, interacting_as, taken_from};
 
 use crate::interacting::is_interacting;
-use crate::pair::both;
 use crate::plan::{Awaiting, Change, Interacting, Plan, Stacking};
 use crate::planning::gifts_of;
 use crate::works::Works;
@@ -19,7 +18,7 @@ use mh_actions::Piece;
 use mh_actions::arguments::{receivers, values};
 use mh_actions::groups::{plain_event, push};
 use mh_actions::lifecycle::push_items;
-use mh_base::{EventType, ObjRef, Octets, Seq, Value};
+use mh_base::{EventType, ObjRef, Octets, Seq, Value, both};
 use mh_group::{ActionName, Class, Position};
 use mh_model::{Act, Edit, Interaction, Item, Object};
 use mh_widgets::lists::list_started;

@@ -12,11 +12,10 @@ ghost use Rattle.mh_model.specs.Planes.{blank};
 ghost use Rattle.mh_actions.specs.Links.{IsIndex};
 
 use crate::Unstarted;
-use crate::pair::both;
 use crate::stage::Stage;
 use mh_actions::groups::entrance;
 use mh_actions::{Links, Work};
-use mh_base::GroupName;
+use mh_base::{GroupName, both};
 use mh_carousel::Carousel;
 use mh_events::Agenda;
 use mh_model::{Fault, Interaction, Item, Outcome, Picture};

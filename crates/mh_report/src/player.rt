@@ -102,7 +102,7 @@ impl Player {
             frames: 0,
         };
         let set = preset_all(alloc, &mut player.engine, files);
-        set.and(Ok(player))
+        once_set(set, player)
     }
 
     /// Does a command, and writes what it prints.
@@ -247,6 +247,19 @@ fn make_steps(engine: &mut Engine, limit: u32) -> Result<(), AllocError>
     match engine.advance(limit) {
         Ok(()) => Ok(()),
         Err(_) => Err(AllocError),
+    }
+}
+
+/// What is handed over, where the files are there. What is generic in it does not speak of how an engine
+/// is dropped.
+fn once_set<P: Drop>(set: Result<(), Unplayable>, player: P) -> Result<P, Unplayable>
+    ensures same { IfOk result (λ given. given ≡ player) }
+    ensures good { OnOk result (IsOk set) }
+    ensures refused { IfErr result (λ why. set ≡ Err why) }
+{
+    match set {
+        Ok(()) => Ok(player),
+        Err(why) => Err(why),
     }
 }
 

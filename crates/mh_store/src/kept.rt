@@ -11,7 +11,7 @@ ghost use Rattle.mh_store.specs.Placing.{with_place};
 ghost use Rattle.mh_store.specs.Table.{with_body};
 
 use crate::keeping::{are_same_lines, leaves_lines, lines_for};
-use mh_base::{GroupName, Octets, Seq, Value};
+use mh_base::{GroupName, Octets, Seq, Value, both};
 use mh_group::{Attribute, Position};
 use mh_model::{Edit, FixedPart, Held, Line, Object};
 use std::alloc::{AllocError, Global};
@@ -41,12 +41,7 @@ impl Kept {
     pub(crate) fn fresh(alloc: Global, part: &FixedPart) -> Result<Kept, AllocError>
         ensures { IfOk result (λ kept. kept ≡ fresh_lem part.now) }
     {
-        let fresh = Object::fresh(alloc, part)?;
-        let lines = lines_for(alloc, &fresh)?;
-        Ok(Kept {
-            object: fresh,
-            lines,
-        })
+        laid_out(alloc, Object::fresh(alloc, part)?)
     }
 
     pub fn object(&self) -> &Object
@@ -73,9 +68,7 @@ impl Kept {
     pub(crate) fn with_text(&self, alloc: Global, text: &Octets) -> Result<Kept, AllocError>
         ensures { IfOk result (λ kept. kept ≡ with_brought text.now self.now) }
     {
-        let object = brought_copy(alloc, &self.object, text)?;
-        let lines = lines_for(alloc, &object)?;
-        Ok(Kept { object, lines })
+        laid_out(alloc, brought_copy(alloc, &self.object, text)?)
     }
 
     /// The number of its reference.
@@ -104,12 +97,7 @@ impl Kept {
             → kept ≡ with_place position self.now) }
     {
         let edit = Edit::Put(Attribute::OrigPosition, Held::Pair(position.x, position.y));
-        let placed = edited_copy(alloc, &self.object, edit)?;
-        let lines = lines_for(alloc, &placed)?;
-        Ok(Kept {
-            object: placed,
-            lines,
-        })
+        laid_out(alloc, edited_copy(alloc, &self.object, edit)?)
     }
 
     /// Changes the body of the object, and lays its text out anew where its lines can differ.
@@ -140,24 +128,37 @@ fn edit_object(object: &mut Object, edit: Edit) -> Result<(), AllocError>
     object.body.edit(object.fixed.get(), edit)
 }
 
-/// A copy of the object with its body changed. What never changes is shared with it.
+/// The object with its text laid out.
+fn laid_out(alloc: Global, object: Object) -> Result<Kept, AllocError>
+    ensures { IfOk result (λ kept. kept ≡ object) }
+{
+    let lines = lines_for(alloc, &object)?;
+    Ok(Kept { object, lines })
+}
+
+/// A copy of the object. What never changes is shared with it.
+fn copied(alloc: Global, object: &Object) -> Result<Object, AllocError>
+    ensures { IfOk result (λ copy. copy ≡ object.now) }
+{
+    let (fixed, body) = both(object.fixed.clone(), object.body.copy(alloc))?;
+    Ok(Object { fixed, body })
+}
+
+/// A copy of the object with its body changed.
 fn edited_copy(alloc: Global, object: &Object, edit: Edit) -> Result<Object, AllocError>
     ensures { IfOk result (λ after. after ≡ with_body (edited edit) object.now) }
 {
-    let mut body = object.body.copy(alloc)?;
-    body.edit(object.fixed.get(), edit)?;
-    let fixed = object.fixed.clone()?;
-    Ok(Object { fixed, body })
+    let (mut copy, edit) = both(copied(alloc, object), Ok(edit))?;
+    edit_object(&mut copy, edit).and(Ok(copy))
 }
 
 /// A copy of the object with this text.
 fn brought_copy(alloc: Global, object: &Object, text: &Octets) -> Result<Object, AllocError>
     ensures { IfOk result (λ after. after ≡ with_brought text.now object.now) }
 {
-    let mut body = object.body.copy(alloc)?;
-    body.bring(text.clone()?);
-    let fixed = object.fixed.clone()?;
-    Ok(Object { fixed, body })
+    let (mut copy, text) = both(copied(alloc, object), text.clone())?;
+    copy.body.bring(text);
+    Ok(copy)
 }
 
 fn put_lines(place: &mut Seq<Line>, lines: Seq<Line>)

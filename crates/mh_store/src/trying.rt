@@ -53,8 +53,7 @@ fn edit_alone(application: &mut Group, at: &ObjRef, edit: Edit) -> Result<(), Al
     ensures done { OnOk result (application.new ≡ edited_in edit at.now application.old) }
     ensures kept { OnErr result (application.new ≡ application.old) }
 {
-    application.edit(at, edit)?;
-    Ok(())
+    application.edit(at, edit).and(Ok(()))
 }
 
 /// Changes the body of the scene's object at this reference; where there is none, nothing.
@@ -62,8 +61,7 @@ fn edit_scene(scene: &mut Option<Group>, at: &ObjRef, edit: Edit) -> Result<(), 
     ensures done { OnOk result (of_scene scene.new ≡ edited_in edit at.now (of_scene scene.old)) }
     ensures kept { OnErr result (of_scene scene.new ≡ of_scene scene.old) }
 {
-    edit_in(scene, at, edit)?;
-    Ok(())
+    edit_in(scene, at, edit).and(Ok(()))
 }
 
 /// Changes the body of the scene's object at this reference. Where there is none the change comes back.

@@ -42,19 +42,10 @@ static LENGTHS: &str = r#"
 1 / => 1;; 255 ~/ => 255;; 256 ~/ => none;; 255 DSM: => 255;; 256 DSM: => none;; 253  => 255;;
 254  => none"#;
 
-fn long_name(alloc: Global, front: &str, count: u32) -> Option<Vec<u8>> {
-    let mut name = said(alloc, front.as_bytes())?;
-    for _ in 0..count {
-        name.push(b'x').ok()?;
-    }
-    Some(name)
-}
-
-/// How long the path is, or nothing where there is none.
-fn length_of(alloc: Global, name: &[u8]) -> Option<Vec<u8>> {
-    let path = path_of(alloc, b"d/e", name)?;
-    if path.as_slice() == b"none".as_slice() {
-        return Some(path);
+/// How long the path is, or that there is none.
+fn length_of(alloc: Global, path: &[u8]) -> Option<Vec<u8>> {
+    if path == b"none".as_slice() {
+        return said(alloc, path);
     }
     let length = path.len();
     Some(format!(in alloc; "{length}").ok()?.into_bytes())
@@ -64,8 +55,11 @@ struct Length;
 
 impl Question for Length {
     fn answer(alloc: Global, asked: &str, _: &[u8]) -> Option<Vec<u8>> {
-        let name = long_name(alloc, word(asked, 1), number(asked, 0)?)?;
-        length_of(alloc, name.as_slice())
+        let front = word(asked, 1);
+        let letters = "x".repeat(alloc, number(asked, 0)? as usize).ok()?;
+        let name = format!(in alloc; "{front}{letters}").ok()?;
+        let path = path_of(alloc, b"d/e", name.as_bytes())?;
+        length_of(alloc, path.as_slice())
     }
 }
 
@@ -109,10 +103,11 @@ fn keeps_octets(alloc: Global) -> Result<bool, AllocError> {
 
 fn keeps_members(alloc: Global) -> Result<bool, AllocError> {
     let mut list = Seq::new(alloc);
-    list.push(5u32)?;
-    list.push(6)?;
+    let first = list.push(5u32);
+    let second = list.push(6);
     let is_two = list.len() == 2 && !list.is_empty();
-    let shared = Shared::from_vec(alloc, Seq::from_vec(list.into_vec()).into_vec())?;
+    let shared = Shared::from_vec(alloc, Seq::from_vec(list.into_vec()).into_vec());
+    let shared = first.and(second).and(shared)?;
     Ok(is_two && shared.clone()?.as_slice() == [5, 6].as_slice())
 }
 

@@ -20,11 +20,10 @@ pub fn one_field(alloc: Global, attribute: Attribute, setting: Setting) -> Optio
     Some(Seq::from_vec(vec![in alloc; Field { attribute, setting }].ok()?))
 }
 
-/// So many transitions to the group of this name, or where it has none to the group itself.
-pub fn transitions(alloc: Global, count: usize, name: &[u8]) -> Option<Effect> {
-    let mut actions = Seq::new(alloc);
+/// Puts so many transitions to the group of this name, or where it has none to the group itself.
+fn add_transitions(alloc: Global, effect: &mut Effect, count: usize, name: &[u8]) -> Option<()> {
+    let number = Number::new(0)?;
     for _ in 0..count {
-        let number = Number::new(0)?;
         let target = if name.is_empty() {
             Ref::Here(number)
         } else {
@@ -35,89 +34,100 @@ pub fn transitions(alloc: Global, count: usize, name: &[u8]) -> Option<Effect> {
             target: Generic::Direct(target),
             parameters: Seq::new(alloc),
         };
-        actions.push(action).ok()?;
+        effect.push(action).ok()?;
     }
-    Some(actions)
+    Some(())
+}
+
+/// Makes so many transitions at the start all that stands in the fields.
+fn start_up(alloc: Global, fields: &mut Seq<Field>, count: usize, name: &[u8]) -> Option<()> {
+    let mut effect = Seq::new(alloc);
+    let added = add_transitions(alloc, &mut effect, count, name);
+    let field = one_field(alloc, Attribute::OnStartUp, Setting::Effect(effect));
+    *fields = added.and(field)?;
+    Some(())
 }
 
 /// An application with a name of so many letters, which goes to itself so many times when it starts.
 pub fn application(alloc: Global, letters: usize, actions: usize) -> Option<Group> {
     let name = vec![in alloc; b'a'; letters].ok()?;
-    let effect = Setting::Effect(transitions(alloc, actions, b"")?);
+    let identifier = WrittenName::new(name)?;
+    let mut fields = Seq::new(alloc);
+    let begun = start_up(alloc, &mut fields, actions, b"");
     let written = Written {
         class: Class::Application,
-        identifier: WrittenName::new(name)?,
-        fields: one_field(alloc, Attribute::OnStartUp, effect)?,
+        identifier,
+        fields,
         items: None,
     };
-    made(written)
+    begun.and(made(written))
 }
 
-/// So many members, each with so many empty slots.
-pub fn members(alloc: Global, members: u32, slots: u32) -> Option<Seq<Member>> {
-    let mut list = Seq::new(alloc);
+/// Puts so many members, each with so many empty slots.
+pub fn add_members(alloc: Global, list: &mut Seq<Member>, members: u32, slots: u32) -> Option<()> {
+    let number = Number::new(1)?;
     for _ in 0..members {
         let mut effects = Seq::new(alloc);
         for _ in 0..slots {
             effects.push(Seq::new(alloc)).ok()?;
         }
-        let object = Ref::Here(Number::new(1)?);
         let member = Member {
-            object,
+            object: Ref::Here(number),
             slots: effects,
         };
         list.push(member).ok()?;
     }
-    Some(list)
+    Some(())
 }
 
 /// A scene with a token group of so many members, each with so many empty slots.
 pub fn token_group(alloc: Global, count: u32, slots: u32) -> Option<Group> {
-    let setting = Setting::Members(members(alloc, count, slots)?);
+    let mut list = Seq::new(alloc);
+    let added = add_members(alloc, &mut list, count, slots);
+    let fields = one_field(alloc, Attribute::TokenGroupItems, Setting::Members(list));
+    let (number, fields) = added.and(Number::new(1)).zip(fields)?;
     let item = Ingredient {
         class: Class::TokenGroup,
-        number: Number::new(1)?,
-        fields: one_field(alloc, Attribute::TokenGroupItems, setting)?,
+        number,
+        fields,
     };
+    let items = vec![in alloc; item].ok();
+    let (identifier, items) = written_name(alloc, b"~/s").zip(items)?;
     let written = Written {
         class: Class::Scene,
-        identifier: written_name(alloc, b"~/s")?,
+        identifier,
         fields: Seq::new(alloc),
-        items: Some(Seq::from_vec(vec![in alloc; item].ok()?)),
+        items: Some(Seq::from_vec(items)),
     };
     made(written)
 }
 
-fn variable(alloc: Global, number: u32) -> Option<Ingredient> {
-    Some(Ingredient {
-        class: Class::IntegerVar,
-        number: Number::new(number)?,
-        fields: one_field(alloc, Attribute::OrigValue, Setting::Int(0))?,
-    })
+/// Puts so many variables, from the number 1 on.
+fn add_variables(alloc: Global, items: &mut Seq<Ingredient>, count: u32) -> Option<()> {
+    for before in 0..count {
+        let fields = one_field(alloc, Attribute::OrigValue, Setting::Int(0));
+        let (number, fields) = Number::new(before.saturating_add(1)).zip(fields)?;
+        let variable = Ingredient {
+            class: Class::IntegerVar,
+            number,
+            fields,
+        };
+        items.push(variable).ok()?;
+    }
+    Some(())
 }
 
 /// The group of the text with so many variables more, from the number 1 on; and which, if there are
 /// such, does so many actions at its start, and nothing else.
 pub fn grown(alloc: Global, text: &[u8], variables: u32, actions: usize) -> Option<Group> {
-    let Written {
-        class,
-        identifier,
-        fields,
-        items,
-    } = read_group(alloc, text).ok()?.into_written();
-    let mut items = items.unwrap_or(Seq::new(alloc));
-    for before in 0..variables {
-        items.push(variable(alloc, before.saturating_add(1))?).ok()?;
-    }
-    let mut written = Written {
-        class,
-        identifier,
-        fields,
-        items: Some(items),
+    let mut written = read_group(alloc, text).ok()?.into_written();
+    let mut items = written.items.take().unwrap_or(Seq::new(alloc));
+    let added = add_variables(alloc, &mut items, variables);
+    written.items = Some(items);
+    let begun = if actions > 0 {
+        start_up(alloc, &mut written.fields, actions, b"x")
+    } else {
+        Some(())
     };
-    if actions > 0 {
-        let effect = Setting::Effect(transitions(alloc, actions, b"x")?);
-        written.fields = one_field(alloc, Attribute::OnStartUp, effect)?;
-    }
-    made(written)
+    added.and(begun).and(made(written))
 }

@@ -4,7 +4,6 @@
 //!
 //! Where a table writes bytes, `|` is a line feed, a line's end is a space, and what stands between
 //! backslashes is hexadecimal.
-use hex::FromHexError;
 use std::alloc::Global;
 use std::process::Abort;
 
@@ -14,11 +13,12 @@ pub trait Question {
     fn answer(alloc: Global, asked: &str, bytes: &[u8]) -> Option<Vec<u8>>;
 }
 
-fn put_octets(alloc: Global, bytes: &mut Vec<u8>, words: &str) -> Result<(), FromHexError> {
+fn put_octets(alloc: Global, bytes: &mut Vec<u8>, words: &str) -> Option<()> {
     for word in words.split_whitespace() {
-        bytes.extend_from_slice(hex::decode(alloc, word)?.as_slice())?;
+        let octets = hex::decode(alloc, word).ok()?;
+        bytes.extend_from_slice(octets.as_slice()).ok()?;
     }
-    Ok(())
+    Some(())
 }
 
 fn put_text(bytes: &mut Vec<u8>, text: &str) -> Option<()> {
@@ -38,11 +38,12 @@ pub fn bytes(alloc: Global, written: &str) -> Option<Vec<u8>> {
     let mut bytes = Vec::new(alloc);
     let mut is_text = true;
     for piece in written.split('\\') {
-        if is_text {
-            put_text(&mut bytes, piece)?;
+        let put = if is_text {
+            put_text(&mut bytes, piece)
         } else {
-            put_octets(alloc, &mut bytes, piece).ok()?;
-        }
+            put_octets(alloc, &mut bytes, piece)
+        };
+        put?;
         is_text = !is_text;
     }
     Some(bytes)
@@ -53,11 +54,16 @@ pub fn said(alloc: Global, answer: &[u8]) -> Option<Vec<u8>> {
     Vec::from_slice(alloc, answer).ok()
 }
 
+/// What stands between these two in what was told.
+pub fn between<'a>(told: &'a [u8], front: &str, behind: &str) -> Option<&'a str> {
+    let (_, rest) = str::from_utf8(told).ok()?.split_once(front)?;
+    let (found, _) = rest.split_once(behind)?;
+    Some(found)
+}
+
 /// What stands between the first two quotation marks of what was told.
 pub fn quoted(alloc: Global, told: &[u8]) -> Option<Vec<u8>> {
-    let (_, behind) = str::from_utf8(told).ok()?.split_once('"')?;
-    let (found, _) = behind.split_once('"')?;
-    said(alloc, found.as_bytes())
+    said(alloc, between(told, "\"", "\"")?.as_bytes())
 }
 
 /// An answer of a number and a place.
@@ -87,19 +93,13 @@ pub fn are(found: Option<Vec<u8>>, wanted: &[u8]) -> bool {
     }
 }
 
-/// The case without what is said of it in the end.
-fn bare(case: &str) -> &str {
-    match case.split_once(" -- ") {
-        Some((case, _)) => case,
-        None => case,
-    }
-}
-
+/// Whether the question of the case has its answer. What is said of the case in the end is left out.
 fn is_answered<Q: Question>(alloc: Global, case: &str) -> Option<bool> {
-    let (asked, wanted) = bare(case.get(1..)?).split_once("=> ")?;
+    let case = case.get(1..)?;
+    let (case, _) = case.split_once(" -- ").unwrap_or((case, ""));
+    let (asked, wanted) = case.split_once("=> ")?;
     let asked = asked.get(..asked.len().checked_sub(1)?)?;
-    let question = bytes(alloc, asked)?;
-    let wanted = bytes(alloc, wanted)?;
+    let (question, wanted) = bytes(alloc, asked).zip(bytes(alloc, wanted))?;
     let found = Q::answer(alloc, asked, question.as_slice());
     Some(are(found, wanted.as_slice()))
 }

@@ -29,17 +29,6 @@ fn reading_of_cut(alloc: Global, octets: &[u8]) -> Option<Vec<u8>> {
     reading(alloc, octets)
 }
 
-fn beginning(alloc: Global, octets: &[u8]) -> Option<Vec<u8>> {
-    said(
-        alloc,
-        if begins_group(octets) {
-            b"group"
-        } else {
-            b"other"
-        },
-    )
-}
-
 /// What is said of octets, of what they begin, of octets that were cut off, of the fields of a group, of an
 /// action, or of the fields of an ingredient whose class has this number.
 pub struct Coded;
@@ -49,7 +38,8 @@ impl Question for Coded {
         let octets = behind(asked, bytes)?;
         match word(asked, 0) {
             "octets" => reading(alloc, octets),
-            "begins" => beginning(alloc, octets),
+            "begins" if begins_group(octets) => said(alloc, b"group"),
+            "begins" => said(alloc, b"other"),
             "cut" => reading_of_cut(alloc, octets),
             "scene" => reading_within(alloc, &[SCENE_S], octets),
             "application" => reading_within(alloc, &[APPLICATION], octets),

@@ -3,7 +3,7 @@ use crate::cases::{Question, all_hold, are};
 use crate::octets::repeated;
 use crate::playing::converted;
 use mh_report::Notation;
-use std::alloc::{AllocError, Global};
+use std::alloc::Global;
 
 /// Files, and what is said of them whatever the other notation is.
 static WRONG: &str = r#"
@@ -36,28 +36,21 @@ fn says_what_is_wrong(rt: HostRuntime) {
     all_hold::<Either>(&rt, rt.alloc(), WRONG);
 }
 
-/// A text whose octets are more than a file may hold: rows of zeros, two bytes each in the text and
-/// three in octets.
-fn many_numbers(alloc: Global) -> Result<Vec<u8>, AllocError> {
-    let row = repeated(alloc, b"(", b"0 ", 4000, b")")?;
-    let front = br#"{:Scene ("~/s" 0) :Items ( {:TokenGroup 1 :MovementTable ("#;
-    repeated(alloc, front, row.as_slice(), 100, b") } ) }")
-}
-
-/// Octets whose text is more than a file may hold: 400,000 octets that are printed by three bytes each.
-fn many_octets(alloc: Global) -> Result<Vec<u8>, AllocError> {
-    let front = b"\xa0\x83\x06\x1a\x95\x30\x08\x04\x03~/a\x02\x01\x00\
-        \xbf\x23\x83\x06\x1a\x85\x04\x83\x06\x1a\x80";
-    repeated(alloc, front, b"\x00", 400_000, b"")
-}
-
+/// What is said of a text whose octets are more than a file may hold: rows of zeros, two bytes each in the
+/// text and three in octets.
 fn numbers_converted(alloc: Global) -> Option<Vec<u8>> {
-    let text = many_numbers(alloc).ok()?;
+    let row = repeated(alloc, b"(", b"0 ", 4000, b")").ok()?;
+    let front = br#"{:Scene ("~/s" 0) :Items ( {:TokenGroup 1 :MovementTable ("#;
+    let text = repeated(alloc, front, row.as_slice(), 100, b") } ) }").ok()?;
     converted(alloc, b"a", text.as_slice(), Notation::Binary)
 }
 
+/// What is said of octets whose text is more than a file may hold: 400,000 octets that are printed by three
+/// bytes each.
 fn octets_converted(alloc: Global) -> Option<Vec<u8>> {
-    let octets = many_octets(alloc).ok()?;
+    let front = b"\xa0\x83\x06\x1a\x95\x30\x08\x04\x03~/a\x02\x01\x00\
+        \xbf\x23\x83\x06\x1a\x85\x04\x83\x06\x1a\x80";
+    let octets = repeated(alloc, front, b"\x00", 400_000, b"").ok()?;
     converted(alloc, b"a", octets.as_slice(), Notation::Textual)
 }
 

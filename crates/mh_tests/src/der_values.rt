@@ -1,5 +1,5 @@
 //! Integers, truth values and elements, read and written: octets worked out by hand from ITU-T X.690.
-use crate::cases::{Question, all_hold, are, behind, number, said, word};
+use crate::cases::{Question, all_hold, number, said, word};
 use crate::der::{CONTEXT, refusal};
 use mh_der::{
     BOOLEAN, DerError, OCTET_STRING, Reader, SEQUENCE, Tag, TagClass, bool_of, int_of, write_bool,
@@ -23,8 +23,8 @@ fn integer_of(source: &[u8]) -> Result<i32, DerError> {
 
 fn is_written_as(alloc: Global, value: i32, octets: &[u8]) -> Result<bool, AllocError> {
     let mut out = Vec::new(alloc);
-    write_int(&mut out, value)?;
-    Ok(out.as_slice() == octets)
+    let written = write_int(&mut out, value);
+    written.and(Ok(out.as_slice() == octets))
 }
 
 struct Integer;
@@ -72,25 +72,29 @@ fn reads_truth_values(rt: HostRuntime) {
     all_hold::<Truth>(&rt, rt.alloc(), TRUTHS);
 }
 
-fn written_all(alloc: Global) -> Result<Vec<u8>, AllocError> {
-    let mut fields = Vec::new(alloc);
-    write_element(&mut fields, OCTET_STRING, b"~/a")?;
-    write_int(&mut fields, 0)?;
-    let mut inner = Vec::new(alloc);
-    write_element(&mut inner, SEQUENCE, fields.as_slice())?;
-    let mut out = Vec::new(alloc);
-    write_element(&mut out, CONTEXT, inner.as_slice())?;
-    write_bool(&mut out, true)?;
-    write_bool(&mut out, false)?;
-    write_element(&mut out, BOOLEAN, b"")?;
-    Ok(out)
+fn write_all(
+    fields: &mut Vec<u8>,
+    inner: &mut Vec<u8>,
+    out: &mut Vec<u8>,
+) -> Result<(), AllocError> {
+    write_element(fields, OCTET_STRING, b"~/a")?;
+    write_int(fields, 0)?;
+    write_element(inner, SEQUENCE, fields.as_slice())?;
+    write_element(out, CONTEXT, inner.as_slice())?;
+    write_bool(out, true)?;
+    write_bool(out, false)?;
+    write_element(out, BOOLEAN, b"")
 }
 
 /// Elements are written behind those that stand there.
 #[test]
 fn writes_elements(rt: HostRuntime) {
     let wanted = b"\xa0\x0a\x30\x08\x04\x03~/a\x02\x01\x00\x01\x01\xff\x01\x01\x00\x01\x00";
-    assert!(rt; are(written_all(rt.alloc()).ok(), wanted));
+    let mut fields = Vec::new(rt.alloc());
+    let mut inner = Vec::new(rt.alloc());
+    let mut out = Vec::new(rt.alloc());
+    let written = write_all(&mut fields, &mut inner, &mut out);
+    assert!(rt; written.is_ok() && out.as_slice() == wanted.as_slice());
 }
 
 /// The class, the form and the number of a tag, how many octets of contents there are, and what stands
@@ -108,12 +112,6 @@ universal primitive 4 1 => \0401\;; universal primitive 4 127 => \047f\;;
 universal primitive 4 128 => \048180\;; universal primitive 4 255 => \0481ff\;;
 universal primitive 4 256 => \04820100\;; universal primitive 4 65535 => \0482ffff\;;
 universal primitive 4 65536 => \0483010000\"#;
-
-fn written(alloc: Global, tag: Tag, contents: &[u8]) -> Result<Vec<u8>, AllocError> {
-    let mut out = Vec::new(alloc);
-    write_element(&mut out, tag, contents)?;
-    Ok(out)
-}
 
 /// Whether the element, and nothing else, is read back.
 fn is_read_back(octets: &[u8], tag: Tag, contents: &[u8]) -> bool {
@@ -139,12 +137,12 @@ fn class_of(word: &str) -> Option<TagClass> {
 /// What stands in front of so many octets, where the element is read back.
 fn front_of(alloc: Global, tag: Tag, size: usize) -> Option<Vec<u8>> {
     let contents = vec![in alloc; 90u8; size].ok()?;
-    let out = written(alloc, tag, contents.as_slice()).ok()?;
-    if is_read_back(out.as_slice(), tag, contents.as_slice()) {
-        let front = out.as_slice().strip_suffix(contents.as_slice())?;
-        said(alloc, front)
-    } else {
-        None
+    let mut out = Vec::new(alloc);
+    let written = write_element(&mut out, tag, contents.as_slice());
+    let is_good = written.is_ok() && is_read_back(out.as_slice(), tag, contents.as_slice());
+    match out.as_slice().strip_suffix(contents.as_slice()) {
+        Some(front) if is_good => said(alloc, front),
+        _ => None,
     }
 }
 

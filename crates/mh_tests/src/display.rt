@@ -41,31 +41,31 @@ fn area_of(form: &str) -> Option<Area> {
     })
 }
 
-fn justification_of(form: &str) -> Justification {
-    match word(form, 0) {
-        "end" => Justification::End,
-        "centre" => Justification::Centre,
-        _ => Justification::Start,
-    }
-}
-
 /// The lines of the text in this form.
 fn lines_of(alloc: Global, form: &str, text: &[u8]) -> Option<Vec<Line>> {
     let area = area_of(form)?;
     let wraps = word(form, 1) == "wrap";
-    lay_out(alloc, text, &area, wraps, justification_of(form)).ok()
+    let justification = match word(form, 0) {
+        "end" => Justification::End,
+        "centre" => Justification::Centre,
+        _ => Justification::Start,
+    };
+    lay_out(alloc, text, &area, wraps, justification).ok()
 }
 
-fn put_line(alloc: Global, told: &mut Vec<u8>, line: &Line) -> Option<()> {
-    let column = line.column;
-    told.extend_from_slice(format!(in alloc; "{column} ").ok()?.as_bytes())
-        .ok()?;
-    for scalar in line.scalars.as_slice() {
-        let scalar = char::from_u32(*scalar)?;
-        told.extend_from_slice(format!(in alloc; "{scalar}").ok()?.as_bytes())
+fn put_lines(alloc: Global, told: &mut Vec<u8>, lines: &[Line]) -> Option<()> {
+    for line in lines {
+        let column = line.column;
+        told.extend_from_slice(format!(in alloc; "{column} ").ok()?.as_bytes())
             .ok()?;
+        for scalar in line.scalars.as_slice() {
+            let scalar = char::from_u32(*scalar)?;
+            told.extend_from_slice(format!(in alloc; "{scalar}").ok()?.as_bytes())
+                .ok()?;
+        }
+        told.push(b'\n').ok()?;
     }
-    told.push(b'\n').ok()
+    Some(())
 }
 
 struct Laid;
@@ -74,11 +74,10 @@ impl Question for Laid {
     fn answer(alloc: Global, asked: &str, _: &[u8]) -> Option<Vec<u8>> {
         let (form, text) = asked.split_once(": ")?;
         let text = bytes(alloc, text)?;
+        let lines = lines_of(alloc, form, text.as_slice())?;
         let mut told = Vec::new(alloc);
-        for line in &lines_of(alloc, form, text.as_slice())? {
-            put_line(alloc, &mut told, line)?;
-        }
-        Some(told)
+        let put = put_lines(alloc, &mut told, lines.as_slice());
+        put.and(Some(told))
     }
 }
 
@@ -96,13 +95,11 @@ struct Shown;
 impl Question for Shown {
     fn answer(alloc: Global, asked: &str, _: &[u8]) -> Option<Vec<u8>> {
         let form = "end wrap -5 3 120 32";
-        let lines = lines_of(alloc, form, b"one two three\rx")?;
         let column = word(asked, 0).parse::<u32>().ok()?;
         let row = word(asked, 1).parse::<u32>().ok()?;
-        character_told(
-            alloc,
-            character_at(lines.as_slice(), &area_of(form)?, column, row),
-        )
+        let area = area_of(form)?;
+        let lines = lines_of(alloc, form, b"one two three\rx")?;
+        character_told(alloc, character_at(lines.as_slice(), &area, column, row))
     }
 }
 
@@ -130,14 +127,10 @@ static DRAWN: &str = r#"
 0 0 12 -64 0 -2 => no;; 36 48 36 48 3 3 => yes;; 36 48 36 48 3 4 => no;; -1 -1 -1 -1 -1 -1 => yes;;
 -1 -1 0 0 0 0 => yes;; 11 15 0 0 0 0 => yes;; -10000 0 10000 0 59 0 => yes"#;
 
-fn coordinate(asked: &str, at: usize) -> Option<i16> {
-    word(asked, at).parse::<i16>().ok()
-}
-
 fn point_of(asked: &str, at: usize) -> Option<Point> {
     Some(Point {
-        x: coordinate(asked, at)?,
-        y: coordinate(asked, at.checked_add(1)?)?,
+        x: word(asked, at).parse::<i16>().ok()?,
+        y: word(asked, at.checked_add(1)?).parse::<i16>().ok()?,
     })
 }
 
@@ -165,9 +158,9 @@ struct Drawn;
 
 impl Question for Drawn {
     fn answer(alloc: Global, asked: &str, _: &[u8]) -> Option<Vec<u8>> {
-        let stroke = stroke_of(&CORNER, &line_of(asked)?);
         let column = word(asked, 4).parse::<i32>().ok()?;
         let row = word(asked, 5).parse::<i32>().ok()?;
+        let stroke = stroke_of(&CORNER, &line_of(asked)?);
         if goes_through(&stroke, column, row) {
             said(alloc, b"yes")
         } else {
@@ -196,23 +189,29 @@ fn recolour(picture: &mut Picture, cells: &str) -> Option<()> {
     Some(())
 }
 
+/// Puts the numbers of the rows that differ.
+fn put_rows(alloc: Global, told: &mut Vec<u8>, rows: &[bool]) -> Option<()> {
+    let mut row = 0;
+    for differs in rows {
+        if *differs {
+            told.extend_from_slice(format!(in alloc; "{row} ").ok()?.as_bytes())
+                .ok()?;
+        }
+        row = u32::checked_add(row, 1)?;
+    }
+    Some(())
+}
+
 struct Changed;
 
 impl Question for Changed {
     fn answer(alloc: Global, asked: &str, _: &[u8]) -> Option<Vec<u8>> {
-        let before = Picture::black(alloc).ok()?;
-        let mut after = Picture::black(alloc).ok()?;
-        recolour(&mut after, asked)?;
+        let black = Picture::black(alloc).ok();
+        let (before, mut after) = black.zip(Picture::black(alloc).ok())?;
+        let recoloured = recolour(&mut after, asked);
         let mut told = Vec::new(alloc);
-        let mut row = 0;
-        for differs in &changed_rows(&before, &after) {
-            if *differs {
-                told.extend_from_slice(format!(in alloc; "{row} ").ok()?.as_bytes())
-                    .ok()?;
-            }
-            row = u32::checked_add(row, 1)?;
-        }
-        Some(told)
+        let put = put_rows(alloc, &mut told, &changed_rows(&before, &after));
+        recoloured.and(put).and(Some(told))
     }
 }
 

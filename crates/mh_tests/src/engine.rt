@@ -9,14 +9,10 @@ use mh_model::{Input, Key};
 use mh_service::Service;
 use std::alloc::Global;
 
-fn answers_idle(engine: &mut Engine) -> bool {
-    matches!(engine.step(), Ok(Stepped::Idle))
-}
-
 /// How many steps are made before the engine answers that it is idle.
 fn steps_to_idle(engine: &mut Engine) -> u64 {
     for steps in 0..100 {
-        if answers_idle(engine) {
+        if matches!(engine.step(), Ok(Stepped::Idle)) {
             return steps;
         }
     }
@@ -33,15 +29,14 @@ fn idle(alloc: Global, engine: &mut Engine) -> Option<Vec<u8>> {
     }
 }
 
-fn is_red(input: &Input) -> bool {
-    matches!(input, Input::Key(Key::Red))
-}
-
 /// The number of the refusal of a key, which is handed back; 0 where it is taken.
 fn refusal_of_key(engine: &mut Engine) -> Option<u32> {
     match engine.post(Input::Key(Key::Red)) {
         Ok(()) => Some(0),
-        Err(refused) => number_if(is_red(&refused.input), refused.why),
+        Err(refused) => {
+            let is_back = matches!(&refused.input, Input::Key(Key::Red));
+            number_if(is_back, refused.why)
+        }
     }
 }
 

@@ -10,10 +10,9 @@ use std::alloc::Global;
 /// A file of this name and of so many octets.
 fn content_file(alloc: Global, name: &str, length: usize) -> Option<File> {
     let octets = vec![in alloc; b'x'; length].ok()?;
-    Some(File {
-        name: GroupName::of_path(alloc, name.as_bytes()).ok()?,
-        content: Octets::from_vec(alloc, octets).ok()?,
-    })
+    let name = GroupName::of_path(alloc, name.as_bytes()).ok();
+    let (name, content) = name.zip(Octets::from_vec(alloc, octets).ok())?;
+    Some(File { name, content })
 }
 
 /// Whether it is the file of this name and of so many octets.
@@ -49,24 +48,18 @@ fn post(alloc: Global, engine: &mut Engine, name: &str, length: usize) -> Option
     }
 }
 
-/// Makes so many steps, or fewer where there is no more to do.
-fn step(engine: &mut Engine, most: u32) -> Option<u32> {
-    engine.advance(most).ok()?;
-    Some(0)
-}
-
 /// Presets or posts files of the names `f0`, `f1`, .. , until so many were taken or one is refused; the
 /// number of the refusal. Posted files are taken from the queue at once.
 fn many(alloc: Global, engine: &mut Engine, posts: bool, count: u32) -> Option<u32> {
     for at in 0..count {
         let name = format!(in alloc; "f{at}").ok()?;
         let number = if posts {
-            post(alloc, engine, name.as_str(), 1)?
+            post(alloc, engine, name.as_str(), 1)
         } else {
-            preset(alloc, engine, name.as_str(), 1)?
+            preset(alloc, engine, name.as_str(), 1)
         };
-        if number != 0 {
-            return Some(number);
+        if number != Some(0) {
+            return number;
         }
         if posts {
             engine.advance(1).ok()?;
@@ -85,7 +78,8 @@ fn keys(engine: &mut Engine, count: u32) -> Option<u32> {
     Some(0)
 }
 
-/// What is done by one word, with a name and a number: the number of the refusal, or 0.
+/// What is done by one word, with a name and a number: the number of the refusal, or 0. By `step` so many
+/// steps are made, or fewer where there is no more to do.
 fn done(alloc: Global, engine: &mut Engine, word: &str) -> Option<u32> {
     let (word, rest) = word.split_once(':')?;
     let (name, number) = rest.split_once(':')?;
@@ -96,22 +90,28 @@ fn done(alloc: Global, engine: &mut Engine, word: &str) -> Option<u32> {
         "presets" => many(alloc, engine, false, number),
         "posts" => many(alloc, engine, true, number),
         "keys" => keys(engine, number),
-        "step" => step(engine, number),
+        "step" => engine.advance(number).ok().and(Some(0)),
         _ => None,
     }
 }
 
-/// The numbers of the refusals where these words are done one behind the other.
-pub fn refusals(alloc: Global, engine: &mut Engine, asked: &str) -> Option<Vec<u8>> {
-    let mut told = Vec::new(alloc);
-    let (_, words) = asked.split_once(' ')?;
+/// Does these words, and puts the number of the refusal of each.
+fn put_refusals(alloc: Global, engine: &mut Engine, told: &mut Vec<u8>, words: &str) -> Option<()> {
     for word in words.split(' ') {
         let number = done(alloc, engine, word)?;
         let gap = if told.is_empty() { "" } else { " " };
         let number = format!(in alloc; "{gap}{number}").ok()?;
         told.extend_from_slice(number.as_bytes()).ok()?;
     }
-    Some(told)
+    Some(())
+}
+
+/// The numbers of the refusals where these words are done one behind the other.
+pub fn refusals(alloc: Global, engine: &mut Engine, asked: &str) -> Option<Vec<u8>> {
+    let (_, words) = asked.split_once(' ')?;
+    let mut told = Vec::new(alloc);
+    let put = put_refusals(alloc, engine, &mut told, words);
+    put.and(Some(told))
 }
 
 static LIMITS: &str = r#"

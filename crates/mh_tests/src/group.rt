@@ -6,12 +6,13 @@ use std::alloc::Global;
 
 /// Why what is written makes no group, if it makes none.
 fn judged(alloc: Global, written: Written) -> Option<Vec<u8>> {
-    match Group::new(written) {
-        Ok(_) => said(alloc, b"fits"),
-        Err(misfit) => {
-            let why = misfit.why;
-            Some(format!(in alloc; "{why:?}").ok()?.into_bytes())
-        }
+    let why = match Group::new(written) {
+        Ok(_) => None,
+        Err(misfit) => Some(misfit.why),
+    };
+    match why {
+        Some(why) => Some(format!(in alloc; "{why:?}").ok()?.into_bytes()),
+        None => said(alloc, b"fits"),
     }
 }
 
@@ -105,9 +106,9 @@ struct Whole;
 impl Question for Whole {
     fn answer(alloc: Global, asked: &str, _: &[u8]) -> Option<Vec<u8>> {
         let (front, fields) = parts(asked);
-        let number = number(front, 1)?;
+        let (class, number) = class_of(front).zip(number(front, 1))?;
         let item = ingredient(alloc, Class::Rectangle, number, "OrigBoxSize pair 0 0")?;
-        judged(alloc, written(alloc, class_of(front)?, fields, item)?)
+        judged(alloc, written(alloc, class, fields, item)?)
     }
 }
 
@@ -123,19 +124,18 @@ fn takes_groups(rt: HostRuntime) {
     all_hold::<Whole>(&rt, rt.alloc(), GROUPS);
 }
 
-/// What is handed back of what is no group.
-fn back(written: Written) -> Option<Written> {
-    match Group::new(written) {
-        Ok(_) => None,
-        Err(misfit) => Some(misfit.written),
-    }
+/// The class and the number of ingredients.
+fn class_and_count(written: &Written) -> Option<(Class, usize)> {
+    Some((written.class, written.items.as_ref()?.len()))
 }
 
 /// The class and the number of ingredients that are handed back.
 fn handed_back(alloc: Global) -> Option<(Class, usize)> {
     let item = ingredient(alloc, Class::Rectangle, 7, "")?;
-    let back = back(written(alloc, Class::Scene, "", item)?)?;
-    Some((back.class, back.items.as_ref()?.len()))
+    match Group::new(written(alloc, Class::Scene, "", item)?) {
+        Ok(_) => None,
+        Err(misfit) => class_and_count(&misfit.written),
+    }
 }
 
 #[test]

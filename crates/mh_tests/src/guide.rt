@@ -176,10 +176,10 @@ total 99
 "#;
 
 fn report(alloc: Global) -> Option<Vec<u8>> {
-    let mut files = Vec::new(alloc);
-    files.push(file(alloc, "a", APPLICATION)?).ok()?;
-    files.push(file(alloc, "s", SCENE)?).ok()?;
-    files.push(file(alloc, "today", TODAY)?).ok()?;
+    let application = file(alloc, "a", APPLICATION);
+    let groups = application.zip(file(alloc, "s", SCENE));
+    let ((application, scene), today) = groups.zip(file(alloc, "today", TODAY))?;
+    let files = vec![in alloc; application, scene, today].ok()?;
     reported(alloc, files.as_slice(), SCRIPT, false)
 }
 

@@ -3,25 +3,19 @@ use crate::cases::{Question, all_hold, quoted};
 use crate::playing::outcome;
 use std::alloc::Global;
 
-/// Two variables of octets, the first of which holds so many, and two texts.
-fn octets(alloc: Global, count: usize) -> Option<String> {
+/// An application with two variables of octets, the first of which holds so many, and two texts; it does
+/// this, and then shows how many OStringVar 6 holds.
+fn application(alloc: Global, done: &str, count: usize) -> Option<String> {
     let letters = "x".repeat(alloc, count).ok()?;
-    format!(in alloc;
-        "{{:OStringVar 5 :OrigValue '{letters}' }} {{:OStringVar 6 :OrigValue '-' }} \
-         {{:OStringVar 7 :OrigValue '' }} {{:Text 8 :OrigBoxSize 12 16 :OrigPosition 0 16 \
-         :OrigContent '-' }} {{:Text 9 :OrigBoxSize 72 16 }}"
-    )
-    .ok()
-}
-
-/// An application with these octets that does this, and then shows how many OStringVar 6 holds.
-fn application(alloc: Global, done: &str, octets: &str) -> Option<String> {
     let programs = "{:ResidentPrg 1 :Name 'GSL' } {:ResidentPrg 2 :Name 'GSS' } \
         {:BooleanVar 3 :OrigValue false } {:IntegerVar 4 :OrigValue 0 }";
     let told_length = ":Call (1 3 ( :GOctetString :IndirectRef 6 :GInteger :IndirectRef 4 )) \
         :SetVariable (7 :GInteger :IndirectRef 4) :SetData (9 :IndirectRef 7)";
     format!(in alloc;
-        "a {{:Application (\"~/a\" 0) :Items ( {programs} {octets} {{:Link 10 :EventSource 0 \
+        "a {{:Application (\"~/a\" 0) :Items ( {programs} \
+         {{:OStringVar 5 :OrigValue '{letters}' }} {{:OStringVar 6 :OrigValue '-' }} \
+         {{:OStringVar 7 :OrigValue '' }} {{:Text 8 :OrigBoxSize 12 16 :OrigPosition 0 16 \
+         :OrigContent '-' }} {{:Text 9 :OrigBoxSize 72 16 }} {{:Link 10 :EventSource 0 \
          :EventType IsRunning :LinkEffect ( {done} {told_length} ) }} ) }}"
     )
     .ok()
@@ -30,8 +24,7 @@ fn application(alloc: Global, done: &str, octets: &str) -> Option<String> {
 /// How many octets are held in the end by OStringVar 6, which holds one at first, where this is done and
 /// OStringVar 5 holds so many.
 fn length(alloc: Global, done: &str, count: usize) -> Option<Vec<u8>> {
-    let octets = octets(alloc, count)?;
-    let file = application(alloc, done, octets.as_str())?;
+    let file = application(alloc, done, count)?;
     quoted(
         alloc,
         outcome(alloc, "play run|show|", file.as_str())?.as_slice(),
@@ -43,12 +36,11 @@ struct Kept;
 
 impl Question for Kept {
     fn answer(alloc: Global, asked: &str, _: &[u8]) -> Option<Vec<u8>> {
-        let mut answer = length(alloc, asked, 65_535)?;
-        answer.extend_from_slice(b" ").ok()?;
-        answer
-            .extend_from_slice(length(alloc, asked, 65_536)?.as_slice())
-            .ok()?;
-        Some(answer)
+        let longest = length(alloc, asked, 65_535);
+        let (mut answer, longer) = longest.zip(length(alloc, asked, 65_536))?;
+        let gap = answer.extend_from_slice(b" ");
+        let put = answer.extend_from_slice(longer.as_slice());
+        gap.and(put).ok().and(Some(answer))
     }
 }
 

@@ -1,12 +1,12 @@
 //! Lists and files at their limits, in both notations.
 use crate::building::{application, token_group};
 use crate::cases::{Question, all_hold, are, number, placed};
-use crate::codec::reading;
-use crate::octets::{APPLICATION, ITEMS, LIST, NUMBER, SCENE, START_UP, Shell, repeated, within};
+use crate::codec::reading_within as reading_in_shells;
+use crate::octets::{APPLICATION, ITEMS, LIST, NUMBER, SCENE, START_UP, Shell, repeated};
 use crate::text_forms::{ITEMS as PLACE, reading_within};
 use mh_codec::{CodecError, LARGEST_FILE, Why, encode_group};
 use mh_group::Group;
-use std::alloc::{AllocError, Global};
+use std::alloc::Global;
 
 /// Lists in an ingredient of the textual notation: how many members there may be, and the ingredient
 /// with one of them in angle brackets; and what is said of so many members, and of one more.
@@ -35,12 +35,11 @@ impl Question for Text {
     fn answer(alloc: Global, asked: &str, _: &[u8]) -> Option<Vec<u8>> {
         let most = number(asked, 0)? as usize;
         let (_, written) = asked.split_once(' ')?;
-        let mut answer = reading_of_text(alloc, most, written)?;
-        answer.extend_from_slice(b", ").ok()?;
-        answer
-            .extend_from_slice(reading_of_text(alloc, most + 1, written)?.as_slice())
-            .ok()?;
-        Some(answer)
+        let longest = reading_of_text(alloc, most, written);
+        let (mut answer, longer) = longest.zip(reading_of_text(alloc, most + 1, written))?;
+        let gap = answer.extend_from_slice(b", ");
+        let put = answer.extend_from_slice(longer.as_slice());
+        gap.and(put).ok().and(Some(answer))
     }
 }
 
@@ -127,16 +126,6 @@ static OCTETS: [(usize, usize, &[u8], &[Shell]); 7] = [
     ),
 ];
 
-fn long_list(
-    alloc: Global,
-    count: usize,
-    member: &[u8],
-    shells: &[Shell],
-) -> Result<Vec<u8>, AllocError> {
-    let members = repeated(alloc, b"", member, count, b"")?;
-    within(alloc, shells, members.as_slice())
-}
-
 /// The number and the offset of the refusal where so many members stand in the list, if there is one.
 fn reading_of_list(
     alloc: Global,
@@ -144,8 +133,8 @@ fn reading_of_list(
     member: &[u8],
     shells: &[Shell],
 ) -> Option<Vec<u8>> {
-    let octets = long_list(alloc, count, member, shells).ok()?;
-    reading(alloc, octets.as_slice())
+    let members = repeated(alloc, b"", member, count, b"").ok()?;
+    reading_in_shells(alloc, shells, members.as_slice())
 }
 
 /// Whether the list is read with so many members, and refused at this offset with one more.
@@ -156,9 +145,10 @@ fn is_longest(
     member: &[u8],
     shells: &[Shell],
 ) -> Option<bool> {
+    let more = most.checked_add(1)?;
     let refused = placed(alloc, 13, offset)?;
     let is_read = are(reading_of_list(alloc, most, member, shells), b"read");
-    let longer = reading_of_list(alloc, most.checked_add(1)?, member, shells);
+    let longer = reading_of_list(alloc, more, member, shells);
     Some(is_read && are(longer, refused.as_slice()))
 }
 

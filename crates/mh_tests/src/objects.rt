@@ -1,6 +1,6 @@
 //! Services: names that come twice, many groups, and what objects hold.
 use crate::cases::{Question, all_hold, are, number, said, word};
-use crate::service::{Named, all_named, answer, named};
+use crate::service::{Named, add_named, answer, named};
 use mh_base::{GroupName, ObjRef, Seq, Value};
 use mh_group::Attribute;
 use mh_model::{Fixed, FixedPart, Held, Target};
@@ -11,22 +11,15 @@ use std::alloc::Global;
 static LETTERS: &str = r#"
  => -;; abc => -;; aa => a;; abcb => b;; abcba => b"#;
 
-/// A scene at this path.
-fn scene(alloc: Global, path: &str) -> Option<Named> {
-    let file = format!(in alloc; "{path} {SCENE}").ok()?;
-    named(alloc, file.as_str())
-}
-
 const SCENE: &str = r#"{:Scene ("~/other" 0) :OnStartUp () :Items () }"#;
 
-/// Scenes of these letters.
-fn scenes(alloc: Global, letters: &str) -> Option<Vec<Named>> {
-    let mut files = Vec::new(alloc);
+/// Puts scenes of these letters.
+fn add_scenes(alloc: Global, files: &mut Vec<Named>, letters: &str) -> Option<()> {
     for letter in letters.chars() {
-        let path = format!(in alloc; "{letter}").ok()?;
-        files.push(scene(alloc, path.as_str())?).ok()?;
+        let file = format!(in alloc; "{letter} {SCENE}").ok()?;
+        add_named(alloc, files, file.as_str())?;
     }
-    Some(files)
+    Some(())
 }
 
 /// The first name that came before, or a dash.
@@ -41,7 +34,9 @@ struct Letters;
 
 impl Question for Letters {
     fn answer(alloc: Global, asked: &str, _: &[u8]) -> Option<Vec<u8>> {
-        name_twice(alloc, scenes(alloc, asked)?.as_slice())
+        let mut files = Vec::new(alloc);
+        let added = add_scenes(alloc, &mut files, asked);
+        added.and(name_twice(alloc, files.as_slice()))
     }
 }
 
@@ -50,21 +45,22 @@ fn finds_names_that_came_before(rt: HostRuntime) {
     all_hold::<Letters>(&rt, rt.alloc(), LETTERS);
 }
 
-/// An application and so many scenes.
-fn crowd(alloc: Global, count: u32) -> Option<Vec<Named>> {
-    let mut files = Vec::new(alloc);
-    files.push(named(alloc, APPLICATION)?).ok()?;
+/// Puts an application and so many scenes.
+fn add_crowd(alloc: Global, files: &mut Vec<Named>, count: u32) -> Option<()> {
+    add_named(alloc, files, APPLICATION)?;
     for i in 0..count {
-        let path = format!(in alloc; "s{i}").ok()?;
-        files.push(scene(alloc, path.as_str())?).ok()?;
+        let file = format!(in alloc; "s{i} {SCENE}").ok()?;
+        add_named(alloc, files, file.as_str())?;
     }
-    Some(files)
+    Some(())
 }
 
 const APPLICATION: &str = r#"a {:Application ("~/other" 0) :OnStartUp () :Items () }"#;
 
 fn answer_of_crowd(alloc: Global, count: u32) -> Option<Vec<u8>> {
-    answer(alloc, crowd(alloc, count)?, "made")
+    let mut files = Vec::new(alloc);
+    let added = add_crowd(alloc, &mut files, count);
+    answer(alloc, added.and(Some(files))?, "made")
 }
 
 #[test]
@@ -90,14 +86,11 @@ a 10 class => none;; s 10 class => none"#;
 static HELD: &str = r#"
 d/s 5000 link => d/x 20;; d/s 10 colour => 255 1 2 3"#;
 
-fn at(alloc: Global, path: &str, number: u32) -> Option<ObjRef> {
-    let group = GroupName::of_path(alloc, path.as_bytes()).ok()?;
-    Some(ObjRef { group, number })
-}
-
 /// What is answered of an object of the service.
 pub fn inside(alloc: Global, service: &Service, asked: &str) -> Option<Vec<u8>> {
-    let at = at(alloc, word(asked, 0), number(asked, 1)?)?;
+    let number = number(asked, 1)?;
+    let group = GroupName::of_path(alloc, word(asked, 0).as_bytes()).ok()?;
+    let at = ObjRef { group, number };
     match service.find(&at) {
         Some(object) => of_object(alloc, object, word(asked, 2)),
         None => said(alloc, b"none"),
@@ -138,10 +131,10 @@ fn target(link: &Fixed) -> Option<u32> {
 
 fn of_link(alloc: Global, link: &Fixed) -> Option<Vec<u8>> {
     let number = target(link)?;
-    let mut told = said(alloc, source(link)?)?;
-    told.extend_from_slice(format!(in alloc; " {number}").ok()?.as_bytes())
-        .ok()?;
-    Some(told)
+    let path = said(alloc, source(link)?);
+    let (mut told, number) = path.zip(format!(in alloc; " {number}").ok())?;
+    let put = told.extend_from_slice(number.as_bytes()).ok();
+    put.and(Some(told))
 }
 
 fn of_colour(alloc: Global, object: &Fixed) -> Option<Vec<u8>> {
@@ -158,7 +151,9 @@ struct Found;
 
 impl Question for Found {
     fn answer(alloc: Global, asked: &str, _: &[u8]) -> Option<Vec<u8>> {
-        answer(alloc, all_named(alloc, SMALL)?, asked)
+        let mut files = Vec::new(alloc);
+        let added = add_named(alloc, &mut files, SMALL);
+        answer(alloc, added.and(Some(files))?, asked)
     }
 }
 
@@ -172,16 +167,12 @@ fn finds_objects(rt: HostRuntime) {
 const OCTETS: &str = r#"s {:Scene ("~/s" 0) :Items ( {:OStringVar 1 :OrigValue "abcd"} ) }"#;
 
 /// Whether the value is octets, though there are four as of a colour.
-fn has_octets(object: &Fixed) -> bool {
-    match object.properties.get(Attribute::OrigValue) {
-        Some(Held::Value(Value::Octets(octets))) => octets.as_slice() == b"abcd".as_slice(),
-        _ => false,
-    }
-}
-
 fn holds_octets(objects: &[FixedPart]) -> bool {
     match objects {
-        [_, variable] => has_octets(variable.get()),
+        [_, variable] => match variable.get().properties.get(Attribute::OrigValue) {
+            Some(Held::Value(Value::Octets(octets))) => octets.as_slice() == b"abcd".as_slice(),
+            _ => false,
+        },
         _ => false,
     }
 }

@@ -14,8 +14,8 @@ pub fn repeated(
     for _ in 0..count {
         bytes.extend_from_slice(member)?;
     }
-    bytes.extend_from_slice(behind)?;
-    Ok(bytes)
+    let ended = bytes.extend_from_slice(behind);
+    ended.and(Ok(bytes))
 }
 
 /// An element around another: the number of its tag, or none for a sequence, and the octets in front of
@@ -42,9 +42,7 @@ pub const NUMBER: &[u8] = b"\x02\x01\x01";
 pub fn within(alloc: Global, shells: &[Shell], contents: &[u8]) -> Result<Vec<u8>, AllocError> {
     let mut octets = Vec::from_slice(alloc, contents)?;
     for (number, front, behind) in shells {
-        let mut inner = Vec::from_slice(alloc, *front)?;
-        inner.extend_from_slice(octets.as_slice())?;
-        inner.extend_from_slice(*behind)?;
+        let inner = repeated(alloc, *front, octets.as_slice(), 1, *behind)?;
         octets = Vec::new(alloc);
         write_element(&mut octets, tag_of(*number), inner.as_slice())?;
     }

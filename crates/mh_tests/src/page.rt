@@ -206,8 +206,8 @@ total 77
 
 /// A file of a folder.
 pub fn file(alloc: Global, path: &str, text: &str) -> Option<File> {
-    let held = Vec::from_slice(alloc, text.as_bytes()).ok()?;
-    Some((GroupName::of_path(alloc, path.as_bytes()).ok()?, held))
+    let name = GroupName::of_path(alloc, path.as_bytes()).ok();
+    name.zip(Vec::from_slice(alloc, text.as_bytes()).ok())
 }
 
 /// What the play of a script writes, lenient or not, if it ends well.
@@ -228,9 +228,9 @@ pub fn reported(alloc: Global, files: &[File], script: &str, lenient: bool) -> O
 }
 
 fn report(alloc: Global) -> Option<Vec<u8>> {
-    let mut files = Vec::new(alloc);
-    files.push(file(alloc, "a", APPLICATION)?).ok()?;
-    files.push(file(alloc, "s", SCENE)?).ok()?;
+    let application = file(alloc, "a", APPLICATION);
+    let (application, scene) = application.zip(file(alloc, "s", SCENE))?;
+    let files = vec![in alloc; application, scene].ok()?;
     reported(alloc, files.as_slice(), SCRIPT, false)
 }
 

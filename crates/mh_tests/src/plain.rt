@@ -1,5 +1,5 @@
 //! Written objects, whatever the tables say of them.
-use crate::building::{members, written_name};
+use crate::building::{add_members, written_name};
 use crate::cases::{number, word};
 use mh_base::{Colour, EventType, Octets, Seq};
 use mh_group::{
@@ -9,18 +9,19 @@ use mh_group::{
 use std::alloc::Global;
 
 fn effect(alloc: Global, name: ActionName, integers: u32, typed: u32) -> Option<Setting> {
+    let number = Number::new(0)?;
     let mut parameters = Seq::new(alloc);
-    for _ in 0..integers {
-        parameters.push(Parameter::Int(Generic::Direct(1))).ok()?;
+    for at in 0..integers.saturating_add(typed) {
+        let parameter = if at < integers {
+            Parameter::Int(Generic::Direct(1))
+        } else {
+            Parameter::Typed(Typed::Int(Generic::Direct(1)))
+        };
+        parameters.push(parameter).ok()?;
     }
-    for _ in 0..typed {
-        let value = Typed::Int(Generic::Direct(1));
-        parameters.push(Parameter::Typed(value)).ok()?;
-    }
-    let target = Generic::Direct(Ref::Here(Number::new(0)?));
     let action = Action {
         name,
-        target,
+        target: Generic::Direct(Ref::Here(number)),
         parameters,
     };
     Some(Setting::Effect(Seq::from_vec(vec![in alloc; action].ok()?)))
@@ -70,7 +71,10 @@ fn large_setting(alloc: Global, field: &str) -> Option<Setting> {
         }
         "name" => Some(Setting::ContentRef(written_name(alloc, b"~/a")?)),
         "members" => {
-            Some(Setting::Members(members(alloc, number(field, 2)?, number(field, 3)?)?))
+            let (count, slots) = number(field, 2).zip(number(field, 3))?;
+            let mut list = Seq::new(alloc);
+            let added = add_members(alloc, &mut list, count, slots);
+            added.and(Some(Setting::Members(list)))
         }
         "positions" => Some(Setting::Positions(Seq::new(alloc))),
         "action" => {
@@ -91,30 +95,36 @@ fn field(alloc: Global, field: &str) -> Option<Field> {
     Some(Field { attribute, setting })
 }
 
-fn fields(alloc: Global, written: &str) -> Option<Seq<Field>> {
-    let mut fields = Seq::new(alloc);
+fn add_fields(alloc: Global, fields: &mut Seq<Field>, written: &str) -> Option<()> {
     if !written.is_empty() {
         for one in written.split("; ") {
             fields.push(field(alloc, one)?).ok()?;
         }
     }
-    Some(fields)
+    Some(())
 }
 
 /// What is written where a group has these fields and one ingredient.
 pub fn written(alloc: Global, class: Class, own: &str, item: Ingredient) -> Option<Written> {
+    let mut fields = Seq::new(alloc);
+    let added = add_fields(alloc, &mut fields, own);
+    let parts = added.and(Some(fields)).zip(vec![in alloc; item].ok());
+    let (identifier, (fields, items)) = written_name(alloc, b"~/a").zip(parts)?;
     Some(Written {
         class,
-        identifier: written_name(alloc, b"~/a")?,
-        fields: fields(alloc, own)?,
-        items: Some(Seq::from_vec(vec![in alloc; item].ok()?)),
+        identifier,
+        fields,
+        items: Some(Seq::from_vec(items)),
     })
 }
 
 pub fn ingredient(alloc: Global, class: Class, number: u32, own: &str) -> Option<Ingredient> {
-    Some(Ingredient {
+    let number = Number::new(number)?;
+    let mut fields = Seq::new(alloc);
+    let added = add_fields(alloc, &mut fields, own);
+    added.and(Some(Ingredient {
         class,
-        number: Number::new(number)?,
-        fields: fields(alloc, own)?,
-    })
+        number,
+        fields,
+    }))
 }

@@ -18,18 +18,19 @@ use std::alloc::Global;
 /// A file: its path and what it holds.
 pub type File = (GroupName, Vec<u8>);
 
-fn source(alloc: Global, file: &str) -> Option<File> {
-    let (path, text) = path_and_text(file)?;
-    let held = bytes(alloc, text)?;
-    Some((GroupName::of_path(alloc, path.as_bytes()).ok()?, held))
+fn add_sources(alloc: Global, sources: &mut Vec<File>, files: &str) -> Option<()> {
+    for file in files.split('@') {
+        let (path, text) = path_and_text(file)?;
+        let name = GroupName::of_path(alloc, path.as_bytes()).ok();
+        sources.push(name.zip(bytes(alloc, text))?).ok()?;
+    }
+    Some(())
 }
 
 pub fn sources(alloc: Global, files: &str) -> Option<Vec<File>> {
     let mut sources = Vec::new(alloc);
-    for file in files.split('@') {
-        sources.push(source(alloc, file)?).ok()?;
-    }
-    Some(sources)
+    let added = add_sources(alloc, &mut sources, files);
+    added.and(Some(sources))
 }
 
 /// The day on which a play begins if no other is told, as a modified Julian date.
@@ -56,18 +57,17 @@ pub fn play<S: Sink>(
     requires { S.failures sink.old < 2 ^ 64 - 1 }
 {
     let (start, script, lenient, mjd) = how;
-    let options = options(alloc, start, lenient, mjd)?;
-    let script = bytes(alloc, script)?;
+    let options = options(alloc, start, lenient, mjd);
+    let (options, script) = options.zip(bytes(alloc, script))?;
     Some(play_bytes(alloc, files, script.as_slice(), &options, sink))
 }
 
 /// What was written, with a last line that tells the exit status.
 fn ended(alloc: Global, written: Vec<u8>, code: u8) -> Option<Vec<u8>> {
-    let mut bytes = written;
-    bytes
-        .extend_from_slice(format!(in alloc; "exit {code}\n").ok()?.as_bytes())
-        .ok()?;
-    Some(bytes)
+    let ending = format!(in alloc; "exit {code}\n").ok();
+    let (mut bytes, ending) = Some(written).zip(ending)?;
+    let put = bytes.extend_from_slice(ending.as_bytes()).ok();
+    put.and(Some(bytes))
 }
 
 /// What a play writes.
@@ -76,8 +76,10 @@ pub fn played(alloc: Global, files: &[File], how: (&str, &str, bool, u32)) -> Op
         bytes: Vec::new(alloc),
         failures: 0,
     };
-    let status = play(alloc, files, how, &mut sink)?.ok()?;
-    ended(alloc, sink.bytes, status.code())
+    match play(alloc, files, how, &mut sink) {
+        Some(Ok(status)) => ended(alloc, sink.bytes, status.code()),
+        _ => None,
+    }
 }
 
 /// What the verifier writes.
@@ -108,23 +110,24 @@ fn conversion(alloc: Global, files: &[File], to: Notation) -> Option<Vec<u8>> {
 
 /// What is written where this is done with the files.
 pub fn outcome(alloc: Global, task: &str, files: &str) -> Option<Vec<u8>> {
-    let files = sources(alloc, files)?;
     let (word, rest) = task.split_once(' ').unwrap_or((task, ""));
+    let how: (&str, &str, bool, u32) = match word {
+        "day" => {
+            let (_, script) = rest.split_once(' ')?;
+            ("a", script, false, number(rest, 0)?)
+        }
+        "start" => {
+            let (start, script) = rest.split_once(' ')?;
+            (start, script, true, DAY)
+        }
+        other => ("a", rest, other == "lenient", DAY),
+    };
+    let files = sources(alloc, files)?;
     match word {
         "check" => checked(alloc, files.as_slice()),
         "text" => conversion(alloc, files.as_slice(), Notation::Textual),
         "octets" => conversion(alloc, files.as_slice(), Notation::Binary),
-        "play" => played(alloc, files.as_slice(), ("a", rest, false, DAY)),
-        "lenient" => played(alloc, files.as_slice(), ("a", rest, true, DAY)),
-        "day" => {
-            let mjd = number(rest, 0)?;
-            let (_, script) = rest.split_once(' ')?;
-            played(alloc, files.as_slice(), ("a", script, false, mjd))
-        }
-        "start" => {
-            let (start, script) = rest.split_once(' ')?;
-            played(alloc, files.as_slice(), (start, script, true, DAY))
-        }
+        "play" | "lenient" | "day" | "start" => played(alloc, files.as_slice(), how),
         _ => None,
     }
 }

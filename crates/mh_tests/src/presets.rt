@@ -7,8 +7,8 @@ use std::alloc::Global;
 
 /// A file of this path and of so many octets.
 fn long_file(alloc: Global, path: &str, length: usize) -> Option<File> {
-    let octets = vec![in alloc; b'x'; length].ok()?;
-    Some((GroupName::of_path(alloc, path.as_bytes()).ok()?, octets))
+    let name = GroupName::of_path(alloc, path.as_bytes()).ok();
+    name.zip(vec![in alloc; b'x'; length].ok())
 }
 
 /// A path and a number of octets, a script, and files; what is written where the file of so many octets
@@ -20,10 +20,11 @@ impl Question for Large {
         let (front, files) = asked.split_once('@')?;
         let (_, task) = front.trim_end().split_once('\n')?;
         let (file, script) = task.split_once(" / ")?;
-        let mut files = sources(alloc, files)?;
         let length = number(file, 1)? as usize;
-        files.push(long_file(alloc, word(file, 0), length)?).ok()?;
-        played(alloc, files.as_slice(), ("a", script, false, DAY))
+        let large = long_file(alloc, word(file, 0), length);
+        let (mut files, large) = sources(alloc, files).zip(large)?;
+        let pushed = files.push(large).ok();
+        pushed.and(played(alloc, files.as_slice(), ("a", script, false, DAY)))
     }
 }
 
@@ -50,9 +51,9 @@ so does the verifier
 x 65536 / run| @a {:Application ("~/a" 0) :OnStartUp ( :Run (9) :SetData (8 :ContentRef ("x")) ) }
 => refused V1 a 0 1 Run|config a -|object a 9|exit 1|"#;
 
-/// An application that names so many files, `f0`, `f1`, .. , in the actions of a link that is not done.
-fn naming(alloc: Global, count: u32) -> Option<File> {
-    let mut text = Vec::new(alloc);
+/// Puts the text of an application that names so many files, `f0`, `f1`, .. , in the actions of a link that
+/// is not done.
+fn put_naming(alloc: Global, text: &mut Vec<u8>, count: u32) -> Option<()> {
     let front =
         b"{:Application (\"~/a\" 0) :Items ( {:ContentRefVar 1 :OrigValue :ContentRef (\"f0\") } \
         {:Link 2 :EventSource 0 :EventType EngineEvent :LinkEffect ( ";
@@ -63,27 +64,32 @@ fn naming(alloc: Global, count: u32) -> Option<File> {
         ).ok()?;
         text.extend_from_slice(action.as_bytes()).ok()?;
     }
-    text.extend_from_slice(b") } ) }").ok()?;
-    Some((GroupName::of_path(alloc, b"a").ok()?, text))
+    text.extend_from_slice(b") } ) }").ok()
 }
 
-/// What is written where an application names so many files, and so many stand in the folder.
-fn crowd(alloc: Global, named: u32, count: u32) -> Option<Vec<u8>> {
-    let mut files = Vec::new(alloc);
-    files.push(naming(alloc, named)?).ok()?;
+/// Puts an application that names so many files, and so many files.
+fn add_crowd(alloc: Global, files: &mut Vec<File>, named: u32, count: u32) -> Option<()> {
+    let mut text = Vec::new(alloc);
+    let put = put_naming(alloc, &mut text, named);
+    let name = GroupName::of_path(alloc, b"a").ok();
+    files.push(name.zip(put.and(Some(text)))?).ok()?;
     for at in 0..count {
         let path = format!(in alloc; "f{at}").ok()?;
         files.push(long_file(alloc, path.as_str(), 1)?).ok()?;
     }
-    played(alloc, files.as_slice(), ("a", "run|", false, DAY))
+    Some(())
 }
 
-/// How many files an application names, and how many there are.
+/// How many files an application names, and how many there are; what is written where they stand in the
+/// folder.
 struct Many;
 
 impl Question for Many {
     fn answer(alloc: Global, asked: &str, _: &[u8]) -> Option<Vec<u8>> {
-        crowd(alloc, number(asked, 0)?, number(asked, 1)?)
+        let (named, count) = number(asked, 0).zip(number(asked, 1))?;
+        let mut files = Vec::new(alloc);
+        let added = add_crowd(alloc, &mut files, named, count);
+        added.and(played(alloc, files.as_slice(), ("a", "run|", false, DAY)))
     }
 }
 

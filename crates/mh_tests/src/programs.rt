@@ -1,6 +1,6 @@
 //! Resident programs: what the six answer that each engine has, calls that do not fit, and what a call
 //! does to its variables.
-use crate::cases::{Question, all_hold, are, quoted};
+use crate::cases::{Question, all_hold, are, between, quoted};
 use crate::playing::{Task, outcome};
 use std::alloc::Global;
 
@@ -192,20 +192,6 @@ GDW 2 :GInteger :IndirectRef 5 => V3 5, kind Call a 1;;
 and one that is not there before both
 GDW 3 :GInteger :IndirectRef 9 => V1 9, absent Call a 9"#;
 
-/// What stands between these two.
-fn between<'a>(told: &'a str, front: &str, behind: &str) -> Option<&'a str> {
-    let (_, rest) = told.split_once(front)?;
-    let (found, _) = rest.split_once(behind)?;
-    Some(found)
-}
-
-/// The kind of the refusal of the first action of `a`, and the object that is named there.
-fn refusal(alloc: Global, checked: &str) -> Option<Vec<u8>> {
-    let kind = between(checked, "refused ", " a 0 1 Call\nconfig a -\n")?;
-    let named = between(checked, "object a ", "\nexit 1\n")?;
-    Some(format!(in alloc; "{kind} {named}, ").ok()?.into_bytes())
-}
-
 /// A line that says what is shown; a program's name, the receiver and the arguments of its call. The
 /// answer is what the verifier names, and the fault of a lenient play.
 struct Fitting;
@@ -226,13 +212,15 @@ impl Question for Fitting {
     }
 }
 
-/// The refusal, and behind it the fault of the same file where it is played all the same.
+/// The kind of the refusal of the first action of `a`, and the object that is named there; and behind them
+/// the fault of the same file where it is played all the same.
 fn with_fault(alloc: Global, checked: &[u8], file: &str) -> Option<Vec<u8>> {
-    let mut told = refusal(alloc, str::from_utf8(checked).ok()?)?;
+    let kind = between(checked, "refused ", " a 0 1 Call\nconfig a -\n")?;
+    let named = between(checked, "object a ", "\nexit 1\n")?;
     let played = outcome(alloc, "lenient run|", file)?;
-    let fault = between(str::from_utf8(played.as_slice()).ok()?, "fault ", "\ndid")?;
-    told.extend_from_slice(fault.as_bytes()).ok()?;
-    Some(told)
+    let fault = between(played.as_slice(), "fault ", "\ndid")?;
+    let told = format!(in alloc; "{kind} {named}, {fault}").ok()?;
+    Some(told.into_bytes())
 }
 
 #[test]

@@ -12,9 +12,9 @@ ghost use Rattle.mh_tests.specs.Doubling.{numbers, IsDouble, MayDouble};
 
 use crate::cases::{Question, all_hold, word};
 use crate::playing::DAY;
-use crate::service::all_named;
+use crate::service::add_named;
 use mh_base::{GroupName, Octets, Shared, Value};
-use mh_engine::{Receiver, StartError, Stepped, Unready};
+use mh_engine::{Receiver, Stepped, Unready};
 use mh_model::{Now, Param, Plain, Signature};
 use mh_resident::{Answer, CallFailed, Resident, signatures_of};
 use mh_service::Service;
@@ -105,27 +105,24 @@ fn service(alloc: Global, program: &str, number: &str) -> Option<Service> {
          :TestVariable (3 1 :GBoolean false) ) }} ) }}"
     )
     .ok()?;
-    let files = all_named(alloc, file.as_str())?;
-    Service::of_files(alloc, files, GroupName::of_path(alloc, b"a").ok()?).ok()
+    let mut files = Vec::new(alloc);
+    let added = add_named(alloc, &mut files, file.as_str());
+    let start = GroupName::of_path(alloc, b"a").ok();
+    let (files, start) = added.and(Some(files)).zip(start)?;
+    Service::of_files(alloc, files, start).ok()
 }
 
-fn is_at_rest<P: Resident>(receiver: &mut Receiver<P>) -> bool {
-    matches!(receiver.step(), Ok(Stepped::Idle | Stepped::Ended))
-}
-
-/// The first characters that are shown when there is nothing left to do.
-fn shown<P: Resident>(alloc: Global, receiver: &mut Receiver<P>) -> Option<Vec<u8>> {
+/// Puts the first characters that are shown when there is nothing left to do.
+fn put_shown<P: Resident>(shown: &mut Vec<u8>, receiver: &mut Receiver<P>) -> Option<()> {
     for _ in 0..100 {
-        if is_at_rest(receiver) {
+        if matches!(receiver.step(), Ok(Stepped::Idle | Stepped::Ended)) {
             break;
         }
     }
-    let mut shown = Vec::new(alloc);
     for scalar in receiver.engine().picture().scalars().iter().take(12) {
         shown.push(u8::try_from(*scalar).ok()?).ok()?;
     }
-    let text = str::from_utf8(shown.as_slice()).ok()?;
-    Vec::from_slice(alloc, text.trim_end().as_bytes()).ok()
+    Some(())
 }
 
 /// What is shown, or the number of the refusal.
@@ -134,22 +131,24 @@ fn outcome<P: Resident>(
     started: &mut Result<Receiver<P>, Unready<P>>,
 ) -> Option<Vec<u8>> {
     match started {
-        Ok(receiver) => shown(alloc, receiver),
-        Err(refused) => told(alloc, &refused.why),
+        Ok(receiver) => {
+            let mut shown = Vec::new(alloc);
+            let put = put_shown(&mut shown, receiver);
+            let text = put.and(str::from_utf8(shown.as_slice()).ok())?;
+            Vec::from_slice(alloc, text.trim_end().as_bytes()).ok()
+        }
+        Err(refused) => {
+            let number = refused.why.number()?;
+            Some(format!(in alloc; "{number}").ok()?.into_bytes())
+        }
     }
-}
-
-/// The number of a refusal.
-fn told(alloc: Global, why: &StartError) -> Option<Vec<u8>> {
-    let number = why.number()?;
-    Some(format!(in alloc; "{number}").ok()?.into_bytes())
 }
 
 /// The service, verified beside these programs.
 fn verified(alloc: Global, asked: &str, programs: &[Box<dyn Resident>]) -> Option<Accepted> {
     let program = if word(asked, 1) == "DBL" { "1" } else { "2" };
-    let service = service(alloc, program, word(asked, 2))?;
-    let known = signatures_of(alloc, programs).ok()?;
+    let known = signatures_of(alloc, programs).ok();
+    let (service, known) = service(alloc, program, word(asked, 2)).zip(known)?;
     verify(alloc, service, known.as_slice()).ok()
 }
 

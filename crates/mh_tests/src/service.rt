@@ -34,16 +34,15 @@ fn group(alloc: Global, written: &str) -> Option<Group> {
 /// The file as a table writes it.
 pub fn named(alloc: Global, file: &str) -> Option<Named> {
     let (path, written) = path_and_text(file)?;
-    let group = group(alloc, written)?;
-    Some((GroupName::of_path(alloc, path.as_bytes()).ok()?, group))
+    let name = GroupName::of_path(alloc, path.as_bytes()).ok();
+    name.zip(group(alloc, written))
 }
 
-pub fn all_named(alloc: Global, files: &str) -> Option<Vec<Named>> {
-    let mut groups = Vec::new(alloc);
+pub fn add_named(alloc: Global, groups: &mut Vec<Named>, files: &str) -> Option<()> {
     for file in files.split('@') {
         groups.push(named(alloc, file)?).ok()?;
     }
-    Some(groups)
+    Some(())
 }
 
 /// What is answered of a service that was made.
@@ -58,7 +57,8 @@ fn of_service(alloc: Global, service: Service, asked: &str) -> Option<Vec<u8>> {
 
 /// The number of the refusal and the group at fault, or what is answered of the service.
 pub fn answer(alloc: Global, files: Vec<Named>, asked: &str) -> Option<Vec<u8>> {
-    let start = GroupName::of_path(alloc, b"a").ok()?;
+    let start = GroupName::of_path(alloc, b"a").ok();
+    let (files, start) = Some(files).zip(start)?;
     match Service::of_files(alloc, files, start) {
         Ok(service) => of_service(alloc, service, asked),
         Err(ServiceError::Refused { why, group }) => refused(alloc, why.number(), &group),
@@ -68,8 +68,8 @@ pub fn answer(alloc: Global, files: Vec<Named>, asked: &str) -> Option<Vec<u8>> 
 
 fn refused(alloc: Global, number: u32, group: &GroupName) -> Option<Vec<u8>> {
     let mut told = format!(in alloc; "{number} ").ok()?.into_bytes();
-    told.extend_from_slice(group.as_bytes()).ok()?;
-    Some(told)
+    let put = told.extend_from_slice(group.as_bytes()).ok();
+    put.and(Some(told))
 }
 
 /// What is asked of a service, as a block tells it.
@@ -79,7 +79,9 @@ impl Question for Asked {
     fn answer(alloc: Global, asked: &str, _: &[u8]) -> Option<Vec<u8>> {
         let (front, files) = asked.split_once('@')?;
         let (_, asked) = front.trim_end().split_once('\n')?;
-        answer(alloc, all_named(alloc, files)?, asked)
+        let mut groups = Vec::new(alloc);
+        let added = add_named(alloc, &mut groups, files);
+        answer(alloc, added.and(Some(groups))?, asked)
     }
 }
 

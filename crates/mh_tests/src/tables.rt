@@ -149,19 +149,13 @@ fn plain(round: usize, shape: Shape) -> &'static [u8] {
         Shape::Octets | Shape::Colour => OCTETS,
         Shape::Content if is_even => OCTETS,
         Shape::Content | Shape::ContentRef => br#":ContentRef ( "~/file" )"#,
-        Shape::Justification => justification(round),
+        Shape::Justification if round % 3 == 0 => b"start",
+        Shape::Justification if round % 3 == 1 => b"end",
+        Shape::Justification => b"centre",
         Shape::MovementTable => b"( ( 1 -1 2147483647 ) ( ) )",
         Shape::Positions => b"( ( -1 300 ) ( 0 0 ) )",
         Shape::NextScenes => br#"( ( "~/next" 255 ) )"#,
         Shape::Items | Shape::Effect | Shape::Members | Shape::ListItems => b"",
-    }
-}
-
-fn justification(round: usize) -> &'static [u8] {
-    match round % 3 {
-        0 => b"start",
-        1 => b"end",
-        _ => b"centre",
     }
 }
 
@@ -198,30 +192,30 @@ fn put_ingredient(text: &mut Vec<u8>, round: usize, class: Class) -> Result<(), 
 }
 
 /// A scene with an ingredient of each class, all written with each attribute that they take.
-fn scene(alloc: Global, round: usize) -> Result<Vec<u8>, AllocError> {
-    let mut text = Vec::new(alloc);
-    put(&mut text, br#"{ :Scene ( "~/scene" 0 )"#)?;
-    put_fields(&mut text, round, Class::Scene)?;
-    put(&mut text, b":Items (")?;
+fn put_scene(text: &mut Vec<u8>, round: usize) -> Result<(), AllocError> {
+    put(text, br#"{ :Scene ( "~/scene" 0 )"#)?;
+    put_fields(text, round, Class::Scene)?;
+    put(text, b":Items (")?;
     for number in 2..17 {
         if let Some(class) = Class::of_number(number) {
-            put_ingredient(&mut text, round, class)?;
+            put_ingredient(text, round, class)?;
         }
     }
-    put(&mut text, b") }")?;
-    Ok(text)
+    put(text, b") }")
 }
 
 /// What goes wrong with the text's group on its way through both notations, or nothing.
 fn difference_of(alloc: Global, text: &[u8]) -> Option<&'static str> {
     let group = read_group(alloc, text).ok()?;
-    let text = print_group(alloc, &group).ok()?;
-    let octets = encode_group(alloc, &group).ok()?;
+    let text = print_group(alloc, &group).ok();
+    let (text, octets) = text.zip(encode_group(alloc, &group).ok())?;
     Some(difference(alloc, text.as_slice(), octets.as_slice()))
 }
 
 fn difference_of_round(alloc: Global, round: usize) -> Option<&'static str> {
-    difference_of(alloc, scene(alloc, round).ok()?.as_slice())
+    let mut text = Vec::new(alloc);
+    let put = put_scene(&mut text, round).ok();
+    put.and(difference_of(alloc, text.as_slice()))
 }
 
 #[test]

@@ -33,17 +33,6 @@ fn reading_of_cut(alloc: Global, text: &[u8]) -> Option<Vec<u8>> {
     reading(alloc, text, 0)
 }
 
-fn beginning(alloc: Global, text: &[u8]) -> Option<Vec<u8>> {
-    said(
-        alloc,
-        if begins_group(text) {
-            b"group"
-        } else {
-            b"other"
-        },
-    )
-}
-
 /// What is said of a text, of what it begins, of one that was cut off, of an ingredient, an action or a
 /// colour.
 pub struct Written;
@@ -53,7 +42,8 @@ impl Question for Written {
         let text = behind(asked, bytes)?;
         match word(asked, 0) {
             "text" => reading(alloc, text, 0),
-            "begins" => beginning(alloc, text),
+            "begins" if begins_group(text) => said(alloc, b"group"),
+            "begins" => said(alloc, b"other"),
             "cut" => reading_of_cut(alloc, text),
             "object" => reading_within(alloc, &ITEMS, text),
             "action" => reading_within(alloc, &START_UP, text),

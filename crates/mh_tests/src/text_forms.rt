@@ -1,8 +1,9 @@
 //! The textual notation: each shape of an attribute's value and each kind of an action's parameter,
 //! good and bad.
 use crate::cases::all_hold;
+use crate::octets::repeated;
 use crate::text::{Written, reading};
-use std::alloc::{AllocError, Global};
+use std::alloc::Global;
 
 /// What stands before a part of a group, and behind it.
 pub type Frame = (&'static [u8], &'static [u8]);
@@ -19,17 +20,10 @@ pub static FILL: Frame = (
     b" :OrigBoxSize 1 1 } ) }",
 );
 
-fn framed(alloc: Global, frame: &Frame, part: &[u8]) -> Result<Vec<u8>, AllocError> {
-    let (before, behind) = frame;
-    let mut text = Vec::from_slice(alloc, *before)?;
-    text.extend_from_slice(part)?;
-    text.extend_from_slice(*behind)?;
-    Ok(text)
-}
-
 /// The number of the refusal, and its offset from the part's beginning, if there is one.
 pub fn reading_within(alloc: Global, frame: &Frame, part: &[u8]) -> Option<Vec<u8>> {
-    let text = framed(alloc, frame, part).ok()?;
+    let (before, behind) = frame;
+    let text = repeated(alloc, *before, part, 1, *behind).ok()?;
     reading(alloc, text.as_slice(), frame.0.len())
 }
 

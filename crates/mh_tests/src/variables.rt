@@ -15,22 +15,18 @@ impl Question for Computed {
         let (variable, rest) = asked.split_once(" / ")?;
         let (done, test) = rest.split_once(" / ")?;
         let (class, value) = variable.split_once(' ')?;
-        let items = format!(in alloc;
-            "{{:{class} 1 :OrigValue {value} }} {{:ObjectRefVar 5 :OrigValue 1 }} \
+        let file = format!(in alloc;
+            "a {{:Application (\"~/a\" 0) :Items ( {{:{class} 1 :OrigValue {value} }} \
+             {{:ObjectRefVar 5 :OrigValue 1 }} \
              {{:Text 6 :InitiallyActive false :OrigBoxSize 12 16 :OrigContent 'ab=1B' }} \
              {{:Rectangle 10 :InitiallyActive false :OrigBoxSize 12 16 :OrigLineWidth 0 \
              :OrigRefFillColour '=FF=FF=FF=00' }} \
-             {{:Link 4 :InitiallyActive false :EventSource 0 :EventType IsStopped :LinkEffect () }}"
+             {{:Link 4 :InitiallyActive false :EventSource 0 :EventType IsStopped :LinkEffect () }} \
+             {{:Link 2 :EventSource 1 :EventType TestEvent :EventData true :LinkEffect ( :Run (10) ) }} \
+             {{:Link 3 :EventSource 0 :EventType IsRunning :LinkEffect ( {done} :TestVariable (1 {test}) ) }} \
+             ) }}"
         )
         .ok()?;
-        let links = format!(in alloc;
-            "{{:Link 2 :EventSource 1 :EventType TestEvent :EventData true :LinkEffect ( :Run (10) ) }} \
-             {{:Link 3 :EventSource 0 :EventType IsRunning :LinkEffect ( {done} :TestVariable (1 {test}) ) }}"
-        )
-        .ok()?;
-        let file = format!(in alloc;
-            "a {{:Application (\"~/a\" 0) :Items ( {items} {links} ) }}"
-        ).ok()?;
         let written = outcome(alloc, "lenient run|show|", file.as_str())?;
         let holds = str::from_utf8(written.as_slice()).ok()?.contains("row");
         said(alloc, if holds { b"yes" } else { b"no" })

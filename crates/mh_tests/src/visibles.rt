@@ -1,5 +1,5 @@
 //! What is seen: texts, drawings, the display stack and the lock, by the rows of the picture.
-use crate::cases::{Question, all_hold, are, said};
+use crate::cases::{Question, all_hold, are, between, said};
 use crate::playing::{Task, outcome};
 use std::alloc::Global;
 
@@ -16,26 +16,19 @@ const TEXTS: &str = r#":Text 1 :OrigBoxSize 72 16 :OrigContent '111' } {:Text 2 
 /// A drawing of five by three cells, with green lines.
 const ART: &str = r#":DynamicLineArt 1 :OrigBoxSize 60 48 :OrigRefLineColour '=00=FF=00=00'"#;
 
-fn visibles_of(written: &str) -> &str {
-    match written {
+fn rows_of(alloc: Global, written: &str, done: &str) -> Option<Vec<u8>> {
+    let visibles: &str = match written {
         "texts" => TEXTS,
         "art" => ART,
         other => other,
-    }
-}
-
-fn rows_of(alloc: Global, written: &str, done: &str) -> Option<Vec<u8>> {
-    let visibles = visibles_of(written);
+    };
     let file = format!(in alloc;
         "a {{:Application (\"~/a\" 0) :Items ( {{ {visibles} }} {{:Link 90 :EventSource 0 \
          :EventType IsRunning :LinkEffect ( {done} ) }} ) }}"
     )
     .ok()?;
     let told = outcome(alloc, "lenient run|show|", file.as_str())?;
-    let (_, rows) = str::from_utf8(told.as_slice())
-        .ok()?
-        .split_once("frame 1\n")?;
-    let (rows, _) = rows.split_once("total")?;
+    let rows = between(told.as_slice(), "frame 1\n", "total")?;
     said(alloc, rows.as_bytes())
 }
 

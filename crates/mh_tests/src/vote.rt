@@ -189,9 +189,9 @@ total 252
 "#;
 
 fn report(alloc: Global) -> Option<Vec<u8>> {
-    let mut files = Vec::new(alloc);
-    files.push(file(alloc, "a", APPLICATION)?).ok()?;
-    files.push(file(alloc, "s", SCENE)?).ok()?;
+    let application = file(alloc, "a", APPLICATION);
+    let (application, scene) = application.zip(file(alloc, "s", SCENE))?;
+    let files = vec![in alloc; application, scene].ok()?;
     reported(alloc, files.as_slice(), SCRIPT, true)
 }
 

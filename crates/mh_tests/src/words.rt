@@ -66,10 +66,9 @@ fn action_word(number: u32) -> &'static [u8] {
 fn joined(alloc: Global, words: &[&'static [u8]]) -> Option<Vec<u8>> {
     let mut joined = Vec::new(alloc);
     for word in words {
-        if !joined.is_empty() {
-            joined.push(b' ').ok()?;
-        }
-        joined.extend_from_slice(*word).ok()?;
+        let gap = if joined.is_empty() { "" } else { " " };
+        let parted = joined.extend_from_slice(gap.as_bytes());
+        parted.and(joined.extend_from_slice(*word)).ok()?;
     }
     Some(joined)
 }

@@ -9,7 +9,7 @@ ghost use Rattle.mh_widgets.specs.Does.{Does, Presses, placed_by, placed_with};
 
 use crate::done::{Done, Pressed};
 use crate::events::one_event;
-use mh_base::{EventType, ObjRef, Value};
+use mh_base::{EventType, ObjRef, Value, both};
 use mh_group::ActionName;
 use mh_model::{Edit, Key, Object};
 use std::alloc::{AllocError, Global};
@@ -52,10 +52,11 @@ fn highlit(alloc: Global, at: &ObjRef, object: &Object, on: bool) -> Result<Done
     } else {
         EventType::HighlightOff
     };
+    let items = one_event(alloc, at, kind)?;
     Ok(Done {
         edit: Some(Edit::Highlight(on)),
         placed: Vec::new(alloc),
-        items: one_event(alloc, at, kind)?,
+        items,
     })
 }
 
@@ -74,10 +75,11 @@ fn button_set(alloc: Global, at: &ObjRef, object: &Object, on: bool) -> Result<D
     } else {
         EventType::IsDeselected
     };
+    let items = one_event(alloc, at, kind)?;
     Ok(Done {
         edit: Some(Edit::Select(on)),
         placed: Vec::new(alloc),
-        items: one_event(alloc, at, kind)?,
+        items,
     })
 }
 
@@ -112,9 +114,11 @@ pub fn completed(alloc: Global, at: &ObjRef, edit: Option<Edit>) -> Result<Press
         pressed.items.items ≡ plain_event_lem at.now EventType.InteractionCompleted ∷ []) }
     ensures ends { IfOk result (λ pressed. pressed.ends ≡ true) }
 {
+    let items = one_event(alloc, at, EventType::InteractionCompleted);
+    let (items, edit) = both(items, Ok(edit))?;
     Ok(Pressed {
         edit,
-        items: one_event(alloc, at, EventType::InteractionCompleted)?,
+        items,
         ends: true,
     })
 }
