@@ -9,21 +9,14 @@ use Rattle.mh_model.specs.declared.input.Waiting.TheVariants as waiting
 use Rattle.mh_model.specs.declared.time.Timer.{Timer}
 use Rattle.mh_model.specs.Step.{time_of, time_ahead}
 use Rattle.mh_model.specs.Time.{timer_event}
-
--- events take no time
-pub events_ahead : (es : List Event) → time_ahead (map waiting.Event es) ≡ 0
-events_ahead [] = refl
-events_ahead (e ∷ es) =
-    let one = sum_by-cons time_of (waiting.Event e) (map waiting.Event es) in
-    let rest = events_ahead es in
-    omega (arith, one, rest)
+use Rattle.mh_events.proofs.CountLemmas.{no_time}
 
 pub ahead_append : (ws xs : List Waiting) → time_ahead (ws ++ xs) ≡ time_ahead ws + time_ahead xs
 ahead_append ws xs = sum_by-append time_of ws xs
 
 pub ahead_events : (ws : List Waiting) (es : List Event) → time_ahead (ws ++ map waiting.Event es) ≡ time_ahead ws
 ahead_events ws es =
-    let none = events_ahead es in
+    let none = no_time es in
     let whole = ahead_append ws (map waiting.Event es) in
     omega (arith, none, whole)
 

@@ -28,7 +28,7 @@ no_inputs : (es : List Event) → inputs (map waiting.Event es) ≡ 0
 no_inputs [] = refl
 no_inputs (e ∷ es) = no_inputs es
 
-no_time : (es : List Event) → time_ahead (map waiting.Event es) ≡ 0
+pub no_time : (es : List Event) → time_ahead (map waiting.Event es) ≡ 0
 no_time [] = refl
 no_time (e ∷ es) = no_time es
 
