@@ -11,7 +11,6 @@ use Rattle.mh_model.specs.declared.file.File.{File}
 use Rattle.mh_model.specs.Service.{Service}
 use Rattle.mh_model.specs.Step.{is_empty, is_settled, obstacle as obstacle_to, preset_obstacle, moved}
 use Rattle.mh_model.specs.Limits.{most_steps}
-use Rattle.mh_engine.specs.Play.{Play}
 use Rattle.mh_engine.specs.declared.refusal.RefusedWhy.{RefusedWhy}
 use Rattle.mh_engine.specs.declared.refusal.RefusedWhy.TheVariants as refused
 use Rattle.mh_engine.specs.declared.refusal.StartError.{StartError}
@@ -19,18 +18,16 @@ use Rattle.mh_engine.specs.declared.refusal.StartError.TheVariants as unstarted
 use Rattle.mh_engine.specs.declared.refusal.StepError.{StepError}
 use Rattle.mh_engine.specs.declared.refusal.StepError.TheVariants as failed
 
--- Refusals, want of memory aside. An engine that has stopped refuses everything.
+-- Refusals, want of memory aside. What is refused leaves everything as it was, and may be asked for again.
 
--- why an engine makes no step, if it makes none: there is something to do, and all steps are counted
-abbrev pub step_refusal : Play → Option StepError
-step_refusal p =
-    if p.stopped then Some failed.Stopped
-    else (if is_settled p.state then None
-    else (if p.state.taken == most_steps then Some failed.CountFull else None))
+-- why no step is made, if none is: there is something to do, and all steps are counted
+abbrev pub step_refusal : State → Option StepError
+step_refusal s =
+    if is_settled s then None else (if s.taken == most_steps then Some failed.CountFull else None)
 
 -- there is a step to make, and one that is counted
-abbrev pub is_ready : Play → Bool
-is_ready p = not p.stopped && not (is_settled p.state) && not (p.state.taken == most_steps)
+abbrev pub is_ready : State → Bool
+is_ready s = not (is_settled s) && not (s.taken == most_steps)
 
 -- how an obstacle is told
 abbrev pub refusal_for : Obstacle → RefusedWhy
@@ -46,18 +43,18 @@ refusal_for obstacle.QueueFull = refused.QueueFull
 abbrev pub start_refusal : Service → Option StartError
 start_refusal s = if is_empty s.programs then None else Some unstarted.ProgramsDiffer
 
--- why a file is not preset, if it is not; an engine that has stopped has made a step
-abbrev pub preset_refusal : File → Play → Option RefusedWhy
-preset_refusal f p = if p.stopped then Some refused.Begun else option_map refusal_for (preset_obstacle f p.state)
+-- why a file is not preset, if it is not
+abbrev pub preset_refusal : File → State → Option RefusedWhy
+preset_refusal f s = option_map refusal_for (preset_obstacle f s)
 
 -- why an engine does not take an input, if it does not
-abbrev pub post_refusal : Input → Play → Option RefusedWhy
-post_refusal i p = if p.stopped then Some refused.Stopped else option_map refusal_for (obstacle_to i p.state)
+abbrev pub post_refusal : Input → State → Option RefusedWhy
+post_refusal i s = option_map refusal_for (obstacle_to i s)
 
--- whether an engine has stopped, after a move that could not be made: a step that was refused memory stops it
-abbrev pub stopped_after : StepError → Option Move → Bool → Bool
-stopped_after failed.NoMemory (Some move.Step) before = true
-stopped_after _ _ before = before
+-- there is something to do with the move: with a step only where something is left to do
+abbrev pub is_left : Move → State → Bool
+is_left (move.Post i) s = true
+is_left move.Step s = not (is_settled s)
 
 -- a step move is not counted where all steps are counted and there is something to do
 abbrev pub is_counted : Move → State → Bool
@@ -73,7 +70,6 @@ are_counted (m ∷ ms) s = is_counted m s && are_counted ms (moved m s)
 
 abbrev pub refusal_number : RefusedWhy → Option ℕ
 refusal_number refused.NoMemory = None
-refusal_number refused.Stopped = Some 55
 refusal_number refused.Ended = Some 52
 refusal_number refused.TickRange = Some 54
 refusal_number refused.Begun = Some 59
@@ -88,5 +84,4 @@ start_number unstarted.ProgramsDiffer = Some 50
 
 abbrev pub step_number : StepError → Option ℕ
 step_number failed.NoMemory = None
-step_number failed.Stopped = Some 55
 step_number failed.CountFull = Some 56

@@ -1,3 +1,4 @@
 pub mod Answer
+pub mod Beside
 pub mod Play
 pub mod Told

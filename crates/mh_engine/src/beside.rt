@@ -1,19 +1,41 @@
 //! What an engine does for whoever plays it beside programs of a receiver.
-ghost use Rattle.std.specs.Prelude.{◌≡◌, map, true, false, None, IfOk, IfErr};
+ghost use Rattle.std.specs.Prelude.{◌≡◌, map, true, false, IfOk, IfErr};
 ghost use Rattle.mh_model.specs.State.{begun};
-ghost use Rattle.mh_model.specs.Headline.{front_fault};
 ghost use Rattle.mh_model.specs.Receiver.{call_next as call_next_lem, told};
 ghost use Rattle.mh_engine.specs.Answer.{is_ready as is_ready_lem};
 
 use crate::engine::Engine;
 use crate::refusal::{StartError, Unaccepted};
-use mh_machine::Machine;
+use mh_machine::{Machine, Unstarted};
 use mh_model::{Call, Outcome, Signature};
 use mh_resident::Resident;
+use mh_service::Service;
 use mh_verify::Accepted;
 use std::alloc::{AllocError, Global};
 
 impl Engine {
+    /// An engine for a service beside these programs, in place of those that it carries.
+    pub(crate) fn begin_with(
+        alloc: Global,
+        service: Service,
+        programs: Vec<Signature>,
+        mjd: u32,
+    ) -> Result<Engine, Unstarted>
+        ensures begun { let whole = record service { programs = programs.items } in
+            IfOk result (λ engine. engine ≡ record { state = begun whole mjd; accepted = false }) }
+        ensures back { IfErr result (λ unstarted. unstarted.service ≡ service) }
+    {
+        let mut service = service;
+        let carried = service.exchange_programs(programs);
+        match Machine::beside(alloc, service, mjd) {
+            Ok(machine) => Ok(Engine {
+                machine,
+                accepted: false,
+            }),
+            Err(unstarted) => Err(unstarted.carrying(carried)),
+        }
+    }
+
     /// An engine for a service that the verifier accepted beside these programs.
     pub(crate) fn begin(
         alloc: Global,
@@ -22,15 +44,14 @@ impl Engine {
         mjd: u32,
     ) -> Result<Engine, Unaccepted>
         requires { programs.items ≡ accepted.programs }
-        ensures begun { IfOk result (λ engine. engine ≡ record { state = begun accepted mjd; stopped = false; accepted = true }) }
+        ensures begun { IfOk result (λ engine. engine ≡ record { state = begun accepted mjd; accepted = true }) }
         ensures back { IfErr result (λ refused. refused.accepted ≡ accepted) }
         ensures why { IfErr result (λ refused. refused.why ≡ StartError.NoMemory) }
     {
         let (service, rest) = accepted.apart();
-        match Machine::new(alloc, service.with_programs(programs), mjd) {
+        match Machine::beside(alloc, service.with_programs(programs), mjd) {
             Ok(machine) => Ok(Engine {
                 machine,
-                stopped: false,
                 accepted: true,
             }),
             Err(unstarted) => Err(Unaccepted {
@@ -42,9 +63,9 @@ impl Engine {
 
     /// Whether there is a step to make, and one that is counted.
     pub(crate) fn is_ready(&self) -> bool
-        ensures { result ≡ is_ready_lem self.now }
+        ensures { result ≡ is_ready_lem self.now.state }
     {
-        !self.stopped && !self.machine.is_settled() && self.machine.taken() != u64::MAX
+        !self.machine.is_settled() && self.machine.taken() != u64::MAX
     }
 
     /// Which of these programs of the receiver the next step calls, if it calls one, and with what.
@@ -61,13 +82,5 @@ impl Engine {
         ensures before { result ≡ self.old.state.said }
     {
         self.machine.hear(said)
-    }
-
-    /// No further step is made.
-    pub(crate) fn stop(&mut self)
-        ensures stopped { self.new ≡ record self.old { stopped = true } }
-        ensures never { self.old.accepted ≡ true → front_fault self.old.state ≡ None }
-    {
-        self.stopped = true;
     }
 }

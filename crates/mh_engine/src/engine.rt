@@ -1,4 +1,4 @@
-//! `Engine`: a machine that can be refused memory.
+//! `Engine`: a machine with the verdict on its service.
 ghost use Rattle.std.specs.Prelude.{◌≡◌, ◌+◌, ◌<◌, ◌^◌, true, false, None, Some, [], IfOk, IfErr, OnOk, OnErr, IsErrOf, IsErrAnd, MatchOption};
 ghost use Rattle.mh_model.specs.State.{begun};
 ghost use Rattle.mh_model.specs.declared.input.Obstacle.{Obstacle};
@@ -21,12 +21,11 @@ use std::alloc::{AllocError, Global};
 use std::marker::Model;
 
 /// An engine that plays a service (ETSI ES 202 184, the receiver's MHEG-5 engine). A contract sees the
-/// state of the machine, whether the engine has stopped for want of memory, and whether its service was
-/// accepted: then its state is safe.
+/// state of the machine, and whether its service was accepted: then its state is safe. A call that is
+/// refused, for want of memory too, leaves everything as it was, and may be made again.
 #[derive(Drop)]
 pub struct Engine {
     pub(crate) machine: Machine,
-    pub(crate) stopped: bool,
     pub(crate) accepted: bool,
 }
 
@@ -37,22 +36,23 @@ impl Model for Engine {
 
     ghost Value = { Play };
 
-    ghost view = { λ e. record { state = e.machine; stopped = e.stopped; accepted = e.accepted } };
+    ghost view = { λ e. record { state = e.machine; accepted = e.accepted } };
 
     ghost invariant = { λ e. e.accepted ≡ true → IsSafe e.machine };
 }
 
 impl Engine {
     /// An engine for the service, whether or not a verifier would accept it, that begins on this modified
-    /// Julian day, 1,000,000 at most. It has the built-in programs alone (`Receiver` has others).
+    /// Julian day, 1,000,000 at most. It has the built-in programs alone, and plays the service without
+    /// those of a receiver that it may carry (`Receiver` has them).
     pub fn start_lenient(alloc: Global, service: Service, mjd: u32) -> Result<Engine, Unstarted>
-        ensures begun { IfOk result (λ engine. engine ≡ record { state = begun service mjd; stopped = false; accepted = false }) }
+        ensures begun { let alone = record service { programs = [] } in
+            IfOk result (λ engine. engine ≡ record { state = begun alone mjd; accepted = false }) }
         ensures back { IfErr result (λ unstarted. unstarted.service ≡ service) }
     {
         let machine = Machine::new(alloc, service, mjd)?;
         Ok(Engine {
             machine,
-            stopped: false,
             accepted: false,
         })
     }
@@ -61,7 +61,7 @@ impl Engine {
     /// 1,000,000 at most: none of its steps finds an item stuck. It has the built-in programs alone, and
     /// refuses a service that was verified with others. What is refused is handed back.
     pub fn start(alloc: Global, accepted: Accepted, mjd: u32) -> Result<Engine, Unaccepted>
-        ensures begun { IfOk result (λ engine. engine ≡ record { state = begun accepted mjd; stopped = false; accepted = true }) }
+        ensures begun { IfOk result (λ engine. engine ≡ record { state = begun accepted mjd; accepted = true }) }
         ensures back { IfErr result (λ refused. refused.accepted ≡ accepted) }
         ensures refused { MatchOption (start_refusal accepted) (IfErr result (λ refused. refused.why ≡ StartError.NoMemory)) (λ why. IsErrAnd result (λ refused. refused.why ≡ why)) }
     {
@@ -77,14 +77,11 @@ impl Engine {
     /// A content file is there before the first move. A refused one is handed back, and nothing changes.
     pub fn preset(&mut self, file: File) -> Result<(), RefusedFile>
         ensures preset { OnOk result (self.new ≡ record self.old { state = preset_lem file self.old.state }) }
-        ensures accepted { OnOk result ((self.old.stopped ≡ false) × (preset_obstacle file self.old.state ≡ None)) }
+        ensures accepted { OnOk result (preset_obstacle file self.old.state ≡ None) }
         ensures back { IfErr result (λ refused. refused.file ≡ file) }
         ensures kept { OnErr result (self.new ≡ self.old) }
-        ensures refused { MatchOption (preset_refusal file self.old) (IfErr result (λ refused. refused.why ≡ RefusedWhy.NoMemory)) (λ why. IsErrAnd result (λ refused. refused.why ≡ why)) }
+        ensures refused { MatchOption (preset_refusal file self.old.state) (IfErr result (λ refused. refused.why ≡ RefusedWhy.NoMemory)) (λ why. IsErrAnd result (λ refused. refused.why ≡ why)) }
     {
-        if self.stopped {
-            return refuse_file(RefusedWhy::Begun, file);
-        }
         if let Some(obstacle) = self.machine.preset_obstacle(&file) {
             return refuse_file(RefusedWhy::for_obstacle(obstacle), file);
         }
@@ -97,16 +94,12 @@ impl Engine {
     /// Adds an input at the end of the queue. A refused one is handed back, and nothing changes.
     pub fn post(&mut self, input: Input) -> Result<(), Refused>
         ensures posted { OnOk result (self.new ≡ record self.old { state = posted input self.old.state }) }
-        ensures accepted { OnOk result ((self.old.stopped ≡ false) × (obstacle input self.old.state ≡ None)) }
-        ensures stopped { IfErr result (λ refused. refused.why ≡ RefusedWhy.Stopped → self.old.stopped ≡ true) }
-        ensures barred { IfErr result (λ refused. (o : Obstacle) → refused.why ≡ refusal_for o → (self.old.stopped ≡ false) × (obstacle input self.old.state ≡ Some o)) }
+        ensures accepted { OnOk result (obstacle input self.old.state ≡ None) }
+        ensures barred { IfErr result (λ refused. (o : Obstacle) → refused.why ≡ refusal_for o → obstacle input self.old.state ≡ Some o) }
         ensures back { IfErr result (λ refused. refused.input ≡ input) }
         ensures kept { OnErr result (self.new ≡ self.old) }
-        ensures refused { MatchOption (post_refusal input self.old) (IfErr result (λ refused. refused.why ≡ RefusedWhy.NoMemory)) (λ why. IsErrAnd result (λ refused. refused.why ≡ why)) }
+        ensures refused { MatchOption (post_refusal input self.old.state) (IfErr result (λ refused. refused.why ≡ RefusedWhy.NoMemory)) (λ why. IsErrAnd result (λ refused. refused.why ≡ why)) }
     {
-        if self.stopped {
-            return refuse(RefusedWhy::Stopped, input);
-        }
         if let Some(obstacle) = self.machine.obstacle(&input) {
             return refuse(RefusedWhy::for_obstacle(obstacle), input);
         }
@@ -116,23 +109,18 @@ impl Engine {
         }
     }
 
-    /// One step of the machine. Where memory is refused the state stays as it was, and the engine makes no
-    /// further step.
+    /// One step of the machine. Where memory is refused everything stays as it was, and the step may be
+    /// made again.
     pub fn step(&mut self) -> Result<Stepped, StepError>
         ensures step { OnOk result (self.new ≡ record self.old { state = step_lem self.old.state }) }
+        ensures kept { OnErr result (self.new ≡ self.old) }
         ensures answer { IfOk result (λ answer. answer ≡ answer_of self.old.state) }
         ensures never { self.old.accepted ≡ true → front_fault self.old.state ≡ None }
         ensures faultless { IfOk result (λ answer. self.old.accepted ≡ true → is_faulted answer ≡ false) }
-        ensures running { OnOk result (self.old.stopped ≡ false) }
         ensures room { OnOk result (self.old.state.taken ≡ most_steps → is_settled self.old.state ≡ true) }
-        ensures stopped { IsErrOf result StepError.Stopped → (self.old.stopped ≡ true) × (self.new ≡ self.old) }
-        ensures full { IsErrOf result StepError.CountFull → (self.old.state.taken ≡ most_steps) × (is_settled self.old.state ≡ false) × (self.new ≡ self.old) }
-        ensures no_memory { IsErrOf result StepError.NoMemory → self.new ≡ record self.old { stopped = true } }
-        ensures refused { MatchOption (step_refusal self.old) (IfErr result (λ why. (why ≡ StepError.NoMemory) × (is_settled self.old.state ≡ false))) (λ why. IsErrOf result why) }
+        ensures full { IsErrOf result StepError.CountFull → (self.old.state.taken ≡ most_steps) × (is_settled self.old.state ≡ false) }
+        ensures refused { MatchOption (step_refusal self.old.state) (IfErr result (λ why. (why ≡ StepError.NoMemory) × (is_settled self.old.state ≡ false))) (λ why. IsErrOf result why) }
     {
-        if self.stopped {
-            return Err(StepError::Stopped);
-        }
         match self.machine.rest() {
             Rest::Ended => return Ok(Stepped::Ended),
             Rest::Idle => return Ok(Stepped::Idle),
@@ -141,50 +129,21 @@ impl Engine {
         if self.machine.taken() == u64::MAX {
             return Err(StepError::CountFull);
         }
-        match advance(&mut self.machine, self.accepted) {
+        match step_by(&mut self.machine, self.accepted) {
             Ok(answer) => Ok(answer),
-            Err(_) => {
-                self.stopped = true;
-                Err(StepError::NoMemory)
-            }
+            Err(_) => Err(StepError::NoMemory),
         }
     }
 
     /// Makes so many steps, or as many as there is something to do and as are counted; the picture is
     /// painted once, behind the last of them. Where memory is refused some of the steps were made, there is
-    /// more to do, and the engine makes no further one; where nothing is left to do no memory is asked for.
-    pub fn advance(&mut self, most: u32) -> Result<(), StepError>
-        ensures all { OnOk result (self.new ≡ record self.old { state = advanced most self.old.state }) }
-        ensures running { OnOk result (self.old.stopped ≡ false) }
-        ensures stopped { IsErrOf result StepError.Stopped → (self.old.stopped ≡ true) × (self.new ≡ self.old) }
-        ensures some { IsErrOf result StepError.NoMemory → IsPartly most self.old.state self.new.state }
-        ensures flag { IsErrOf result StepError.NoMemory → (self.old.stopped ≡ false) × (self.new.stopped ≡ true) }
-        ensures same { self.new.accepted ≡ self.old.accepted }
-        ensures others { IsErrOf result StepError.CountFull → ⊥ }
-    {
-        if self.stopped {
-            Err(StepError::Stopped)
-        } else {
-            self.make_steps(most)
-        }
-    }
-
-    /// So many steps of an engine that has not stopped.
-    fn make_steps(&mut self, most: u32) -> Result<(), StepError>
-        requires { self.old.stopped ≡ false }
+    /// more to do, and the others may be made again; where nothing is left to do no memory is asked for.
+    pub fn advance(&mut self, most: u32) -> Result<(), AllocError>
         ensures all { OnOk result (self.new ≡ record self.old { state = advanced most self.old.state }) }
         ensures some { OnErr result (IsPartly most self.old.state self.new.state) }
-        ensures flag { OnErr result (self.new.stopped ≡ true) }
         ensures same { self.new.accepted ≡ self.old.accepted }
-        ensures why { IfErr result (λ why. why ≡ StepError.NoMemory) }
     {
-        match advance_by(&mut self.machine, self.accepted, most) {
-            Ok(()) => Ok(()),
-            Err(_) => {
-                self.stopped = true;
-                Err(StepError::NoMemory)
-            }
-        }
+        advance_by(&mut self.machine, self.accepted, most)
     }
 
     /// The picture that is shown.
@@ -218,7 +177,7 @@ impl Engine {
 }
 
 /// One step of a machine. For a service that was accepted nothing is asked of the first item.
-fn advance(machine: &mut Machine, accepted: bool) -> Result<Stepped, AllocError>
+fn step_by(machine: &mut Machine, accepted: bool) -> Result<Stepped, AllocError>
     requires room { machine.old.taken + 1 < 2 ^ 64 }
     requires free { accepted ≡ true → front_fault machine.old ≡ None }
     ensures step { OnOk result (machine.new ≡ step_lem machine.old) }

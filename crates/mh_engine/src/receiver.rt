@@ -5,6 +5,7 @@
 ghost use Rattle.std.specs.Prelude.{◌≡◌, map, true, false, None, Ok, Err, IfOk, IfErr, OnOk, OnErr, IsErrOf, IsErrAnd, MatchOption};
 ghost use Rattle.mh_model.specs.State.{begun};
 ghost use Rattle.mh_model.specs.Headline.{front_fault};
+ghost use Rattle.mh_model.specs.Limits.{most_steps};
 ghost use Rattle.mh_model.specs.Receiver.{IsStep, call_next, told};
 ghost use Rattle.mh_model.specs.Step.{is_settled, posted, preset as preset_lem, step};
 ghost use Rattle.mh_resident.specs.Coming.{MayCome};
@@ -37,8 +38,8 @@ pub struct Unready<P: Drop> {
     pub programs: Vec<P>,
 }
 
-/// A service that could not be started for want of memory. It is handed back, but for the signatures
-/// that it has of programs; and so are the programs.
+/// A service that could not be started for want of memory. It is handed back as it was, and so are the
+/// programs.
 #[derive(Drop)]
 pub struct Unequipped<P: Drop> {
     pub service: Service,
@@ -55,16 +56,14 @@ impl<P: Resident> Receiver<P> {
         mjd: u32,
     ) -> Result<Receiver<P>, Unequipped<P>>
         ensures begun { let whole = record service { programs = map P.signature_of programs.items } in
-            IfOk result (λ receiver. receiver.engine
-            ≡ record { state = begun whole mjd; stopped = false; accepted = false }) }
+            IfOk result (λ receiver. receiver.engine ≡ record { state = begun whole mjd; accepted = false }) }
         ensures programs { IfOk result (λ receiver. receiver.programs ≡ programs) }
-        ensures back { IfErr result (λ refused. (record refused.service { programs = service.programs } ≡ service)
-            × (refused.programs ≡ programs)) }
+        ensures back { IfErr result (λ refused. (refused.service ≡ service) × (refused.programs ≡ programs)) }
     {
         let Ok(signatures) = signatures_of(alloc, programs.as_slice()) else {
             return Err(Unequipped { service, programs });
         };
-        match Engine::start_lenient(alloc, service.with_programs(signatures), mjd) {
+        match Engine::begin_with(alloc, service, signatures, mjd) {
             Ok(engine) => Ok(Receiver { engine, programs }),
             Err(unstarted) => Err(Unequipped {
                 service: unstarted.service,
@@ -83,7 +82,7 @@ impl<P: Resident> Receiver<P> {
         mjd: u32,
     ) -> Result<Receiver<P>, Unready<P>>
         ensures begun { IfOk result (λ receiver. receiver.engine
-            ≡ record { state = begun accepted mjd; stopped = false; accepted = true }) }
+            ≡ record { state = begun accepted mjd; accepted = true }) }
         ensures programs { IfOk result (λ receiver. receiver.programs ≡ programs) }
         ensures same { OnOk result (map P.signature_of programs.items ≡ accepted.programs) }
         ensures differ { IfErr result (λ refused. refused.why ≡ StartError.ProgramsDiffer →
@@ -137,7 +136,7 @@ impl<P: Resident> Receiver<P> {
         ensures back { IfErr result (λ refused. refused.file ≡ file) }
         ensures kept { OnErr result (self.new.engine ≡ self.old.engine) }
         ensures same { self.new.programs ≡ self.old.programs }
-        ensures refused { MatchOption (preset_refusal file self.old.engine)
+        ensures refused { MatchOption (preset_refusal file self.old.engine.state)
             (IfErr result (λ refused. refused.why ≡ RefusedWhy.NoMemory))
             (λ why. IsErrAnd result (λ refused. refused.why ≡ why)) }
     {
@@ -151,7 +150,7 @@ impl<P: Resident> Receiver<P> {
         ensures back { IfErr result (λ refused. refused.input ≡ input) }
         ensures kept { OnErr result (self.new.engine ≡ self.old.engine) }
         ensures same { self.new.programs ≡ self.old.programs }
-        ensures refused { MatchOption (post_refusal input self.old.engine)
+        ensures refused { MatchOption (post_refusal input self.old.engine.state)
             (IfErr result (λ refused. refused.why ≡ RefusedWhy.NoMemory))
             (λ why. IsErrAnd result (λ refused. refused.why ≡ why)) }
     {
@@ -159,21 +158,20 @@ impl<P: Resident> Receiver<P> {
     }
 
     /// One step of the machine; where it calls a program, by what that answers. Where memory is refused,
-    /// by the program too, the state stays as it was, and no further step is made.
+    /// by the program too, everything stays as it was, and the step may be made again: a program that it
+    /// calls is called again then.
     pub fn step(&mut self) -> Result<Stepped, StepError>
         ensures step { let may = MayCome P.signature_of P.may_answer self.old.programs.items in
             let signatures = map P.signature_of self.old.programs.items in
             OnOk result (IsStep signatures may self.old.engine.state self.new.engine.state) }
         ensures same { self.new.programs ≡ self.old.programs }
         ensures accepted { self.new.engine.accepted ≡ self.old.engine.accepted }
+        ensures kept { OnErr result (self.new.engine ≡ self.old.engine) }
         ensures answer { IfOk result (λ answer. answer ≡ answer_of self.old.engine.state) }
         ensures never { self.old.engine.accepted ≡ true → front_fault self.old.engine.state ≡ None }
         ensures faultless { IfOk result (λ answer. self.old.engine.accepted ≡ true → is_faulted answer ≡ false) }
-        ensures running { OnOk result (self.new.engine.stopped ≡ false) }
-        ensures no_memory { IsErrOf result StepError.NoMemory →
-            self.new.engine ≡ record self.old.engine { stopped = true } }
-        ensures kept { IfErr result (λ why. (why ≡ StepError.NoMemory → ⊥) → self.new.engine ≡ self.old.engine) }
-        ensures refused { MatchOption (step_refusal self.old.engine)
+        ensures room { OnOk result (self.old.engine.state.taken ≡ most_steps → is_settled self.old.engine.state ≡ true) }
+        ensures refused { MatchOption (step_refusal self.old.engine.state)
             (IfErr result (λ why. (why ≡ StepError.NoMemory) × (is_settled self.old.engine.state ≡ false)))
             (λ why. IsErrOf result why) }
     {
@@ -183,11 +181,19 @@ impl<P: Resident> Receiver<P> {
         match self.ask() {
             Ok(Some(said)) => self.step_by(said),
             Ok(None) => self.engine.step(),
-            Err(_) => {
-                self.engine.stop();
-                Err(StepError::NoMemory)
-            }
+            Err(_) => self.refused_step(),
         }
+    }
+
+    /// A step for which a program, or what it is asked with, was refused memory.
+    fn refused_step(&self) -> Result<Stepped, StepError>
+        requires { is_ready self.now.engine.state ≡ true }
+        ensures why { IsErrOf result StepError.NoMemory }
+        ensures more { is_settled self.now.engine.state ≡ false }
+        ensures never { self.now.engine.accepted ≡ true → front_fault self.now.engine.state ≡ None }
+    {
+        let _ = &self.engine.accepted;
+        Err(StepError::NoMemory)
     }
 
     /// What comes of the call that the next step makes, if it makes one.
@@ -205,15 +211,14 @@ impl<P: Resident> Receiver<P> {
 
     /// One step with what a program has said of the call that it makes.
     fn step_by(&mut self, said: Outcome) -> Result<Stepped, StepError>
-        requires { is_ready self.old.engine ≡ true }
+        requires { is_ready self.old.engine.state ≡ true }
         ensures step { OnOk result (self.new.engine.state ≡ step (told said self.old.engine.state)) }
         ensures same { self.new.programs ≡ self.old.programs }
         ensures accepted { self.new.engine.accepted ≡ self.old.engine.accepted }
         ensures answer { IfOk result (λ answer. answer ≡ answer_of self.old.engine.state) }
         ensures faultless { IfOk result (λ answer. self.old.engine.accepted ≡ true → is_faulted answer ≡ false) }
-        ensures running { OnOk result (self.new.engine.stopped ≡ false) }
         ensures why { IfErr result (λ why. why ≡ StepError.NoMemory) }
-        ensures no_memory { OnErr result (self.new.engine ≡ record self.old.engine { stopped = true }) }
+        ensures kept { OnErr result (self.new.engine ≡ self.old.engine) }
     {
         step_told(&mut self.engine, said)
     }
@@ -222,14 +227,13 @@ impl<P: Resident> Receiver<P> {
 /// One step of an engine with what a program has said of the call that it makes. Where memory is refused,
 /// what was said before stands again.
 fn step_told(engine: &mut Engine, said: Outcome) -> Result<Stepped, StepError>
-    requires { is_ready engine.old ≡ true }
+    requires { is_ready engine.old.state ≡ true }
     ensures step { OnOk result (engine.new.state ≡ step (told said engine.old.state)) }
     ensures accepted { engine.new.accepted ≡ engine.old.accepted }
     ensures answer { IfOk result (λ answer. answer ≡ answer_of engine.old.state) }
     ensures faultless { IfOk result (λ answer. engine.old.accepted ≡ true → is_faulted answer ≡ false) }
-    ensures running { OnOk result (engine.new.stopped ≡ false) }
     ensures why { IfErr result (λ why. why ≡ StepError.NoMemory) }
-    ensures no_memory { OnErr result (engine.new ≡ record engine.old { stopped = true }) }
+    ensures kept { OnErr result (engine.new ≡ engine.old) }
 {
     let before = engine.hear(said);
     match engine.step() {

@@ -52,9 +52,6 @@ pub struct Unaccepted {
 pub enum RefusedWhy {
     #[error("memory was refused")]
     NoMemory,
-    /// Number 55: a step of this engine was refused memory.
-    #[error("55: the engine has stopped for want of memory")]
-    Stopped,
     /// Number 52: the application has quit.
     #[error("52: the engine has ended")]
     Ended,
@@ -85,7 +82,6 @@ impl RefusedWhy {
     {
         match self {
             RefusedWhy::NoMemory => None,
-            RefusedWhy::Stopped => Some(55),
             RefusedWhy::Ended => Some(52),
             RefusedWhy::TickRange => Some(54),
             RefusedWhy::Begun => Some(59),
@@ -131,9 +127,6 @@ pub struct Refused {
 pub enum StepError {
     #[error("memory was refused")]
     NoMemory,
-    /// Number 55: an earlier step of this engine was refused memory.
-    #[error("55: the engine has stopped for want of memory")]
-    Stopped,
     /// Number 56: as many steps are counted as can be.
     #[error("56: the count of steps is full")]
     CountFull,
@@ -146,7 +139,6 @@ impl StepError {
     {
         match self {
             StepError::NoMemory => None,
-            StepError::Stopped => Some(55),
             StepError::CountFull => Some(56),
         }
     }

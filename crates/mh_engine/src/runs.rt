@@ -1,8 +1,9 @@
 //! Runs: posts and steps in a given order.
-ghost use Rattle.std.specs.Prelude.{◌≡◌, ◌+◌, ◌<◌, true, false, None, Some, [], length, take, slice_get, IfErr, OnOk, OnErr};
+ghost use Rattle.std.specs.Prelude.{◌≡◌, ◌+◌, ◌<◌, true, false, None, [], length, take, slice_get, IfErr, OnOk, OnErr, IsErrOf};
+ghost use Rattle.std.specs.Option.{option_map_or};
 ghost use Rattle.mh_model.specs.Headline.{front_fault};
 ghost use Rattle.mh_model.specs.Step.{stepped, posted, moved, run as run_lem};
-ghost use Rattle.mh_engine.specs.Answer.{is_counted, are_counted, stopped_after};
+ghost use Rattle.mh_engine.specs.Answer.{is_left, is_counted, are_counted};
 
 use crate::Engine;
 use crate::refusal::{Refused, RefusedWhy, RunEnd, StepError};
@@ -12,12 +13,10 @@ use mh_model::{Input, Move};
 fn make(engine: &mut Engine, next: &Move) -> Result<(), StepError>
     ensures made { OnOk result (engine.new.state ≡ moved next.now engine.old.state) }
     ensures counted { OnOk result (is_counted next.now engine.old.state ≡ true) }
-    ensures running { OnOk result ((engine.old.stopped ≡ false) × (engine.new.stopped ≡ false)) }
-    ensures kept { OnErr result (engine.new.state ≡ engine.old.state) }
+    ensures kept { OnErr result (engine.new ≡ engine.old) }
     ensures same { engine.new.accepted ≡ engine.old.accepted }
-    ensures stopped { IfErr result (λ why. why ≡ StepError.Stopped → engine.old.stopped ≡ true) }
-    ensures full { IfErr result (λ why. why ≡ StepError.CountFull → is_counted next.now engine.old.state ≡ false) }
-    ensures flag { IfErr result (λ why. engine.new.stopped ≡ stopped_after why (Some next.now) engine.old.stopped) }
+    ensures more { OnErr result (is_left next.now engine.old.state ≡ true) }
+    ensures full { IsErrOf result StepError.CountFull → is_counted next.now engine.old.state ≡ false }
 {
     match next {
         Move::Post(input) => post_copy_or_pass(engine, input),
@@ -28,12 +27,10 @@ fn make(engine: &mut Engine, next: &Move) -> Result<(), StepError>
 fn step_on(engine: &mut Engine) -> Result<(), StepError>
     ensures made { OnOk result (engine.new.state ≡ stepped engine.old.state) }
     ensures counted { OnOk result (is_counted Move.Step engine.old.state ≡ true) }
-    ensures running { OnOk result ((engine.old.stopped ≡ false) × (engine.new.stopped ≡ false)) }
-    ensures kept { OnErr result (engine.new.state ≡ engine.old.state) }
+    ensures kept { OnErr result (engine.new ≡ engine.old) }
     ensures same { engine.new.accepted ≡ engine.old.accepted }
-    ensures stopped { IfErr result (λ why. why ≡ StepError.Stopped → engine.old.stopped ≡ true) }
-    ensures full { IfErr result (λ why. why ≡ StepError.CountFull → is_counted Move.Step engine.old.state ≡ false) }
-    ensures flag { IfErr result (λ why. engine.new.stopped ≡ stopped_after why (Some Move.Step) engine.old.stopped) }
+    ensures more { OnErr result (is_left Move.Step engine.old.state ≡ true) }
+    ensures full { IsErrOf result StepError.CountFull → is_counted Move.Step engine.old.state ≡ false }
 {
     let _ = engine.step()?;
     Ok(())
@@ -41,12 +38,9 @@ fn step_on(engine: &mut Engine) -> Result<(), StepError>
 
 fn post_copy_or_pass(engine: &mut Engine, input: &Input) -> Result<(), StepError>
     ensures made { OnOk result (engine.new.state ≡ posted input.now engine.old.state) }
-    ensures running { OnOk result ((engine.old.stopped ≡ false) × (engine.new.stopped ≡ false)) }
-    ensures kept { OnErr result (engine.new.state ≡ engine.old.state) }
+    ensures kept { OnErr result (engine.new ≡ engine.old) }
     ensures same { engine.new.accepted ≡ engine.old.accepted }
-    ensures stopped { IfErr result (λ why. why ≡ StepError.Stopped → engine.old.stopped ≡ true) }
-    ensures other { IfErr result (λ why. why ≡ StepError.CountFull → ⊥) }
-    ensures flag { engine.new.stopped ≡ engine.old.stopped }
+    ensures why { IfErr result (λ why. why ≡ StepError.NoMemory) }
 {
     let copy = input.clone()?;
     post_or_pass(engine, copy)
@@ -54,17 +48,13 @@ fn post_copy_or_pass(engine: &mut Engine, input: &Input) -> Result<(), StepError
 
 fn post_or_pass(engine: &mut Engine, input: Input) -> Result<(), StepError>
     ensures made { OnOk result (engine.new.state ≡ posted input engine.old.state) }
-    ensures running { OnOk result ((engine.old.stopped ≡ false) × (engine.new.stopped ≡ false)) }
-    ensures kept { OnErr result (engine.new.state ≡ engine.old.state) }
+    ensures kept { OnErr result (engine.new ≡ engine.old) }
     ensures same { engine.new.accepted ≡ engine.old.accepted }
-    ensures stopped { IfErr result (λ why. why ≡ StepError.Stopped → engine.old.stopped ≡ true) }
-    ensures other { IfErr result (λ why. why ≡ StepError.CountFull → ⊥) }
-    ensures flag { engine.new.stopped ≡ engine.old.stopped }
+    ensures why { IfErr result (λ why. why ≡ StepError.NoMemory) }
 {
     match engine.post(input) {
         Ok(()) => Ok(()),
         Err(refused) => match why_refused(refused) {
-            RefusedWhy::Stopped => Err(StepError::Stopped),
             RefusedWhy::NoMemory => Err(StepError::NoMemory),
             RefusedWhy::Ended
             | RefusedWhy::TickRange
@@ -85,22 +75,20 @@ fn why_refused(refused: Refused) -> RefusedWhy
     why
 }
 
-/// Makes these moves in order. It ends early where memory is refused, where the engine has stopped, or
-/// where the count of steps is full, and then says how many moves were made.
+/// Makes these moves in order. It ends early where memory is refused or the count of steps is full, at a
+/// move with which there is something to do, and then says how many moves were made. The move that was
+/// refused is none of them, and changed nothing: a run of the moves that are left goes on from there.
 pub fn run(engine: &mut Engine, moves: &[Move]) -> Result<(), RunEnd>
     ensures all { OnOk result (engine.new.state ≡ run_lem moves.now engine.old.state) }
     ensures counted { OnOk result (are_counted moves.now engine.old.state ≡ true) }
-    ensures running { OnOk result (engine.old.stopped ≡ true → moves.now ≡ []) }
     ensures part { IfErr result (λ end. engine.new.state ≡ run_lem (take end.made moves.now) engine.old.state) }
     ensures before { IfErr result (λ end. are_counted (take end.made moves.now) engine.old.state ≡ true) }
     ensures within { IfErr result (λ end. end.made < length moves.now) }
-    ensures stopped { IfErr result (λ end. end.why ≡ StepError.Stopped → (engine.old.stopped ≡ true) × (end.made ≡ 0)) }
+    ensures more { IfErr result (λ end. option_map_or (λ next. is_left next engine.new.state) (slice_get moves.now end.made) false ≡ true) }
     ensures same { engine.new.accepted ≡ engine.old.accepted }
     ensures never { engine.old.accepted ≡ true → front_fault engine.new.state ≡ None }
     ensures faultless { engine.old.accepted ≡ true → engine.new.state.faults ≡ [] }
     ensures full { IfErr result (λ end. end.why ≡ StepError.CountFull → are_counted (take (end.made + 1) moves.now) engine.old.state ≡ false) }
-    ensures flag { OnOk result (engine.new.stopped ≡ engine.old.stopped) }
-    ensures flag_after { IfErr result (λ end. engine.new.stopped ≡ stopped_after end.why (slice_get moves.now end.made) engine.old.stopped) }
 {
     let _ = &engine.accepted;
     for (made, next) in moves.iter().enumerate() {

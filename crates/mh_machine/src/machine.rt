@@ -1,5 +1,5 @@
 //! `Machine`: the state of the object machine, with the picture that it shows.
-ghost use Rattle.std.specs.Prelude.{◌≡◌, ◌+◌, ◌<◌, ◌^◌, map, false, None, IfOk, IfErr, OnOk, OnErr};
+ghost use Rattle.std.specs.Prelude.{◌≡◌, ◌+◌, ◌<◌, ◌^◌, map, false, [], None, IfOk, IfErr, OnOk, OnErr};
 ghost use Rattle.mh_model.specs.Headline.{front_fault};
 ghost use Rattle.mh_model.specs.Picture.{shown};
 ghost use Rattle.mh_model.specs.Receiver.{call_next as call_next_lem, told};
@@ -36,8 +36,23 @@ impl Model for Machine {
 
 impl Machine {
     /// The machine at the start, on this modified Julian day: the start application is there, and is about
-    /// to be entered. Where memory is refused the service is handed back.
+    /// to be entered. It has the built-in programs alone, and plays the service without those of a
+    /// receiver that it may carry. Where memory is refused the service is handed back.
     pub fn new(alloc: Global, service: Service, mjd: u32) -> Result<Machine, Unstarted>
+        ensures begun { IfOk result (λ machine. machine ≡ begun (record service { programs = [] }) mjd) }
+        ensures back { IfErr result (λ unstarted. unstarted.service ≡ service) }
+    {
+        let mut service = service;
+        let carried = service.exchange_programs(Vec::new(alloc));
+        match Machine::beside(alloc, service, mjd) {
+            Ok(machine) => Ok(machine),
+            Err(unstarted) => Err(unstarted.carrying(carried)),
+        }
+    }
+
+    /// The same beside the programs whose signatures the service carries. Whoever steps it asks before each
+    /// step which of them that calls (`call_next`), and says what came of it (`hear`).
+    pub fn beside(alloc: Global, service: Service, mjd: u32) -> Result<Machine, Unstarted>
         ensures begun { IfOk result (λ machine. machine ≡ begun service mjd) }
         ensures back { IfErr result (λ unstarted. unstarted.service ≡ service) }
     {
@@ -54,6 +69,7 @@ impl Machine {
 
     /// A file is there before the first move.
     pub fn preset(&mut self, file: File) -> Result<(), AllocError>
+        requires { preset_obstacle_lem file self.old ≡ None }
         ensures preset { OnOk result (self.new ≡ preset_lem file self.old) }
         ensures kept { OnErr result (self.new ≡ self.old) }
     {

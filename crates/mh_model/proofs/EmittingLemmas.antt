@@ -40,9 +40,11 @@ use Rattle.mh_model.specs.Variables.{operator_of}
 use Rattle.mh_model.specs.Bodies.{loaded}
 use Rattle.mh_model.specs.Saying.{event_numbered, sent, tested}
 use Rattle.mh_model.specs.Describing.{Piece, Tells, Lists, Slots, can_put, IsOf, IsOneOf, AreOf, kinds, emits_of, items_put, events_put, is_listed, EmitsWhatIsListed, IsEmitted, ListsWhatIsEmitted}
+use Rattle.mh_model.specs.Groups.{entering}
 use Rattle.mh_model.specs.Files.{by_content, comes_to, is_loadable}
 use Rattle.mh_model.proofs.ServiceLemmas.{and_left, and_right, all_joined}
 use Rattle.mh_model.proofs.DescribingLemmas.{puts_of}
+use Rattle.mh_model.proofs.LeadingLemmas.{entered_runs}
 
 ran_listed : (c : Class) → is_listed (run_events c) event.IsAvailable ≡ true
 ran_listed class.Text = refl
@@ -263,6 +265,10 @@ pieces_come fs r vs o es ps (i ∷ is) of h =
 told_listed : (fs : List File) (b : Bool) (n : ActionName) (vs : List Value) (r : ObjRef) (o : Object) → list_all (tells_in (emits n o.fixed.class)) (can_put n) ≡ true → list_all (is_listed (emits n o.fixed.class)) (events_put fs b n vs r o) ≡ true
 told_listed fs b n vs r o h = pieces_come fs r vs o (emits n o.fixed.class) (can_put n) (items_put fs b n vs r o) (puts_of fs b n vs r o) h
 
+-- a group that is entered
+enters_listed : (r : ObjRef) (o : Object) → list_all (is_listed (event.IsRunning ∷ [])) (kinds (entering r.group (o.fixed ∷ [])) ++ []) ≡ true
+enters_listed r o = ap (λ es. list_all (is_listed (event.IsRunning ∷ [])) (es ++ [])) (entered_runs r.group (o.fixed ∷ []))
+
 rule_listed : (fs : List File) (b : Bool) (n : ActionName) (vs : List Value) (r : ObjRef) (o : Object) → list_all (is_listed (emits n o.fixed.class)) (events_put fs b n vs r o) ≡ true
 rule_listed fs b action.Run vs r o = runs_come fs r o
 rule_listed fs b action.Activate vs r o = runs_come fs r o
@@ -275,6 +281,8 @@ rule_listed fs b action.Unload vs r o =
 rule_listed fs b action.SendEvent vs r o = sends_listed fs b vs r o
 rule_listed fs b action.TestVariable vs r o = tests_listed fs b vs r o
 rule_listed fs b action.SetData vs r o = data_listed fs b vs r o
+rule_listed fs b action.TransitionTo vs r o = enters_listed r o
+rule_listed fs b action.Launch vs r o = enters_listed r o
 rule_listed fs b action.CallActionSlot vs r o = told_listed fs b action.CallActionSlot vs r o refl
 rule_listed fs b action.SetInteractionStatus vs r o = told_listed fs b action.SetInteractionStatus vs r o refl
 rule_listed fs b action.SetHighlightStatus vs r o = told_listed fs b action.SetHighlightStatus vs r o refl
@@ -455,35 +463,41 @@ place_comes _ e h = absurd cc
 abbrev chosen : Listed
 chosen = items (entry 2 true ∷ entry 3 false ∷ []) 1
 
+enter_comes : (e : EventType) (r : ObjRef) (o : Object) → is_listed (event.IsRunning ∷ []) e ≡ true → is_listed (kinds (entering r.group (o.fixed ∷ [])) ++ []) e ≡ true
+enter_comes e r o h = ap (λ es. is_listed (es ++ []) e) (entered_runs r.group (o.fixed ∷ [])) ∙ h
+
 pub lists_emitted : ListsWhatIsEmitted
-lists_emitted action.Run c e some h = run_comes c e (admitted_only (admits c action.Run) (run_events c) e h)
-lists_emitted action.Activate c e some h = activate_comes c e h
-lists_emitted action.Stop c e some h = comes_as action.Stop c e [] true true (stop_comes c e (admitted_only (admits c action.Stop) (event.IsStopped ∷ []) e h))
-lists_emitted action.Deactivate c e some h = comes_as action.Deactivate c e [] true true (stop_comes c e (admitted_only (admits c action.Deactivate) (event.IsStopped ∷ []) e h))
-lists_emitted action.Preload c e some h =
+lists_emitted action.Run c e h = run_comes c e (admitted_only (admits c action.Run) (run_events c) e h)
+lists_emitted action.Activate c e h = activate_comes c e h
+lists_emitted action.Stop c e h = comes_as action.Stop c e [] true true (stop_comes c e (admitted_only (admits c action.Stop) (event.IsStopped ∷ []) e h))
+lists_emitted action.Deactivate c e h = comes_as action.Deactivate c e [] true true (stop_comes c e (admitted_only (admits c action.Deactivate) (event.IsStopped ∷ []) e h))
+lists_emitted action.Preload c e h =
     comes_as action.Preload c e [] false false (prepare_comes c e (admitted_only (admits c action.Preload) (prepare_events c) e h))
-lists_emitted action.Unload c e some h = comes_as action.Unload c e [] true true (unload_comes c e (admitted_only (admits c action.Unload) (event.IsStopped ∷ event.IsDeleted ∷ []) e h))
-lists_emitted action.SendEvent c e some h =
+lists_emitted action.Unload c e h = comes_as action.Unload c e [] true true (unload_comes c e (admitted_only (admits c action.Unload) (event.IsStopped ∷ event.IsDeleted ∷ []) e h))
+lists_emitted action.SendEvent c e h =
     comes_as action.SendEvent c e (value.Object (one c true true).fixed.key ∷ value.Int (pos (number_of e)) ∷ []) true true (sent_of_all c e)
-lists_emitted action.TestVariable c e some h =
+lists_emitted action.TestVariable c e h =
     comes_as action.TestVariable c e (value.Int (pos 1) ∷ value.Bool true ∷ []) true true (admitted_only (admits c action.TestVariable) (event.TestEvent ∷ []) e h)
-lists_emitted action.SetData c e some h =
+lists_emitted action.SetData c e h =
     comes_as action.SetData c e (value.Octets [] ∷ []) true true (admitted_only (admits c action.SetData) (event.ContentAvailable ∷ []) e h)
-lists_emitted action.Fork c e some h = comes_as action.Fork c e [] true true (admitted_only (admits c action.Fork) (event.AsyncStopped ∷ []) e h)
-lists_emitted action.SetInteractionStatus c e some h =
+lists_emitted action.Fork c e h = comes_as action.Fork c e [] true true (admitted_only (admits c action.Fork) (event.AsyncStopped ∷ []) e h)
+lists_emitted action.SetInteractionStatus c e h =
     comes_with action.SetInteractionStatus c e (value.Bool false ∷ []) true true true no_list (admitted_only (admits c action.SetInteractionStatus) (event.InteractionCompleted ∷ []) e h)
-lists_emitted action.SetHighlightStatus c e some h = highlight_comes c e (admitted_only (admits c action.SetHighlightStatus) (event.HighlightOn ∷ event.HighlightOff ∷ []) e h)
-lists_emitted action.Select c e some h = comes_as action.Select c e [] true true (admitted_only (admits c action.Select) (event.IsSelected ∷ []) e h)
-lists_emitted action.Deselect c e some h =
+lists_emitted action.SetHighlightStatus c e h = highlight_comes c e (admitted_only (admits c action.SetHighlightStatus) (event.HighlightOn ∷ event.HighlightOff ∷ []) e h)
+lists_emitted action.Select c e h = comes_as action.Select c e [] true true (admitted_only (admits c action.Select) (event.IsSelected ∷ []) e h)
+lists_emitted action.Deselect c e h =
     record { values = []; object = marked c; class = refl; interacts = false; comes = admitted_only (admits c action.Deselect) (event.IsDeselected ∷ []) e h }
-lists_emitted action.Move c e some h = row_comes c e h
-lists_emitted action.MoveTo c e some h = place_comes c e h
-lists_emitted action.CallActionSlot c e some h = let never : false ≡ true = admitted_only (admits c action.CallActionSlot) [] e h in absurd cc
-lists_emitted action.AddItem c e some h = add_comes c e h
-lists_emitted action.DelItem c e some h = delete_comes c e h
-lists_emitted action.ScrollItems c e some h = scroll_comes c e h
-lists_emitted action.SetFirstItem c e some h = first_comes c e h
-lists_emitted action.SelectItem c e some h = comes_with action.SelectItem c e (number 2) false true true chosen (admitted_only (admits c action.SelectItem) (event.ItemDeselected ∷ event.ItemSelected ∷ []) e h)
-lists_emitted action.ToggleItem c e some h = comes_with action.ToggleItem c e (number 2) false true true chosen (admitted_only (admits c action.ToggleItem) (event.ItemDeselected ∷ event.ItemSelected ∷ []) e h)
-lists_emitted action.DeselectItem c e some h = comes_with action.DeselectItem c e (number 1) false true true chosen (admitted_only (admits c action.DeselectItem) (event.ItemDeselected ∷ []) e h)
-lists_emitted _ c e some h = absurd cc
+lists_emitted action.Move c e h = row_comes c e h
+lists_emitted action.MoveTo c e h = place_comes c e h
+lists_emitted action.TransitionTo c e h =
+    comes_as action.TransitionTo c e [] true true (enter_comes e (one c true true).fixed.key (one c true true) (admitted_only (admits c action.TransitionTo) (event.IsRunning ∷ []) e h))
+lists_emitted action.Launch c e h =
+    comes_as action.Launch c e [] true true (enter_comes e (one c true true).fixed.key (one c true true) (admitted_only (admits c action.Launch) (event.IsRunning ∷ []) e h))
+lists_emitted action.AddItem c e h = add_comes c e h
+lists_emitted action.DelItem c e h = delete_comes c e h
+lists_emitted action.ScrollItems c e h = scroll_comes c e h
+lists_emitted action.SetFirstItem c e h = first_comes c e h
+lists_emitted action.SelectItem c e h = comes_with action.SelectItem c e (number 2) false true true chosen (admitted_only (admits c action.SelectItem) (event.ItemDeselected ∷ event.ItemSelected ∷ []) e h)
+lists_emitted action.ToggleItem c e h = comes_with action.ToggleItem c e (number 2) false true true chosen (admitted_only (admits c action.ToggleItem) (event.ItemDeselected ∷ event.ItemSelected ∷ []) e h)
+lists_emitted action.DeselectItem c e h = comes_with action.DeselectItem c e (number 1) false true true chosen (admitted_only (admits c action.DeselectItem) (event.ItemDeselected ∷ []) e h)
+lists_emitted n c e h = let never : false ≡ true = admitted_only (admits c n) [] e h in absurd cc

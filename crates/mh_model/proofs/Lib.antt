@@ -6,6 +6,7 @@ pub mod ServiceLemmas
 pub mod FaultLemmas
 pub mod ListedLemmas
 pub mod DescribingLemmas
+pub mod LeadingLemmas
 pub mod GivingLemmas
 pub mod EmittingLemmas
 pub mod WorkLemmas

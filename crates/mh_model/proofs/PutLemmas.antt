@@ -35,7 +35,7 @@ use Rattle.mh_model.specs.Arguments.{values}
 use Rattle.mh_model.specs.Bodies.{stored}
 use Rattle.mh_model.specs.Lifecycle.{members_run, members_halted, group_runs, group_halts, token_told}
 use Rattle.mh_model.specs.Tokens.{members, slot_actions}
-use Rattle.mh_model.specs.Describing.{Piece, is_sent, is_list_piece, is_slot_piece, can_put, IsOf, IsOneOf, AreOf}
+use Rattle.mh_model.specs.Describing.{Piece, is_sent, is_list_piece, is_way_piece, is_slot_piece, can_put, IsOf, IsOneOf, AreOf}
 use Rattle.mh_model.specs.Rules.{changed, filled, placed_at, all_placed}
 use Rattle.mh_model.specs.Configuration.{present}
 use Rattle.mh_model.specs.Active.{are_direct, is_empty, member_faults}
@@ -92,12 +92,14 @@ named_first v c os action.SendEvent a xs q d e sends first = first_there v c os 
 named_first v c os _ a xs q d e sends first = absurd cc
 
 -- What has to hold where an action puts items of these pieces, done with these values to this object: what it is done
--- to is there, and what it names to send an event; its slots do nothing that can be stuck; and it is no list.
+-- to is there, and what it names to send an event; its slots do nothing that can be stuck; and it is no list and no
+-- transition.
 pub record Grounds (v : Service) (cs : List Config) (c : Config) (r : ObjRef) (vs : List Value) (o : Object) (ps : List Piece) : Type 0 where
   pub here_it : is_there r (present v c) ≡ true
   pub named : list_any is_sent ps ≡ true → (q : ObjRef) → slice_get vs 0 ≡ Some (value.Object q) → is_there q (present v c) ≡ true
   pub slots : list_any is_slot_piece ps ≡ true → list_all (is_fine v cs c) (slot_actions o.fixed) ≡ true
   pub unlisted : list_any is_list_piece ps ≡ true → false ≡ true
+  pub stays : list_any is_way_piece ps ≡ true → false ≡ true
 
 or_first : (a b : Bool) → a ≡ true → (a || b) ≡ true
 or_first true b h = refl
@@ -113,6 +115,7 @@ rest_grounds v cs c r vs o p ps g = record {
   named = λ h. g.named (or_second (is_sent p) (list_any is_sent ps) h);
   slots = λ h. g.slots (or_second (is_slot_piece p) (list_any is_slot_piece ps) h);
   unlisted = λ h. g.unlisted (or_second (is_list_piece p) (list_any is_list_piece ps) h);
+  stays = λ h. g.stays (or_second (is_way_piece p) (list_any is_way_piece ps) h);
 }
 
 -- an item of a piece, in front of safe work
@@ -126,6 +129,8 @@ safe_piece v cs c r vs o piece.Sends ps (item.Emit e) rest of g k = (g.named ref
 safe_piece v cs c r vs o piece.Slots ps (item.Act a) rest of g k = (All-contains (λ (x : Act). is_fine v cs c x ≡ true) (slot_actions o.fixed) a (AllPass-from_list_all (is_fine v cs c) (slot_actions o.fixed) (g.slots refl)) of, k)
 safe_piece v cs c r vs o piece.Lists ps (item.RunMember x) rest of g k = let never : false ≡ true = g.unlisted refl in absurd cc
 safe_piece v cs c r vs o piece.Lists ps (item.HaltMember x) rest of g k = let never : false ≡ true = g.unlisted refl in absurd cc
+safe_piece v cs c r vs o piece.Enters ps i rest of g k = let never : false ≡ true = g.stays refl in absurd cc
+safe_piece v cs c r vs o piece.Ends ps i rest of g k = let never : false ≡ true = g.stays refl in absurd cc
 safe_piece v cs c r vs o _ ps _ rest of g k = absurd cc
 
 safe_one : (v : Service) (cs : List Config) (c : Config) (r : ObjRef) (vs : List Value) (o : Object) (ps : List Piece) (i : Item) (rest : List Item) → IsOneOf r vs o ps i → Grounds v cs c r vs o ps → IsSafeWork v cs c rest → IsSafeWork v cs c (i ∷ rest)
@@ -138,12 +143,13 @@ safe_all v cs c r vs o ps [] rest of g k = k
 safe_all v cs c r vs o ps (i ∷ is) rest of g k = safe_one v cs c r vs o ps i (is ++ rest) of.0 g (safe_all v cs c r vs o ps is rest of.1 g k)
 
 -- the grounds of an action with which nothing is wrong
-pub grounds : (v : Service) (cs : List Config) (c : Config) (os : List Object) (r : ObjRef) (o : Object) (n : ActionName) (a : Act) (xs : List Argument) → are_direct (needs_of n) xs ≡ true → arguments_faults (known_before v (present v c)) a (needs_of n) xs ≡ [] → is_there r (present v c) ≡ true → (list_any is_slot_piece (can_put n) ≡ true → list_all (is_fine v cs c) (slot_actions o.fixed) ≡ true) → (list_any is_list_piece (can_put n) ≡ true → false ≡ true) → Grounds v cs c r (values os xs) o (can_put n)
-grounds v cs c os r o n a xs d e here_it slots unlisted = record {
+pub grounds : (v : Service) (cs : List Config) (c : Config) (os : List Object) (r : ObjRef) (o : Object) (n : ActionName) (a : Act) (xs : List Argument) → are_direct (needs_of n) xs ≡ true → arguments_faults (known_before v (present v c)) a (needs_of n) xs ≡ [] → is_there r (present v c) ≡ true → (list_any is_slot_piece (can_put n) ≡ true → list_all (is_fine v cs c) (slot_actions o.fixed) ≡ true) → (list_any is_list_piece (can_put n) ≡ true → false ≡ true) → (list_any is_way_piece (can_put n) ≡ true → false ≡ true) → Grounds v cs c r (values os xs) o (can_put n)
+grounds v cs c os r o n a xs d e here_it slots unlisted stays = record {
   here_it = here_it;
   named = λ sends q. named_first v c os n a xs q d e sends;
   slots = slots;
   unlisted = unlisted;
+  stays = stays;
 }
 
 -- Members that a group runs or halts

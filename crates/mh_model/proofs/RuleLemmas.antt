@@ -1,8 +1,9 @@
 -- A rule keeps a state safe. Here `rest` is the work behind the item, and `n` the number of steps.
 use Rattle.std.specs.Prelude.{◌≡◌, ℕ, Bool, true, false, ◌&&◌, if◌then◌else◌, List, [], ◌∷◌, ◌++◌, Option, Some, None, refl}
+use Rattle.std.specs.List.{list_any}
 use Rattle.std.specs.Option.{option_map_or, is_some}
 use Rattle.std.specs.Cmp.Derive.{both_true}
-use Rattle.std.proofs.Common.{sym, subst, append_assoc, ◌∙◌}
+use Rattle.std.proofs.Common.{ap, sym, subst, append_assoc, ◌∙◌}
 use Rattle.mh_base.specs.declared.obj_ref.ObjRef.{ObjRef}
 use Rattle.mh_base.specs.declared.value.Value.{Value}
 use Rattle.mh_base.specs.declared.value.Value.TheVariants as value
@@ -39,7 +40,7 @@ use Rattle.mh_model.specs.Bodies.{prepared, started, halted, dropped, replaced, 
 use Rattle.mh_model.specs.Saying.{answers_at, put_items, put_items_at, call_items, interaction_items}
 use Rattle.mh_model.specs.Widget.{Worked}
 use Rattle.mh_model.specs.Worked.{worked, is_interacting, ended_of}
-use Rattle.mh_model.specs.Describing.{can_put}
+use Rattle.mh_model.specs.Describing.{is_way_piece, can_put}
 use Rattle.mh_model.specs.Rules.{changed, all_placed, loaded_with, load_rule, called, widget_at, interaction_set, interact_rule, rule_by, emitted, rule, noted}
 use Rattle.mh_model.specs.Configuration.{present, is_among}
 use Rattle.mh_model.specs.Active.{is_none, is_direct, are_direct, is_good, fault_of, leads_to, has_known_id}
@@ -110,20 +111,31 @@ safe_interact s k action.GetInteractionStatus vs rs r rest n fit behind_it =
     kept_bodies s k _ s.stack rest n (filled-own rs told s.objects) (filled-others rs told s.objects) behind_it
 safe_interact s k _ vs rs r rest n fit behind_it = kept_work s k rest s.transition n behind_it
 
+abbrev is_whole : Sort → Bool
+is_whole sort.Whole = true
+is_whole _ = false
+
+-- an action that leads elsewhere is a matter of the whole machine
+no_way : (n : ActionName) (k : Sort) → sort_of n ≡ k → is_whole k ≡ false → list_any is_way_piece (can_put n) ≡ true → false ≡ true
+no_way action.TransitionTo k is other some = sym (ap is_whole is ∙ other)
+no_way action.Launch k is other some = sym (ap is_whole is ∙ other)
+no_way action.Quit k is other some = sym (ap is_whole is ∙ other)
+no_way _ k is other some = some
+
 -- the grounds of an action with which nothing is wrong, done to an object that is found
-grounds_now : (s : State) (k : IsSafe s) (a : Act) (r : ObjRef) (o : Object) → object_at r (all s.objects) ≡ Some o → are_direct (needs_of a.name) a.arguments ≡ true → admitted_faults (known_before s.service (present s.service (config_of s))) a.name r ≡ [] → arguments_faults (known_before s.service (present s.service (config_of s))) a (needs_of a.name) a.arguments ≡ [] → Grounds s.service k.accepted.reached (config_of s) r (values (all s.objects) a.arguments) o (can_put a.name)
-grounds_now s k a r o e d fit good =
+grounds_now : (s : State) (k : IsSafe s) (a : Act) (r : ObjRef) (o : Object) → object_at r (all s.objects) ≡ Some o → are_direct (needs_of a.name) a.arguments ≡ true → admitted_faults (known_before s.service (present s.service (config_of s))) a.name r ≡ [] → arguments_faults (known_before s.service (present s.service (config_of s))) a (needs_of a.name) a.arguments ≡ [] → (list_any is_way_piece (can_put a.name) ≡ true → false ≡ true) → Grounds s.service k.accepted.reached (config_of s) r (values (all s.objects) a.arguments) o (can_put a.name)
+grounds_now s k a r o e d fit good stays =
     grounds s.service k.accepted.reached (config_of s) (all s.objects) r o a.name a a.arguments d good (there s k r (found_there r (all s.objects) o e))
-    (slots_safe s k a.name r o e fit) (unlisted s k a.name r o e fit)
+    (slots_safe s k a.name r o e fit) (unlisted s k a.name r o e fit) stays
 
 -- an action with which nothing is wrong, by what kind of thing it does
-safe_by_sort : (s : State) (k : IsSafe s) (o : Sort) (a : Act) (r : ObjRef) (rest : List Item) (n : ℕ) → are_direct (needs_of a.name) a.arguments ≡ true → admitted_faults (known_before s.service (present s.service (config_of s))) a.name r ≡ [] → arguments_faults (known_before s.service (present s.service (config_of s))) a (needs_of a.name) a.arguments ≡ [] → option_map_or (is_among k.accepted.reached) (leads_to s.service (config_of s) a.name r) true ≡ true → IsSafeWork s.service k.accepted.reached (config_of s) rest → IsSafe (rule_by o a.name a.arguments r (record s { work = rest; taken = n }))
-safe_by_sort s k sort.Change a r rest n d fit good led behind_it =
+safe_by_sort : (s : State) (k : IsSafe s) (o : Sort) (a : Act) (r : ObjRef) (rest : List Item) (n : ℕ) → sort_of a.name ≡ o → are_direct (needs_of a.name) a.arguments ≡ true → admitted_faults (known_before s.service (present s.service (config_of s))) a.name r ≡ [] → arguments_faults (known_before s.service (present s.service (config_of s))) a (needs_of a.name) a.arguments ≡ [] → option_map_or (is_among k.accepted.reached) (leads_to s.service (config_of s) a.name r) true ≡ true → IsSafeWork s.service k.accepted.reached (config_of s) rest → IsSafe (rule_by o a.name a.arguments r (record s { work = rest; taken = n }))
+safe_by_sort s k sort.Change a r rest n is d fit good led behind_it =
     kept_bodies s k _ s.stack rest n (changed-own (changed_by a.name (values (all s.objects) a.arguments)) r s.objects) (changed-others (changed_by a.name (values (all s.objects) a.arguments)) r s.objects) behind_it
-safe_by_sort s k sort.Ask a r rest n d fit good led behind_it =
+safe_by_sort s k sort.Ask a r rest n is d fit good led behind_it =
     let told : List Value = answers_at a.name (values (all s.objects) a.arguments) (object_at r (all s.objects)) in
     kept_bodies s k _ s.stack rest n (filled-own (receivers a.arguments) told s.objects) (filled-others (receivers a.arguments) told s.objects) behind_it
-safe_by_sort s k sort.Put a r rest n d fit good led behind_it =
+safe_by_sort s k sort.Put a r rest n is d fit good led behind_it =
     kept_work s k _ s.transition n (by (object_at r (all s.objects)) refl)
   where
     by : (m : Option Object) → object_at r (all s.objects) ≡ m → IsSafeWork s.service k.accepted.reached (config_of s) (put_items_at a.name (values (all s.objects) a.arguments) r m ++ rest)
@@ -131,11 +143,11 @@ safe_by_sort s k sort.Put a r rest n d fit good led behind_it =
     by (Some o) e =
         let vs : List Value = values (all s.objects) a.arguments in
         safe_all s.service k.accepted.reached (config_of s) r vs o (can_put a.name) (put_items a.name vs r o) rest (plain_puts a.name vs r o)
-        (grounds_now s k a r o e d fit good) behind_it
-safe_by_sort s k sort.Load a r rest n d fit good led behind_it = safe_load s k (values (all s.objects) a.arguments) r rest n behind_it
-safe_by_sort s k sort.Call a r rest n d fit good led behind_it = safe_call s k _ _ a.name a.arguments r rest n fit behind_it
-safe_by_sort s k sort.Order a r rest n d fit good led behind_it = kept_bodies s k s.objects _ rest n refl refl behind_it
-safe_by_sort s k sort.Widget a r rest n d fit good led behind_it = by (object_at r (all s.objects)) refl
+        (grounds_now s k a r o e d fit good (no_way a.name sort.Put is refl)) behind_it
+safe_by_sort s k sort.Load a r rest n is d fit good led behind_it = safe_load s k (values (all s.objects) a.arguments) r rest n behind_it
+safe_by_sort s k sort.Call a r rest n is d fit good led behind_it = safe_call s k _ _ a.name a.arguments r rest n fit behind_it
+safe_by_sort s k sort.Order a r rest n is d fit good led behind_it = kept_bodies s k s.objects _ rest n refl refl behind_it
+safe_by_sort s k sort.Widget a r rest n is d fit good led behind_it = by (object_at r (all s.objects)) refl
   where
     vs : List Value
     vs = values (all s.objects) a.arguments
@@ -147,9 +159,10 @@ safe_by_sort s k sort.Widget a r rest n d fit good led behind_it = by (object_at
         let os : Objects = changed (λ p b. w.body) r s.objects in
         kept_bodies s k (all_placed w.placed os) s.stack (w.items ++ rest) n
         (placed-own w.placed os ∙ changed-own (λ p b. w.body) r s.objects) (placed-others w.placed os ∙ changed-others (λ p b. w.body) r s.objects)
-        (safe_all s.service k.accepted.reached (config_of s) r vs o (can_put a.name) w.items rest (widget_puts a.name vs r o) (grounds_now s k a r o e d fit good) behind_it)
-safe_by_sort s k sort.Interact a r rest n d fit good led behind_it = safe_interact s k a.name (values (all s.objects) a.arguments) (receivers a.arguments) r rest n fit behind_it
-safe_by_sort s k sort.Whole a r rest n d fit good led behind_it =
+        (safe_all s.service k.accepted.reached (config_of s) r vs o (can_put a.name) w.items rest (widget_puts a.name vs r o)
+        (grounds_now s k a r o e d fit good (no_way a.name sort.Widget is refl)) behind_it)
+safe_by_sort s k sort.Interact a r rest n is d fit good led behind_it = safe_interact s k a.name (values (all s.objects) a.arguments) (receivers a.arguments) r rest n fit behind_it
+safe_by_sort s k sort.Whole a r rest n is d fit good led behind_it =
     safe_whole s k a.name (values (all s.objects) a.arguments) r rest n fit led behind_it
 
 safe_action : (s : State) (k : IsSafe s) (a : Act) (rest : List Item) (n : ℕ) → IsSafeItem s.service k.accepted.reached (config_of s) (item.Act a) → IsSafeWork s.service k.accepted.reached (config_of s) rest → IsSafe (rule (item.Act a) (record s { work = rest; taken = n }))
@@ -166,7 +179,7 @@ safe_action s k a rest n fine behind_it = by a.target fine
         let none = none_wrong (faults before b) (and_left (is_none (fault_of s.service (present s.service (config_of s)) b)) (is_direct b) first) in
         let front : List Fault = admitted_faults before a.name r ++ called_faults before b in
         let behind_them : List Fault = arguments_faults before b (needs_of a.name) a.arguments in
-        safe_by_sort s k (sort_of a.name) b r rest n
+        safe_by_sort s k (sort_of a.name) b r rest n refl
         (and_right (is_none (fault_of s.service (present s.service (config_of s)) b)) (is_direct b) first)
         (empty_left (admitted_faults before a.name r) (called_faults before b) (empty_left front behind_them none))
         (empty_right front behind_them none)

@@ -1,12 +1,13 @@
 -- The first example, played by the definitions alone: one application that transits to a scene with a
 -- red rectangle, which moves by one cell when the red key comes.
-use Rattle.std.specs.Prelude.{◌≡◌, ◌==◌, if◌then◌else◌, ℕ, Bool, true, List, [], ◌∷◌, pos, replicate}
+use Rattle.std.specs.Prelude.{◌≡◌, ◌==◌, ◌&&◌, if◌then◌else◌, ℕ, Bool, true, List, [], ◌∷◌, pos, replicate}
 use Rattle.std.specs.List.{list_all, list_any, range_with_len}
 use Rattle.mh_base.specs.declared.value.Value.TheVariants as value
 use Rattle.mh_base.specs.declared.event.EventType.TheVariants as event
 use Rattle.mh_group.specs.declared.class.Class.TheVariants as class
 use Rattle.mh_group.specs.declared.action_name.ActionName.TheVariants as action
 use Rattle.mh_group.specs.declared.attribute.Attribute.TheVariants as attribute
+use Rattle.mh_model.specs.declared.cell.Cell.{Cell}
 use Rattle.mh_model.specs.declared.act.Act.{Act}
 use Rattle.mh_model.specs.declared.fault.Fault.{Fault}
 use Rattle.mh_model.specs.declared.fault.FaultKind.TheVariants as fault
@@ -93,9 +94,14 @@ moved_on = run (move.Post (input.Key key.Red) ∷ steps 2) settled
 abbrev pub back_of : State → ℕ → ℕ
 back_of x c = (cell_at (all x.objects) x.stack c).back
 
--- of the 60 by 36 cells, counted row by row, exactly these are red, and all others are black
+-- a cell without a character, and with this colour behind it
+abbrev pub is_plain : ℕ → Cell → Bool
+is_plain colour c = c.scalar == 32 && c.fore == 0 && c.back == colour
+
+-- of the 60 by 36 cells, counted row by row, exactly these are red, and all others are black, and none has a character
 abbrev pub shows_red : List ℕ → State → Bool
-shows_red cells x = list_all (λ c. back_of x c == (if list_any (λ y. y == c) cells then 16711680 else 0)) (range_with_len 0 2160)
+shows_red cells x =
+    list_all (λ c. is_plain (if list_any (λ y. y == c) cells then 16711680 else 0) (cell_at (all x.objects) x.stack c)) (range_with_len 0 2160)
 
 -- it settles after 11 steps with the cells (1, 1) to (2, 2) red, and 2 steps after the red key with those one
 -- to the right

@@ -1,10 +1,12 @@
 //! What follows from an action beforehand, against its rule.
-ghost use Rattle.mh_model.specs.Describing.{PutsWhatItCan, GivesWhatItSays, ListsWhatItSays, AnswersItems};
+ghost use Rattle.mh_model.specs.Describing.{PutsWhatItCan, PutsByItsRule, GivesWhatItSays, ListsWhatItSays, AnswersItems};
 ghost use Rattle.mh_model.specs.Describing.{EmitsWhatIsListed, ListsWhatIsEmitted};
 
-/// The law that what an action puts is of the pieces that its description lists.
+/// The law that what an action puts is of the pieces that its description lists, and that its rule puts just
+/// that.
 pub fn puts_what_it_can()
-    ensures { PutsWhatItCan }
+    ensures pieces { PutsWhatItCan }
+    ensures rule { PutsByItsRule }
 {}
 
 /// The law that an action hands on no reference but those that its description says, to a variable or a

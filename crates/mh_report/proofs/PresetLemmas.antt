@@ -1,5 +1,5 @@
 -- A file that an engine takes or refuses before the first move, by the state alone.
-use Rattle.std.specs.Prelude.{◌≡◌, Bool, true, false, Option, Some, None, MatchOption, Result, Ok, Err, OnOk, IfErr, IsErrAnd, if◌then◌else◌, refl}
+use Rattle.std.specs.Prelude.{◌≡◌, Option, Some, None, MatchOption, Result, Ok, Err, OnOk, IfErr, IsErrAnd, refl}
 use Rattle.std.specs.Option.{option_map}
 use Rattle.std.proofs.Common.{ap, ◌∙◌, sym, subst}
 use Rattle.mh_model.specs.declared.file.File.{File}
@@ -18,7 +18,7 @@ use Rattle.mh_report.specs.Presets.{tried, tried_by, unset}
 
 -- what an engine answers to a file, in the words of its contract
 abbrev pub IsAnswer : File → Play → Result (Unit {0}) RefusedFile → Type 0
-IsAnswer f p r = MatchOption (preset_refusal f p) (IfErr r (λ x. x.why ≡ refused.NoMemory)) (λ why. IsErrAnd r (λ x. x.why ≡ why))
+IsAnswer f p r = MatchOption (preset_refusal f p.state) (IfErr r (λ x. x.why ≡ refused.NoMemory)) (λ why. IsErrAnd r (λ x. x.why ≡ why))
 
 fails_itself : (e : Unplayable) → Fails {Y = State} e (Err e)
 fails_itself (unplayable.File name number offset) = refl
@@ -26,24 +26,23 @@ fails_itself (unplayable.Service number group) = refl
 fails_itself (unplayable.Script number) = refl
 fails_itself unplayable.NoMemory = tt
 
-by_why : (stopped : Bool) (o : Option Obstacle) (f : File) (s : State) (why : RefusedWhy) → stopped ≡ false
-    → MatchOption (if stopped then Some refused.Begun else option_map refusal_for o) (why ≡ refused.NoMemory) (λ w. why ≡ w) → Fails (unset why f) (tried_by o f s)
-by_why true o f s why running told = absurd cc
-by_why false None f s why running told = subst (λ (w : RefusedWhy). Fails (unset w f) (tried_by None f s)) (sym told) tt
-by_why false (Some o) f s why running told = subst (λ (w : RefusedWhy). Fails (unset w f) (tried_by (Some o) f s)) (sym told) (fails_itself (unset (refusal_for o) f))
+by_why : (o : Option Obstacle) (f : File) (s : State) (why : RefusedWhy)
+    → MatchOption (option_map refusal_for o) (why ≡ refused.NoMemory) (λ w. why ≡ w) → Fails (unset why f) (tried_by o f s)
+by_why None f s why told = subst (λ (w : RefusedWhy). Fails (unset w f) (tried_by None f s)) (sym told) tt
+by_why (Some o) f s why told = subst (λ (w : RefusedWhy). Fails (unset w f) (tried_by (Some o) f s)) (sym told) (fails_itself (unset (refusal_for o) f))
 
--- refused by an engine that has not stopped
-pub refused_file : (f copy : File) (p : Play) (r : Result (Unit {0}) RefusedFile) (x : RefusedFile) (said : Unplayable) → copy ≡ f → p.stopped ≡ false → r ≡ Err x
+-- refused
+pub refused_file : (f copy : File) (p : Play) (r : Result (Unit {0}) RefusedFile) (x : RefusedFile) (said : Unplayable) → copy ≡ f → r ≡ Err x
     → IsAnswer copy p r → said ≡ unset x.why f → Fails said (tried f p.state)
-refused_file f copy p r x said same running is told line =
+refused_file f copy p r x said same is told line =
     let answer : IsAnswer f p (Err x) = subst (IsAnswer f p) is (subst (λ (g : File). IsAnswer g p r) same told) in
-    subst (λ (e : Unplayable). Fails e (tried f p.state)) (sym line) (by_why p.stopped (preset_obstacle f p.state) f p.state x.why running answer)
+    subst (λ (e : Unplayable). Fails e (tried f p.state)) (sym line) (by_why (preset_obstacle f p.state) f p.state x.why answer)
 
 -- taken
 pub taken_file : (f copy : File) (p new : Play) (r : Result (Unit {0}) RefusedFile) (u : Unit {0}) → copy ≡ f → r ≡ Ok u → OnOk r (new ≡ record p { state = preset copy p.state })
-    → OnOk r ((p.stopped ≡ false) × (preset_obstacle copy p.state ≡ None)) → tried f p.state ≡ Ok new.state
+    → OnOk r (preset_obstacle copy p.state ≡ None) → tried f p.state ≡ Ok new.state
 taken_file f copy p new r u same is did free =
     let next : new ≡ record p { state = preset copy p.state } = subst (λ (x : Result (Unit {0}) RefusedFile). OnOk x (new ≡ record p { state = preset copy p.state })) is did in
-    let none : preset_obstacle copy p.state ≡ None = (subst (λ (x : Result (Unit {0}) RefusedFile). OnOk x ((p.stopped ≡ false) × (preset_obstacle copy p.state ≡ None))) is free).1 in
+    let none : preset_obstacle copy p.state ≡ None = subst (λ (x : Result (Unit {0}) RefusedFile). OnOk x (preset_obstacle copy p.state ≡ None)) is free in
     let at : preset_obstacle f p.state ≡ None = subst (λ (g : File). preset_obstacle g p.state ≡ None) same none in
     ap (λ (o : Option Obstacle). tried_by o f p.state) at ∙ ap (λ (g : File). Ok (preset g p.state)) (sym same) ∙ ap (λ (q : Play). Ok q.state) (sym next)

@@ -8,7 +8,6 @@ use Rattle.mh_model.specs.Picture.{shown}
 use Rattle.mh_model.specs.State.{State}
 use Rattle.mh_model.specs.Step.{advanced, posted}
 use Rattle.mh_machine.specs.Rest.{rest_of}
-use Rattle.mh_engine.specs.Play.{Play}
 use Rattle.mh_engine.specs.Answer.{post_refusal, refusal_number}
 use Rattle.mh_engine.specs.declared.refusal.RefusedWhy.{RefusedWhy}
 use Rattle.mh_report.specs.declared.script.Command.{Command}
@@ -45,13 +44,9 @@ abbrev pub why_line : Option RefusedWhy → List ℕ
 why_line None = []
 why_line (Some why) = number_line (refusal_number why)
 
--- an engine in this state that has not stopped
-abbrev pub going : State → Play
-going s = record { state = s; stopped = false; accepted = false }
-
 -- nothing is printed of a post that is taken
 abbrev pub post_lines : Input → State → List ℕ
-post_lines i s = why_line (post_refusal i (going s))
+post_lines i s = why_line (post_refusal i s)
 
 -- what happened up to this state since there were so many steps and so many faults: the faults since
 -- then, the steps, and whether there is more to do

@@ -127,7 +127,8 @@ fn play_service<S: Sink>(
     commands: &[Command],
     sink: &mut S,
 ) -> Result<Status, PlayError>
-    requires { S.failures sink.old < 2 ^ 64 - 1 }
+    requires plain { service.programs ≡ [] }
+    requires room { S.failures sink.old < 2 ^ 64 - 1 }
     ensures report { OnOk result (Appends (S.written sink.old) (S.written sink.new) (play_lines commands.now (opened service mjd files.now))) }
     ensures status { IfOk result (λ status. status ≡ play_status commands.now (opened service mjd files.now)) }
     ensures cut { OnErr result (IsBeginning (S.written sink.old) (S.written sink.new) (play_lines commands.now (opened service mjd files.now))) }

@@ -53,6 +53,7 @@ impl Player {
         mjd: u32,
         files: &[File],
     ) -> Result<Player, Unplayable>
+        requires plain { service.programs ≡ [] }
         ensures opened { Gives (λ player. player) result (opened service mjd files.now) }
         ensures fresh { IfOk result (λ player. player.frames ≡ 0) }
     {
@@ -90,7 +91,6 @@ impl Player {
         frame: Picture,
         files: &[File],
     ) -> Result<Player, Unplayable>
-        requires running { engine.stopped ≡ false }
         requires black { frame ≡ blank }
         ensures opened { Gives (λ player. player) result (begins (presets files.now engine.state)) }
         ensures fresh { IfOk result (λ player. player.frames ≡ 0) }
@@ -148,7 +148,7 @@ impl Player {
     {
         let steps = self.engine.taken();
         let faults = self.engine.faults().len();
-        make_steps(&mut self.engine, limit)?;
+        self.engine.advance(limit)?;
         progress(self.alloc, &self.engine, steps, faults)
     }
 
@@ -236,17 +236,6 @@ impl Plays for Player {
         sink: &mut S,
     ) -> Result<Status, PlayError> {
         self.play(commands, sink)
-    }
-}
-
-/// Makes so many steps, or as many as there is something to do. An engine stops only where memory was
-/// refused.
-fn make_steps(engine: &mut Engine, limit: u32) -> Result<(), AllocError>
-    ensures { OnOk result (engine.new.state ≡ advanced limit engine.old.state) }
-{
-    match engine.advance(limit) {
-        Ok(()) => Ok(()),
-        Err(_) => Err(AllocError),
     }
 }
 

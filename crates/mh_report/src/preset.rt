@@ -1,5 +1,5 @@
 //! Content files that are put there before the first move.
-ghost use Rattle.std.specs.Prelude.{◌≡◌, Ok, false, IfOk, IfErr, OnOk};
+ghost use Rattle.std.specs.Prelude.{◌≡◌, Ok, IfOk, IfErr, OnOk};
 ghost use Rattle.mh_report.specs.Reading.{Fails};
 ghost use Rattle.mh_report.specs.Presets.{presets, tried, unset as unset_lem};
 
@@ -11,7 +11,6 @@ use std::alloc::{AllocError, Global};
 
 /// Puts the files there, in order, up to the first that is refused.
 pub fn preset_all(alloc: Global, engine: &mut Engine, files: &[File]) -> Result<(), Unplayable>
-    requires { engine.old.stopped ≡ false }
     ensures set { OnOk result (presets files.now engine.old.state ≡ Ok engine.new.state) }
     ensures refused { IfErr result (λ why. Fails why (presets files.now engine.old.state)) }
 {
@@ -23,10 +22,8 @@ pub fn preset_all(alloc: Global, engine: &mut Engine, files: &[File]) -> Result<
 
 /// Puts a file there.
 fn preset(alloc: Global, engine: &mut Engine, file: &File) -> Result<(), Unplayable>
-    requires { engine.old.stopped ≡ false }
     ensures set { OnOk result (tried file.now engine.old.state ≡ Ok engine.new.state) }
     ensures refused { IfErr result (λ why. Fails why (tried file.now engine.old.state)) }
-    ensures running { OnOk result (engine.new.stopped ≡ false) }
 {
     match engine.preset(copied(file)?) {
         Ok(()) => Ok(()),

@@ -10,15 +10,13 @@ use mh_model::text::Text;
 use mh_model::told::{put_did, put_fault, put_refused};
 use std::alloc::{AllocError, Global};
 
-/// The line on a refused post. An engine stops only where memory was refused, so that this is said.
+/// The line on a refused post. There is none on want of memory.
 pub fn refusal(alloc: Global, why: RefusedWhy) -> Result<Text, AllocError>
     ensures line { IfOk result (λ text. text ≡ why_line (Some why)) }
     ensures memory { OnOk result (why ≡ RefusedWhy.NoMemory → ⊥) }
-    ensures running { OnOk result (why ≡ RefusedWhy.Stopped → ⊥) }
 {
     match why {
         RefusedWhy::NoMemory => Err(AllocError),
-        RefusedWhy::Stopped => Err(AllocError),
         _ => numbered(alloc, why.number()),
     }
 }

@@ -122,6 +122,15 @@ impl Service {
         self.programs.as_slice()
     }
 
+    /// Puts these programs of a receiver in the place of those that it has, and answers these.
+    #[tactic(auto, unfolding(mh_model::specs::Configuration::is_service, mh_model::specs::Configuration::has_keys))]
+    pub fn exchange_programs(&mut self, programs: Vec<Signature>) -> Vec<Signature>
+        ensures exchanged { self.new ≡ record self.old { programs = programs.items } }
+        ensures before { result.items ≡ self.old.programs }
+    {
+        std::mem::replace(&mut self.programs, programs)
+    }
+
     /// The service beside these programs of a receiver.
     #[tactic(auto, unfolding(mh_model::specs::Configuration::is_service, mh_model::specs::Configuration::has_keys))]
     pub fn with_programs(self, programs: Vec<Signature>) -> Service
