@@ -2,3 +2,4 @@ pub mod RunLemmas
 pub mod SafeEngine
 pub mod StartLemmas
 pub mod ReceiverLemmas
+pub mod BesideLemmas

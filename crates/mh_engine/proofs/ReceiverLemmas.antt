@@ -12,7 +12,6 @@ use Rattle.mh_model.specs.Step.{is_empty, is_settled, step}
 use Rattle.mh_model.specs.Limits.{most_steps}
 use Rattle.mh_model.proofs.ReceiverLemmas.{uncalled_step}
 use Rattle.mh_engine.specs.Answer.{is_ready}
-use Rattle.mh_engine.specs.Play.{Play}
 use Rattle.mh_engine.specs.Told.{IsTold}
 
 -- what was said of a call
@@ -66,15 +65,13 @@ unready true full e room = refl
 unready false true e room = room refl
 unready false false e room = absurd cc
 
--- an engine that is not ready, and has not stopped, has nothing left to do
-pub at_rest : (p : Play) → is_ready p ≡ false → p.stopped ≡ false → (p.state.taken ≡ most_steps → is_settled p.state ≡ true) → is_settled p.state ≡ true
-at_rest p e running room =
-    unready (is_settled p.state) (p.state.taken == most_steps)
-    (ap (λ (b : Bool). (not b && not (is_settled p.state)) && not (p.state.taken == most_steps)) (sym running) ∙ e)
-    (λ full. room (eqb-true p.state.taken most_steps full))
+-- where an engine is not ready, and yet makes a step, nothing is left to do
+at_rest : (s : State) → is_ready s ≡ false → (s.taken ≡ most_steps → is_settled s ≡ true) → is_settled s ≡ true
+at_rest s e room =
+    unready (is_settled s) (s.taken == most_steps) e (λ full. room (eqb-true s.taken most_steps full))
 
-pub steps_resting : {A E : Type 0} (ss : List Signature) (may : Call → Outcome → Type 0) (p : Play) (t : State) (r : Result A E) → is_ready p ≡ false → OnOk r (p.stopped ≡ false)
-    → OnOk r (p.state.taken ≡ most_steps → is_settled p.state ≡ true) → OnOk r (t ≡ step p.state) → OnOk r (IsStep ss may p.state t)
-steps_resting {A} {E} ss may p t (Ok a) e running room is =
-    subst (λ (x : State). IsStep ss may p.state x) (sym is) (uncalled_step ss may p.state (rest_next ss p.state (at_rest p e running room)))
-steps_resting {A} {E} ss may p t (Err x) e running room is = tt
+pub steps_resting : {A E : Type 0} (ss : List Signature) (may : Call → Outcome → Type 0) (s t : State) (r : Result A E) → is_ready s ≡ false
+    → OnOk r (s.taken ≡ most_steps → is_settled s ≡ true) → OnOk r (t ≡ step s) → OnOk r (IsStep ss may s t)
+steps_resting {A} {E} ss may s t (Ok a) e room is =
+    subst (λ (x : State). IsStep ss may s x) (sym is) (uncalled_step ss may s (rest_next ss s (at_rest s e room)))
+steps_resting {A} {E} ss may s t (Err x) e room is = tt

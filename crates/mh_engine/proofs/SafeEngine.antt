@@ -34,6 +34,9 @@ KeepsSafe p = p.accepted ≡ true → IsSafe p.state
 pub kept_front : (p : Play) → KeepsSafe p → p.accepted ≡ true → front_fault p.state ≡ None
 kept_front p keeps accepted = safe_front p.state (keeps accepted)
 
+pub kept_faults : (p : Play) → KeepsSafe p → p.accepted ≡ true → p.state.faults ≡ []
+kept_faults p keeps accepted = (safe_faultless p.state (keeps accepted)).faults
+
 -- however an engine whose service was accepted is run, no item is stuck then and no fault was noted
 pub kept_run : (p : Play) → KeepsSafe p → (ms : List Move) (s : State) → s ≡ run ms p.state → p.accepted ≡ true → IsFaultless s
 kept_run p keeps ms s is accepted = subst IsFaultless (sym is) (safe_faultless (run ms p.state) (safe_run ms p.state (keeps accepted)))

@@ -1,5 +1,6 @@
 //! What an engine does for whoever plays it beside programs of a receiver.
-ghost use Rattle.std.specs.Prelude.{◌≡◌, map, true, false, IfOk, IfErr};
+ghost use Rattle.std.specs.Prelude.{◌≡◌, map, true, false, [], None, IfOk, IfErr};
+ghost use Rattle.mh_model.specs.Headline.{front_fault};
 ghost use Rattle.mh_model.specs.State.{begun};
 ghost use Rattle.mh_model.specs.Receiver.{call_next as call_next_lem, told};
 ghost use Rattle.mh_engine.specs.Answer.{is_ready as is_ready_lem};
@@ -82,5 +83,13 @@ impl Engine {
         ensures before { result ≡ self.old.state.said }
     {
         self.machine.hear(said)
+    }
+
+    /// What is known of an engine whose service was accepted.
+    pub(crate) fn vouch(&self)
+        ensures never { self.now.accepted ≡ true → front_fault self.now.state ≡ None }
+        ensures faultless { self.now.accepted ≡ true → self.now.state.faults ≡ [] }
+    {
+        let _ = &self.accepted;
     }
 }

@@ -10,6 +10,7 @@ pub mod engine;
 mod passing;
 pub mod receiver;
 pub mod refusal;
+mod running;
 pub mod runs;
 
 pub use engine::Engine;

@@ -26,8 +26,8 @@ use std::alloc::{AllocError, Global};
 /// ResidentProgram).
 #[derive(Drop)]
 pub struct Receiver<P: Resident> {
-    engine: Engine,
-    programs: Vec<P>,
+    pub(crate) engine: Engine,
+    pub(crate) programs: Vec<P>,
 }
 
 /// An accepted service that was not started beside these programs. Both are handed back.
@@ -171,6 +171,8 @@ impl<P: Resident> Receiver<P> {
         ensures never { self.old.engine.accepted ≡ true → front_fault self.old.engine.state ≡ None }
         ensures faultless { IfOk result (λ answer. self.old.engine.accepted ≡ true → is_faulted answer ≡ false) }
         ensures room { OnOk result (self.old.engine.state.taken ≡ most_steps → is_settled self.old.engine.state ≡ true) }
+        ensures full { IsErrOf result StepError.CountFull →
+            (self.old.engine.state.taken ≡ most_steps) × (is_settled self.old.engine.state ≡ false) }
         ensures refused { MatchOption (step_refusal self.old.engine.state)
             (IfErr result (λ why. (why ≡ StepError.NoMemory) × (is_settled self.old.engine.state ≡ false)))
             (λ why. IsErrOf result why) }
@@ -181,19 +183,11 @@ impl<P: Resident> Receiver<P> {
         match self.ask() {
             Ok(Some(said)) => self.step_by(said),
             Ok(None) => self.engine.step(),
-            Err(_) => self.refused_step(),
+            Err(_) => {
+                self.engine.vouch();
+                Err(StepError::NoMemory)
+            }
         }
-    }
-
-    /// A step for which a program, or what it is asked with, was refused memory.
-    fn refused_step(&self) -> Result<Stepped, StepError>
-        requires { is_ready self.now.engine.state ≡ true }
-        ensures why { IsErrOf result StepError.NoMemory }
-        ensures more { is_settled self.now.engine.state ≡ false }
-        ensures never { self.now.engine.accepted ≡ true → front_fault self.now.engine.state ≡ None }
-    {
-        let _ = &self.engine.accepted;
-        Err(StepError::NoMemory)
     }
 
     /// What comes of the call that the next step makes, if it makes one.

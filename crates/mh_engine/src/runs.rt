@@ -36,7 +36,8 @@ fn step_on(engine: &mut Engine) -> Result<(), StepError>
     Ok(())
 }
 
-fn post_copy_or_pass(engine: &mut Engine, input: &Input) -> Result<(), StepError>
+/// A copy of an input is posted. One that is refused for what the state is is passed over.
+pub(crate) fn post_copy_or_pass(engine: &mut Engine, input: &Input) -> Result<(), StepError>
     ensures made { OnOk result (engine.new.state ≡ posted input.now engine.old.state) }
     ensures kept { OnErr result (engine.new ≡ engine.old) }
     ensures same { engine.new.accepted ≡ engine.old.accepted }

@@ -32,6 +32,8 @@ mod engine;
 #[cfg(test)]
 mod examples;
 #[cfg(test)]
+mod families;
+#[cfg(test)]
 mod files;
 #[cfg(test)]
 mod group;

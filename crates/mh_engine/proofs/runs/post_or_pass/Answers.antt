@@ -19,17 +19,11 @@ told why (inr (inr (inr (inr (inl e))))) = (obstacle.TooMany, e)
 told why (inr (inr (inr (inr (inr (inl e)))))) = (obstacle.ClockFull, e)
 told why (inr (inr (inr (inr (inr (inr e)))))) = (obstacle.QueueFull, e)
 
-pub returns-in-Ended : goal.returns-in-Ended
-returns-in-Ended c =
+pub returns-in-Ended-clause-made : goal.returns-in-Ended-clause-made
+returns-in-Ended-clause-made c =
     let o = told c.why_refused.result c.in-Ended.is in
     let barred = c.in-Err.ensures.barred o.0 (sym c.why_refused.ensures ∙ o.1) in
-    let kept = c.in-Err.ensures.kept in
-    record {
-      made = ap (λ (p : Play). p.state) kept ∙ sym (ap (λ (m : Option Obstacle). posted_by m c.args.input c.args.engine.now.state) barred.1);
-      running = (barred.0, ap (λ (p : Play). p.stopped) kept ∙ barred.0);
-      kept = tt;
-      same = ap (λ (p : Play). p.accepted) kept;
-      stopped = tt;
-      other = tt;
-      flag = ap (λ (p : Play). p.stopped) kept;
-    }
+    ap (λ (p : Play). p.state) c.in-Err.ensures.kept ∙ sym (ap (λ (m : Option Obstacle). posted_by m c.args.input c.args.engine.now.state) barred)
+
+pub returns-in-Ended-clause-same : goal.returns-in-Ended-clause-same
+returns-in-Ended-clause-same c = ap (λ (p : Play). p.accepted) c.in-Err.ensures.kept

@@ -7,6 +7,4 @@ abbrev pub invariant-loop-made : goal.invariant-loop-made
 invariant-loop-made l =
     (l.engine.state ≡ run (take l.made l.moves) l.fn.engine.state)
     × (are_counted (take l.made l.moves) l.fn.engine.state ≡ true)
-    × (l.engine.stopped ≡ l.fn.engine.stopped)
-    × (l.engine.stopped ≡ true → l.made ≡ 0)
     × (l.engine.accepted ≡ l.fn.engine.accepted)

@@ -1,6 +1,0 @@
-use Rattle.std.proofs.Common.{subst}
-use Rattle.mh_engine.proofs.SafeEngine.{KeepsSafe, kept_front}
-use Rattle.mh_engine.proofs.engine.Engine.stop.Goals as goal
-
-pub returns-clause-never : goal.returns-clause-never
-returns-clause-never c = kept_front c.args.self.now (subst KeepsSafe c.self.view_is c.self.invariant)
