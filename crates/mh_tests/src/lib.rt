@@ -46,6 +46,14 @@ mod lengths;
 #[cfg(test)]
 mod limits;
 #[cfg(test)]
+mod look_examples;
+#[cfg(test)]
+mod look_parts;
+#[cfg(test)]
+mod look_reading;
+#[cfg(test)]
+mod looking;
+#[cfg(test)]
 mod notations;
 #[cfg(test)]
 mod objects;

@@ -1,44 +1,14 @@
-//! Turns what `redplay play` prints into something to look at.
+//! The program that turns what `redplay play` prints into something to look at: the command line is
+//! read and done by `mh_look`, and here is the exit status.
 #![tactic(auto)]
 
-pub mod characters;
-pub mod checksum;
-pub mod command_line;
-pub mod difference;
-mod doing;
-pub mod escape;
-#[cfg(test)]
-mod example_tests;
-mod fault;
-pub mod font;
-pub mod frame;
-pub mod frames;
-mod front;
-pub mod image;
-mod last;
-mod line;
-#[cfg(test)]
-mod looking_tests;
-pub mod number;
-mod outline;
-pub mod page;
-mod program;
-#[cfg(test)]
-mod reading_tests;
-pub mod report;
-pub mod row;
-mod run;
-pub mod show;
-mod shown;
-mod source;
-mod telling;
-
-use command_line::line_of;
-use doing::done;
-use source::Failure;
+use mh_look::{Failure, Outcome, done, line_of};
 use std::process::ExitCode;
 use std::rt::Runtime;
 use std::{env, io};
+
+/// The exit status where two reports differ.
+const DIFFERENT: u8 = 1;
 
 /// The exit status where a report or a frame could not be had, or the command line is wrong.
 const REFUSED: u8 = 2;
@@ -61,7 +31,8 @@ fn status_of<R: Runtime + AllocGlobal>(rt: &R) -> io::Result<u8> {
         }
     };
     match done(rt, &task) {
-        Ok(status) => Ok(status),
+        Ok(Outcome::Written) => Ok(0),
+        Ok(Outcome::Different) => Ok(DIFFERENT),
         Err(Failure::Failed) => Ok(FAILED),
         Err(failure) => {
             eprintln!(rt; "redlook: {failure}")?;

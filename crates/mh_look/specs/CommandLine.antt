@@ -1,0 +1,115 @@
+-- The command line: the subcommands and options that there are, and what the words ask for. How words are read
+-- against them, what is refused and under which kind, are the definitions of `clap`.
+use Rattle.std.specs.Prelude.{ℕ, Bool, true, false, if◌then◌else◌, List, [], Option, Some, None, codes, unwrap_or, option_map}
+use Rattle.std.specs.Option.{option_map_or}
+use Rattle.std.specs.Str.{bytes_eq}
+use Rattle.std.specs.Str.Parse.{digits_value, without_leading_plus}
+use Rattle.clap.specs.Words.{App, Row, Rule, Text, first_of, new_app, new_rule, with_rule, with_subcommand}
+use Rattle.clap.specs.Simple.{on_top}
+use Rattle.clap.specs.ValueTests.{is_unsigned_in}
+use Rattle.clap.specs.declared.builder.action.ArgAction.TheVariants.{Set, SetTrue}
+use Rattle.clap.specs.declared.builder.value_parser.ValueParser.TheVariants as parser
+use Rattle.mh_look.specs.declared.command_line.Task.{Task}
+use Rattle.mh_look.specs.declared.command_line.Task.TheVariants as task
+
+-- The arguments.
+
+-- a file that has to be named
+abbrev pub file : Text → Rule
+file id = record (new_rule id) { required = true; action = Some Set }
+
+abbrev pub report : Rule
+report = file (codes "REPORT")
+
+abbrev pub other : Rule
+other = file (codes "OTHER")
+
+-- the largest number that a frame can be asked for under
+abbrev pub last_frame : ℕ
+last_frame = 1000000000
+
+-- the number of a frame
+abbrev pub frame : Rule
+frame = record (new_rule (codes "frame")) { long = Some (codes "frame"); action = Some Set; value_names = 1; parser = Some (parser.Unsigned 0 last_frame) }
+
+abbrev pub frame_required : Rule
+frame_required = record frame { required = true }
+
+abbrev pub plain : Rule
+plain = record (new_rule (codes "plain")) { long = Some (codes "plain"); action = Some SetTrue }
+
+-- The subcommands.
+
+abbrev pub show : App
+show = with_rule (with_rule (with_rule (new_app (codes "show")) report) frame) plain
+
+abbrev pub page : App
+page = with_rule (new_app (codes "page")) report
+
+abbrev pub image : App
+image = with_rule (with_rule (new_app (codes "image")) report) frame_required
+
+abbrev pub diff : App
+diff = with_rule (with_rule (new_app (codes "diff")) report) other
+
+-- the program without them: it has a version, and one of them has to be given
+abbrev pub bare : App
+bare = on_top (λ s. record s { has_version = true; subcommand_required = true }) (new_app (codes "redlook"))
+
+abbrev pub with_views : App
+with_views = with_subcommand (with_subcommand bare show.top) page.top
+
+abbrev pub program : App
+program = with_subcommand (with_subcommand with_views image.top) diff.top
+
+-- What is asked for.
+
+pub data Asked : Type 0 where
+  shown : (report : Text) (frame : Option ℕ) (plain : Bool) → Asked
+  paged : (report : Text) → Asked
+  drawn : (report : Text) (frame : Option ℕ) → Asked
+  compared : (first second : Text) → Asked
+
+-- the value of an argument; each that is read here is required
+abbrev pub text_of : Text → List Row → Text
+text_of id rows = unwrap_or (first_of id rows) []
+
+abbrev pub is_set : Text → List Row → Bool
+is_set id rows = option_map_or (λ t. bytes_eq t (codes "true")) (first_of id rows) false
+
+-- the number that a text writes; words with another text are refused, by the argument's rule
+abbrev pub number_in : Text → ℕ
+number_in t = if is_unsigned_in 0 last_frame t then digits_value 10 (without_leading_plus t) else 0
+
+abbrev pub frame_of : List Row → Option ℕ
+frame_of rows = option_map number_in (first_of (codes "frame") rows)
+
+-- what was found for the arguments of a subcommand
+
+abbrev pub showing : List Row → Asked
+showing rows = shown (text_of (codes "REPORT") rows) (frame_of rows) (is_set (codes "plain") rows)
+
+abbrev pub drawing : List Row → Asked
+drawing rows = drawn (text_of (codes "REPORT") rows) (frame_of rows)
+
+abbrev pub comparing : List Row → Asked
+comparing rows = compared (text_of (codes "REPORT") rows) (text_of (codes "OTHER") rows)
+
+-- the subcommand of this name
+abbrev pub asked_under : Text → List Row → Asked
+asked_under name rows =
+    if bytes_eq name (codes "show") then showing rows
+    else (if bytes_eq name (codes "image") then drawing rows
+    else (if bytes_eq name (codes "diff") then comparing rows else paged (text_of (codes "REPORT") rows)))
+
+-- one subcommand is required
+abbrev pub asked_by : Option (Text × List Row) → Asked
+asked_by (Some given) = asked_under given.0 given.1
+asked_by None = paged []
+
+-- what a task says
+abbrev pub said : Task → Asked
+said (task.Show report frame plain) = shown report.now frame plain
+said (task.Page report) = paged report.now
+said (task.Image report frame) = drawn report.now frame
+said (task.Diff first second) = compared first.now second.now

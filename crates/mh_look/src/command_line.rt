@@ -1,0 +1,148 @@
+//! The words of the command line: what the program is asked to do.
+//!
+//! What the words mean, which are refused and why are `clap`'s rules over `program`; the texts on a
+//! wrong command line are left to it too.
+ghost use Rattle.std.specs.Prelude.{◌≡◌, map, codes, true, IfOk, IfErr};
+ghost use Rattle.clap.specs.Words.{FailsBy, fault_of, found_of, kind_of, rows_of, subcommand_of, subcommand_rows_of, takes};
+ghost use Rattle.clap.specs.declared.error.kind.ErrorKind.TheVariants.{OutOfMemory};
+ghost use Rattle.mh_look.specs.CommandLine.{asked_by, asked_under, number_in as number_in_lem, frame_of as frame_of_lem, is_set as is_set_lem, said, text_of as text_of_lem};
+ghost use Rattle.mh_look.specs.CommandLine as spec;
+
+use crate::program::{LAST_FRAME, program};
+use clap::{ArgMatches, Error};
+use std::alloc::Global;
+use std::convert::AsStr;
+
+/// What is asked for, and which reports it is done with.
+#[derive(Drop)]
+pub enum Task<'a> {
+    /// The report in the terminal, or one frame of it.
+    Show {
+        report: &'a str,
+        frame: Option<u64>,
+        plain: bool,
+    },
+    /// The report as a page.
+    Page {
+        report: &'a str,
+    },
+    /// A frame as an image. Its number is required, and so it is there.
+    Image {
+        report: &'a str,
+        frame: Option<u64>,
+    },
+    /// Where two reports differ.
+    Diff {
+        first: &'a str,
+        second: &'a str,
+    },
+}
+
+/// What the words ask for. The first word is the program's own name.
+pub fn line_of<'a, S: AsStr>(alloc: Global, words: &'a [S]) -> Result<Task<'a>, Error>
+    ensures asked { IfOk result (λ task. said task ≡ asked_by (subcommand_of spec.program (map S.text words.entry.now))) }
+    ensures refused { FailsBy (fault_of spec.program (map S.text words.entry.now)) result }
+    ensures passes { IfErr result (λ e. takes spec.program (map S.text words.entry.now) ≡ true → kind_of e ≡ OutOfMemory) }
+{
+    let matches = matched(alloc, words)?;
+    Ok(task_of(&matches))
+}
+
+/// The words as they are read against the program.
+fn matched<'a, S: AsStr>(alloc: Global, words: &'a [S]) -> Result<ArgMatches<'a>, Error>
+    ensures found { IfOk result (λ m. subcommand_rows_of m ≡ subcommand_of spec.program (map S.text words.entry.now)) }
+    ensures refused { FailsBy (fault_of spec.program (map S.text words.entry.now)) result }
+    ensures passes { IfErr result (λ e. takes spec.program (map S.text words.entry.now) ≡ true → kind_of e ≡ OutOfMemory) }
+{
+    program(alloc)?.try_get_matches_from(words)
+}
+
+/// What is asked for. `program` requires a subcommand; were there none, `page` would be meant, of
+/// the empty path.
+fn task_of<'a>(matches: &ArgMatches<'a>) -> Task<'a>
+    ensures { said result ≡ asked_by (subcommand_rows_of matches.now) }
+{
+    match matches.subcommand() {
+        Some((name, given)) => task_under(name, given),
+        None => Task::Page { report: "" },
+    }
+}
+
+/// What the subcommand of this name asks for.
+fn task_under<'a>(name: &str, given: &ArgMatches<'a>) -> Task<'a>
+    ensures { said result ≡ asked_under name.now (rows_of (found_of given.now)) }
+{
+    match name {
+        "show" => showing(given),
+        "image" => drawing(given),
+        "diff" => comparing(given),
+        _ => Task::Page {
+            report: text_of(given, "REPORT"),
+        },
+    }
+}
+
+fn showing<'a>(given: &ArgMatches<'a>) -> Task<'a>
+    ensures { said result ≡ spec.showing (rows_of (found_of given.now)) }
+{
+    Task::Show {
+        report: text_of(given, "REPORT"),
+        frame: frame_of(given),
+        plain: is_plain(given),
+    }
+}
+
+fn drawing<'a>(given: &ArgMatches<'a>) -> Task<'a>
+    ensures { said result ≡ spec.drawing (rows_of (found_of given.now)) }
+{
+    Task::Image {
+        report: text_of(given, "REPORT"),
+        frame: frame_of(given),
+    }
+}
+
+fn comparing<'a>(given: &ArgMatches<'a>) -> Task<'a>
+    ensures { said result ≡ spec.comparing (rows_of (found_of given.now)) }
+{
+    Task::Diff {
+        first: text_of(given, "REPORT"),
+        second: text_of(given, "OTHER"),
+    }
+}
+
+/// The value of an argument that is required. Were there none, it would be the empty text.
+fn text_of<'a>(given: &ArgMatches<'a>, name: &str) -> &'a str
+    ensures { result.now ≡ text_of_lem name.now (rows_of (found_of given.now)) }
+{
+    given.get_str(name).unwrap_or("")
+}
+
+/// Whether colours are left out.
+fn is_plain<'a>(given: &ArgMatches<'a>) -> bool
+    ensures { result ≡ is_set_lem (codes "plain") (rows_of (found_of given.now)) }
+{
+    match given.get_str("plain") {
+        Some(text) => text == "true",
+        None => false,
+    }
+}
+
+/// The number of the frame that is asked for.
+fn frame_of<'a>(given: &ArgMatches<'a>) -> Option<u64>
+    ensures { result ≡ frame_of_lem (rows_of (found_of given.now)) }
+{
+    match given.get_str("frame") {
+        Some(text) => Some(number_in(text)),
+        None => None,
+    }
+}
+
+/// The number that a text writes. The argument's rule lets no other text through.
+fn number_in(text: &str) -> u64
+    ensures { result ≡ number_in_lem text.now }
+{
+    match text.parse::<u64>() {
+        Ok(number) if number <= LAST_FRAME => number,
+        _ => 0,
+    }
+}

@@ -1,0 +1,48 @@
+//! What `redplay play` prints, turned into something to look at: a report is read back, shown in a
+//! terminal, made a page or an image, or held against another.
+//!
+//! Promise: a report is read exactly where the bytes are the printed form of one, and what is made of
+//! it is exactly what is defined for it. The exit statuses are left to the program.
+#![tactic(auto)]
+
+mod characters;
+mod checksum;
+mod command_line;
+mod difference;
+mod doing;
+mod escape;
+mod fault;
+mod font;
+mod frame;
+mod frames;
+mod front;
+mod image;
+mod last;
+mod line;
+mod number;
+mod outline;
+mod page;
+mod program;
+mod report;
+mod row;
+mod run;
+mod show;
+mod shown;
+mod source;
+mod telling;
+
+pub use characters::read_characters;
+pub use checksum::{Adler, Crc};
+pub use command_line::{Task, line_of};
+pub use difference::{Difference, compare, first_difference};
+pub use doing::{Outcome, done};
+pub use escape::put_escaped;
+pub use font::is_inked;
+pub use frames::frame_at;
+pub use image::image_of;
+pub use number::{read_colour, read_number};
+pub use page::page_of;
+pub use report::{Part, ReadError, Report, read_report};
+pub use show::{harmless, put_frame, put_report};
+pub use source::Failure;
+pub use telling::told;

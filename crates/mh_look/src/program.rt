@@ -1,0 +1,163 @@
+//! The program as `clap` sees it: its subcommands and options, with the texts of its help.
+//!
+//! Promise: each function makes what the definition of its name in `specs/CommandLine` says.
+ghost use Rattle.std.specs.Prelude.{◌≡◌, false, IfOk};
+ghost use Rattle.clap.specs.Words.{app_of, new_app, rule_of};
+ghost use Rattle.clap.specs.declared.builder.command.Command.TheViews.{out-Command as fields_of};
+ghost use Rattle.mh_look.specs.CommandLine as spec;
+
+use clap::builder::ValueParser;
+use clap::{Arg, ArgAction, Command};
+use std::alloc::{AllocError, Global};
+
+/// The version that `--version` prints.
+const VERSION: &str = "0.1.0";
+
+/// The largest number that a frame can be asked for under.
+pub const LAST_FRAME: u64 = 1_000_000_000;
+
+/// The program with all its subcommands.
+pub fn program<'a>(alloc: Global) -> Result<Command<'a>, AllocError>
+    ensures { IfOk result (λ c. app_of c ≡ spec.program) }
+{
+    with_views(alloc)?
+        .subcommand(image(alloc)?)?
+        .subcommand(diff(alloc)?)
+}
+
+/// The program with the subcommands that show all of a report.
+fn with_views<'a>(alloc: Global) -> Result<Command<'a>, AllocError>
+    ensures { IfOk result (λ c. app_of c ≡ spec.with_views) }
+{
+    bare(alloc)
+        .subcommand(show(alloc)?)?
+        .subcommand(page(alloc)?)
+}
+
+/// The program without its subcommands.
+fn bare<'a>(alloc: Global) -> Command<'a>
+    ensures { app_of result ≡ spec.bare }
+{
+    Command::new(alloc, "redlook")
+        .version(VERSION)
+        .about("Shows what `redplay play` printed; a report `-` is read from standard input")
+        .subcommand_required(true)
+}
+
+fn show<'a>(alloc: Global) -> Result<Command<'a>, AllocError>
+    ensures app { IfOk result (λ c. app_of c ≡ spec.show) }
+    ensures local { IfOk result (λ c. (fields_of c).has_globals ≡ false) }
+{
+    described(
+        alloc,
+        "show",
+        "Shows the frames and lines of a report in the terminal",
+        "Example:\n  redlook show examples/page/report --frame 2",
+    )
+    .arg(report(alloc))?
+    .arg(frame(alloc))?
+    .arg(plain(alloc))
+}
+
+fn page<'a>(alloc: Global) -> Result<Command<'a>, AllocError>
+    ensures app { IfOk result (λ c. app_of c ≡ spec.page) }
+    ensures local { IfOk result (λ c. (fields_of c).has_globals ≡ false) }
+{
+    described(
+        alloc,
+        "page",
+        "Writes a page for a browser, which steps through the frames",
+        "Example:\n  redlook page examples/clock/report > clock.html",
+    )
+    .arg(report(alloc))
+}
+
+fn image<'a>(alloc: Global) -> Result<Command<'a>, AllocError>
+    ensures app { IfOk result (λ c. app_of c ≡ spec.image) }
+    ensures local { IfOk result (λ c. (fields_of c).has_globals ≡ false) }
+{
+    described(
+        alloc,
+        "image",
+        "Writes a frame as an image of 720 by 576 points, in the form PNG",
+        "Example:\n  redlook image examples/vote/report --frame 1 > vote.png",
+    )
+    .arg(report(alloc))?
+    .arg(frame_required(alloc))
+}
+
+fn diff<'a>(alloc: Global) -> Result<Command<'a>, AllocError>
+    ensures app { IfOk result (λ c. app_of c ≡ spec.diff) }
+    ensures local { IfOk result (λ c. (fields_of c).has_globals ≡ false) }
+{
+    described(
+        alloc,
+        "diff",
+        "Says in which frame and cell two reports first differ; the status is 1 if they do",
+        "Example:\n  redlook diff examples/page/report other",
+    )
+    .arg(report(alloc))?
+    .arg(other(alloc))
+}
+
+/// A subcommand with its texts, before it has arguments.
+fn described<'a>(alloc: Global, name: &'a str, about: &'a str, example: &'a str) -> Command<'a>
+    ensures app { app_of result ≡ new_app name.entry.now }
+    ensures local { (fields_of result).has_globals ≡ false }
+{
+    Command::new(alloc, name).about(about).after_help(example)
+}
+
+fn report<'a>(alloc: Global) -> Arg<'a>
+    ensures rule { rule_of result ≡ spec.report }
+    ensures local { result.global ≡ false }
+{
+    file(alloc, "REPORT")
+}
+
+fn other<'a>(alloc: Global) -> Arg<'a>
+    ensures rule { rule_of result ≡ spec.other }
+    ensures local { result.global ≡ false }
+{
+    file(alloc, "OTHER")
+}
+
+/// A file that has to be named.
+fn file<'a>(alloc: Global, name: &'a str) -> Arg<'a>
+    ensures rule { rule_of result ≡ spec.file name.entry.now }
+    ensures local { result.global ≡ false }
+{
+    Arg::new(alloc, name)
+        .required(true)
+        .action(ArgAction::Set)
+        .help("The file with the report, or `-`")
+}
+
+fn frame<'a>(alloc: Global) -> Arg<'a>
+    ensures rule { rule_of result ≡ spec.frame }
+    ensures local { result.global ≡ false }
+{
+    Arg::new(alloc, "frame")
+        .long("frame")
+        .action(ArgAction::Set)
+        .value_name("K")
+        .value_parser(ValueParser::unsigned(0, LAST_FRAME))
+        .help("The number of a frame, from 1")
+}
+
+fn frame_required<'a>(alloc: Global) -> Arg<'a>
+    ensures rule { rule_of result ≡ spec.frame_required }
+    ensures local { result.global ≡ false }
+{
+    frame(alloc).required(true)
+}
+
+fn plain<'a>(alloc: Global) -> Arg<'a>
+    ensures rule { rule_of result ≡ spec.plain }
+    ensures local { result.global ≡ false }
+{
+    Arg::new(alloc, "plain")
+        .long("plain")
+        .action(ArgAction::SetTrue)
+        .help("Show characters without colours")
+}

@@ -1,0 +1,131 @@
+//! What no contract says: sums and bytes that others worked out, and small reports as they are
+//! shown.
+use bstr::ByteSlice;
+use mh_look::{
+    Adler, Crc, Difference, Report, compare, frame_at, image_of, is_inked, page_of, put_escaped,
+    put_frame, put_report, read_report, told,
+};
+use mh_model::Picture;
+use mh_model::text::Text;
+use std::alloc::Global;
+
+/// A report with two frames, of which the second is black.
+const ONE: &str =
+    "did 1 idle\nframe 1\nrow 00: 0-0 ffffff/0000ff \"<\"\nframe 2\nrow 00:\ntotal 1\n";
+
+/// A report with one frame, which has one more cell than the first frame of the other.
+const OTHER: &str =
+    "frame 1\nrow 00: 0-0 ffffff/0000ff \"<\"\nrow 35: 59-59 ff0000/000000 \"a\"\ntotal 1\n";
+
+/// A report with a frame in which two orders to a terminal stand, and a character of two bytes.
+const ORDERS: &str = "frame 1\nrow 00: 0-2 ffffff/000000 \"\x1b\x07é\"\ntotal 0\n";
+
+fn read(alloc: Global, text: &str) -> Option<Report> {
+    read_report(alloc, text.as_bytes()).ok()
+}
+
+fn contains(text: &Text, part: &[u8]) -> bool {
+    text.as_slice().contains_str(part)
+}
+
+#[test]
+fn sums_are_those_of_others(rt: HostRuntime) {
+    let mut crc = Crc::new();
+    crc.add(b"1234");
+    crc.add(b"56789");
+    assert!(rt; crc.sum() == 0xCBF4_3926);
+    let mut adler = Adler::new();
+    adler.add(b"Wikipedia");
+    assert!(rt; adler.sum() == 0x11E6_0398);
+}
+
+#[test]
+fn an_image_has_its_chunks(rt: HostRuntime) {
+    let Ok(file) = Picture::black(rt.alloc()).and_then(|picture| image_of(rt.alloc(), &picture))
+    else {
+        panic!(rt; "no memory");
+    };
+    let bytes = file.as_slice();
+    assert!(rt; bytes.len() == 1_247_679);
+    assert!(rt;
+        bytes.starts_with(
+            b"\x89PNG\r\n\x1a\n\0\0\0\x0dIHDR\0\0\x02\xd0\0\0\x02\x40\x08\x02\0\0\0\x2b\x53\xc6\x88"
+        )
+    );
+    assert!(rt; bytes.ends_with(b"\0\0\0\0IEND\xae\x42\x60\x82"));
+}
+
+#[test]
+fn letters_look_like_letters(rt: HostRuntime) {
+    // the bar of a T, the stem below it, and the box for what is not there
+    assert!(rt; is_inked(84, 0, 0) && is_inked(84, 9, 1) && !is_inked(84, 0, 2));
+    assert!(rt; is_inked(84, 4, 13) && !is_inked(84, 6, 13));
+    assert!(rt; is_inked(0x2603, 0, 5) && !is_inked(0x2603, 4, 5) && !is_inked(32, 4, 4));
+}
+
+#[test]
+fn a_terminal_is_told_colours_only(rt: HostRuntime) {
+    let Some(report) = read(rt.alloc(), ORDERS) else {
+        panic!(rt; "no report");
+    };
+    let mut text = Text::new(rt.alloc());
+    assert!(rt; put_report(&mut text, &report, false).is_ok());
+    let row =
+        "\x1b[38;2;255;255;255m\x1b[48;2;0;0;0m\u{fffd}\u{fffd}é\x1b[38;2;0;0;0m\x1b[48;2;0;0;0m ";
+    assert!(rt; contains(&text, row.as_bytes()));
+    assert!(rt; contains(&text, b" \x1b[0m\n\x1b[38;2;"));
+    assert!(rt;
+        text.as_slice().starts_with(b"frame 1\n\x1b")
+            && text.as_slice().ends_with(b"\x1b[0m\ntotal 0\n")
+    );
+}
+
+#[test]
+fn a_frame_is_shown_alone(rt: HostRuntime) {
+    let Some(report) = read(rt.alloc(), ONE) else {
+        panic!(rt; "no report");
+    };
+    assert!(rt; frame_at(report.parts.as_slice(), 0).is_none());
+    assert!(rt; frame_at(report.parts.as_slice(), 3).is_none());
+    let Some(picture) = frame_at(report.parts.as_slice(), 1) else {
+        panic!(rt; "no frame");
+    };
+    let mut text = Text::new(rt.alloc());
+    assert!(rt; put_frame(&mut text, 1, picture, true).is_ok());
+    assert!(rt;
+        text.as_slice().starts_with(b"frame 1\n<   ") && text.as_slice().len() == 8 + 36 * 61
+    );
+}
+
+#[test]
+fn a_page_has_text_and_no_tags_of_a_report(rt: HostRuntime) {
+    let Some(report) = read(rt.alloc(), ONE) else {
+        panic!(rt; "no report");
+    };
+    let Ok(page) = page_of(rt.alloc(), &report) else {
+        panic!(rt; "no memory");
+    };
+    let cell =
+        b"<div><span class=c style=\"color:#ffffff;background:#0000ff\">&lt;</span><span style=";
+    assert!(rt; contains(&page, cell));
+    assert!(rt; contains(&page, b"<pre>did 1 idle\n</pre>\n<h2>frame 1</h2>"));
+    let mut text = Text::new(rt.alloc());
+    assert!(rt; put_escaped(&mut text, b"<a b=\"c\" d='&'>").is_ok());
+    assert!(rt; text.as_slice() == b"&lt;a b=&quot;c&quot; d=&#39;&amp;&#39;&gt;".as_slice());
+}
+
+#[test]
+fn differences_are_told(rt: HostRuntime) {
+    let (Some(one), Some(other)) = (read(rt.alloc(), ONE), read(rt.alloc(), OTHER)) else {
+        panic!(rt; "no report");
+    };
+    let same = compare(one.parts.as_slice(), one.parts.as_slice());
+    assert!(rt; matches!(same, Difference::Nowhere(2)));
+    let found = compare(one.parts.as_slice(), other.parts.as_slice());
+    assert!(rt; matches!(found, Difference::At(1, 2159)));
+    let Ok(text) = told(rt.alloc(), &one, &other, found) else {
+        panic!(rt; "no memory");
+    };
+    let line = b"frame 1 row 35 column 59: 000000/000000 \" \" and ff0000/000000 \"a\"\n";
+    assert!(rt; text.as_slice() == line.as_slice());
+}
