@@ -3,14 +3,18 @@ use Rattle.std.specs.Prelude.{◌≡◌, ℕ, ◌≤◌, Bool, true, false, if�
 use Rattle.std.specs.Borrow.{Bor}
 use Rattle.std.specs.Str.Parse.{ParsesUnsigned, digits_value, without_leading_plus}
 use Rattle.std.proofs.Common.{ap, arith, sym, subst, ◌∙◌}
-use Rattle.clap.specs.Words.{Text, first_of, first_value, rows_of}
+use Rattle.clap.specs.Words.{Text, first_of, first_value, kind_of, rows_of}
 use Rattle.clap.specs.Values.{IsUnsignedIn}
 use Rattle.clap.specs.ValueTests.{is_unsigned_in}
 use Rattle.clap.specs.declared.builder.value_parser.ValueParser.TheVariants as parser
+use Rattle.clap.specs.declared.error.Error.{Error}
+use Rattle.clap.specs.declared.error.kind.ErrorKind.TheVariants as kind
 use Rattle.clap.specs.declared.parser.matches.Found.{Found}
 use Rattle.clap.proofs.WalkLemmas.{first_value-rows}
 use Rattle.clap.proofs.ValueTestLemmas.{accepts-Accepts, Accepts-accepts}
-use Rattle.mh_look.specs.CommandLine.{number_in, last_frame}
+use Rattle.mh_look.specs.CommandLine.{IsToldAs, number_in, last_frame}
+use Rattle.mh_look.specs.declared.command_line_error.CommandLineError.{CommandLineError}
+use Rattle.mh_look.specs.declared.command_line_error.CommandLineError.TheVariants as error
 
 -- the first value of an argument, as the getter lends it
 pub lent : (f : Found) (id : Text) (answer : Option (Bor Text)) → option_map (λ s. s.now) answer ≡ first_value f id → first_of id (rows_of f) ≡ option_map (λ s. s.now) answer
@@ -46,3 +50,8 @@ number_unread {E} text (Err e) why read is =
 pub or_nothing : (o : Option (Bor (List ℕ))) (d r : Bor (List ℕ)) → r ≡ unwrap_or o d → r.now ≡ unwrap_or (option_map (λ (s : Bor (List ℕ)). s.now) o) d.now
 or_nothing None d r is = ap (λ (s : Bor (List ℕ)). s.now) is
 or_nothing (Some s) d r is = ap (λ (s : Bor (List ℕ)). s.now) is
+
+-- memory that was refused to `clap` is told as that
+pub passes_as : (e : Error) (told : CommandLineError) → IsToldAs e told → kind_of e ≡ kind.OutOfMemory → told ≡ error.NoMemory
+passes_as e error.NoMemory is memory = refl
+passes_as e (error.Refused f) is memory = absurd (is.1 memory)

@@ -1,16 +1,20 @@
 -- The command line: the subcommands and options that there are, and what the words ask for. How words are read
 -- against them, what is refused and under which kind, are the definitions of `clap`.
-use Rattle.std.specs.Prelude.{ℕ, Bool, true, false, if◌then◌else◌, List, [], Option, Some, None, codes, unwrap_or, option_map}
+use Rattle.std.specs.Prelude.{◌≡◌, ◌≢◌, ℕ, Bool, true, false, if◌then◌else◌, List, [], Option, Some, None, Result, MatchResult, codes, unwrap_or, option_map}
 use Rattle.std.specs.Option.{option_map_or}
 use Rattle.std.specs.Str.{bytes_eq}
 use Rattle.std.specs.Str.Parse.{digits_value, without_leading_plus}
-use Rattle.clap.specs.Words.{App, Row, Rule, Text, first_of, new_app, new_rule, with_rule, with_subcommand}
+use Rattle.clap.specs.Words.{App, IsAmong, Kinds, Row, Rule, Text, first_of, kind_of, new_app, new_rule, with_rule, with_subcommand}
 use Rattle.clap.specs.Simple.{on_top}
 use Rattle.clap.specs.ValueTests.{is_unsigned_in}
 use Rattle.clap.specs.declared.builder.action.ArgAction.TheVariants.{Set, SetTrue}
 use Rattle.clap.specs.declared.builder.value_parser.ValueParser.TheVariants as parser
+use Rattle.clap.specs.declared.error.Error.{Error}
+use Rattle.clap.specs.declared.error.kind.ErrorKind.TheVariants as kind
 use Rattle.mh_look.specs.declared.command_line.Task.{Task}
 use Rattle.mh_look.specs.declared.command_line.Task.TheVariants as task
+use Rattle.mh_look.specs.declared.command_line_error.CommandLineError.{CommandLineError}
+use Rattle.mh_look.specs.declared.command_line_error.CommandLineError.TheVariants as error
 
 -- The arguments.
 
@@ -113,3 +117,24 @@ said (task.Show report frame plain) = shown report.now frame plain
 said (task.Page report) = paged report.now
 said (task.Image report frame) = drawn report.now frame
 said (task.Diff first second) = compared first.now second.now
+
+-- Why words ask for nothing that can be done.
+
+-- what is told by the error of `clap`: that memory was refused, or the error as it is
+abbrev pub IsToldAs : Error → CommandLineError → Type 0
+IsToldAs told error.NoMemory = kind_of told ≡ kind.OutOfMemory
+IsToldAs told (error.Refused same) = (same ≡ told) × (kind_of told ≢ kind.OutOfMemory)
+
+-- memory that was refused is never told as a wrong command line
+abbrev pub IsApart : CommandLineError → Type 0
+IsApart error.NoMemory = Unit {0}
+IsApart (error.Refused told) = kind_of told ≢ kind.OutOfMemory
+
+-- memory was refused, or the words have one of the faults
+abbrev pub IsFault : Kinds → CommandLineError → Type 0
+IsFault kinds error.NoMemory = Unit {0}
+IsFault kinds (error.Refused told) = IsAmong (kind_of told) kinds
+
+-- a task comes only where the words have no fault
+abbrev pub IsRefusedBy : {T : Type 0} → Kinds → Result T CommandLineError → Type 0
+IsRefusedBy kinds r = MatchResult r (λ _. kinds ≡ []) (IsFault kinds)

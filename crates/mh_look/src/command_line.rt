@@ -1,13 +1,15 @@
 //! The words of the command line: what the program is asked to do.
 //!
 //! What the words mean, which are refused and why are `clap`'s rules over `program`; the texts on a
-//! wrong command line are left to it too.
+//! wrong command line are left to it too. Where memory was refused there is no text.
 ghost use Rattle.std.specs.Prelude.{◌≡◌, map, codes, true, IfOk, IfErr};
 ghost use Rattle.clap.specs.Words.{FailsBy, fault_of, found_of, kind_of, rows_of, subcommand_of, subcommand_rows_of, takes};
 ghost use Rattle.clap.specs.declared.error.kind.ErrorKind.TheVariants.{OutOfMemory};
-ghost use Rattle.mh_look.specs.CommandLine.{asked_by, asked_under, number_in as number_in_lem, frame_of as frame_of_lem, is_set as is_set_lem, said, text_of as text_of_lem};
+ghost use Rattle.mh_look.specs.CommandLine.{IsApart, IsRefusedBy, asked_by, asked_under, number_in as number_in_lem, frame_of as frame_of_lem, is_set as is_set_lem, said, text_of as text_of_lem};
 ghost use Rattle.mh_look.specs.CommandLine as spec;
+ghost use Rattle.mh_look.specs.declared.command_line_error.CommandLineError.TheVariants.{NoMemory};
 
+use crate::command_line_error::CommandLineError;
 use crate::program::{LAST_FRAME, program};
 use clap::{ArgMatches, Error};
 use std::alloc::Global;
@@ -39,10 +41,11 @@ pub enum Task<'a> {
 }
 
 /// What the words ask for. The first word is the program's own name.
-pub fn line_of<'a, S: AsStr>(alloc: Global, words: &'a [S]) -> Result<Task<'a>, Error>
+pub fn line_of<'a, S: AsStr>(alloc: Global, words: &'a [S]) -> Result<Task<'a>, CommandLineError>
     ensures asked { IfOk result (λ task. said task ≡ asked_by (subcommand_of spec.program (map S.text words.entry.now))) }
-    ensures refused { FailsBy (fault_of spec.program (map S.text words.entry.now)) result }
-    ensures passes { IfErr result (λ e. takes spec.program (map S.text words.entry.now) ≡ true → kind_of e ≡ OutOfMemory) }
+    ensures refused { IsRefusedBy (fault_of spec.program (map S.text words.entry.now)) result }
+    ensures passes { IfErr result (λ e. takes spec.program (map S.text words.entry.now) ≡ true → e ≡ NoMemory) }
+    ensures memory { IfErr result IsApart }
 {
     let matches = matched(alloc, words)?;
     Ok(task_of(&matches))

@@ -8,6 +8,7 @@
 mod characters;
 mod checksum;
 mod command_line;
+mod command_line_error;
 mod difference;
 mod doing;
 mod escape;
@@ -34,6 +35,7 @@ mod telling;
 pub use characters::read_characters;
 pub use checksum::{Adler, Crc};
 pub use command_line::{Task, line_of};
+pub use command_line_error::CommandLineError;
 pub use difference::{Difference, compare, first_difference};
 pub use doing::{Outcome, done};
 pub use escape::put_escaped;

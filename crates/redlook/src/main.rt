@@ -2,7 +2,7 @@
 //! read and done by `mh_look`, and here is the exit status.
 #![tactic(auto)]
 
-use mh_look::{Failure, Outcome, done, line_of};
+use mh_look::{CommandLineError, Failure, Outcome, done, line_of};
 use std::process::ExitCode;
 use std::rt::Runtime;
 use std::{env, io};
@@ -25,7 +25,8 @@ fn status_of<R: Runtime + AllocGlobal>(rt: &R) -> io::Result<u8> {
     let words = env::args(rt)?.collect::<Vec<String>>(rt.alloc())?;
     let task = match line_of(rt.alloc(), words.as_slice()) {
         Ok(task) => task,
-        Err(error) => {
+        Err(CommandLineError::NoMemory) => return Ok(FAILED),
+        Err(CommandLineError::Refused(error)) => {
             error.print(rt)?;
             return Ok(if error.use_stderr() { REFUSED } else { 0 });
         }
