@@ -62,6 +62,8 @@ mod programs;
 #[cfg(test)]
 mod receiver;
 #[cfg(test)]
+mod refusing;
+#[cfg(test)]
 mod report;
 #[cfg(test)]
 mod rows;
