@@ -10,6 +10,8 @@ mod base;
 #[cfg(test)]
 mod building;
 #[cfg(test)]
+mod calls;
+#[cfg(test)]
 mod cases;
 #[cfg(test)]
 mod codec;
