@@ -10,6 +10,8 @@ mod base;
 #[cfg(test)]
 mod building;
 #[cfg(test)]
+mod calls;
+#[cfg(test)]
 mod cases;
 #[cfg(test)]
 mod codec;
@@ -71,6 +73,8 @@ mod presets;
 mod programs;
 #[cfg(test)]
 mod receiver;
+#[cfg(test)]
+mod refusing;
 #[cfg(test)]
 mod report;
 #[cfg(test)]

@@ -83,17 +83,6 @@ lenient run|key red|run| @a {:Application ("~/a" 0) :OnStartUp ( :TransitionTo (
 @p {:Scene ("~/p" 0) :InputEventReg 3 :OnCloseDown ( :TransitionTo (("~/p" 0)) ) :Items ( {:Link 11
 :EventSource 0 :EventType UserInput :EventData 100 :LinkEffect ( :TransitionTo (("~/s" 0)) ) } ) } @scene
 => did 8 idle|did 14 idle|total 22|exit 0|;;
-three timers in one tick
-play run|tick 60000|run|show| @a {:Application ("~/a" 0) :OnStartUp ( :TransitionTo (("~/t" 0)) ) }
-@t {:Scene ("~/t" 0) :OnStartUp ( :SetTimer (0 1 500) :SetTimer (0 2 500) :SetTimer (0 3 100) ) :Items (
-{:IntegerVar 5 :OrigValue 0 } {:Rectangle 10 :OrigBoxSize 24 32 :OrigPosition 12 16 :OrigLineWidth 0
-:OrigRefFillColour '=FF=00=00=00' } {:Link 11 :EventSource 0 :EventType TimerFired :EventData 1 :LinkEffect (
-:Multiply (5 10) :Add (5 1) :SetPosition (10 :IndirectRef 5 16) ) } {:Link 12 :EventSource 0 :EventType
-TimerFired :EventData 2 :LinkEffect ( :Multiply (5 10) :Add (5 2) :SetPosition (10 :IndirectRef 5 16) ) }
-{:Link 13 :EventSource 0 :EventType TimerFired :EventData 3 :LinkEffect ( :Multiply (5 10) :Add (5 3)
-:SetTimer (0 3 100) :SetPosition (10 :IndirectRef 5 16) ) } ) }
-=> did 20 idle|did 14 idle|frame 1|row 01: 26-27 000000/ff0000 ""|row 02: 26-27 000000/ff0000 ""|total
-34|exit 0|;;
 a stream with two tags
 play run|stream 6|run|stream 7|run|show| @application
 @s {:Scene ("~/s" 0) :InputEventReg 3 :SceneCS 720 576 :Items ( {:Stream 8 } {:Rectangle 10 :OrigBoxSize 24 32

@@ -1,20 +1,25 @@
--- Arguments and subcommands that were added; what was found for an argument, and the day that a text writes.
-use Rattle.std.specs.Prelude.{◌≡◌, ℕ, ◌≤◌, ◌||◌, Bool, true, false, if◌then◌else◌, List, Option, Some, None, Result, Ok, Err, IfOk, option_map, refl}
+-- Arguments and subcommands that were added; what was found for an argument, and the day that a text writes; want of
+-- memory.
+use Rattle.std.specs.Prelude.{◌≡◌, ℕ, ◌≤◌, ◌||◌, Bool, true, false, if◌then◌else◌, Option, Some, None, Result, Ok, Err, IfErr, IfOk, IsErrAnd, option_map, refl}
 use Rattle.std.specs.Str.Parse.{ParsesUnsigned, digits_value, without_leading_plus}
 use Rattle.std.proofs.Common.{ap, ap₂, arith, sym, subst, ◌∙◌}
 use Rattle.std.proofs.lemmas.Result.{IfOk-weaker}
 use Rattle.std.specs.Borrow.{Bor}
-use Rattle.clap.specs.Words.{AddsArg, AddsSubcommand, App, Rule, Text, app_of, first_of, first_value, rows_of, rule_of, with_rule, with_subcommand}
+use Rattle.clap.specs.Words.{AddsArg, AddsSubcommand, App, Rule, Text, app_of, first_of, first_value, kind_of, rows_of, rule_of, with_rule, with_subcommand}
 use Rattle.clap.specs.declared.builder.arg.Arg.{Arg}
 use Rattle.clap.specs.declared.builder.command.Command.{Command}
 use Rattle.clap.specs.declared.builder.command.Command.TheViews.{out-Command as fields_of}
 use Rattle.clap.specs.Values.{IsUnsignedIn}
 use Rattle.clap.specs.ValueTests.{is_unsigned_in}
 use Rattle.clap.specs.declared.builder.value_parser.ValueParser.TheVariants as parser
+use Rattle.clap.specs.declared.error.Error.{Error}
+use Rattle.clap.specs.declared.error.kind.ErrorKind.TheVariants.{OutOfMemory}
 use Rattle.clap.specs.declared.parser.matches.Found.{Found}
 use Rattle.clap.proofs.WalkLemmas.{first_value-rows}
 use Rattle.clap.proofs.ValueTestLemmas.{accepts-Accepts, Accepts-accepts}
-use Rattle.redplay.specs.CommandLine.{day_in, last_day, usual_day}
+use Rattle.redplay.specs.CommandLine.{IsToldAs, day_in, last_day, usual_day}
+use Rattle.redplay.specs.declared.command_line.NoTask.{NoTask}
+use Rattle.redplay.specs.declared.command_line.NoTask.TheVariants as no_task
 
 -- a command with an argument more
 
@@ -78,3 +83,9 @@ day_unread {E} text (Ok d) why read is = absurd cc
 day_unread {E} text (Err e) why read is =
     let n : ℕ = digits_value 10 (without_leading_plus text) in
     sym (ap (λ (b : Bool). if b then n else usual_day) (no_day text (λ within. read (within.0, within.1))))
+
+-- what becomes of clap's want of memory, where nothing else can go wrong
+pub memory_told : {T : Type 0} (error : Error) (Fit : Type 0) (r : Result T NoTask) → IsErrAnd r (IsToldAs error) → (Fit → kind_of error ≡ OutOfMemory) → IfErr r (λ why. Fit → why ≡ no_task.NoMemory)
+memory_told error Fit (Ok x) told memory = absurd told
+memory_told error Fit (Err (no_task.Said said)) told memory = λ fit. absurd (told.1 (memory fit))
+memory_told error Fit (Err no_task.NoMemory) told memory = λ fit. refl

@@ -1,16 +1,20 @@
 -- The command line: the subcommands and options that there are, and what the words ask for. How words are read
 -- against them, what is refused and under which kind, are the definitions of `clap`.
-use Rattle.std.specs.Prelude.{ℕ, ◌≤◌, Bool, true, false, if◌then◌else◌, List, [], ◌∷◌, Option, Some, None, codes, unwrap_or}
+use Rattle.std.specs.Prelude.{◌≡◌, ◌≢◌, ℕ, ◌≤◌, Bool, true, false, if◌then◌else◌, List, [], ◌∷◌, Option, Some, None, Result, MatchResult, codes, unwrap_or}
 use Rattle.std.specs.Option.{option_map_or}
 use Rattle.std.specs.Str.{bytes_eq}
 use Rattle.std.specs.Str.Parse.{digits_value, without_leading_plus}
-use Rattle.clap.specs.Words.{App, Row, Rule, Text, first_of, new_app, new_rule, with_rule, with_subcommand}
+use Rattle.clap.specs.Words.{App, IsAmong, Kinds, Row, Rule, Text, first_of, kind_of, new_app, new_rule, with_rule, with_subcommand}
 use Rattle.clap.specs.Simple.{on_top}
 use Rattle.clap.specs.ValueTests.{is_unsigned_in}
 use Rattle.clap.specs.declared.builder.action.ArgAction.TheVariants.{Set, SetTrue}
 use Rattle.clap.specs.declared.builder.value_parser.ValueParser.TheVariants as parser
+use Rattle.clap.specs.declared.error.Error.{Error}
+use Rattle.clap.specs.declared.error.kind.ErrorKind.TheVariants.{OutOfMemory}
 use Rattle.mh_report.specs.declared.convert.Notation.{Notation}
 use Rattle.mh_report.specs.declared.convert.Notation.TheVariants as notation
+use Rattle.redplay.specs.declared.command_line.NoTask.{NoTask}
+use Rattle.redplay.specs.declared.command_line.NoTask.TheVariants as no_task
 use Rattle.redplay.specs.declared.command_line.Task.{Task}
 use Rattle.redplay.specs.declared.command_line.Task.TheVariants as task
 
@@ -136,3 +140,24 @@ said (task.Convert file to) = converted file.now to
 abbrev pub HasDay : Task → Type 0
 HasDay (task.Play source script lenient mjd) = mjd ≤ last_day
 HasDay t = Unit {0}
+
+-- Why no task is asked for.
+
+-- clap's error, in which want of memory is told apart from what is said
+abbrev pub IsToldAs : Error → NoTask → Type 0
+IsToldAs error (no_task.Said said) = (said ≡ error) × (kind_of error ≢ OutOfMemory)
+IsToldAs error no_task.NoMemory = kind_of error ≡ OutOfMemory
+
+-- what is said is never want of memory
+abbrev pub TellsNoMemory : NoTask → Type 0
+TellsNoMemory (no_task.Said error) = kind_of error ≢ OutOfMemory
+TellsNoMemory no_task.NoMemory = Unit {0}
+
+-- what is said is of one of these kinds
+abbrev pub IsOfKind : Kinds → NoTask → Type 0
+IsOfKind kinds (no_task.Said error) = IsAmong (kind_of error) kinds
+IsOfKind kinds no_task.NoMemory = Unit {0}
+
+-- a task is asked for only where there is no such kind, and what is said has one of them
+abbrev pub IsRefusedBy : {T : Type 0} → Kinds → Result T NoTask → Type 0
+IsRefusedBy kinds r = MatchResult r (λ _. kinds ≡ []) (IsOfKind kinds)

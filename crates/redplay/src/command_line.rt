@@ -5,10 +5,12 @@
 ghost use Rattle.std.specs.Prelude.{◌≡◌, ◌≤◌, map, codes, true, IfOk, IfErr};
 ghost use Rattle.clap.specs.Words.{FailsBy, fault_of, found_of, kind_of, rows_of, subcommand_of, subcommand_rows_of, takes};
 ghost use Rattle.clap.specs.declared.error.kind.ErrorKind.TheVariants.{OutOfMemory};
-ghost use Rattle.redplay.specs.CommandLine.{HasDay, asked_by, asked_under, day_in as day_in_lem, day_of as day_of_lem, is_set as is_set_lem, last_day, said, text_of as text_of_lem};
+ghost use Rattle.redplay.specs.CommandLine.{HasDay, IsRefusedBy, IsToldAs, TellsNoMemory, asked_by, asked_under, day_in as day_in_lem, day_of as day_of_lem, is_set as is_set_lem, last_day, said, text_of as text_of_lem};
+ghost use Rattle.redplay.specs.declared.command_line.NoTask.TheVariants.{NoMemory};
 ghost use Rattle.redplay.specs.CommandLine as spec;
 
 use crate::program::{LAST_DAY, program};
+use clap::error::ErrorKind;
 use clap::{ArgMatches, Error};
 use mh_report::Notation;
 use std::alloc::Global;
@@ -47,12 +49,33 @@ pub struct Source<'a> {
     pub start: &'a str,
 }
 
+/// Why the words ask for no task.
+#[derive(Drop)]
+pub enum NoTask {
+    /// They are wrong, or ask for help or for the version: `clap` has the text.
+    Said(Error),
+    NoMemory,
+}
+
+impl From<Error> for NoTask {
+    ghost from_gives = { IsToldAs };
+
+    fn from(error: Error) -> NoTask {
+        if error.kind() == ErrorKind::OutOfMemory {
+            NoTask::NoMemory
+        } else {
+            NoTask::Said(error)
+        }
+    }
+}
+
 /// What the words ask for. The first word is the program's own name.
-pub fn line_of<'a, S: AsStr>(alloc: Global, words: &'a [S]) -> Result<Task<'a>, Error>
+pub fn line_of<'a, S: AsStr>(alloc: Global, words: &'a [S]) -> Result<Task<'a>, NoTask>
     ensures asked { IfOk result (λ task. said task ≡ asked_by (subcommand_of spec.program (map S.text words.entry.now))) }
     ensures day { IfOk result HasDay }
-    ensures refused { FailsBy (fault_of spec.program (map S.text words.entry.now)) result }
-    ensures passes { IfErr result (λ e. takes spec.program (map S.text words.entry.now) ≡ true → kind_of e ≡ OutOfMemory) }
+    ensures refused { IsRefusedBy (fault_of spec.program (map S.text words.entry.now)) result }
+    ensures memory { IfErr result TellsNoMemory }
+    ensures passes { IfErr result (λ why. takes spec.program (map S.text words.entry.now) ≡ true → why ≡ NoMemory) }
 {
     let matches = matched(alloc, words)?;
     Ok(task_of(&matches))

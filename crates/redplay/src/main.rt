@@ -6,7 +6,7 @@ pub mod command_line;
 pub mod gather;
 mod program;
 
-use command_line::{Source, Task, line_of};
+use command_line::{NoTask, Source, Task, line_of};
 use gather::{Ungathered, gather, read_file};
 pub use mh_report::{
     ListSink, Notation, Options, PlayError, Sink, Status, WriterSink, check_bytes, convert_bytes,
@@ -29,10 +29,11 @@ fn run<R: Runtime + AllocGlobal>(rt: &R) -> io::Result<u8> {
     let words = env::args(rt)?.collect::<Vec<String>>(rt.alloc())?;
     let task = match line_of(rt.alloc(), words.as_slice()) {
         Ok(task) => task,
-        Err(error) => {
+        Err(NoTask::Said(error)) => {
             error.print(rt)?;
             return Ok(if error.use_stderr() { 2 } else { 0 });
         }
+        Err(NoTask::NoMemory) => return Ok(FAILED),
     };
     match done(rt, &task) {
         Ok(status) => Ok(status),

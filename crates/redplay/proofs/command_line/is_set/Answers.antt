@@ -1,7 +1,7 @@
 use Rattle.std.specs.Prelude.{ℕ, false, List, Option, codes}
 use Rattle.std.specs.Option.{option_map_or}
 use Rattle.std.specs.Str.{bytes_eq}
-use Rattle.std.proofs.Common.{rules, ap, sym, ◌∙◌}
+use Rattle.std.proofs.Common.{ap, sym, ◌∙◌}
 use Rattle.clap.specs.Words.{found_of}
 use Rattle.redplay.proofs.CommandLemmas.{value_found, none_found}
 use Rattle.redplay.proofs.command_line.is_set.Goals as goal

@@ -2,7 +2,6 @@ use Rattle.std.specs.Prelude.{◌≡◌, true, map, IfErr, refl}
 use Rattle.std.proofs.Common.{sym, subst}
 use Rattle.clap.specs.Words.{App, FailsBy, fault_of, is_simple_and_free, kind_of, takes}
 use Rattle.clap.specs.declared.error.kind.ErrorKind.TheVariants.{OutOfMemory}
-use Rattle.redplay.specs.CommandLine.{program}
 use Rattle.redplay.proofs.command_line.matched.Goals as goal
 
 pub returns-clause-refused : goal.returns-clause-refused
