@@ -1,25 +1,28 @@
 //! Public calls that no other test makes, each once, with ample memory: a run of given moves, a built-in
 //! program under a type of its own, and a receiver that is started whatever a verifier would say, with a file
-//! that is there before the first move and one that comes.
+//! that is there before the first move and one that comes, and runs of it.
 use crate::playing::DAY;
 use crate::refusing::{file, is_told, service, told};
 use mh_base::Value;
-use mh_engine::{Engine, Receiver, Stepped, Unequipped, run};
+use mh_engine::{Engine, Receiver, Unequipped, run};
 use mh_model::text::Text;
 use mh_model::{Builtin, Input, Key, Move, Now};
 use mh_resident::{BuiltinProgram, Resident};
 use std::alloc::Global;
 
-/// Puts more steps than there are to make, a key, and so many steps again.
-fn put_moves(moves: &mut Vec<Move>) -> Option<()> {
-    for _ in 0..20 {
-        moves.push(Move::Step).ok()?;
-    }
-    moves.push(Move::Post(Input::Key(Key::Red))).ok()?;
+/// Puts more steps than there are to make.
+fn put_steps(moves: &mut Vec<Move>) -> Option<()> {
     for _ in 0..20 {
         moves.push(Move::Step).ok()?;
     }
     Some(())
+}
+
+/// Puts such steps, a key, and such steps again.
+fn put_moves(moves: &mut Vec<Move>) -> Option<()> {
+    put_steps(moves)?;
+    moves.push(Move::Post(Input::Key(Key::Red))).ok()?;
+    put_steps(moves)
 }
 
 /// What is played. Its owner below is generic, since a function that owns an engine by name is dear to
@@ -90,24 +93,18 @@ fn programs(alloc: Global) -> Option<Vec<BuiltinProgram>> {
     pushed.and(Some(programs))
 }
 
-/// Makes the steps that there are to make.
-fn make_steps<P: Resident>(receiver: &mut Receiver<P>) -> Option<()> {
-    for _ in 0..100 {
-        if matches!(receiver.step(), Ok(Stepped::Idle | Stepped::Ended)) {
-            return Some(());
-        }
-    }
-    None
-}
-
 /// What is told where the file `x` is there before the first move, and another `x` comes later.
-fn told_of_files<P: Resident>(alloc: Global, receiver: &mut Receiver<P>) -> Option<Text> {
+fn told_of_files<P: Resident>(
+    alloc: Global,
+    receiver: &mut Receiver<P>,
+    steps: &[Move],
+) -> Option<Text> {
     receiver.preset(file(alloc, b"x", b"Hi")?).ok()?;
-    make_steps(receiver)?;
+    receiver.run(steps).ok()?;
     receiver
         .post(Input::Arrive(file(alloc, b"x", b"Ho")?))
         .ok()?;
-    make_steps(receiver)?;
+    receiver.run(steps).ok()?;
     told(alloc, receiver.engine())
 }
 
@@ -116,7 +113,11 @@ fn of_receiver<P: Resident>(
     started: &mut Result<Receiver<P>, Unequipped<P>>,
 ) -> Option<Text> {
     match started {
-        Ok(receiver) => told_of_files(alloc, receiver),
+        Ok(receiver) => {
+            let mut steps = Vec::new(alloc);
+            let put = put_steps(&mut steps);
+            put.and(told_of_files(alloc, receiver, steps.as_slice()))
+        }
         Err(_) => None,
     }
 }

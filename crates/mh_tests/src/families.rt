@@ -19,7 +19,8 @@ fn put_rectangles(alloc: Global, text: &mut Vec<u8>, first: u64, count: u64) -> 
     Some(())
 }
 
-const RECTANGLE: &str = " :OrigBoxSize 24 32 :OrigPosition 12 16 :OrigLineWidth 0 :OrigRefFillColour '=FF=00=00=00' }";
+const RECTANGLE: &str =
+    " :OrigBoxSize 24 32 :OrigPosition 12 16 :OrigLineWidth 0 :OrigRefFillColour '=FF=00=00=00' }";
 
 /// Adds the file of a group.
 fn add_file(alloc: Global, files: &mut Vec<File>, path: &[u8], text: Vec<u8>) -> Option<()> {
@@ -57,20 +58,35 @@ fn takes_three_each(alloc: Global, count: u64) -> Option<bool> {
 #[test]
 fn each_rectangle_takes_three_steps(rt: HostRuntime) {
     for count in 0..301 {
-        assert!(rt; takes_three_each(rt.alloc(), count) == Some(true), "{count}");
+        assert!(rt;
+            takes_three_each(rt.alloc(), count) == Some(true),
+            "{count}"
+        );
     }
     assert!(rt; takes_three_each(rt.alloc(), 1000) == Some(true));
 }
 
 /// Puts a test of the variable with this number.
 fn put_test(alloc: Global, text: &mut Vec<u8>, number: u64) -> Option<()> {
-    put(alloc, text, " :TestVariable (", number, " 1 :GBoolean true)")
+    put(
+        alloc,
+        text,
+        " :TestVariable (",
+        number,
+        " 1 :GBoolean true)",
+    )
 }
 
 /// Puts a link that tests the variable behind this one twice, when this one is tested.
 fn put_doubling(alloc: Global, text: &mut Vec<u8>, at: u64) -> Option<()> {
     let next = at.checked_add(1)?;
-    put(alloc, text, " {:Link ", at.checked_add(100)?, " :EventSource")?;
+    put(
+        alloc,
+        text,
+        " {:Link ",
+        at.checked_add(100)?,
+        " :EventSource",
+    )?;
     put(alloc, text, " ", at, " :EventType TestEvent :LinkEffect (")?;
     put_test(alloc, text, next)?;
     put_test(alloc, text, next)?;
@@ -83,12 +99,19 @@ fn doubling(alloc: Global, count: u64) -> Option<Vec<u8>> {
     let mut text = text_of(alloc, "{:Application (\"~/a\" 0) :Items (")?;
     for number in 0..last {
         let number = number.checked_add(1)?;
-        put(alloc, &mut text, " {:BooleanVar ", number, " :OrigValue true }")?;
+        put(
+            alloc,
+            &mut text,
+            " {:BooleanVar ",
+            number,
+            " :OrigValue true }",
+        )?;
     }
     for at in 0..count {
         put_doubling(alloc, &mut text, at.checked_add(1)?)?;
     }
-    text.extend_from_slice(b" {:Link 119 :EventSource 0 :EventType IsRunning :LinkEffect (").ok()?;
+    text.extend_from_slice(b" {:Link 119 :EventSource 0 :EventType IsRunning :LinkEffect (")
+        .ok()?;
     put_test(alloc, &mut text, 1)?;
     text.extend_from_slice(b" ) } ) }").ok()?;
     Some(text)
@@ -104,7 +127,10 @@ fn takes_doubling(alloc: Global, count: u64, power: u64) -> Option<bool> {
 fn doublings_take_what_they_should(rt: HostRuntime) {
     let mut power: u64 = 4;
     for count in 0..18 {
-        assert!(rt; takes_doubling(rt.alloc(), count, power) == Some(true), "{count}");
+        assert!(rt;
+            takes_doubling(rt.alloc(), count, power) == Some(true),
+            "{count}"
+        );
         power = power.wrapping_mul(2);
     }
 }
@@ -112,13 +138,20 @@ fn doublings_take_what_they_should(rt: HostRuntime) {
 /// A scene of fifteen rectangles and a key that leads to another scene.
 fn scene(alloc: Global, at: u64, next: u64) -> Option<Vec<u8>> {
     let mut text = Vec::new(alloc);
-    put(alloc, &mut text, "{:Scene (\"~/s", at, "\" 0) :InputEventReg 3 :Items (")?;
+    put(
+        alloc,
+        &mut text,
+        "{:Scene (\"~/s",
+        at,
+        "\" 0) :InputEventReg 3 :Items (",
+    )?;
     put_rectangles(alloc, &mut text, 20, 15)?;
     put(alloc, &mut text, LEADS, next, "\" 0)) ) } ) }")?;
     Some(text)
 }
 
-const LEADS: &str = " {:Link 11 :EventSource 0 :EventType UserInput :EventData 100 :LinkEffect ( :TransitionTo ((\"~/s";
+const LEADS: &str =
+    " {:Link 11 :EventSource 0 :EventType UserInput :EventData 100 :LinkEffect ( :TransitionTo ((\"~/s";
 
 /// Adds the files of so many scenes, each of which leads to the next, and the last to the first.
 fn add_scenes(alloc: Global, files: &mut Vec<File>, count: u64) -> Option<()> {
