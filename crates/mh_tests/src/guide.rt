@@ -145,7 +145,7 @@ run
 show
 "#;
 
-static REPORT: &str = r#"did 50 idle
+pub const REPORT: &str = r#"did 50 idle
 frame 1
 row 00: 0-59 000000/004000 ""
 row 01: 0-1 000000/004000 "" 2-10 ffffff/004000 "Programme" 11-11 000000/004000 "" 12-16 ffffff/004000 "guide" 17-17 000000/004000 "" 18-20 ffff00/004000 "Sat" 21-59 000000/004000 ""

@@ -147,7 +147,7 @@ run
 show
 "#;
 
-static REPORT: &str = r#"did 49 idle
+pub const REPORT: &str = r#"did 49 idle
 frame 1
 row 00: 0-59 000000/0000ff ""
 row 01: 0-11 000000/0000ff "" 12-15 ffffff/0000ff "Town" 16-16 000000/0000ff "" 17-20 ffffff/0000ff "news" 21-59 000000/0000ff ""

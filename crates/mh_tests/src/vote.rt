@@ -149,7 +149,7 @@ run
 show
 "#;
 
-static REPORT: &str = r#"did 108 idle
+pub const REPORT: &str = r#"did 108 idle
 frame 1
 row 00: 0-59 000000/006000 ""
 row 01: 0-1 000000/006000 "" 2-5 ffffff/006000 "Tree" 6-6 000000/006000 "" 7-8 ffffff/006000 "of" 9-9 000000/006000 "" 10-12 ffffff/006000 "the" 13-13 000000/006000 "" 14-17 ffffff/006000 "year" 18-59 000000/006000 ""
