@@ -1,8 +1,8 @@
 -- Runs beside programs, that go on by one move.
-use Rattle.std.specs.Prelude.{◌≡◌, ℕ, ◌+◌, ◌<◌, ◌==◌, Bool, true, false, if◌then◌else◌, List, [], ◌∷◌, ◌++◌, length, take, Option, refl}
+use Rattle.std.specs.Prelude.{◌≡◌, ℕ, ◌+◌, ◌<◌, ◌≤◌, ◌==◌, Bool, true, false, if◌then◌else◌, List, [], ◌∷◌, ◌++◌, length, take, Option, refl}
 use Rattle.std.proofs.Common.{◌∙◌, ap, sym, subst, get_or}
 use Rattle.std.proofs.lemmas.Bool.{eqb-true}
-use Rattle.std.proofs.lemmas.List.{take_more}
+use Rattle.std.proofs.lemmas.List.{take_all, take_more}
 use Rattle.mh_model.specs.declared.input.Move.{Move}
 use Rattle.mh_model.specs.declared.program.Call.{Call}
 use Rattle.mh_model.specs.declared.program.Outcome.{Outcome}
@@ -47,3 +47,7 @@ next_beside {Q} ss may q p ms i m s t u same inside at so counted moved =
 pub counted_run : (ss : List Signature) (may : Call → Outcome → Type 0) (ms : List Move) (s t : State) → IsCountedRun ss may ms s t → IsRun ss may ms s t
 counted_run ss may [] s t so = so
 counted_run ss may (m ∷ ms) s t so = (so.0, so.2, counted_run ss may ms so.0 t so.3)
+
+-- at the end of the moves
+pub whole_run : (ss : List Signature) (may : Call → Outcome → Type 0) (ms : List Move) (i : ℕ) (s t : State) → length ms ≤ i → IsCountedRun ss may (take i ms) s t → IsRun ss may ms s t
+whole_run ss may ms i s t end so = counted_run ss may ms s t (subst (λ (l : List Move). IsCountedRun ss may l s t) (take_all i ms end) so)

@@ -1,5 +1,5 @@
 -- Engines whose service was accepted.
-use Rattle.std.specs.Prelude.{◌≡◌, ℕ, zero, suc, Bool, true, false, if◌then◌else◌, List, Option, Some, None, slice_get, refl}
+use Rattle.std.specs.Prelude.{◌≡◌, ℕ, zero, suc, Bool, true, false, if◌then◌else◌, List, [], Option, Some, None, Result, Ok, Err, OnOk, OnErr, slice_get, refl}
 use Rattle.std.proofs.Common.{ap, sym, subst}
 use Rattle.mh_model.specs.declared.input.Waiting.{Waiting}
 use Rattle.mh_model.specs.declared.item.Item.{Item}
@@ -47,8 +47,12 @@ unfolding advanced
 safe_advanced zero s k = k
 safe_advanced (suc n) s k = safe_advanced n (stepped s) (safe_stepped s k)
 
-pub advanced_safe : (n : ℕ) (s after : State) → after ≡ advanced n s → IsSafe s → IsSafe after
+advanced_safe : (n : ℕ) (s after : State) → after ≡ advanced n s → IsSafe s → IsSafe after
 advanced_safe n s after is k = subst IsSafe (sym is) (safe_advanced n s k)
 
-pub partly_safe : (n : ℕ) (s after : State) → IsPartly n s after → IsSafe s → IsSafe after
+partly_safe : (n : ℕ) (s after : State) → IsPartly n s after → IsSafe s → IsSafe after
 partly_safe n s after some k = advanced_safe some.made s after some.after_them k
+
+pub either_safe : {A E : Type 0} (n : ℕ) (s after : State) (r : Result A E) → OnOk r (after ≡ advanced n s) → OnErr r (IsPartly n s after) → IsSafe s → IsSafe after
+either_safe {A} {E} n s after (Ok a) all some k = advanced_safe n s after all k
+either_safe {A} {E} n s after (Err e) all some k = partly_safe n s after some k

@@ -129,10 +129,8 @@ impl Engine {
         if self.machine.taken() == u64::MAX {
             return Err(StepError::CountFull);
         }
-        match step_by(&mut self.machine, self.accepted) {
-            Ok(answer) => Ok(answer),
-            Err(_) => Err(StepError::NoMemory),
-        }
+        let answer = step_by(&mut self.machine, self.accepted)?;
+        Ok(answer)
     }
 
     /// Makes so many steps, or as many as there is something to do and as are counted; the picture is

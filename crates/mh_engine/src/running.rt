@@ -57,7 +57,7 @@ impl<P: Resident> Receiver<P> {
         ensures counted { OnOk result (is_counted next.now self.old.engine.state ≡ true) }
         ensures kept { OnErr result (self.new.engine ≡ self.old.engine) }
         ensures more { OnErr result (is_left next.now self.old.engine.state ≡ true) }
-        ensures full { IsErrOf result StepError.CountFull → is_counted next.now self.old.engine.state ≡ false }
+        ensures full { IfErr result (λ why. why ≡ StepError.CountFull → is_counted next.now self.old.engine.state ≡ false) }
         ensures same { self.new.programs ≡ self.old.programs }
         ensures accepted { self.new.engine.accepted ≡ self.old.engine.accepted }
     {
@@ -74,7 +74,7 @@ impl<P: Resident> Receiver<P> {
         ensures counted { OnOk result (is_counted Move.Step self.old.engine.state ≡ true) }
         ensures kept { OnErr result (self.new.engine ≡ self.old.engine) }
         ensures more { OnErr result (is_left Move.Step self.old.engine.state ≡ true) }
-        ensures full { IsErrOf result StepError.CountFull → is_counted Move.Step self.old.engine.state ≡ false }
+        ensures full { IfErr result (λ why. why ≡ StepError.CountFull → is_counted Move.Step self.old.engine.state ≡ false) }
         ensures same { self.new.programs ≡ self.old.programs }
         ensures accepted { self.new.engine.accepted ≡ self.old.engine.accepted }
     {

@@ -16,7 +16,7 @@ fn make(engine: &mut Engine, next: &Move) -> Result<(), StepError>
     ensures kept { OnErr result (engine.new ≡ engine.old) }
     ensures same { engine.new.accepted ≡ engine.old.accepted }
     ensures more { OnErr result (is_left next.now engine.old.state ≡ true) }
-    ensures full { IsErrOf result StepError.CountFull → is_counted next.now engine.old.state ≡ false }
+    ensures full { IfErr result (λ why. why ≡ StepError.CountFull → is_counted next.now engine.old.state ≡ false) }
 {
     match next {
         Move::Post(input) => post_copy_or_pass(engine, input),
@@ -30,7 +30,7 @@ fn step_on(engine: &mut Engine) -> Result<(), StepError>
     ensures kept { OnErr result (engine.new ≡ engine.old) }
     ensures same { engine.new.accepted ≡ engine.old.accepted }
     ensures more { OnErr result (is_left Move.Step engine.old.state ≡ true) }
-    ensures full { IsErrOf result StepError.CountFull → is_counted Move.Step engine.old.state ≡ false }
+    ensures full { IfErr result (λ why. why ≡ StepError.CountFull → is_counted Move.Step engine.old.state ≡ false) }
 {
     let _ = engine.step()?;
     Ok(())

@@ -6,9 +6,6 @@ use Rattle.mh_engine.specs.Play.{Play}
 use Rattle.mh_engine.proofs.SafeEngine.{KeepsSafe, kept_front, unfaulted}
 use Rattle.mh_engine.proofs.engine.Engine.step.Goals as goal
 
-pub returns-then-self-clause-never : goal.returns-then-self-clause-never
-returns-then-self-clause-never c = kept_front c.args.self.now (subst KeepsSafe c.self.view_is c.self.invariant)
-
 pub returns-in-Ended-clause-never : goal.returns-in-Ended-clause-never
 returns-in-Ended-clause-never c = kept_front c.args.self.now (subst KeepsSafe c.self.view_is c.self.invariant)
 
@@ -18,22 +15,22 @@ returns-in-Idle-clause-never c = kept_front c.args.self.now (subst KeepsSafe c.s
 pub returns-then-taken-clause-never : goal.returns-then-taken-clause-never
 returns-then-taken-clause-never c = kept_front c.args.self.now (subst KeepsSafe c.self.view_is c.self.invariant)
 
-pub advance-requires-clause-free : goal.advance-requires-clause-free
-advance-requires-clause-free c = λ accepted. safe_front c.self.inside.machine (c.self.invariant accepted)
+pub step_by-requires-clause-free : goal.step_by-requires-clause-free
+step_by-requires-clause-free c = λ accepted. safe_front c.self.inside.machine (c.self.invariant accepted)
 
 pub invariant_of-self : goal.invariant_of-self
-invariant_of-self c = λ accepted. subst IsSafe (sym c.in-Ok.ensures.step) (safe_step c.self.inside.machine (c.self.invariant accepted))
+invariant_of-self c = λ accepted. subst IsSafe (sym c.in_err-answer.ensures.kept) (c.self.invariant accepted)
 
-pub invariant_of-self-in-Err : goal.invariant_of-self-in-Err
-invariant_of-self-in-Err c = λ accepted. subst IsSafe (sym c.in-Err.ensures.kept) (c.self.invariant accepted)
+pub returns-in_err-answer-clause-never : goal.returns-in_err-answer-clause-never
+returns-in_err-answer-clause-never c = kept_front c.args.self.now (subst KeepsSafe c.self.view_is c.self.invariant)
 
-pub returns-in-Ok-clause-never : goal.returns-in-Ok-clause-never
-returns-in-Ok-clause-never c = kept_front c.args.self.now (subst KeepsSafe c.self.view_is c.self.invariant)
+pub invariant_of-self-2 : goal.invariant_of-self-2
+invariant_of-self-2 c = λ accepted. subst IsSafe (sym c.in_ok-answer.ensures.step) (safe_step c.self.inside.machine (c.self.invariant accepted))
 
-pub returns-in-Ok-clause-faultless : goal.returns-in-Ok-clause-faultless
-returns-in-Ok-clause-faultless c = λ accepted.
+pub returns-clause-never : goal.returns-clause-never
+returns-clause-never c = kept_front c.args.self.now (subst KeepsSafe c.self.view_is c.self.invariant)
+
+pub returns-clause-faultless : goal.returns-clause-faultless
+returns-clause-faultless c = λ accepted.
     let inside = ap (λ (p : Play). p.accepted) c.self.view_is ∙ accepted in
-    ap is_faulted c.in-Ok.ensures.answer ∙ unfaulted c.self.inside.machine (safe_front c.self.inside.machine (c.self.invariant inside))
-
-pub returns-in-Err-clause-never : goal.returns-in-Err-clause-never
-returns-in-Err-clause-never c = kept_front c.args.self.now (subst KeepsSafe c.self.view_is c.self.invariant)
+    ap is_faulted c.in_ok-answer.ensures.answer ∙ unfaulted c.self.inside.machine (safe_front c.self.inside.machine (c.self.invariant inside))

@@ -1,7 +1,7 @@
 use Rattle.std.specs.Prelude.{map}
 use Rattle.std.proofs.Common.{◌∙◌, rules}
 use Rattle.mh_resident.specs.Coming.{MayCome}
-use Rattle.mh_engine.proofs.BesideLemmas.{next_beside, counted_run}
+use Rattle.mh_engine.proofs.BesideLemmas.{next_beside, whole_run}
 use Rattle.mh_engine.proofs.receiver.Receiver.run.Goals as goal
 
 pub loop-made-preserved : goal.loop-made-preserved
@@ -11,3 +11,6 @@ loop-made-preserved g c = (
   c.make.ensures.same ∙ c.loop-made.invariant.1,
   c.make.ensures.accepted ∙ c.loop-made.invariant.2,
 )
+
+pub returns-clause-all : goal.returns-clause-all
+returns-clause-all g c = whole_run _ _ c.args.moves.now c.loop-made.made _ _ c.loop-made-test.false c.loop-made.invariant.0
