@@ -1,6 +1,6 @@
 //! `Player`: an engine, and what was shown of it. It does the commands of a script one by one, and writes
 //! what the report says of each.
-ghost use Rattle.std.specs.Prelude.{◌≡◌, ◌-◌, ◌<◌, ◌^◌, Err, IsOk, OnOk, OnErr, IfOk, IfErr, IsErrOf, false};
+ghost use Rattle.std.specs.Prelude.{◌≡◌, ◌-◌, ◌<◌, ◌^◌, [], Err, IsOk, OnOk, OnErr, IfOk, IfErr, IsErrOf};
 ghost use Rattle.mh_model.specs.Planes.{blank};
 ghost use Rattle.mh_model.specs.Step.{advanced};
 ghost use Rattle.std.specs.Io.KnownBytes.{Appends};
