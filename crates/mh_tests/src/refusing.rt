@@ -90,7 +90,7 @@ fn end_of(alloc: Global, wanted: &Play) -> Option<Ending> {
 /// How a play ended that was to write a report, and wrote this.
 fn end_as(ended: Result<Status, PlayError>, written: &[u8], report: &[u8]) -> Ending {
     match ended {
-        Ok(_) if written == report => Ending::Whole,
+        Ok(Status::Good) if written == report => Ending::Whole,
         Err(PlayError::NoMemory) if report.starts_with(written) => Ending::Cut,
         _ => Ending::Wrong,
     }
