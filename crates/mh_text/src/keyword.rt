@@ -1,5 +1,6 @@
-//! Keywords: what the name of one means. There are four tables of them, with no name in two places; so a
-//! name is first looked for among all of them in order, and the tables are asked where it is not there.
+//! Keywords: what the name of one means. There are four tables of them, with no name in two places; so one
+//! keyword of all is tried first, which a few letters of the name choose, and the tables are asked where its
+//! name is another.
 ghost use Rattle.std.specs.Prelude.{◌≡◌, Some, true};
 ghost use Rattle.mh_text.specs.Signs.{name_sign as name_sign_lem, mark_sign as mark_sign_lem};
 
@@ -11,9 +12,8 @@ const CONTENT_REF: &[u8] = b"ContentRef";
 
 const INDIRECT_REF: &[u8] = b"IndirectRef";
 
-/// All keywords, the shorter names first. What is found here counts only where it has the name that is
-/// looked for, so a wrong order would cost time alone.
-static IN_ORDER: [Sign; 132] = [
+/// All keywords, each where `PLACES` says.
+static KEYWORDS: [Sign; 132] = [
     Sign::Action(ActionName::Add),
     Sign::Action(ActionName::Run),
     Sign::Action(ActionName::Call),
@@ -148,10 +148,39 @@ static IN_ORDER: [Sign; 132] = [
     Sign::Action(ActionName::GetAvailabilityStatus),
 ];
 
-/// Where the keywords of each length begin among them, from the length 0 on.
-static STARTS: [usize; 23] = [
-    0, 0, 0, 0, 2, 10, 15, 24, 29, 40, 52, 73, 89, 101, 112, 117, 119, 124, 127, 129, 129, 131, 132,
+/// Where in `KEYWORDS` the one stands whose name leads to each place here, by `place_of`; 255, which is behind
+/// the last, where none does.
+static PLACES: [u8; 512] = [
+    255, 255, 255, 255, 255, 255, 11, 255, 255, 113, 255, 255, 87, 57, 46, 255, 72, 255, 255, 255,
+    40, 7, 255, 255, 97, 89, 255, 255, 255, 71, 255, 90, 255, 255, 105, 255, 56, 255, 255, 255, 93,
+    255, 63, 255, 255, 99, 255, 255, 255, 255, 255, 107, 255, 101, 255, 255, 36, 131, 255, 58, 23,
+    255, 255, 255, 73, 255, 255, 255, 117, 255, 255, 255, 255, 255, 255, 84, 255, 9, 255, 255, 128,
+    0, 66, 2, 255, 255, 255, 81, 255, 255, 255, 255, 255, 122, 255, 255, 111, 255, 255, 255, 255,
+    255, 255, 255, 255, 255, 255, 255, 255, 255, 255, 255, 255, 255, 255, 10, 255, 255, 255, 75,
+    85, 255, 69, 119, 255, 255, 255, 255, 255, 255, 108, 38, 25, 255, 4, 255, 255, 255, 88, 255,
+    255, 255, 96, 255, 130, 255, 255, 255, 255, 51, 48, 255, 255, 255, 255, 255, 255, 255, 120,
+    255, 255, 255, 255, 255, 255, 22, 255, 28, 255, 255, 255, 12, 255, 255, 255, 255, 255, 123,
+    255, 255, 47, 255, 255, 255, 60, 255, 126, 255, 255, 255, 255, 255, 255, 255, 255, 67, 255,
+    255, 255, 255, 255, 255, 255, 255, 255, 255, 76, 78, 255, 255, 50, 255, 62, 255, 255, 255, 255,
+    255, 255, 255, 255, 32, 59, 255, 255, 255, 42, 92, 255, 255, 255, 3, 109, 255, 255, 255, 255,
+    255, 255, 255, 255, 255, 255, 255, 255, 255, 34, 255, 255, 255, 255, 255, 255, 255, 255, 255,
+    255, 255, 255, 255, 255, 255, 255, 255, 255, 255, 74, 17, 39, 255, 112, 44, 255, 255, 255, 255,
+    80, 20, 255, 255, 255, 255, 255, 255, 255, 255, 255, 255, 255, 102, 255, 255, 255, 255, 255,
+    110, 255, 255, 255, 100, 255, 255, 255, 255, 255, 255, 255, 18, 255, 255, 255, 255, 255, 255,
+    45, 255, 86, 255, 35, 255, 255, 255, 255, 255, 255, 91, 255, 49, 255, 255, 255, 77, 255, 255,
+    94, 255, 255, 255, 41, 30, 255, 68, 255, 79, 255, 255, 255, 255, 24, 255, 255, 255, 255, 255,
+    255, 61, 255, 255, 19, 255, 255, 255, 255, 255, 124, 255, 255, 255, 255, 255, 255, 255, 5, 255,
+    255, 255, 255, 27, 255, 255, 255, 54, 255, 255, 255, 1, 255, 83, 255, 255, 255, 255, 255, 255,
+    15, 255, 255, 255, 255, 255, 255, 43, 52, 26, 255, 255, 255, 255, 255, 95, 127, 255, 255, 255,
+    255, 255, 255, 255, 255, 255, 255, 255, 255, 104, 255, 106, 14, 37, 255, 121, 255, 255, 255,
+    255, 255, 255, 255, 255, 255, 33, 255, 255, 255, 255, 255, 255, 255, 255, 255, 255, 255, 16,
+    255, 21, 115, 65, 255, 255, 255, 98, 103, 6, 255, 255, 82, 255, 255, 255, 255, 13, 8, 255, 255,
+    55, 255, 129, 255, 255, 31, 255, 64, 255, 255, 255, 255, 255, 255, 53, 255, 255, 116, 255, 114,
+    255, 255, 255, 70, 255, 255, 255, 255, 255, 255, 255, 255, 255, 255, 29, 255, 255, 125, 118,
 ];
+
+/// What makes places of letters, so that no two keywords have one place. It was found by trying odd numbers.
+const SPREAD: u32 = 126855103;
 
 /// What the name of a keyword means.
 pub(crate) fn name_sign(name: &[u8]) -> Option<Sign>
@@ -163,36 +192,22 @@ pub(crate) fn name_sign(name: &[u8]) -> Option<Sign>
     }
 }
 
-/// The keyword that has this name if any has.
+/// The keyword that has this name if any has. What is found counts only where it has the name, so that a
+/// wrong place costs time alone.
 fn likely_sign(name: &[u8]) -> Option<Sign> {
-    let from = *STARTS.get(name.len())?;
-    let to = *STARTS.get(name.len() + 1)?;
-    let of_length = IN_ORDER.get(from..to)?;
-    of_length
-        .iter()
-        .copied()
-        .find(|sign| is_alike(name_of(*sign), name))
+    let keyword = PLACES.get(place_of(name)?)?;
+    KEYWORDS.get(usize::from(*keyword)).copied()
 }
 
-/// Whether two names of one length have three letters in common, which no two keywords have.
-fn is_alike(keyword: &[u8], name: &[u8]) -> bool {
-    let middle = (name.len() / 2).saturating_sub(1);
-    keyword.first() == name.first()
-        && keyword.last() == name.last()
-        && keyword.get(middle) == name.get(middle)
-}
-
-/// The name of a keyword; none of what is no keyword.
-fn name_of(sign: Sign) -> &'static [u8] {
-    match sign {
-        Sign::Class(class) => class.word(),
-        Sign::Attribute(attribute) => attribute.word(),
-        Sign::Action(action) => action.word(),
-        Sign::Kind(kind) => mh_group::kind_word(kind),
-        Sign::ContentRef => CONTENT_REF,
-        Sign::IndirectRef => INDIRECT_REF,
-        _ => &[],
-    }
+/// The place in `PLACES` to which a name leads, by its length and three of its letters, which no two keywords
+/// have in common: the first, the one before the middle and the last.
+fn place_of(name: &[u8]) -> Option<usize> {
+    let first = *name.first()?;
+    let middle = *name.get((name.len() / 2).saturating_sub(1))?;
+    let last = *name.last()?;
+    let length = u8::try_from(name.len()).ok()?;
+    let letters = u32::from_le_bytes([first, middle, last, length]);
+    Some((letters.wrapping_mul(SPREAD) >> 23) as usize)
 }
 
 /// Whether this is what the keyword of this name means.
