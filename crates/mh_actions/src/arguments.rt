@@ -65,7 +65,7 @@ fn value_of(objects: &Objects, argument: &Argument) -> Result<Few<Value>, AllocE
         IfOk result (λ values. values ≡ cons_option found []) }
 {
     match value_in(objects, argument) {
-        Some(value) => Ok(Few::one(value.clone()?)),
+        Some(value) => Ok(Few::one(copied(value)?)),
         None => Ok(Few::none()),
     }
 }
@@ -83,9 +83,16 @@ fn values_of_two(
         return value_of(objects, second);
     };
     match value_in(objects, second) {
-        Some(behind) => Ok(Few::two(value.clone()?, behind.clone()?)),
-        None => Ok(Few::one(value.clone()?)),
+        Some(behind) => Ok(Few::two(copied(value)?, copied(behind)?)),
+        None => Ok(Few::one(copied(value)?)),
     }
+}
+
+/// A copy of the value, which shares what it holds.
+fn copied(value: &Value) -> Result<Value, AllocError>
+    ensures { IfOk result (λ copy. copy ≡ value.now) }
+{
+    value.clone()
 }
 
 fn values_of_many(

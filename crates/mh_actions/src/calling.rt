@@ -4,37 +4,37 @@ ghost use Rattle.std.specs.Prelude.{◌≡◌, ◌++◌, ◌∷◌, [], map, IfO
 ghost use Rattle.std.specs.List.{list_any};
 ghost use Rattle.std.specs.Option.{option_copied};
 ghost use Rattle.std.specs.Str.{bytes_eq};
-ghost use Rattle.mh_actions.specs.Listed.{listed};
+ghost use Rattle.mh_work.specs.Listed.{listed};
 ghost use Rattle.mh_model.specs.Arguments.{values as values_lem, receivers as receivers_lem};
 ghost use Rattle.mh_model.specs.Faults.{passed as passed_lem};
 ghost use Rattle.mh_model.specs.Known.{params_in};
 ghost use Rattle.mh_model.specs.Programs.{ins, outs};
-ghost use Rattle.mh_model.specs.Receiver.{added_name as added_name_lem, if_added as if_added_lem, is_added as is_added_lem};
-ghost use Rattle.mh_model.specs.Rules.{builtin_in as builtin_in_lem};
+ghost use Rattle.mh_model.specs.Receiver.{added_name, if_added, is_added};
+ghost use Rattle.mh_model.specs.Rules.{builtin_in};
 ghost use Rattle.mh_model.specs.Saying as spec;
 ghost use Rattle.mh_model.specs.Service.{part_at, parts};
 ghost use Rattle.mh_model.specs.State.{all};
 
 use crate::arguments::{push_value, receivers_of_many};
-use crate::present::present_part;
-use crate::putting::Put;
+use crate::known_now::present_part;
 use mh_base::{EventType, ObjRef, Value};
 use mh_group::ActionName;
 use mh_model::act::passed;
 use mh_model::{Argument, Builtin, Event, Fixed, Item, Param, Signature};
 use mh_resident::{Resident, builtin_named, program_name, program_named, takes};
 use mh_store::Objects;
+use mh_work::Put;
 use std::alloc::{AllocError, Global};
 
 /// The built-in program to which the reference leads, if it leads to one.
 pub fn builtin_at(objects: &Objects, at: &ObjRef) -> Option<Builtin>
-    ensures { result ≡ builtin_in_lem (part_at at.now (parts (all objects.now))) }
+    ensures { result ≡ builtin_in (part_at at.now (parts (all objects.now))) }
 {
     builtin_in(present_part(objects, at))
 }
 
 fn builtin_in(part: Option<&Fixed>) -> Option<Builtin>
-    ensures { result ≡ builtin_in_lem (option_copied part.entry) }
+    ensures { result ≡ builtin_in (option_copied part.entry) }
 {
     builtin_named(program_name(part?)?)
 }
@@ -47,21 +47,21 @@ pub fn added_name<'a, P: Resident>(
     at: &ObjRef,
 ) -> Option<&'a [u8]>
     ensures { let part = part_at at.now (parts (all objects.now)) in
-        option_copied result ≡ added_name_lem (map P.signature_of programs.now) part }
+        option_copied result ≡ added_name (map P.signature_of programs.now) part }
 {
     added_name_in(programs, present_part(objects, at))
 }
 
 fn added_name_in<'a, P: Resident>(programs: &[P], part: Option<&'a Fixed>) -> Option<&'a [u8]>
     ensures { let signatures = map P.signature_of programs.now in
-        option_copied result ≡ added_name_lem signatures (option_copied part.entry) }
+        option_copied result ≡ added_name signatures (option_copied part.entry) }
 {
     if_added(programs, program_name(part?))
 }
 
 fn if_added<'a, P: Resident>(programs: &[P], name: Option<&'a [u8]>) -> Option<&'a [u8]>
     ensures { let signatures = map P.signature_of programs.now in
-        option_copied result ≡ if_added_lem signatures (option_copied name.entry) }
+        option_copied result ≡ if_added signatures (option_copied name.entry) }
 {
     match name {
         Some(name) if is_added(programs, name) => Some(name),
@@ -70,7 +70,7 @@ fn if_added<'a, P: Resident>(programs: &[P], name: Option<&'a [u8]>) -> Option<&
 }
 
 fn is_added<P: Resident>(programs: &[P], name: &[u8]) -> bool
-    ensures { result ≡ is_added_lem (map P.signature_of programs.now) name.now }
+    ensures { result ≡ is_added (map P.signature_of programs.now) name.now }
 {
     match builtin_named(name) {
         Some(_) => false,

@@ -31,6 +31,7 @@ pub fn edit_by(
         ≡ changed_by name values.now object.now.fixed object.now.body) }
 {
     match (name, values) {
+        // Two values never get past this arm, so an action that takes two has its own there.
         (_, [first, second]) => Ok(edit_by_two(name, first, second)),
         (ActionName::SetVariable, [value]) => set(alloc, object, value),
         (ActionName::Add, [Value::Int(term)]) => Ok(added(object, *term)),

@@ -2,7 +2,7 @@
 ghost use Rattle.std.specs.Prelude.{◌≡◌};
 ghost use Rattle.std.specs.Option.{option_copied};
 ghost use Rattle.mh_actions.specs.Content as spec;
-ghost use Rattle.mh_model.specs.Files.{is_loadable as is_loadable_lem};
+ghost use Rattle.mh_model.specs.Files.{is_loadable};
 
 use crate::variables::fits;
 use mh_base::Value;
@@ -20,7 +20,7 @@ pub fn new_content(values: &[Value]) -> Option<&Value>
 
 /// Whether the value can become content: octets that are not too many, or the name of a file.
 fn is_loadable(value: &Value) -> bool
-    ensures { result ≡ is_loadable_lem value.now }
+    ensures { result ≡ is_loadable value.now }
 {
     match value {
         Value::Octets(octets) => fits(octets.as_slice()),

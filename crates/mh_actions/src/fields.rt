@@ -2,7 +2,7 @@
 ghost use Rattle.std.specs.Prelude.{◌≡◌, IfOk};
 ghost use Rattle.mh_model.specs.declared.object.Body.{Body as BodyValue};
 ghost use Rattle.mh_model.specs.declared.object.Fixed.{Fixed as FixedValue};
-ghost use Rattle.mh_model.specs.Bodies.{changed_by, put, pointed as pointed_lem};
+ghost use Rattle.mh_model.specs.Bodies.{changed_by, put, pointed};
 ghost use Rattle.mh_base.specs.declared.value.Value.TheVariants as value;
 ghost use Rattle.mh_group.specs.declared.attribute.Attribute.TheVariants as attribute;
 ghost use Rattle.mh_model.specs.declared.held.Held.TheVariants as held;
@@ -26,7 +26,7 @@ pub(crate) fn with_point(object: &Object, values: &[Value]) -> Option<Edit>
 }
 
 fn pointed(object: &Object, point: i32) -> Option<Edit>
-    ensures { edited_if result object.now.fixed object.now.body ≡ pointed_lem point object.now.body }
+    ensures { edited_if result object.now.fixed object.now.body ≡ pointed point object.now.body }
 {
     if point < 0 {
         return None;

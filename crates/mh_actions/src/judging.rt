@@ -1,11 +1,11 @@
 //! Whether an action can be done where these objects are present.
 ghost use Rattle.std.specs.Prelude.{◌≡◌, IfOk, Some};
-ghost use Rattle.mh_model.specs.Faults.{fault_known as fault_known_lem};
+ghost use Rattle.mh_model.specs.Faults.{fault_known};
 ghost use Rattle.mh_model.specs.Known.{known_in};
 ghost use Rattle.mh_model.specs.State.{all};
 ghost use Rattle.mh_model.specs.Stuck.{member_fault};
 
-use crate::present::{Present, present_class};
+use crate::known_now::{KnownNow, present_class};
 use mh_base::ObjRef;
 use mh_group::ActionName;
 use mh_model::known::fault_known;
@@ -23,9 +23,9 @@ pub fn why_stuck(
     act: &Act,
 ) -> Result<Option<Fault>, AllocError>
     ensures { let with = record service.now { programs = programs.now } in
-        IfOk result (λ fault. fault ≡ fault_known_lem (known_in with (all objects.now)) act.now) }
+        IfOk result (λ fault. fault ≡ fault_known (known_in with (all objects.now)) act.now) }
 {
-    let present = Present {
+    let present = KnownNow {
         service,
         programs,
         objects,

@@ -9,7 +9,7 @@ ghost use Rattle.mh_model.specs.Edits.{edited_if};
 use mh_base::{Colour, Value};
 use mh_group::Attribute;
 use mh_model::{Drawing, Edit, Figure, Held, Object, Point};
-use mh_store::looks::{fill_of, has_line, line_of};
+use mh_store::looks::{fill_of, has_line, line_colour_of};
 
 /// The most drawings of one object.
 const MOST_DRAWINGS: usize = 256;
@@ -111,7 +111,7 @@ fn drawing_of(object: &Object, figure: Figure, from: (i32, i32), to: (i32, i32))
         from: point(from.0, from.1),
         to: point(to.0, to.1),
         has_line: has_line(object),
-        line: line_of(object),
+        line: line_colour_of(object),
         fill: fill_of(object),
     }
 }

@@ -1,7 +1,7 @@
 //! Numbers in octets: how a variable of the one kind is set to a value of the other.
 ghost use Rattle.std.specs.Prelude.{◌≡◌, ◌==◌, slice_index, IfOk};
 ghost use Rattle.std.specs.Fmt.{signed_decimal};
-ghost use Rattle.mh_model.specs.Variables.{number_in as number_in_lem};
+ghost use Rattle.mh_model.specs.Variables.{number_in};
 
 use mh_base::Octets;
 use std::alloc::{AllocError, Global};
@@ -9,7 +9,7 @@ use std::alloc::{AllocError, Global};
 /// The number that the octets write: an optional minus and decimal digits. Anything else is 0, and
 /// so is a number out of range.
 pub fn number_in(octets: &[u8]) -> i32
-    ensures { result ≡ number_in_lem octets.now }
+    ensures { result ≡ number_in octets.now }
 {
     if has_plus(octets) {
         return 0;

@@ -3,7 +3,7 @@ ghost use Rattle.std.specs.Prelude.{◌≡◌, List, IfOk};
 ghost use Rattle.mh_base.specs.declared.obj_ref.ObjRef.{ObjRef as ObjRefValue};
 ghost use Rattle.mh_actions.specs.Moved.{moved};
 ghost use Rattle.mh_model.specs.Lifecycle.{is_available_at};
-ghost use Rattle.mh_model.specs.Stack.{are_two as are_two_lem, reordered};
+ghost use Rattle.mh_model.specs.Stack.{are_two, reordered};
 ghost use Rattle.mh_model.specs.Service.{object_at};
 ghost use Rattle.mh_model.specs.State.{all};
 
@@ -50,7 +50,7 @@ pub fn reorder_by(
 
 /// The object at the second reference is available, and is not the one at the first.
 fn are_two(first: &ObjRef, second: &ObjRef, objects: &Objects) -> bool
-    ensures { result ≡ are_two_lem first.now second.now (all objects.now) }
+    ensures { result ≡ are_two first.now second.now (all objects.now) }
 {
     is_available(objects, second) && !same_ref(first, second)
 }

@@ -1,27 +1,17 @@
 //! What an action puts in front of the work.
 ghost use Rattle.std.specs.Prelude.{◌≡◌, ◌∷◌, [], IfOk, slice_get, Some};
 ghost use Rattle.std.specs.Option.{option_copied};
-ghost use Rattle.mh_actions.specs.Listed.{listed};
+ghost use Rattle.mh_work.specs.Listed.{listed};
 ghost use Rattle.mh_model.specs.Saying as spec;
 ghost use Rattle.mh_model.specs.Tokens.{slot_items};
 
 use mh_base::{EventType, ObjRef, Value};
 use mh_group::ActionName;
 use mh_model::kinds::test;
-use mh_model::{Effect, Event, Item, Object, Operator};
+use mh_model::{Event, Item, Object, Operator};
 use mh_widgets::tokens::slot_of;
+use mh_work::Put;
 use std::alloc::AllocError;
-
-/// What one action puts.
-#[derive(Drop)]
-pub enum Put {
-    Nothing,
-    One(Item),
-    /// The first one in front.
-    Two(Item, Item),
-    /// All actions of an effect.
-    Acts(Effect),
-}
 
 /// What the action puts, done to the object at this reference; nothing where there is none. It takes
 /// no memory.

@@ -6,7 +6,7 @@ ghost use Rattle.mh_model.specs.declared.object.Fixed.{Fixed as FixedValue};
 ghost use Rattle.mh_model.specs.Bodies as spec;
 ghost use Rattle.mh_model.specs.Bodies.{given_number, number_of as held_of};
 ghost use Rattle.mh_model.specs.Bodies.{given_octets, octets_of as held_octets};
-ghost use Rattle.mh_model.specs.Variables.{converted as converted_lem, fits_octets};
+ghost use Rattle.mh_model.specs.Variables.{converted, fits_octets};
 ghost use Rattle.mh_model.specs.Edits.{edited_if};
 
 use crate::numerals::{decimal, number_in};
@@ -121,7 +121,7 @@ pub fn appended(alloc: Global, object: &Object, more: &[u8]) -> Result<Option<Ed
 
 /// The value as a variable of the class holds it: numbers and octets are written as each other.
 fn converted(alloc: Global, class: Class, value: &Value) -> Result<Value, AllocError>
-    ensures { IfOk result (λ held. held ≡ converted_lem class value.now) }
+    ensures { IfOk result (λ held. held ≡ converted class value.now) }
 {
     match (class, value) {
         (Class::OStringVar, Value::Int(number)) => Ok(Value::Octets(decimal(alloc, *number)?)),
@@ -154,7 +154,7 @@ fn stored(value: Value) -> Option<Edit>
 /// The value, as the variable holds it.
 pub fn set(alloc: Global, object: &Object, value: &Value) -> Result<Option<Edit>, AllocError>
     ensures { IfOk result (λ edit. edited_if edit object.now.fixed object.now.body
-        ≡ spec.stored (converted_lem object.now.fixed.class value.now) object.now.body) }
+        ≡ spec.stored (converted object.now.fixed.class value.now) object.now.body) }
 {
     let value = converted(alloc, object.fixed.get().class, value)?;
     Ok(stored(value))

@@ -1,6 +1,6 @@
 //! `EventType`: the types of events, their numbers, and which are synchronous.
 ghost use Rattle.std.specs.Prelude.{◌≡◌, ◌↔◌, IfSome, IsSome, IsNone, IsTrue};
-ghost use Rattle.mh_base.specs.Event.{number_of, is_sync as is_sync_lem, event_of};
+ghost use Rattle.mh_base.specs.Event.{number_of, is_sync, event_of};
 
 /// The types of events (ISO/IEC 13522-5, EventType) that the profile has.
 #[derive(Clone, Copy, PartialEq, Eq)]
@@ -102,7 +102,7 @@ impl EventType {
 
     /// Whether an event of this type is dealt with at once, and not by way of the queue.
     pub fn is_sync(self) -> bool
-        ensures { result ≡ is_sync_lem self }
+        ensures { result ≡ is_sync self }
     {
         !matches!(
             self,

@@ -6,7 +6,7 @@ ghost use Rattle.std.specs.Cmp.Lexicographic.{pointwise, nat_list_eq_equiv};
 ghost use Rattle.std.specs.Cmp.{partial_equiv_from_equiv};
 ghost use Rattle.std.specs.Cmp.Rules.{hashing};
 ghost use Rattle.std.proofs.Common.{rules};
-ghost use Rattle.mh_base.specs.Path.{is_path, led_to, folder_of, is_name_byte as is_name_byte_lem, is_part as is_part_lem, has_good_parts as has_good_parts_lem, behind_slashes as behind_slashes_lem, folder_of as folder_of_lem};
+ghost use Rattle.mh_base.specs.Path.{is_path, led_to, folder_of, is_name_byte, is_part, has_good_parts, behind_slashes, folder_of as folder_of_lem};
 
 use crate::NameError;
 use std::alloc::{AllocError, Global};
@@ -117,26 +117,26 @@ fn tests_path(bytes: &[u8]) -> bool
 
 /// Whether a name may have each of the bytes.
 fn has_name_bytes(bytes: &[u8]) -> bool
-    ensures { result ≡ list_all is_name_byte_lem bytes.now }
+    ensures { result ≡ list_all is_name_byte bytes.now }
 {
     bytes.iter().all(|b| is_name_byte(*b))
 }
 
 /// Whether a name may have this byte.
 pub fn is_name_byte(b: u8) -> bool
-    ensures { result ≡ is_name_byte_lem b }
+    ensures { result ≡ is_name_byte b }
 {
     32 <= b && b <= 126 && b != b'"'
 }
 
 fn is_part(part: &[u8]) -> bool
-    ensures { result ≡ is_part_lem part.now }
+    ensures { result ≡ is_part part.now }
 {
     !part.is_empty() && part != b".".as_slice() && part != b"..".as_slice()
 }
 
 fn has_good_parts(bytes: &[u8]) -> bool
-    ensures { result ≡ has_good_parts_lem bytes.now }
+    ensures { result ≡ has_good_parts bytes.now }
 {
     match first_slash(bytes) {
         None => is_part(bytes),
@@ -152,7 +152,7 @@ fn first_slash(bytes: &[u8]) -> Option<usize>
 
 /// What is left behind the slashes at the front.
 fn behind_slashes(bytes: &[u8]) -> &[u8]
-    ensures { result.now ≡ behind_slashes_lem bytes.now }
+    ensures { result.now ≡ behind_slashes bytes.now }
 {
     let mut rest = bytes;
     while let [b'/', behind @ ..] = rest {

@@ -8,6 +8,7 @@ use Rattle.std.specs.List.{list_any, IsDistinct}
 use Rattle.std.specs.Map.{lookup, keys_of, values_of}
 use Rattle.std.specs.Option.{option_map_or}
 use Rattle.std.specs.Str.{bytes_eq}
+use Rattle.std.proofs.Math.Bool.{and_comm}
 use Rattle.std.proofs.lemmas.List.{map-append}
 use Rattle.std.proofs.lemmas.Map.{NonePasses}
 use Rattle.std.proofs.lemmas.Map.Entries.{none_past_head}
@@ -17,7 +18,7 @@ use Rattle.mh_base.specs.declared.obj_ref.ObjRef.{ObjRef}
 use Rattle.mh_model.specs.declared.file.Wait.{Wait}
 use Rattle.mh_model.specs.Files.{forgotten, is_wait, waits_for}
 use Rattle.mh_model.specs.Reference.{same_ref}
-use Rattle.mh_carousel.specs.Carried.{wait_of, waits_of}
+use Rattle.mh_carousel.specs.Carried.{same_key, wait_of, waits_of}
 
 -- References are equal, or not, as values are
 
@@ -25,32 +26,36 @@ both : (a b : Bool) → (a && b) ≡ true → (a ≡ true) × (b ≡ true)
 both true b h = (refl, h)
 both false b h = absurd cc
 
-same_ref-equiv : IsEquivalence same_ref
-same_ref-equiv = record {
-  refl = λ x. both_true (nat_list_eq_equiv.refl x.group) (nat_eq_equiv.refl x.number);
-  symm = λ x y i. nat_list_eq_equiv.symm x.group y.group i && nat_eq_equiv.symm x.number y.number i;
+same_key-equiv : IsEquivalence same_key
+same_key-equiv = record {
+  refl = λ x. both_true (nat_eq_equiv.refl x.number) (nat_list_eq_equiv.refl x.group);
+  symm = λ x y i. nat_eq_equiv.symm x.number y.number i && nat_list_eq_equiv.symm x.group y.group i;
   congr = λ x y z h.
-      let parts = both (bytes_eq x.group y.group) (nat_eq x.number y.number) h in
-      λ i. nat_list_eq_equiv.congr x.group y.group z.group parts.0 i && nat_eq_equiv.congr x.number y.number z.number parts.1 i;
+      let parts = both (nat_eq x.number y.number) (bytes_eq x.group y.group) h in
+      λ i. nat_eq_equiv.congr x.number y.number z.number parts.0 i && nat_list_eq_equiv.congr x.group y.group z.group parts.1 i;
 }
+
+same_ref-key : (a b : ObjRef) → same_ref a b ≡ same_key a b
+same_ref-key a b = and_comm (bytes_eq a.group b.group) (nat_eq a.number b.number)
 
 -- Waiting. No object stands there twice.
 
-none_waits : (n : List ℕ) (r : ObjRef) (es : List (ObjRef × List ℕ)) → NonePasses (same_ref r) es → list_any (is_wait n r) (waits_of es) ≡ false
+none_waits : (n : List ℕ) (r : ObjRef) (es : List (ObjRef × List ℕ)) → NonePasses (same_key r) es → list_any (is_wait n r) (waits_of es) ≡ false
 none_waits n r [] none = refl
-none_waits n r (e ∷ es) none = rw none.0 (none_waits n r es none.1)
+none_waits n r (e ∷ es) none = ap (λ (t : Bool). (t && bytes_eq e.1 n) || list_any (is_wait n r) (waits_of es)) (same_ref-key r e.0 ∙ none.0) ∙ none_waits n r es none.1
 
 or_false : (a b : Bool) → b ≡ false → (a || b) ≡ a
 or_false true b h = refl
 or_false false b h = h
 
-pub lookup-waits : (n : List ℕ) (r : ObjRef) (es : List (ObjRef × List ℕ)) → IsDistinct same_ref (keys_of es) → option_map_or (λ m. bytes_eq m n) (lookup (same_ref r) es) false ≡ waits_for n (waits_of es) r
+pub lookup-waits : (n : List ℕ) (r : ObjRef) (es : List (ObjRef × List ℕ)) → IsDistinct same_key (keys_of es) → option_map_or (λ m. bytes_eq m n) (lookup (same_key r) es) false ≡ waits_for n (waits_of es) r
 lookup-waits n r [] apart = refl
 lookup-waits n r (e ∷ es) apart =
-    by (same_ref r e.0) (λ is. none_waits n r es (none_past_head same_ref-equiv r e es apart is)) (lookup-waits n r es (IsDistinct-tail same_ref e.0 (keys_of es) apart)) refl
+    by (same_key r e.0) (λ is. none_waits n r es (none_past_head same_key-equiv r e es apart is)) (lookup-waits n r es (IsDistinct-tail same_key e.0 (keys_of es) apart)) refl
+    ∙ sym (ap (λ (t : Bool). (t && bytes_eq e.1 n) || list_any (is_wait n r) (waits_of es)) (same_ref-key r e.0))
   where
-    by : (t : Bool) → (same_ref r e.0 ≡ true → list_any (is_wait n r) (waits_of es) ≡ false) → option_map_or (λ m. bytes_eq m n) (lookup (same_ref r) es) false ≡ list_any (is_wait n r) (waits_of es) → same_ref r e.0 ≡ t
-        → option_map_or (λ m. bytes_eq m n) (cond t (Some e.1) (lookup (same_ref r) es)) false ≡ ((t && bytes_eq e.1 n) || list_any (is_wait n r) (waits_of es))
+    by : (t : Bool) → (same_key r e.0 ≡ true → list_any (is_wait n r) (waits_of es) ≡ false) → option_map_or (λ m. bytes_eq m n) (lookup (same_key r) es) false ≡ list_any (is_wait n r) (waits_of es) → same_key r e.0 ≡ t
+        → option_map_or (λ m. bytes_eq m n) (cond t (Some e.1) (lookup (same_key r) es)) false ≡ ((t && bytes_eq e.1 n) || list_any (is_wait n r) (waits_of es))
     by true none below is = sym (or_false (bytes_eq e.1 n) (list_any (is_wait n r) (waits_of es)) (none is))
     by false none below is = below
 
@@ -60,17 +65,20 @@ values-awaited n (e ∷ es) = ap (λ (b : Bool). bytes_eq e.1 n || b) (values-aw
 
 -- Waiting no more
 
-none_forgotten : (r : ObjRef) (es : List (ObjRef × List ℕ)) → NonePasses (same_ref r) es → waits_of es ≡ forgotten r (waits_of es)
+none_forgotten : (r : ObjRef) (es : List (ObjRef × List ℕ)) → NonePasses (same_key r) es → waits_of es ≡ forgotten r (waits_of es)
 none_forgotten r [] none = refl
-none_forgotten r (e ∷ es) none = rw none.0 (ap (λ (ws : List Wait). wait_of e ∷ ws) (none_forgotten r es none.1))
+none_forgotten r (e ∷ es) none =
+    ap (λ (ws : List Wait). wait_of e ∷ ws) (none_forgotten r es none.1)
+    ∙ sym (ap (λ (t : Bool). cond (not t) (wait_of e ∷ forgotten r (waits_of es)) (forgotten r (waits_of es))) (same_ref-key r e.0 ∙ none.0))
 
-pub removed-forgotten : (r : ObjRef) (es : List (ObjRef × List ℕ)) → IsDistinct same_ref (keys_of es) → waits_of (shift_remove_entry (same_ref r) es) ≡ forgotten r (waits_of es)
+pub removed-forgotten : (r : ObjRef) (es : List (ObjRef × List ℕ)) → IsDistinct same_key (keys_of es) → waits_of (shift_remove_entry (same_key r) es) ≡ forgotten r (waits_of es)
 removed-forgotten r [] apart = refl
 removed-forgotten r (e ∷ es) apart =
-    by (same_ref r e.0) (λ is. none_forgotten r es (none_past_head same_ref-equiv r e es apart is)) (removed-forgotten r es (IsDistinct-tail same_ref e.0 (keys_of es) apart)) refl
+    by (same_key r e.0) (λ is. none_forgotten r es (none_past_head same_key-equiv r e es apart is)) (removed-forgotten r es (IsDistinct-tail same_key e.0 (keys_of es) apart)) refl
+    ∙ sym (ap (λ (t : Bool). cond (not t) (wait_of e ∷ forgotten r (waits_of es)) (forgotten r (waits_of es))) (same_ref-key r e.0))
   where
-    by : (t : Bool) → (same_ref r e.0 ≡ true → waits_of es ≡ forgotten r (waits_of es)) → waits_of (shift_remove_entry (same_ref r) es) ≡ forgotten r (waits_of es) → same_ref r e.0 ≡ t
-        → waits_of (cond t es (e ∷ shift_remove_entry (same_ref r) es)) ≡ cond (not t) (wait_of e ∷ forgotten r (waits_of es)) (forgotten r (waits_of es))
+    by : (t : Bool) → (same_key r e.0 ≡ true → waits_of es ≡ forgotten r (waits_of es)) → waits_of (shift_remove_entry (same_key r) es) ≡ forgotten r (waits_of es) → same_key r e.0 ≡ t
+        → waits_of (cond t es (e ∷ shift_remove_entry (same_key r) es)) ≡ cond (not t) (wait_of e ∷ forgotten r (waits_of es)) (forgotten r (waits_of es))
     by true none below is = none is
     by false none below is = ap (λ (ws : List Wait). wait_of e ∷ ws) below
 

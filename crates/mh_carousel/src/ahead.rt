@@ -4,7 +4,7 @@ ghost use Rattle.std.specs.List.{list_any};
 ghost use Rattle.std.specs.Option.{option_copied};
 ghost use Rattle.mh_model.specs.Files.{is_too_many};
 ghost use Rattle.mh_model.specs.Step.{files_ahead};
-ghost use Rattle.mh_carousel.specs.Ahead.{brings as brings_lem, file_at, has as has_lem, is_for};
+ghost use Rattle.mh_carousel.specs.Ahead.{brings, file_at, has, is_for};
 ghost use Rattle.mh_carousel.specs.Ahead.{number_with};
 ghost use Rattle.mh_carousel.specs.Carried.{files_of};
 
@@ -72,7 +72,7 @@ fn has_ahead(
     name: &GroupName,
 ) -> bool
     ensures { result
-        ≡ has_lem name.now (files_ahead (files_of files.now.entries) (take count queue.now.items)) }
+        ≡ has name.now (files_ahead (files_of files.now.entries) (take count queue.now.items)) }
 {
     if has(files, name) {
         return true;
@@ -82,7 +82,7 @@ fn has_ahead(
 
 /// Whether one of the first that wait, so many, brings a file of this name.
 fn is_brought(queue: &Queue, count: usize, name: &GroupName) -> bool
-    ensures { result ≡ list_any (brings_lem name.now) (take count queue.now.items) }
+    ensures { result ≡ list_any (brings name.now) (take count queue.now.items) }
 {
     for place in 0..count {
         if brings(queue.at(place), name) {

@@ -5,7 +5,7 @@ ghost use Rattle.std.specs.Prelude.{◌≡◌, ◌≤◌, [], Some, OnOk, OnErr,
 ghost use Rattle.std.specs.List.{list_any};
 ghost use Rattle.std.specs.Option.{option_copied};
 ghost use Rattle.std.specs.Str.{bytes_eq};
-ghost use Rattle.mh_model.specs.Files.{arrived as arrived_lem, awaited, content as content_lem};
+ghost use Rattle.mh_model.specs.Files.{arrived, awaited, content};
 ghost use Rattle.mh_model.specs.Files.{forgotten, is_too_large, is_too_many, waits_for, with_file};
 ghost use Rattle.mh_model.specs.Step.{files_ahead};
 
@@ -57,7 +57,7 @@ impl Carousel {
 
     /// What the file of this name contains, if it is there.
     pub fn content(&self, name: &GroupName) -> Option<&Octets>
-        ensures { option_copied result ≡ content_lem name.now self.now.files }
+        ensures { option_copied result ≡ content name.now self.now.files }
     {
         files::content(&self.files, name)
     }
@@ -167,7 +167,7 @@ impl Carousel {
     /// Lets nobody wait for the file of this name any more.
     pub fn arrived(&mut self, name: &GroupName)
         ensures files { self.new.files ≡ self.old.files }
-        ensures waits { self.new.waits ≡ arrived_lem name.now self.old.waits }
+        ensures waits { self.new.waits ≡ arrived name.now self.old.waits }
         ensures file_room { self.new.file_room ≡ self.old.file_room }
         ensures room { self.old.room ≤ self.new.room }
     {

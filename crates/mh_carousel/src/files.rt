@@ -2,8 +2,8 @@
 ghost use Rattle.std.specs.Prelude.{◌≡◌, ◌≤◌};
 ghost use Rattle.std.specs.Option.{option_copied};
 ghost use Rattle.indexmap.specs.IndexMap.{spare};
-ghost use Rattle.mh_model.specs.Files.{content as content_lem, with_file};
-ghost use Rattle.mh_carousel.specs.Ahead.{has as has_lem};
+ghost use Rattle.mh_model.specs.Files.{content, with_file};
+ghost use Rattle.mh_carousel.specs.Ahead.{has};
 ghost use Rattle.mh_carousel.specs.Carried.{files_of};
 
 use indexmap::IndexMap;
@@ -15,14 +15,14 @@ pub(crate) fn content<'a>(
     files: &'a IndexMap<GroupName, Octets>,
     name: &GroupName,
 ) -> Option<&'a Octets>
-    ensures { option_copied result ≡ content_lem name.now (files_of files.now.entries) }
+    ensures { option_copied result ≡ content name.now (files_of files.now.entries) }
 {
     files.get(name)
 }
 
 /// Whether a file of this name is there.
 pub(crate) fn has(files: &IndexMap<GroupName, Octets>, name: &GroupName) -> bool
-    ensures { result ≡ has_lem name.now (files_of files.now.entries) }
+    ensures { result ≡ has name.now (files_of files.now.entries) }
 {
     files.contains_key(name)
 }

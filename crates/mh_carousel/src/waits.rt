@@ -4,9 +4,8 @@ ghost use Rattle.std.specs.List.{list_any};
 ghost use Rattle.std.specs.Map.{lookup};
 ghost use Rattle.std.specs.Str.{bytes_eq};
 ghost use Rattle.indexmap.specs.IndexMap.{spare};
-ghost use Rattle.mh_model.specs.Files.{arrived as arrived_lem, awaited, forgotten, waits_for};
-ghost use Rattle.mh_model.specs.Reference.{same_ref};
-ghost use Rattle.mh_carousel.specs.Carried.{waits_of};
+ghost use Rattle.mh_model.specs.Files.{arrived, awaited, forgotten, waits_for};
+ghost use Rattle.mh_carousel.specs.Carried.{same_key, waits_of};
 
 use indexmap::IndexMap;
 use mh_base::{GroupName, ObjRef};
@@ -39,7 +38,7 @@ pub(crate) fn is_awaited(waits: &IndexMap<ObjRef, GroupName>, name: &GroupName) 
 /// Lets the object wait for nothing any more. Where nothing waits, nothing is looked for.
 pub(crate) fn forget(waits: &mut IndexMap<ObjRef, GroupName>, object: &ObjRef)
     ensures waits { waits_of waits.new.entries ≡ forgotten object.now (waits_of waits.old.entries) }
-    ensures gone { lookup (same_ref object.now) waits.new.entries ≡ None }
+    ensures gone { lookup (same_key object.now) waits.new.entries ≡ None }
     ensures room { spare waits.old ≤ spare waits.new }
 {
     if waits.len() != 0 {
@@ -60,7 +59,7 @@ pub(crate) fn wait(waits: &mut IndexMap<ObjRef, GroupName>, wait: Wait)
 /// Adds an object that waits for nothing, where there is room.
 fn add(waits: &mut IndexMap<ObjRef, GroupName>, wait: Wait)
     requires room { 1 ≤ spare waits.old }
-    requires new { lookup (same_ref wait.object) waits.old.entries ≡ None }
+    requires new { lookup (same_key wait.object) waits.old.entries ≡ None }
     ensures { waits_of waits.new.entries ≡ waits_of waits.old.entries ++ wait ∷ [] }
 {
     let Wait { object, name } = wait;
@@ -72,7 +71,7 @@ fn add(waits: &mut IndexMap<ObjRef, GroupName>, wait: Wait)
 
 /// Lets nobody wait for the file of this name any more.
 pub(crate) fn arrived(waits: &mut IndexMap<ObjRef, GroupName>, name: &GroupName)
-    ensures waits { waits_of waits.new.entries ≡ arrived_lem name.now (waits_of waits.old.entries) }
+    ensures waits { waits_of waits.new.entries ≡ arrived name.now (waits_of waits.old.entries) }
     ensures room { spare waits.old ≤ spare waits.new }
 {
     waits.retain(|_object, other| is_other(other, name));

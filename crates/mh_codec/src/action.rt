@@ -2,7 +2,7 @@
 //! the word of `mh_group`'s table.
 ghost use Rattle.std.specs.Prelude.{[]};
 ghost use Rattle.mh_codec.specs.Gives.{Gives};
-ghost use Rattle.mh_codec.specs.Reading.{action_at as action_at_lem, parameters as parameters_lem, parameter_at as parameter_at_lem, typed_at as typed_at_lem, value_at as value_at_lem};
+ghost use Rattle.mh_codec.specs.Reading.{action_at, parameters, parameter_at, typed_at, value_at};
 
 use crate::element::{ended, only, own_at, refused, taken};
 use crate::kind::{action_with, value_kind_with};
@@ -16,7 +16,7 @@ use std::alloc::Global;
 
 #[tactic(auto, unfolding(crate::specs::Reading::action_at))]
 fn action_at(alloc: Global, element: &Element<'_>) -> Result<Action, CodecError>
-    ensures { Gives (λ x. x) result (action_at_lem element.now) }
+    ensures { Gives (λ x. x) result (action_at element.now) }
 {
     let number = own_at(element)?;
     let Some(name) = action_with(number) else {
@@ -41,7 +41,7 @@ fn parameters<'a>(
     needs: &[Need],
     reader: Reader<'a>,
 ) -> Result<(Seq<Parameter>, Reader<'a>), CodecError>
-    ensures { Gives (λ x. x) result (parameters_lem optional needs.now [] reader.entry) }
+    ensures { Gives (λ x. x) result (parameters optional needs.now [] reader.entry) }
 {
     let mut parameters = Seq::new(alloc);
     let mut reader = reader;
@@ -60,7 +60,7 @@ fn parameters<'a>(
 
 #[tactic(auto, unfolding(crate::specs::Reading::parameter_at))]
 fn parameter_at(alloc: Global, need: Need, element: &Element<'_>) -> Result<Parameter, CodecError>
-    ensures { Gives (λ x. x) result (parameter_at_lem need element.now) }
+    ensures { Gives (λ x. x) result (parameter_at need element.now) }
 {
     Ok(match need {
         Need::Bool => Parameter::Bool(generic_at::<bool>(alloc, element)?),
@@ -79,7 +79,7 @@ fn parameter_at(alloc: Global, need: Need, element: &Element<'_>) -> Result<Para
 /// A value behind the tag of its kind.
 #[tactic(auto, unfolding(crate::specs::Reading::typed_at))]
 fn typed_at(alloc: Global, element: &Element<'_>) -> Result<Typed, CodecError>
-    ensures { Gives (λ x. x) result (typed_at_lem element.now) }
+    ensures { Gives (λ x. x) result (typed_at element.now) }
 {
     let number = own_at(element)?;
     let Some(kind) = value_kind_with(number) else {
@@ -92,7 +92,7 @@ fn typed_at(alloc: Global, element: &Element<'_>) -> Result<Typed, CodecError>
 /// A value of this kind.
 #[tactic(auto, unfolding(crate::specs::Reading::value_at))]
 fn value_at(alloc: Global, kind: ValueKind, element: &Element<'_>) -> Result<Typed, CodecError>
-    ensures { Gives (λ x. x) result (value_at_lem kind element.now) }
+    ensures { Gives (λ x. x) result (value_at kind element.now) }
 {
     Ok(match kind {
         ValueKind::Bool => Typed::Bool(generic_at::<bool>(alloc, element)?),

@@ -2,7 +2,7 @@
 //! hold others.
 ghost use Rattle.std.specs.Prelude.{◌≡◌};
 ghost use Rattle.mh_codec.specs.Gives.{Gives};
-ghost use Rattle.mh_codec.specs.Reading.{taken as taken_lem, ended as ended_lem, exhausted as exhausted_lem, sequence_at as sequence_at_lem, own_at as own_at_lem, primitive_at as primitive_at_lem, only as only_lem};
+ghost use Rattle.mh_codec.specs.Reading.{taken, ended, exhausted, sequence_at, own_at, primitive_at, only};
 
 use crate::kind::{Kind, kind_of};
 use crate::{CodecError, Why};
@@ -21,7 +21,7 @@ pub(crate) fn refused(element: &Element<'_>, why: Why) -> CodecError
 /// The next element, and the reader behind it.
 #[tactic(auto, unfolding(crate::specs::Reading::taken))]
 pub(crate) fn taken<'a>(reader: Reader<'a>) -> Result<(Element<'a>, Reader<'a>), CodecError>
-    ensures { Gives (λ x. x) result (taken_lem reader.entry) }
+    ensures { Gives (λ x. x) result (taken reader.entry) }
 {
     Ok(reader.taken()?)
 }
@@ -29,7 +29,7 @@ pub(crate) fn taken<'a>(reader: Reader<'a>) -> Result<(Element<'a>, Reader<'a>),
 /// Nothing is left, which is wanted here.
 #[tactic(auto, unfolding(crate::specs::Reading::ended))]
 pub(crate) fn ended(reader: Reader<'_>) -> Result<(), CodecError>
-    ensures { Gives (λ x. x) result (ended_lem reader.entry) }
+    ensures { Gives (λ x. x) result (ended reader.entry) }
 {
     reader.ended()?;
     Ok(())
@@ -38,7 +38,7 @@ pub(crate) fn ended(reader: Reader<'_>) -> Result<(), CodecError>
 /// Nothing is left; else what is left is refused for this cause.
 #[tactic(auto, unfolding(crate::specs::Reading::exhausted))]
 pub(crate) fn exhausted(reader: &Reader<'_>, why: Why) -> Result<(), CodecError>
-    ensures { Gives (λ x. x) result (exhausted_lem why reader.now) }
+    ensures { Gives (λ x. x) result (exhausted why reader.now) }
 {
     if reader.is_empty() {
         Ok(())
@@ -53,7 +53,7 @@ pub(crate) fn exhausted(reader: &Reader<'_>, why: Why) -> Result<(), CodecError>
 /// The one element that is left.
 #[tactic(auto, unfolding(crate::specs::Reading::only))]
 pub(crate) fn only<'a>(reader: Reader<'a>) -> Result<Element<'a>, CodecError>
-    ensures { Gives (λ x. x) result (only_lem reader.entry) }
+    ensures { Gives (λ x. x) result (only reader.entry) }
 {
     let (element, behind) = taken(reader)?;
     ended(behind)?;
@@ -63,7 +63,7 @@ pub(crate) fn only<'a>(reader: Reader<'a>) -> Result<Element<'a>, CodecError>
 /// A reader of what is inside a sequence.
 #[tactic(auto, unfolding(crate::specs::Reading::sequence_at))]
 pub(crate) fn sequence_at<'a>(element: &Element<'a>) -> Result<Reader<'a>, CodecError>
-    ensures { Gives (λ x. x) result (sequence_at_lem element.now) }
+    ensures { Gives (λ x. x) result (sequence_at element.now) }
 {
     match kind_of(element.tag()) {
         Kind::Sequence => Ok(element.contents()),
@@ -74,7 +74,7 @@ pub(crate) fn sequence_at<'a>(element: &Element<'a>) -> Result<Reader<'a>, Codec
 /// The number of a tag of the notation's own.
 #[tactic(auto, unfolding(crate::specs::Reading::own_at))]
 pub(crate) fn own_at(element: &Element<'_>) -> Result<u16, CodecError>
-    ensures { Gives (λ x. x) result (own_at_lem element.now) }
+    ensures { Gives (λ x. x) result (own_at element.now) }
 {
     match kind_of(element.tag()) {
         Kind::Own(number) => Ok(number),
@@ -85,7 +85,7 @@ pub(crate) fn own_at(element: &Element<'_>) -> Result<u16, CodecError>
 /// The number of a tag of the notation's own that is primitive.
 #[tactic(auto, unfolding(crate::specs::Reading::primitive_at))]
 pub(crate) fn primitive_at(element: &Element<'_>) -> Result<u16, CodecError>
-    ensures { Gives (λ x. x) result (primitive_at_lem element.now) }
+    ensures { Gives (λ x. x) result (primitive_at element.now) }
 {
     match kind_of(element.tag()) {
         Kind::Primitive(number) => Ok(number),

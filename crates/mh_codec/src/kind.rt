@@ -1,8 +1,8 @@
 //! What the tags of the notation stand for: sorts of values, and classes, attributes and actions by
 //! their numbers. Every number of a tag that is the notation's own is looked up here.
 ghost use Rattle.std.specs.Prelude.{◌≡◌, ◌+◌, ◌<◌};
-ghost use Rattle.mh_group.specs.Table.{class_number as class_number_lem, attribute_number as attribute_number_lem, action_number as action_number_lem};
-ghost use Rattle.mh_codec.specs.Tags.{kind_of as kind_of_lem, universal as universal_lem, class_with as class_with_lem, attribute_with as attribute_with_lem, action_with as action_with_lem, value_kind_with as value_kind_with_lem, value_number as value_number_lem, before_actions};
+ghost use Rattle.mh_group.specs.Table.{class_number, attribute_number, action_number};
+ghost use Rattle.mh_codec.specs.Tags.{kind_of, universal, class_with, attribute_with, action_with, value_kind_with, value_number, before_actions};
 
 use mh_base::{KINDS, Kind as ValueKind};
 use mh_der::{Tag, TagClass};
@@ -37,7 +37,7 @@ pub(crate) enum Kind {
 /// What an element with this tag is.
 #[tactic(auto, unfolding(crate::specs::Tags::kind_of))]
 pub(crate) fn kind_of(tag: Tag) -> Kind
-    ensures { result ≡ kind_of_lem tag }
+    ensures { result ≡ kind_of tag }
 {
     match (tag.class, tag.is_constructed) {
         (TagClass::Universal, is_constructed) => universal(is_constructed, tag.number),
@@ -48,7 +48,7 @@ pub(crate) fn kind_of(tag: Tag) -> Kind
 }
 
 fn universal(is_constructed: bool, number: u16) -> Kind
-    ensures { result ≡ universal_lem is_constructed number }
+    ensures { result ≡ universal is_constructed number }
 {
     match (is_constructed, number) {
         (false, 1) => Kind::Boolean,
@@ -62,7 +62,7 @@ fn universal(is_constructed: bool, number: u16) -> Kind
 /// The class whose elements have this number, if there is one.
 #[tactic(auto, unfolding(crate::specs::Tags::class_with))]
 pub(crate) fn class_with(number: u16) -> Option<Class>
-    ensures { result ≡ class_with_lem number }
+    ensures { result ≡ class_with number }
 {
     Class::of_number(u32::from(number))
 }
@@ -70,7 +70,7 @@ pub(crate) fn class_with(number: u16) -> Option<Class>
 /// The attribute whose elements have this number, if there is one.
 #[tactic(auto, unfolding(crate::specs::Tags::attribute_with))]
 pub(crate) fn attribute_with(number: u16) -> Option<Attribute>
-    ensures { result ≡ attribute_with_lem number }
+    ensures { result ≡ attribute_with number }
 {
     Attribute::of_number(u32::from(number))
 }
@@ -78,7 +78,7 @@ pub(crate) fn attribute_with(number: u16) -> Option<Attribute>
 /// The action whose elements have this number, if there is one.
 #[tactic(auto, using(crate::proofs::TagLemmas::action_above, crate::proofs::TagLemmas::none_below))]
 pub(crate) fn action_with(number: u16) -> Option<ActionName>
-    ensures { result ≡ action_with_lem number }
+    ensures { result ≡ action_with number }
 {
     let number = u32::from(number).checked_sub(BEFORE_ACTIONS)?;
     ActionName::of_number(number)
@@ -87,7 +87,7 @@ pub(crate) fn action_with(number: u16) -> Option<ActionName>
 /// The kind of value that stands behind the tag of this number, if there is one.
 #[tactic(auto, unfolding(crate::specs::Tags::value_kind_with))]
 pub(crate) fn value_kind_with(number: u16) -> Option<ValueKind>
-    ensures { result ≡ value_kind_with_lem number }
+    ensures { result ≡ value_kind_with number }
 {
     KINDS
         .iter()
@@ -97,7 +97,7 @@ pub(crate) fn value_kind_with(number: u16) -> Option<ValueKind>
 
 /// The number of the tag around values of this kind.
 pub(crate) fn value_number(kind: ValueKind) -> u16
-    ensures { result ≡ value_number_lem kind }
+    ensures { result ≡ value_number kind }
 {
     match kind {
         ValueKind::Bool => 62,
@@ -109,19 +109,19 @@ pub(crate) fn value_number(kind: ValueKind) -> u16
 }
 
 pub(crate) fn class_number(class: Class) -> u16
-    ensures { result ≡ class_number_lem class }
+    ensures { result ≡ class_number class }
 {
     class.number() as u16
 }
 
 pub(crate) fn attribute_number(attribute: Attribute) -> u16
-    ensures { result ≡ attribute_number_lem attribute }
+    ensures { result ≡ attribute_number attribute }
 {
     attribute.number() as u16
 }
 
 pub(crate) fn action_number(action: ActionName) -> u16
-    ensures { result ≡ before_actions + action_number_lem action }
+    ensures { result ≡ before_actions + action_number action }
 {
     (BEFORE_ACTIONS + action.number()) as u16
 }

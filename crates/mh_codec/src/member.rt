@@ -1,7 +1,7 @@
 //! Readers of the members of the lists that attributes hold: members of token groups and list groups,
 //! positions, next scenes.
 ghost use Rattle.mh_codec.specs.Gives.{Gives};
-ghost use Rattle.mh_codec.specs.Reading.{member_in as member_in_lem, member_at as member_at_lem, list_item_in as list_item_in_lem, list_item_at as list_item_at_lem, position_at as position_at_lem, next_scene_in as next_scene_in_lem, next_scene_at as next_scene_at_lem};
+ghost use Rattle.mh_codec.specs.Reading.{member_in, member_at, list_item_in, list_item_at, position_at, next_scene_in, next_scene_at};
 
 use crate::element::{ended, exhausted, sequence_at, taken};
 use crate::readable::{Readable, members};
@@ -16,7 +16,7 @@ use std::alloc::Global;
 /// A member: its object, and the effect of each slot.
 #[tactic(auto, unfolding(crate::specs::Reading::member_in))]
 fn member_in(alloc: Global, reader: Reader<'_>) -> Result<Member, CodecError>
-    ensures { Gives (λ x. x) result (member_in_lem reader.entry) }
+    ensures { Gives (λ x. x) result (member_in reader.entry) }
 {
     let (element, reader) = taken(reader)?;
     let object = reference_at(alloc, &element)?;
@@ -26,7 +26,7 @@ fn member_in(alloc: Global, reader: Reader<'_>) -> Result<Member, CodecError>
 
 #[tactic(auto, unfolding(crate::specs::Reading::member_at))]
 fn member_at(alloc: Global, element: &Element<'_>) -> Result<Member, CodecError>
-    ensures { Gives (λ x. x) result (member_at_lem element.now) }
+    ensures { Gives (λ x. x) result (member_at element.now) }
 {
     member_in(alloc, sequence_at(element)?)
 }
@@ -34,7 +34,7 @@ fn member_at(alloc: Global, element: &Element<'_>) -> Result<Member, CodecError>
 /// A member of a list group: its object alone.
 #[tactic(auto, unfolding(crate::specs::Reading::list_item_in))]
 fn list_item_in(alloc: Global, reader: Reader<'_>) -> Result<Member, CodecError>
-    ensures { Gives (λ x. x) result (list_item_in_lem reader.entry) }
+    ensures { Gives (λ x. x) result (list_item_in reader.entry) }
 {
     let (element, reader) = taken(reader)?;
     let object = reference_at(alloc, &element)?;
@@ -47,14 +47,14 @@ fn list_item_in(alloc: Global, reader: Reader<'_>) -> Result<Member, CodecError>
 
 #[tactic(auto, unfolding(crate::specs::Reading::list_item_at))]
 fn list_item_at(alloc: Global, element: &Element<'_>) -> Result<Member, CodecError>
-    ensures { Gives (λ x. x) result (list_item_at_lem element.now) }
+    ensures { Gives (λ x. x) result (list_item_at element.now) }
 {
     list_item_in(alloc, sequence_at(element)?)
 }
 
 #[tactic(auto, unfolding(crate::specs::Reading::position_at))]
 fn position_at(element: &Element<'_>) -> Result<Position, CodecError>
-    ensures { Gives (λ x. x) result (position_at_lem element.now) }
+    ensures { Gives (λ x. x) result (position_at element.now) }
 {
     let (x, y) = pair(Shape::Pair, sequence_at(element)?)?;
     Ok(Position { x, y })
@@ -63,7 +63,7 @@ fn position_at(element: &Element<'_>) -> Result<Position, CodecError>
 /// A name and an integer, and nothing behind them.
 #[tactic(auto, unfolding(crate::specs::Reading::next_scene_in))]
 fn next_scene_in(alloc: Global, reader: Reader<'_>) -> Result<NextScene, CodecError>
-    ensures { Gives (λ x. x) result (next_scene_in_lem reader.entry) }
+    ensures { Gives (λ x. x) result (next_scene_in reader.entry) }
 {
     let (element, reader) = taken(reader)?;
     let name = name_at(alloc, &element)?;
@@ -75,7 +75,7 @@ fn next_scene_in(alloc: Global, reader: Reader<'_>) -> Result<NextScene, CodecEr
 
 #[tactic(auto, unfolding(crate::specs::Reading::next_scene_at))]
 fn next_scene_at(alloc: Global, element: &Element<'_>) -> Result<NextScene, CodecError>
-    ensures { Gives (λ x. x) result (next_scene_at_lem element.now) }
+    ensures { Gives (λ x. x) result (next_scene_at element.now) }
 {
     next_scene_in(alloc, sequence_at(element)?)
 }

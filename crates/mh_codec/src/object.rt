@@ -3,7 +3,7 @@
 ghost use Rattle.std.specs.Prelude.{◌≡◌, ◌≢◌, ◌≤◌, IfOk, IfErr};
 ghost use Rattle.mh_codec.specs.Gives.{Gives};
 ghost use Rattle.mh_codec.specs.Writable.{Spells, SpellsNone, SpellsNoOther};
-ghost use Rattle.mh_codec.specs.Reading.{read, begins_group as begins_group_lem, group_at as group_at_lem, body as body_lem, class_at as class_at_lem, identifier_in as identifier_in_lem, fields as fields_lem, next_field as next_field_lem, attribute_at as attribute_at_lem, complete as complete_lem, items_at as items_at_lem, ingredient_at as ingredient_at_lem};
+ghost use Rattle.mh_codec.specs.Reading.{read, begins_group, group_at, body, class_at, identifier_in, fields as fields_lem, next_field, attribute_at, complete, items_at, ingredient_at};
 
 use crate::element::{ended, only, own_at, refused, sequence_at, taken};
 use crate::kind::{ITEMS, attribute_with, class_with};
@@ -22,7 +22,7 @@ const MOST_FIELDS: usize = 64;
 
 /// Whether the octets begin as a group does: with the tag of an application or of a scene.
 pub fn begins_group(octets: &[u8]) -> bool
-    ensures { result ≡ begins_group_lem octets.now }
+    ensures { result ≡ begins_group octets.now }
 {
     match octets {
         [octet, ..] => *octet == 0xA0 || *octet == 0xA1,
@@ -57,7 +57,7 @@ pub fn decode_group(alloc: Global, octets: &[u8]) -> Result<Group, CodecError>
 
 #[tactic(auto, unfolding(crate::specs::Reading::group_at))]
 fn group_at(alloc: Global, element: &Element<'_>) -> Result<Written, CodecError>
-    ensures { Gives (λ x. x) result (group_at_lem element.now) }
+    ensures { Gives (λ x. x) result (group_at element.now) }
 {
     let class = class_at(true, element)?;
     let (inner, reader) = taken(element.contents())?;
@@ -75,7 +75,7 @@ fn group_at(alloc: Global, element: &Element<'_>) -> Result<Written, CodecError>
 /// The class of the element, a group's or an ingredient's.
 #[tactic(auto, unfolding(crate::specs::Reading::class_at))]
 fn class_at(wants_group: bool, element: &Element<'_>) -> Result<Class, CodecError>
-    ensures { Gives (λ x. x) result (class_at_lem wants_group element.now) }
+    ensures { Gives (λ x. x) result (class_at wants_group element.now) }
 {
     let number = own_at(element)?;
     let Some(class) = class_with(number) else {
@@ -91,7 +91,7 @@ fn class_at(wants_group: bool, element: &Element<'_>) -> Result<Class, CodecErro
 /// The group's own identifier: its name, and the number 0.
 #[tactic(auto, unfolding(crate::specs::Reading::identifier_in))]
 fn identifier_in(alloc: Global, reader: Reader<'_>) -> Result<WrittenName, CodecError>
-    ensures { Gives (λ x. x) result (identifier_in_lem reader.entry) }
+    ensures { Gives (λ x. x) result (identifier_in reader.entry) }
 {
     let (name, number, element) = named_in(alloc, reader)?;
     if number.get() != 0 {
@@ -107,7 +107,7 @@ fn body(
     class: Class,
     reader: Reader<'_>,
 ) -> Result<(Seq<Field>, Option<Seq<Ingredient>>), CodecError>
-    ensures { Gives (λ x. x) result (body_lem class reader.entry) }
+    ensures { Gives (λ x. x) result (body class reader.entry) }
 {
     let (before, element, behind) = fields(alloc, class, 0, Seq::new(alloc), reader)?;
     let Some(element) = element else {
@@ -153,7 +153,7 @@ fn next_field<'a>(
     last: u32,
     reader: Reader<'a>,
 ) -> Result<(Option<Field>, Option<Element<'a>>, Reader<'a>), CodecError>
-    ensures { Gives (λ x. x) result (next_field_lem class last reader.entry) }
+    ensures { Gives (λ x. x) result (next_field class last reader.entry) }
 {
     if reader.is_empty() {
         return Ok((None, None, reader));
@@ -171,7 +171,7 @@ fn next_field<'a>(
 /// The attribute that the element gives, which the class takes and which comes behind the last one.
 #[tactic(auto, unfolding(crate::specs::Reading::attribute_at))]
 fn attribute_at(class: Class, last: u32, element: &Element<'_>) -> Result<Attribute, CodecError>
-    ensures { Gives (λ x. x) result (attribute_at_lem class last element.now) }
+    ensures { Gives (λ x. x) result (attribute_at class last element.now) }
 {
     let number = own_at(element)?;
     let Some(attribute) = attribute_with(number) else {
@@ -194,7 +194,7 @@ fn complete(
     fields: Seq<Field>,
     element: &Element<'_>,
 ) -> Result<Seq<Field>, CodecError>
-    ensures { Gives (λ x. x) result (complete_lem class fields element.now) }
+    ensures { Gives (λ x. x) result (complete class fields element.now) }
 {
     if has_required(class, fields.as_slice()) {
         Ok(fields)
@@ -206,7 +206,7 @@ fn complete(
 /// The ingredients of a group, in one sequence.
 #[tactic(auto, unfolding(crate::specs::Reading::items_at))]
 fn items_at(alloc: Global, element: &Element<'_>) -> Result<Seq<Ingredient>, CodecError>
-    ensures { Gives (λ x. x) result (items_at_lem element.now) }
+    ensures { Gives (λ x. x) result (items_at element.now) }
 {
     let inner = only(element.contents())?;
     list_at::<Ingredient>(alloc, LONGEST_LIST, &inner)
@@ -214,7 +214,7 @@ fn items_at(alloc: Global, element: &Element<'_>) -> Result<Seq<Ingredient>, Cod
 
 #[tactic(auto, unfolding(crate::specs::Reading::ingredient_at))]
 fn ingredient_at(alloc: Global, element: &Element<'_>) -> Result<Ingredient, CodecError>
-    ensures { Gives (λ x. x) result (ingredient_at_lem element.now) }
+    ensures { Gives (λ x. x) result (ingredient_at element.now) }
 {
     let class = class_at(false, element)?;
     let (inner, reader) = taken(element.contents())?;

@@ -2,7 +2,7 @@
 ghost use Rattle.std.specs.Prelude.{[]};
 ghost use Rattle.mh_base.specs.Limits.{longest_list};
 ghost use Rattle.mh_codec.specs.Gives.{Gives};
-ghost use Rattle.mh_codec.specs.Reading.{generic_at as generic_at_lem, list_at as list_at_lem, listed, next_member as next_member_lem};
+ghost use Rattle.mh_codec.specs.Reading.{generic_at, list_at, listed, next_member};
 
 use crate::element::{exhausted, sequence_at, taken};
 use crate::value::{is_indirect, variable_at};
@@ -29,11 +29,11 @@ pub(crate) trait Readable {
 
 /// A list of what can be read, in one sequence.
 impl<T: Readable> Readable for Seq<T> {
-    ghost use Rattle.mh_codec.specs.Reading.{list_at as list_at_lem};
+    ghost use Rattle.mh_codec.specs.Reading.{list_at};
 
     type Value = Seq<T::Value>;
 
-    ghost reading = { list_at_lem T.reading longest_list };
+    ghost reading = { list_at T.reading longest_list };
 
     fn read_at(alloc: Global, element: &Element<'_>) -> Result<Seq<T::Value>, CodecError> {
         list_at::<T>(alloc, LONGEST_LIST, element)
@@ -46,7 +46,7 @@ pub(crate) fn generic_at<T: Readable>(
     alloc: Global,
     element: &Element<'_>,
 ) -> Result<Generic<T::Value>, CodecError>
-    ensures { Gives (λ x. x) result (generic_at_lem T.reading element.now) }
+    ensures { Gives (λ x. x) result (generic_at T.reading element.now) }
 {
     if is_indirect(element) {
         Ok(Generic::Indirect(variable_at(alloc, element)?))
@@ -62,7 +62,7 @@ pub(crate) fn list_at<T: Readable>(
     limit: usize,
     element: &Element<'_>,
 ) -> Result<Seq<T::Value>, CodecError>
-    ensures { Gives (λ x. x) result (list_at_lem T.reading limit element.now) }
+    ensures { Gives (λ x. x) result (list_at T.reading limit element.now) }
 {
     let reader = sequence_at(element)?;
     members::<T>(alloc, limit, reader)
@@ -96,7 +96,7 @@ fn next_member<'a, T: Readable>(
     alloc: Global,
     reader: Reader<'a>,
 ) -> Result<(Option<T::Value>, Reader<'a>), CodecError>
-    ensures { Gives (λ x. x) result (next_member_lem T.reading reader.entry) }
+    ensures { Gives (λ x. x) result (next_member T.reading reader.entry) }
 {
     if reader.is_empty() {
         return Ok((None, reader));

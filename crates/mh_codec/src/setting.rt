@@ -1,7 +1,7 @@
 //! The reader of an attribute's value, by its shape.
 ghost use Rattle.std.specs.Prelude.{◌≡◌};
 ghost use Rattle.mh_codec.specs.Gives.{Gives};
-ghost use Rattle.mh_codec.specs.Reading.{setting as setting_lem, single as single_lem, pair as pair_lem, part as part_lem, is_pair as is_pair_lem};
+ghost use Rattle.mh_codec.specs.Reading.{setting, single, pair, part, is_pair};
 
 use crate::element::{ended, only, refused, taken};
 use crate::member::ListItem;
@@ -24,7 +24,7 @@ pub(crate) fn setting(
     shape: Shape,
     reader: Reader<'_>,
 ) -> Result<Setting, CodecError>
-    ensures { Gives (λ x. x) result (setting_lem shape reader.entry) }
+    ensures { Gives (λ x. x) result (setting shape reader.entry) }
 {
     if is_pair(shape) {
         let (first, second) = pair(shape, reader)?;
@@ -35,7 +35,7 @@ pub(crate) fn setting(
 }
 
 fn is_pair(shape: Shape) -> bool
-    ensures { result ≡ is_pair_lem shape }
+    ensures { result ≡ is_pair shape }
 {
     matches!(shape, Shape::Pair | Shape::Size | Shape::Screen)
 }
@@ -43,7 +43,7 @@ fn is_pair(shape: Shape) -> bool
 /// The value of a shape of one element.
 #[tactic(auto, unfolding(crate::specs::Reading::single))]
 fn single(alloc: Global, shape: Shape, element: &Element<'_>) -> Result<Setting, CodecError>
-    ensures { Gives (λ x. x) result (single_lem shape element.now) }
+    ensures { Gives (λ x. x) result (single shape element.now) }
 {
     Ok(match shape {
         Shape::Effect => Setting::Effect(Effect::read_at(alloc, element)?),
@@ -71,7 +71,7 @@ fn single(alloc: Global, shape: Shape, element: &Element<'_>) -> Result<Setting,
 /// Two integers, and nothing behind them.
 #[tactic(auto, unfolding(crate::specs::Reading::pair))]
 pub(crate) fn pair(shape: Shape, reader: Reader<'_>) -> Result<(i32, i32), CodecError>
-    ensures { Gives (λ x. x) result (pair_lem shape reader.entry) }
+    ensures { Gives (λ x. x) result (pair shape reader.entry) }
 {
     let (element, reader) = taken(reader)?;
     let first = part(shape, 720, &element)?;
@@ -84,7 +84,7 @@ pub(crate) fn pair(shape: Shape, reader: Reader<'_>) -> Result<(i32, i32), Codec
 /// One integer of a pair; the screen's has one value.
 #[tactic(auto, unfolding(crate::specs::Reading::part))]
 fn part(shape: Shape, screen: i32, element: &Element<'_>) -> Result<i32, CodecError>
-    ensures { Gives (λ x. x) result (part_lem shape screen element.now) }
+    ensures { Gives (λ x. x) result (part shape screen element.now) }
 {
     match shape {
         Shape::Size => natural_at(element),

@@ -1,7 +1,7 @@
 //! Readers of values that are one element: truth values, numbers, octets, names, references.
 ghost use Rattle.std.specs.Prelude.{◌≡◌, pos, ◌≤ℤ◌, IfOk};
 ghost use Rattle.mh_codec.specs.Gives.{Gives};
-ghost use Rattle.mh_codec.specs.Reading.{truth_at as truth_at_lem, integer_at as integer_at_lem, octets_at as octets_at_lem, natural_at as natural_at_lem, fixed_at as fixed_at_lem, number_at as number_at_lem, ingredient_number_at as ingredient_number_at_lem, name_at as name_at_lem, event_at as event_at_lem, colour_at as colour_at_lem, justification_at as justification_at_lem, length_at as length_at_lem, name_of as name_of_lem, content_name_at as content_name_at_lem, content_at as content_at_lem, data_at as data_at_lem, named_in as named_in_lem, reference_at as reference_at_lem, is_indirect as is_indirect_lem, variable_at as variable_at_lem};
+ghost use Rattle.mh_codec.specs.Reading.{truth_at, integer_at, octets_at, natural_at, fixed_at, number_at, ingredient_number_at, name_at, event_at, colour_at, justification_at, length_at, name_of, content_name_at, content_at, data_at, named_in, reference_at, is_indirect, variable_at};
 
 use crate::element::{ended, only, primitive_at, refused, taken};
 use crate::kind::{CONTENT_NAME, Kind, VARIABLE, kind_of};
@@ -13,7 +13,7 @@ use std::alloc::Global;
 
 #[tactic(auto, unfolding(crate::specs::Reading::truth_at))]
 pub(crate) fn truth_at(element: &Element<'_>) -> Result<bool, CodecError>
-    ensures { Gives (λ x. x) result (truth_at_lem element.now) }
+    ensures { Gives (λ x. x) result (truth_at element.now) }
 {
     match kind_of(element.tag()) {
         Kind::Boolean => Ok(bool_of(element)?),
@@ -23,7 +23,7 @@ pub(crate) fn truth_at(element: &Element<'_>) -> Result<bool, CodecError>
 
 #[tactic(auto, unfolding(crate::specs::Reading::integer_at))]
 pub(crate) fn integer_at(element: &Element<'_>) -> Result<i32, CodecError>
-    ensures { Gives (λ x. x) result (integer_at_lem element.now) }
+    ensures { Gives (λ x. x) result (integer_at element.now) }
 {
     match kind_of(element.tag()) {
         Kind::Integer => Ok(int_of(element)?),
@@ -33,7 +33,7 @@ pub(crate) fn integer_at(element: &Element<'_>) -> Result<i32, CodecError>
 
 #[tactic(auto, unfolding(crate::specs::Reading::octets_at))]
 pub(crate) fn octets_at<'a>(element: &Element<'a>) -> Result<&'a [u8], CodecError>
-    ensures { Gives (λ x. x.now) result (octets_at_lem element.now) }
+    ensures { Gives (λ x. x.now) result (octets_at element.now) }
 {
     match kind_of(element.tag()) {
         Kind::Octets => Ok(element.contents().bytes()),
@@ -44,7 +44,7 @@ pub(crate) fn octets_at<'a>(element: &Element<'a>) -> Result<&'a [u8], CodecErro
 /// An integer from 0.
 #[tactic(auto, unfolding(crate::specs::Reading::natural_at))]
 pub(crate) fn natural_at(element: &Element<'_>) -> Result<i32, CodecError>
-    ensures exact { Gives (λ x. x) result (natural_at_lem element.now) }
+    ensures exact { Gives (λ x. x) result (natural_at element.now) }
     ensures natural { IfOk result (λ x. pos 0 ≤ℤ x) }
 {
     let value = integer_at(element)?;
@@ -57,7 +57,7 @@ pub(crate) fn natural_at(element: &Element<'_>) -> Result<i32, CodecError>
 /// The length of an entry field: an integer from 1 to 255.
 #[tactic(auto, unfolding(crate::specs::Reading::length_at))]
 pub(crate) fn length_at(element: &Element<'_>) -> Result<i32, CodecError>
-    ensures { Gives (λ x. x) result (length_at_lem element.now) }
+    ensures { Gives (λ x. x) result (length_at element.now) }
 {
     let value = integer_at(element)?;
     if 1 <= value && value <= 255 {
@@ -70,7 +70,7 @@ pub(crate) fn length_at(element: &Element<'_>) -> Result<i32, CodecError>
 /// This integer and no other.
 #[tactic(auto, unfolding(crate::specs::Reading::fixed_at))]
 pub(crate) fn fixed_at(wanted: i32, element: &Element<'_>) -> Result<i32, CodecError>
-    ensures { Gives (λ x. x) result (fixed_at_lem wanted element.now) }
+    ensures { Gives (λ x. x) result (fixed_at wanted element.now) }
 {
     let value = integer_at(element)?;
     if value != wanted {
@@ -82,7 +82,7 @@ pub(crate) fn fixed_at(wanted: i32, element: &Element<'_>) -> Result<i32, CodecE
 /// The number of an object, from 0.
 #[tactic(auto, unfolding(crate::specs::Reading::number_at))]
 pub(crate) fn number_at(element: &Element<'_>) -> Result<Number, CodecError>
-    ensures { Gives (λ x. x) result (number_at_lem element.now) }
+    ensures { Gives (λ x. x) result (number_at element.now) }
 {
     let value = natural_at(element)?;
     match Number::new(value.unsigned_abs()) {
@@ -94,7 +94,7 @@ pub(crate) fn number_at(element: &Element<'_>) -> Result<Number, CodecError>
 /// The number of an ingredient, from 1.
 #[tactic(auto, unfolding(crate::specs::Reading::ingredient_number_at))]
 pub(crate) fn ingredient_number_at(element: &Element<'_>) -> Result<Number, CodecError>
-    ensures { Gives (λ x. x) result (ingredient_number_at_lem element.now) }
+    ensures { Gives (λ x. x) result (ingredient_number_at element.now) }
 {
     let number = number_at(element)?;
     if number.get() == 0 {
@@ -105,14 +105,14 @@ pub(crate) fn ingredient_number_at(element: &Element<'_>) -> Result<Number, Code
 
 #[tactic(auto, unfolding(crate::specs::Reading::name_at))]
 pub(crate) fn name_at(alloc: Global, element: &Element<'_>) -> Result<WrittenName, CodecError>
-    ensures { Gives (λ x. x) result (name_at_lem element.now) }
+    ensures { Gives (λ x. x) result (name_at element.now) }
 {
     name_of(alloc, element, octets_at(element)?)
 }
 
 /// The name of these bytes, where a name may hold them; else the element is refused.
 fn name_of(alloc: Global, element: &Element<'_>, bytes: &[u8]) -> Result<WrittenName, CodecError>
-    ensures { Gives (λ x. x) result (name_of_lem element.now bytes.now) }
+    ensures { Gives (λ x. x) result (name_of element.now bytes.now) }
 {
     match WrittenName::new(Vec::from_slice(alloc, bytes)?) {
         Some(name) => Ok(name),
@@ -126,7 +126,7 @@ pub(crate) fn content_name_at(
     alloc: Global,
     element: &Element<'_>,
 ) -> Result<WrittenName, CodecError>
-    ensures { Gives (λ x. x) result (content_name_at_lem element.now) }
+    ensures { Gives (λ x. x) result (content_name_at element.now) }
 {
     let number = primitive_at(element)?;
     if number != CONTENT_NAME {
@@ -138,7 +138,7 @@ pub(crate) fn content_name_at(
 /// Content: in the file, or in a file of a name.
 #[tactic(auto, unfolding(crate::specs::Reading::content_at))]
 pub(crate) fn content_at(alloc: Global, element: &Element<'_>) -> Result<Content, CodecError>
-    ensures { Gives (λ x. x) result (content_at_lem element.now) }
+    ensures { Gives (λ x. x) result (content_at element.now) }
 {
     match kind_of(element.tag()) {
         Kind::Octets => {
@@ -152,7 +152,7 @@ pub(crate) fn content_at(alloc: Global, element: &Element<'_>) -> Result<Content
 /// The data of an event: a truth value or an integer.
 #[tactic(auto, unfolding(crate::specs::Reading::data_at))]
 pub(crate) fn data_at(element: &Element<'_>) -> Result<EventData, CodecError>
-    ensures { Gives (λ x. x) result (data_at_lem element.now) }
+    ensures { Gives (λ x. x) result (data_at element.now) }
 {
     match kind_of(element.tag()) {
         Kind::Boolean => Ok(EventData::Bool(truth_at(element)?)),
@@ -163,7 +163,7 @@ pub(crate) fn data_at(element: &Element<'_>) -> Result<EventData, CodecError>
 /// The type of an event, by its number.
 #[tactic(auto, unfolding(crate::specs::Reading::event_at))]
 pub(crate) fn event_at(element: &Element<'_>) -> Result<EventType, CodecError>
-    ensures { Gives (λ x. x) result (event_at_lem element.now) }
+    ensures { Gives (λ x. x) result (event_at element.now) }
 {
     let number = number_at(element)?;
     match EventType::of_number(number.get()) {
@@ -175,7 +175,7 @@ pub(crate) fn event_at(element: &Element<'_>) -> Result<EventType, CodecError>
 /// A justification, by its number.
 #[tactic(auto, unfolding(crate::specs::Reading::justification_at))]
 pub(crate) fn justification_at(element: &Element<'_>) -> Result<Justification, CodecError>
-    ensures { Gives (λ x. x) result (justification_at_lem element.now) }
+    ensures { Gives (λ x. x) result (justification_at element.now) }
 {
     let number = number_at(element)?;
     match Justification::of_number(number.get()) {
@@ -187,7 +187,7 @@ pub(crate) fn justification_at(element: &Element<'_>) -> Result<Justification, C
 /// A colour: four octets.
 #[tactic(auto, unfolding(crate::specs::Reading::colour_at))]
 pub(crate) fn colour_at(element: &Element<'_>) -> Result<Colour, CodecError>
-    ensures { Gives (λ x. x) result (colour_at_lem element.now) }
+    ensures { Gives (λ x. x) result (colour_at element.now) }
 {
     match octets_at(element)? {
         [red, green, blue, transparency] => Ok(Colour {
@@ -206,7 +206,7 @@ pub(crate) fn named_in<'a>(
     alloc: Global,
     reader: Reader<'a>,
 ) -> Result<(WrittenName, Number, Element<'a>), CodecError>
-    ensures { Gives (λ x. x) result (named_in_lem reader.entry) }
+    ensures { Gives (λ x. x) result (named_in reader.entry) }
 {
     let (element, reader) = taken(reader)?;
     let name = name_at(alloc, &element)?;
@@ -218,7 +218,7 @@ pub(crate) fn named_in<'a>(
 
 #[tactic(auto, unfolding(crate::specs::Reading::reference_at))]
 pub(crate) fn reference_at(alloc: Global, element: &Element<'_>) -> Result<Ref, CodecError>
-    ensures { Gives (λ x. x) result (reference_at_lem element.now) }
+    ensures { Gives (λ x. x) result (reference_at element.now) }
 {
     match kind_of(element.tag()) {
         Kind::Integer => Ok(Ref::Here(number_at(element)?)),
@@ -233,7 +233,7 @@ pub(crate) fn reference_at(alloc: Global, element: &Element<'_>) -> Result<Ref, 
 /// Whether the element holds the reference of a variable.
 #[tactic(auto, unfolding(crate::specs::Reading::is_indirect))]
 pub(crate) fn is_indirect(element: &Element<'_>) -> bool
-    ensures { result ≡ is_indirect_lem element.now }
+    ensures { result ≡ is_indirect element.now }
 {
     match kind_of(element.tag()) {
         Kind::Own(number) => number == VARIABLE,
@@ -244,7 +244,7 @@ pub(crate) fn is_indirect(element: &Element<'_>) -> bool
 /// The reference of the variable that holds a value.
 #[tactic(auto, unfolding(crate::specs::Reading::variable_at))]
 pub(crate) fn variable_at(alloc: Global, element: &Element<'_>) -> Result<Ref, CodecError>
-    ensures { Gives (λ x. x) result (variable_at_lem element.now) }
+    ensures { Gives (λ x. x) result (variable_at element.now) }
 {
     let inner = only(element.contents())?;
     reference_at(alloc, &inner)

@@ -5,7 +5,7 @@ ghost use Rattle.std.specs.Prelude.{◌≡◌, ◌++◌, true, OnOk, IfErr};
 ghost use Rattle.std.specs.List.{list_all};
 ghost use Rattle.mh_der.specs.Element.{element};
 ghost use Rattle.mh_group.specs.Holdable.{is_reference, is_generic, is_list};
-ghost use Rattle.mh_codec.specs.Spelling.{own as own_lem, several, list, generic, reference as reference_lem};
+ghost use Rattle.mh_codec.specs.Spelling.{own, several, list, generic, reference};
 ghost use Rattle.mh_codec.specs.Unwritable.{Refuses};
 
 use crate::kind::VARIABLE;
@@ -81,7 +81,7 @@ fn write_generic<T: Writable>(
 
 /// Writes the reference of a variable that holds a value.
 fn write_variable(alloc: Global, out: &mut Vec<u8>, variable: &Ref) -> Result<(), CodecError>
-    ensures written { OnOk result (out.new.items ≡ out.old.items ++ element (own_lem 61) (reference_lem variable.now)) }
+    ensures written { OnOk result (out.new.items ≡ out.old.items ++ element (own 61) (reference variable.now)) }
     ensures fits { OnOk result (is_reference variable.now ≡ true) }
     ensures limit { IfErr result (Refuses (is_reference variable.now)) }
 {
@@ -129,7 +129,7 @@ pub(crate) fn write_several<T: Writable>(
 
 /// The tag of this number that is the notation's own.
 pub(crate) fn own(number: u16) -> Tag
-    ensures { result ≡ own_lem number }
+    ensures { result ≡ own number }
 {
     Tag {
         class: TagClass::Context,

@@ -3,7 +3,7 @@ ghost use Rattle.std.specs.Prelude.{◌≡◌, ◌<◌, ◌^◌, ◌++◌, true,
 ghost use Rattle.std.specs.List.{list_all};
 ghost use Rattle.mh_base.specs.Path.{is_name_byte};
 ghost use Rattle.mh_group.specs.Holdable.{is_integer, is_octets};
-ghost use Rattle.mh_codec.specs.Spelling.{integer, natural, octet_string, named, content_tag as content_tag_lem};
+ghost use Rattle.mh_codec.specs.Spelling.{integer, natural, octet_string, named, content_tag};
 
 use crate::CodecError;
 use crate::kind::CONTENT_NAME;
@@ -67,7 +67,7 @@ pub(crate) fn write_integer(out: &mut Vec<u8>, value: i32) -> Result<(), AllocEr
 
 /// The tag of the name of a content file.
 fn content_tag() -> Tag
-    ensures { result ≡ content_tag_lem }
+    ensures { result ≡ content_tag }
 {
     Tag {
         class: TagClass::Context,

@@ -4,13 +4,13 @@ ghost use Rattle.std.specs.Prelude.{◌≡◌, ◌+◌, ◌*◌, ◌<◌, ◌≤
 ghost use Rattle.std.specs.Int.Digits.{number_from_digits};
 ghost use Rattle.mh_der.specs.Element.{element};
 ghost use Rattle.mh_der.specs.Laws.{BeginWithNone};
-ghost use Rattle.mh_der.specs.Reading.{Gives, class_of as class_of_lem, is_constructed as is_constructed_lem, digit as digit_lem, long_enough as long_enough_lem, long_number as long_number_lem, tag_of as tag_of_lem, begins_with_zero as begins_with_zero_lem, held as held_lem, long_length as long_length_lem, length_of as length_of_lem, parts as parts_lem};
+ghost use Rattle.mh_der.specs.Reading.{Gives, class_of, is_constructed, digit, long_enough, long_number, tag_of, begins_with_zero, held, long_length, length_of, parts};
 
 use crate::{Tag, TagClass, Why};
 
 /// The class that the first octet tells.
 fn class_of(octet: u8) -> TagClass
-    ensures { result ≡ class_of_lem octet }
+    ensures { result ≡ class_of octet }
 {
     match octet {
         0..=63 => TagClass::Universal,
@@ -22,7 +22,7 @@ fn class_of(octet: u8) -> TagClass
 
 /// Whether the first octet says that the contents are elements.
 fn is_constructed(octet: u8) -> bool
-    ensures { result ≡ is_constructed_lem octet }
+    ensures { result ≡ is_constructed octet }
 {
     octet / 32 % 2 == 1
 }
@@ -32,7 +32,7 @@ fn is_constructed(octet: u8) -> bool
 #[tactic(auto, unfolding(crate::specs::Reading::digit))]
 fn digit(number: u32, bytes: &[u8]) -> Result<(u32, bool, &[u8]), Why>
     requires small { number < 2 ^ 14 }
-    ensures exact { Gives (λ x. (x.0, x.1, x.2.now)) result (digit_lem number bytes.now) }
+    ensures exact { Gives (λ x. (x.0, x.1, x.2.now)) result (digit number bytes.now) }
     ensures more { IfOk result (λ x. x.0 < number * 128 + 128) }
     ensures less { IfOk result (λ x. length x.2.now ≤ length bytes.now) }
 {
@@ -47,7 +47,7 @@ fn digit(number: u32, bytes: &[u8]) -> Result<(u32, bool, &[u8]), Why>
 
 /// A number that wants digits behind the first octet, and that tags may have.
 fn long_enough(number: u32, bytes: &[u8]) -> Result<(u16, &[u8]), Why>
-    ensures exact { Gives (λ x. (x.0, x.1.now)) result (long_enough_lem number bytes.now) }
+    ensures exact { Gives (λ x. (x.0, x.1.now)) result (long_enough number bytes.now) }
     ensures less { IfOk result (λ x. length x.1.now ≤ length bytes.now) }
 {
     if number < 31 || 65535 < number {
@@ -60,7 +60,7 @@ fn long_enough(number: u32, bytes: &[u8]) -> Result<(u16, &[u8]), Why>
 /// The number of a tag in digits: at most three, and the first not zero where others follow.
 #[tactic(auto, unfolding(crate::specs::Reading::long_number))]
 fn long_number(bytes: &[u8]) -> Result<(u16, &[u8]), Why>
-    ensures exact { Gives (λ x. (x.0, x.1.now)) result (long_number_lem bytes.now) }
+    ensures exact { Gives (λ x. (x.0, x.1.now)) result (long_number bytes.now) }
     ensures less { IfOk result (λ x. length x.1.now ≤ length bytes.now) }
 {
     let (number, is_last, rest) = digit(0, bytes)?;
@@ -85,7 +85,7 @@ fn long_number(bytes: &[u8]) -> Result<(u16, &[u8]), Why>
 /// The tag at the front, and what is left behind it.
 #[tactic(auto, unfolding(crate::specs::Reading::tag_of))]
 fn tag_of(bytes: &[u8]) -> Result<(Tag, &[u8]), Why>
-    ensures exact { Gives (λ x. (x.0, x.1.now)) result (tag_of_lem bytes.now) }
+    ensures exact { Gives (λ x. (x.0, x.1.now)) result (tag_of bytes.now) }
     ensures less { IfOk result (λ x. length x.1.now ≤ length bytes.now) }
 {
     let Some((octet, rest)) = bytes.split_first() else {
@@ -123,7 +123,7 @@ fn number_of(digits: &[u8]) -> Option<u64>
 
 /// A length that what is left has.
 fn held(size: usize, bytes: &[u8]) -> Result<(usize, &[u8]), Why>
-    ensures exact { Gives (λ x. (x.0, x.1.now)) result (held_lem size bytes.now) }
+    ensures exact { Gives (λ x. (x.0, x.1.now)) result (held size bytes.now) }
     ensures within { IfOk result (λ x. x.0 ≤ length x.1.now) }
     ensures less { IfOk result (λ x. length x.1.now ≤ length bytes.now) }
 {
@@ -137,7 +137,7 @@ fn held(size: usize, bytes: &[u8]) -> Result<(usize, &[u8]), Why>
 /// The length that these digits write, which are as few as there can be.
 #[tactic(auto, unfolding(crate::specs::Reading::long_length))]
 fn long_length<'a>(digits: &[u8], bytes: &'a [u8]) -> Result<(usize, &'a [u8]), Why>
-    ensures exact { Gives (λ x. (x.0, x.1.now)) result (long_length_lem digits.now bytes.now) }
+    ensures exact { Gives (λ x. (x.0, x.1.now)) result (long_length digits.now bytes.now) }
     ensures within { IfOk result (λ x. x.0 ≤ length x.1.now) }
     ensures less { IfOk result (λ x. length x.1.now ≤ length bytes.now) }
 {
@@ -152,7 +152,7 @@ fn long_length<'a>(digits: &[u8], bytes: &'a [u8]) -> Result<(usize, &'a [u8]), 
 }
 
 fn begins_with_zero(digits: &[u8]) -> bool
-    ensures { result ≡ begins_with_zero_lem digits.now }
+    ensures { result ≡ begins_with_zero digits.now }
 {
     match digits {
         [] => false,
@@ -163,7 +163,7 @@ fn begins_with_zero(digits: &[u8]) -> bool
 /// The length of the contents, and what is left behind it, which begins with them.
 #[tactic(auto, unfolding(crate::specs::Reading::length_of))]
 fn length_of(bytes: &[u8]) -> Result<(usize, &[u8]), Why>
-    ensures exact { Gives (λ x. (x.0, x.1.now)) result (length_of_lem bytes.now) }
+    ensures exact { Gives (λ x. (x.0, x.1.now)) result (length_of bytes.now) }
     ensures within { IfOk result (λ x. x.0 ≤ length x.1.now) }
     ensures less { IfOk result (λ x. length x.1.now ≤ length bytes.now) }
 {
@@ -187,7 +187,7 @@ fn length_of(bytes: &[u8]) -> Result<(usize, &[u8]), Why>
 /// The tag and the contents of the element at the front, and what is left behind it.
 #[tactic(auto, unfolding(crate::specs::Reading::parts))]
 pub(crate) fn parts(bytes: &[u8]) -> Result<(Tag, &[u8], &[u8]), Why>
-    ensures exact { Gives (λ x. (x.0, x.1.now, x.2.now)) result (parts_lem bytes.now) }
+    ensures exact { Gives (λ x. (x.0, x.1.now, x.2.now)) result (parts bytes.now) }
     ensures found { IfOk result (λ x. bytes.now ≡ element x.0 x.1.now ++ x.2.now) }
     ensures only { IfErr result (λ why. BeginWithNone bytes.now) }
     ensures less { IfOk result (λ x. length x.1.now + length x.2.now ≤ length bytes.now) }

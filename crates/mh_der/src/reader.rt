@@ -3,7 +3,7 @@ ghost use Rattle.std.specs.Prelude.{◌≡◌, ◌++◌, OnErr, IfOk, IfErr};
 ghost use Rattle.mh_base.specs.Reading.{whole};
 ghost use Rattle.mh_der.specs.Element.{element};
 ghost use Rattle.mh_der.specs.Laws.{BeginWithNone};
-ghost use Rattle.mh_der.specs.Reading.{Gives, next as next_lem, ended as ended_lem, is_empty as is_empty_lem};
+ghost use Rattle.mh_der.specs.Reading.{Gives, next, ended, is_empty};
 
 use crate::header::parts;
 use crate::{DerError, Element, Why};
@@ -65,7 +65,7 @@ impl<'a> Reader<'a> {
     /// The next element and the reader behind it.
     #[tactic(auto, unfolding(crate::specs::Reading::next))]
     pub fn taken(self) -> Result<(Element<'a>, Reader<'a>), DerError>
-        ensures exact { Gives (λ x. x) result (next_lem self.entry) }
+        ensures exact { Gives (λ x. x) result (next self.entry) }
         ensures found { IfOk result (λ x. self.entry.bytes ≡ element x.0.tag x.0.contents.bytes ++ x.1.bytes) }
         ensures only { IfErr result (λ error. BeginWithNone self.entry.bytes) }
     {
@@ -98,7 +98,7 @@ impl<'a> Reader<'a> {
     /// Takes the next element, with its contents as a slice of the source (ITU-T X.690, 8.1). After an
     /// error the reader stands where it stood.
     pub fn next(&mut self) -> Result<Element<'a>, DerError>
-        ensures exact { Gives (λ element. (element, self.new)) result (next_lem self.old) }
+        ensures exact { Gives (λ element. (element, self.new)) result (next self.old) }
         ensures found { IfOk result (λ found. self.old.bytes ≡ element found.tag found.contents.bytes ++ self.new.bytes) }
         ensures only { IfErr result (λ error. BeginWithNone self.old.bytes) }
         ensures unchanged { OnErr result (self.new ≡ self.old) }
@@ -111,7 +111,7 @@ impl<'a> Reader<'a> {
     /// Nothing is left, which is wanted here.
     #[tactic(auto, unfolding(crate::specs::Reading::ended))]
     pub fn ended(&self) -> Result<(), DerError>
-        ensures { Gives (λ x. x) result (ended_lem self.now) }
+        ensures { Gives (λ x. x) result (ended self.now) }
     {
         if self.is_empty() {
             Ok(())
@@ -121,7 +121,7 @@ impl<'a> Reader<'a> {
     }
 
     pub fn is_empty(&self) -> bool
-        ensures { result ≡ is_empty_lem self.now.bytes }
+        ensures { result ≡ is_empty self.now.bytes }
     {
         self.rest.is_empty()
     }

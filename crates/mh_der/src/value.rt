@@ -1,15 +1,15 @@
 //! Integers and truth values, read from the contents of their elements.
 ghost use Rattle.std.specs.Prelude.{◌≡◌, ◌≤◌, ◌==◌, ◌||◌, nat_lt, length, IfOk, IfErr};
-ghost use Rattle.mh_der.specs.Integer.{integer_octets, boolean_octets, is_padded as is_padded_lem};
+ghost use Rattle.mh_der.specs.Integer.{integer_octets, boolean_octets, is_padded};
 ghost use Rattle.mh_der.specs.Laws.{AreNoInteger, AreNoBoolean};
-ghost use Rattle.mh_der.specs.Reading.{Gives, told_at, integer_of as integer_of_lem, boolean_of as boolean_of_lem, sign_octet as sign_octet_lem, extended as extended_lem};
+ghost use Rattle.mh_der.specs.Reading.{Gives, told_at, integer_of, boolean_of, sign_octet, extended};
 
 use crate::{DerError, Element, Why};
 
 /// The integer of 32 bits that the contents write, in two's complement and its shortest form (ITU-T
 /// X.690, 8.3); else the element is refused.
 pub fn int_of(element: &Element<'_>) -> Result<i32, DerError>
-    ensures exact { Gives (λ x. x) result (told_at element.now (integer_of_lem element.now.contents.bytes)) }
+    ensures exact { Gives (λ x. x) result (told_at element.now (integer_of element.now.contents.bytes)) }
     ensures found { IfOk result (λ x. element.now.contents.bytes ≡ integer_octets x) }
     ensures only { IfErr result (λ error. AreNoInteger element.now.contents.bytes) }
 {
@@ -24,7 +24,7 @@ pub fn int_of(element: &Element<'_>) -> Result<i32, DerError>
 
 #[tactic(auto, unfolding(crate::specs::Reading::integer_of))]
 fn integer_of(octets: &[u8]) -> Result<i32, Why>
-    ensures exact { Gives (λ x. x) result (integer_of_lem octets.now) }
+    ensures exact { Gives (λ x. x) result (integer_of octets.now) }
     ensures found { IfOk result (λ x. octets.now ≡ integer_octets x) }
     ensures only { IfErr result (λ why. AreNoInteger octets.now) }
 {
@@ -37,7 +37,7 @@ fn integer_of(octets: &[u8]) -> Result<i32, Why>
 
 /// Whether the octets are too few, more than 32 bits want, or not as few as there can be.
 fn is_refused(octets: &[u8]) -> bool
-    ensures { result ≡ (length octets.now == 0 || nat_lt 4 (length octets.now) || is_padded_lem octets.now) }
+    ensures { result ≡ (length octets.now == 0 || nat_lt 4 (length octets.now) || is_padded octets.now) }
 {
     octets.is_empty() || 4 < octets.len() || is_padded(octets)
 }
@@ -45,7 +45,7 @@ fn is_refused(octets: &[u8]) -> bool
 /// The octets behind as many of the sign as make them four.
 fn extended(octets: &[u8]) -> [u8; 4]
     requires { length octets.now ≤ 4 }
-    ensures { result ≡ extended_lem octets.now }
+    ensures { result ≡ extended octets.now }
 {
     let sign = sign_octet(octets);
     match *octets {
@@ -60,7 +60,7 @@ fn extended(octets: &[u8]) -> [u8; 4]
 
 /// Whether the first nine bits are alike, so that the first octet says nothing.
 pub(crate) fn is_padded(octets: &[u8]) -> bool
-    ensures { result ≡ is_padded_lem octets.now }
+    ensures { result ≡ is_padded octets.now }
 {
     match *octets {
         [a, b, ..] => (a == 0 && b < 128) || (a == 255 && 128 <= b),
@@ -70,7 +70,7 @@ pub(crate) fn is_padded(octets: &[u8]) -> bool
 
 /// The octet that a longer form would have in front.
 fn sign_octet(octets: &[u8]) -> u8
-    ensures { result ≡ sign_octet_lem octets.now }
+    ensures { result ≡ sign_octet octets.now }
 {
     match *octets {
         [octet, ..] if 128 <= octet => 255,
@@ -81,7 +81,7 @@ fn sign_octet(octets: &[u8]) -> u8
 /// The truth value that the contents write: 00 or FF (ITU-T X.690, 8.2 and 11.1); else the element is
 /// refused.
 pub fn bool_of(element: &Element<'_>) -> Result<bool, DerError>
-    ensures exact { Gives (λ x. x) result (told_at element.now (boolean_of_lem element.now.contents.bytes)) }
+    ensures exact { Gives (λ x. x) result (told_at element.now (boolean_of element.now.contents.bytes)) }
     ensures found { IfOk result (λ x. element.now.contents.bytes ≡ boolean_octets x) }
     ensures only { IfErr result (λ error. AreNoBoolean element.now.contents.bytes) }
 {
@@ -96,7 +96,7 @@ pub fn bool_of(element: &Element<'_>) -> Result<bool, DerError>
 
 #[tactic(auto, unfolding(crate::specs::Reading::boolean_of))]
 fn boolean_of(octets: &[u8]) -> Result<bool, Why>
-    ensures exact { Gives (λ x. x) result (boolean_of_lem octets.now) }
+    ensures exact { Gives (λ x. x) result (boolean_of octets.now) }
     ensures found { IfOk result (λ x. octets.now ≡ boolean_octets x) }
     ensures only { IfErr result (λ why. AreNoBoolean octets.now) }
 {

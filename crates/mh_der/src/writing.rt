@@ -2,8 +2,8 @@
 //! error leaves the buffer as it was.
 ghost use Rattle.std.specs.Prelude.{◌≡◌, ◌++◌, ◌<◌, ◌≤◌, ◌+◌, length, map, OnOk, OnErr, vec_len, vec_capacity};
 ghost use Rattle.std.specs.Int.Digits.{digits_of};
-ghost use Rattle.mh_der.specs.Element.{element, identifier, length_octets, class_bits as class_bits_lem, form_bit as form_bit_lem};
-ghost use Rattle.mh_der.specs.Integer.{integer_octets, boolean_octets, shortest as shortest_lem};
+ghost use Rattle.mh_der.specs.Element.{element, identifier, length_octets, class_bits, form_bit};
+ghost use Rattle.mh_der.specs.Integer.{integer_octets, boolean_octets, shortest};
 ghost use Rattle.mh_der.specs.Tags.{integer_tag, boolean_tag};
 
 use crate::value::is_padded;
@@ -49,7 +49,7 @@ pub fn write_bool(out: &mut Vec<u8>, value: bool) -> Result<(), AllocError>
 
 /// The octets without those in front that say nothing.
 fn shortest(octets: &[u8]) -> &[u8]
-    ensures { result.now ≡ shortest_lem octets.now }
+    ensures { result.now ≡ shortest octets.now }
 {
     match octets {
         [_, rest @ ..] if is_padded(octets) => shortest(rest),
@@ -58,7 +58,7 @@ fn shortest(octets: &[u8]) -> &[u8]
 }
 
 fn class_bits(class: TagClass) -> u8
-    ensures exact { result ≡ class_bits_lem class }
+    ensures exact { result ≡ class_bits class }
     ensures within { result ≤ 192 }
 {
     match class {
@@ -70,7 +70,7 @@ fn class_bits(class: TagClass) -> u8
 }
 
 fn form_bit(is_constructed: bool) -> u8
-    ensures exact { result ≡ form_bit_lem is_constructed }
+    ensures exact { result ≡ form_bit is_constructed }
     ensures within { result ≤ 32 }
 {
     if is_constructed { 32 } else { 0 }

@@ -1,6 +1,6 @@
 //! `Frame`: a box whose numbers have room for sums.
 ghost use Rattle.std.specs.Prelude.{◌≡◌, ◌^◌, ◌≤ℤ◌, ◌+ℤ◌, ◌-ℤ◌, pos};
-ghost use Rattle.mh_model.specs.Boxes.{IsNear, within as within_lem, is_edge as is_edge_lem, covers_beside as covers_beside_lem, covers_above_and_below as covers_above_and_below_lem};
+ghost use Rattle.mh_model.specs.Boxes.{IsNear, within, is_edge, covers_beside, covers_above_and_below};
 ghost use Rattle.mh_model.specs.Drawn.{box_of};
 ghost use Rattle.mh_display.specs.Panels.{IsFrame, IsOnScreen, area_of_frame};
 
@@ -63,7 +63,7 @@ pub(crate) fn is_edge(frame: &Frame, x: i64, y: i64) -> bool
     requires near { IsFrame frame.now }
     requires right { IsOnScreen x }
     requires down { IsOnScreen y }
-    ensures { result ≡ is_edge_lem (area_of_frame frame.now) x y }
+    ensures { result ≡ is_edge (area_of_frame frame.now) x y }
 {
     if !covers_beside(frame, x) {
         return true;
@@ -74,7 +74,7 @@ pub(crate) fn is_edge(frame: &Frame, x: i64, y: i64) -> bool
 fn covers_beside(frame: &Frame, x: i64) -> bool
     requires near { IsFrame frame.now }
     requires right { IsOnScreen x }
-    ensures { result ≡ covers_beside_lem (area_of_frame frame.now) x }
+    ensures { result ≡ covers_beside (area_of_frame frame.now) x }
 {
     let left = x - 12;
     let right = x + 12;
@@ -84,7 +84,7 @@ fn covers_beside(frame: &Frame, x: i64) -> bool
 fn covers_above_and_below(frame: &Frame, y: i64) -> bool
     requires near { IsFrame frame.now }
     requires down { IsOnScreen y }
-    ensures { result ≡ covers_above_and_below_lem (area_of_frame frame.now) y }
+    ensures { result ≡ covers_above_and_below (area_of_frame frame.now) y }
 {
     let above = y - 16;
     let below = y + 16;
@@ -93,14 +93,14 @@ fn covers_above_and_below(frame: &Frame, y: i64) -> bool
 
 fn covers_column(frame: &Frame, x: i64) -> bool
     requires near { IsFrame frame.now }
-    ensures { result ≡ within_lem frame.now.x frame.now.width x }
+    ensures { result ≡ within frame.now.x frame.now.width x }
 {
     frame.x <= x && x < right_end(frame)
 }
 
 fn covers_row(frame: &Frame, y: i64) -> bool
     requires near { IsFrame frame.now }
-    ensures { result ≡ within_lem frame.now.y frame.now.height y }
+    ensures { result ≡ within frame.now.y frame.now.height y }
 {
     frame.y <= y && y < lower_end(frame)
 }

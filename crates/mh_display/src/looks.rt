@@ -19,13 +19,14 @@ use crate::window::Window;
 use mh_group::{Attribute, Class};
 use mh_model::held::as_colour;
 use mh_model::{Line, Object};
-use mh_store::Kept;
+use mh_store::Lined;
 use mh_store::looks::{
-    OPAQUE_WHITE, TRANSPARENT_BLACK, area_of, colour_of, fill_of, has_line, line_of, paint_of,
+    OPAQUE_WHITE, TRANSPARENT_BLACK, area_of, colour_of, fill_of, has_line, line_colour_of,
+    paint_of,
 };
 
 /// Paints what was found for a reference, if it is painted at all.
-pub(crate) fn paint_found(screen: &mut Screen, found: Option<&Kept>)
+pub(crate) fn paint_found(screen: &mut Screen, found: Option<&Lined>)
     ensures { IsPainted (λ c. painted c (option_copied found.entry)) screen.old screen.new }
 {
     if let Some(kept) = found {
@@ -57,7 +58,7 @@ fn paint_object(screen: &mut Screen, object: &Object, lines: &[Line])
 
 fn paint_rectangle(screen: &mut Screen, object: &Object)
     ensures { let o = object.now in
-        IsPainted (rectangle_paint (spec.area_of o) (spec.has_line o) (spec.line_of o) (spec.fill_of o)) screen.old screen.new }
+        IsPainted (rectangle_paint (spec.area_of o) (spec.has_line o) (spec.line_colour_of o) (spec.fill_of o)) screen.old screen.new }
 {
     paint_panel(screen, &panel_of(object), &Window::whole());
 }
@@ -65,13 +66,13 @@ fn paint_rectangle(screen: &mut Screen, object: &Object)
 fn panel_of(object: &Object) -> Panel
     ensures near { IsFrame result.frame }
     ensures whole { let o = object.now in
-        result ≡ record { frame = result.frame; has_line = spec.has_line o; line = spec.line_of o; fill = spec.fill_of o } }
+        result ≡ record { frame = result.frame; has_line = spec.has_line o; line = spec.line_colour_of o; fill = spec.fill_of o } }
     ensures frame { area_of_frame result.frame ≡ spec.area_of object.now }
 {
     Panel {
         frame: Frame::of(&area_of(object)),
         has_line: has_line(object),
-        line: line_of(object),
+        line: line_colour_of(object),
         fill: fill_of(object),
     }
 }

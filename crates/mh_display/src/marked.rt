@@ -1,6 +1,6 @@
 //! `Marked`: a cell that is painted from the top down.
 ghost use Rattle.std.specs.Prelude.{◌≡◌, Some, None};
-ghost use Rattle.mh_display.specs.Painting.{put as put_lem, put_back as put_back_lem, put_mark as put_mark_lem, settled as settled_lem};
+ghost use Rattle.mh_display.specs.Painting.{put, put_back, put_mark, settled};
 
 use mh_model::Cell;
 
@@ -13,7 +13,7 @@ pub struct Marked {
 
 /// The cell with this painted under what is settled of it: a colour behind it, and a character with its colour.
 pub(crate) fn put(old: Marked, back: Option<u32>, mark: Option<(u32, u32)>) -> Marked
-    ensures { result ≡ put_lem (record { back = back; mark = mark }) old }
+    ensures { result ≡ put (record { back = back; mark = mark }) old }
 {
     match old.mark {
         0 => old,
@@ -23,7 +23,7 @@ pub(crate) fn put(old: Marked, back: Option<u32>, mark: Option<(u32, u32)>) -> M
 }
 
 fn put_back(old: Marked, back: Option<u32>) -> Marked
-    ensures { result ≡ put_back_lem back old }
+    ensures { result ≡ put_back back old }
 {
     match back {
         None => old,
@@ -35,7 +35,7 @@ fn put_back(old: Marked, back: Option<u32>) -> Marked
 }
 
 fn put_mark(old: Marked, back: Option<u32>, mark: Option<(u32, u32)>) -> Marked
-    ensures { result ≡ put_mark_lem mark back old }
+    ensures { result ≡ put_mark mark back old }
 {
     if let Some((scalar, fore)) = mark {
         return put_back(with_character(old, scalar, fore), back);
@@ -69,7 +69,7 @@ fn with_character(old: Marked, scalar: u32, fore: u32) -> Marked
 
 /// The cell, when there is nothing left to paint.
 pub(crate) fn settled(old: Marked) -> Marked
-    ensures { result ≡ settled_lem old }
+    ensures { result ≡ settled old }
 {
     match old.mark {
         0 => old,

@@ -3,9 +3,9 @@
 //! The visibles are painted from the top down, each into the cells alone of which something is still sought; so
 //! the walk ends where all cells are settled, and no cell is painted twice.
 ghost use Rattle.std.specs.Prelude.{◌≡◌, ◌<◌, [], reverse};
-ghost use Rattle.mh_model.specs.Picture.{picture as picture_lem};
+ghost use Rattle.mh_model.specs.Picture.{picture};
 ghost use Rattle.mh_model.specs.State.{all};
-ghost use Rattle.mh_display.specs.Painting.{IsAll, IsComplete, IsDown, IsSet, marked_at, renewed as renewed_lem, settled as settled_lem};
+ghost use Rattle.mh_display.specs.Painting.{IsAll, IsComplete, IsDown, IsSet, marked_at, renewed, settled};
 ghost use Rattle.mh_display.specs.Surface.{IsClean, IsRight};
 
 use crate::looks::paint_found;
@@ -18,7 +18,7 @@ impl Screen {
     /// Paints the stale cells, each by looking down the display stack. It takes no memory.
     pub fn repaint(&mut self, objects: &Objects, stack: &[ObjRef])
         requires { IsRight (all objects.now) stack.now self.old }
-        ensures right { self.new.planes ≡ picture_lem (all objects.now) stack.now }
+        ensures right { self.new.planes ≡ picture (all objects.now) stack.now }
         ensures clean { IsClean self.new.marks }
     {
         let _ = self.cells();
@@ -33,7 +33,7 @@ impl Screen {
 
 /// Of the stale cells nothing is settled.
 fn renew(screen: &mut Screen)
-    ensures { IsAll (λ c. renewed_lem) (marked_at screen.old) (marked_at screen.new) }
+    ensures { IsAll (λ c. renewed) (marked_at screen.old) (marked_at screen.new) }
 {
     for at in 0..screen.cells() {
         renew_cell(screen, at);
@@ -42,7 +42,7 @@ fn renew(screen: &mut Screen)
 
 fn renew_cell(screen: &mut Screen, at: usize)
     requires { at < 2160 }
-    ensures { IsSet (marked_at screen.old) (marked_at screen.new) at (renewed_lem (marked_at screen.old at)) }
+    ensures { IsSet (marked_at screen.old) (marked_at screen.new) at (renewed (marked_at screen.old at)) }
 {
     if screen.is_settled(at) {
         return;
@@ -60,13 +60,13 @@ fn paint_down(screen: &mut Screen, objects: &Objects, stack: &[ObjRef])
             return;
         }
         left -= 1;
-        paint_found(screen, objects.kept(&stack[left]));
+        paint_found(screen, objects.lined(&stack[left]));
     }
 }
 
 /// There is nothing below.
 fn settle(screen: &mut Screen)
-    ensures settled { IsAll (λ c. settled_lem) (marked_at screen.old) (marked_at screen.new) }
+    ensures settled { IsAll (λ c. settled) (marked_at screen.old) (marked_at screen.new) }
     ensures whole { IsComplete screen.new }
 {
     for at in 0..screen.cells() {
@@ -77,7 +77,7 @@ fn settle(screen: &mut Screen)
 
 fn settle_cell(screen: &mut Screen, at: usize)
     requires { at < 2160 }
-    ensures { IsSet (marked_at screen.old) (marked_at screen.new) at (settled_lem (marked_at screen.old at)) }
+    ensures { IsSet (marked_at screen.old) (marked_at screen.new) at (settled (marked_at screen.old at)) }
 {
     if screen.is_settled(at) {
         return;

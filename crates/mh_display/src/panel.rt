@@ -1,6 +1,6 @@
 //! `Panel`: a box with an edge and an inside, as a rectangle is, drawn or not, and what lies behind drawings.
 ghost use Rattle.std.specs.Prelude.{◌≡◌, ◌<◌, ◌+◌, ◌*◌};
-ghost use Rattle.mh_display.specs.Panels.{IsFrame, IsOnScreen, colour_at as colour_at_lem, inner_paint};
+ghost use Rattle.mh_display.specs.Panels.{IsFrame, IsOnScreen, colour_at, inner_paint};
 
 use crate::frame::{Frame, is_edge};
 
@@ -28,7 +28,7 @@ fn colour_at(panel: &Panel, x: i64, y: i64) -> Option<u32>
     requires near { IsFrame panel.now.frame }
     requires right { IsOnScreen x }
     requires down { IsOnScreen y }
-    ensures { result ≡ colour_at_lem panel.now x y }
+    ensures { result ≡ colour_at panel.now x y }
 {
     if panel.has_line && is_edge(&panel.frame, x, y) {
         panel.line

@@ -1,6 +1,6 @@
 //! Panels are painted row by row, into the cells alone that they cover and that are stale.
 ghost use Rattle.std.specs.Prelude.{◌≡◌, ◌<◌, ◌≤◌, ◌+◌, ◌*◌};
-ghost use Rattle.mh_display.specs.Painting.{IsSet, IsBetween, IsPaintedIn, marked_at, put as put_lem};
+ghost use Rattle.mh_display.specs.Painting.{IsSet, IsBetween, IsPaintedIn, marked_at, put};
 ghost use Rattle.mh_display.specs.Panels.{IsFrame, inner_paint, panel_paint};
 
 use crate::panel::{Panel, colour_of};
@@ -32,7 +32,7 @@ fn paint_row(screen: &mut Screen, panel: &Panel, row: usize, window: &Window)
     requires near { IsFrame panel.now.frame }
     requires low { row < 36 }
     requires wide { window.now.right ≤ 60 }
-    ensures { IsBetween (λ c. put_lem (inner_paint panel.now c)) (marked_at screen.old) (marked_at screen.new) (60 * row + window.now.left) (60 * row + window.now.right) }
+    ensures { IsBetween (λ c. put (inner_paint panel.now c)) (marked_at screen.old) (marked_at screen.new) (60 * row + window.now.left) (60 * row + window.now.right) }
 {
     if screen.is_row_settled(row, window) {
         return;
@@ -46,7 +46,7 @@ fn paint_cell(screen: &mut Screen, panel: &Panel, row: usize, column: usize)
     requires near { IsFrame panel.now.frame }
     requires low { row < 36 }
     requires wide { column < 60 }
-    ensures { IsSet (marked_at screen.old) (marked_at screen.new) (60 * row + column) (put_lem (inner_paint panel.now (60 * row + column)) (marked_at screen.old (60 * row + column))) }
+    ensures { IsSet (marked_at screen.old) (marked_at screen.new) (60 * row + column) (put (inner_paint panel.now (60 * row + column)) (marked_at screen.old (60 * row + column))) }
 {
     let at = 60 * row + column;
     if screen.is_settled(at) {

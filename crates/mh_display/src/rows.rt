@@ -1,6 +1,6 @@
 //! Which rows of two pictures differ.
 ghost use Rattle.std.specs.Prelude.{◌≡◌, ◌+◌, ◌<◌, ◌≤◌, ℕ, false, length, not, slice_index_or};
-ghost use Rattle.mh_display.specs.Rows.{same_row as same_row_lem, same_stretch as same_stretch_lem};
+ghost use Rattle.mh_display.specs.Rows.{same_row, same_stretch};
 
 use mh_model::Picture;
 use mh_model::picture::{COLUMNS, ROWS};
@@ -9,7 +9,7 @@ use mh_model::picture::{COLUMNS, ROWS};
 /// colour, or in the colour behind it.
 pub fn changed_rows(before: &Picture, after: &Picture) -> [bool; 36]
     ensures all { length result ≡ 36 }
-    ensures each { (j : ℕ) → j < 36 → slice_index_or result j false ≡ not (same_row_lem before.now after.now j) }
+    ensures each { (j : ℕ) → j < 36 → slice_index_or result j false ≡ not (same_row before.now after.now j) }
 {
     let mut changed = [false; ROWS];
     for row in 0..ROWS {
@@ -21,7 +21,7 @@ pub fn changed_rows(before: &Picture, after: &Picture) -> [bool; 36]
 /// Whether the cells of a row are the same in both pictures.
 fn same_row(before: &Picture, after: &Picture, row: usize) -> bool
     requires { row < 36 }
-    ensures { result ≡ same_row_lem before.now after.now row }
+    ensures { result ≡ same_row before.now after.now row }
 {
     let start = COLUMNS * row;
     if !same_stretch(before.scalars(), after.scalars(), start) {
@@ -37,7 +37,7 @@ fn same_row(before: &Picture, after: &Picture, row: usize) -> bool
 fn same_stretch(before: &[u32], after: &[u32], start: usize) -> bool
     requires long { start + 60 ≤ length before.now }
     requires same { start + 60 ≤ length after.now }
-    ensures { result ≡ same_stretch_lem before.now after.now start }
+    ensures { result ≡ same_stretch before.now after.now start }
 {
     before[start..start + COLUMNS] == after[start..start + COLUMNS]
 }

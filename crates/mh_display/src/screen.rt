@@ -2,7 +2,7 @@
 ghost use Rattle.std.specs.Prelude.{◌≡◌, ◌==◌, ◌<◌, ◌≤◌, ◌+◌, ◌*◌, IfOk, ℕ, true, not, slice_index, slice_set, vec_len};
 ghost use Rattle.std.specs.Option.{option_copied};
 ghost use Rattle.mh_model.specs.Planes.{blank};
-ghost use Rattle.mh_display.specs.Painting.{IsComplete, IsSet, marked_at, put as put_lem, with_marked};
+ghost use Rattle.mh_display.specs.Painting.{IsComplete, IsSet, marked_at, put, with_marked};
 ghost use Rattle.mh_display.specs.Surface.{IsClean, IsStale, Spoils};
 
 use crate::marked::{Marked, put};
@@ -122,7 +122,7 @@ impl Screen {
     /// Paints this under what is settled of a cell: a colour behind it, and a character with its colour.
     pub(crate) fn put(&mut self, at: usize, back: Option<u32>, mark: Option<(u32, u32)>)
         requires { at < 2160 }
-        ensures { IsSet (marked_at self.old) (marked_at self.new) at (put_lem (record { back = back; mark = mark }) (marked_at self.old at)) }
+        ensures { IsSet (marked_at self.old) (marked_at self.new) at (put (record { back = back; mark = mark }) (marked_at self.old at)) }
     {
         self.set(at, put(self.at(at), back, mark));
     }

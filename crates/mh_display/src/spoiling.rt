@@ -1,8 +1,8 @@
 //! The cells that an object paints are marked, so that they are painted anew.
 ghost use Rattle.std.specs.Prelude.{◌≡◌, ◌<◌, ◌≤◌, ◌+◌, ◌*◌, Some, length, replicate, slice_index};
 ghost use Rattle.std.specs.Option.{option_copied};
-ghost use Rattle.mh_model.specs.Looks.{area_of as area_of_lem};
-ghost use Rattle.mh_model.specs.Picture.{is_seen as is_seen_lem};
+ghost use Rattle.mh_model.specs.Looks.{area_of};
+ghost use Rattle.mh_model.specs.Picture.{is_seen};
 ghost use Rattle.mh_display.specs.Painting.{IsBetween, IsIn};
 ghost use Rattle.mh_display.specs.Surface.{Spoils};
 
@@ -36,7 +36,7 @@ fn spoil_object(marks: &mut [u8], object: &Object)
 
 /// Whether the object is painted.
 pub(crate) fn is_seen(object: &Object) -> bool
-    ensures { result ≡ is_seen_lem object.now }
+    ensures { result ≡ is_seen object.now }
 {
     let class = object.fixed.get().class;
     class.is_visible() && object.body.available && object.body.running

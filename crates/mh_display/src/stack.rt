@@ -6,7 +6,7 @@ ghost use Rattle.std.specs.List.{insert, position};
 ghost use Rattle.std.specs.Str.{bytes_eq};
 ghost use Rattle.std.specs.Vec.{vec_capacity};
 ghost use Rattle.mh_model.specs.Stack.{without, brought_to_front, sent_to_back, just_above, just_below};
-ghost use Rattle.mh_model.specs.Reference.{same_ref as same_ref_lem};
+ghost use Rattle.mh_model.specs.Reference.{same_ref};
 
 use mh_base::{GroupName, ObjRef};
 use mh_model::parts::same_ref;
@@ -160,7 +160,7 @@ fn insert_below(places: &mut Vec<ObjRef>, at: ObjRef, other: &ObjRef)
 }
 
 fn place_of(places: &[ObjRef], at: &ObjRef) -> Option<usize>
-    ensures { result ≡ position (same_ref_lem at.now) places.now }
+    ensures { result ≡ position (same_ref at.now) places.now }
 {
     places.iter().position(|place| same_ref(at, place))
 }

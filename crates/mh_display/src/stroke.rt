@@ -5,15 +5,15 @@
 ghost use Rattle.std.specs.Prelude.{◌≡◌, ◌≤◌, ◌^◌, ◌*◌, ◌*ℤ◌, ◌+ℤ◌, ◌-ℤ◌, pos};
 ghost use Rattle.std.specs.Int.{int_div_euclid};
 ghost use Rattle.mh_model.specs.Boxes.{IsNear};
-ghost use Rattle.mh_model.specs.Drawn.{across as across_lem, comes_to as comes_to_lem, comes_to_column as comes_to_column_lem, comes_to_row as comes_to_row_lem, down as down_lem, goes_through as goes_through_lem, gone as gone_lem, spot_of as spot_of_lem, steps as steps_lem, stroke_of as stroke_of_lem};
-ghost use Rattle.mh_display.specs.Strokes.{IsInReach, IsShort, step_to as step_to_lem};
+ghost use Rattle.mh_model.specs.Drawn.{across, comes_to, comes_to_column, comes_to_row, down, goes_through, gone, spot_of, steps as steps_lem, stroke_of};
+ghost use Rattle.mh_display.specs.Strokes.{IsInReach, IsShort, step_to};
 
 use mh_base::Area;
 use mh_model::{Drawing, Point, Spot, Stroke};
 
 /// The line of a drawing in a box.
 pub fn stroke_of(area: &Area, drawing: &Drawing) -> Stroke
-    ensures stroke { result ≡ stroke_of_lem area.now drawing.now }
+    ensures stroke { result ≡ stroke_of area.now drawing.now }
     ensures short { IsShort result }
 {
     Stroke {
@@ -24,7 +24,7 @@ pub fn stroke_of(area: &Area, drawing: &Drawing) -> Stroke
 
 /// The cell in which a point of a drawing lies.
 fn spot_of(area: &Area, point: &Point) -> Spot
-    ensures spot { result ≡ spot_of_lem area.now point.now }
+    ensures spot { result ≡ spot_of area.now point.now }
     ensures column { IsNear (2 ^ 33) result.column }
     ensures row { IsNear (2 ^ 33) result.row }
     ensures near { IsInReach point.now }
@@ -67,7 +67,7 @@ fn row_at(unit: i64) -> i64
 /// to the one with the higher number.
 pub fn goes_through(stroke: &Stroke, column: i32, row: i32) -> bool
     requires short { IsShort stroke.now }
-    ensures { result ≡ goes_through_lem stroke.now column row }
+    ensures { result ≡ goes_through stroke.now column row }
 {
     let step = step_to(stroke, column, row);
     step <= steps(stroke) && comes_to(stroke, column, row, step)
@@ -76,7 +76,7 @@ pub fn goes_through(stroke: &Stroke, column: i32, row: i32) -> bool
 /// The one number of steps that can come to the cell: in the longer direction each goes on by one.
 fn step_to(stroke: &Stroke, column: i32, row: i32) -> u64
     requires short { IsShort stroke.now }
-    ensures { result ≡ step_to_lem stroke.now column row }
+    ensures { result ≡ step_to stroke.now column row }
 {
     if across(stroke).unsigned_abs() <= down(stroke).unsigned_abs() {
         to_row(stroke, row).unsigned_abs()
@@ -89,7 +89,7 @@ fn step_to(stroke: &Stroke, column: i32, row: i32) -> u64
 fn comes_to(stroke: &Stroke, column: i32, row: i32, step: u64) -> bool
     requires short { IsShort stroke.now }
     requires on_the_way { step ≤ steps_lem stroke.now }
-    ensures { result ≡ comes_to_lem stroke.now column row step }
+    ensures { result ≡ comes_to stroke.now column row step }
 {
     comes_to_column(stroke, column, step) && comes_to_row(stroke, row, step)
 }
@@ -97,7 +97,7 @@ fn comes_to(stroke: &Stroke, column: i32, row: i32, step: u64) -> bool
 fn comes_to_column(stroke: &Stroke, column: i32, step: u64) -> bool
     requires short { IsShort stroke.now }
     requires on_the_way { step ≤ steps_lem stroke.now }
-    ensures { result ≡ comes_to_column_lem stroke.now column step }
+    ensures { result ≡ comes_to_column stroke.now column step }
 {
     gone(steps(stroke), across(stroke), step) == to_column(stroke, column)
 }
@@ -105,7 +105,7 @@ fn comes_to_column(stroke: &Stroke, column: i32, step: u64) -> bool
 fn comes_to_row(stroke: &Stroke, row: i32, step: u64) -> bool
     requires short { IsShort stroke.now }
     requires on_the_way { step ≤ steps_lem stroke.now }
-    ensures { result ≡ comes_to_row_lem stroke.now row step }
+    ensures { result ≡ comes_to_row stroke.now row step }
 {
     gone(steps(stroke), down(stroke), step) == to_row(stroke, row)
 }
@@ -115,7 +115,7 @@ fn gone(steps: u64, distance: i64, step: u64) -> i64
     requires few { steps ≤ 2 ^ 16 }
     requires near { IsNear 0xFFFF distance }
     requires on_the_way { step ≤ steps }
-    ensures { result ≡ gone_lem steps distance step }
+    ensures { result ≡ gone steps distance step }
 {
     if steps == 0 {
         return 0;
@@ -161,7 +161,7 @@ fn steps(stroke: &Stroke) -> u64
 
 fn across(stroke: &Stroke) -> i64
     requires short { IsShort stroke.now }
-    ensures number { result ≡ across_lem stroke.now }
+    ensures number { result ≡ across stroke.now }
     ensures near { IsNear 0xFFFF result }
 {
     stroke.last.column - stroke.first.column
@@ -169,7 +169,7 @@ fn across(stroke: &Stroke) -> i64
 
 fn down(stroke: &Stroke) -> i64
     requires short { IsShort stroke.now }
-    ensures number { result ≡ down_lem stroke.now }
+    ensures number { result ≡ down stroke.now }
     ensures near { IsNear 0xFFFF result }
 {
     stroke.last.row - stroke.first.row

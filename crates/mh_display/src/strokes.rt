@@ -1,6 +1,6 @@
 //! Drawn lines are painted into the cells of a window.
 ghost use Rattle.std.specs.Prelude.{◌≡◌, ◌<◌, ◌≤◌, ◌+◌, ◌*◌};
-ghost use Rattle.mh_display.specs.Painting.{IsBetween, IsPaintedIn, IsSet, marked_at, put as put_lem};
+ghost use Rattle.mh_display.specs.Painting.{IsBetween, IsPaintedIn, IsSet, marked_at, put};
 ghost use Rattle.mh_display.specs.Strokes.{IsShort, stroke_paint};
 
 use crate::screen::Screen;
@@ -24,7 +24,7 @@ fn paint_row(screen: &mut Screen, stroke: &Stroke, line: Option<u32>, row: usize
     requires short { IsShort stroke.now }
     requires low { row < 36 }
     requires wide { window.now.right ≤ 60 }
-    ensures { IsBetween (λ c. put_lem (stroke_paint stroke.now line c)) (marked_at screen.old) (marked_at screen.new) (60 * row + window.now.left) (60 * row + window.now.right) }
+    ensures { IsBetween (λ c. put (stroke_paint stroke.now line c)) (marked_at screen.old) (marked_at screen.new) (60 * row + window.now.left) (60 * row + window.now.right) }
 {
     if screen.is_row_settled(row, window) {
         return;
@@ -38,7 +38,7 @@ fn paint_cell(screen: &mut Screen, stroke: &Stroke, line: Option<u32>, row: usiz
     requires short { IsShort stroke.now }
     requires low { row < 36 }
     requires wide { column < 60 }
-    ensures { IsSet (marked_at screen.old) (marked_at screen.new) (60 * row + column) (put_lem (stroke_paint stroke.now line (60 * row + column)) (marked_at screen.old (60 * row + column))) }
+    ensures { IsSet (marked_at screen.old) (marked_at screen.new) (60 * row + column) (put (stroke_paint stroke.now line (60 * row + column)) (marked_at screen.old (60 * row + column))) }
 {
     let at = 60 * row + column;
     if screen.is_settled(at) {

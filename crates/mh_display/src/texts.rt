@@ -1,10 +1,10 @@
 //! Texts are painted row by row; the line of a row is found once.
 ghost use Rattle.std.specs.Prelude.{◌≡◌, ◌<◌, ◌≤◌, ◌+◌, ◌*◌, ◌^◌, ◌-ℤ◌, pos};
 ghost use Rattle.std.specs.Option.{option_copied};
-ghost use Rattle.mh_model.specs.Boxes.{IsNear, first_column as first_column_lem, first_row as first_row_lem};
-ghost use Rattle.mh_model.specs.Layout.{character_in as character_in_lem, member_at};
+ghost use Rattle.mh_model.specs.Boxes.{IsNear, first_column, first_row};
+ghost use Rattle.mh_model.specs.Layout.{character_in, member_at};
 ghost use Rattle.mh_model.specs.Looks.{marked, text_paint};
-ghost use Rattle.mh_display.specs.Painting.{IsBetween, IsPainted, IsPaintedIn, IsSet, marked_at, put as put_lem};
+ghost use Rattle.mh_display.specs.Painting.{IsBetween, IsPainted, IsPaintedIn, IsSet, marked_at, put};
 ghost use Rattle.mh_display.specs.Texts.{letter_paint};
 
 use crate::characters::{character_in, line_at};
@@ -53,8 +53,8 @@ fn paint_row(
 )
     requires low { row < 36 }
     requires wide { window.now.right ≤ 60 }
-    requires line { option_copied line ≡ member_at lines.now (pos row -ℤ first_row_lem area.now) }
-    ensures { IsBetween (λ c. put_lem (letter_paint ink area.now lines.now c)) (marked_at screen.old) (marked_at screen.new) (60 * row + window.now.left) (60 * row + window.now.right) }
+    requires line { option_copied line ≡ member_at lines.now (pos row -ℤ first_row area.now) }
+    ensures { IsBetween (λ c. put (letter_paint ink area.now lines.now c)) (marked_at screen.old) (marked_at screen.new) (60 * row + window.now.left) (60 * row + window.now.right) }
 {
     let _ = lines.len();
     if screen.is_row_settled(row, window) {
@@ -70,7 +70,7 @@ fn paint_row(
 fn paint_cell(screen: &mut Screen, ink: Ink, line: Option<&Line>, at: usize, column: i64)
     requires inside { at < 2160 }
     requires near { IsNear (2 ^ 33) column }
-    ensures { IsSet (marked_at screen.old) (marked_at screen.new) at (put_lem (record { back = ink.background; mark = marked ink.colour (character_in_lem (option_copied line.entry) column) }) (marked_at screen.old at)) }
+    ensures { IsSet (marked_at screen.old) (marked_at screen.new) at (put (record { back = ink.background; mark = marked ink.colour (character_in (option_copied line.entry) column) }) (marked_at screen.old at)) }
 {
     if screen.is_settled(at) {
         return;
@@ -81,7 +81,7 @@ fn paint_cell(screen: &mut Screen, ink: Ink, line: Option<&Line>, at: usize, col
 /// The character of a line in this column of the box, with its colour.
 fn mark_in(ink: Ink, line: Option<&Line>, column: i64) -> Option<(u32, u32)>
     requires { IsNear (2 ^ 33) column }
-    ensures { result ≡ marked ink.colour (character_in_lem (option_copied line.entry) column) }
+    ensures { result ≡ marked ink.colour (character_in (option_copied line.entry) column) }
 {
     let colour = ink.colour?;
     let scalar = character_in(line?, column)?;

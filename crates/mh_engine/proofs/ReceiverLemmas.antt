@@ -10,7 +10,7 @@ use Rattle.mh_model.specs.Receiver.{IsStep, IsStepWith, call_first, call_next, t
 use Rattle.mh_model.specs.State.{State}
 use Rattle.mh_model.specs.Step.{is_empty, is_settled, step}
 use Rattle.mh_model.specs.Limits.{most_steps}
-use Rattle.mh_model.proofs.ReceiverLemmas.{uncalled_step}
+use Rattle.mh_laws.proofs.ReceiverLemmas.{uncalled_step}
 use Rattle.mh_engine.specs.Answer.{is_ready}
 use Rattle.mh_engine.specs.Told.{IsTold}
 

@@ -6,10 +6,12 @@ use Rattle.mh_model.specs.declared.item.Item.{Item}
 use Rattle.mh_model.specs.declared.input.Move.{Move}
 use Rattle.mh_model.specs.State.{State}
 use Rattle.mh_model.specs.Step.{run, stepped, advanced}
-use Rattle.mh_model.specs.Safe.{IsSafe}
-use Rattle.mh_model.specs.Headline.{fault_at, front_fault, IsFaultless}
-use Rattle.mh_model.proofs.SafeLemmas.{safe_front, safe_run, safe_stepped, safe_faultless}
+use Rattle.mh_laws.specs.Safe.{IsSafe}
+use Rattle.mh_laws.specs.Headline.{IsFaultless}
+use Rattle.mh_model.specs.Stuck.{fault_at, front_fault}
+use Rattle.mh_laws.proofs.SafeLemmas.{safe_front, safe_run, safe_stepped, safe_faultless}
 use Rattle.mh_engine.specs.Play.{Play}
+use Rattle.mh_machine.specs.Judging.{AreAllowed}
 use Rattle.mh_machine.specs.Working.{IsPartly}
 use Rattle.mh_machine.specs.Rest.{is_faulted, judged, answer_by, answer_of}
 use Rattle.mh_machine.specs.declared.stepped.Stepped.TheVariants.{Ended}
@@ -41,7 +43,13 @@ kept_faults p keeps accepted = (safe_faultless p.state (keeps accepted)).faults
 pub kept_run : (p : Play) → KeepsSafe p → (ms : List Move) (s : State) → s ≡ run ms p.state → p.accepted ≡ true → IsFaultless s
 kept_run p keeps ms s is accepted = subst IsFaultless (sym is) (safe_faultless (run ms p.state) (safe_run ms p.state (keeps accepted)))
 
--- and so it is behind so many steps, or some of them
+-- before each of so many steps nothing is wrong with the first item
+pub safe_allowed : (n : ℕ) (s : State) → IsSafe s → AreAllowed (λ f. f ≡ None) n s
+unfolding AreAllowed
+safe_allowed zero s k = tt
+safe_allowed (suc n) s k = (safe_front s k, safe_allowed n (stepped s) (safe_stepped s k))
+
+-- and the state is safe behind so many steps, or some of them
 safe_advanced : (n : ℕ) (s : State) → IsSafe s → IsSafe (advanced n s)
 unfolding advanced
 safe_advanced zero s k = k

@@ -1,9 +1,9 @@
 //! What an engine does for whoever plays it beside programs of a receiver.
 ghost use Rattle.std.specs.Prelude.{◌≡◌, map, true, false, [], None, IfOk, IfErr};
-ghost use Rattle.mh_model.specs.Headline.{front_fault};
+ghost use Rattle.mh_model.specs.Stuck.{front_fault};
 ghost use Rattle.mh_model.specs.State.{begun};
-ghost use Rattle.mh_model.specs.Receiver.{call_next as call_next_lem, told};
-ghost use Rattle.mh_engine.specs.Answer.{is_ready as is_ready_lem};
+ghost use Rattle.mh_model.specs.Receiver.{call_next, told};
+ghost use Rattle.mh_engine.specs.Answer.{is_ready};
 
 use crate::engine::Engine;
 use crate::refusal::{StartError, Unaccepted};
@@ -64,14 +64,14 @@ impl Engine {
 
     /// Whether there is a step to make, and one that is counted.
     pub(crate) fn is_ready(&self) -> bool
-        ensures { result ≡ is_ready_lem self.now.state }
+        ensures { result ≡ is_ready self.now.state }
     {
         !self.machine.is_settled() && self.machine.taken() != u64::MAX
     }
 
     /// Which of these programs of the receiver the next step calls, if it calls one, and with what.
     pub(crate) fn call_next<P: Resident>(&self, programs: &[P]) -> Result<Option<Call>, AllocError>
-        ensures { IfOk result (λ call. call ≡ call_next_lem (map P.signature_of programs.now) self.now.state) }
+        ensures { IfOk result (λ call. call ≡ call_next (map P.signature_of programs.now) self.now.state) }
     {
         self.machine.call_next(programs)
     }

@@ -2,10 +2,10 @@
 ghost use Rattle.std.specs.Prelude.{◌≡◌, ◌+◌, ◌<◌, ◌^◌, true, false, None, Some, [], IfOk, IfErr, OnOk, OnErr, IsErrOf, IsErrAnd, MatchOption};
 ghost use Rattle.mh_model.specs.State.{begun};
 ghost use Rattle.mh_model.specs.declared.input.Obstacle.{Obstacle};
-ghost use Rattle.mh_model.specs.Step.{step as step_lem, is_empty, posted, preset as preset_lem, preset_obstacle, obstacle, is_settled, advanced};
+ghost use Rattle.mh_model.specs.Step.{step, is_empty, posted, preset, preset_obstacle, obstacle, is_settled, advanced};
 ghost use Rattle.mh_model.specs.Limits.{most_steps};
-ghost use Rattle.mh_model.specs.Headline.{front_fault};
-ghost use Rattle.mh_model.specs.Safe.{IsSafe};
+ghost use Rattle.mh_model.specs.Stuck.{front_fault};
+ghost use Rattle.mh_laws.specs.Safe.{IsSafe};
 ghost use Rattle.mh_model.specs.Picture.{shown};
 ghost use Rattle.mh_machine.specs.Rest.{answer_of, is_faulted, rest_of};
 ghost use Rattle.mh_machine.specs.Working.{IsPartly};
@@ -13,7 +13,7 @@ ghost use Rattle.mh_engine.specs.Answer.{refusal_for, start_refusal, step_refusa
 
 use crate::passing::{post_or_back, preset_copy, refuse, refuse_file};
 use crate::refusal::{Refused, RefusedFile, RefusedWhy, StartError, StepError, Unaccepted};
-use mh_machine::{Machine, Rest, Stepped, Unstarted};
+use mh_machine::{Free, Judged, Machine, Rest, Stepped, Unstarted};
 use mh_model::{Fault, File, Input, Picture, Signature};
 use mh_service::Service;
 use mh_verify::Accepted;
@@ -31,7 +31,7 @@ pub struct Engine {
 
 impl Model for Engine {
     ghost use Rattle.std.specs.Prelude.{◌≡◌, true};
-    ghost use Rattle.mh_model.specs.Safe.{IsSafe};
+    ghost use Rattle.mh_laws.specs.Safe.{IsSafe};
     ghost use Rattle.mh_engine.specs.Play.{Play};
 
     ghost Value = { Play };
@@ -76,7 +76,7 @@ impl Engine {
 
     /// A content file is there before the first move. A refused one is handed back, and nothing changes.
     pub fn preset(&mut self, file: File) -> Result<(), RefusedFile>
-        ensures preset { OnOk result (self.new ≡ record self.old { state = preset_lem file self.old.state }) }
+        ensures preset { OnOk result (self.new ≡ record self.old { state = preset file self.old.state }) }
         ensures accepted { OnOk result (preset_obstacle file self.old.state ≡ None) }
         ensures back { IfErr result (λ refused. refused.file ≡ file) }
         ensures kept { OnErr result (self.new ≡ self.old) }
@@ -112,7 +112,7 @@ impl Engine {
     /// One step of the machine. Where memory is refused everything stays as it was, and the step may be
     /// made again.
     pub fn step(&mut self) -> Result<Stepped, StepError>
-        ensures step { OnOk result (self.new ≡ record self.old { state = step_lem self.old.state }) }
+        ensures step { OnOk result (self.new ≡ record self.old { state = step self.old.state }) }
         ensures kept { OnErr result (self.new ≡ self.old) }
         ensures answer { IfOk result (λ answer. answer ≡ answer_of self.old.state) }
         ensures never { self.old.accepted ≡ true → front_fault self.old.state ≡ None }
@@ -178,14 +178,14 @@ impl Engine {
 fn step_by(machine: &mut Machine, accepted: bool) -> Result<Stepped, AllocError>
     requires room { machine.old.taken + 1 < 2 ^ 64 }
     requires free { accepted ≡ true → front_fault machine.old ≡ None }
-    ensures step { OnOk result (machine.new ≡ step_lem machine.old) }
+    ensures step { OnOk result (machine.new ≡ step machine.old) }
     ensures answer { IfOk result (λ answer. answer ≡ answer_of machine.old) }
     ensures kept { OnErr result (machine.new ≡ machine.old) }
 {
     if accepted {
-        machine.step_free()
+        machine.step::<Free>()
     } else {
-        machine.step()
+        machine.step::<Judged>()
     }
 }
 
@@ -196,9 +196,9 @@ fn advance_by(machine: &mut Machine, accepted: bool, most: u32) -> Result<(), Al
     ensures some { OnErr result (IsPartly most machine.old machine.new) }
 {
     if accepted {
-        machine.advance_free(most)
+        machine.advance::<Free>(most)
     } else {
-        machine.advance(most)
+        machine.advance::<Judged>(most)
     }
 }
 

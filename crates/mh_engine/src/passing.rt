@@ -1,6 +1,6 @@
 //! What is handed back where it is refused: memory is asked for a copy.
 ghost use Rattle.std.specs.Prelude.{◌≡◌, None, IfErr, OnOk, OnErr, IsErrOf};
-ghost use Rattle.mh_model.specs.Step.{posted, preset as preset_lem, preset_obstacle, obstacle};
+ghost use Rattle.mh_model.specs.Step.{posted, preset, preset_obstacle, obstacle};
 
 use crate::refusal::{Refused, RefusedFile, RefusedWhy};
 use mh_machine::Machine;
@@ -34,7 +34,7 @@ fn post_copy(machine: &mut Machine, input: &Input) -> Result<(), AllocError>
 /// Presets a copy of the file, so that a refused one can be handed back.
 pub(crate) fn preset_copy(machine: &mut Machine, file: &File) -> Result<(), AllocError>
     requires { preset_obstacle file.now machine.old ≡ None }
-    ensures preset { OnOk result (machine.new ≡ preset_lem file.now machine.old) }
+    ensures preset { OnOk result (machine.new ≡ preset file.now machine.old) }
     ensures kept { OnErr result (machine.new ≡ machine.old) }
 {
     let copy = file.clone()?;

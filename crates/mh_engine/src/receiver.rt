@@ -4,10 +4,10 @@
 //! program is called, and the engine is told what came of it.
 ghost use Rattle.std.specs.Prelude.{◌≡◌, map, true, false, None, Ok, Err, IfOk, IfErr, OnOk, OnErr, IsErrOf, IsErrAnd, MatchOption};
 ghost use Rattle.mh_model.specs.State.{begun};
-ghost use Rattle.mh_model.specs.Headline.{front_fault};
+ghost use Rattle.mh_model.specs.Stuck.{front_fault};
 ghost use Rattle.mh_model.specs.Limits.{most_steps};
 ghost use Rattle.mh_model.specs.Receiver.{IsStep, call_next, told};
-ghost use Rattle.mh_model.specs.Step.{is_settled, posted, preset as preset_lem, step};
+ghost use Rattle.mh_model.specs.Step.{is_settled, posted, preset, step};
 ghost use Rattle.mh_resident.specs.Coming.{MayCome};
 ghost use Rattle.mh_machine.specs.Rest.{answer_of, is_faulted};
 ghost use Rattle.mh_engine.specs.Answer.{is_ready, post_refusal, preset_refusal, step_refusal};
@@ -131,7 +131,7 @@ impl<P: Resident> Receiver<P> {
 
     /// A content file is there before the first move. A refused one is handed back, and nothing changes.
     pub fn preset(&mut self, file: File) -> Result<(), RefusedFile>
-        ensures preset { let after = record self.old.engine { state = preset_lem file self.old.engine.state } in
+        ensures preset { let after = record self.old.engine { state = preset file self.old.engine.state } in
             OnOk result (self.new.engine ≡ after) }
         ensures back { IfErr result (λ refused. refused.file ≡ file) }
         ensures kept { OnErr result (self.new.engine ≡ self.old.engine) }

@@ -1,7 +1,7 @@
 //! Runs of a receiver: posts and steps in a given order, by what its programs answer.
 ghost use Rattle.std.specs.Prelude.{◌≡◌, ◌<◌, true, false, None, [], length, map, take, slice_get, IfErr, OnOk, OnErr, IsErrOf};
 ghost use Rattle.std.specs.Option.{option_map_or};
-ghost use Rattle.mh_model.specs.Headline.{front_fault};
+ghost use Rattle.mh_model.specs.Stuck.{front_fault};
 ghost use Rattle.mh_model.specs.Receiver.{IsMoved, IsRun};
 ghost use Rattle.mh_resident.specs.Coming.{MayCome};
 ghost use Rattle.mh_engine.specs.Answer.{is_counted, is_left};

@@ -1,8 +1,8 @@
 //! Runs: posts and steps in a given order.
 ghost use Rattle.std.specs.Prelude.{◌≡◌, ◌+◌, ◌<◌, true, false, None, [], length, take, slice_get, IfErr, OnOk, OnErr, IsErrOf};
 ghost use Rattle.std.specs.Option.{option_map_or};
-ghost use Rattle.mh_model.specs.Headline.{front_fault};
-ghost use Rattle.mh_model.specs.Step.{stepped, posted, moved, run as run_lem};
+ghost use Rattle.mh_model.specs.Stuck.{front_fault};
+ghost use Rattle.mh_model.specs.Step.{stepped, posted, moved, run};
 ghost use Rattle.mh_engine.specs.Answer.{is_left, is_counted, are_counted};
 
 use crate::Engine;
@@ -80,9 +80,9 @@ fn why_refused(refused: Refused) -> RefusedWhy
 /// move with which there is something to do, and then says how many moves were made. The move that was
 /// refused is none of them, and changed nothing: a run of the moves that are left goes on from there.
 pub fn run(engine: &mut Engine, moves: &[Move]) -> Result<(), RunEnd>
-    ensures all { OnOk result (engine.new.state ≡ run_lem moves.now engine.old.state) }
+    ensures all { OnOk result (engine.new.state ≡ run moves.now engine.old.state) }
     ensures counted { OnOk result (are_counted moves.now engine.old.state ≡ true) }
-    ensures part { IfErr result (λ end. engine.new.state ≡ run_lem (take end.made moves.now) engine.old.state) }
+    ensures part { IfErr result (λ end. engine.new.state ≡ run (take end.made moves.now) engine.old.state) }
     ensures before { IfErr result (λ end. are_counted (take end.made moves.now) engine.old.state ≡ true) }
     ensures within { IfErr result (λ end. end.made < length moves.now) }
     ensures more { IfErr result (λ end. option_map_or (λ next. is_left next engine.new.state) (slice_get moves.now end.made) false ≡ true) }

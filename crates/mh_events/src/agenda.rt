@@ -4,9 +4,9 @@ ghost use Rattle.std.specs.Option.{option_copied};
 ghost use Rattle.std.specs.Str.{bytes_eq};
 ghost use Rattle.mh_model.specs.Rules.{is_input, stays};
 ghost use Rattle.mh_model.specs.Step as spec;
-ghost use Rattle.mh_model.specs.Time.{due, is_due, set_timers as set_timers_lem, timer_event};
+ghost use Rattle.mh_model.specs.Time.{due, is_due, set_timers, timer_event};
 ghost use Rattle.mh_model.specs.Limits.{most_inputs, most_moment};
-ghost use Rattle.mh_events.specs.Agenda.{is_late as is_late_lem, entered, fired};
+ghost use Rattle.mh_events.specs.Agenda.{is_late, entered, fired};
 
 use crate::queue::Queue;
 use crate::timers::Timers;
@@ -99,7 +99,7 @@ impl Agenda {
 
     /// Whether a tick, behind all that wait, would lead past the last moment.
     pub fn is_late(&self, input: &Input) -> bool
-        ensures { result ≡ is_late_lem input.now self.now }
+        ensures { result ≡ is_late input.now self.now }
     {
         match input {
             Input::Tick(length) => {
@@ -112,7 +112,7 @@ impl Agenda {
 
     /// Adds an input at the end of the queue.
     pub fn post(&mut self, input: Input) -> Result<(), AllocError>
-        requires { is_late_lem input self.old ≡ false }
+        requires { is_late input self.old ≡ false }
         ensures moments { self.new.moments ≡ self.old.moments }
         ensures timers { self.new.timers ≡ self.old.timers }
         ensures posted { OnOk result (self.new.queue ≡ self.old.queue ++ Waiting.Input input ∷ []) }
@@ -221,7 +221,7 @@ impl Agenda {
     ) -> Result<(), AllocError>
         ensures moments { self.new.moments ≡ self.old.moments }
         ensures timers { OnOk result (self.new.timers
-            ≡ set_timers_lem values.now application.now group.now self.old.moments self.old.timers) }
+            ≡ set_timers values.now application.now group.now self.old.moments self.old.timers) }
         ensures queue { self.new.queue ≡ self.old.queue }
         ensures kept { OnErr result (self.new.timers ≡ self.old.timers) }
     {

@@ -1,8 +1,8 @@
 //! What is counted of what waits.
 ghost use Rattle.std.specs.Prelude.{◌≡◌};
 ghost use Rattle.std.specs.Str.{bytes_eq};
-ghost use Rattle.mh_model.specs.Rules.{stays as stays_lem, is_input as is_input_lem};
-ghost use Rattle.mh_model.specs.Step.{time_of as time_of_lem};
+ghost use Rattle.mh_model.specs.Rules.{stays, is_input};
+ghost use Rattle.mh_model.specs.Step.{time_of};
 
 use mh_base::GroupName;
 use mh_model::{Input, Waiting};
@@ -12,7 +12,7 @@ pub(crate) const MOST_INPUTS: usize = 256;
 
 /// How much time passes when the input is taken, in milliseconds.
 pub(crate) fn time_of(input: &Input) -> u64
-    ensures { result ≡ time_of_lem (Waiting.Input input.now) }
+    ensures { result ≡ time_of (Waiting.Input input.now) }
 {
     match input {
         Input::Tick(milliseconds) => u64::from(*milliseconds),
@@ -21,14 +21,14 @@ pub(crate) fn time_of(input: &Input) -> u64
 }
 
 pub(crate) fn is_input(waiting: &Waiting) -> bool
-    ensures { result ≡ is_input_lem waiting.now }
+    ensures { result ≡ is_input waiting.now }
 {
     matches!(waiting, Waiting::Input(_))
 }
 
 /// Whether it waits on when the scene is left: an input, or an event of the application.
 pub(crate) fn stays(waiting: &Waiting, application: &GroupName) -> bool
-    ensures { result ≡ stays_lem application.now waiting.now }
+    ensures { result ≡ stays application.now waiting.now }
 {
     match waiting {
         Waiting::Input(_) => true,

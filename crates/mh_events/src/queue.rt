@@ -5,10 +5,10 @@ ghost use Rattle.std.specs.Prelude.{◌≡◌, ◌++◌, ◌∷◌, ◌+◌, ◌
 ghost use Rattle.std.specs.Prelude.{drop, filter, length, map, nat_lt, not, slice_get, vec_len};
 ghost use Rattle.std.specs.Option.{option_copied};
 ghost use Rattle.std.specs.VecDeque.{deque_len, deque_capacity};
-ghost use Rattle.mh_model.specs.Rules.{is_input as is_input_lem, stays as stays_lem};
-ghost use Rattle.mh_model.specs.Step.{inputs as inputs_lem, is_empty as is_empty_lem};
+ghost use Rattle.mh_model.specs.Rules.{is_input, stays};
+ghost use Rattle.mh_model.specs.Step.{inputs as inputs_lem, is_empty};
 ghost use Rattle.mh_model.specs.Limits.{most_inputs};
-ghost use Rattle.mh_model.specs.Step.{time_ahead as time_ahead_lem, time_of as time_of_lem};
+ghost use Rattle.mh_model.specs.Step.{time_ahead, time_of};
 
 use crate::counting::{MOST_INPUTS, is_input, stays, time_of};
 use mh_base::GroupName;
@@ -56,7 +56,7 @@ impl Queue {
     }
 
     pub fn is_empty(&self) -> bool
-        ensures { result ≡ is_empty_lem self.now.items }
+        ensures { result ≡ is_empty self.now.items }
     {
         self.entries.is_empty()
     }
@@ -92,14 +92,14 @@ impl Queue {
 
     /// How much time will have passed when all that waits is taken, in milliseconds.
     pub fn time_ahead(&self) -> u64
-        ensures { result ≡ time_ahead_lem self.now.items }
+        ensures { result ≡ time_ahead self.now.items }
     {
         self.time
     }
 
     /// Adds an input at the end.
     pub fn post(&mut self, input: Input) -> Result<(), AllocError>
-        requires { time_ahead_lem self.old.items + time_of_lem (Waiting.Input input) < 2 ^ 64 }
+        requires { time_ahead self.old.items + time_of (Waiting.Input input) < 2 ^ 64 }
         ensures posted { OnOk result (self.new.items ≡ self.old.items ++ Waiting.Input input ∷ []) }
         ensures kept { OnErr result (self.new.items ≡ self.old.items) }
     {
@@ -147,14 +147,14 @@ impl Queue {
 
     /// Keeps inputs, and the events of the application.
     pub fn keep(&mut self, application: &GroupName)
-        ensures { self.new.items ≡ filter (stays_lem application.now) self.old.items }
+        ensures { self.new.items ≡ filter (stays application.now) self.old.items }
     {
         keep_of(&mut self.entries, self.inputs, application);
     }
 
     /// Keeps inputs alone.
     pub fn keep_inputs(&mut self)
-        ensures { self.new.items ≡ filter is_input_lem self.old.items }
+        ensures { self.new.items ≡ filter is_input self.old.items }
     {
         keep_inputs_of(&mut self.entries);
     }
@@ -180,7 +180,7 @@ fn push_events(entries: &mut VecDeque<Waiting>, events: Vec<Event>)
 /// Where inputs alone wait, all of them stay, and none is looked at.
 fn keep_of(entries: &mut VecDeque<Waiting>, inputs: usize, application: &GroupName)
     requires { inputs ≡ inputs_lem entries.old.items }
-    ensures { entries.new.items ≡ filter (stays_lem application.now) entries.old.items }
+    ensures { entries.new.items ≡ filter (stays application.now) entries.old.items }
 {
     if inputs < entries.len() {
         entries.retain(|waiting| stays(waiting, application));
@@ -188,7 +188,7 @@ fn keep_of(entries: &mut VecDeque<Waiting>, inputs: usize, application: &GroupNa
 }
 
 fn keep_inputs_of(entries: &mut VecDeque<Waiting>)
-    ensures { entries.new.items ≡ filter is_input_lem entries.old.items }
+    ensures { entries.new.items ≡ filter is_input entries.old.items }
 {
     entries.retain(|waiting| is_input(waiting));
 }

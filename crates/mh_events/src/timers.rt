@@ -2,8 +2,8 @@
 ghost use Rattle.std.specs.Prelude.{◌≡◌, ◌≤◌, [], IfOk, OnErr, OnOk, filter, map, not};
 ghost use Rattle.std.specs.Str.{bytes_eq};
 ghost use Rattle.std.specs.Vec.{vec_capacity, vec_len};
-ghost use Rattle.mh_model.specs.Time.{cancelled, due as due_lem, is_due as is_due_lem};
-ghost use Rattle.mh_model.specs.Time.{is_timer as is_timer_lem, timed, timer_event};
+ghost use Rattle.mh_model.specs.Time.{cancelled, due as due_lem, is_due};
+ghost use Rattle.mh_model.specs.Time.{is_timer, timed, timer_event};
 
 use crate::order::{due_of, is_due};
 use mh_base::{EventType, GroupName, ObjRef, Value};
@@ -78,7 +78,7 @@ impl Timers {
 
     /// Takes those away that are due.
     pub fn drop_due(&mut self, now: u32)
-        ensures { self.new ≡ filter (λ t. not (is_due_lem now t)) self.old }
+        ensures { self.new ≡ filter (λ t. not (is_due now t)) self.old }
     {
         drop_due_in(&mut self.timers, now);
     }
@@ -107,13 +107,13 @@ fn cancel_in(timers: &mut Vec<Timer>, group: &GroupName, id: i32)
 
 /// Whether it is the timer of the group with this id.
 fn is_timer(timer: &Timer, group: &GroupName, id: i32) -> bool
-    ensures { result ≡ is_timer_lem group.now id timer.now }
+    ensures { result ≡ is_timer group.now id timer.now }
 {
     timer.group == *group && timer.id == id
 }
 
 fn drop_due_in(timers: &mut Vec<Timer>, now: u32)
-    ensures { timers.new.items ≡ filter (λ t. not (is_due_lem now t)) timers.old.items }
+    ensures { timers.new.items ≡ filter (λ t. not (is_due now t)) timers.old.items }
 {
     timers.retain(|timer| !is_due(timer, now));
 }

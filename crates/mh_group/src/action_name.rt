@@ -81,7 +81,8 @@ pub enum ActionName {
     GetCellItem,
 }
 
-const ALL: [ActionName; 70] = [
+/// All actions.
+pub const ALL: [ActionName; 70] = [
     ActionName::Run,
     ActionName::Stop,
     ActionName::Preload,

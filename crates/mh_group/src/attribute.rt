@@ -48,7 +48,8 @@ pub enum Attribute {
     NextScenes,
 }
 
-const ALL: [Attribute; 38] = [
+/// All attributes.
+pub const ALL: [Attribute; 38] = [
     Attribute::OnStartUp,
     Attribute::OnCloseDown,
     Attribute::Items,

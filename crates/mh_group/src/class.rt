@@ -3,7 +3,7 @@ ghost use Rattle.std.specs.Prelude.{◌≡◌, ◌==◌};
 ghost use Rattle.std.specs.List.{find};
 ghost use Rattle.std.specs.Str.{bytes_eq};
 ghost use Rattle.mh_group.specs.Words.{class_word, classes};
-ghost use Rattle.mh_group.specs.Table.{class_number, is_group_class, is_variable as is_variable_lem, is_visible as is_visible_lem, is_line_art as is_line_art_lem, has_content as has_content_lem, shows_text as shows_text_lem, is_interactible as is_interactible_lem, is_token_manager as is_token_manager_lem, is_presentable as is_presentable_lem, is_runnable as is_runnable_lem};
+ghost use Rattle.mh_group.specs.Table.{class_number, is_group_class, is_variable, is_visible, is_line_art, has_content, shows_text, is_interactible, is_token_manager, is_presentable, is_runnable};
 
 /// The classes (ISO/IEC 13522-5) that the profile has, in the order of their numbers.
 #[derive(Clone, Copy, PartialEq, Eq)]
@@ -27,7 +27,8 @@ pub enum Class {
     Stream,
 }
 
-const ALL: [Class; 17] = [
+/// All classes.
+pub const ALL: [Class; 17] = [
     Class::Application,
     Class::Scene,
     Class::Link,
@@ -122,7 +123,7 @@ impl Class {
 
     /// Whether objects of the class are variables (ISO/IEC 13522-5, Variable).
     pub fn is_variable(self) -> bool
-        ensures { result ≡ is_variable_lem self }
+        ensures { result ≡ is_variable self }
     {
         matches!(
             self,
@@ -136,42 +137,42 @@ impl Class {
 
     /// Whether objects of the class can be seen (ISO/IEC 13522-5, Visible).
     pub fn is_visible(self) -> bool
-        ensures { result ≡ is_visible_lem self }
+        ensures { result ≡ is_visible self }
     {
         self.is_line_art() || self.shows_text()
     }
 
     /// Whether they are drawn with lines and fills (ISO/IEC 13522-5, LineArt).
     pub fn is_line_art(self) -> bool
-        ensures { result ≡ is_line_art_lem self }
+        ensures { result ≡ is_line_art self }
     {
         matches!(self, Class::Rectangle | Class::DynamicLineArt)
     }
 
     /// Whether they show a text that is content: in the group's file or apart from it.
     pub fn has_content(self) -> bool
-        ensures { result ≡ has_content_lem self }
+        ensures { result ≡ has_content self }
     {
         matches!(self, Class::Text | Class::EntryField)
     }
 
     /// Whether they show a text: content, or a label.
     pub fn shows_text(self) -> bool
-        ensures { result ≡ shows_text_lem self }
+        ensures { result ≡ shows_text self }
     {
         matches!(self, Class::Text | Class::EntryField | Class::PushButton)
     }
 
     /// Whether a viewer can interact with them (ISO/IEC 13522-5, Interactible).
     pub fn is_interactible(self) -> bool
-        ensures { result ≡ is_interactible_lem self }
+        ensures { result ≡ is_interactible self }
     {
         matches!(self, Class::EntryField | Class::PushButton)
     }
 
     /// Whether they hand a token among their members (ISO/IEC 13522-5, TokenManager).
     pub fn is_token_manager(self) -> bool
-        ensures { result ≡ is_token_manager_lem self }
+        ensures { result ≡ is_token_manager self }
     {
         matches!(self, Class::ListGroup | Class::TokenGroup)
     }
@@ -179,14 +180,14 @@ impl Class {
     /// Whether a scene presents objects of the class (ISO/IEC 13522-5, Presentable): they can become
     /// available and run.
     pub fn is_presentable(self) -> bool
-        ensures { result ≡ is_presentable_lem self }
+        ensures { result ≡ is_presentable self }
     {
         self.is_visible() || self.is_token_manager() || matches!(self, Class::Stream)
     }
 
     /// Whether objects of the class can run: links, and what is presented.
     pub fn is_runnable(self) -> bool
-        ensures { result ≡ is_runnable_lem self }
+        ensures { result ≡ is_runnable self }
     {
         matches!(self, Class::Link) || self.is_presentable()
     }

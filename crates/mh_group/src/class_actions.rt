@@ -1,6 +1,6 @@
 //! The table of actions: which of them have a rule for a class, and what events they can emit there.
 ghost use Rattle.std.specs.Prelude.{◌≡◌};
-ghost use Rattle.mh_group.specs.Table.{admits as admits_lem, emits as emits_lem, prepare_events as prepare_events_lem, run_events as run_events_lem, may_emit as may_emit_lem};
+ghost use Rattle.mh_group.specs.Table.{admits, emits, prepare_events, run_events, may_emit};
 
 use crate::words::EVENTS;
 use crate::{ActionName, Class};
@@ -9,7 +9,7 @@ use mh_base::EventType;
 impl Class {
     /// Whether the action has a rule for targets of the class.
     pub fn admits(self, action: ActionName) -> bool
-        ensures { result ≡ admits_lem self action }
+        ensures { result ≡ admits self action }
     {
         match action {
             ActionName::Run | ActionName::Stop | ActionName::Preload | ActionName::Unload =>
@@ -80,7 +80,7 @@ impl ActionName {
     /// and what the target emits when by that rule it becomes available, runs, stops, is dropped or is
     /// entered. None where the action has no rule for the class.
     pub fn may_emit(self, class: Class) -> &'static [EventType]
-        ensures { result.now ≡ may_emit_lem self class }
+        ensures { result.now ≡ may_emit self class }
     {
         if class.admits(self) {
             self.emits(class)
@@ -90,7 +90,7 @@ impl ActionName {
     }
 
     fn emits(self, class: Class) -> &'static [EventType]
-        ensures { result.now ≡ emits_lem self class }
+        ensures { result.now ≡ emits self class }
     {
         match self {
             ActionName::Run | ActionName::Activate => run_events(class),
@@ -129,7 +129,7 @@ impl ActionName {
 
 /// What an object of the class emits when it becomes available.
 fn prepare_events(class: Class) -> &'static [EventType]
-    ensures { result.now ≡ prepare_events_lem class }
+    ensures { result.now ≡ prepare_events class }
 {
     if class.has_content() {
         &[EventType::IsAvailable, EventType::ContentAvailable]
@@ -140,7 +140,7 @@ fn prepare_events(class: Class) -> &'static [EventType]
 
 /// What an object of the class emits when it becomes available and runs.
 fn run_events(class: Class) -> &'static [EventType]
-    ensures { result.now ≡ run_events_lem class }
+    ensures { result.now ≡ run_events class }
 {
     match class {
         Class::Text | Class::EntryField => &[

@@ -1,14 +1,14 @@
 //! The table of attributes: which of them objects of a class may be written with, and which they have to
 //! be written with.
 ghost use Rattle.std.specs.Prelude.{◌≡◌};
-ghost use Rattle.mh_group.specs.Table.{takes as takes_lem, required_of};
+ghost use Rattle.mh_group.specs.Table.{takes, required_of};
 
 use crate::{Attribute, Class};
 
 impl Class {
     /// Whether objects of the class may be written with the attribute.
     pub fn takes(self, attribute: Attribute) -> bool
-        ensures { result ≡ takes_lem self attribute }
+        ensures { result ≡ takes self attribute }
     {
         match attribute {
             Attribute::OnStartUp | Attribute::OnCloseDown | Attribute::Items => self.is_group(),

@@ -1,7 +1,7 @@
 //! What fits the tables: values and their shapes, actions and their parameters.
 ghost use Rattle.std.specs.Prelude.{◌≡◌, length, ◌&&◌, nat_le};
 ghost use Rattle.std.specs.List.{list_all};
-ghost use Rattle.mh_group.specs.Fit.{fits as fits_lem, fits_parameter as fits_parameter_lem, fits_parameters as fits_parameters_lem, fits_action as fits_action_lem, fits_effect as fits_effect_lem, fits_member as fits_member_lem, is_list_item};
+ghost use Rattle.mh_group.specs.Fit.{fits, fits_parameter, fits_parameters, fits_action, fits_effect, fits_member, is_list_item};
 
 use crate::shape::{Need, Shape};
 use crate::written::{Member, Setting};
@@ -12,7 +12,7 @@ pub const MOST_LIST_ITEMS: usize = 256;
 
 /// Whether the value has the shape and lies in its range.
 pub fn fits(shape: Shape, setting: &Setting) -> bool
-    ensures { result ≡ fits_lem shape setting.now }
+    ensures { result ≡ fits shape setting.now }
 {
     match (shape, setting) {
         (Shape::Effect, Setting::Effect(effect)) => fits_effect(effect.as_slice()),
@@ -42,7 +42,7 @@ pub fn fits(shape: Shape, setting: &Setting) -> bool
 
 /// Whether the parameter is of the kind that is needed.
 fn fits_parameter(need: Need, parameter: &Parameter) -> bool
-    ensures { result ≡ fits_parameter_lem need parameter.now }
+    ensures { result ≡ fits_parameter need parameter.now }
 {
     match (need, parameter) {
         (Need::Bool, Parameter::Bool(_)) => true,
@@ -61,7 +61,7 @@ fn fits_parameter(need: Need, parameter: &Parameter) -> bool
 
 /// Whether the action is written with the parameters that it needs.
 pub fn fits_action(action: &Action) -> bool
-    ensures { result ≡ fits_action_lem action.now }
+    ensures { result ≡ fits_action action.now }
 {
     let name = action.name;
     fits_parameters(name.optional(), name.needs(), action.parameters.as_slice())
@@ -70,7 +70,7 @@ pub fn fits_action(action: &Action) -> bool
 /// Whether each parameter is what is needed at its place. So many of the needed ones may be missing
 /// at the end.
 fn fits_parameters(optional: usize, needed: &[Need], given: &[Parameter]) -> bool
-    ensures { result ≡ fits_parameters_lem optional needed.now given.now }
+    ensures { result ≡ fits_parameters optional needed.now given.now }
 {
     match given {
         [] => needed.len() <= optional,
@@ -84,20 +84,20 @@ fn fits_parameters(optional: usize, needed: &[Need], given: &[Parameter]) -> boo
 }
 
 fn fits_effect(effect: &[Action]) -> bool
-    ensures { result ≡ fits_effect_lem effect.now }
+    ensures { result ≡ fits_effect effect.now }
 {
     effect.iter().all(|action| fits_action(action))
 }
 
 /// Whether the slots of each member are right.
 fn fits_members(members: &[Member]) -> bool
-    ensures { result ≡ list_all fits_member_lem members.now }
+    ensures { result ≡ list_all fits_member members.now }
 {
     members.iter().all(|member| fits_member(member))
 }
 
 fn fits_member(member: &Member) -> bool
-    ensures { result ≡ fits_member_lem member.now }
+    ensures { result ≡ fits_member member.now }
 {
     member
         .slots

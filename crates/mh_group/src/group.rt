@@ -1,6 +1,6 @@
 //! `Group`: what is written, where the tables allow it.
 ghost use Rattle.std.specs.Prelude.{◌≡◌, true, false, length, IfOk, IfErr, OnOk, OnErr, ◌≤◌, Some};
-ghost use Rattle.mh_group.specs.Fit.{is_group, misfit_of as misfit_of_lem, is_rising, has_attribute as has_attribute_lem, has_required as has_required_lem, takes_each as takes_each_lem, fits_each as fits_each_lem, fields_misfit as fields_misfit_lem, ingredient_misfit as ingredient_misfit_lem, ingredients_misfit as ingredients_misfit_lem, items_of, before_items as before_items_lem};
+ghost use Rattle.mh_group.specs.Fit.{is_group, misfit_of, is_rising, has_attribute, has_required, takes_each, fits_each, fields_misfit, ingredient_misfit, ingredients_misfit, items_of, before_items};
 ghost use Rattle.mh_group.specs.declared.written.Written.{Written};
 
 pub use crate::fit::{MOST_LIST_ITEMS, fits, fits_action};
@@ -34,7 +34,7 @@ impl Group {
     pub fn new(written: Written) -> Result<Group, Misfit>
         ensures fits { OnOk result (is_group written ≡ true) }
         ensures same { IfOk result (λ group. group ≡ written) }
-        ensures why { IfErr result (λ misfit. Some misfit.why ≡ misfit_of_lem written) }
+        ensures why { IfErr result (λ misfit. Some misfit.why ≡ misfit_of written) }
         ensures unfit { OnErr result (is_group written ≡ false) }
         ensures back { IfErr result (λ misfit. misfit.written ≡ written) }
     {
@@ -72,7 +72,7 @@ pub fn items(written: &Written) -> &[Ingredient]
 
 /// How many fields at the front have smaller numbers than the items, which are written behind them.
 pub fn before_items(fields: &[Field]) -> usize
-    ensures exact { result ≡ before_items_lem fields.now }
+    ensures exact { result ≡ before_items fields.now }
     ensures within { result ≤ length fields.now }
 {
     let limit = Attribute::Items.number();
@@ -98,7 +98,7 @@ fn are_rising(fields: &[Field]) -> bool
 
 /// Whether one of the fields has the attribute.
 pub fn has_attribute(fields: &[Field], attribute: Attribute) -> bool
-    ensures { result ≡ has_attribute_lem fields.now attribute }
+    ensures { result ≡ has_attribute fields.now attribute }
 {
     let number = attribute.number();
     fields
@@ -108,7 +108,7 @@ pub fn has_attribute(fields: &[Field], attribute: Attribute) -> bool
 
 /// Whether nothing is missing with which objects of the class have to be written.
 pub fn has_required(class: Class, fields: &[Field]) -> bool
-    ensures { result ≡ has_required_lem class fields.now }
+    ensures { result ≡ has_required class fields.now }
 {
     class
         .required()
@@ -117,13 +117,13 @@ pub fn has_required(class: Class, fields: &[Field]) -> bool
 }
 
 fn takes_each(class: Class, fields: &[Field]) -> bool
-    ensures { result ≡ takes_each_lem class fields.now }
+    ensures { result ≡ takes_each class fields.now }
 {
     fields.iter().all(|field| class.takes(field.attribute))
 }
 
 fn fits_each(class: Class, fields: &[Field]) -> bool
-    ensures { result ≡ fits_each_lem class fields.now }
+    ensures { result ≡ fits_each class fields.now }
 {
     fields
         .iter()
@@ -132,7 +132,7 @@ fn fits_each(class: Class, fields: &[Field]) -> bool
 
 /// Why these are no fields of an object of the class, if they are not.
 fn fields_misfit(class: Class, fields: &[Field]) -> Option<MisfitWhy>
-    ensures { result ≡ fields_misfit_lem class fields.now }
+    ensures { result ≡ fields_misfit class fields.now }
 {
     if !are_rising(fields) {
         return Some(MisfitWhy::Order);
@@ -150,7 +150,7 @@ fn fields_misfit(class: Class, fields: &[Field]) -> Option<MisfitWhy>
 }
 
 fn ingredient_misfit(ingredient: &Ingredient) -> Option<MisfitWhy>
-    ensures { result ≡ ingredient_misfit_lem ingredient.now }
+    ensures { result ≡ ingredient_misfit ingredient.now }
 {
     if ingredient.class.is_group() {
         return Some(MisfitWhy::NotAnIngredient);
@@ -162,7 +162,7 @@ fn ingredient_misfit(ingredient: &Ingredient) -> Option<MisfitWhy>
 }
 
 fn ingredients_misfit(ingredients: &[Ingredient]) -> Option<MisfitWhy>
-    ensures { result ≡ ingredients_misfit_lem ingredients.now }
+    ensures { result ≡ ingredients_misfit ingredients.now }
 {
     for ingredient in ingredients {
         if let Some(why) = ingredient_misfit(ingredient) {
@@ -175,7 +175,7 @@ fn ingredients_misfit(ingredients: &[Ingredient]) -> Option<MisfitWhy>
 /// Why this is no group, if it is none.
 #[tactic(auto, unfolding(crate::specs::Fit::misfit_of))]
 fn misfit_of(written: &Written) -> Option<MisfitWhy>
-    ensures { result ≡ misfit_of_lem written.now }
+    ensures { result ≡ misfit_of written.now }
 {
     if !written.class.is_group() {
         return Some(MisfitWhy::NotAGroup);

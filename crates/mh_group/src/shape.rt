@@ -1,7 +1,7 @@
 //! `Shape` and `Need`: the shapes of the values of attributes and of the parameters of actions; and which
 //! shape an attribute has.
 ghost use Rattle.std.specs.Prelude.{◌≡◌};
-ghost use Rattle.mh_group.specs.Table.{shape_of, value_shape as value_shape_lem, is_items_shape};
+ghost use Rattle.mh_group.specs.Table.{shape_of, value_shape, is_items_shape};
 
 use crate::{Attribute, Class};
 use mh_base::Kind;
@@ -126,7 +126,7 @@ impl Class {
 
     /// The shape of the value of a variable of the class.
     fn value_shape(self) -> Shape
-        ensures { result ≡ value_shape_lem self }
+        ensures { result ≡ value_shape self }
     {
         match self {
             Class::BooleanVar => Shape::Bool,

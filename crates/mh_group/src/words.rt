@@ -3,7 +3,7 @@ ghost use Rattle.std.specs.Prelude.{◌≡◌};
 ghost use Rattle.std.specs.List.{find};
 ghost use Rattle.std.specs.Str.{bytes_eq};
 ghost use Rattle.mh_base.specs.Kinds.{kinds};
-ghost use Rattle.mh_group.specs.Words.{event_word as event_word_lem, events, kind_word as kind_word_lem};
+ghost use Rattle.mh_group.specs.Words.{event_word, events, kind_word};
 
 use mh_base::{EventType, KINDS, Kind};
 
@@ -38,7 +38,7 @@ pub(crate) static EVENTS: [EventType; 25] = [
 
 /// The type of events that this word names, if there is one.
 pub fn event_of_word(word: &[u8]) -> Option<EventType>
-    ensures { result ≡ find (λ x. bytes_eq (event_word_lem x) word.now) events }
+    ensures { result ≡ find (λ x. bytes_eq (event_word x) word.now) events }
 {
     EVENTS.iter().copied().find(|x| event_word(*x) == word)
 }
@@ -46,7 +46,7 @@ pub fn event_of_word(word: &[u8]) -> Option<EventType>
 /// The word of a type of events in the textual notation.
 #[tactic(auto, unfolding(crate::specs::Words::event_word))]
 pub fn event_word(event: EventType) -> &'static [u8]
-    ensures { result.now ≡ event_word_lem event }
+    ensures { result.now ≡ event_word event }
 {
     match event {
         EventType::IsAvailable => b"IsAvailable",
@@ -79,7 +79,7 @@ pub fn event_word(event: EventType) -> &'static [u8]
 
 /// The kind of values that this keyword stands in front of, if there is one.
 pub fn kind_of_word(name: &[u8]) -> Option<Kind>
-    ensures { result ≡ find (λ x. bytes_eq (kind_word_lem x) name.now) kinds }
+    ensures { result ≡ find (λ x. bytes_eq (kind_word x) name.now) kinds }
 {
     KINDS.iter().copied().find(|x| kind_word(*x) == name)
 }
@@ -87,7 +87,7 @@ pub fn kind_of_word(name: &[u8]) -> Option<Kind>
 /// The keyword in front of a value of the kind in the textual notation.
 #[tactic(auto, unfolding(crate::specs::Words::kind_word))]
 pub fn kind_word(kind: Kind) -> &'static [u8]
-    ensures { result.now ≡ kind_word_lem kind }
+    ensures { result.now ≡ kind_word kind }
 {
     match kind {
         Kind::Bool => b"GBoolean",

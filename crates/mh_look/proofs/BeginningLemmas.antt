@@ -7,8 +7,8 @@ use Rattle.std.proofs.lemmas.Bool.Decides.{Decides-eqb}
 use Rattle.std.proofs.lemmas.Slice.Eq.{starts_is}
 use Rattle.mh_group.specs.Words.{action_word}
 use Rattle.mh_model.specs.Planes.{Planes}
-use Rattle.mh_model.specs.Frame.{frame_text, row_changes}
-use Rattle.mh_model.specs.Told.{fault_line, fault_word, refused_line, did_line, rest_word, total_line}
+use Rattle.mh_told.specs.Frame.{frame_text, row_changes}
+use Rattle.mh_told.specs.Told.{fault_line, fault_word, refused_line, did_line, rest_word, total_line}
 use Rattle.mh_look.specs.declared.report.Part.{Part}
 use Rattle.mh_look.specs.declared.report.Part.TheVariants as part
 use Rattle.mh_look.specs.Report.{lines_from, IsGoodPart}

@@ -6,9 +6,9 @@ use Rattle.std.proofs.lemmas.Bool.Decides.{Decides-eqb}
 use Rattle.std.proofs.lemmas.List.{length-append}
 use Rattle.mh_model.specs.declared.cell.Cell.{Cell}
 use Rattle.mh_model.specs.Planes.{Planes, IsWhole}
-use Rattle.mh_model.specs.Printing.{two_digits}
-use Rattle.mh_model.specs.Frame.{differ, runs, row_line, row_cells, row_change, row_changes, frame_text}
-use Rattle.mh_model.proofs.FrameLemmas.{rows_more}
+use Rattle.mh_told.specs.Printing.{two_digits}
+use Rattle.mh_told.specs.Frame.{differ, runs, row_line, row_cells, row_change, row_changes, frame_text}
+use Rattle.mh_told.proofs.FrameLemmas.{rows_more}
 use Rattle.mh_look.specs.Report.{IsShown}
 use Rattle.mh_look.specs.Reading.{Begins, IsRow, IsRowFound, SameBut, EndsFrame, IsFrameFound}
 use Rattle.mh_look.specs.Front.{IsInFront}

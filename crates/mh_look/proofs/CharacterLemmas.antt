@@ -6,7 +6,7 @@ use Rattle.std.proofs.lemmas.Str.{char_from_byte}
 use Rattle.bstr.specs.Utf8.{decoded, good}
 use Rattle.bstr.proofs.lemmas.PieceLemmas.{size-bounds}
 use Rattle.bstr.proofs.lemmas.EncodeLemmas.{decoded-encode}
-use Rattle.mh_model.specs.Printing.{quoted}
+use Rattle.mh_told.specs.Printing.{quoted}
 use lib.Utf8.{scalar}
 
 -- what is decoded is one character, which takes some of the bytes

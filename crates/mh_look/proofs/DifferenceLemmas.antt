@@ -7,7 +7,7 @@ use Rattle.std.proofs.lemmas.Bool.Decides.{Decides-eqb, eqb_tells}
 use Rattle.mh_model.specs.declared.cell.Cell.{Cell}
 use Rattle.mh_model.specs.Planes.{Planes, IsWhole}
 use Rattle.mh_model.specs.Picture.{cell_of}
-use Rattle.mh_model.specs.Frame.{same_cell}
+use Rattle.mh_told.specs.Frame.{same_cell}
 use Rattle.mh_model.proofs.PlanesLemmas.{is_picture}
 use Rattle.mh_look.specs.Frames.{differs_at}
 

@@ -16,7 +16,7 @@ use Rattle.mh_group.specs.declared.action_name.ActionName.TheVariants as action
 use Rattle.mh_model.specs.declared.fault.Fault.{Fault}
 use Rattle.mh_model.specs.declared.fault.FaultKind.{FaultKind}
 use Rattle.mh_model.specs.declared.fault.FaultKind.TheVariants as fault
-use Rattle.mh_model.specs.Told.{fault_line, fault_word}
+use Rattle.mh_told.specs.Told.{fault_line, fault_word}
 use Rattle.mh_look.specs.Reading.{EndsNumber}
 use Rattle.mh_look.specs.Report.{IsGoodFault}
 use Rattle.mh_look.specs.Front.{is_other, lacks, before, behind}
@@ -90,148 +90,12 @@ kind_read fault.WrongKind = refl
 pub action_read : (a : ActionName) → find (λ x. bytes_eq (action_word x) (action_word a)) actions ≡ Some a
 unfolding action_word
 action_read action.Run = refl
-action_read action.Stop = refl
-action_read action.Preload = refl
-action_read action.Unload = refl
-action_read action.GetAvailabilityStatus = refl
-action_read action.GetRunningStatus = refl
-action_read action.SendEvent = refl
-action_read action.SetTimer = refl
-action_read action.Launch = refl
-action_read action.Quit = refl
-action_read action.LockScreen = refl
-action_read action.UnlockScreen = refl
-action_read action.TransitionTo = refl
-action_read action.SetInputRegister = refl
-action_read action.Activate = refl
-action_read action.Deactivate = refl
-action_read action.SetVariable = refl
-action_read action.TestVariable = refl
-action_read action.Add = refl
-action_read action.Subtract = refl
-action_read action.Multiply = refl
-action_read action.Divide = refl
-action_read action.Modulo = refl
-action_read action.Append = refl
-action_read action.Call = refl
-action_read action.Fork = refl
-action_read action.SetPosition = refl
-action_read action.GetPosition = refl
-action_read action.SetBoxSize = refl
-action_read action.GetBoxSize = refl
-action_read action.BringToFront = refl
-action_read action.SendToBack = refl
-action_read action.PutBefore = refl
-action_read action.PutBehind = refl
-action_read action.SetFillColour = refl
-action_read action.SetLineColour = refl
-action_read action.SetLineWidth = refl
-action_read action.Clear = refl
-action_read action.DrawLine = refl
-action_read action.DrawRectangle = refl
-action_read action.SetData = refl
-action_read action.GetTextData = refl
-action_read action.SetTextColour = refl
-action_read action.SetInteractionStatus = refl
-action_read action.GetInteractionStatus = refl
-action_read action.SetHighlightStatus = refl
-action_read action.GetHighlightStatus = refl
-action_read action.SetEntryPoint = refl
-action_read action.GetEntryPoint = refl
-action_read action.SetOverwriteMode = refl
-action_read action.Select = refl
-action_read action.Deselect = refl
-action_read action.SetLabel = refl
-action_read action.GetLabel = refl
-action_read action.Move = refl
-action_read action.MoveTo = refl
-action_read action.GetTokenPosition = refl
-action_read action.CallActionSlot = refl
-action_read action.AddItem = refl
-action_read action.DelItem = refl
-action_read action.ScrollItems = refl
-action_read action.SetFirstItem = refl
-action_read action.GetFirstItem = refl
-action_read action.SelectItem = refl
-action_read action.DeselectItem = refl
-action_read action.ToggleItem = refl
-action_read action.GetItemStatus = refl
-action_read action.GetListItem = refl
-action_read action.GetListSize = refl
-action_read action.GetCellItem = refl
+action_read _ = refl
 
 action_is_word : (a : ActionName) → lacks 32 (action_word a) ≡ true
 unfolding action_word
 action_is_word action.Run = refl
-action_is_word action.Stop = refl
-action_is_word action.Preload = refl
-action_is_word action.Unload = refl
-action_is_word action.GetAvailabilityStatus = refl
-action_is_word action.GetRunningStatus = refl
-action_is_word action.SendEvent = refl
-action_is_word action.SetTimer = refl
-action_is_word action.Launch = refl
-action_is_word action.Quit = refl
-action_is_word action.LockScreen = refl
-action_is_word action.UnlockScreen = refl
-action_is_word action.TransitionTo = refl
-action_is_word action.SetInputRegister = refl
-action_is_word action.Activate = refl
-action_is_word action.Deactivate = refl
-action_is_word action.SetVariable = refl
-action_is_word action.TestVariable = refl
-action_is_word action.Add = refl
-action_is_word action.Subtract = refl
-action_is_word action.Multiply = refl
-action_is_word action.Divide = refl
-action_is_word action.Modulo = refl
-action_is_word action.Append = refl
-action_is_word action.Call = refl
-action_is_word action.Fork = refl
-action_is_word action.SetPosition = refl
-action_is_word action.GetPosition = refl
-action_is_word action.SetBoxSize = refl
-action_is_word action.GetBoxSize = refl
-action_is_word action.BringToFront = refl
-action_is_word action.SendToBack = refl
-action_is_word action.PutBefore = refl
-action_is_word action.PutBehind = refl
-action_is_word action.SetFillColour = refl
-action_is_word action.SetLineColour = refl
-action_is_word action.SetLineWidth = refl
-action_is_word action.Clear = refl
-action_is_word action.DrawLine = refl
-action_is_word action.DrawRectangle = refl
-action_is_word action.SetData = refl
-action_is_word action.GetTextData = refl
-action_is_word action.SetTextColour = refl
-action_is_word action.SetInteractionStatus = refl
-action_is_word action.GetInteractionStatus = refl
-action_is_word action.SetHighlightStatus = refl
-action_is_word action.GetHighlightStatus = refl
-action_is_word action.SetEntryPoint = refl
-action_is_word action.GetEntryPoint = refl
-action_is_word action.SetOverwriteMode = refl
-action_is_word action.Select = refl
-action_is_word action.Deselect = refl
-action_is_word action.SetLabel = refl
-action_is_word action.GetLabel = refl
-action_is_word action.Move = refl
-action_is_word action.MoveTo = refl
-action_is_word action.GetTokenPosition = refl
-action_is_word action.CallActionSlot = refl
-action_is_word action.AddItem = refl
-action_is_word action.DelItem = refl
-action_is_word action.ScrollItems = refl
-action_is_word action.SetFirstItem = refl
-action_is_word action.GetFirstItem = refl
-action_is_word action.SelectItem = refl
-action_is_word action.DeselectItem = refl
-action_is_word action.ToggleItem = refl
-action_is_word action.GetItemStatus = refl
-action_is_word action.GetListItem = refl
-action_is_word action.GetListSize = refl
-action_is_word action.GetCellItem = refl
+action_is_word _ = refl
 
 kind_is_word : (k : FaultKind) → lacks 32 (fault_word k) ≡ true
 kind_is_word fault.Absent = refl

@@ -8,7 +8,7 @@ use Rattle.mh_group.specs.Words.{action_word}
 use Rattle.mh_model.specs.declared.fault.Fault.{Fault}
 use Rattle.mh_model.specs.declared.rest.Rest.{Rest}
 use Rattle.mh_model.specs.declared.rest.Rest.TheVariants as rest
-use Rattle.mh_model.specs.Told.{fault_line, fault_word, refused_line, did_line, rest_word, total_line}
+use Rattle.mh_told.specs.Told.{fault_line, fault_word, refused_line, did_line, rest_word, total_line}
 use Rattle.mh_look.specs.declared.report.Part.{Part}
 use Rattle.mh_look.specs.declared.report.Part.TheVariants as part
 use Rattle.mh_look.specs.Reading.{Begins, EndsNumber, IsNumberFound}

@@ -6,8 +6,8 @@ use Rattle.std.proofs.lemmas.Bool.Decides.{Decides-eqb}
 use Rattle.mh_model.specs.declared.cell.Cell.{Cell}
 use Rattle.mh_model.specs.Planes.{Planes, IsWhole}
 use Rattle.mh_model.specs.Picture.{cell_of, black}
-use Rattle.mh_model.specs.Frame.{row_cells, same_cell, differ}
-use Rattle.mh_model.proofs.FrameLemmas.{row_cells_length, cell_of_row}
+use Rattle.mh_told.specs.Frame.{row_cells, same_cell, differ}
+use Rattle.mh_told.proofs.FrameLemmas.{row_cells_length, cell_of_row}
 use Rattle.mh_model.proofs.PlanesLemmas.{is_picture}
 use Rattle.mh_look.specs.Report.{is_shown, IsShown}
 use Rattle.mh_look.specs.Reading.{IsRow}

@@ -3,7 +3,7 @@ use Rattle.std.specs.Prelude.{◌≡◌, ℕ, ◌+◌, ◌<◌, List, [], ◌∷
 use Rattle.std.specs.Fmt.{decimal}
 use Rattle.std.proofs.Common.{ap, ◌∙◌, sym, arith, get_or, append_assoc}
 use Rattle.std.proofs.lemmas.List.{length-append}
-use Rattle.mh_model.specs.Printing.{hex_colour}
+use Rattle.mh_told.specs.Printing.{hex_colour}
 use Rattle.mh_look.specs.declared.run.Place.{Place}
 use Rattle.mh_look.specs.Cells.{place_text, place_length, colours_text}
 use Rattle.mh_look.specs.Reading.{EndsNumber}

@@ -5,7 +5,7 @@ use Rattle.std.proofs.Common.{ap, ◌∙◌, sym, arith, append_assoc, length-ap
 use Rattle.std.proofs.lemmas.Bool.{and_parts, and_from}
 use Rattle.std.proofs.lemmas.List.Folds.{list_all-append}
 use Rattle.std.proofs.Math.Seq.{drop-append_seam, take-length}
-use Rattle.mh_model.specs.Printing.{quoted}
+use Rattle.mh_told.specs.Printing.{quoted}
 use Rattle.mh_look.specs.Reading.{quoted_text, AreCharactersFound}
 use lib.Utf8.{scalar}
 

@@ -2,7 +2,7 @@
 use Rattle.std.specs.Prelude.{◌≡◌, ℕ, ◌+◌, List, ◌++◌}
 use Rattle.std.specs.List.{flat_map, range_with_len}
 use Rattle.std.proofs.Common.{ap, sym, ◌∙◌, append_assoc}
-use Rattle.mh_model.proofs.FrameLemmas.{rows_more}
+use Rattle.mh_told.proofs.FrameLemmas.{rows_more}
 
 -- one more
 pub one_more : (f : ℕ → List ℕ) (n : ℕ) (front text next : List ℕ) → next ≡ text ++ f n → text ≡ front ++ flat_map f (range_with_len 0 n) → next ≡ front ++ flat_map f (range_with_len 0 (n + 1))

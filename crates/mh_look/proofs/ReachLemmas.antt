@@ -4,8 +4,8 @@ use Rattle.std.specs.List.{list_all}
 use Rattle.std.proofs.Common.{sym, arith, subst}
 use Rattle.mh_model.specs.declared.cell.Cell.{Cell}
 use Rattle.mh_model.specs.Planes.{Planes, IsWhole}
-use Rattle.mh_model.specs.Frame.{row_cells, differ}
-use Rattle.mh_model.proofs.FrameLemmas.{row_cells_length}
+use Rattle.mh_told.specs.Frame.{row_cells, differ}
+use Rattle.mh_told.proofs.FrameLemmas.{row_cells_length}
 use Rattle.mh_look.specs.Report.{is_shown}
 use Rattle.mh_look.specs.Reading.{IsRowFound, SameBut, IsFrameFound}
 use Rattle.mh_look.specs.Front.{IsInFront}

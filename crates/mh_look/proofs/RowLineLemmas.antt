@@ -3,8 +3,8 @@ use Rattle.std.specs.Prelude.{◌≡◌, ℕ, ◌+◌, ◌<◌, List, [], ◌∷
 use Rattle.std.proofs.Common.{ap, ◌∙◌, sym, subst, arith, append_assoc}
 use Rattle.std.proofs.lemmas.List.{length-append}
 use Rattle.mh_model.specs.declared.cell.Cell.{Cell}
-use Rattle.mh_model.specs.Frame.{row_line, runs}
-use Rattle.mh_model.specs.Printing.{two_digits}
+use Rattle.mh_told.specs.Frame.{row_line, runs}
+use Rattle.mh_told.specs.Printing.{two_digits}
 use Rattle.mh_look.specs.Reading.{Begins, IsRow, IsRowFound}
 use Rattle.mh_look.specs.Front.{IsInFront}
 use Rattle.mh_look.specs.Cells.{AreCellsFound}

@@ -7,9 +7,9 @@ use Rattle.std.proofs.lemmas.List.{length-append, length-map, length-replicate, 
 use Rattle.std.proofs.lemmas.List.Folds.{list_all-append}
 use lib.Utf8.{scalar}
 use Rattle.mh_model.specs.declared.cell.Cell.{Cell}
-use Rattle.mh_model.specs.Frame.{Run, begun, behind, is_space, last, place, characters}
+use Rattle.mh_told.specs.Frame.{Run, begun, behind, is_space, last, place, characters}
 use Rattle.mh_model.specs.Picture.{black}
-use Rattle.mh_model.specs.Stretch.{runs_at}
+use Rattle.mh_told.specs.Stretch.{runs_at}
 use Rattle.mh_look.specs.declared.run.Place.{Place}
 use Rattle.mh_look.specs.Report.{is_shown}
 use Rattle.mh_look.specs.Reading.{quoted_text}

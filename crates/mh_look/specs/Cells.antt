@@ -4,9 +4,9 @@ use Rattle.std.specs.List.{list_all}
 use Rattle.std.specs.Fmt.{decimal}
 use lib.Utf8.{scalar}
 use Rattle.mh_model.specs.declared.cell.Cell.{Cell}
-use Rattle.mh_model.specs.Frame.{runs}
+use Rattle.mh_told.specs.Frame.{runs}
 use Rattle.mh_model.specs.Picture.{black}
-use Rattle.mh_model.specs.Printing.{hex_colour}
+use Rattle.mh_told.specs.Printing.{hex_colour}
 use Rattle.mh_look.specs.declared.run.Place.{Place}
 use Rattle.mh_look.specs.Reading.{EndsNumber, IsRow, quoted_text}
 

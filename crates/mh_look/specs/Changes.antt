@@ -3,8 +3,8 @@ use Rattle.std.specs.Prelude.{ℕ, ◌≡◌, ◌≢◌, if◌then◌else◌, Li
 use Rattle.std.specs.Fmt.{decimal}
 use Rattle.mh_model.specs.declared.cell.Cell.{Cell}
 use Rattle.mh_model.specs.Planes.{Planes}
-use Rattle.mh_model.specs.Frame.{differ, row_line, row_changes}
-use Rattle.mh_model.specs.Printing.{two_digits}
+use Rattle.mh_told.specs.Frame.{differ, row_line, row_changes}
+use Rattle.mh_told.specs.Printing.{two_digits}
 use Rattle.mh_look.specs.Report.{IsShown}
 use Rattle.mh_look.specs.Reading.{Begins, IsRow, EndsFrame}
 

@@ -3,7 +3,7 @@ use Rattle.std.specs.Prelude.{ℕ, ◌+◌, ◌-◌, ◌<◌, ◌==◌, ◌≡�
 use Rattle.std.specs.List.{find, range_with_len}
 use Rattle.mh_model.specs.Planes.{Planes}
 use Rattle.mh_model.specs.Picture.{cell_of}
-use Rattle.mh_model.specs.Frame.{same_cell}
+use Rattle.mh_told.specs.Frame.{same_cell}
 use Rattle.mh_look.specs.declared.report.Part.{Part}
 use Rattle.mh_look.specs.declared.report.Part.TheVariants as part
 use Rattle.mh_look.specs.declared.difference.Difference.{Difference}

@@ -10,7 +10,7 @@ use Rattle.mh_model.specs.declared.fault.FaultKind.{FaultKind}
 use Rattle.mh_model.specs.declared.fault.FaultKind.TheVariants as fault
 use Rattle.mh_model.specs.declared.rest.Rest.{Rest}
 use Rattle.mh_model.specs.declared.rest.Rest.TheVariants as rest
-use Rattle.mh_model.specs.Told.{fault_line, refused_line, did_line, rest_word, total_line}
+use Rattle.mh_told.specs.Told.{fault_line, refused_line, did_line, rest_word, total_line}
 use Rattle.mh_look.specs.declared.report.Part.{Part}
 use Rattle.mh_look.specs.declared.report.Part.TheVariants as part
 use Rattle.mh_look.specs.Reading.{Begins, EndsNumber}

@@ -3,8 +3,8 @@ use Rattle.std.specs.Prelude.{ℕ, ◌+◌, ◌-◌, ◌*◌, ◌==◌, Bool, �
 use Rattle.std.specs.List.{flat_map, range_with_len}
 use Rattle.std.specs.Fmt.{decimal}
 use Rattle.mh_model.specs.Planes.{Planes, blank}
-use Rattle.mh_model.specs.Printing.{character, hex_colour}
-use Rattle.mh_model.specs.Told.{total_line}
+use Rattle.mh_told.specs.Printing.{character, hex_colour}
+use Rattle.mh_told.specs.Told.{total_line}
 use Rattle.mh_look.specs.declared.report.Part.{Part}
 use Rattle.mh_look.specs.declared.report.Part.TheVariants as part
 use Rattle.mh_look.specs.Report.{Report}

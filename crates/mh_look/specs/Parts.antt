@@ -1,8 +1,8 @@
 -- The parts of a report one by one, and what their reader promises.
 use Rattle.std.specs.Prelude.{ℕ, ◌+◌, ◌≡◌, List, ◌++◌, length, Option, Some}
 use Rattle.mh_model.specs.Planes.{Planes}
-use Rattle.mh_model.specs.Frame.{frame_text}
-use Rattle.mh_model.specs.Told.{fault_line, refused_line, did_line}
+use Rattle.mh_told.specs.Frame.{frame_text}
+use Rattle.mh_told.specs.Told.{fault_line, refused_line, did_line}
 use Rattle.mh_look.specs.declared.report.Part.{Part}
 use Rattle.mh_look.specs.declared.report.Part.TheVariants as part
 use Rattle.mh_look.specs.Report.{IsShown, IsGoodPart}

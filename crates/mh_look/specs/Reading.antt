@@ -5,8 +5,8 @@ use Rattle.std.specs.Fmt.{decimal}
 use lib.Utf8.{scalar}
 use Rattle.mh_model.specs.declared.cell.Cell.{Cell}
 use Rattle.mh_model.specs.Planes.{Planes}
-use Rattle.mh_model.specs.Frame.{row_cells, row_line, frame_text}
-use Rattle.mh_model.specs.Printing.{hex_colour, quoted}
+use Rattle.mh_told.specs.Frame.{row_cells, row_line, frame_text}
+use Rattle.mh_told.specs.Printing.{hex_colour, quoted}
 use Rattle.mh_look.specs.declared.report.ReadError.{ReadError}
 use Rattle.mh_look.specs.declared.report.ReadError.TheVariants as error
 use Rattle.mh_look.specs.Report.{is_shown, IsShown, Report, IsGood, report_text}

@@ -5,8 +5,8 @@ use Rattle.mh_model.specs.declared.cell.Cell.{Cell}
 use Rattle.mh_model.specs.declared.fault.Fault.{Fault}
 use Rattle.mh_model.specs.Planes.{Planes, IsWhole, blank}
 use Rattle.mh_model.specs.Picture.{cell_of}
-use Rattle.mh_model.specs.Frame.{frame_text}
-use Rattle.mh_model.specs.Told.{fault_line, refused_line, did_line, total_line}
+use Rattle.mh_told.specs.Frame.{frame_text}
+use Rattle.mh_told.specs.Told.{fault_line, refused_line, did_line, total_line}
 use Rattle.mh_look.specs.declared.report.Part.{Part}
 use Rattle.mh_look.specs.declared.report.Part.TheVariants as part
 use lib.Utf8.{scalar}

@@ -3,9 +3,9 @@ use Rattle.std.specs.Prelude.{ℕ, ◌+◌, ◌-◌, ◌*◌, ◌/◌, ◌%◌, 
 use Rattle.std.specs.List.{flat_map, range_with_len}
 use Rattle.std.specs.Fmt.{decimal}
 use Rattle.mh_model.specs.Planes.{Planes}
-use Rattle.mh_model.specs.Printing.{character}
-use Rattle.mh_model.specs.Stretch.{have_colours}
-use Rattle.mh_model.specs.Told.{fault_line, refused_line, did_line, total_line}
+use Rattle.mh_told.specs.Printing.{character}
+use Rattle.mh_told.specs.Stretch.{have_colours}
+use Rattle.mh_told.specs.Told.{fault_line, refused_line, did_line, total_line}
 use Rattle.mh_look.specs.declared.report.Part.{Part}
 use Rattle.mh_look.specs.declared.report.Part.TheVariants as part
 

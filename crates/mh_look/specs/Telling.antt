@@ -4,7 +4,7 @@ use Rattle.std.specs.Fmt.{decimal}
 use Rattle.mh_model.specs.declared.cell.Cell.{Cell}
 use Rattle.mh_model.specs.Planes.{Planes}
 use Rattle.mh_model.specs.Picture.{cell_of}
-use Rattle.mh_model.specs.Printing.{hex_colour, quoted}
+use Rattle.mh_told.specs.Printing.{hex_colour, quoted}
 use Rattle.mh_look.specs.declared.difference.Difference.{Difference}
 use Rattle.mh_look.specs.declared.difference.Difference.TheVariants as difference
 use Rattle.mh_look.specs.declared.telling.TheConstants.{SAME, FIRST_HAS_MORE, SECOND_HAS_MORE}

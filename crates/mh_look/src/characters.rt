@@ -1,7 +1,7 @@
 //! The characters of a run, read back.
 ghost use Rattle.std.specs.Prelude.{ℕ, List, ◌≡◌, ◌≤◌, ◌<◌, ◌++◌, ◌∷◌, IfOk, IfSome, length, true, encode_utf8};
 ghost use Rattle.std.specs.List.{list_all};
-ghost use Rattle.mh_model.specs.Printing.{quoted};
+ghost use Rattle.mh_told.specs.Printing.{quoted};
 ghost use Rattle.mh_look.specs.Reading.{AreCharactersFound};
 ghost use lib.Utf8.{scalar};
 

@@ -5,7 +5,7 @@
 ghost use Rattle.std.specs.Prelude.{◌≡◌, map, codes, true, IfOk, IfErr};
 ghost use Rattle.clap.specs.Words.{FailsBy, fault_of, found_of, kind_of, rows_of, subcommand_of, subcommand_rows_of, takes};
 ghost use Rattle.clap.specs.declared.error.kind.ErrorKind.TheVariants.{OutOfMemory};
-ghost use Rattle.mh_look.specs.CommandLine.{IsApart, IsRefusedBy, asked_by, asked_under, number_in as number_in_lem, frame_of as frame_of_lem, is_set as is_set_lem, said, text_of as text_of_lem};
+ghost use Rattle.mh_look.specs.CommandLine.{IsApart, IsRefusedBy, asked_by, asked_under, number_in, frame_of, is_set, said, text_of};
 ghost use Rattle.mh_look.specs.CommandLine as spec;
 ghost use Rattle.mh_look.specs.declared.command_line_error.CommandLineError.TheVariants.{NoMemory};
 
@@ -115,14 +115,14 @@ fn comparing<'a>(given: &ArgMatches<'a>) -> Task<'a>
 
 /// The value of an argument that is required. Were there none, it would be the empty text.
 fn text_of<'a>(given: &ArgMatches<'a>, name: &str) -> &'a str
-    ensures { result.now ≡ text_of_lem name.now (rows_of (found_of given.now)) }
+    ensures { result.now ≡ text_of name.now (rows_of (found_of given.now)) }
 {
     given.get_str(name).unwrap_or("")
 }
 
 /// Whether colours are left out.
 fn is_plain<'a>(given: &ArgMatches<'a>) -> bool
-    ensures { result ≡ is_set_lem (codes "plain") (rows_of (found_of given.now)) }
+    ensures { result ≡ is_set (codes "plain") (rows_of (found_of given.now)) }
 {
     match given.get_str("plain") {
         Some(text) => text == "true",
@@ -132,7 +132,7 @@ fn is_plain<'a>(given: &ArgMatches<'a>) -> bool
 
 /// The number of the frame that is asked for.
 fn frame_of<'a>(given: &ArgMatches<'a>) -> Option<u64>
-    ensures { result ≡ frame_of_lem (rows_of (found_of given.now)) }
+    ensures { result ≡ frame_of (rows_of (found_of given.now)) }
 {
     match given.get_str("frame") {
         Some(text) => Some(number_in(text)),
@@ -142,7 +142,7 @@ fn frame_of<'a>(given: &ArgMatches<'a>) -> Option<u64>
 
 /// The number that a text writes. The argument's rule lets no other text through.
 fn number_in(text: &str) -> u64
-    ensures { result ≡ number_in_lem text.now }
+    ensures { result ≡ number_in text.now }
 {
     match text.parse::<u64>() {
         Ok(number) if number <= LAST_FRAME => number,

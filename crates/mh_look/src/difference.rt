@@ -1,6 +1,6 @@
 //! Where two reports differ: the first frame, and its first cell.
 ghost use Rattle.std.specs.Prelude.{◌≡◌, ◌<◌};
-ghost use Rattle.mh_look.specs.Frames.{IsFirstDifference, difference_of, differs_at as differs_at_lem, first_difference as first_difference_lem};
+ghost use Rattle.mh_look.specs.Frames.{IsFirstDifference, difference_of, differs_at, first_difference};
 
 use crate::frames::next_frame;
 use crate::report::Part;
@@ -47,7 +47,7 @@ pub fn compare(first: &[Part], second: &[Part]) -> Difference
 /// The first cell, row by row from the top, in which two pictures differ.
 pub fn first_difference(one: &Picture, other: &Picture) -> Option<usize>
     ensures told { IsFirstDifference one.now other.now result }
-    ensures first { result ≡ first_difference_lem one.now other.now }
+    ensures first { result ≡ first_difference one.now other.now }
 {
     let _ = (one.cells(), other.cells());
     for at in 0..CELLS {
@@ -61,7 +61,7 @@ pub fn first_difference(one: &Picture, other: &Picture) -> Option<usize>
 /// Whether two pictures differ in a cell.
 pub fn differs_at(one: &Picture, other: &Picture, at: usize) -> bool
     requires { at < 2160 }
-    ensures { result ≡ differs_at_lem one.now other.now at }
+    ensures { result ≡ differs_at one.now other.now at }
 {
     one.cell(at) != other.cell(at)
 }

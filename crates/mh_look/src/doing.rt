@@ -9,7 +9,7 @@ use crate::show::{put_frame, put_report};
 use crate::source::{Failure, report_of};
 use crate::telling::told;
 use mh_model::Picture;
-use mh_model::text::Text;
+use mh_told::text::Text;
 use std::io;
 use std::io::Write;
 use std::rt::Runtime;

@@ -1,10 +1,10 @@
 //! Text in a page: what comes from a report is never read as a tag.
 ghost use Rattle.std.specs.Prelude.{◌≡◌, ◌++◌, OnOk, true};
 ghost use Rattle.std.specs.List.{list_all};
-ghost use Rattle.mh_model.specs.Printing.{character};
-ghost use Rattle.mh_look.specs.Page.{escape as escape_lem, escaped, is_text};
+ghost use Rattle.mh_told.specs.Printing.{character};
+ghost use Rattle.mh_look.specs.Page.{escape, escaped, is_text};
 
-use mh_model::text::Text;
+use mh_told::text::Text;
 use std::alloc::AllocError;
 
 /// What replaces a number that is no character.
@@ -22,7 +22,7 @@ pub fn put_escaped(text: &mut Text, bytes: &[u8]) -> Result<(), AllocError>
 }
 
 fn put_escape(text: &mut Text, byte: u8) -> Result<(), AllocError>
-    ensures { OnOk result (text.new ≡ text.old ++ escape_lem byte) }
+    ensures { OnOk result (text.new ≡ text.old ++ escape byte) }
 {
     match byte {
         b'<' => text.put(b"&lt;"),

@@ -4,7 +4,7 @@ ghost use Rattle.std.specs.List.{suffix_len};
 ghost use Rattle.mh_base.specs.Path.{is_path};
 ghost use Rattle.mh_look.specs.Front.{is_other};
 ghost use Rattle.mh_look.specs.Report.{IsGoodFault};
-ghost use Rattle.mh_look.specs.Lines.{kind_of, fault_of as fault_of_lem, reference_of as reference_of_lem, IsGoodReference, TakesReference, TakesFault, TakesShort, TakesGroup};
+ghost use Rattle.mh_look.specs.Lines.{kind_of, fault_of, reference_of, IsGoodReference, TakesReference, TakesFault, TakesShort, TakesGroup};
 
 use crate::front::{before, behind};
 use crate::number::read_number;
@@ -31,7 +31,7 @@ fn fault_of(
     action: Option<ActionName>,
     at: Option<ObjRef>,
 ) -> Option<Fault>
-    ensures { result ≡ fault_of_lem what action at }
+    ensures { result ≡ fault_of what action at }
 {
     Some(Fault {
         what: what?,
@@ -69,7 +69,7 @@ fn guess_reference(alloc: Global, bytes: &[u8]) -> Result<Option<ObjRef>, AllocE
 }
 
 fn reference_of(group: Option<GroupName>, number: Option<u32>) -> Option<ObjRef>
-    ensures { result ≡ reference_of_lem group number }
+    ensures { result ≡ reference_of group number }
 {
     Some(ObjRef {
         group: group?,

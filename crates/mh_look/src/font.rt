@@ -1,6 +1,6 @@
 //! The characters of pictures: a font of 6 by 8 dots, drawn twice as large.
 ghost use Rattle.std.specs.Prelude.{◌≡◌, ◌<◌};
-ghost use Rattle.mh_look.specs.Image.{glyph_row as glyph_row_lem, is_inked as is_inked_lem};
+ghost use Rattle.mh_look.specs.Image.{glyph_row, is_inked};
 
 /// The rows of what is drawn for a character that the font has not: a box.
 pub static BOX: [u8; 8] = [0x3e, 0x22, 0x22, 0x22, 0x22, 0x22, 0x3e, 0x00];
@@ -110,7 +110,7 @@ pub static GLYPHS: [[u8; 8]; 95] = [
 pub fn is_inked(scalar: u32, x: usize, y: usize) -> bool
     requires x { x < 12 }
     requires y { y < 16 }
-    ensures { result ≡ is_inked_lem scalar x y }
+    ensures { result ≡ is_inked scalar x y }
 {
     (glyph_row(scalar, y / 2) >> (5 - x / 2)) % 2 == 1
 }
@@ -119,7 +119,7 @@ pub fn is_inked(scalar: u32, x: usize, y: usize) -> bool
 #[tactic(auto, unfolding(crate::specs::Image::glyph_row))]
 fn glyph_row(scalar: u32, row: usize) -> u8
     requires { row < 8 }
-    ensures { result ≡ glyph_row_lem scalar row }
+    ensures { result ≡ glyph_row scalar row }
 {
     match scalar {
         32..=126 => GLYPHS[scalar as usize - 32][row],

@@ -1,6 +1,6 @@
 //! A frame, read back into a picture.
 ghost use Rattle.std.specs.Prelude.{◌≡◌, ◌<◌, ◌≤◌, true, false, Some, None, IfOk, length};
-ghost use Rattle.mh_model.specs.Frame.{row_cells};
+ghost use Rattle.mh_told.specs.Frame.{row_cells};
 ghost use Rattle.mh_look.specs.Front.{IsInFront};
 ghost use Rattle.mh_look.specs.Reading.{IsFrameFound, SameBut};
 ghost use Rattle.mh_look.specs.Changes.{head, row_front, IsChangeFound, AreChangesFound};
@@ -10,7 +10,7 @@ use crate::row::read_row;
 use crate::shown::{differ, is_row_shown};
 use mh_model::Picture;
 use mh_model::picture::ROWS;
-use mh_model::text::Text;
+use mh_told::text::Text;
 use std::alloc::{AllocError, Global};
 
 /// How far the rows of a frame were read, and whether these are all.

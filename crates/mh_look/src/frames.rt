@@ -1,7 +1,7 @@
 //! The frames of a report.
 ghost use Rattle.std.specs.Prelude.{◌≡◌, ◌<◌, ◌∷◌, [], MatchOption, length};
 ghost use Rattle.std.specs.Option.{option_copied};
-ghost use Rattle.mh_look.specs.Frames.{pictures, frame_at as frame_at_lem};
+ghost use Rattle.mh_look.specs.Frames.{pictures, frame_at};
 
 use crate::report::Part;
 use mh_model::Picture;
@@ -23,7 +23,7 @@ pub fn next_frame(parts: &[Part]) -> Option<(&Picture, &[Part])>
 
 /// The picture of the frame with this number, counted from 1.
 pub fn frame_at(parts: &[Part], number: u64) -> Option<&Picture>
-    ensures { option_copied result ≡ frame_at_lem number parts.now }
+    ensures { option_copied result ≡ frame_at number parts.now }
 {
     let mut left = number.checked_sub(1)?;
     let mut rest = parts;

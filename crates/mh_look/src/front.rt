@@ -1,7 +1,7 @@
 //! The front of bytes: what stands there, and what stands behind it.
 ghost use Rattle.std.specs.Prelude.{◌≡◌, ◌≤◌, length};
 ghost use Rattle.std.specs.List.{prefix_len};
-ghost use Rattle.mh_look.specs.Front.{IsInFront, is_other, before as before_lem, behind as behind_lem};
+ghost use Rattle.mh_look.specs.Front.{IsInFront, is_other, before, behind};
 
 /// The length of the text, if the bytes begin with it.
 pub fn length_in_front(bytes: &[u8], text: &[u8]) -> Option<usize>
@@ -17,7 +17,7 @@ pub fn length_in_front(bytes: &[u8], text: &[u8]) -> Option<usize>
 /// What stands in front of the first such byte; all, where there is none.
 #[tactic(auto, unfolding(crate::specs::Front::before))]
 pub fn before(bytes: &[u8], byte: u8) -> &[u8]
-    ensures { result.now ≡ before_lem byte bytes.now }
+    ensures { result.now ≡ before byte bytes.now }
 {
     &bytes[..count_before(bytes, byte)]
 }
@@ -25,7 +25,7 @@ pub fn before(bytes: &[u8], byte: u8) -> &[u8]
 /// What stands behind the first such byte; nothing, where there is none.
 #[tactic(auto, unfolding(crate::specs::Front::behind))]
 pub fn behind(bytes: &[u8], byte: u8) -> &[u8]
-    ensures { result.now ≡ behind_lem byte bytes.now }
+    ensures { result.now ≡ behind byte bytes.now }
 {
     let count = count_before(bytes, byte);
     if count < bytes.len() {

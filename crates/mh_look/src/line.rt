@@ -10,8 +10,8 @@ use crate::front::{before, behind, length_in_front};
 use crate::number::read_number;
 use crate::report::Part;
 use mh_model::Rest;
-use mh_model::text::Text;
-use mh_model::told::{put_did, put_fault, put_refused, put_total};
+use mh_told::text::Text;
+use mh_told::told::{put_did, put_fault, put_refused, put_total};
 use std::alloc::{AllocError, Global};
 
 /// The part that is one line with which the bytes begin, and how long that line is.

@@ -1,7 +1,7 @@
 //! What every page has: its looks, the script that shows one step at a time, and the tags round
 //! what is shown.
 ghost use Rattle.std.specs.Prelude.{◌≡◌};
-ghost use Rattle.mh_look.specs.Page.{head as head_lem, foot as foot_lem};
+ghost use Rattle.mh_look.specs.Page.{head, foot};
 
 /// What stands before the first step, which it begins.
 pub const HEAD: &[u8] = b"<!DOCTYPE html>
@@ -95,7 +95,7 @@ pub const BACKGROUND: &[u8] = b";background:#";
 /// What every page begins with.
 #[tactic(auto, unfolding(crate::specs::Page::head))]
 pub fn head() -> &'static [u8]
-    ensures { result.now ≡ head_lem }
+    ensures { result.now ≡ head }
 {
     HEAD
 }
@@ -103,7 +103,7 @@ pub fn head() -> &'static [u8]
 /// What every page ends with.
 #[tactic(auto, unfolding(crate::specs::Page::foot))]
 pub fn foot() -> &'static [u8]
-    ensures { result.now ≡ foot_lem }
+    ensures { result.now ≡ foot }
 {
     FOOT
 }

@@ -2,7 +2,7 @@
 //! lines that were told before it, and a last one for the lines that are left.
 ghost use Rattle.std.specs.Prelude.{◌≡◌, ◌<◌, ◌-◌, ◌^◌, ◌++◌, ◌==◌, OnOk, IfOk, [], codes, if◌then◌else◌};
 ghost use Rattle.mh_model.specs.Planes.{blank};
-ghost use Rattle.mh_look.specs.Page.{begins_run as begins_run_lem, run_tag, cell_tag, cell_text, page_cell, page_row, page_rows, page_frame, step_part, shown_behind, steps_from, page_of as page_of_lem, escaped};
+ghost use Rattle.mh_look.specs.Page.{begins_run, run_tag, cell_tag, cell_text, page_cell, page_row, page_rows, page_frame, step_part, shown_behind, steps_from, page_of, escaped};
 ghost use Rattle.mh_look.specs.Shown.{line_of};
 
 use crate::difference::differs_at;
@@ -13,15 +13,15 @@ use crate::outline::{
 use crate::report::{Part, Report};
 use crate::show::{frames_up_to, harmless, put_line, turns};
 use mh_model::picture::{COLUMNS, ROWS};
-use mh_model::text::Text;
-use mh_model::told::put_total;
 use mh_model::{Cell, Picture};
+use mh_told::text::Text;
+use mh_told::told::put_total;
 use std::alloc::{AllocError, Global};
 
 /// The page of a report.
 #[tactic(auto, unfolding(crate::specs::Page::page_of))]
 pub fn page_of(alloc: Global, report: &Report) -> Result<Text, AllocError>
-    ensures { IfOk result (λ page. page ≡ page_of_lem report.now) }
+    ensures { IfOk result (λ page. page ≡ page_of report.now) }
 {
     let mut text = Text::new(alloc);
     text.put(head())?;
@@ -168,7 +168,7 @@ fn put_cell_tag(
 fn begins_run(before: &Picture, after: &Picture, row: usize, column: usize) -> bool
     requires row { row < 36 }
     requires column { column < 60 }
-    ensures { result ≡ begins_run_lem before.now after.now row column }
+    ensures { result ≡ begins_run before.now after.now row column }
 {
     if turns(after, row, column) {
         return true;

@@ -1,7 +1,7 @@
 //! The line of a row, read back into the cells of a picture.
 ghost use Rattle.std.specs.Prelude.{◌≡◌, ◌<◌, IfOk, IfSome, length};
 ghost use Rattle.std.specs.Option.{option_map};
-ghost use Rattle.mh_model.specs.Frame.{row_cells};
+ghost use Rattle.mh_told.specs.Frame.{row_cells};
 ghost use Rattle.mh_model.specs.Planes.{IsWhole, with_cell};
 ghost use Rattle.mh_look.specs.Reading.{IsRow, IsRowFound, SameBut};
 ghost use Rattle.mh_look.specs.Cells.{AreCellsFound};
@@ -9,9 +9,9 @@ ghost use Rattle.mh_look.specs.Cells.{AreCellsFound};
 use crate::front::length_in_front;
 use crate::run::{BLACK, fill_up, read_run};
 use mh_model::picture::COLUMNS;
-use mh_model::row::put_row;
-use mh_model::text::Text;
 use mh_model::{Cell, Picture};
+use mh_told::row::put_row;
+use mh_told::text::Text;
 use std::alloc::{AllocError, Global};
 
 /// The bytes of a row's line in front of its runs: `row `, two digits and a colon.

@@ -3,14 +3,14 @@
 //! What stands in a report never tells the terminal what to do: each character that would is shown
 //! as U+FFFD.
 ghost use Rattle.std.specs.Prelude.{◌≡◌, ◌<◌, ◌≤◌, ◌+◌, ◌-◌, ◌^◌, ◌++◌, OnOk, false};
-ghost use Rattle.mh_model.specs.Printing.{character};
-ghost use Rattle.mh_look.specs.Shown.{is_order, harmless as harmless_lem, turns as turns_lem, colour_order, colour_parts, colour_orders, turn, row_end, shown_cell, shown_row, shown_rows, shown_frame, shown_part, shown_from, line_of, passed as passed_lem};
+ghost use Rattle.mh_told.specs.Printing.{character};
+ghost use Rattle.mh_look.specs.Shown.{is_order, harmless, turns, colour_order, colour_parts, colour_orders, turn, row_end, shown_cell, shown_row, shown_rows, shown_frame, shown_part, shown_from, line_of, passed as passed_lem};
 
 use crate::report::{Part, Report};
 use mh_model::picture::{COLUMNS, ROWS};
-use mh_model::text::Text;
-use mh_model::told::{put_did, put_fault, put_refused, put_total};
 use mh_model::{Cell, Picture};
+use mh_told::text::Text;
+use mh_told::told::{put_did, put_fault, put_refused, put_total};
 use std::alloc::AllocError;
 
 /// The order that makes a terminal take its usual colours again, and the end of a line.
@@ -156,7 +156,7 @@ fn put_turn(
 pub fn turns(picture: &Picture, row: usize, column: usize) -> bool
     requires row { row < 36 }
     requires column { column < 60 }
-    ensures { result ≡ turns_lem picture.now row column }
+    ensures { result ≡ turns picture.now row column }
 {
     if column == 0 {
         return true;
@@ -201,7 +201,7 @@ fn put_parts(text: &mut Text, colour: u32) -> Result<(), AllocError>
 
 /// The character that is shown for another: none that tells a terminal what to do.
 pub fn harmless(scalar: u32) -> u32
-    ensures value { result ≡ harmless_lem scalar }
+    ensures value { result ≡ harmless scalar }
     ensures never { is_order result ≡ false }
 {
     match scalar {

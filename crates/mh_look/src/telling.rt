@@ -1,8 +1,8 @@
 //! What is said of two reports.
 ghost use Rattle.std.specs.Prelude.{◌≡◌, ◌++◌, OnOk, IfOk};
 ghost use Rattle.std.specs.Fmt.{decimal};
-ghost use Rattle.mh_look.specs.Frames.{frame_at as frame_at_lem};
-ghost use Rattle.mh_look.specs.Telling.{mark, colours_line, cell_line, cell_in, place_line, cells_line, said, told as told_lem};
+ghost use Rattle.mh_look.specs.Frames.{frame_at};
+ghost use Rattle.mh_look.specs.Telling.{mark, colours_line, cell_line, cell_in, place_line, cells_line, said, told};
 
 use crate::difference::Difference;
 use crate::frames::frame_at;
@@ -10,7 +10,7 @@ use crate::report::Report;
 use crate::show::harmless;
 use mh_model::Cell;
 use mh_model::picture::{CELLS, COLUMNS};
-use mh_model::text::Text;
+use mh_told::text::Text;
 use std::alloc::{AllocError, Global};
 
 /// What is said where the frames are the same, before their number.
@@ -30,7 +30,7 @@ pub fn told(
     second: &Report,
     difference: Difference,
 ) -> Result<Text, AllocError>
-    ensures { IfOk result (λ line. line ≡ told_lem first.now second.now difference) }
+    ensures { IfOk result (λ line. line ≡ told first.now second.now difference) }
 {
     let mut text = Text::new(alloc);
     put_said(&mut text, first, second, difference)?;
@@ -95,7 +95,7 @@ fn put_place(text: &mut Text, number: u64, at: usize) -> Result<(), AllocError>
 /// Puts the cell of a frame, if the report has it.
 #[tactic(auto, unfolding(crate::specs::Telling::cell_in))]
 fn put_cell_of(text: &mut Text, report: &Report, number: u64, at: usize) -> Result<(), AllocError>
-    ensures { OnOk result (text.new ≡ text.old ++ cell_in (frame_at_lem number report.now.parts) at) }
+    ensures { OnOk result (text.new ≡ text.old ++ cell_in (frame_at number report.now.parts) at) }
 {
     match frame_at(report.parts.as_slice(), number) {
         Some(picture) if at < CELLS => put_cell(text, picture.cell(at)),

@@ -18,7 +18,7 @@ use Rattle.mh_model.specs.Edits.{edited, edited_if}
 use Rattle.mh_machine.specs.declared.plan.Change.TheVariants as change
 use Rattle.mh_machine.specs.Plans.{Makes, change_at}
 use Rattle.mh_machine.specs.Holds.{Holds}
-use Rattle.mh_actions.specs.Links.{IsIndex}
+use Rattle.mh_work.specs.Links.{IsIndex}
 
 -- what is known of the object may be used
 found_in : (f : Fixed → Body → Body) (r : ObjRef) (os : List Object) (o : Object) → object_at r os ≡ Some o → changed_in (λ p b. f o.fixed o.body) r os ≡ changed_in f r os

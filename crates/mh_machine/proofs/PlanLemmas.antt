@@ -34,7 +34,7 @@ use Rattle.mh_model.specs.Worked.{ended_of}
 use Rattle.mh_group.specs.declared.written.Position.{Position}
 use Rattle.mh_widgets.specs.Does.{placed_by}
 use Rattle.mh_machine.proofs.PlacingLemmas.{placing, run_unseen}
-use Rattle.mh_actions.specs.declared.piece.Piece.{Piece}
+use Rattle.mh_work.specs.declared.batch.Batch.{Batch}
 use Rattle.mh_machine.specs.declared.plan.Awaiting.{Awaiting}
 use Rattle.mh_machine.specs.declared.plan.Awaiting.TheVariants as awaiting
 use Rattle.mh_machine.specs.declared.plan.Change.{Change}
@@ -44,9 +44,9 @@ use Rattle.mh_machine.specs.declared.plan.Interacting.{Interacting}
 use Rattle.mh_machine.specs.declared.plan.Interacting.TheVariants as interacting
 use Rattle.mh_machine.specs.declared.plan.Stacking.{Stacking}
 use Rattle.mh_machine.specs.declared.plan.Stacking.TheVariants as stacking
-use Rattle.mh_actions.specs.Pieces.{written}
+use Rattle.mh_work.specs.Batches.{written}
 use Rattle.mh_actions.specs.Content.{new_content}
-use Rattle.mh_actions.specs.Loading.{prepare_told, run_told, content_told}
+use Rattle.mh_work.specs.Loading.{prepare_told, run_told, content_told}
 use Rattle.mh_machine.specs.Plans.{changed_as, change_with, interacted, given_all, gifts, Makes, restacked, rewaited, wait_if, plan_of, committed, taken_from}
 
 rising : (b : Bool) (r : ObjRef) (stack : List ObjRef) → restacked (if b then stacking.Rise r else stacking.Same) stack ≡ (if b then stack ++ r ∷ [] else stack)
@@ -54,7 +54,7 @@ rising true r stack = refl
 rising false r stack = refl
 
 -- what is put is told by the object that is found
-put_found : (s : State) (r : ObjRef) (found : Option Object) (ps : List Piece) (items : ObjRef → Option Object → List Item) → found ≡ object_at r (all s.objects) → written ps ≡ items r found → written ps ++ drop 1 s.work ≡ items r (object_at r (all s.objects)) ++ drop 1 s.work
+put_found : (s : State) (r : ObjRef) (found : Option Object) (ps : List Batch) (items : ObjRef → Option Object → List Item) → found ≡ object_at r (all s.objects) → written ps ≡ items r found → written ps ++ drop 1 s.work ≡ items r (object_at r (all s.objects)) ++ drop 1 s.work
 put_found s r found ps items here is_put = ap (λ (x : List Item). x ++ drop 1 s.work) (is_put ∙ ap (items r) here)
 
 -- an object rises where it becomes available and is a visible
@@ -75,7 +75,7 @@ waits_found s r found a test here is_wait =
     ∙ awaiting_as (test found) r (lacking_at s.files found) s.waits
     ∙ ap (λ (o : Option Object). waits_if s.files (test o) r o s.waits) here
 
-pub prepare_planned : (s : State) (r : ObjRef) (found : Option Object) (text : Option (List ℕ)) (c : Change) (x : Stacking) (a : Awaiting) (ps : List Piece) → found ≡ object_at r (all s.objects) → text ≡ loaded_at s.files found → c ≡ change.Edit r (edit.Prepare text) → x ≡ (if is_unavailable_at found && is_visible_at found then stacking.Rise r else stacking.Same) → a ≡ wait_if (is_unavailable_at found) r (lacking_at s.files found) → written ps ≡ prepare_told (is_some text) r found → committed (plan_of c x a ps) s ≡ done (item.Prepare r) s
+pub prepare_planned : (s : State) (r : ObjRef) (found : Option Object) (text : Option (List ℕ)) (c : Change) (x : Stacking) (a : Awaiting) (ps : List Batch) → found ≡ object_at r (all s.objects) → text ≡ loaded_at s.files found → c ≡ change.Edit r (edit.Prepare text) → x ≡ (if is_unavailable_at found && is_visible_at found then stacking.Rise r else stacking.Same) → a ≡ wait_if (is_unavailable_at found) r (lacking_at s.files found) → written ps ≡ prepare_told (is_some text) r found → committed (plan_of c x a ps) s ≡ done (item.Prepare r) s
 prepare_planned s r found text c x a ps here is_text is_change is_rise is_wait is_put =
     let loaded : text ≡ loaded_at s.files (object_at r (all s.objects)) = is_text ∙ ap (loaded_at s.files) here in
     let objects : changed_as c s.objects ≡ changed (edited (edit.Prepare (loaded_at s.files (object_at r (all s.objects))))) r s.objects =
@@ -91,7 +91,7 @@ pub some_copied : {X : Type 0} (m : Option (Bor X)) → is_some m ≡ is_some (o
 some_copied None = refl
 some_copied (Some x) = refl
 
-pub run_planned : (s : State) (r : ObjRef) (found : Option Object) (text : Option (List ℕ)) (places : List (ObjRef × Position)) (c : Change) (x : Stacking) (a : Awaiting) (ps : List Piece) → found ≡ object_at r (all s.objects) → text ≡ loaded_at s.files found → places ≡ run_places found → c ≡ change_with r (Some (edit.Start text)) places → x ≡ (if is_unprepared_at found && is_visible_at found then stacking.Rise r else stacking.Same) → a ≡ wait_if (is_unprepared_at found) r (lacking_at s.files found) → written ps ≡ run_told (is_some text) r found → committed (plan_of c x a ps) s ≡ done (item.Run r) s
+pub run_planned : (s : State) (r : ObjRef) (found : Option Object) (text : Option (List ℕ)) (places : List (ObjRef × Position)) (c : Change) (x : Stacking) (a : Awaiting) (ps : List Batch) → found ≡ object_at r (all s.objects) → text ≡ loaded_at s.files found → places ≡ run_places found → c ≡ change_with r (Some (edit.Start text)) places → x ≡ (if is_unprepared_at found && is_visible_at found then stacking.Rise r else stacking.Same) → a ≡ wait_if (is_unprepared_at found) r (lacking_at s.files found) → written ps ≡ run_told (is_some text) r found → committed (plan_of c x a ps) s ≡ done (item.Run r) s
 run_planned s r found text places c x a ps here is_text are_places is_change is_rise is_wait is_put =
     let loaded : text ≡ loaded_at s.files (object_at r (all s.objects)) = is_text ∙ ap (loaded_at s.files) here in
     let unseen : places ≡ placed_by places (is_visible_at (object_at r (all s.objects))) =
@@ -107,14 +107,14 @@ run_planned s r found text places c x a ps here is_text are_places is_change is_
     let waits = waits_found s r found a is_unprepared_at here is_wait in
     λ i. record s { objects = objects i; stack = stack i; waits = waits i; work = work i; taken = s.taken + 1 }
 
-pub halt_planned : (s : State) (r : ObjRef) (found : Option Object) (c : Change) (x : Interacting) (ps : List Piece) → found ≡ object_at r (all s.objects) → c ≡ change.Edit r edit.Halt → x ≡ interacting.Ends r → written ps ≡ halt_items r found → committed (record (plan_of c stacking.Same awaiting.Same ps) { interacting = x }) s ≡ done (item.Halt r) s
+pub halt_planned : (s : State) (r : ObjRef) (found : Option Object) (c : Change) (x : Interacting) (ps : List Batch) → found ≡ object_at r (all s.objects) → c ≡ change.Edit r edit.Halt → x ≡ interacting.Ends r → written ps ≡ halt_items r found → committed (record (plan_of c stacking.Same awaiting.Same ps) { interacting = x }) s ≡ done (item.Halt r) s
 halt_planned s r found c x ps here is_change is_end is_put =
     let objects : changed_as c s.objects ≡ changed (edited edit.Halt) r s.objects = ap (λ (y : Change). changed_as y s.objects) is_change in
     let interaction : interacted x s.interaction ≡ ended_of r s.interaction = ap (λ (y : Interacting). interacted y s.interaction) is_end in
     let work = put_found s r found ps halt_items here is_put in
     λ i. record s { objects = objects i; interaction = interaction i; work = work i; taken = s.taken + 1 }
 
-pub drop_planned : (s : State) (r : ObjRef) (found : Option Object) (c : Change) (x : Stacking) (a : Awaiting) (ps : List Piece) → found ≡ object_at r (all s.objects) → c ≡ change.Edit r edit.Drop → x ≡ stacking.Fall r → a ≡ awaiting.Forget r → written ps ≡ drop_items r found → committed (plan_of c x a ps) s ≡ done (item.Drop r) s
+pub drop_planned : (s : State) (r : ObjRef) (found : Option Object) (c : Change) (x : Stacking) (a : Awaiting) (ps : List Batch) → found ≡ object_at r (all s.objects) → c ≡ change.Edit r edit.Drop → x ≡ stacking.Fall r → a ≡ awaiting.Forget r → written ps ≡ drop_items r found → committed (plan_of c x a ps) s ≡ done (item.Drop r) s
 drop_planned s r found c x a ps here is_change is_fall is_forgotten is_put =
     let objects : changed_as c s.objects ≡ changed (edited edit.Drop) r s.objects = ap (λ (y : Change). changed_as y s.objects) is_change in
     let stack : restacked x s.stack ≡ without r s.stack = ap (λ (y : Stacking). restacked y s.stack) is_fall in
@@ -141,7 +141,7 @@ ask_planned s n vs told rs receivers r found gs here is_told is_receivers are_gi
     λ i. record s { objects = objects i; work = drop 1 s.work; taken = s.taken + 1 }
 
 -- new content
-pub load_planned : (s : State) (v : Value) (r : ObjRef) (found : Option Object) (text : Option (List ℕ)) (c : Change) (a : Awaiting) (ps : List Piece) → is_loadable v ≡ true → found ≡ object_at r (all s.objects) → text ≡ comes_to s.files v → c ≡ change.Edit r (edit.Load v text) → a ≡ wait_if (is_available_at found) r (missing s.files v) → written ps ≡ content_told (is_available_at found && is_some text) r → committed (plan_of c stacking.Same a ps) s ≡ loaded_with v r (taken_from s)
+pub load_planned : (s : State) (v : Value) (r : ObjRef) (found : Option Object) (text : Option (List ℕ)) (c : Change) (a : Awaiting) (ps : List Batch) → is_loadable v ≡ true → found ≡ object_at r (all s.objects) → text ≡ comes_to s.files v → c ≡ change.Edit r (edit.Load v text) → a ≡ wait_if (is_available_at found) r (missing s.files v) → written ps ≡ content_told (is_available_at found && is_some text) r → committed (plan_of c stacking.Same a ps) s ≡ loaded_with v r (taken_from s)
 load_planned s v r found text c a ps loadable here is_text is_change is_wait is_put =
     let objects : changed_as c s.objects ≡ changed (λ p b. replaced v (comes_to s.files v) b) r s.objects =
     ap (λ (y : Change). changed_as y s.objects) is_change ∙ ap (λ (m : Option (List ℕ)). changed (λ p b. replaced v m b) r s.objects) is_text in
@@ -188,8 +188,8 @@ load_none (x ∷ y ∷ vs) r s e = refl
 
 -- Programs
 
-pub call_planned : (s : State) (n : ActionName) (xs : List Argument) (r : ObjRef) (which : Option Builtin) (ps : List Param) (vs said : List Value) (rs : List ObjRef) (gs : List Gift) (pieces : List Piece) → which ≡ builtin_in (part_at r (parts (all s.objects))) → ps ≡ unwrap_or (params_in s.service.programs (part_at r (parts (all s.objects)))) [] → vs ≡ values (all s.objects) (ins ps (passed xs)) → said ≡ said_by (outcome_of which s.said (now_of s) vs) → rs ≡ receivers_lem xs ++ outs ps (passed xs) → gs ≡ gifts rs said → written pieces ≡ call_items n r → committed (plan_of (change.Give gs) stacking.Same awaiting.Same pieces) s ≡ call_rule n xs r (taken_from s)
-call_planned s n xs r which ps vs said rs gs pieces is_which are_params go_in is_said are_receivers are_gifts is_put =
+pub call_planned : (s : State) (n : ActionName) (xs : List Argument) (r : ObjRef) (which : Option Builtin) (ps : List Param) (vs said : List Value) (rs : List ObjRef) (gs : List Gift) (batches : List Batch) → which ≡ builtin_in (part_at r (parts (all s.objects))) → ps ≡ unwrap_or (params_in s.service.programs (part_at r (parts (all s.objects)))) [] → vs ≡ values (all s.objects) (ins ps (passed xs)) → said ≡ said_by (outcome_of which s.said (now_of s) vs) → rs ≡ receivers_lem xs ++ outs ps (passed xs) → gs ≡ gifts rs said → written batches ≡ call_items n r → committed (plan_of (change.Give gs) stacking.Same awaiting.Same batches) s ≡ call_rule n xs r (taken_from s)
+call_planned s n xs r which ps vs said rs gs batches is_which are_params go_in is_said are_receivers are_gifts is_put =
     let part : Option Fixed = part_at r (parts (all s.objects)) in
     let params : List Param = unwrap_or (params_in s.service.programs part) [] in
     let names : rs ≡ receivers_lem xs ++ outs params (passed xs) = are_receivers ∙ ap (λ (qs : List Param). receivers_lem xs ++ outs qs (passed xs)) are_params in
@@ -201,7 +201,7 @@ call_planned s n xs r which ps vs said rs gs pieces is_which are_params go_in is
     ap (λ (x : List Gift). given_all x s.objects) are_gifts ∙ given_gifts rs said s.objects
     ∙ ap (λ (x : List ObjRef). filled x said s.objects) names
     ∙ ap (λ (x : List Value). filled (receivers_lem xs ++ outs params (passed xs)) x s.objects) answers in
-    let work : written pieces ++ drop 1 s.work ≡ call_items n r ++ drop 1 s.work = ap (λ (x : List Item). x ++ drop 1 s.work) is_put in
+    let work : written batches ++ drop 1 s.work ≡ call_items n r ++ drop 1 s.work = ap (λ (x : List Item). x ++ drop 1 s.work) is_put in
     λ i. record s { objects = objects i; work = work i; taken = s.taken + 1 }
 
 -- the display stack, where the object is available

@@ -7,12 +7,11 @@ use Rattle.mh_model.specs.declared.fault.Fault.{Fault}
 use Rattle.mh_model.specs.declared.item.Item.{Item}
 use Rattle.mh_model.specs.declared.program.Call.{Call}
 use Rattle.mh_model.specs.declared.program.Signature.{Signature}
-use Rattle.mh_model.specs.Headline.{fault_at, front_fault}
+use Rattle.mh_model.specs.Stuck.{fault_at, front_fault, stuck}
 use Rattle.mh_model.specs.Receiver.{call_first, call_in, call_next}
-use Rattle.mh_model.specs.Stuck.{stuck}
+use Rattle.mh_machine.specs.Judging.{AreAllowed}
 use Rattle.mh_machine.specs.Rest.{answer_of, judged}
 use Rattle.mh_machine.specs.declared.stepped.Stepped.{Stepped}
-use Rattle.mh_machine.specs.declared.stepped.Stepped.TheVariants as told
 use Rattle.mh_model.specs.Step.{did, done, step, step_by, stepped, is_empty, is_idle, is_settled, advanced}
 use Rattle.mh_model.specs.Limits.{most_steps}
 
@@ -99,13 +98,20 @@ pub answer_first : {E : Type 0} (answer : Result Stepped E) (s : State) (i : Ite
 answer_first (Ok x) s i ended first is = is ∙ rw (ended, first) refl
 answer_first (Err y) s i ended first is = is
 
-first_free : (s : State) (i : Item) → front_fault s ≡ None → slice_get s.work 0 ≡ Some i → stuck i s ≡ None
-first_free s i free first = sym (ap (λ (m : Option Item). fault_at m s) first) ∙ free
+-- what is allowed of the state is allowed of its first item
+pub allowed_first : (allows : Option Fault → Type 0) (s : State) (i : Item) → slice_get s.work 0 ≡ Some i → allows (front_fault s) → allows (stuck i s)
+allowed_first allows s i first allowed = subst (λ (m : Option Item). allows (fault_at m s)) first allowed
 
-pub free_first : {T E : Type 0} (answer : Result T E) (s after : State) (i : Item) → front_fault s ≡ None → s.ended ≡ false → slice_get s.work 0 ≡ Some i → OnOk answer (after ≡ done i s) → OnOk answer (after ≡ step s)
-free_first (Ok x) s after i free ended first is = is ∙ ap (λ (f : Option Fault). did f i s) (sym (first_free s i free first)) ∙ rw (ended, first) refl
-free_first (Err y) s after i free ended first is = is
+-- before this step and before those that are left
 
-pub free_answer : {E : Type 0} (answer : Result Stepped E) (s : State) (i : Item) → front_fault s ≡ None → s.ended ≡ false → slice_get s.work 0 ≡ Some i → IfOk answer (λ a. a ≡ told.Did) → IfOk answer (λ a. a ≡ answer_of s)
-free_answer (Ok x) s i free ended first is = is ∙ ap judged (sym (first_free s i free first)) ∙ rw (ended, first) refl
-free_answer (Err y) s i free ended first is = is
+pub allowed_more : (allows : Option Fault → Type 0) (i n : ℕ) (s : State) → i < n → AreAllowed allows (n - i) s → allows (front_fault s) × AreAllowed allows (n - (i + 1)) (stepped s)
+unfolding AreAllowed
+allowed_more allows i n s less allowed =
+    let next : n - i ≡ suc (n - (i + 1)) = omega arith in
+    subst (λ (k : ℕ). AreAllowed allows k s) next allowed
+
+-- where items are judged, all is allowed
+pub allowed_all : (n : ℕ) (s : State) → AreAllowed (λ fault. Unit {0}) n s
+unfolding AreAllowed
+allowed_all zero s = tt
+allowed_all (suc n) s = (tt, allowed_all n (stepped s))

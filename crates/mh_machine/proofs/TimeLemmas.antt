@@ -31,10 +31,7 @@ in_time (input.Tick n) s a moments queue none =
     ap (λ m. not (nat_le (m.present + time_ahead a.queue + n) most_moment)) moments
     ∙ ap (λ (q : List Waiting). not (nat_le (s.moments.present + time_ahead q + n) most_moment)) queue
     ∙ unbarred (input.Tick n) s none
-in_time (input.Key k) s a moments queue none = refl
-in_time (input.Stream n) s a moments queue none = refl
-in_time (input.Engine n) s a moments queue none = refl
-in_time (input.Arrive f) s a moments queue none = refl
+in_time _ s a moments queue none = refl
 
 -- The events of objects that are meant, object by object.
 

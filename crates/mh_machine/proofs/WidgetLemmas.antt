@@ -25,7 +25,7 @@ use Rattle.mh_model.specs.State.{State, all}
 use Rattle.mh_model.specs.Step.{pressed_at}
 use Rattle.mh_model.specs.Worked.{worked, is_interacting}
 use Rattle.mh_widgets.specs.Does.{placed_with, placed_by}
-use Rattle.mh_actions.specs.declared.piece.Piece.{Piece}
+use Rattle.mh_work.specs.declared.batch.Batch.{Batch}
 use Rattle.mh_machine.specs.declared.plan.Awaiting.TheVariants as awaiting
 use Rattle.mh_machine.specs.declared.plan.Change.{Change}
 use Rattle.mh_machine.specs.declared.plan.Change.TheVariants as change
@@ -33,22 +33,22 @@ use Rattle.mh_machine.specs.declared.plan.Gift.{Gift}
 use Rattle.mh_machine.specs.declared.plan.Interacting.{Interacting}
 use Rattle.mh_machine.specs.declared.plan.Interacting.TheVariants as interacting
 use Rattle.mh_machine.specs.declared.plan.Stacking.TheVariants as stacking
-use Rattle.mh_actions.specs.Pieces.{written}
+use Rattle.mh_work.specs.Batches.{written}
 use Rattle.mh_machine.specs.Plans.{changed_as, change_at, change_with, given_all, gifts, interacted, interacting_as, plan_of, committed, taken_from}
 use Rattle.mh_machine.specs.Taking.{shifted}
 use Rattle.mh_machine.proofs.ChangeLemmas.{makes_edit}
 use Rattle.mh_machine.proofs.PlacingLemmas.{placing_if}
 use Rattle.mh_machine.proofs.PlanLemmas.{given_gifts}
 
-pub widget_planned : (s : State) (n : ActionName) (vs : List Value) (r : ObjRef) (o : Object) (m : Option Edit) (ps : List (ObjRef × Position)) (is : List Item) (c : Change) (pieces : List Piece) → Some o ≡ object_at r (all s.objects) → edited_if m o.fixed o.body ≡ (worked n vs r o.fixed o.body).body → ps ≡ (worked n vs r o.fixed o.body).placed → is ≡ (worked n vs r o.fixed o.body).items → ps ≡ placed_with m ps → ps ≡ placed_by ps (is_visible o.fixed.class) → c ≡ change_with r m ps → written pieces ≡ is → committed (plan_of c stacking.Same awaiting.Same pieces) s ≡ widget_rule n vs r (taken_from s)
-widget_planned s n vs r o m ps is c pieces here body placed items edit unseen is_change is_put =
+pub widget_planned : (s : State) (n : ActionName) (vs : List Value) (r : ObjRef) (o : Object) (m : Option Edit) (ps : List (ObjRef × Position)) (is : List Item) (c : Change) (batches : List Batch) → Some o ≡ object_at r (all s.objects) → edited_if m o.fixed o.body ≡ (worked n vs r o.fixed o.body).body → ps ≡ (worked n vs r o.fixed o.body).placed → is ≡ (worked n vs r o.fixed o.body).items → ps ≡ placed_with m ps → ps ≡ placed_by ps (is_visible o.fixed.class) → c ≡ change_with r m ps → written batches ≡ is → committed (plan_of c stacking.Same awaiting.Same batches) s ≡ widget_rule n vs r (taken_from s)
+widget_planned s n vs r o m ps is c batches here body placed items edit unseen is_change is_put =
     let behind : Body = (worked n vs r o.fixed o.body).body in
     let objects : changed_as c s.objects ≡ all_placed (worked n vs r o.fixed o.body).placed (changed (λ p b. behind) r s.objects) =
     ap (λ (y : Change). changed_as y s.objects) is_change
     ∙ placing_if r m ps s.objects edit (unseen ∙ ap (λ (x : Option Object). placed_by ps (is_visible_at x)) here)
     ∙ ap (all_placed ps) (makes_edit (λ p b. behind) r o m body s.objects here)
     ∙ ap (λ (qs : List (ObjRef × Position)). all_placed qs (changed (λ p b. behind) r s.objects)) placed in
-    let work : written pieces ++ drop 1 s.work ≡ (worked n vs r o.fixed o.body).items ++ drop 1 s.work = ap (λ (x : List Item). x ++ drop 1 s.work) (is_put ∙ items) in
+    let work : written batches ++ drop 1 s.work ≡ (worked n vs r o.fixed o.body).items ++ drop 1 s.work = ap (λ (x : List Item). x ++ drop 1 s.work) (is_put ∙ items) in
     (λ i. record s { objects = objects i; work = work i; taken = s.taken + 1 })
     ∙ ap (λ (x : Option Object). widget_at n vs r x (taken_from s)) here
 
@@ -78,14 +78,14 @@ set_as (value.Octets os ∷ v ∷ vs) r o i = refl
 set_as (value.Object q ∷ v ∷ vs) r o i = refl
 set_as (value.Content name ∷ v ∷ vs) r o i = refl
 
-pub interaction_planned : (s : State) (vs : List Value) (rs : List ObjRef) (r : ObjRef) (found : Option Object) (b : Bool) (x : Interacting) (pieces : List Piece) → found ≡ object_at r (all s.objects) → b ≡ is_interacting r s.interaction → x ≡ interacting_as vs b r found → written pieces ≡ interaction_items vs b r → committed (record (plan_of change.Nothing stacking.Same awaiting.Same pieces) { interacting = x }) s ≡ interact_rule action.SetInteractionStatus vs rs r (taken_from s)
-interaction_planned s vs rs r found b x pieces here is_interacting_now is_x is_put =
+pub interaction_planned : (s : State) (vs : List Value) (rs : List ObjRef) (r : ObjRef) (found : Option Object) (b : Bool) (x : Interacting) (batches : List Batch) → found ≡ object_at r (all s.objects) → b ≡ is_interacting r s.interaction → x ≡ interacting_as vs b r found → written batches ≡ interaction_items vs b r → committed (record (plan_of change.Nothing stacking.Same awaiting.Same batches) { interacting = x }) s ≡ interact_rule action.SetInteractionStatus vs rs r (taken_from s)
+interaction_planned s vs rs r found b x batches here is_interacting_now is_x is_put =
     let interaction : interacted x s.interaction ≡ interaction_set vs r (object_at r (all s.objects)) s.interaction =
     ap (λ (y : Interacting). interacted y s.interaction) is_x
     ∙ ap (λ (t : Bool). interacted (interacting_as vs t r found) s.interaction) is_interacting_now
     ∙ set_as vs r found s.interaction
     ∙ ap (λ (o : Option Object). interaction_set vs r o s.interaction) here in
-    let work : written pieces ++ drop 1 s.work ≡ interaction_items vs (is_interacting r s.interaction) r ++ drop 1 s.work =
+    let work : written batches ++ drop 1 s.work ≡ interaction_items vs (is_interacting r s.interaction) r ++ drop 1 s.work =
     ap (λ (y : List Item). y ++ drop 1 s.work) (is_put ∙ ap (λ (t : Bool). interaction_items vs t r) is_interacting_now) in
     λ i. record s { interaction = interaction i; work = work i; taken = s.taken + 1 }
 

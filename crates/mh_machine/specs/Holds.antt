@@ -2,7 +2,7 @@
 use Rattle.std.specs.Prelude.{◌≡◌, ◌≤◌, ℕ, List}
 use Rattle.mh_model.specs.Service.{Service, group_parts, parts}
 use Rattle.mh_model.specs.State.{Objects, all}
-use Rattle.mh_actions.specs.Links.{IsIndex}
+use Rattle.mh_work.specs.Links.{IsIndex}
 
 pub record Holds (v : Service) (application : List ℕ) (os : Objects) (links : List (ℕ × List ℕ)) (locks taken : ℕ) : Type 0 where
   -- the objects of the application are those that its file writes

@@ -1,4 +1,5 @@
 pub mod Holds
+pub mod Judging
 pub mod Plans
 pub mod Rest
 pub mod Stage

@@ -26,7 +26,7 @@ use Rattle.mh_model.specs.Service.{object_at}
 use Rattle.mh_model.specs.State.{State, Objects, all}
 use Rattle.mh_model.specs.declared.file.Wait.{Wait}
 use Rattle.mh_model.specs.Files.{forgotten, awaited}
-use Rattle.mh_actions.specs.declared.piece.Piece.{Piece}
+use Rattle.mh_work.specs.declared.batch.Batch.{Batch}
 use Rattle.mh_machine.specs.declared.plan.Awaiting.{Awaiting}
 use Rattle.mh_machine.specs.declared.plan.Awaiting.TheVariants as awaiting
 use Rattle.mh_machine.specs.declared.plan.Change.{Change}
@@ -40,7 +40,7 @@ use Rattle.mh_machine.specs.declared.plan.Puts.TheVariants as puts
 use Rattle.mh_machine.specs.declared.plan.Stacking.{Stacking}
 use Rattle.mh_machine.specs.declared.plan.Stacking.TheVariants as stacking
 use Rattle.mh_machine.specs.declared.plan.Turn.{Turn}
-use Rattle.mh_actions.specs.Pieces.{written}
+use Rattle.mh_work.specs.Batches.{written}
 
 -- variables are given values that they can hold, one after another
 abbrev pub given_all : List Gift → Objects → Objects
@@ -131,9 +131,10 @@ abbrev pub noted : Option Fault → List Fault → List Fault
 noted None fs = fs
 noted (Some f) fs = fs ++ f ∷ []
 
-abbrev pub worked : Puts → List Item → List Item
-worked (puts.InFront ps) work = written ps ++ drop 1 work
-worked (puts.Instead w) work = w.items
+-- the work list behind what is put
+abbrev pub work_after : Puts → List Item → List Item
+work_after (puts.InFront ps) work = written ps ++ drop 1 work
+work_after (puts.Instead w) work = w.items
 
 -- the room that is wanted in the work list
 abbrev pub room_for : Puts → ℕ
@@ -148,22 +149,22 @@ committed p s = record s {
   interaction = interacted p.interacting s.interaction;
   waits = rewaited p.awaiting s.waits;
   queue = queued p.waits s.queue;
-  work = worked p.puts s.work;
+  work = work_after p.puts s.work;
   transition = if p.begins then true else s.transition;
   taken = s.taken + 1;
   faults = noted p.fault s.faults;
 }
 
--- a plan that changes objects, and puts pieces in the place of the item
-abbrev pub plan_of : Change → Stacking → Awaiting → List Piece → Plan
+-- a plan that changes objects, and puts batches in the place of the item
+abbrev pub plan_of : Change → Stacking → Awaiting → List Batch → Plan
 plan_of c x a ps = record { change = c; stacking = x; awaiting = a; interacting = interacting.Same; puts = puts.InFront ps; waits = None; begins = false; fault = None }
 
 -- of the object at the reference, which runs
 abbrev pub turn_plan : ObjRef → Turn → Plan
-turn_plan r t = plan_of (change_with r (Some (edit.Start t.text)) t.places.items) t.stacking t.awaiting t.pieces.items
+turn_plan r t = plan_of (change_with r (Some (edit.Start t.text)) t.places.items) t.stacking t.awaiting t.batches.items
 
 -- of one that stops, whose interaction ends
-abbrev pub halt_plan : ObjRef → List Piece → Plan
+abbrev pub halt_plan : ObjRef → List Batch → Plan
 halt_plan r ps = record (plan_of (change.Edit r edit.Halt) stacking.Same awaiting.Same ps) { interacting = interacting.Ends r }
 
 -- the state with these items in the place of its first

@@ -5,20 +5,20 @@ ghost use Rattle.mh_model.specs.State.{all};
 ghost use Rattle.mh_model.specs.Step.{done};
 ghost use Rattle.mh_model.specs.Arguments as said;
 ghost use Rattle.mh_model.specs.Bodies.{changed_by};
-ghost use Rattle.mh_model.specs.Rules.{act_on, change_rule, ask_rule, put_rule, order_rule, whole_rule, timer_rule, transition_rule, locked, unlocked, noted as noted_lem};
+ghost use Rattle.mh_model.specs.Rules.{act_on, change_rule, put_rule, whole_rule, timer_rule, locked, unlocked, noted};
 ghost use Rattle.mh_machine.specs.Plans.{taken_from, MakesFound};
 
 use crate::plan::Plan;
 use crate::works::Works;
 use mh_actions::arguments::{referred, values};
 use mh_actions::changes::edit_with;
-use mh_actions::groups::entering;
 use mh_actions::putting::put_items;
 use mh_base::{GroupName, ObjRef};
 use mh_group::ActionName;
 use mh_model::sort::{Sort, sort_of};
 use mh_model::{Act, Argument, Edit, Event, Item, Object, Target, Waiting};
 use mh_store::Objects;
+use mh_work::groups::entering;
 use std::alloc::{AllocError, Global};
 
 /// The most items that one action puts.
@@ -32,8 +32,8 @@ impl Works {
         ensures kept { OnErr result (self.new.state ≡ self.old.state) }
     {
         if event.kind.is_sync() {
-            let pieces = self.links.heard(self.alloc, event, self.stage.objects())?;
-            self.commit_pieces(pieces)
+            let batches = self.links.heard(self.alloc, event, self.stage.objects())?;
+            self.commit_batches(batches)
         } else {
             self.do_wait(event)
         }
@@ -58,15 +58,15 @@ impl Works {
         ensures done { OnOk result (self.new.state ≡ done (Item.Enter group.now) self.old.state) }
         ensures kept { OnErr result (self.new.state ≡ self.old.state) }
     {
-        let pieces = entering(self.alloc, group, self.service.parts(group))?;
-        self.commit_pieces(pieces)?;
+        let batches = entering(self.alloc, group, self.service.parts(group))?;
+        self.commit_batches(batches)?;
         self.note_entry(group);
         Ok(())
     }
 
     /// Notes the moment in which a group is entered.
     fn note_entry(&mut self, group: &GroupName)
-        ensures { self.new.state ≡ record self.old.state { moments = noted_lem group.now self.old.state } }
+        ensures { self.new.state ≡ record self.old.state { moments = noted group.now self.old.state } }
     {
         self.agenda.note_entry(&self.application, group);
     }
@@ -134,20 +134,6 @@ impl Works {
         Ok(())
     }
 
-    /// An action that asks its target.
-    #[inline(never)]
-    fn do_ask(&mut self, act: &Act, at: &ObjRef) -> Result<(), AllocError>
-        requires { self.old.state.taken + 1 < 2 ^ 64 }
-        ensures done { let values = said.values (all self.old.state.objects) act.now.arguments in
-            OnOk result (self.new.state
-            ≡ ask_rule act.now.name values (said.receivers act.now.arguments) at.now
-            (taken_from self.old.state)) }
-        ensures kept { OnErr result (self.new.state ≡ self.old.state) }
-    {
-        let plan = self.plan_ask(act, at)?;
-        self.commit(plan)
-    }
-
     /// An action that puts items. Room for them is made before they are.
     fn do_put(&mut self, act: &Act, at: &ObjRef) -> Result<(), AllocError>
         requires { self.old.state.taken + 1 < 2 ^ 64 }
@@ -163,19 +149,6 @@ impl Works {
         self.work.put_by_act(put);
         self.taken += 1;
         Ok(())
-    }
-
-    /// An action that moves its target in the display stack.
-    #[inline(never)]
-    fn do_order(&mut self, act: &Act, at: &ObjRef) -> Result<(), AllocError>
-        requires { self.old.state.taken + 1 < 2 ^ 64 }
-        ensures done { let values = said.values (all self.old.state.objects) act.now.arguments in
-            OnOk result (self.new.state
-            ≡ order_rule act.now.name values at.now (taken_from self.old.state)) }
-        ensures kept { OnErr result (self.new.state ≡ self.old.state) }
-    {
-        let plan = self.plan_order(act, at)?;
-        self.commit(plan)
     }
 
     /// An action that is a matter of the whole machine.
@@ -232,16 +205,6 @@ impl Works {
     {
         self.pass();
         self.locks = self.locks.saturating_sub(1);
-    }
-
-    /// A transition to another scene or application, or to the end.
-    fn do_transition(&mut self, name: ActionName, at: &ObjRef) -> Result<(), AllocError>
-        requires { self.old.state.taken + 1 < 2 ^ 64 }
-        ensures done { OnOk result (self.new.state ≡ transition_rule name at.now (taken_from self.old.state)) }
-        ensures kept { OnErr result (self.new.state ≡ self.old.state) }
-    {
-        let plan = self.plan_transition(name, &at.group)?;
-        self.commit(plan)
     }
 }
 

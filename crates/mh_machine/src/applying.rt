@@ -9,10 +9,10 @@ ghost use Rattle.mh_machine.specs.Plans.{change_with, changed_as, given_all};
 use crate::plan::{Change, Gift};
 use crate::stage::Stage;
 use mh_actions::fits_value;
-use mh_actions::lifecycle::is_visible;
 use mh_base::{ObjRef, Octets};
 use mh_group::Position;
 use mh_model::Edit;
+use mh_work::lifecycle::is_visible;
 use std::alloc::AllocError;
 
 /// Changes bodies.

@@ -3,20 +3,20 @@ ghost use Rattle.std.specs.Prelude.{◌≡◌, ◌+◌, ◌<◌, ◌^◌, ◌∷
 ghost use Rattle.mh_model.specs.Programs.{answer, said_by, outcome_of};
 ghost use Rattle.mh_model.specs.Rules.{call_rule, now_of};
 ghost use Rattle.mh_model.specs.Saying.{call_items};
-ghost use Rattle.mh_actions.specs.Pieces.{written};
+ghost use Rattle.mh_work.specs.Batches.{written};
 ghost use Rattle.mh_machine.specs.Plans.{committed, taken_from};
 
+use crate::answering::gifts_of;
 use crate::plan::{Awaiting, Change, Plan, Stacking};
-use crate::planning::gifts_of;
 use crate::works::Works;
-use mh_actions::Piece;
 use mh_actions::calling::{builtin_at, call_ins, call_receivers, params_at};
-use mh_actions::groups::{plain_event, push};
 use mh_base::{EventType, ObjRef, Seq, Value, both};
 use mh_group::ActionName;
 use mh_model::act::passed;
 use mh_model::{Act, Builtin, Now, Outcome};
 use mh_resident::answer_of;
+use mh_work::Batch;
+use mh_work::groups::{plain_event, push};
 use std::alloc::{AllocError, Global};
 
 impl Works {
@@ -44,9 +44,9 @@ impl Works {
         let said = self.said_of(which, ins.as_slice());
         let (said, receivers) = both(said, call_receivers(self.alloc, params, arguments))?;
         let gifts = gifts_of(self.alloc, receivers.as_slice(), said.as_slice());
-        let (gifts, pieces) = both(gifts, call_pieces(self.alloc, act.name, at))?;
+        let (gifts, batches) = both(gifts, call_batches(self.alloc, act.name, at))?;
         let change = Change::Give(Seq::from_vec(gifts));
-        Ok(Plan::of(change, Stacking::Same, Awaiting::Same, pieces))
+        Ok(Plan::of(change, Stacking::Same, Awaiting::Same, batches))
     }
 
     /// What the variables of a call are given: whether it went well, and then what the program answered.
@@ -115,15 +115,15 @@ fn one(alloc: Global, value: Value) -> Result<Vec<Value>, AllocError>
 }
 
 /// What a call puts.
-fn call_pieces(alloc: Global, name: ActionName, at: &ObjRef) -> Result<Vec<Piece>, AllocError>
-    ensures { IfOk result (λ pieces. written pieces.items ≡ call_items name at.now) }
+fn call_batches(alloc: Global, name: ActionName, at: &ObjRef) -> Result<Vec<Batch>, AllocError>
+    ensures { IfOk result (λ batches. written batches.items ≡ call_items name at.now) }
 {
-    let mut pieces = Vec::new(alloc);
+    let mut batches = Vec::new(alloc);
     if matches!(name, ActionName::Fork) {
         push(
-            &mut pieces,
-            Piece::One(plain_event(at, EventType::AsyncStopped)?),
+            &mut batches,
+            Batch::One(plain_event(at, EventType::AsyncStopped)?),
         )?;
     }
-    Ok(pieces)
+    Ok(batches)
 }

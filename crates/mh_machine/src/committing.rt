@@ -1,23 +1,23 @@
 //! A plan is carried out: room is made first, then bodies are changed, and behind that nothing can fail.
 //!
-//! What most steps do has a shorter way: pieces that are put, and one body that is changed, need no plan.
+//! What most steps do has a shorter way: batches that are put, and one body that is changed, need no plan.
 ghost use Rattle.std.specs.Prelude.{◌≡◌, ◌+◌, ◌<◌, ◌≤◌, ◌^◌, true, [], OnOk, OnErr, vec_len, vec_capacity};
 ghost use Rattle.mh_model.specs.Bodies.{given};
 ghost use Rattle.mh_model.specs.Edits.{edited};
 ghost use Rattle.mh_model.specs.Rules.{changed};
-ghost use Rattle.mh_actions.specs.Pieces.{written};
-ghost use Rattle.mh_machine.specs.Plans.{change_at, committed, halt_plan, put_for_first, taken_from, changed_as, rewaited, queued, worked, noted, room_for};
+ghost use Rattle.mh_work.specs.Batches.{written};
+ghost use Rattle.mh_machine.specs.Plans.{change_at, committed, halt_plan, put_for_first, taken_from, changed_as, rewaited, queued, work_after, noted, room_for};
 
 use crate::applying::apply;
 use crate::interacting::{end_of, interact};
 use crate::plan::{Awaiting, Plan, Puts};
 use crate::room::make_room;
 use crate::works::Works;
-use mh_actions::{Piece, Work};
 use mh_base::{ObjRef, Value};
 use mh_carousel::Carousel;
 use mh_events::Agenda;
 use mh_model::{Edit, Event, Fault};
+use mh_work::{Batch, Work};
 use std::alloc::AllocError;
 
 impl Works {
@@ -60,33 +60,33 @@ impl Works {
         Ok(())
     }
 
-    /// Puts these pieces in the place of the first item. Most events are heard by no link, and put none.
-    pub(crate) fn commit_pieces(&mut self, pieces: Vec<Piece>) -> Result<(), AllocError>
+    /// Puts these batches in the place of the first item. Most events are heard by no link, and put none.
+    pub(crate) fn commit_batches(&mut self, batches: Vec<Batch>) -> Result<(), AllocError>
         requires { self.old.state.taken + 1 < 2 ^ 64 }
-        ensures done { OnOk result (self.new.state ≡ put_for_first (written pieces.items) self.old.state) }
+        ensures done { OnOk result (self.new.state ≡ put_for_first (written batches.items) self.old.state) }
         ensures kept { OnErr result (self.new.state ≡ self.old.state) }
     {
-        if are_none(&pieces) {
+        if are_none(&batches) {
             self.pass();
             return Ok(());
         }
-        self.work.reserve(pieces.len())?;
-        self.work.put_for_first(pieces);
+        self.work.reserve(batches.len())?;
+        self.work.put_for_first(batches);
         self.taken += 1;
         Ok(())
     }
 
-    /// Stops the object at this reference, and puts these pieces in the place of the first item.
+    /// Stops the object at this reference, and puts these batches in the place of the first item.
     #[inline(never)]
-    pub(crate) fn commit_halt(&mut self, at: &ObjRef, pieces: Vec<Piece>) -> Result<(), AllocError>
+    pub(crate) fn commit_halt(&mut self, at: &ObjRef, batches: Vec<Batch>) -> Result<(), AllocError>
         requires { self.old.state.taken + 1 < 2 ^ 64 }
-        ensures done { OnOk result (self.new.state ≡ committed (halt_plan at.now pieces.items) self.old.state) }
+        ensures done { OnOk result (self.new.state ≡ committed (halt_plan at.now batches.items) self.old.state) }
         ensures kept { OnErr result (self.new.state ≡ self.old.state) }
     {
-        self.work.reserve(pieces.len())?;
+        self.work.reserve(batches.len())?;
         self.stage.edit(at, Edit::Halt)?;
         end_of(&mut self.interaction, at);
-        self.work.put_for_first(pieces);
+        self.work.put_for_first(batches);
         self.taken += 1;
         Ok(())
     }
@@ -147,10 +147,10 @@ impl Works {
 
 fn put(work: &mut Work, puts: Puts)
     requires { room_for puts ≤ work.old.room }
-    ensures { work.new.items ≡ worked puts work.old.items }
+    ensures { work.new.items ≡ work_after puts work.old.items }
 {
     match puts {
-        Puts::InFront(pieces) => work.put_for_first(pieces.into_vec()),
+        Puts::InFront(batches) => work.put_for_first(batches.into_vec()),
         Puts::Instead(other) => *work = other,
     }
 }
@@ -188,8 +188,8 @@ fn note(faults: &mut Vec<Fault>, fault: Option<Fault>)
     }
 }
 
-fn are_none(pieces: &Vec<Piece>) -> bool
-    ensures { result ≡ true → pieces.now.items ≡ [] }
+fn are_none(batches: &Vec<Batch>) -> bool
+    ensures { result ≡ true → batches.now.items ≡ [] }
 {
-    pieces.is_empty()
+    batches.is_empty()
 }

@@ -8,11 +8,11 @@ ghost use Rattle.mh_model.specs.Worked.{interaction_of};
 ghost use Rattle.mh_machine.specs.Plans.{taken_from};
 
 use crate::works::Works;
-use mh_actions::Links;
-use mh_actions::groups::entrance;
 use mh_base::{GroupName, both};
 use mh_model::{Interaction, Item};
 use mh_store::Group;
+use mh_work::Links;
+use mh_work::groups::entrance;
 use std::alloc::AllocError;
 
 impl Works {
@@ -44,8 +44,8 @@ impl Works {
             Group::fresh(self.alloc, group, parts),
         );
         let named = both(group.clone(), entrance(self.alloc, group));
-        let ((links, objects), (application, pieces)) = both(entered, named)?;
-        self.work.put_for_first(pieces);
+        let ((links, objects), (application, batches)) = both(entered, named)?;
+        self.work.put_for_first(batches);
         set_application(&mut self.application, application);
         clear_scene(&mut self.scene);
         self.stage.launch(self.alloc, objects);
@@ -72,8 +72,8 @@ impl Works {
             Group::fresh(self.alloc, group, parts),
         );
         let named = both(group.clone(), entrance(self.alloc, group));
-        let ((links, objects), (scene, pieces)) = both(entered, named)?;
-        self.work.put_for_first(pieces);
+        let ((links, objects), (scene, batches)) = both(entered, named)?;
+        self.work.put_for_first(batches);
         set_scene(&mut self.scene, scene);
         self.stage.exchange(objects, &self.application);
         self.links = links;

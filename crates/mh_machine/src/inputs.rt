@@ -4,11 +4,10 @@ ghost use Rattle.std.specs.Option.{option_copied};
 ghost use Rattle.mh_model.specs.Service.{parts};
 ghost use Rattle.mh_model.specs.State.{all};
 ghost use Rattle.mh_model.specs.Step as spec;
-ghost use Rattle.mh_actions.specs.Links.{IsIndex};
+ghost use Rattle.mh_work.specs.Links.{IsIndex};
 ghost use Rattle.mh_machine.specs.Taking.{told_by, content_by};
-ghost use Rattle.mh_actions.specs.Pieces.{written};
+ghost use Rattle.mh_work.specs.Batches.{written};
 
-use mh_actions::{Links, Piece};
 use mh_base::{EventType, GroupName, ObjRef, Value};
 use mh_carousel::Carousel;
 use mh_group::{Attribute, Class};
@@ -16,18 +15,19 @@ use mh_model::held::as_int;
 use mh_model::parts::group_ref;
 use mh_model::{Event, Key, Object};
 use mh_store::{Awaits, Objects};
+use mh_work::{Batch, Links};
 use std::alloc::{AllocError, Global};
 
 /// What a key puts: the effects of the links that hear it as an event of the scene.
-pub fn key_pieces(
+pub fn key_batches(
     alloc: Global,
     key: Key,
     scene: &GroupName,
     links: &Links,
     objects: &Objects,
-) -> Result<Vec<Piece>, AllocError>
+) -> Result<Vec<Batch>, AllocError>
     requires { IsIndex links.now (parts (all objects.now)) }
-    ensures { IfOk result (λ pieces. written pieces.items
+    ensures { IfOk result (λ batches. written batches.items
         ≡ spec.key_items key (Some scene.now) (all objects.now)) }
 {
     let source = group_ref(scene)?;

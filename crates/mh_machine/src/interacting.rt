@@ -3,20 +3,20 @@ ghost use Rattle.std.specs.Prelude.{◌≡◌, ◌+◌, ◌<◌, ◌^◌, ◌++�
 ghost use Rattle.mh_model.specs.Service.{object_at, parts};
 ghost use Rattle.mh_model.specs.State.{all};
 ghost use Rattle.mh_model.specs.Step.{pressed_at};
-ghost use Rattle.mh_model.specs.Worked.{ended_of, is_interacting as is_interacting_lem};
+ghost use Rattle.mh_model.specs.Worked.{ended_of, is_interacting};
 ghost use Rattle.mh_machine.specs.Plans.{changed_as, change_at, interacted};
 ghost use Rattle.mh_machine.specs.Taking.{shifted};
 
 use crate::plan::Interacting;
 use crate::stage::Stage;
 use crate::works::Works;
-use mh_actions::Work;
-use mh_actions::lifecycle::push_items;
 use mh_base::{ObjRef, both};
 use mh_model::parts::same_ref;
 use mh_model::{Edit, Interaction, Item, Key};
 use mh_widgets::Pressed;
 use mh_widgets::fields::pressed;
+use mh_work::Work;
+use mh_work::lifecycle::push_items;
 use std::alloc::{AllocError, Global};
 
 impl Works {
@@ -75,9 +75,9 @@ pub fn change_body(stage: &mut Stage, at: &ObjRef, edit: Option<Edit>) -> Result
 fn work_of(alloc: Global, items: Vec<Item>) -> Result<Work, AllocError>
     ensures { IfOk result (λ work. work.items ≡ items.items) }
 {
-    let mut pieces = Vec::new(alloc);
-    push_items(&mut pieces, items)?;
-    Work::of_pieces(alloc, pieces)
+    let mut batches = Vec::new(alloc);
+    push_items(&mut batches, items)?;
+    Work::of_batches(alloc, batches)
 }
 
 fn end_if(interaction: &mut Option<Interaction>, ends: bool)
@@ -110,7 +110,7 @@ pub fn end_of(interaction: &mut Option<Interaction>, at: &ObjRef)
 
 /// Whether it is the object at this reference that interacts.
 pub fn is_interacting(at: &ObjRef, interaction: &Option<Interaction>) -> bool
-    ensures { result ≡ is_interacting_lem at.now interaction.now }
+    ensures { result ≡ is_interacting at.now interaction.now }
 {
     match interaction {
         Some(begun) => same_ref(at, &begun.object),

@@ -6,27 +6,32 @@
 
 mod acting;
 mod advancing;
+mod answering;
 mod applying;
-mod asking;
 mod calling;
 mod committing;
 mod exchanging;
 mod inputs;
 mod interacting;
+mod judging;
+mod lives;
 mod loading;
 pub mod machine;
+mod next_call;
+mod ordering;
 mod plan;
-mod planning;
 mod posting;
 mod room;
 mod stage;
 pub mod stepped;
 mod stepping;
 mod taking;
+mod transitions;
 pub mod unstarted;
 mod widgets;
 mod works;
 
+pub use judging::{Free, Judged, Judging};
 pub use machine::Machine;
 pub use mh_model::Rest;
 pub use stepped::Stepped;

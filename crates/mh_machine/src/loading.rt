@@ -13,11 +13,11 @@ use crate::plan::{Awaiting, Change, Plan, Stacking};
 use crate::works::Works;
 use mh_actions::arguments::values;
 use mh_actions::content::new_content;
-use mh_actions::lifecycle::{content_pieces, is_available, is_visible};
 use mh_base::{GroupName, ObjRef, Octets, Value, both};
 use mh_carousel::Carousel;
 use mh_group::Attribute;
 use mh_model::{Act, Edit, Held, Object, Wait};
+use mh_work::lifecycle::{content_batches, is_available, is_visible};
 use std::alloc::AllocError;
 
 impl Works {
@@ -57,12 +57,12 @@ impl Works {
         let text = comes_to(&self.carousel, content);
         let told = both(
             awaiting(is_there, at, missing(&self.carousel, content)),
-            content_pieces(self.alloc, at, is_loaded(is_there, text)),
+            content_batches(self.alloc, at, is_loaded(is_there, text)),
         );
         let changed = both(at.clone(), load(content, text));
-        let ((awaiting, pieces), (at, edit)) = both(told, changed)?;
+        let ((awaiting, batches), (at, edit)) = both(told, changed)?;
         let change = Change::Edit(at, edit);
-        Ok(Plan::of(change, Stacking::Same, awaiting, pieces))
+        Ok(Plan::of(change, Stacking::Same, awaiting, batches))
     }
 }
 

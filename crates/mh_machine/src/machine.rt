@@ -1,16 +1,16 @@
 //! `Machine`: the state of the object machine, with the picture that it shows.
 ghost use Rattle.std.specs.Prelude.{◌≡◌, ◌+◌, ◌<◌, ◌^◌, map, false, [], None, IfOk, IfErr, OnOk, OnErr};
-ghost use Rattle.mh_model.specs.Headline.{front_fault};
+ghost use Rattle.mh_model.specs.Stuck.{front_fault};
 ghost use Rattle.mh_model.specs.Picture.{shown};
-ghost use Rattle.mh_model.specs.Receiver.{call_next as call_next_lem, told};
-ghost use Rattle.mh_model.specs.Safe.{IsSafe};
+ghost use Rattle.mh_model.specs.Receiver.{call_next, told};
 ghost use Rattle.mh_model.specs.State.{begun};
-ghost use Rattle.mh_model.specs.Step.{advanced, posted, step as step_lem, obstacle as obstacle_lem, preset as preset_lem, preset_obstacle as preset_obstacle_lem, is_settled as is_settled_lem};
+ghost use Rattle.mh_model.specs.Step.{advanced, posted, step, obstacle, preset, preset_obstacle, is_settled};
+ghost use Rattle.mh_machine.specs.Judging.{AreAllowed};
 ghost use Rattle.mh_machine.specs.Rest.{answer_of, rest_of};
 ghost use Rattle.mh_machine.specs.Working.{IsPartly};
 
 use crate::works::Works;
-use crate::{Rest, Stepped, Unstarted};
+use crate::{Judging, Rest, Stepped, Unstarted};
 use mh_model::{Call, Fault, File, Input, Obstacle, Outcome, Picture};
 use mh_resident::Resident;
 use mh_service::Service;
@@ -62,15 +62,15 @@ impl Machine {
 
     /// Why a file cannot be there before the first move, if it cannot.
     pub fn preset_obstacle(&self, file: &File) -> Option<Obstacle>
-        ensures { result ≡ preset_obstacle_lem file.now self.now }
+        ensures { result ≡ preset_obstacle file.now self.now }
     {
         self.works.preset_obstacle(file)
     }
 
     /// A file is there before the first move.
     pub fn preset(&mut self, file: File) -> Result<(), AllocError>
-        requires { preset_obstacle_lem file self.old ≡ None }
-        ensures preset { OnOk result (self.new ≡ preset_lem file self.old) }
+        requires { preset_obstacle file self.old ≡ None }
+        ensures preset { OnOk result (self.new ≡ preset file self.old) }
         ensures kept { OnErr result (self.new ≡ self.old) }
     {
         self.works.preset(file)
@@ -78,14 +78,14 @@ impl Machine {
 
     /// Why an input cannot join the queue, if it cannot.
     pub fn obstacle(&self, input: &Input) -> Option<Obstacle>
-        ensures { result ≡ obstacle_lem input.now self.now }
+        ensures { result ≡ obstacle input.now self.now }
     {
         self.works.obstacle(input)
     }
 
     /// Adds an input at the end of the queue.
     pub fn post(&mut self, input: Input) -> Result<(), AllocError>
-        requires { obstacle_lem input self.old ≡ None }
+        requires { obstacle input self.old ≡ None }
         ensures posted { OnOk result (self.new ≡ posted input self.old) }
         ensures kept { OnErr result (self.new ≡ self.old) }
     {
@@ -94,7 +94,7 @@ impl Machine {
 
     /// Which of these programs of the receiver the next step calls, if it calls one, and with what.
     pub fn call_next<P: Resident>(&self, programs: &[P]) -> Result<Option<Call>, AllocError>
-        ensures { IfOk result (λ call. call ≡ call_next_lem (map P.signature_of programs.now) self.now) }
+        ensures { IfOk result (λ call. call ≡ call_next (map P.signature_of programs.now) self.now) }
     {
         self.works.call_next(programs)
     }
@@ -110,55 +110,33 @@ impl Machine {
 
     /// One step: the first item of the work list, or the first that waits where there is no work. Where
     /// memory is refused, everything stays as it was.
-    pub fn step(&mut self) -> Result<Stepped, AllocError>
-        requires { self.old.taken + 1 < 2 ^ 64 }
-        ensures step { OnOk result (self.new ≡ step_lem self.old) }
-        ensures answer { IfOk result (λ a. a ≡ answer_of self.old) }
-        ensures kept { OnErr result (self.new ≡ self.old) }
-    {
-        let answer = self.works.step();
-        self.works.settle();
-        answer
-    }
-
-    /// The same where the first item is not stuck: nothing is asked of it.
-    pub fn step_free(&mut self) -> Result<Stepped, AllocError>
+    pub fn step<J: Judging>(&mut self) -> Result<Stepped, AllocError>
         requires room { self.old.taken + 1 < 2 ^ 64 }
-        requires free { front_fault self.old ≡ None }
-        ensures step { OnOk result (self.new ≡ step_lem self.old) }
+        requires allowed { J.allows (front_fault self.old) }
+        ensures step { OnOk result (self.new ≡ step self.old) }
         ensures answer { IfOk result (λ a. a ≡ answer_of self.old) }
         ensures kept { OnErr result (self.new ≡ self.old) }
     {
-        let answer = self.works.step_free();
+        let answer = self.works.step::<J>();
         self.works.settle();
         answer
     }
 
     /// Makes so many steps, or as many as there is something to do and as are counted. The picture is
     /// painted once, behind the last. Where memory is refused, some of the steps were made.
-    pub fn advance(&mut self, most: u32) -> Result<(), AllocError>
+    pub fn advance<J: Judging>(&mut self, most: u32) -> Result<(), AllocError>
+        requires { AreAllowed J.allows most self.old }
         ensures all { OnOk result (self.new ≡ advanced most self.old) }
         ensures some { OnErr result (IsPartly most self.old self.new) }
     {
-        let made = self.works.advance(most);
-        self.works.settle();
-        made
-    }
-
-    /// The same from a safe state, in which nothing is ever stuck.
-    pub fn advance_free(&mut self, most: u32) -> Result<(), AllocError>
-        requires { IsSafe self.old }
-        ensures all { OnOk result (self.new ≡ advanced most self.old) }
-        ensures some { OnErr result (IsPartly most self.old self.new) }
-    {
-        let made = self.works.advance_free(most);
+        let made = self.works.advance::<J>(most);
         self.works.settle();
         made
     }
 
     /// Whether nothing is left to do.
     pub fn is_settled(&self) -> bool
-        ensures { result ≡ is_settled_lem self.now }
+        ensures { result ≡ is_settled self.now }
     {
         self.works.is_settled()
     }

@@ -3,10 +3,10 @@ ghost use Rattle.std.specs.Prelude.{◌≡◌, [], Some};
 ghost use Rattle.mh_machine.specs.Plans.{plan_of};
 
 use mh_actions::ordering::Reorder;
-use mh_actions::{Piece, Work};
 use mh_base::{ObjRef, Octets, Seq, Value};
 use mh_group::Position;
 use mh_model::{Edit, Event, Fault, Interaction, Wait};
+use mh_work::{Batch, Work};
 use std::alloc::Global;
 
 /// What a variable is given.
@@ -63,7 +63,7 @@ pub enum Awaiting {
 #[derive(Drop)]
 pub enum Puts {
     /// In the place of the item.
-    InFront(Seq<Piece>),
+    InFront(Seq<Batch>),
     /// In the place of the whole work list.
     Instead(Work),
 }
@@ -92,20 +92,20 @@ pub struct Turn {
     pub places: Vec<(ObjRef, Position)>,
     pub stacking: Stacking,
     pub awaiting: Awaiting,
-    pub pieces: Vec<Piece>,
+    pub batches: Vec<Batch>,
 }
 
 impl Plan {
-    /// A plan that changes objects, and puts these pieces.
-    pub fn of(change: Change, stacking: Stacking, awaiting: Awaiting, pieces: Vec<Piece>) -> Plan
-        ensures { result ≡ plan_of change stacking awaiting pieces.items }
+    /// A plan that changes objects, and puts these batches.
+    pub fn of(change: Change, stacking: Stacking, awaiting: Awaiting, batches: Vec<Batch>) -> Plan
+        ensures { result ≡ plan_of change stacking awaiting batches.items }
     {
         Plan {
             change,
             stacking,
             awaiting,
             interacting: Interacting::Same,
-            puts: Puts::InFront(Seq::from_vec(pieces)),
+            puts: Puts::InFront(Seq::from_vec(batches)),
             waits: None,
             begins: false,
             fault: None,
@@ -131,17 +131,17 @@ impl Plan {
         Plan::of(change, Stacking::Same, Awaiting::Same, Vec::new(alloc))
     }
 
-    /// A plan that changes bodies and who interacts, and puts these pieces.
-    pub fn interacting(change: Change, interacting: Interacting, pieces: Vec<Piece>) -> Plan
+    /// A plan that changes bodies and who interacts, and puts these batches.
+    pub fn interacting(change: Change, interacting: Interacting, batches: Vec<Batch>) -> Plan
         ensures { result
-            ≡ record (plan_of change Stacking.Same Awaiting.Same pieces.items) { interacting = interacting } }
+            ≡ record (plan_of change Stacking.Same Awaiting.Same batches.items) { interacting = interacting } }
     {
         Plan {
             change,
             stacking: Stacking::Same,
             awaiting: Awaiting::Same,
             interacting,
-            puts: Puts::InFront(Seq::from_vec(pieces)),
+            puts: Puts::InFront(Seq::from_vec(batches)),
             waits: None,
             begins: false,
             fault: None,

@@ -1,6 +1,6 @@
 //! What joins the queue, and what is there before the first move.
 ghost use Rattle.std.specs.Prelude.{◌≡◌, None, OnOk, OnErr};
-ghost use Rattle.mh_model.specs.Step.{posted, obstacle as obstacle_lem, is_past_the_last as is_past_the_last_lem, is_in_range as is_in_range_lem, is_over_size as is_over_size_lem, is_over_number as is_over_number_lem, has_begun as has_begun_lem, preset as preset_lem, preset_obstacle as preset_obstacle_lem};
+ghost use Rattle.mh_model.specs.Step.{posted, obstacle, is_past_the_last, is_in_range, is_over_size, is_over_number, has_begun, preset, preset_obstacle};
 
 use crate::works::Works;
 use mh_carousel::is_large;
@@ -13,7 +13,7 @@ const LONGEST_TICK: u32 = 60_000;
 impl Works {
     /// Why an input cannot join the queue, if it cannot.
     pub fn obstacle(&self, input: &Input) -> Option<Obstacle>
-        ensures { result ≡ obstacle_lem input.now self.now.state }
+        ensures { result ≡ obstacle input.now self.now.state }
     {
         if self.ended {
             Some(Obstacle::Ended)
@@ -34,14 +34,14 @@ impl Works {
 
     /// Whether a tick would lead past the last moment, behind all that wait.
     fn is_past_the_last(&self, input: &Input) -> bool
-        ensures { result ≡ is_past_the_last_lem input.now self.now.state }
+        ensures { result ≡ is_past_the_last input.now self.now.state }
     {
         self.agenda.is_late(input)
     }
 
     /// Whether a file has a name for which there is no room, behind all that wait.
     fn is_over_number(&self, input: &Input) -> bool
-        ensures { result ≡ is_over_number_lem input.now self.now.state }
+        ensures { result ≡ is_over_number input.now self.now.state }
     {
         match input {
             Input::Arrive(file) => self.carousel.is_one_too_many(file, self.agenda.queue()),
@@ -51,7 +51,7 @@ impl Works {
 
     /// Why a file cannot be there before the first move, if it cannot.
     pub fn preset_obstacle(&self, file: &File) -> Option<Obstacle>
-        ensures { result ≡ preset_obstacle_lem file.now self.now.state }
+        ensures { result ≡ preset_obstacle file.now self.now.state }
     {
         if self.has_begun() {
             Some(Obstacle::Begun)
@@ -66,14 +66,14 @@ impl Works {
 
     /// Whether a step was taken, or an input posted.
     fn has_begun(&self) -> bool
-        ensures { result ≡ has_begun_lem self.now.state }
+        ensures { result ≡ has_begun self.now.state }
     {
         self.taken != 0 || !self.agenda.is_empty()
     }
 
     /// A file is there before the first move.
     pub fn preset(&mut self, file: File) -> Result<(), AllocError>
-        ensures preset { OnOk result (self.new.state ≡ preset_lem file self.old.state) }
+        ensures preset { OnOk result (self.new.state ≡ preset file self.old.state) }
         ensures kept { OnErr result (self.new.state ≡ self.old.state) }
         ensures marks { self.new.marks ≡ self.old.marks }
     {
@@ -82,7 +82,7 @@ impl Works {
 
     /// Adds an input at the end of the queue.
     pub fn post(&mut self, input: Input) -> Result<(), AllocError>
-        requires { obstacle_lem input self.old.state ≡ None }
+        requires { obstacle input self.old.state ≡ None }
         ensures posted { OnOk result (self.new.state ≡ posted input self.old.state) }
         ensures kept { OnErr result (self.new.state ≡ self.old.state) }
         ensures marks { self.new.marks ≡ self.old.marks }
@@ -93,7 +93,7 @@ impl Works {
 
 /// Whether a tick is as long as it may be.
 fn is_in_range(input: &Input) -> bool
-    ensures { result ≡ is_in_range_lem input.now }
+    ensures { result ≡ is_in_range input.now }
 {
     match input {
         Input::Tick(length) => 1 <= *length && *length <= LONGEST_TICK,
@@ -103,7 +103,7 @@ fn is_in_range(input: &Input) -> bool
 
 /// Whether a file is larger than it may be.
 fn is_over_size(input: &Input) -> bool
-    ensures { result ≡ is_over_size_lem input.now }
+    ensures { result ≡ is_over_size input.now }
 {
     match input {
         Input::Arrive(file) => is_large(file),

@@ -5,10 +5,10 @@ ghost use Rattle.mh_machine.specs.Plans.{room_for};
 
 use crate::plan::Puts;
 use crate::stage::Stage;
-use mh_actions::Work;
 use mh_carousel::Carousel;
 use mh_events::Agenda;
 use mh_model::Fault;
+use mh_work::Work;
 use std::alloc::AllocError;
 
 /// Makes room for all that a plan may put.
@@ -29,7 +29,7 @@ pub(crate) fn make_room(
     ensures faults { faults.new.items ≡ faults.old.items }
     ensures files { carousel.new.files ≡ carousel.old.files }
     ensures waits { carousel.new.waits ≡ carousel.old.waits }
-    ensures pieces { OnOk result (room_for puts.now ≤ work.new.room) }
+    ensures batches { OnOk result (room_for puts.now ≤ work.new.room) }
     ensures place { OnOk result (1 ≤ stage.new.room) }
     ensures event { OnOk result (1 ≤ agenda.new.room) }
     ensures wait { OnOk result (1 ≤ carousel.new.room) }
@@ -47,7 +47,7 @@ fn make_work_room(work: &mut Work, puts: &Puts) -> Result<(), AllocError>
     ensures room { OnOk result (room_for puts.now ≤ work.new.room) }
 {
     match puts {
-        Puts::InFront(pieces) => work.reserve(pieces.len()),
+        Puts::InFront(batches) => work.reserve(batches.len()),
         Puts::Instead(_) => Ok(()),
     }
 }

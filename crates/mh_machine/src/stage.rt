@@ -6,7 +6,7 @@ ghost use Rattle.std.specs.Str.{bytes_eq};
 ghost use Rattle.mh_display.specs.Surface.{IsClean, Spoils};
 ghost use Rattle.mh_model.specs.Bodies.{given};
 ghost use Rattle.mh_model.specs.Edits.{edited};
-ghost use Rattle.mh_model.specs.Picture.{picture as picture_lem};
+ghost use Rattle.mh_model.specs.Picture.{picture};
 ghost use Rattle.std.specs.Option.{option_map_or};
 ghost use Rattle.mh_group.specs.Table.{is_visible};
 ghost use Rattle.mh_model.specs.Rules.{all_placed, changed, text_brought};
@@ -226,7 +226,7 @@ impl Stage {
     /// The picture, where all of it is painted.
     pub fn picture(&self) -> &Picture
         requires { IsClean self.now.marks }
-        ensures { result.now ≡ picture_lem (all self.now.objects) self.now.stack }
+        ensures { result.now ≡ picture (all self.now.objects) self.now.stack }
     {
         let picture = self.screen.picture();
         let _ = picture.cells();

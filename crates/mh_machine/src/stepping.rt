@@ -3,50 +3,29 @@ ghost use Rattle.std.specs.Prelude.{◌≡◌, ◌+◌, ◌<◌, ◌^◌, None, 
 ghost use Rattle.mh_model.specs.Faults.{fault_known};
 ghost use Rattle.mh_model.specs.Known.{known_in};
 ghost use Rattle.mh_model.specs.State.{all};
-ghost use Rattle.mh_model.specs.Stuck.{stuck};
-ghost use Rattle.mh_model.specs.Headline.{front_fault};
+ghost use Rattle.mh_model.specs.Stuck.{stuck, front_fault};
 ghost use Rattle.mh_model.specs.Step.{done, faulted, did, step};
 ghost use Rattle.mh_machine.specs.Plans.{taken_from};
 ghost use Rattle.mh_machine.specs.Rest.{answer_of, judged, IsPassed};
 
 use crate::Stepped;
+use crate::judging::Judging;
 use crate::plan::Plan;
 use crate::works::Works;
-use mh_actions::Front;
 use mh_actions::judging::{why_member_stuck, why_stuck};
 use mh_group::ActionName;
 use mh_model::{Act, Event, Fault, Item};
 use mh_service::Service;
 use mh_store::Objects;
+use mh_work::Front;
 use std::alloc::AllocError;
 
 impl Works {
     /// One step: the first item of the work list, or the first that waits where there is no work. Where
     /// memory is refused, everything stays as it was.
-    pub fn step(&mut self) -> Result<Stepped, AllocError>
-        requires { self.old.state.taken + 1 < 2 ^ 64 }
-        ensures step { OnOk result (self.new.state ≡ step self.old.state) }
-        ensures answer { IfOk result (λ a. a ≡ answer_of self.old.state) }
-        ensures kept { OnErr result (self.new.state ≡ self.old.state) }
-    {
-        if self.ended {
-            return Ok(Stepped::Ended);
-        }
-        if self.is_unheard() {
-            self.pass();
-            return Ok(Stepped::Did);
-        }
-        match self.work.front()? {
-            Some(Front::Act(effect, place)) => self.work_on_act(&effect.as_slice()[place]),
-            Some(Front::Item(item)) => self.work_on(&item),
-            None => self.take_first(),
-        }
-    }
-
-    /// The same where the first item is not stuck: nothing is asked of it.
-    pub fn step_free(&mut self) -> Result<Stepped, AllocError>
+    pub fn step<J: Judging>(&mut self) -> Result<Stepped, AllocError>
         requires room { self.old.state.taken + 1 < 2 ^ 64 }
-        requires free { front_fault self.old.state ≡ None }
+        requires allowed { J.allows (front_fault self.old.state) }
         ensures step { OnOk result (self.new.state ≡ step self.old.state) }
         ensures answer { IfOk result (λ a. a ≡ answer_of self.old.state) }
         ensures kept { OnErr result (self.new.state ≡ self.old.state) }
@@ -59,8 +38,8 @@ impl Works {
             return Ok(Stepped::Did);
         }
         match self.work.front()? {
-            Some(Front::Act(effect, place)) => self.did_act(&effect.as_slice()[place]),
-            Some(Front::Item(item)) => self.did_item(&item),
+            Some(Front::Act(effect, place)) => self.work_on_act::<J>(&effect.as_slice()[place]),
+            Some(Front::Item(item)) => self.work_on::<J>(&item),
             None => self.take_first(),
         }
     }
@@ -87,27 +66,29 @@ impl Works {
     }
 
     /// Does the first item, which is this action, or removes it where it is stuck.
-    fn work_on_act(&mut self, act: &Act) -> Result<Stepped, AllocError>
-        requires { self.old.state.taken + 1 < 2 ^ 64 }
+    fn work_on_act<J: Judging>(&mut self, act: &Act) -> Result<Stepped, AllocError>
+        requires room { self.old.state.taken + 1 < 2 ^ 64 }
+        requires allowed { J.allows (stuck (Item.Act act.now) self.old.state) }
         ensures done { let i = Item.Act act.now in
             OnOk result (self.new.state ≡ did (stuck i self.old.state) i self.old.state) }
         ensures answer { IfOk result (λ a. a ≡ judged (stuck (Item.Act act.now) self.old.state)) }
         ensures kept { OnErr result (self.new.state ≡ self.old.state) }
     {
-        match why_act_stuck(&self.service, self.stage.objects(), act)? {
+        match J::act_fault(self, act)? {
             Some(fault) => self.fault(fault),
             None => self.did_act(act),
         }
     }
 
     /// Does the first item, or removes it where it is stuck.
-    fn work_on(&mut self, item: &Item) -> Result<Stepped, AllocError>
-        requires { self.old.state.taken + 1 < 2 ^ 64 }
+    fn work_on<J: Judging>(&mut self, item: &Item) -> Result<Stepped, AllocError>
+        requires room { self.old.state.taken + 1 < 2 ^ 64 }
+        requires allowed { J.allows (stuck item.now self.old.state) }
         ensures done { OnOk result (self.new.state ≡ did (stuck item.now self.old.state) item.now self.old.state) }
         ensures answer { IfOk result (λ a. a ≡ judged (stuck item.now self.old.state)) }
         ensures kept { OnErr result (self.new.state ≡ self.old.state) }
     {
-        match self.why_stuck(item)? {
+        match J::item_fault(self, item)? {
             Some(fault) => self.fault(fault),
             None => self.did_item(item),
         }
@@ -148,12 +129,19 @@ impl Works {
         Ok(Stepped::Did)
     }
 
-    /// Why the item cannot be done, if it cannot.
-    pub(crate) fn why_stuck(&self, item: &Item) -> Result<Option<Fault>, AllocError>
+    /// What is wrong with the action, if anything is.
+    pub(crate) fn act_fault(&self, act: &Act) -> Result<Option<Fault>, AllocError>
+        ensures { IfOk result (λ fault. fault ≡ stuck (Item.Act act.now) self.now.state) }
+    {
+        why_act_stuck(&self.service, self.stage.objects(), act)
+    }
+
+    /// What is wrong with the item, if anything is.
+    pub(crate) fn item_fault(&self, item: &Item) -> Result<Option<Fault>, AllocError>
         ensures { IfOk result (λ fault. fault ≡ stuck item.now self.now.state) }
     {
         match item {
-            Item::Act(act) => why_act_stuck(&self.service, self.stage.objects(), act),
+            Item::Act(act) => self.act_fault(act),
             Item::RunMember(at) => why_member_stuck(self.stage.objects(), ActionName::Run, at),
             Item::HaltMember(at) => why_member_stuck(self.stage.objects(), ActionName::Stop, at),
             _ => Ok(None),
@@ -194,7 +182,7 @@ impl Works {
 }
 
 /// What is wrong with the action, if anything is.
-pub(crate) fn why_act_stuck(
+fn why_act_stuck(
     service: &Service,
     objects: &Objects,
     act: &Act,

@@ -6,18 +6,18 @@ ghost use Rattle.mh_model.specs.Service.{parts};
 ghost use Rattle.mh_model.specs.State.{all};
 ghost use Rattle.mh_model.specs.Step as spec;
 ghost use Rattle.mh_machine.specs.Rest.{answer_by};
-ghost use Rattle.mh_actions.specs.Pieces.{written};
+ghost use Rattle.mh_work.specs.Batches.{written};
 ghost use Rattle.mh_machine.specs.Taking.{shifted};
 
 use crate::Stepped;
-use crate::inputs::{WaitingFor, content_events, engine_event, key_pieces, stream_events};
+use crate::inputs::{WaitingFor, content_events, engine_event, key_batches, stream_events};
 use crate::interacting::copied_interaction;
 use crate::stage::Stage;
 use crate::works::Works;
-use mh_actions::{Piece, Work};
 use mh_carousel::Carousel;
 use mh_events::Agenda;
 use mh_model::{Event, File, Input, Key, Waiting};
+use mh_work::{Batch, Work};
 use std::alloc::AllocError;
 
 impl Works {
@@ -63,8 +63,8 @@ impl Works {
             ≡ spec.taking (Waiting.Event event.now) (shifted self.old.state)) }
         ensures kept { OnErr result (self.new.state ≡ self.old.state) }
     {
-        let pieces = self.links.heard(self.alloc, event, self.stage.objects())?;
-        self.take_with(pieces)
+        let batches = self.links.heard(self.alloc, event, self.stage.objects())?;
+        self.take_with(batches)
     }
 
     /// A key goes to the object that interacts, or else to the scene.
@@ -87,13 +87,13 @@ impl Works {
             OnOk result (self.new.state ≡ record (shifted self.old.state) { work = items }) }
         ensures kept { OnErr result (self.new.state ≡ self.old.state) }
     {
-        let pieces = match &self.scene {
+        let batches = match &self.scene {
             None => Vec::new(self.alloc),
             Some(scene) => {
-                key_pieces(self.alloc, key, scene, &self.links, self.stage.objects())?
+                key_batches(self.alloc, key, scene, &self.links, self.stage.objects())?
             }
         };
-        self.take_with(pieces)
+        self.take_with(batches)
     }
 
     /// An event of the engine is one of the active application.
@@ -104,8 +104,8 @@ impl Works {
         ensures kept { OnErr result (self.new.state ≡ self.old.state) }
     {
         let event = engine_event(number, &self.application)?;
-        let pieces = self.links.heard(self.alloc, &event, self.stage.objects())?;
-        self.take_with(pieces)
+        let batches = self.links.heard(self.alloc, &event, self.stage.objects())?;
+        self.take_with(batches)
     }
 
     /// Time passes, and the events of the timers that are due wait.
@@ -162,14 +162,14 @@ impl Works {
         self.taken += 1;
     }
 
-    /// Puts these pieces in the place of the work list, for what waits first.
-    fn take_with(&mut self, pieces: Vec<Piece>) -> Result<(), AllocError>
+    /// Puts these batches in the place of the work list, for what waits first.
+    fn take_with(&mut self, batches: Vec<Batch>) -> Result<(), AllocError>
         requires { self.old.state.taken + 1 < 2 ^ 64 }
         ensures done { OnOk result (self.new.state
-            ≡ record (shifted self.old.state) { work = written pieces.items }) }
+            ≡ record (shifted self.old.state) { work = written batches.items }) }
         ensures kept { OnErr result (self.new.state ≡ self.old.state) }
     {
-        self.work = Work::of_pieces(self.alloc, pieces)?;
+        self.work = Work::of_batches(self.alloc, batches)?;
         self.agenda.take_first();
         self.taken += 1;
         Ok(())

@@ -2,27 +2,27 @@
 ghost use Rattle.std.specs.Prelude.{◌≡◌, ◌+◌, ◌<◌, ◌^◌, IfOk, OnOk, OnErr};
 ghost use Rattle.std.specs.Option.{option_copied};
 ghost use Rattle.mh_model.specs.Arguments as said;
-ghost use Rattle.mh_model.specs.Bodies.{text_of as text_of_lem};
-ghost use Rattle.mh_model.specs.Lifecycle.{places_of as places_of_lem, run_places as run_places_lem};
+ghost use Rattle.mh_model.specs.Bodies.{text_of};
+ghost use Rattle.mh_model.specs.Lifecycle.{places_of, run_places};
 ghost use Rattle.mh_model.specs.Rules.{interact_rule, widget_rule};
 ghost use Rattle.mh_model.specs.Saying.{interaction_items};
 ghost use Rattle.mh_model.specs.State.{all};
-ghost use Rattle.mh_actions.specs.Pieces.{written};
+ghost use Rattle.mh_work.specs.Batches.{written};
 ghost use Rattle.mh_machine.specs.Plans.{begins_as, change_with, committed, interacting_as, taken_from};
 
+use crate::answering::gifts_of;
 use crate::interacting::is_interacting;
 use crate::plan::{Awaiting, Change, Interacting, Plan, Stacking};
-use crate::planning::gifts_of;
 use crate::works::Works;
-use mh_actions::Piece;
 use mh_actions::arguments::{receivers, values};
-use mh_actions::groups::{plain_event, push};
-use mh_actions::lifecycle::push_items;
 use mh_base::{EventType, ObjRef, Octets, Seq, Value, both};
 use mh_group::{ActionName, Class, Position};
 use mh_model::{Act, Edit, Interaction, Item, Object};
 use mh_widgets::lists::list_started;
 use mh_widgets::{Done, worked};
+use mh_work::Batch;
+use mh_work::groups::{plain_event, push};
+use mh_work::lifecycle::push_items;
 use std::alloc::{AllocError, Global};
 use std::slice;
 
@@ -51,10 +51,10 @@ impl Works {
         };
         let values = values(self.alloc, objects, act.arguments.as_slice())?;
         let done = worked(self.alloc, act.name, values.as_slice(), at, object)?;
-        let made = both(at.clone(), pieces_of(self.alloc, done.items));
-        let ((at, pieces), (edit, placed)) = both(made, Ok((done.edit, done.placed)))?;
+        let made = both(at.clone(), batches_of(self.alloc, done.items));
+        let ((at, batches), (edit, placed)) = both(made, Ok((done.edit, done.placed)))?;
         let change = change_of(at, edit, placed);
-        Ok(Plan::of(change, Stacking::Same, Awaiting::Same, pieces))
+        Ok(Plan::of(change, Stacking::Same, Awaiting::Same, batches))
     }
 
     /// An action that sets or asks who interacts.
@@ -95,9 +95,9 @@ impl Works {
         let interacts = is_interacting(at, &self.interaction);
         let found = objects.get(at);
         let interacting = interacting_by(self.alloc, values.as_slice(), interacts, at, found);
-        let pieces = interaction_pieces(self.alloc, values.as_slice(), interacts, at);
-        let (interacting, pieces) = both(interacting, pieces)?;
-        Ok(Plan::interacting(Change::Nothing, interacting, pieces))
+        let batches = interaction_batches(self.alloc, values.as_slice(), interacts, at);
+        let (interacting, batches) = both(interacting, batches)?;
+        Ok(Plan::interacting(Change::Nothing, interacting, batches))
     }
 
     fn plan_interaction_asked(&self, act: &Act, at: &ObjRef) -> Result<Plan, AllocError>
@@ -113,13 +113,13 @@ impl Works {
     }
 }
 
-/// These items as pieces.
-fn pieces_of(alloc: Global, items: Vec<Item>) -> Result<Vec<Piece>, AllocError>
-    ensures { IfOk result (λ pieces. written pieces.items ≡ items.items) }
+/// These items as batches.
+fn batches_of(alloc: Global, items: Vec<Item>) -> Result<Vec<Batch>, AllocError>
+    ensures { IfOk result (λ batches. written batches.items ≡ items.items) }
 {
-    let mut pieces = Vec::new(alloc);
-    push_items(&mut pieces, items)?;
-    Ok(pieces)
+    let mut batches = Vec::new(alloc);
+    push_items(&mut batches, items)?;
+    Ok(batches)
 }
 
 /// What is changed of the object at this reference, if anything is, and what is placed with it.
@@ -143,7 +143,7 @@ pub fn run_places(
     at: &ObjRef,
     found: Option<&Object>,
 ) -> Result<Vec<(ObjRef, Position)>, AllocError>
-    ensures { IfOk result (λ placed. placed.items ≡ run_places_lem (option_copied found.entry)) }
+    ensures { IfOk result (λ placed. placed.items ≡ run_places (option_copied found.entry)) }
 {
     match found {
         Some(object) if !object.body.running => places_of(alloc, at, object),
@@ -156,7 +156,7 @@ fn places_of(
     at: &ObjRef,
     object: &Object,
 ) -> Result<Vec<(ObjRef, Position)>, AllocError>
-    ensures { IfOk result (λ placed. placed.items ≡ places_of_lem object.now.fixed.class object.now) }
+    ensures { IfOk result (λ placed. placed.items ≡ places_of object.now.fixed.class object.now) }
 {
     match object.fixed.get().class {
         Class::ListGroup => {
@@ -209,7 +209,7 @@ fn begun(
 
 /// The text of the object, which shares its octets.
 fn text_of(alloc: Global, object: &Object) -> Result<Octets, AllocError>
-    ensures { IfOk result (λ text. text ≡ text_of_lem object.now.body) }
+    ensures { IfOk result (λ text. text ≡ text_of object.now.body) }
 {
     match &object.body.text {
         Some(text) => Ok(text.clone()?),
@@ -218,23 +218,23 @@ fn text_of(alloc: Global, object: &Object) -> Result<Octets, AllocError>
 }
 
 /// That the interaction ends is told, where it does.
-fn interaction_pieces(
+fn interaction_batches(
     alloc: Global,
     values: &[Value],
     interacts: bool,
     at: &ObjRef,
-) -> Result<Vec<Piece>, AllocError>
-    ensures { IfOk result (λ pieces. written pieces.items
+) -> Result<Vec<Batch>, AllocError>
+    ensures { IfOk result (λ batches. written batches.items
         ≡ interaction_items values.now interacts at.now) }
 {
-    let mut pieces = Vec::new(alloc);
+    let mut batches = Vec::new(alloc);
     if let [Value::Bool(false)] = values
         && interacts
     {
         push(
-            &mut pieces,
-            Piece::One(plain_event(at, EventType::InteractionCompleted)?),
+            &mut batches,
+            Batch::One(plain_event(at, EventType::InteractionCompleted)?),
         )?;
     }
-    Ok(pieces)
+    Ok(batches)
 }

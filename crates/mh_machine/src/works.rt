@@ -6,21 +6,21 @@ ghost use Rattle.std.specs.Prelude.{◌≡◌, ◌∷◌, [], ◌+◌, ◌<◌, 
 ghost use Rattle.mh_display.specs.Surface.{IsClean};
 ghost use Rattle.mh_model.specs.Service.{group_parts, fresh, parts};
 ghost use Rattle.mh_model.specs.State.{begun, all};
-ghost use Rattle.mh_model.specs.Step.{is_idle as is_idle_lem, is_settled as is_settled_lem};
+ghost use Rattle.mh_model.specs.Step.{is_idle, is_settled};
 ghost use Rattle.mh_model.specs.Picture.{shown};
 ghost use Rattle.mh_model.specs.Planes.{blank};
-ghost use Rattle.mh_actions.specs.Links.{IsIndex};
+ghost use Rattle.mh_work.specs.Links.{IsIndex};
 
 use crate::Unstarted;
 use crate::stage::Stage;
-use mh_actions::groups::entrance;
-use mh_actions::{Links, Work};
 use mh_base::{GroupName, both};
 use mh_carousel::Carousel;
 use mh_events::Agenda;
 use mh_model::{Fault, Interaction, Item, Outcome, Picture};
 use mh_service::Service;
 use mh_store::Group;
+use mh_work::groups::entrance;
+use mh_work::{Links, Work};
 use std::alloc::{AllocError, Global};
 use std::marker::Model;
 
@@ -142,14 +142,14 @@ impl Works {
 
     /// Whether there is no work and nothing that waits.
     pub fn is_idle(&self) -> bool
-        ensures { result ≡ is_idle_lem self.now.state }
+        ensures { result ≡ is_idle self.now.state }
     {
         self.work.is_empty() && self.agenda.is_empty()
     }
 
     /// Whether nothing is left to do.
     pub fn is_settled(&self) -> bool
-        ensures { result ≡ is_settled_lem self.now.state }
+        ensures { result ≡ is_settled self.now.state }
     {
         self.ended || self.is_idle()
     }
@@ -214,6 +214,6 @@ fn prepare(alloc: Global, service: &Service) -> Result<Beginning, AllocError>
 fn first_work(alloc: Global, group: &GroupName) -> Result<Work, AllocError>
     ensures { IfOk result (λ work. work.items ≡ Item.Enter group.now ∷ []) }
 {
-    let pieces = entrance(alloc, group)?;
-    Work::of_pieces(alloc, pieces)
+    let batches = entrance(alloc, group)?;
+    Work::of_batches(alloc, batches)
 }

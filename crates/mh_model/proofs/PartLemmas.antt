@@ -8,11 +8,11 @@ use Rattle.mh_base.specs.declared.obj_ref.ObjRef.{ObjRef}
 use Rattle.mh_model.specs.declared.object.Body.{Body}
 use Rattle.mh_model.specs.declared.object.Fixed.{Fixed}
 use Rattle.mh_model.specs.declared.object.Object.{Object}
-use Rattle.mh_model.specs.Service.{part_at, object_at, parts, fresh}
+use Rattle.mh_model.specs.Service.{part_at, object_at, parts, fresh, is_there}
 use Rattle.mh_model.specs.State.{Objects, all}
-use Rattle.mh_model.specs.Rules.{is_at, on_body, changed_in, changed, with_text}
+use Rattle.mh_model.specs.Rules.{is_at, on_body, changed_in, changed, with_text, all_placed, placed_at}
 use Rattle.mh_model.specs.Bodies.{brought}
-use Rattle.mh_model.specs.Safe.{is_there}
+use Rattle.mh_group.specs.declared.written.Position.{Position}
 
 pub part_at-parts : (r : ObjRef) (os : List Object) → part_at r (parts os) ≡ option_map (λ o. o.fixed) (object_at r os)
 part_at-parts r [] = refl
@@ -62,3 +62,13 @@ with_text-parts is text (o ∷ os) =
       | true ↦ ap (λ (t : List Fixed). o.fixed ∷ t) (with_text-parts is text os)
       | false ↦ ap (λ (t : List Fixed). o.fixed ∷ t) (with_text-parts is text os)
     ]
+
+-- where objects are placed only bodies change
+
+pub placed-own : (ps : List (ObjRef × Position)) (os : Objects) → parts (all_placed ps os).application ≡ parts os.application
+placed-own [] os = refl
+placed-own (p ∷ ps) os = placed-own ps (changed (placed_at p.1) p.0 os) ∙ changed-own (placed_at p.1) p.0 os
+
+pub placed-others : (ps : List (ObjRef × Position)) (os : Objects) → parts (all_placed ps os).scene ≡ parts os.scene
+placed-others [] os = refl
+placed-others (p ∷ ps) os = placed-others ps (changed (placed_at p.1) p.0 os) ∙ changed-others (placed_at p.1) p.0 os

@@ -14,66 +14,11 @@ use Rattle.mh_group.specs.declared.class.Class.TheVariants as class
 use Rattle.mh_group.specs.Table.{is_link, is_group_class, is_application}
 use Rattle.mh_model.specs.declared.config.Config.{Config}
 use Rattle.mh_model.specs.declared.object.Fixed.{Fixed}
-use Rattle.mh_model.specs.Service.{Service, part_at, group_parts, is_in}
+use Rattle.mh_model.specs.Service.{Service, part_at, group_parts, is_in, is_there}
 use Rattle.mh_model.specs.Reference.{same_ref, group_ref}
-use Rattle.mh_model.specs.Configuration.{is_group_of, is_ingredient_of, is_group_list, is_service, scene_parts, present}
-use Rattle.mh_model.specs.Safe.{is_there}
-
--- Truth
-
-pub and_left : (a b : Bool) → (a && b) ≡ true → a ≡ true
-and_left true b e = refl
-and_left false b e = e
-
-pub and_right : (a b : Bool) → (a && b) ≡ true → b ≡ true
-and_right true b e = e
-and_right false b e = absurd cc
-
--- Lists
-
-pub all_left : {X : Type 0} (p : X → Bool) (xs ys : List X) → list_all p (xs ++ ys) ≡ true → list_all p xs ≡ true
-all_left p xs ys h = and_left (list_all p xs) (list_all p ys) (sym (list_all-append p xs ys) ∙ h)
-
-pub all_right : {X : Type 0} (p : X → Bool) (xs ys : List X) → list_all p (xs ++ ys) ≡ true → list_all p ys ≡ true
-all_right p xs ys h = and_right (list_all p xs) (list_all p ys) (sym (list_all-append p xs ys) ∙ h)
-
-pub all_joined : {X : Type 0} (p : X → Bool) (xs ys : List X) → list_all p xs ≡ true → list_all p ys ≡ true → list_all p (xs ++ ys) ≡ true
-all_joined p xs ys h k = list_all-append p xs ys ∙ both_true h k
-
-pub all_both : {X : Type 0} (p q : X → Bool) (xs : List X) → list_all p xs ≡ true → list_all q xs ≡ true → list_all (λ x. p x && q x) xs ≡ true
-all_both p q [] h k = refl
-all_both p q (x ∷ xs) h k =
-    both_true (both_true (and_left (p x) (list_all p xs) h) (and_left (q x) (list_all q xs) k)) (all_both p q xs (and_right (p x) (list_all p xs) h) (and_right (q x) (list_all q xs) k))
-
--- a test that follows from another
-pub all_follow : {X : Type 0} (p q : X → Bool) → ((x : X) → p x ≡ true → q x ≡ true) → (xs : List X) → list_all p xs ≡ true → list_all q xs ≡ true
-all_follow p q follows [] h = refl
-all_follow p q follows (x ∷ xs) h = both_true (follows x (and_left (p x) (list_all p xs) h)) (all_follow p q follows xs (and_right (p x) (list_all p xs) h))
-
-pub filter_all : {X : Type 0} (p : X → Bool) (xs : List X) → list_all p xs ≡ true → filter p xs ≡ xs
-filter_all p [] h = refl
-filter_all {X} p (x ∷ xs) h =
-    ap (λ (b : Bool). cond b (x ∷ filter p xs) (filter p xs)) (and_left (p x) (list_all p xs) h) ∙ ap (λ (t : List X). x ∷ t) (filter_all p xs (and_right (p x) (list_all p xs) h))
-
-pub filter_none : {X : Type 0} (p : X → Bool) (xs : List X) → list_all (λ x. not (p x)) xs ≡ true → filter p xs ≡ []
-filter_none p [] h = refl
-filter_none {X} p (x ∷ xs) h = by (p x) (and_left (not (p x)) (list_all (λ y. not (p y)) xs) h) (filter_none p xs (and_right (not (p x)) (list_all (λ y. not (p y)) xs) h))
-  where
-    by : (b : Bool) → not b ≡ true → filter p xs ≡ [] → cond b (x ∷ filter p xs) (filter p xs) ≡ []
-    by true e none = absurd cc
-    by false e none = none
-
-pub some_same : {X : Type 0} {x y : X} → Some x ≡ Some y → x ≡ y
-some_same {X} {x} {y} e = ap (λ (m : Option X). option_map_or (λ (z : X). z) m x) e
-
--- what is found passes the test, and whatever all members pass
-pub found : {X : Type 0} (p q : X → Bool) (xs : List X) (y : X) → list_all q xs ≡ true → find p xs ≡ Some y → (p y ≡ true) × (q y ≡ true)
-found p q [] y h e = absurd cc
-found {X} p q (x ∷ xs) y h e = by (p x) refl (and_left (q x) (list_all q xs) h) (λ rest. found p q xs y (and_right (q x) (list_all q xs) h) rest) e
-  where
-    by : (b : Bool) → p x ≡ b → q x ≡ true → (find p xs ≡ Some y → (p y ≡ true) × (q y ≡ true)) → cond b (Some x) (find p xs) ≡ Some y → (p y ≡ true) × (q y ≡ true)
-    by true is good below e = subst (λ (z : X). (p z ≡ true) × (q z ≡ true)) (some_same e) (is, good)
-    by false is good below e = below e
+use Rattle.mh_model.specs.Configuration.{is_group_of, is_ingredient_of, is_group_list, has_value, is_each, is_service, scene_parts, present}
+use Rattle.mh_model.specs.Effects.{sends_written}
+use Rattle.mh_model.proofs.ListLemmas.{all_follow, all_joined, and_left, and_right, found}
 
 -- References
 
@@ -107,6 +52,57 @@ group_is_there is_class v g h = by (part_at (group_ref g) (group_parts v g)) h
 
 -- The objects of a service
 
+-- what every service is, one by one
+pub record OfService (v : Service) : Type 0 where
+  pub lists : list_all (λ e. is_group_list e.0 e.1) v.groups ≡ true
+  pub start : is_group_of is_application v v.start ≡ true
+  pub values : is_each has_value v ≡ true
+  pub sends : is_each sends_written v ≡ true
+
+pub of_service : (v : Service) → is_service v ≡ true → OfService v
+unfolding is_service
+of_service v h =
+    let front = and_left _ (is_each sends_written v) h in
+    let known = and_left _ (is_each has_value v) front in
+    record {
+      lists = and_left _ (is_group_of is_application v v.start) known;
+      start = and_right _ (is_group_of is_application v v.start) known;
+      values = and_right _ (is_each has_value v) front;
+      sends = and_right _ (is_each sends_written v) h;
+    }
+
+-- what each part of each group passes, those of a group pass
+group_parts_each : (is : Fixed → Bool) (v : Service) (g : List ℕ) → is_each is v ≡ true → list_all is (group_parts v g) ≡ true
+group_parts_each is v g h = by (find (λ (e : List ℕ × List Fixed). bytes_eq e.0 g) v.groups) refl
+  where
+    by : (m : Option (List ℕ × List Fixed)) → find (λ (e : List ℕ × List Fixed). bytes_eq e.0 g) v.groups ≡ m → list_all is (unwrap_or (option_map (λ (e : List ℕ × List Fixed). e.1) m) []) ≡ true
+    by None e = refl
+    by (Some e) at = (found (λ (x : List ℕ × List Fixed). bytes_eq x.0 g) (λ (x : List ℕ × List Fixed). list_all is x.1) v.groups e h at).1
+
+-- and so do all that are present
+present_each : (is : Fixed → Bool) (v : Service) (c : Config) → is_each is v ≡ true → list_all is (present v c) ≡ true
+present_each is v c h = all_joined is (group_parts v c.app) (scene_parts v c.scene) (group_parts_each is v c.app h) (of_scene c.scene)
+  where
+    of_scene : (scene : Option (List ℕ)) → list_all is (scene_parts v scene) ≡ true
+    of_scene None = refl
+    of_scene (Some g) = group_parts_each is v g h
+
+-- each variable of a group, or of what is present, has its original value
+
+pub group_parts_valued : (v : Service) (g : List ℕ) → is_service v ≡ true → list_all has_value (group_parts v g) ≡ true
+group_parts_valued v g h = group_parts_each has_value v g (of_service v h).values
+
+pub present_valued : (v : Service) (c : Config) → is_service v ≡ true → list_all has_value (present v c) ≡ true
+present_valued v c h = present_each has_value v c (of_service v h).values
+
+-- and each event that is sent is written itself
+
+pub group_parts_sent : (v : Service) (g : List ℕ) → is_service v ≡ true → list_all sends_written (group_parts v g) ≡ true
+group_parts_sent v g h = group_parts_each sends_written v g (of_service v h).sends
+
+pub present_sent : (v : Service) (c : Config) → is_service v ≡ true → list_all sends_written (present v c) ≡ true
+present_sent v c h = present_each sends_written v c (of_service v h).sends
+
 -- an object has number 0 exactly where it is a group
 abbrev pub is_whole : Fixed → Bool
 is_whole o = if o.key.number == 0 then is_group_class o.class else not (is_group_class o.class)
@@ -139,12 +135,11 @@ group_list_right g (o ∷ ps) h =
     (all_follow (is_ingredient_of g) (is_right_in g) (ingredient_right g) ps rest)
 
 group_parts_right : (v : Service) (g : List ℕ) → is_service v ≡ true → list_all (is_right_in g) (group_parts v g) ≡ true
-unfolding is_service
 group_parts_right v g h =
     by (find (λ (e : List ℕ × List Fixed). bytes_eq e.0 g) v.groups) refl
   where
     lists : list_all (λ (e : List ℕ × List Fixed). is_group_list e.0 e.1) v.groups ≡ true
-    lists = and_left (list_all (λ (e : List ℕ × List Fixed). is_group_list e.0 e.1) v.groups) (is_group_of is_application v v.start) h
+    lists = (of_service v h).lists
 
     by : (m : Option (List ℕ × List Fixed)) → find (λ (e : List ℕ × List Fixed). bytes_eq e.0 g) v.groups ≡ m → list_all (is_right_in g) (unwrap_or (option_map (λ (e : List ℕ × List Fixed). e.1) m) []) ≡ true
     by None e = refl

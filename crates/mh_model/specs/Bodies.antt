@@ -18,7 +18,7 @@ use Rattle.mh_model.specs.declared.object.Fixed.{Fixed}
 use Rattle.mh_model.specs.declared.object.Object.{Object}
 use Rattle.mh_model.specs.declared.file.File.{File}
 use Rattle.mh_model.specs.Files.{by_content, comes_to, missing}
-use Rattle.mh_model.specs.Looks.{has_line, line_of, fill_of}
+use Rattle.mh_model.specs.Looks.{has_line, line_colour_of, fill_of}
 use Rattle.mh_model.specs.Property.{read_of, with_held, value_held, as_number, as_octets}
 use Rattle.mh_model.specs.Variables.{fits_int, fits_octets, converted}
 use Rattle.mh_model.specs.Limits.{most_drawings}
@@ -139,7 +139,7 @@ drawing_of f x y u v o = record {
   from = record { x = x; y = y };
   to = record { x = u; y = v };
   has_line = has_line o;
-  line = line_of o;
+  line = line_colour_of o;
   fill = fill_of o;
 }
 

@@ -1,22 +1,27 @@
 -- Configurations of a service: an application with one of the scenes or none, and what is present there.
 use Rattle.std.specs.Prelude.{ℕ, Bool, true, false, ◌&&◌, ◌==◌, not, List, [], ◌∷◌, ◌++◌, map, filter, Option, Some, None, nat_le, length}
 use Rattle.std.specs.List.{list_all, list_any, flat_map}
-use Rattle.std.specs.Option.{option_map_or}
+use Rattle.std.specs.Option.{option_map_or, is_some}
 use Rattle.std.specs.Str.{bytes_eq}
 use Rattle.mh_base.specs.declared.obj_ref.ObjRef.{ObjRef}
+use Rattle.mh_group.specs.declared.attribute.Attribute.TheVariants as attribute
 use Rattle.mh_group.specs.declared.class.Class.{Class}
 use Rattle.mh_group.specs.Table.{is_group_class, is_scene, is_application}
 use Rattle.mh_model.specs.declared.config.Config.{Config}
 use Rattle.mh_model.specs.declared.object.Fixed.{Fixed}
 use Rattle.mh_model.specs.Service.{Service, part_at, group_parts, is_in}
 use Rattle.mh_model.specs.Reference.{same_ref, group_ref}
+use Rattle.mh_model.specs.Property.{held, as_value}
+use Rattle.mh_model.specs.Variables.{variable_kind}
+use Rattle.mh_model.specs.Effects.{sends_written}
 
 -- the group of this name is of such a class: its object with number 0 is
 abbrev pub is_group_of : (Class → Bool) → Service → List ℕ → Bool
 is_group_of is_class s g = option_map_or (λ p. is_class p.class) (part_at (group_ref g) (group_parts s g)) false
 
 -- What every service is. The parts of a group begin with the group itself, and no other of them is a
--- group; and the start is an application.
+-- group; the start is an application; and each variable has its original value, and each event that is sent
+-- is written itself.
 
 abbrev pub is_ingredient_of : List ℕ → Fixed → Bool
 is_ingredient_of g p = is_in g p && not (p.key.number == 0) && not (is_group_class p.class)
@@ -25,8 +30,18 @@ abbrev pub is_group_list : List ℕ → List Fixed → Bool
 is_group_list g [] = false
 is_group_list g (p ∷ ps) = is_in g p && p.key.number == 0 && is_group_class p.class && list_all (is_ingredient_of g) ps
 
+-- a variable has its original value
+abbrev pub has_value : Fixed → Bool
+has_value p = option_map_or (λ k. is_some (as_value (held attribute.OrigValue p.properties))) (variable_kind p.class) true
+
+-- each part of each group passes the test
+abbrev pub is_each : (Fixed → Bool) → Service → Bool
+is_each is s = list_all (λ e. list_all is e.1) s.groups
+
 unfoldable pub is_service : Service → Bool
-is_service s = list_all (λ e. is_group_list e.0 e.1) s.groups && is_group_of is_application s s.start
+is_service s =
+    list_all (λ e. is_group_list e.0 e.1) s.groups && is_group_of is_application s s.start && is_each has_value s
+    && is_each sends_written s
 
 -- no two parts of a group have one key
 

@@ -1,6 +1,6 @@
 -- What is known where an action is judged: in a state all of it, beforehand less.
 use Rattle.std.specs.Prelude.{ℕ, if◌then◌else◌, List, Option, Some, None, option_and_then, ℤ}
-use Rattle.std.specs.Option.{option_map}
+use Rattle.std.specs.Option.{option_map, option_to_list}
 use Rattle.mh_base.specs.declared.obj_ref.ObjRef.{ObjRef}
 use Rattle.mh_base.specs.declared.value.Value.{Value}
 use Rattle.mh_base.specs.declared.value.Value.TheVariants as value
@@ -21,8 +21,8 @@ pub record Known : Type 0 where
   pub class_of : ObjRef → Option Class
   -- the class of a group of the service, present or not
   pub group_class : ObjRef → Option Class
-  -- the object to which a variable refers
-  pub refers : ObjRef → Option ObjRef
+  -- the objects to which a variable may refer, if that is known: in a state the one or none
+  pub refers : ObjRef → Option (List ObjRef)
   -- the number that a variable holds
   pub number : ObjRef → Option ℤ
   -- the parameters of a program
@@ -60,7 +60,7 @@ abbrev pub known_in : Service → List Object → Known
 known_in s os = record {
   class_of = λ r. class_at r (parts os);
   group_class = λ r. class_at r (group_parts s r.group);
-  refers = λ v. as_reference (held_by (object_at v os));
+  refers = λ v. Some (option_to_list (as_reference (held_by (object_at v os))));
   number = λ v. as_integer (held_by (object_at v os));
   takes = λ r. params_in s.programs (part_at r (parts os));
 }

@@ -25,6 +25,7 @@ pub mod Groups
 pub mod Bodies
 pub mod Widget
 pub mod Tokens
+pub mod Effects
 pub mod Lists
 pub mod EntryFields
 pub mod Worked
@@ -40,26 +41,12 @@ pub mod Lines
 pub mod Layout
 pub mod Drawn
 pub mod Picture
-pub mod Printing
-pub mod Frame
-pub mod Stretch
-pub mod Told
 -- Rules, steps and runs
 pub mod Rules
 pub mod Step
 pub mod Receiver
-pub mod Describing
 -- What is accepted, and the headline
 pub mod Configuration
-pub mod Active
-pub mod Acceptable
-pub mod Safe
-pub mod Headline
 pub mod Edits
+
 -- Examples
-pub mod ExampleFirst
-pub mod ExampleComputing
-pub mod ExampleShowing
-pub mod ExamplePassing
-pub mod ExampleHanding
-pub mod ExampleWidgets

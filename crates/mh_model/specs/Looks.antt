@@ -76,8 +76,8 @@ has_line o = int_lt (pos 0) (as_int (pos 1) (read attribute.OrigLineWidth o))
 abbrev pub colour_of : Attribute → Colour → Object → Option ℕ
 colour_of a default o = paint_of (as_colour default (read a o))
 
-abbrev pub line_of : Object → Option ℕ
-line_of o = colour_of attribute.OrigRefLineColour opaque_black o
+abbrev pub line_colour_of : Object → Option ℕ
+line_colour_of o = colour_of attribute.OrigRefLineColour opaque_black o
 
 abbrev pub fill_of : Object → Option ℕ
 fill_of o = colour_of attribute.OrigRefFillColour transparent_black o
@@ -104,7 +104,7 @@ abbrev pub lines_of : Object → List Line
 lines_of o = lines_of_text (shown_text o) o
 
 abbrev pub paint_by : Class → Object → ℕ → Paint
-paint_by class.Rectangle o c = rectangle_paint (area_of o) (has_line o) (line_of o) (fill_of o) c
+paint_by class.Rectangle o c = rectangle_paint (area_of o) (has_line o) (line_colour_of o) (fill_of o) c
 paint_by class.DynamicLineArt o c = art_paint (area_of o) (ground_of o) o.body.drawings c
 paint_by _ o c =
     text_paint (area_of o) (colour_of attribute.BackgroundColour transparent_black o)

@@ -1,7 +1,7 @@
 -- Services: groups by their names, each a list of what its file says of its objects, the group itself first.
-use Rattle.std.specs.Prelude.{ℕ, Bool, false, List, [], map, Option, None, unwrap_or}
+use Rattle.std.specs.Prelude.{ℕ, Bool, true, false, List, [], map, Option, None, unwrap_or}
 use Rattle.std.specs.List.{find}
-use Rattle.std.specs.Option.{option_map}
+use Rattle.std.specs.Option.{option_map, option_map_or}
 use Rattle.std.specs.Str.{bytes_eq}
 use Rattle.mh_base.specs.declared.obj_ref.ObjRef.{ObjRef}
 use Rattle.mh_model.specs.declared.object.Fixed.{Fixed}
@@ -20,6 +20,10 @@ pub record Service : Type 0 where
 -- the part to which a reference leads, if it is among these
 abbrev pub part_at : ObjRef → List Fixed → Option Fixed
 part_at r ps = find (λ p. same_ref r p.key) ps
+
+-- it leads to one of these
+abbrev pub is_there : ObjRef → List Fixed → Bool
+is_there r ps = option_map_or (λ p. true) (part_at r ps) false
 
 -- the object to which a reference leads, if it is among these
 abbrev pub object_at : ObjRef → List Object → Option Object

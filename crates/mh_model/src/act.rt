@@ -1,5 +1,6 @@
 //! Elementary actions as they are written, with their names resolved.
 ghost use Rattle.std.specs.Prelude.{◌≡◌};
+ghost use Rattle.std.specs.Option.{option_copied};
 ghost use Rattle.mh_model.specs.Faults as spec;
 
 use mh_base::{Kind, ObjRef, Shared, Value};
@@ -21,6 +22,16 @@ impl Target {
         match self {
             Target::Direct(at) => at,
             Target::Through(variable) => variable,
+        }
+    }
+
+    /// The variable through which it is written, if it is.
+    pub(crate) fn variable(&self) -> Option<&ObjRef>
+        ensures { option_copied result ≡ spec.target_variable self.now }
+    {
+        match self {
+            Target::Direct(_) => None,
+            Target::Through(variable) => Some(variable),
         }
     }
 }

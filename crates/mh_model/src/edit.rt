@@ -1,6 +1,6 @@
 //! What is changed of the body of an object.
 ghost use Rattle.std.specs.Prelude.{◌≡◌, Some, OnOk, OnErr};
-ghost use Rattle.mh_model.specs.Bodies.{brought, cleared, dropped, end_of as end_of_lem, given, prepared, replaced, started, token_started};
+ghost use Rattle.mh_model.specs.Bodies.{brought, cleared, dropped, end_of, given, prepared, replaced, started, token_started};
 ghost use Rattle.mh_model.specs.Edits.{edited};
 
 use crate::{Body, Drawing, Fixed, Held, Listing};
@@ -161,7 +161,7 @@ impl Body {
 
 /// How many octets the text has, if there is one.
 fn end_of(text: &Option<Octets>) -> usize
-    ensures { result ≡ end_of_lem text.now }
+    ensures { result ≡ end_of text.now }
 {
     match text {
         Some(text) => text.as_slice().len(),

@@ -1,8 +1,28 @@
-//! Faults: why an item cannot be done.
+//! Why an action cannot be done, or may not: reasons, and the faults that a machine notes.
+ghost use Rattle.std.specs.Prelude.{◌≡◌};
+ghost use Rattle.mh_model.specs.Faults as spec;
+
 use mh_base::ObjRef;
 use mh_group::ActionName;
 
-/// What is wrong with an item.
+/// Why a place of an action is wrong, for whoever judges it.
+#[derive(Clone, Copy, PartialEq, Eq)]
+pub enum Reason {
+    /// An object that is named is not there.
+    Absent,
+    /// The action has no rule for objects of the class.
+    WrongClass,
+    /// A value or a variable is of another kind.
+    WrongKind,
+    /// The program is not known, or the call does not fit it.
+    Misfit,
+    /// The id of a timer that is set is held by a variable: beforehand it is not known which one is meant.
+    TimerHeld,
+    /// It is not known to which object a variable refers.
+    Unknown,
+}
+
+/// What is wrong with an item that a machine cannot do.
 #[derive(Clone, Copy, PartialEq, Eq)]
 pub enum FaultKind {
     /// An object that it names is not there.
@@ -20,4 +40,29 @@ pub struct Fault {
     pub action: ActionName,
     /// The reference at the place that is wrong.
     pub at: ObjRef,
+}
+
+impl FaultKind {
+    /// What a machine notes for the reason. The last two are none to it: it knows what its variables hold.
+    pub(crate) fn of_reason(reason: Reason) -> Option<FaultKind>
+        ensures { result ≡ spec.fault_kind reason }
+    {
+        match reason {
+            Reason::Absent => Some(FaultKind::Absent),
+            Reason::WrongClass => Some(FaultKind::WrongClass),
+            Reason::WrongKind | Reason::Misfit => Some(FaultKind::WrongKind),
+            Reason::TimerHeld | Reason::Unknown => None,
+        }
+    }
+
+    /// How late faults of the kind are named.
+    pub(crate) fn rank(self) -> u8
+        ensures { result ≡ spec.fault_rank self }
+    {
+        match self {
+            FaultKind::Absent => 0,
+            FaultKind::WrongClass => 1,
+            FaultKind::WrongKind => 2,
+        }
+    }
 }

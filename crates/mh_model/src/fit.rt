@@ -2,8 +2,7 @@
 ghost use Rattle.std.specs.Prelude.{◌≡◌};
 ghost use Rattle.mh_model.specs.Faults as spec;
 
-use crate::Operator;
-use crate::kinds::{compares, converts, same_kind};
+use crate::kinds::{converts, is_operator, same_kind};
 use mh_base::Kind;
 use mh_group::ActionName;
 
@@ -76,21 +75,16 @@ impl Fit for GoesWith {
     }
 }
 
-/// The kinds whose values are compared by this operator; none, if it is no operator.
+/// The kinds whose values are compared by the operator with this number; none, if it is no operator's.
 #[derive(Clone, Copy)]
-pub(crate) struct ComparedBy(pub(crate) Option<Operator>);
+pub(crate) struct ComparedBy<'a>(pub(crate) &'a i32);
 
-impl Fit for ComparedBy {
-    ghost use Rattle.std.specs.Prelude.{false};
-    ghost use Rattle.std.specs.Option.{option_map_or};
-    ghost use Rattle.mh_model.specs.Variables.{compares};
+impl Fit for ComparedBy<'_> {
+    ghost use Rattle.mh_model.specs.Variables.{is_operator};
 
-    ghost fits = { λ it kind. option_map_or (compares kind) it.0 false };
+    ghost fits = { λ it kind. is_operator kind it.0.now };
 
     fn fits(&self, kind: Kind) -> bool {
-        match self.0 {
-            Some(operator) => compares(kind, operator),
-            None => false,
-        }
+        is_operator(kind, *self.0)
     }
 }

@@ -2,7 +2,7 @@
 ghost use Rattle.std.specs.Prelude.{◌≡◌, OnOk, OnErr, IfOk, ◌++◌, ◌∷◌, [], ◌<◌, vec_len, slice_set};
 ghost use Rattle.std.specs.Option.{option_copied};
 ghost use Rattle.std.specs.List.{position};
-ghost use Rattle.mh_model.specs.Property.{held, with_held, is_of, as_bool as as_bool_lem, as_int as as_int_lem, as_pair as as_pair_lem, as_colour as as_colour_lem, as_effect as as_effect_lem, as_event as as_event_lem, as_justification as as_justification_lem, justified as justified_lem, as_value as as_value_lem, as_members as as_members_lem, as_rows as as_rows_lem, as_positions as as_positions_lem};
+ghost use Rattle.mh_model.specs.Property.{held, with_held, is_of, as_bool, as_int, as_pair, as_colour, as_effect, as_event, as_justification, justified, as_value, as_members, as_rows, as_positions};
 
 use crate::{Act, Effect, Member};
 use mh_base::{Colour, EventType, Shared, Value};
@@ -30,7 +30,7 @@ pub enum Held {
 
 /// The truth value that is held, or this one.
 pub fn as_bool(held: Option<&Held>, default: bool) -> bool
-    ensures { result ≡ as_bool_lem default (option_copied held.entry) }
+    ensures { result ≡ as_bool default (option_copied held.entry) }
 {
     match held {
         Some(Held::Value(Value::Bool(truth))) => *truth,
@@ -40,7 +40,7 @@ pub fn as_bool(held: Option<&Held>, default: bool) -> bool
 
 /// The number that is held, or this one.
 pub fn as_int(held: Option<&Held>, default: i32) -> i32
-    ensures { result ≡ as_int_lem default (option_copied held.entry) }
+    ensures { result ≡ as_int default (option_copied held.entry) }
 {
     match held {
         Some(Held::Value(Value::Int(number))) => *number,
@@ -50,7 +50,7 @@ pub fn as_int(held: Option<&Held>, default: i32) -> i32
 
 /// The pair that is held, or two zeros.
 pub fn as_pair(held: Option<&Held>) -> (i32, i32)
-    ensures { result ≡ as_pair_lem (option_copied held.entry) }
+    ensures { result ≡ as_pair (option_copied held.entry) }
 {
     match held {
         Some(Held::Pair(first, second)) => (*first, *second),
@@ -60,7 +60,7 @@ pub fn as_pair(held: Option<&Held>) -> (i32, i32)
 
 /// The colour that is held, or this one.
 pub fn as_colour(held: Option<&Held>, default: Colour) -> Colour
-    ensures { result ≡ as_colour_lem default (option_copied held.entry) }
+    ensures { result ≡ as_colour default (option_copied held.entry) }
 {
     match held {
         Some(Held::Colour(colour)) => *colour,
@@ -70,7 +70,7 @@ pub fn as_colour(held: Option<&Held>, default: Colour) -> Colour
 
 /// The justification that is held, or the default one.
 pub fn as_justification(held: Option<&Held>) -> Justification
-    ensures { result ≡ as_justification_lem (option_copied held.entry) }
+    ensures { result ≡ as_justification (option_copied held.entry) }
 {
     match held {
         Some(Held::Value(Value::Int(number))) => justified(*number),
@@ -79,7 +79,7 @@ pub fn as_justification(held: Option<&Held>) -> Justification
 }
 
 fn justified(number: i32) -> Justification
-    ensures { result ≡ justified_lem number }
+    ensures { result ≡ justified number }
 {
     if number == 2 {
         return Justification::End;
@@ -93,7 +93,7 @@ fn justified(number: i32) -> Justification
 
 /// The type of events that is held, if one is.
 pub fn as_event(held: Option<&Held>) -> Option<EventType>
-    ensures { result ≡ as_event_lem (option_copied held.entry) }
+    ensures { result ≡ as_event (option_copied held.entry) }
 {
     match held {
         Some(Held::Event(event)) => Some(*event),
@@ -103,7 +103,7 @@ pub fn as_event(held: Option<&Held>) -> Option<EventType>
 
 /// The value that is held, if one is.
 pub fn as_value(held: Option<&Held>) -> Option<&Value>
-    ensures { option_copied result ≡ as_value_lem (option_copied held.entry) }
+    ensures { option_copied result ≡ as_value (option_copied held.entry) }
 {
     match held {
         Some(Held::Value(value)) => Some(value),
@@ -113,7 +113,7 @@ pub fn as_value(held: Option<&Held>) -> Option<&Value>
 
 /// The effect that is held, or an empty one.
 pub fn as_effect(held: Option<&Held>) -> &[Act]
-    ensures { result.now ≡ as_effect_lem (option_copied held.entry) }
+    ensures { result.now ≡ as_effect (option_copied held.entry) }
 {
     match held {
         Some(Held::Effect(effect)) => effect.as_slice(),
@@ -123,7 +123,7 @@ pub fn as_effect(held: Option<&Held>) -> &[Act]
 
 /// The members that are held, or none.
 pub fn as_members(held: Option<&Held>) -> &[Member]
-    ensures { result.now ≡ as_members_lem (option_copied held.entry) }
+    ensures { result.now ≡ as_members (option_copied held.entry) }
 {
     match held {
         Some(Held::Members(members)) => members.as_slice(),
@@ -133,7 +133,7 @@ pub fn as_members(held: Option<&Held>) -> &[Member]
 
 /// The rows of the movement table that is held, or none.
 pub fn as_rows(held: Option<&Held>) -> &[Shared<i32>]
-    ensures { result.now ≡ as_rows_lem (option_copied held.entry) }
+    ensures { result.now ≡ as_rows (option_copied held.entry) }
 {
     match held {
         Some(Held::Rows(rows)) => rows.as_slice(),
@@ -143,7 +143,7 @@ pub fn as_rows(held: Option<&Held>) -> &[Shared<i32>]
 
 /// The positions that are held, or none.
 pub fn as_positions(held: Option<&Held>) -> &[Position]
-    ensures { result.now ≡ as_positions_lem (option_copied held.entry) }
+    ensures { result.now ≡ as_positions (option_copied held.entry) }
 {
     match held {
         Some(Held::Positions(positions)) => positions.as_slice(),

@@ -1,6 +1,6 @@
 //! The keys of the remote control, and which of them a scene hears.
 ghost use Rattle.std.specs.Prelude.{◌≡◌};
-ghost use Rattle.mh_model.specs.Key.{key_number, is_digit, passes as passes_lem};
+ghost use Rattle.mh_model.specs.Key.{key_number, is_digit, passes};
 
 /// A key of the remote control (ETSI ES 202 184, the user input registers; the numbers are the
 /// profile's own).
@@ -61,7 +61,7 @@ impl Key {
 
     /// Whether a scene with this input event register hears the key.
     pub fn passes(self, register: i32) -> bool
-        ensures { result ≡ passes_lem register self }
+        ensures { result ≡ passes register self }
     {
         match register {
             3 => matches!(

@@ -1,8 +1,8 @@
 //! Objects of the machine: what their files say of them, and what has changed.
 ghost use Rattle.std.specs.Prelude.{◌≡◌, ◌==◌, ◌&&◌, IfOk, [], Some, None};
 ghost use Rattle.std.specs.Option.{option_copied};
-ghost use Rattle.mh_model.specs.Property.{read as read_lem, value_held};
-ghost use Rattle.mh_model.specs.Service.{fresh as fresh_lem};
+ghost use Rattle.mh_model.specs.Property.{read, value_held};
+ghost use Rattle.mh_model.specs.Service.{fresh};
 ghost use Rattle.mh_model.specs.ListItems.{listed_at_first};
 ghost use Rattle.mh_model.specs.Bodies.{text_of};
 
@@ -125,7 +125,7 @@ pub struct Object {
 impl Object {
     /// The object as it is when its group is entered: nothing changed, neither available nor running.
     pub fn fresh(alloc: Global, part: &FixedPart) -> Result<Object, AllocError>
-        ensures { IfOk result (λ object. object ≡ fresh_lem part.now) }
+        ensures { IfOk result (λ object. object ≡ fresh part.now) }
     {
         let list = list_at_first(alloc, part.get())?;
         Ok(Object {
@@ -169,7 +169,7 @@ impl Object {
 
     /// What is read under the attribute: what was changed, else what was written.
     pub fn read(&self, attribute: Attribute) -> Option<&Held>
-        ensures { option_copied result ≡ read_lem attribute self.now }
+        ensures { option_copied result ≡ read attribute self.now }
     {
         match self.body.changes.get(attribute) {
             Some(held) => Some(held),

@@ -1,10 +1,10 @@
 //! Look-up among the parts of groups, and what is read off one.
 ghost use Rattle.std.specs.Prelude.{◌≡◌, IfOk};
 ghost use Rattle.std.specs.Option.{option_copied};
-ghost use Rattle.mh_model.specs.Service.{part_at as part_at_lem};
-ghost use Rattle.mh_model.specs.Reference.{same_ref as same_ref_lem, group_ref as group_ref_lem};
-ghost use Rattle.mh_model.specs.Property.{held, as_effect as as_effect_lem};
-ghost use Rattle.mh_model.specs.Faults.{is_transition as is_transition_lem};
+ghost use Rattle.mh_model.specs.Service.{part_at};
+ghost use Rattle.mh_model.specs.Reference.{same_ref, group_ref};
+ghost use Rattle.mh_model.specs.Property.{held, as_effect};
+ghost use Rattle.mh_model.specs.Faults.{is_transition};
 
 use crate::held::as_effect;
 use crate::{Act, Fixed, FixedPart};
@@ -14,14 +14,14 @@ use std::alloc::AllocError;
 
 /// Whether the references lead to one object.
 pub fn same_ref(first: &ObjRef, second: &ObjRef) -> bool
-    ensures { result ≡ same_ref_lem first.now second.now }
+    ensures { result ≡ same_ref first.now second.now }
 {
-    first.group == second.group && first.number == second.number
+    first.number == second.number && first.group == second.group
 }
 
 /// The part to which the reference leads, if it is among these.
 pub fn part_at<'a>(parts: &'a [FixedPart], at: &ObjRef) -> Option<&'a Fixed>
-    ensures { option_copied result ≡ part_at_lem at.now parts.now }
+    ensures { option_copied result ≡ part_at at.now parts.now }
 {
     match find(parts, at) {
         Some(part) => Some(part.get()),
@@ -30,20 +30,20 @@ pub fn part_at<'a>(parts: &'a [FixedPart], at: &ObjRef) -> Option<&'a Fixed>
 }
 
 fn find<'a>(parts: &'a [FixedPart], at: &ObjRef) -> Option<&'a FixedPart>
-    ensures { option_copied result ≡ part_at_lem at.now parts.now }
+    ensures { option_copied result ≡ part_at at.now parts.now }
 {
     parts.iter().find(|part| is_at(at, *part))
 }
 
 fn is_at(at: &ObjRef, part: &FixedPart) -> bool
-    ensures { result ≡ same_ref_lem at.now part.now.key }
+    ensures { result ≡ same_ref at.now part.now.key }
 {
     same_ref(at, &part.get().key)
 }
 
 /// The reference to a group itself.
 pub fn group_ref(group: &GroupName) -> Result<ObjRef, AllocError>
-    ensures { IfOk result (λ r. r ≡ group_ref_lem group.now) }
+    ensures { IfOk result (λ r. r ≡ group_ref group.now) }
 {
     Ok(ObjRef {
         group: group.clone()?,
@@ -53,14 +53,14 @@ pub fn group_ref(group: &GroupName) -> Result<ObjRef, AllocError>
 
 /// The effect that is written under the attribute, or an empty one.
 pub fn effect_of(part: &Fixed, attribute: Attribute) -> &[Act]
-    ensures { result.now ≡ as_effect_lem (held attribute part.now.properties) }
+    ensures { result.now ≡ as_effect (held attribute part.now.properties) }
 {
     as_effect(part.properties.get(attribute))
 }
 
 /// Whether the action leads to a group, a scene or an application.
 pub fn is_transition(name: ActionName) -> bool
-    ensures { result ≡ is_transition_lem name }
+    ensures { result ≡ is_transition name }
 {
     matches!(name, ActionName::TransitionTo | ActionName::Launch)
 }

@@ -1,6 +1,6 @@
 //! What kind of thing an action does.
 ghost use Rattle.std.specs.Prelude.{◌≡◌};
-ghost use Rattle.mh_model.specs.Sort.{sort_of as sort_of_lem};
+ghost use Rattle.mh_model.specs.Sort.{sort_of};
 
 use mh_group::ActionName;
 
@@ -30,7 +30,7 @@ pub enum Sort {
 /// What kind of thing the action does.
 #[tactic(auto, unfolding(crate::specs::Sort::sort_of))]
 pub fn sort_of(name: ActionName) -> Sort
-    ensures { result ≡ sort_of_lem name }
+    ensures { result ≡ sort_of name }
 {
     match name {
         ActionName::SetInputRegister

@@ -1,98 +1,95 @@
 //! What is wrong at a place of an action, and which of several wrongs is named.
 //!
-//! Promise: what is absent goes before a wrong class, and that before a wrong kind; of each the
-//! first. Nothing is copied until the one that is named is known.
-ghost use Rattle.std.specs.Prelude.{◌≡◌, nat_lt, true, IfOk};
-ghost use Rattle.std.specs.Option.{option_map_or};
+//! Promise: whoever judges gives each reason a rank, or none, which passes it over; the first of the lowest
+//! rank is named. Nothing is copied until it is known which that is.
+ghost use Rattle.std.specs.Prelude.{◌≡◌};
+ghost use Rattle.std.specs.Option.{option_copied};
 ghost use Rattle.mh_model.specs.Faults as spec;
-ghost use Rattle.mh_model.specs.Faults.{least_fault};
 
-use crate::{Fault, FaultKind};
+use crate::Reason;
 use mh_base::ObjRef;
-use mh_group::ActionName;
-use std::alloc::AllocError;
 use std::marker::Model;
 
-/// Something that is wrong. It borrows the reference at its place. A contract sees the fault.
+/// Something that is wrong. It borrows the references at its place.
 #[derive(Drop)]
-pub(crate) struct Wrong<'a> {
-    what: FaultKind,
-    action: ActionName,
-    at: &'a ObjRef,
+pub struct Wrong<'a> {
+    pub reason: Reason,
+    /// The reference that is named.
+    pub at: &'a ObjRef,
+    /// The variable through which the place came to it.
+    pub through: Option<&'a ObjRef>,
 }
 
 impl<'a> Model for Wrong<'a> {
-    ghost use Rattle.mh_model.specs.declared.fault.Fault.{Fault};
+    ghost use Rattle.std.specs.Option.{option_copied};
+    ghost use Rattle.mh_model.specs.Faults.{Wrong};
 
-    ghost Value = { Fault };
+    ghost Value = { Wrong };
 
-    ghost view = { λ w. record { what = w.what; action = w.action; at = w.at.now } };
+    ghost view = { λ w. record { reason = w.reason; at = w.at.now; through = option_copied w.through } };
+}
+
+/// An order in which what is wrong is named.
+pub trait Rank {
+    ghost use Rattle.std.specs.Prelude.{ℕ, Option};
+    ghost use Rattle.mh_model.specs.declared.fault.Reason.{Reason as ReasonLem};
+
+    /// How late each reason is named; what has no rank is passed over.
+    ghost order: { ReasonLem → Option ℕ };
+
+    /// How late the reason is named.
+    fn rank(reason: Reason) -> Option<u8>
+        ensures { result ≡ order reason };
 }
 
 /// The one that is named of what was wrong so far, if anything was.
 pub(crate) type Best<'a> = Option<Wrong<'a>>;
 
-impl<'a> Wrong<'a> {
-    /// The fault, with a copy of its reference.
-    pub(crate) fn to_fault(&self) -> Result<Fault, AllocError>
-        ensures { IfOk result (λ fault. fault ≡ self.now) }
-    {
-        Ok(Fault {
-            what: self.what,
-            action: self.action,
-            at: self.at.clone()?,
-        })
-    }
-
-    /// How late it is named.
-    fn rank(&self) -> u8
-        ensures { result ≡ spec.rank self.now.what }
-    {
-        rank(self.what)
-    }
-}
-
-/// How late faults of the kind are named.
-fn rank(what: FaultKind) -> u8
-    ensures { result ≡ spec.rank what }
+/// Whether one of this rank is named where this is the best so far.
+fn is_named<R: Rank>(rank: Option<u8>, best: &Best<'_>) -> bool
+    ensures { result ≡ spec.is_named R.order best.now rank }
 {
-    match what {
-        FaultKind::Absent => 0,
-        FaultKind::WrongClass => 1,
-        FaultKind::WrongKind => 2,
-    }
-}
-
-/// Whether one of this kind is named where this is the best so far.
-fn is_named<'a>(what: FaultKind, best: &Best<'a>) -> bool
-    ensures { result ≡ option_map_or (λ b. nat_lt (spec.rank what) (spec.rank b.what)) best.now true }
-{
-    match best {
-        Some(best) => rank(what) < best.rank(),
+    let Some(rank) = rank else {
+        return false;
+    };
+    let Some(best) = best else {
+        return true;
+    };
+    match R::rank(best.reason) {
+        Some(best) => rank < best,
         None => true,
     }
 }
 
 /// The one that is named of the best so far and of this.
-pub(crate) fn found<'a>(best: &mut Best<'a>, what: FaultKind, action: ActionName, at: &'a ObjRef)
-    ensures { best.new ≡ least_fault best.old (spec.wrong what action at.now) }
+pub(crate) fn found<'a, R: Rank>(
+    best: &mut Best<'a>,
+    reason: Reason,
+    through: Option<&'a ObjRef>,
+    at: &'a ObjRef,
+)
+    ensures { best.new ≡ spec.least R.order best.old (spec.wrong reason (option_copied through.entry) at.now) }
 {
-    if is_named(what, best) {
-        *best = Some(Wrong { what, action, at });
+    if is_named::<R>(R::rank(reason), best) {
+        *best = Some(Wrong {
+            reason,
+            at,
+            through,
+        });
     }
 }
 
 /// The best so far stays where this holds, else the one is named that comes first of it and of this.
-pub(crate) fn unless<'a>(
+pub(crate) fn unless<'a, R: Rank>(
     best: &mut Best<'a>,
     holds: bool,
-    what: FaultKind,
-    action: ActionName,
+    reason: Reason,
+    through: Option<&'a ObjRef>,
     at: &'a ObjRef,
 )
-    ensures { best.new ≡ least_fault best.old (spec.unless holds what action at.now) }
+    ensures { best.new ≡ spec.least R.order best.old (spec.unless holds reason (option_copied through.entry) at.now) }
 {
     if !holds {
-        found(best, what, action, at);
+        found::<R>(best, reason, through, at);
     }
 }

@@ -11,8 +11,8 @@ use Rattle.mh_model.specs.declared.cell.Cell.{Cell}
 use Rattle.mh_model.specs.Planes.{Planes, IsWhole}
 use Rattle.mh_model.specs.Picture.{cell_of, black}
 use Rattle.mh_display.specs.Rows.{same_row, same_stretch}
-use Rattle.mh_model.specs.Frame.{row_cells, same_cell, differ, row_change, row_line}
-use Rattle.mh_model.proofs.FrameLemmas.{rows_more, row_cells_length, cell_of_row}
+use Rattle.mh_told.specs.Frame.{row_cells, same_cell, differ, row_change, row_line}
+use Rattle.mh_told.proofs.FrameLemmas.{rows_more, row_cells_length, cell_of_row}
 
 -- The numbers of a plane in a row.
 

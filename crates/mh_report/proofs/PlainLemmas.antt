@@ -2,12 +2,12 @@
 use Rattle.std.specs.Prelude.{◌≡◌, ℕ, List, [], map, Option, Some, None, Result, Ok, Err, IfOk, OnOk, refl}
 use Rattle.std.proofs.Common.{ap, sym, subst, ◌∙◌}
 use Rattle.std.proofs.lemmas.Result.{IfOk-weaker}
-use Rattle.mh_model.specs.Acceptable.{IsAcceptable}
+use Rattle.mh_laws.specs.Acceptable.{IsAcceptable}
 use Rattle.mh_model.specs.declared.program.Signature.{Signature}
 use Rattle.mh_model.specs.Service.{Service}
 use Rattle.mh_service.specs.Refusals.{File, Refusal as ServiceRefusal}
 use Rattle.mh_service.specs.Resolved.{resolved}
-use Rattle.mh_verify.specs.Equipment.{equipped}
+use Rattle.mh_flow.specs.Equipment.{equipped}
 use Rattle.mh_report.specs.declared.material.Material.{Material}
 use Rattle.mh_report.specs.declared.script.Command.{Command}
 use Rattle.mh_report.specs.declared.unplayable.Unplayable.{Unplayable}

@@ -8,7 +8,7 @@ use Rattle.mh_report.specs.declared.status.Status.{Status}
 use Rattle.std.specs.Io.KnownBytes.{Appends}
 use Rattle.mh_report.specs.Sink.{IsBeginning}
 use Rattle.mh_report.specs.Report.{Session, played, ended, script_lines, command_lines, status_of}
-use Rattle.mh_model.specs.Told.{total_line}
+use Rattle.mh_told.specs.Told.{total_line}
 use Rattle.std.proofs.KnownBytes.{Appends-nil, Appends-trans}
 use Rattle.mh_report.proofs.SinkLemmas.{later_beginning}
 

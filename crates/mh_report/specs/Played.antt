@@ -3,7 +3,7 @@
 -- on the service that the files make.
 use Rattle.std.specs.Prelude.{◌≡◌, ℕ, Bool, false, List, [], ◌∷◌, ◌++◌, Option, Result, Ok, Err, codes}
 use Rattle.std.specs.Fmt.{decimal}
-use Rattle.mh_model.specs.Acceptable.{IsAcceptable}
+use Rattle.mh_laws.specs.Acceptable.{IsAcceptable}
 use Rattle.mh_model.specs.Service.{Service}
 use Rattle.mh_verify.specs.declared.refusal.Refusal.{Refusal}
 use Rattle.mh_verify.specs.Order.{NamesFirst}

@@ -14,8 +14,8 @@ use Rattle.mh_report.specs.declared.script.Command.{Command}
 use Rattle.mh_report.specs.declared.script.Command.TheVariants as command
 use Rattle.mh_report.specs.declared.status.Status.{Status}
 use Rattle.mh_report.specs.declared.status.Status.TheVariants as status
-use Rattle.mh_model.specs.Frame.{frame_text}
-use Rattle.mh_model.specs.Told.{fault_line, refused_line, did_line, total_line}
+use Rattle.mh_told.specs.Frame.{frame_text}
+use Rattle.mh_told.specs.Told.{fault_line, refused_line, did_line, total_line}
 
 -- what is known between two commands: the machine's state, the frame that was shown last, and how
 -- many frames were shown

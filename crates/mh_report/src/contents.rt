@@ -4,7 +4,7 @@ ghost use Rattle.std.specs.List.{list_any};
 ghost use Rattle.std.specs.Str.{bytes_eq};
 ghost use Rattle.mh_model.specs.Service.{Service};
 ghost use Rattle.mh_service.specs.Contents.{AreFilesOf};
-ghost use Rattle.mh_report.specs.Reading.{contents, content_of as content_of_lem, content_in as content_in_lem, is_group_file as is_group_file_lem};
+ghost use Rattle.mh_report.specs.Reading.{contents, content_of, content_in, is_group_file};
 
 use crate::reading::is_group_file;
 use mh_base::{GroupName, Octets, Seq};
@@ -37,7 +37,7 @@ fn content_in(
     file: &(GroupName, Vec<u8>),
 ) -> Result<Option<File>, AllocError>
     ensures { (service : Service) → AreFilesOf service names.now →
-        IfOk result (λ content. content ≡ content_in_lem service file.now) }
+        IfOk result (λ content. content ≡ content_in service file.now) }
 {
     if !is_named(names, file) {
         return Ok(None);
@@ -47,7 +47,7 @@ fn content_in(
 
 /// Whether a file is no group, and has one of the names.
 fn is_named(names: &ContentNames, file: &(GroupName, Vec<u8>)) -> bool
-    ensures { result ≡ (not (is_group_file_lem file.now.1.items) && list_any (bytes_eq file.now.0) names.now) }
+    ensures { result ≡ (not (is_group_file file.now.1.items) && list_any (bytes_eq file.now.0) names.now) }
 {
     if is_group_file(file.1.as_slice()) {
         return false;
@@ -57,7 +57,7 @@ fn is_named(names: &ContentNames, file: &(GroupName, Vec<u8>)) -> bool
 
 /// A file as content.
 fn content_of(alloc: Global, file: &(GroupName, Vec<u8>)) -> Result<File, AllocError>
-    ensures { IfOk result (λ content. content ≡ content_of_lem file.now) }
+    ensures { IfOk result (λ content. content ≡ content_of file.now) }
 {
     Ok(File {
         name: file.0.clone()?,

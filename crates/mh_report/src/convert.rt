@@ -7,7 +7,7 @@ ghost use Rattle.std.specs.Io.KnownBytes.{Appends};
 ghost use Rattle.mh_report.specs.Sink.{IsBeginning};
 ghost use Rattle.mh_report.specs.Played.{HasWritten, HasBegun};
 ghost use Rattle.mh_report.specs.Reading.{Gives};
-ghost use Rattle.mh_report.specs.Converted.{converted as converted_lem, written_in as written_in_lem, in_octets as in_octets_lem, in_text as in_text_lem, Converts};
+ghost use Rattle.mh_report.specs.Converted.{converted, written_in, in_octets, in_text, Converts};
 
 use crate::play::complain;
 use crate::play_error::PlayError;
@@ -40,8 +40,8 @@ pub fn convert_bytes<S: Sink>(
     sink: &mut S,
 ) -> Result<Status, PlayError>
     requires { S.failures sink.old < 2 ^ 64 - 1 }
-    ensures written { IfOk result (HasWritten (Converts (converted_lem to name.now bytes.now)) (S.written sink.old) (S.written sink.new)) }
-    ensures begun { OnErr result (HasBegun (Converts (converted_lem to name.now bytes.now)) (S.written sink.old) (S.written sink.new)) }
+    ensures written { IfOk result (HasWritten (Converts (converted to name.now bytes.now)) (S.written sink.old) (S.written sink.new)) }
+    ensures begun { OnErr result (HasBegun (Converts (converted to name.now bytes.now)) (S.written sink.old) (S.written sink.new)) }
     ensures write { IsErrOf result PlayError.Write → S.failures sink.old < S.failures sink.new }
 {
     match converted(alloc, name, bytes, to) {
@@ -67,7 +67,7 @@ fn hand_out<S: Sink>(bytes: &[u8], sink: &mut S) -> Result<Status, PlayError>
 /// The group of the file, in the notation that is wanted.
 #[tactic(auto, unfolding(crate::specs::Converted::converted))]
 fn converted(alloc: Global, name: &[u8], bytes: &[u8], to: Notation) -> Result<Vec<u8>, Unplayable>
-    ensures { Gives (λ found. found.items) result (converted_lem to name.now bytes.now) }
+    ensures { Gives (λ found. found.items) result (converted to name.now bytes.now) }
 {
     let group = read_file(alloc, name, bytes)?;
     written_in(alloc, name, &group, to)
@@ -79,7 +79,7 @@ fn written_in(
     group: &Group,
     to: Notation,
 ) -> Result<Vec<u8>, Unplayable>
-    ensures { Gives (λ found. found.items) result (written_in_lem to name.now group.now) }
+    ensures { Gives (λ found. found.items) result (written_in to name.now group.now) }
 {
     match to {
         Notation::Binary => in_octets(alloc, name, group),
@@ -89,7 +89,7 @@ fn written_in(
 
 #[tactic(auto, using(crate::proofs::ConvertLemmas::spelled, crate::proofs::ConvertLemmas::unspelled), unfolding(crate::specs::Converted::in_octets))]
 fn in_octets(alloc: Global, name: &[u8], group: &Group) -> Result<Vec<u8>, Unplayable>
-    ensures { Gives (λ found. found.items) result (in_octets_lem name.now group.now) }
+    ensures { Gives (λ found. found.items) result (in_octets name.now group.now) }
 {
     match encode_group(alloc, group) {
         Ok(octets) => Ok(octets),
@@ -104,7 +104,7 @@ fn in_octets(alloc: Global, name: &[u8], group: &Group) -> Result<Vec<u8>, Unpla
 
 #[tactic(auto, unfolding(crate::specs::Converted::in_text))]
 fn in_text(alloc: Global, name: &[u8], group: &Group) -> Result<Vec<u8>, Unplayable>
-    ensures { Gives (λ found. found.items) result (in_text_lem name.now group.now) }
+    ensures { Gives (λ found. found.items) result (in_text name.now group.now) }
 {
     match print_group(alloc, group) {
         Ok(text) => Ok(text),

@@ -1,7 +1,7 @@
 //! Content files that are put there before the first move.
 ghost use Rattle.std.specs.Prelude.{◌≡◌, Ok, IfOk, IfErr, OnOk};
 ghost use Rattle.mh_report.specs.Reading.{Fails};
-ghost use Rattle.mh_report.specs.Presets.{presets, tried, unset as unset_lem};
+ghost use Rattle.mh_report.specs.Presets.{presets, tried, unset};
 
 use crate::unplayable::Unplayable;
 use mh_base::Octets;
@@ -33,7 +33,7 @@ fn preset(alloc: Global, engine: &mut Engine, file: &File) -> Result<(), Unplaya
 
 /// What is said of a file that is refused. Want of memory has no number.
 fn unset(alloc: Global, why: RefusedWhy, file: &File) -> Result<Unplayable, AllocError>
-    ensures { IfOk result (λ said. said ≡ unset_lem why file.now) }
+    ensures { IfOk result (λ said. said ≡ unset why file.now) }
 {
     match why.number() {
         Some(number) => Ok(Unplayable::File {

@@ -8,7 +8,7 @@ ghost use Rattle.mh_service.specs.Resolved.{resolved};
 ghost use Rattle.mh_service.specs.Numbers.{why_number};
 ghost use Rattle.mh_text.specs.Reading.{read};
 ghost use Rattle.mh_codec.specs.Reading.{read as read_octets_lem};
-ghost use Rattle.mh_report.specs.Reading.{readied, with_file, is_group_file as is_group_file_lem, group_in, spelled, read_files as read_files_lem, service_of as service_of_lem, service_read, commands_of, named, unless_refused, unstartable_for, unserviceable, Gives, Fails};
+ghost use Rattle.mh_report.specs.Reading.{readied, with_file, is_group_file, group_in, spelled, read_files, service_of, service_read, commands_of, named, unless_refused, unstartable_for, unserviceable, Gives, Fails};
 
 use crate::contents::read_contents;
 use crate::material::Material;
@@ -59,7 +59,7 @@ fn read_files(
     alloc: Global,
     files: &[(GroupName, Vec<u8>)],
 ) -> Result<Vec<(GroupName, Group)>, Unplayable>
-    ensures { Gives (λ groups. groups.items) result (read_files_lem [] files.now) }
+    ensures { Gives (λ groups. groups.items) result (read_files [] files.now) }
 {
     let mut groups = Vec::new(alloc);
     for file in files {
@@ -88,7 +88,7 @@ fn add_file(
 
 /// Whether the bytes begin as a group does, in either notation.
 pub fn is_group_file(bytes: &[u8]) -> bool
-    ensures { result ≡ is_group_file_lem bytes.now }
+    ensures { result ≡ is_group_file bytes.now }
 {
     mh_text::begins_group(bytes) || mh_codec::begins_group(bytes)
 }
@@ -141,7 +141,7 @@ fn service_of(
     groups: Vec<(GroupName, Group)>,
     start: &[u8],
 ) -> Result<Service, Unplayable>
-    ensures { Gives (λ service. service) result (service_of_lem start.now groups.items) }
+    ensures { Gives (λ service. service) result (service_of start.now groups.items) }
 {
     match GroupName::of_path(alloc, start) {
         Ok(name) => started_service(alloc, groups, name),

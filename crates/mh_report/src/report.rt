@@ -2,13 +2,13 @@
 //!
 //! Everything is put together as text here; writing it is left to `sink`.
 ghost use Rattle.std.specs.Prelude.{◌≡◌, ◌++◌, OnOk, IfOk};
-ghost use Rattle.mh_model.specs.Frame.{row_changes, frame_text};
+ghost use Rattle.mh_told.specs.Frame.{row_changes, frame_text};
 
 use mh_display::changed_rows;
 use mh_model::Picture;
 use mh_model::picture::ROWS;
-use mh_model::row::put_row;
-use mh_model::text::Text;
+use mh_told::row::put_row;
+use mh_told::text::Text;
 use std::alloc::{AllocError, Global};
 
 /// Puts the lines of all rows that differ behind the text.

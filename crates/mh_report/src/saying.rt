@@ -8,7 +8,7 @@ use crate::unplayable::Unplayable;
 use mh_base::{GroupName, ObjRef};
 use mh_group::ActionName;
 use mh_model::Config;
-use mh_model::text::Text;
+use mh_told::text::Text;
 use mh_verify::{Place, Refusal, RefusalKind};
 use std::alloc::{AllocError, Global};
 

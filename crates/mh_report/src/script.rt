@@ -5,7 +5,7 @@
 ghost use Rattle.std.specs.Prelude.{◌≡◌, ◌<◌, ◌==◌, ◌∷◌, true, false, drop, IfOk, IfErr, IfSome, OnOk, MatchOption, None, length};
 ghost use Rattle.std.specs.List.{position};
 ghost use Rattle.std.specs.Option.{option_copied};
-ghost use Rattle.mh_report.specs.Script.{begins, lines, line_of as line_of_lem, is_comment as is_comment_lem, plain_line as plain_line_lem, command_line as command_line_lem, input_line as input_line_lem, commands, first_wrong, key_named as key_named_lem, key_line as key_line_lem, step_line as step_line_lem, tick_line as tick_line_lem, stream_line as stream_line_lem, engine_line as engine_line_lem, file_line as file_line_lem, named_line as named_line_lem, content_line as content_line_lem, octets_of as octets_of_lem, integer_of as integer_of_lem, lines_behind, number_of as number_of_lem, IsWrongAt};
+ghost use Rattle.mh_report.specs.Script.{begins, lines, line_of, is_comment, plain_line, command_line, input_line, commands, first_wrong, key_named, key_line, step_line, tick_line, stream_line, engine_line, file_line, named_line, content_line, octets_of, integer_of, lines_behind, number_of, IsWrongAt};
 
 use crate::words::{integer_of, key_named, number_of, octets_of};
 use mh_base::{GroupName, NameError, Seq};
@@ -99,7 +99,7 @@ fn line_end(text: &[u8]) -> Option<usize>
 
 /// What a line says.
 pub fn line_of(alloc: Global, line: &[u8]) -> Result<Line, AllocError>
-    ensures { IfOk result (λ said. said ≡ line_of_lem line.now) }
+    ensures { IfOk result (λ said. said ≡ line_of line.now) }
 {
     match behind(line, b"file ") {
         Some(words) => file_line(alloc, words),
@@ -119,7 +119,7 @@ fn behind<'a>(line: &'a [u8], word: &[u8]) -> Option<&'a [u8]>
 /// What a line says that holds no octets.
 #[tactic(auto, unfolding(crate::specs::Script::plain_line))]
 fn plain_line(line: &[u8]) -> Line
-    ensures { result ≡ plain_line_lem line.now }
+    ensures { result ≡ plain_line line.now }
 {
     if is_comment(line) {
         Line::Skipped
@@ -130,7 +130,7 @@ fn plain_line(line: &[u8]) -> Line
 
 /// Whether a line is empty or a comment.
 fn is_comment(line: &[u8]) -> bool
-    ensures { result ≡ is_comment_lem line.now }
+    ensures { result ≡ is_comment line.now }
 {
     match line {
         [] => true,
@@ -139,7 +139,7 @@ fn is_comment(line: &[u8]) -> bool
 }
 
 fn command_line(line: &[u8]) -> Line
-    ensures { result ≡ command_line_lem line.now }
+    ensures { result ≡ command_line line.now }
 {
     if line == b"run".as_slice() {
         Line::Says(Command::Step(RUN_LIMIT))
@@ -156,7 +156,7 @@ fn command_line(line: &[u8]) -> Line
 
 /// An input that holds a number.
 fn input_line(line: &[u8]) -> Line
-    ensures { result ≡ input_line_lem line.now }
+    ensures { result ≡ input_line line.now }
 {
     if let Some(number) = behind(line, b"tick ") {
         tick_line(number)
@@ -170,7 +170,7 @@ fn input_line(line: &[u8]) -> Line
 }
 
 fn key_line(name: &[u8]) -> Line
-    ensures { result ≡ key_line_lem (key_named_lem name.now) }
+    ensures { result ≡ key_line (key_named name.now) }
 {
     match key_named(name) {
         Some(key) => Line::Says(Command::Post(Input::Key(key))),
@@ -179,7 +179,7 @@ fn key_line(name: &[u8]) -> Line
 }
 
 fn step_line(digits: &[u8]) -> Line
-    ensures { result ≡ step_line_lem (number_of_lem digits.now) }
+    ensures { result ≡ step_line (number_of digits.now) }
 {
     match number_of(digits) {
         Some(limit) => Line::Says(Command::Step(limit)),
@@ -188,7 +188,7 @@ fn step_line(digits: &[u8]) -> Line
 }
 
 fn tick_line(digits: &[u8]) -> Line
-    ensures { result ≡ tick_line_lem (number_of_lem digits.now) }
+    ensures { result ≡ tick_line (number_of digits.now) }
 {
     match number_of(digits) {
         Some(length) => Line::Says(Command::Post(Input::Tick(length))),
@@ -197,7 +197,7 @@ fn tick_line(digits: &[u8]) -> Line
 }
 
 fn stream_line(digits: &[u8]) -> Line
-    ensures { result ≡ stream_line_lem (integer_of_lem digits.now) }
+    ensures { result ≡ stream_line (integer_of digits.now) }
 {
     match integer_of(digits) {
         Some(tag) => Line::Says(Command::Post(Input::Stream(tag))),
@@ -206,7 +206,7 @@ fn stream_line(digits: &[u8]) -> Line
 }
 
 fn engine_line(digits: &[u8]) -> Line
-    ensures { result ≡ engine_line_lem (integer_of_lem digits.now) }
+    ensures { result ≡ engine_line (integer_of digits.now) }
 {
     match integer_of(digits) {
         Some(number) => Line::Says(Command::Post(Input::Engine(number))),
@@ -216,7 +216,7 @@ fn engine_line(digits: &[u8]) -> Line
 
 /// A content file by its name and its octets: the first space stands between them.
 fn file_line(alloc: Global, words: &[u8]) -> Result<Line, AllocError>
-    ensures { IfOk result (λ line. line ≡ file_line_lem words.now) }
+    ensures { IfOk result (λ line. line ≡ file_line words.now) }
 {
     match first_space(words) {
         Some(at) => named_line(alloc, &words[..at], &words[at + 1..]),
@@ -233,7 +233,7 @@ fn first_space(words: &[u8]) -> Option<usize>
 
 /// The file of this name, if it is a path.
 fn named_line(alloc: Global, name: &[u8], digits: &[u8]) -> Result<Line, AllocError>
-    ensures { IfOk result (λ line. line ≡ named_line_lem name.now digits.now) }
+    ensures { IfOk result (λ line. line ≡ named_line name.now digits.now) }
 {
     match GroupName::of_path(alloc, name) {
         Ok(name) => content_line(alloc, name, digits),
@@ -243,7 +243,7 @@ fn named_line(alloc: Global, name: &[u8], digits: &[u8]) -> Result<Line, AllocEr
 }
 
 fn content_line(alloc: Global, name: GroupName, digits: &[u8]) -> Result<Line, AllocError>
-    ensures { IfOk result (λ line. line ≡ content_line_lem name (octets_of_lem digits.now)) }
+    ensures { IfOk result (λ line. line ≡ content_line name (octets_of digits.now)) }
 {
     match octets_of(alloc, digits)? {
         Some(content) => Ok(Line::Says(Command::Post(Input::Arrive(File { name, content })))),

@@ -2,12 +2,12 @@
 ghost use Rattle.std.specs.Prelude.{◌≡◌, ◌++◌, Some, drop, OnOk, IfOk};
 ghost use Rattle.std.specs.List.{flat_map};
 ghost use Rattle.mh_report.specs.Report.{progress_since, number_line, why_line};
-ghost use Rattle.mh_model.specs.Told.{fault_line};
+ghost use Rattle.mh_told.specs.Told.{fault_line};
 
 use mh_engine::{Engine, RefusedWhy};
 use mh_model::Fault;
-use mh_model::text::Text;
-use mh_model::told::{put_did, put_fault, put_refused};
+use mh_told::text::Text;
+use mh_told::told::{put_did, put_fault, put_refused};
 use std::alloc::{AllocError, Global};
 
 /// The line on a refused post. There is none on want of memory.

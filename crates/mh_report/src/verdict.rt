@@ -1,6 +1,6 @@
 //! The verdict on a service.
 ghost use Rattle.std.specs.Prelude.{◌≡◌, [], IfOk, IfErr, OnOk};
-ghost use Rattle.mh_model.specs.Acceptable.{IsAcceptable};
+ghost use Rattle.mh_laws.specs.Acceptable.{IsAcceptable};
 ghost use Rattle.mh_verify.specs.Order.{IsTold};
 
 use mh_service::Service;

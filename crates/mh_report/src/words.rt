@@ -1,6 +1,6 @@
 //! Words: what the names, numbers and octets in a line of a script stand for.
 ghost use Rattle.std.specs.Prelude.{◌≡◌, IfOk};
-ghost use Rattle.mh_report.specs.Script.{key_name as key_name_lem, key_named as key_named_lem, integer_of as integer_of_lem, with_digit as with_digit_lem, number_of as number_of_lem, octets_of as octets_of_lem};
+ghost use Rattle.mh_report.specs.Script.{key_name, key_named, integer_of, with_digit, number_of, octets_of};
 
 use hex::FromHexError;
 use mh_base::Octets;
@@ -34,7 +34,7 @@ const KEYS: [Key; 21] = [
 
 /// The key that a script calls so, if there is one.
 pub fn key_named(name: &[u8]) -> Option<Key>
-    ensures { result ≡ key_named_lem name.now }
+    ensures { result ≡ key_named name.now }
 {
     KEYS.iter().copied().find(|key| key_name(*key) == name)
 }
@@ -42,7 +42,7 @@ pub fn key_named(name: &[u8]) -> Option<Key>
 /// What a script calls the key.
 #[tactic(auto, unfolding(crate::specs::Script::key_name))]
 pub fn key_name(key: Key) -> &'static [u8]
-    ensures { result.now ≡ key_name_lem key }
+    ensures { result.now ≡ key_name key }
 {
     match key {
         Key::Up => b"up",
@@ -71,7 +71,7 @@ pub fn key_name(key: Key) -> &'static [u8]
 
 /// The number that decimal digits write, if it fits.
 pub fn number_of(digits: &[u8]) -> Option<u32>
-    ensures { result ≡ number_of_lem digits.now }
+    ensures { result ≡ number_of digits.now }
 {
     if digits.is_empty() {
         return None;
@@ -88,7 +88,7 @@ pub fn number_of(digits: &[u8]) -> Option<u32>
 
 /// The integer that decimal digits write, if it fits.
 pub fn integer_of(digits: &[u8]) -> Option<i32>
-    ensures { result ≡ integer_of_lem digits.now }
+    ensures { result ≡ integer_of digits.now }
 {
     match number_of(digits) {
         Some(number) if number <= 2_147_483_647 => Some(number as i32),
@@ -98,7 +98,7 @@ pub fn integer_of(digits: &[u8]) -> Option<i32>
 
 /// The number with one digit more, if that fits.
 fn with_digit(number: u32, digit: u8) -> Option<u32>
-    ensures { result ≡ with_digit_lem number digit }
+    ensures { result ≡ with_digit number digit }
 {
     if !digit.is_ascii_digit() {
         return None;
@@ -113,7 +113,7 @@ fn with_digit(number: u32, digit: u8) -> Option<u32>
 
 /// The octets that pairs of hexadecimal digits write, at least one pair, if they do.
 pub fn octets_of(alloc: Global, digits: &[u8]) -> Result<Option<Octets>, AllocError>
-    ensures { IfOk result (λ octets. octets ≡ octets_of_lem digits.now) }
+    ensures { IfOk result (λ octets. octets ≡ octets_of digits.now) }
 {
     if digits.is_empty() {
         return Ok(None);

@@ -1,4 +1,5 @@
 pub mod Lookups
+pub mod PartLemmas
 pub mod ServiceLemmas
 pub mod Doubles
 pub mod OnceLemmas

@@ -1,5 +1,5 @@
--- What every service is: the parts of a group begin with the group itself, and no two of them have one key; and
--- the start is an application.
+-- What every service is: the parts of a group begin with the group itself, and no two of them have one key; the
+-- start is an application; and what is known of each part (PartLemmas).
 use Rattle.std.proofs.Common.{◌≡◌, ℕ, ◌==◌, nat_eq, Bool, true, false, cond, ◌&&◌, ◌||◌, not, List, [], ◌∷◌, ◌++◌, map, Option, Some, None, refl, ap, ◌∙◌, sym, subst}
 use Rattle.std.specs.List.{list_all, list_any, find}
 use Rattle.std.specs.Option.{option_map, option_map_or, option_or}
@@ -20,12 +20,14 @@ use Rattle.mh_model.specs.declared.program.Signature.{Signature}
 use Rattle.mh_model.specs.Service.{Service, part_at, is_in}
 use Rattle.mh_model.specs.Reference.{group_ref}
 use Rattle.mh_model.specs.Configuration.{is_service, is_group_list, is_ingredient_of, has_keys, is_keyed, are_apart}
-use Rattle.mh_model.proofs.ServiceLemmas.{and_left, and_right, found, group_parts_in}
+use Rattle.mh_model.proofs.ServiceLemmas.{group_parts_in}
+use Rattle.mh_model.proofs.ListLemmas.{and_left, and_right, found}
 use Rattle.mh_service.specs.Resolved.{parts_of, part_of, resolved, parts_under}
 use Rattle.mh_service.specs.Refusals.{File, double_name, missing_start, double_number, has_double, has_double_number, over_limit, has_application, start_unfit, for_reason, refusal_before}
 use Rattle.mh_service.specs.Limits.{whole_room}
 use Rattle.mh_service.specs.declared.service_error.Why.TheVariants as why
 use Rattle.mh_service.proofs.Lookups.{same_either_way}
+use Rattle.mh_service.proofs.PartLemmas.{groups_valued, groups_sent}
 
 -- Tests and options.
 
@@ -200,7 +202,8 @@ pub is_service_of : (start : List ℕ) (files : List File) (ps : List Signature)
 unfolding is_service
 is_service_of start files ps groups good =
     let none = unrefused_files start files good in
-    both_true (group_lists files groups) (start_is start [] files none.0 (fits (has_application start files) none.2))
+    let begun = start_is start [] files none.0 (fits (has_application start files) none.2) in
+    both_true (both_true (both_true (group_lists files groups) begun) (groups_valued files groups)) (groups_sent files groups)
   where
     fits : (b : Bool) → cond b None (Some start) ≡ None → b ≡ true
     fits true h = refl

@@ -6,7 +6,7 @@
 ghost use Rattle.std.specs.Prelude.{◌++◌, map, None, Some};
 ghost use Rattle.std.specs.List.{list_all, flat_map};
 ghost use Rattle.mh_service.specs.Gives.{Gives};
-ghost use Rattle.mh_service.specs.Resolved.{ref_of, leads, target_of, target_leads, generic_of, generic_leads, is_nameless, name_leads, object_value as object_value_lem, content_value as content_value_lem, typed_of, typed_leads, content_of, content_leads, data_of as data_of_lem, arguments_of, parameter_leads, act_of, act_leads};
+ghost use Rattle.mh_service.specs.Resolved.{ref_of, leads, target_of, target_leads, generic_of, generic_leads, is_nameless, name_leads, object_value, content_value, typed_of, typed_leads, content_of, content_leads, data_of, arguments_of, parameter_leads, act_of, act_leads};
 
 use crate::values::{content_of_file, content_value, data_of, object_value, reference};
 use mh_base::{GroupName, Kind, NameError, Octets, Seq, Shared, Value};
@@ -182,7 +182,7 @@ fn generic_object(
     kind: Option<Kind>,
 ) -> Result<Argument, NameError>
     ensures { Gives (λ x. x) result
-        (generic_of (object_value_lem from.now) kind from.now written.now)
+        (generic_of (object_value from.now) kind from.now written.now)
         (generic_leads (leads from.now) from.now written.now) }
 {
     match written {
@@ -198,7 +198,7 @@ fn generic_name(
     written: &Generic<WrittenName>,
 ) -> Result<Argument, NameError>
     ensures { Gives (λ x. x) result
-        (generic_of (content_value_lem from.now) (Some Kind.Content) from.now written.now)
+        (generic_of (content_value from.now) (Some Kind.Content) from.now written.now)
         (generic_leads (name_leads from.now) from.now written.now) }
 {
     match written {
@@ -228,7 +228,7 @@ fn generic_data(
     from: &GroupName,
     written: &Generic<EventData>,
 ) -> Result<Argument, NameError>
-    ensures { Gives (λ x. x) result (generic_of data_of_lem None from.now written.now)
+    ensures { Gives (λ x. x) result (generic_of data_of None from.now written.now)
         (generic_leads is_nameless from.now written.now) }
 {
     match written {

@@ -4,7 +4,7 @@
 //! of the groups. Which of them are reached is left to `mh_verify`.
 ghost use Rattle.std.specs.Prelude.{◌≡◌, ◌++◌, true, false, None, Some, IfOk, OnOk, map, length, nat_le};
 ghost use Rattle.mh_group.specs.Table.{is_scene, is_application};
-ghost use Rattle.mh_model.specs.Configuration.{configurations as configurations_lem, names as names_lem, is_single as is_single_lem, with_scenes, is_group_of, is_service, same_config};
+ghost use Rattle.mh_model.specs.Configuration.{configurations, names as names_lem, is_single, with_scenes, is_group_of, is_service, same_config};
 ghost use Rattle.mh_model.specs.Service.{part_at};
 ghost use Rattle.mh_model.specs.Reference.{group_ref, same_ref};
 ghost use Rattle.std.specs.List.{flat_map, IsDistinct};
@@ -39,7 +39,7 @@ impl Wanted {
 impl Service {
     /// The configurations: each application without a scene, and then with each scene.
     pub fn configurations(&self, alloc: Global) -> Result<Vec<Config>, AllocError>
-        ensures each { IfOk result (λ configs. configs.items ≡ configurations_lem self.now) }
+        ensures each { IfOk result (λ configs. configs.items ≡ configurations self.now) }
         ensures once { IfOk result (λ configs. IsDistinct same_config configs.items) }
         ensures service { OnOk result (is_service self.now ≡ true) }
     {
@@ -51,7 +51,7 @@ impl Service {
 
     /// Whether there is one application at most, and one scene.
     pub fn is_single(&self) -> bool
-        ensures { result ≡ is_single_lem self.now }
+        ensures { result ≡ is_single self.now }
     {
         self.has_one_at_most(Wanted::Applications) && self.has_one_at_most(Wanted::Scenes)
     }

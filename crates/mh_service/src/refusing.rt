@@ -5,8 +5,8 @@
 ghost use Rattle.std.specs.Prelude.{◌≡◌, ◌&&◌, not, true, false, None, Some, ◌∷◌, [], map, IfOk, OnOk, IfErr};
 ghost use Rattle.std.specs.List.{list_all};
 ghost use Rattle.std.specs.Option.{option_copied};
-ghost use Rattle.mh_group.specs.Table.{is_application as is_application_lem};
-ghost use Rattle.mh_service.specs.Refusals.{Refuses, for_reason, double_name as double_name_lem, missing_start as missing_start_lem, double_number as double_number_lem, has_double, start_unfit as start_unfit_lem, has_group as has_group_lem, has_application as has_application_lem, over_limit as over_limit_lem, refusal_before};
+ghost use Rattle.mh_group.specs.Table.{is_application};
+ghost use Rattle.mh_service.specs.Refusals.{Refuses, for_reason, double_name, missing_start, double_number, has_double, start_unfit, has_group, has_application, over_limit, refusal_before};
 ghost use Rattle.mh_service.specs.Limits.{whole_room};
 
 use crate::room::Room;
@@ -52,7 +52,7 @@ pub fn double_name(
     alloc: Global,
     files: &[(GroupName, Group)],
 ) -> Result<Option<&GroupName>, AllocError>
-    ensures { IfOk result (λ name. option_copied name ≡ double_name_lem [] files.now) }
+    ensures { IfOk result (λ name. option_copied name ≡ double_name [] files.now) }
 {
     let mut seen: IndexSet<GroupName> = IndexSet::new(alloc);
     for file in files {
@@ -65,7 +65,7 @@ pub fn double_name(
 }
 
 fn missing_start<'a>(start: &'a GroupName, files: &[(GroupName, Group)]) -> Option<&'a GroupName>
-    ensures { option_copied result ≡ missing_start_lem start.now files.now }
+    ensures { option_copied result ≡ missing_start start.now files.now }
 {
     if has_group(start, files) {
         None
@@ -75,7 +75,7 @@ fn missing_start<'a>(start: &'a GroupName, files: &[(GroupName, Group)]) -> Opti
 }
 
 fn has_group(name: &GroupName, files: &[(GroupName, Group)]) -> bool
-    ensures { result ≡ has_group_lem name.now files.now }
+    ensures { result ≡ has_group name.now files.now }
 {
     files.iter().any(|file| file.0 == *name)
 }
@@ -85,7 +85,7 @@ fn double_number(
     alloc: Global,
     files: &[(GroupName, Group)],
 ) -> Result<Option<&GroupName>, AllocError>
-    ensures { IfOk result (λ name. option_copied name ≡ double_number_lem files.now) }
+    ensures { IfOk result (λ name. option_copied name ≡ double_number files.now) }
 {
     for file in files {
         if has_double_number(alloc, group::items(file.1.written()))? {
@@ -110,7 +110,7 @@ fn has_double_number(alloc: Global, ingredients: &[Ingredient]) -> Result<bool, 
 
 /// The start, where no application has its name.
 fn start_unfit<'a>(start: &'a GroupName, files: &[(GroupName, Group)]) -> Option<&'a GroupName>
-    ensures { option_copied result ≡ start_unfit_lem start.now files.now }
+    ensures { option_copied result ≡ start_unfit start.now files.now }
 {
     if has_application(start, files) {
         None
@@ -120,20 +120,20 @@ fn start_unfit<'a>(start: &'a GroupName, files: &[(GroupName, Group)]) -> Option
 }
 
 fn has_application(name: &GroupName, files: &[(GroupName, Group)]) -> bool
-    ensures { result ≡ has_application_lem name.now files.now }
+    ensures { result ≡ has_application name.now files.now }
 {
     files.iter().any(|file| file.0 == *name && is_application(file.1.written().class))
 }
 
 fn is_application(class: Class) -> bool
-    ensures { result ≡ is_application_lem class }
+    ensures { result ≡ is_application class }
 {
     matches!(class, Class::Application)
 }
 
 /// The first group with which a limit is passed.
 fn over_limit(files: &[(GroupName, Group)]) -> Option<&GroupName>
-    ensures { option_copied result ≡ over_limit_lem whole_room files.now }
+    ensures { option_copied result ≡ over_limit whole_room files.now }
 {
     let mut room = Room::whole();
     for file in files {

@@ -4,7 +4,7 @@
 //! `refusing`.
 ghost use Rattle.std.specs.Prelude.{◌≡◌, ◌≤◌, ◌-◌, SomeIff, length};
 ghost use Rattle.std.specs.List.{sum_by};
-ghost use Rattle.mh_service.specs.Limits.{whole_room as whole_room_lem, room_after, group_actions, object_actions, ingredient_actions, member_actions, setting_actions};
+ghost use Rattle.mh_service.specs.Limits.{whole_room, room_after, group_actions, object_actions, ingredient_actions, member_actions, setting_actions};
 
 use mh_group::{Effect, Field, Ingredient, Member, Setting, Written, group};
 
@@ -31,7 +31,7 @@ pub struct Room {
 impl Room {
     /// The room of an empty service.
     pub fn whole() -> Room
-        ensures { result ≡ whole_room_lem }
+        ensures { result ≡ whole_room }
     {
         Room {
             groups: MOST_GROUPS,

@@ -3,7 +3,7 @@
 //! Promise: `BadName` is answered exactly where a written name leads to no path.
 ghost use Rattle.std.specs.Prelude.{◌≡◌};
 ghost use Rattle.mh_service.specs.Gives.{Gives};
-ghost use Rattle.mh_service.specs.Resolved.{ref_of, leads, name_leads, object_value as object_value_lem, content_value as content_value_lem, content_of, content_leads, data_of as data_of_lem};
+ghost use Rattle.mh_service.specs.Resolved.{ref_of, leads, name_leads, object_value, content_value, content_of, content_leads, data_of};
 
 use mh_base::{GroupName, NameError, ObjRef, Value};
 use mh_group::{Content, EventData, Ref, WrittenName};
@@ -26,7 +26,7 @@ pub(crate) fn reference(alloc: Global, from: &GroupName, written: &Ref) -> Resul
 }
 
 pub(crate) fn data_of(written: &EventData) -> Value
-    ensures { result ≡ data_of_lem written.now }
+    ensures { result ≡ data_of written.now }
 {
     match written {
         EventData::Bool(truth) => Value::Bool(*truth),
@@ -55,7 +55,7 @@ pub(crate) fn content_value(
     from: &GroupName,
     name: &WrittenName,
 ) -> Result<Value, NameError>
-    ensures { Gives (λ x. x) result (content_value_lem from.now name.now)
+    ensures { Gives (λ x. x) result (content_value from.now name.now)
         (name_leads from.now name.now) }
 {
     let file = GroupName::resolve(alloc, from, name.as_bytes())?;
@@ -67,7 +67,7 @@ pub(crate) fn object_value(
     from: &GroupName,
     written: &Ref,
 ) -> Result<Value, NameError>
-    ensures { Gives (λ x. x) result (object_value_lem from.now written.now)
+    ensures { Gives (λ x. x) result (object_value from.now written.now)
         (leads from.now written.now) }
 {
     let object = reference(alloc, from, written)?;

@@ -15,7 +15,7 @@ use Rattle.mh_model.specs.declared.object.Object.{Object}
 use Rattle.mh_model.specs.Configuration.{is_keyed, are_apart}
 use Rattle.mh_model.specs.Service.{is_in, fresh}
 use Rattle.mh_model.specs.Reference.{same_ref}
-use Rattle.mh_model.proofs.ServiceLemmas.{and_left, and_right, all_joined}
+use Rattle.mh_model.proofs.ListLemmas.{and_left, and_right, all_joined}
 use Rattle.mh_store.specs.Table.{IsKeyed, objects_of, is_new, entry_of}
 
 -- the parts can be put behind these entries, each under a number that is new

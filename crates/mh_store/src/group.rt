@@ -6,7 +6,7 @@ ghost use Rattle.std.specs.Option.{option_copied};
 ghost use Rattle.mh_model.specs.Bodies.{given};
 ghost use Rattle.mh_model.specs.Configuration.{are_apart};
 ghost use Rattle.mh_model.specs.Edits.{edited};
-ghost use Rattle.mh_model.specs.Service.{object_at, is_in, fresh as fresh_lem};
+ghost use Rattle.mh_model.specs.Service.{object_at, is_in, fresh};
 ghost use Rattle.mh_store.specs.Apart.{AreApart};
 ghost use Rattle.mh_store.specs.Bringing.{ready_from, all_put, keys_of, AreOwn};
 ghost use Rattle.mh_store.specs.Placing.{renewed_in};
@@ -14,8 +14,8 @@ ghost use Rattle.mh_store.specs.Table.{changed_at, entry_of, is_new, IsPlace};
 ghost use Rattle.mh_store.specs.Trying.{left_over, edited_in, given_in};
 
 use crate::Awaits;
-use crate::bringing::{add_ready, put_all, put_kept};
-use crate::kept::Kept;
+use crate::bringing::{add_ready, put_all, put_lined};
+use crate::lined::Lined;
 use crate::ready::Ready;
 use indexmap::IndexMap;
 use mh_base::{GroupName, ObjRef, Octets, Value};
@@ -30,7 +30,7 @@ pub struct Group {
     alloc: Global,
     name: GroupName,
     /// Each object stands under its own number.
-    table: IndexMap<u32, Kept>,
+    table: IndexMap<u32, Lined>,
 }
 
 impl Model for Group {
@@ -50,7 +50,7 @@ impl Group {
     pub fn fresh(alloc: Global, name: &GroupName, parts: &[FixedPart]) -> Result<Group, AllocError>
         requires apart { are_apart parts.now ≡ true }
         requires own { list_all (is_in name.now) parts.now ≡ true }
-        ensures { IfOk result (λ group. group ≡ map fresh_lem parts.now) }
+        ensures { IfOk result (λ group. group ≡ map fresh parts.now) }
     {
         let table = entered(alloc, name, parts)?;
         let name = name.clone()?;
@@ -58,7 +58,7 @@ impl Group {
     }
 
     /// The object to which the reference leads, with its lines, if it is here.
-    pub(crate) fn kept(&self, at: &ObjRef) -> Option<&Kept>
+    pub(crate) fn lined(&self, at: &ObjRef) -> Option<&Lined>
         ensures { option_copied result ≡ object_at at.now self.now }
     {
         if at.group != self.name {
@@ -71,14 +71,14 @@ impl Group {
     pub(crate) fn at(&self, place: usize) -> Option<&Object>
         ensures { option_copied result ≡ slice_get self.now place }
     {
-        match self.kept_at(place) {
+        match self.lined_at(place) {
             Some(kept) => Some(kept.object()),
             None => None,
         }
     }
 
     /// The object at this place, with its lines.
-    fn kept_at(&self, place: usize) -> Option<&Kept>
+    fn lined_at(&self, place: usize) -> Option<&Lined>
         ensures { option_copied result ≡ slice_get self.now place }
     {
         match self.table.get_index(place) {
@@ -130,7 +130,7 @@ impl Group {
     {
         let mut ready = Vec::new(self.alloc);
         for place in 0..self.len() {
-            let found = self.kept_at(place);
+            let found = self.lined_at(place);
             add_ready(self.alloc, &mut ready, place, found, awaiting, text)?;
         }
         Ok(ready)
@@ -145,7 +145,7 @@ impl Group {
     }
 
     /// Puts this where the object with its reference is. Where there is none it comes back.
-    pub(crate) fn renew(&mut self, kept: Kept) -> Option<Kept>
+    pub(crate) fn renew(&mut self, kept: Lined) -> Option<Lined>
         ensures done { self.new ≡ renewed_in kept self.old }
         ensures back { result ≡ left_over kept (object_at kept.fixed.key self.old) }
     {
@@ -169,7 +169,7 @@ impl Group {
 
 /// Where the object under this number stands, if the objects behind the group itself are numbered one by one
 /// from that of the first of them on, as a file mostly does. It is a guess: who asks looks whether it is right.
-fn likely_place(table: &IndexMap<u32, Kept>, at: u32) -> usize {
+fn likely_place(table: &IndexMap<u32, Lined>, at: u32) -> usize {
     match table.get_index(1) {
         Some((first, _)) if *first <= at => (at - *first) as usize + 1,
         _ => 0,
@@ -177,7 +177,7 @@ fn likely_place(table: &IndexMap<u32, Kept>, at: u32) -> usize {
 }
 
 /// The object under this number. Where it stands at its likely place nothing is hashed.
-fn find(table: &IndexMap<u32, Kept>, at: u32) -> Option<&Kept>
+fn find(table: &IndexMap<u32, Lined>, at: u32) -> Option<&Lined>
     ensures { option_copied result ≡ lookup (nat_eq at) table.now.entries }
 {
     match table.get_index(likely_place(table, at)) {
@@ -187,7 +187,7 @@ fn find(table: &IndexMap<u32, Kept>, at: u32) -> Option<&Kept>
 }
 
 /// Where the object under this number stands, looked for as above; behind all where there is none.
-fn place_of(table: &IndexMap<u32, Kept>, at: u32) -> usize
+fn place_of(table: &IndexMap<u32, Lined>, at: u32) -> usize
     ensures { IsPlace at table.now.entries result }
 {
     let behind = table.len();
@@ -202,7 +202,7 @@ fn place_of(table: &IndexMap<u32, Kept>, at: u32) -> usize
 #[inline(always)]
 fn edit_under(
     alloc: Global,
-    table: &mut IndexMap<u32, Kept>,
+    table: &mut IndexMap<u32, Lined>,
     at: u32,
     edit: Edit,
 ) -> Result<Option<Edit>, AllocError>
@@ -221,7 +221,7 @@ fn edit_under(
 }
 
 /// Gives the variable under this number a value. Where there is none the value comes back.
-fn give_under(table: &mut IndexMap<u32, Kept>, at: u32, value: Value) -> Option<Value>
+fn give_under(table: &mut IndexMap<u32, Lined>, at: u32, value: Value) -> Option<Value>
     ensures done { table.new.entries ≡ changed_at (λ _ b. given value b) at table.old.entries }
     ensures back { result ≡ left_over value (lookup (nat_eq at) table.old.entries) }
 {
@@ -236,14 +236,14 @@ fn give_under(table: &mut IndexMap<u32, Kept>, at: u32, value: Value) -> Option<
 }
 
 /// Puts this where the object under this number is. Where there is none it comes back.
-fn renew_under(table: &mut IndexMap<u32, Kept>, at: u32, kept: Kept) -> Option<Kept>
+fn renew_under(table: &mut IndexMap<u32, Lined>, at: u32, kept: Lined) -> Option<Lined>
     ensures done { table.new.entries ≡ set_value (nat_eq at) table.old.entries kept }
     ensures back { result ≡ left_over kept (lookup (nat_eq at) table.old.entries) }
 {
     let place = place_of(table, at);
     match table.get_index_mut(place) {
         Some(there) => {
-            put_kept(there, kept);
+            put_lined(there, kept);
             None
         }
         None => Some(kept),
@@ -255,7 +255,7 @@ fn entered(
     alloc: Global,
     name: &GroupName,
     parts: &[FixedPart],
-) -> Result<IndexMap<u32, Kept>, AllocError>
+) -> Result<IndexMap<u32, Lined>, AllocError>
     requires apart { are_apart parts.now ≡ true }
     requires own { list_all (is_in name.now) parts.now ≡ true }
     ensures { IfOk result (λ table. table.entries ≡ map entry_of parts.now) }
@@ -268,12 +268,12 @@ fn entered(
 }
 
 /// Puts the object of the part at the end.
-fn add(alloc: Global, table: &mut IndexMap<u32, Kept>, part: &FixedPart) -> Result<(), AllocError>
+fn add(alloc: Global, table: &mut IndexMap<u32, Lined>, part: &FixedPart) -> Result<(), AllocError>
     requires { is_new part.now.key.number table.old.entries ≡ true }
     ensures { OnOk result (table.new.entries ≡ table.old.entries ++ entry_of part.now ∷ []) }
 {
     let number = part.get().key.number;
-    let object = Kept::fresh(alloc, part)?;
+    let object = Lined::fresh(alloc, part)?;
     table.insert(number, object)?;
     Ok(())
 }

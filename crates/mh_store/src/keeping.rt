@@ -1,9 +1,9 @@
 //! When the lines of an object's text stay as they are, and what they are else.
 ghost use Rattle.std.specs.Prelude.{◌≡◌, true, IfOk};
-ghost use Rattle.mh_model.specs.Looks.{lines_of, shown_text as shown_text_lem};
-ghost use Rattle.mh_store.specs.Keeping.{has_no_text as has_no_text_lem, leaves_lines as leaves_lines_lem};
-ghost use Rattle.mh_store.specs.Keeping.{loads_no_text as loads_no_text_lem};
-ghost use Rattle.mh_store.specs.Keeping.{stays_without as stays_without_lem, AreLaidAlike};
+ghost use Rattle.mh_model.specs.Looks.{lines_of, shown_text};
+ghost use Rattle.mh_store.specs.Keeping.{has_no_text, leaves_lines};
+ghost use Rattle.mh_store.specs.Keeping.{loads_no_text};
+ghost use Rattle.mh_store.specs.Keeping.{stays_without, AreLaidAlike};
 
 use crate::layout::lay_out;
 use crate::looks::{area_of, is_push_button, justification, shown_text, wraps};
@@ -15,7 +15,7 @@ use std::alloc::{AllocError, Global};
 /// Whether the edit leaves the lines as they are, as far as can be seen before it. Most touch neither
 /// text nor box.
 pub fn leaves_lines(edit: &Edit, object: &Object) -> bool
-    ensures { result ≡ leaves_lines_lem edit.now object.now }
+    ensures { result ≡ leaves_lines edit.now object.now }
 {
     match edit {
         Edit::Type(_, _) => false,
@@ -29,21 +29,21 @@ pub fn leaves_lines(edit: &Edit, object: &Object) -> bool
 }
 
 fn has_no_text(object: &Object) -> bool
-    ensures { result ≡ has_no_text_lem object.now }
+    ensures { result ≡ has_no_text object.now }
 {
     !is_push_button(object.fixed.get().class) && object.body.text.is_none()
 }
 
 /// Whether no text is shown, and this is none.
 fn stays_without(text: &Option<Octets>, object: &Object) -> bool
-    ensures { result ≡ stays_without_lem text.now object.now }
+    ensures { result ≡ stays_without text.now object.now }
 {
     text.is_none() && has_no_text(object)
 }
 
 /// Whether no text is shown, and none comes with new content.
 fn loads_no_text(text: &Option<Octets>, object: &Object) -> bool
-    ensures { result ≡ loads_no_text_lem text.now object.now }
+    ensures { result ≡ loads_no_text text.now object.now }
 {
     has_no_text(object) && (!object.body.available || text.is_none())
 }
@@ -61,7 +61,7 @@ pub fn are_same_lines(before: &Object, after: &Object) -> bool
 }
 
 fn is_same_text(before: &Object, after: &Object) -> bool
-    ensures { result ≡ true → shown_text_lem before.now ≡ shown_text_lem after.now }
+    ensures { result ≡ true → shown_text before.now ≡ shown_text after.now }
 {
     match (shown_text(before), shown_text(after)) {
         (Some(old), Some(new)) => old == new,

@@ -1,6 +1,6 @@
 //! Lines of texts in their places.
 ghost use Rattle.std.specs.Prelude.{◌≡◌, ◌≤◌, IfOk, length};
-ghost use Rattle.mh_model.specs.Layout.{begin as begin_lem, placed as placed_lem};
+ghost use Rattle.mh_model.specs.Layout.{begin, placed};
 
 use mh_base::Seq;
 use mh_group::Justification;
@@ -10,7 +10,7 @@ use std::alloc::{AllocError, Global};
 /// The line of these scalars in its place.
 pub fn placed(alloc: Global, form: Form, scalars: &[u32]) -> Result<Line, AllocError>
     requires { length scalars.now ≤ form.width }
-    ensures { IfOk result (λ line. line ≡ placed_lem form scalars.now) }
+    ensures { IfOk result (λ line. line ≡ placed form scalars.now) }
 {
     let mut copy = Vec::new(alloc);
     copy.extend_from_slice(scalars)?;
@@ -23,7 +23,7 @@ pub fn placed(alloc: Global, form: Form, scalars: &[u32]) -> Result<Line, AllocE
 /// The column at which a line of this length begins.
 fn begin(justification: Justification, width: u32, length: u32) -> u32
     requires { length ≤ width }
-    ensures { result ≡ begin_lem justification width length }
+    ensures { result ≡ begin justification width length }
 {
     match justification {
         Justification::Start => 0,

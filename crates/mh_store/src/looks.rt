@@ -2,9 +2,9 @@
 ghost use Rattle.std.specs.Prelude.{◌≡◌, false};
 ghost use Rattle.std.specs.Option.{option_copied};
 ghost use Rattle.mh_group.specs.declared.attribute.Attribute.TheVariants as attribute;
-ghost use Rattle.mh_model.specs.Looks.{area_of as area_of_lem, has_line as has_line_lem, line_of as line_of_lem, fill_of as fill_of_lem, colour_of as colour_of_lem, label_of as label_of_lem, shown_text as shown_text_lem, paint_of as paint_of_lem};
-ghost use Rattle.mh_group.specs.Table.{is_push_button as is_push_button_lem};
-ghost use Rattle.mh_model.specs.Property.{read, as_bool as as_bool_lem, as_justification as as_justification_lem};
+ghost use Rattle.mh_model.specs.Looks.{area_of, has_line, line_colour_of, fill_of, colour_of, label_of, shown_text, paint_of};
+ghost use Rattle.mh_group.specs.Table.{is_push_button};
+ghost use Rattle.mh_model.specs.Property.{read, as_bool, as_justification};
 
 use mh_base::{Area, Colour, Value};
 use mh_group::{Attribute, Class, Justification};
@@ -13,7 +13,7 @@ use mh_model::{Held, Object};
 
 /// The box of a visible.
 pub fn area_of(object: &Object) -> Area
-    ensures { result ≡ area_of_lem object.now }
+    ensures { result ≡ area_of object.now }
 {
     let (width, height) = as_pair(object.read(Attribute::OrigBoxSize));
     let (x, y) = as_pair(object.read(Attribute::OrigPosition));
@@ -27,21 +27,21 @@ pub fn area_of(object: &Object) -> Area
 
 /// Whether lines of its text that are too long are broken (ISO/IEC 13522-5, TextWrapping).
 pub fn wraps(object: &Object) -> bool
-    ensures { result ≡ as_bool_lem false (read attribute.TextWrapping object.now) }
+    ensures { result ≡ as_bool false (read attribute.TextWrapping object.now) }
 {
     as_bool(object.read(Attribute::TextWrapping), false)
 }
 
 /// Where the lines of its text begin (ISO/IEC 13522-5, HJustification).
 pub fn justification(object: &Object) -> Justification
-    ensures { result ≡ as_justification_lem (read attribute.HJustification object.now) }
+    ensures { result ≡ as_justification (read attribute.HJustification object.now) }
 {
     as_justification(object.read(Attribute::HJustification))
 }
 
 /// What a push button is labelled with (ISO/IEC 13522-5, OrigLabel); of any other object nothing.
 pub fn label_of(object: &Object) -> &[u8]
-    ensures { result.now ≡ label_of_lem object.now.fixed object.now.body }
+    ensures { result.now ≡ label_of object.now.fixed object.now.body }
 {
     match object.read(Attribute::OrigLabel) {
         Some(Held::Value(Value::Octets(label))) => label.as_slice(),
@@ -51,7 +51,7 @@ pub fn label_of(object: &Object) -> &[u8]
 
 /// The text that the object shows: of a push button its label, of any other what was loaded.
 pub fn shown_text(object: &Object) -> Option<&[u8]>
-    ensures { option_copied result ≡ shown_text_lem object.now }
+    ensures { option_copied result ≡ shown_text object.now }
 {
     if is_push_button(object.fixed.get().class) {
         return Some(label_of(object));
@@ -63,7 +63,7 @@ pub fn shown_text(object: &Object) -> Option<&[u8]>
 }
 
 pub fn is_push_button(class: Class) -> bool
-    ensures { result ≡ is_push_button_lem class }
+    ensures { result ≡ is_push_button class }
 {
     matches!(class, Class::PushButton)
 }
@@ -91,35 +91,35 @@ pub const TRANSPARENT_BLACK: Colour = Colour {
 
 /// Whether its edge is drawn (ISO/IEC 13522-5, OrigLineWidth).
 pub fn has_line(object: &Object) -> bool
-    ensures { result ≡ has_line_lem object.now }
+    ensures { result ≡ has_line object.now }
 {
     0 < as_int(object.read(Attribute::OrigLineWidth), 1)
 }
 
 /// The colour of its edge (ISO/IEC 13522-5, OrigRefLineColour); none where it paints nothing.
-pub fn line_of(object: &Object) -> Option<u32>
-    ensures { result ≡ line_of_lem object.now }
+pub fn line_colour_of(object: &Object) -> Option<u32>
+    ensures { result ≡ line_colour_of object.now }
 {
     colour_of(object, Attribute::OrigRefLineColour, OPAQUE_BLACK)
 }
 
 /// The colour of its inside (ISO/IEC 13522-5, OrigRefFillColour); none where it paints nothing.
 pub fn fill_of(object: &Object) -> Option<u32>
-    ensures { result ≡ fill_of_lem object.now }
+    ensures { result ≡ fill_of object.now }
 {
     colour_of(object, Attribute::OrigRefFillColour, TRANSPARENT_BLACK)
 }
 
 /// The colour under the attribute; none where it paints nothing.
 pub fn colour_of(object: &Object, attribute: Attribute, default: Colour) -> Option<u32>
-    ensures { result ≡ colour_of_lem attribute default object.now }
+    ensures { result ≡ colour_of attribute default object.now }
 {
     paint_of(as_colour(object.read(attribute), default))
 }
 
 /// The colour as a number of 24 bits. Transparency 255 paints nothing, every other one paints opaquely.
 pub fn paint_of(colour: Colour) -> Option<u32>
-    ensures { result ≡ paint_of_lem colour }
+    ensures { result ≡ paint_of colour }
 {
     if colour.transparency == 255 {
         None

@@ -1,9 +1,9 @@
 //! `Ready`: an object that is about to be put at its place.
-use crate::Kept;
+use crate::Lined;
 
 /// An object with its lines, and the place in its group at which it is to be put.
 #[derive(Drop)]
 pub struct Ready {
     pub place: usize,
-    pub kept: Kept,
+    pub kept: Lined,
 }

@@ -1,6 +1,6 @@
 //! The scalars of a text.
 ghost use Rattle.std.specs.Prelude.{◌≡◌, ◌++◌, IfOk, OnOk, slice_index, drop};
-ghost use Rattle.mh_model.specs.Scalars.{kept, piece as piece_lem, escape_size as escape_size_lem, takes_no_cell as takes_no_cell_lem, scalars_of as scalars_of_lem};
+ghost use Rattle.mh_model.specs.Scalars.{kept, piece, escape_size, takes_no_cell, scalars_of};
 
 use bstr::decode_utf8;
 use std::alloc::{AllocError, Global};
@@ -16,7 +16,7 @@ pub const RETURN: u32 = 0x0D;
 
 /// The scalars of a text, read as UTF-8, with what takes no cell taken out.
 pub fn scalars_of(alloc: Global, text: &[u8]) -> Result<Vec<u32>, AllocError>
-    ensures { IfOk result (λ scalars. scalars.items ≡ scalars_of_lem text.now) }
+    ensures { IfOk result (λ scalars. scalars.items ≡ scalars_of text.now) }
 {
     let mut scalars = Vec::new(alloc);
     let mut rest = text;
@@ -31,7 +31,7 @@ pub fn scalars_of(alloc: Global, text: &[u8]) -> Result<Vec<u32>, AllocError>
 /// What stands at the front of these bytes: the scalar, if there is one, and how many bytes it takes.
 #[tactic(auto, unfolding(mh_model::specs::Scalars::piece))]
 fn piece(bytes: &[u8]) -> (Option<u32>, usize)
-    ensures { result ≡ piece_lem bytes.now }
+    ensures { result ≡ piece bytes.now }
 {
     if bytes.is_empty() {
         return (None, 0);
@@ -47,7 +47,7 @@ fn piece(bytes: &[u8]) -> (Option<u32>, usize)
 
 /// How many bytes the escape sequence at the front takes.
 fn escape_size(bytes: &[u8]) -> usize
-    ensures { result ≡ escape_size_lem bytes.now }
+    ensures { result ≡ escape_size bytes.now }
 {
     match byte_at(bytes, 1) {
         0x40..=0x5E => 3 + usize::from(byte_at(bytes, 2)),
@@ -82,7 +82,7 @@ fn behind(bytes: &[u8], size: usize) -> &[u8]
 }
 
 fn takes_no_cell(scalar: u32) -> bool
-    ensures { result ≡ takes_no_cell_lem scalar }
+    ensures { result ≡ takes_no_cell scalar }
 {
     scalar != RETURN && (scalar < 0x20 || (0x7F..=0x9F).contains(&scalar))
 }

@@ -1,7 +1,7 @@
 //! The lines of a text.
 ghost use Rattle.std.specs.Prelude.{◌≡◌, ◌<◌, ◌≤◌, ◌+◌, ◌^◌, ◌==◌, [], IfOk, IfSome, OnOk, length};
 ghost use Rattle.std.specs.List.{position};
-ghost use Rattle.mh_model.specs.Lines.{last_space as last_space_lem, cut_at as cut_at_lem, next_at as next_at_lem};
+ghost use Rattle.mh_model.specs.Lines.{last_space, cut_at, next_at};
 ghost use Rattle.mh_model.specs.Layout.{Puts, divided, wrapped, text_lines};
 
 use crate::line::placed;
@@ -97,7 +97,7 @@ fn add_wrapped(
 /// Where the line at the front ends.
 fn cut_at(width: usize, space: usize) -> usize
     requires { space ≤ width }
-    ensures place { result ≡ cut_at_lem width space }
+    ensures place { result ≡ cut_at width space }
     ensures inside { result ≤ width }
 {
     if space == 0 { width } else { space }
@@ -107,7 +107,7 @@ fn cut_at(width: usize, space: usize) -> usize
 fn next_at(width: usize, space: usize) -> usize
     requires inside { space ≤ width }
     requires room { width < 2 ^ 63 }
-    ensures place { result ≡ next_at_lem width space }
+    ensures place { result ≡ next_at width space }
     ensures near { result ≤ width + 1 }
 {
     if space == 0 { width } else { space + 1 }
@@ -118,8 +118,8 @@ fn next_at(width: usize, space: usize) -> usize
 fn last_space(rest: &[u32], seen: usize, width: usize) -> usize
     requires within { width < length rest.now }
     requires near { seen ≤ width }
-    requires known { last_space_lem seen rest.now ≡ 0 }
-    ensures place { result ≡ last_space_lem width rest.now }
+    requires known { last_space seen rest.now ≡ 0 }
+    ensures place { result ≡ last_space width rest.now }
     ensures inside { result ≤ width }
 {
     let mut space = 0;

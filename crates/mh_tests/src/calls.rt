@@ -5,9 +5,9 @@ use crate::playing::DAY;
 use crate::refusing::{file, is_told, service, told};
 use mh_base::Value;
 use mh_engine::{Engine, Receiver, Unequipped, run};
-use mh_model::text::Text;
 use mh_model::{Builtin, Input, Key, Move, Now};
 use mh_resident::{BuiltinProgram, Resident};
+use mh_told::text::Text;
 use std::alloc::Global;
 
 /// Puts more steps than there are to make.

@@ -2,7 +2,7 @@
 use crate::{guide, page, vote};
 use bstr::ByteSlice;
 use mh_look::{Part, put_report, read_report};
-use mh_model::text::Text;
+use mh_told::text::Text;
 
 /// What is printed of the example `clock`.
 const CLOCK: &str = r#"did 44 idle

@@ -6,7 +6,7 @@ use mh_look::{
     put_frame, put_report, read_report, told,
 };
 use mh_model::Picture;
-use mh_model::text::Text;
+use mh_told::text::Text;
 use std::alloc::Global;
 
 /// A report with two frames, of which the second is black.

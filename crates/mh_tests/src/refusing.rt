@@ -8,12 +8,12 @@ use mh_base::{GroupName, Octets};
 use mh_display::changed_rows;
 use mh_engine::{Engine, Stepped};
 use mh_model::picture::ROWS;
-use mh_model::row::put_row;
-use mh_model::text::Text;
-use mh_model::told::put_total;
 use mh_model::{File, Input, Key, Picture};
 use mh_report::{ListSink, PlayError, Status};
 use mh_service::Service;
+use mh_told::row::put_row;
+use mh_told::text::Text;
+use mh_told::told::put_total;
 use mh_verify::verify;
 use std::alloc::Global;
 

@@ -4,6 +4,9 @@
 use crate::notations::difference;
 use crate::whole::WORDS;
 use mh_codec::encode_group;
+use mh_group::action_name::ALL as ACTIONS;
+use mh_group::attribute::ALL as ATTRIBUTES;
+use mh_group::class::ALL as CLASSES;
 use mh_group::{ActionName, Attribute, Class, Need, Setting, Shape, Written};
 use mh_text::{print_group, read_group};
 use std::alloc::{AllocError, Global};
@@ -107,12 +110,10 @@ fn put_action(
 /// Each action, with all its parameters and without those that may be missing.
 fn put_effect(text: &mut Vec<u8>, round: usize) -> Result<(), AllocError> {
     put(text, b"(")?;
-    for number in 0..70 {
-        if let Some(name) = ActionName::of_number(number) {
-            let most = name.needs().len();
-            for missing in 0..name.optional().saturating_add(1) {
-                put_action(text, round, name, most.saturating_sub(missing))?;
-            }
+    for name in &ACTIONS {
+        let most = name.needs().len();
+        for missing in 0..name.optional().saturating_add(1) {
+            put_action(text, round, *name, most.saturating_sub(missing))?;
         }
     }
     put(text, b")")
@@ -170,13 +171,11 @@ fn put_setting(text: &mut Vec<u8>, round: usize, shape: Shape) -> Result<(), All
 
 /// Each attribute that the class takes, without the items.
 fn put_fields(text: &mut Vec<u8>, round: usize, class: Class) -> Result<(), AllocError> {
-    for number in 1..39 {
-        if let Some(attribute) = Attribute::of_number(number) {
-            if class.takes(attribute) && attribute != Attribute::Items {
-                text.push(b':')?;
-                put(text, attribute.word())?;
-                put_setting(text, round, class.shape(attribute))?;
-            }
+    for attribute in &ATTRIBUTES {
+        if class.takes(*attribute) && *attribute != Attribute::Items {
+            text.push(b':')?;
+            put(text, attribute.word())?;
+            put_setting(text, round, class.shape(*attribute))?;
         }
     }
     Ok(())
@@ -196,9 +195,9 @@ fn put_scene(text: &mut Vec<u8>, round: usize) -> Result<(), AllocError> {
     put(text, br#"{ :Scene ( "~/scene" 0 )"#)?;
     put_fields(text, round, Class::Scene)?;
     put(text, b":Items (")?;
-    for number in 2..17 {
-        if let Some(class) = Class::of_number(number) {
-            put_ingredient(text, round, class)?;
+    for class in &CLASSES {
+        if !class.is_group() {
+            put_ingredient(text, round, *class)?;
         }
     }
     put(text, b") }")
@@ -242,7 +241,8 @@ fn counts_of(alloc: Global, text: &[u8]) -> Option<(usize, usize)> {
 
 #[test]
 fn all_words_of_the_tables(rt: HostRuntime) {
-    assert!(rt; counts_of(rt.alloc(), WORDS) == Some((15, 70)));
+    let ingredients = CLASSES.iter().filter(|class| !class.is_group()).count();
+    assert!(rt; counts_of(rt.alloc(), WORDS) == Some((ingredients, ACTIONS.len())));
     let difference = difference_of(rt.alloc(), WORDS).unwrap_or("no group");
     assert!(rt; difference.is_empty(), "{difference}");
 }

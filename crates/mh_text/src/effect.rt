@@ -2,7 +2,7 @@
 //! word of `mh_group`'s table.
 ghost use Rattle.std.specs.Prelude.{◌≡◌, ◌&&◌, [], nat_le};
 ghost use Rattle.mh_text.specs.Gives.{Gives};
-ghost use Rattle.mh_text.specs.Reading.{is_close, action, action_name_of as action_name_of_lem, parameters as parameters_lem, parameter as parameter_lem, generic_parameter as generic_parameter_lem, typed as typed_lem, value_of as value_of_lem};
+ghost use Rattle.mh_text.specs.Reading.{is_close, action, action_name_of, parameters, parameter, generic_parameter, typed, value_of};
 
 use crate::form::{Form, generic, list, made};
 use crate::place::{Piece, Place};
@@ -46,7 +46,7 @@ impl Form for ElementaryAction {
 
 #[tactic(auto, unfolding(crate::specs::Reading::action_name_of))]
 fn action_name_of(piece: &Piece<'_>) -> Result<ActionName, TextError>
-    ensures { Gives (λ x. x) result (action_name_of_lem piece.now) }
+    ensures { Gives (λ x. x) result (action_name_of piece.now) }
 {
     match piece.sign() {
         Sign::Action(name) => Ok(name),
@@ -62,7 +62,7 @@ fn parameters<'a>(
     needs: &[Need],
     place: Place<'a>,
 ) -> Result<(Seq<Parameter>, Place<'a>), TextError>
-    ensures { Gives (λ x. x) result (parameters_lem optional needs.now [] place.entry) }
+    ensures { Gives (λ x. x) result (parameters optional needs.now [] place.entry) }
 {
     let mut parameters = Seq::new(alloc);
     let mut place = place;
@@ -94,7 +94,7 @@ fn parameter<'a>(
     piece: &Piece<'_>,
     place: Place<'a>,
 ) -> Result<(Parameter, Place<'a>), TextError>
-    ensures { Gives (λ x. x) result (parameter_lem need piece.now place.entry) }
+    ensures { Gives (λ x. x) result (parameter need piece.now place.entry) }
 {
     match need {
         Need::Event => Ok((Parameter::Event(event_of(piece)?), place)),
@@ -118,7 +118,7 @@ fn generic_parameter<'a>(
     piece: &Piece<'_>,
     place: Place<'a>,
 ) -> Result<(Parameter, Place<'a>), TextError>
-    ensures { Gives (λ x. x) result (generic_parameter_lem need piece.now place.entry) }
+    ensures { Gives (λ x. x) result (generic_parameter need piece.now place.entry) }
 {
     match need {
         Need::Bool => made(generic::<Truth>(alloc, piece, place), Parameter::Bool),
@@ -140,7 +140,7 @@ struct TypedValue;
 impl Form for TypedValue {
     type Value = Typed;
 
-    ghost reading = { typed_lem };
+    ghost reading = { typed };
 
     #[tactic(auto, unfolding(crate::specs::Reading::typed))]
     fn read<'a>(
@@ -164,7 +164,7 @@ fn value_of<'a>(
     piece: &Piece<'_>,
     place: Place<'a>,
 ) -> Result<(Typed, Place<'a>), TextError>
-    ensures { Gives (λ x. x) result (value_of_lem kind piece.now place.entry) }
+    ensures { Gives (λ x. x) result (value_of kind piece.now place.entry) }
 {
     match kind {
         Kind::Bool => made(generic::<Truth>(alloc, piece, place), Typed::Bool),

@@ -5,7 +5,7 @@ ghost use Rattle.std.specs.List.{prefix_len};
 ghost use Rattle.mh_base.specs.Limits.{longest_list};
 ghost use Rattle.mh_group.specs.Table.{attribute_number};
 ghost use Rattle.mh_text.specs.Gives.{Gives};
-ghost use Rattle.mh_text.specs.Reading.{is_items as is_items_lem, fields as fields_lem, next_field as next_field_lem, fields_behind_items as fields_behind_items_lem, attribute_of as attribute_of_lem, placed, complete as complete_lem};
+ghost use Rattle.mh_text.specs.Reading.{is_items, fields as fields_lem, next_field, fields_behind_items, attribute_of, placed, complete};
 
 use crate::place::{Piece, Place};
 use crate::setting::setting;
@@ -19,7 +19,7 @@ use std::alloc::{AllocError, Global};
 /// Whether the token is the keyword of the group's items.
 #[tactic(auto, unfolding(crate::specs::Reading::is_items))]
 pub(crate) fn is_items(class: Class, sign: Sign) -> bool
-    ensures { result ≡ is_items_lem class sign }
+    ensures { result ≡ is_items class sign }
 {
     match sign {
         Sign::Attribute(attribute) => class.shape(attribute).is_items(),
@@ -61,7 +61,7 @@ fn next_field<'a>(
     fields: &[Field],
     place: Place<'a>,
 ) -> Result<(Option<Field>, Piece<'a>, Place<'a>), TextError>
-    ensures { Gives (λ x. x) result (next_field_lem class fields.now place.entry) }
+    ensures { Gives (λ x. x) result (next_field class fields.now place.entry) }
 {
     let (piece, place) = place.next()?;
     if piece.sign().is_close_brace() {
@@ -84,7 +84,7 @@ pub(crate) fn fields_behind_items<'a>(
     before: Seq<Field>,
     place: Place<'a>,
 ) -> Result<(Seq<Field>, Piece<'a>, Place<'a>), TextError>
-    ensures { Gives (λ x. x) result (fields_behind_items_lem class before place.entry) }
+    ensures { Gives (λ x. x) result (fields_behind_items class before place.entry) }
 {
     let read = fields(alloc, class, before, place)?;
     if is_items(class, read.1.sign()) {
@@ -96,7 +96,7 @@ pub(crate) fn fields_behind_items<'a>(
 /// The attribute that this token names, where the class takes it and it has not come before.
 #[tactic(auto, unfolding(crate::specs::Reading::attribute_of))]
 fn attribute_of(class: Class, fields: &[Field], piece: &Piece<'_>) -> Result<Attribute, TextError>
-    ensures { Gives (λ x. x) result (attribute_of_lem class fields.now piece.now) }
+    ensures { Gives (λ x. x) result (attribute_of class fields.now piece.now) }
 {
     match piece.sign() {
         Sign::Attribute(attribute) => {
@@ -135,7 +135,7 @@ fn smaller(fields: &[Field], number: u32) -> usize
 /// The closing brace is refused where a field is missing with which the class has to be written.
 #[tactic(auto, unfolding(crate::specs::Reading::complete))]
 pub(crate) fn complete(class: Class, fields: &[Field], end: &Piece<'_>) -> Result<(), TextError>
-    ensures { Gives (λ x. fields.now) result (complete_lem class fields.now end.now) }
+    ensures { Gives (λ x. fields.now) result (complete class fields.now end.now) }
 {
     if has_required(class, fields) {
         Ok(())

@@ -3,7 +3,7 @@
 ghost use Rattle.std.specs.Prelude.{[], Result};
 ghost use Rattle.mh_text.specs.Rest.{Left, Piece as PieceValue};
 ghost use Rattle.mh_text.specs.Gives.{Gives, Made, Refusal};
-ghost use Rattle.mh_text.specs.Reading.{generic as generic_lem, list as list_lem, listed, next_member};
+ghost use Rattle.mh_text.specs.Reading.{generic, list, listed, next_member};
 
 use crate::place::{Piece, Place};
 use crate::value_form::AnyReference;
@@ -49,7 +49,7 @@ pub(crate) fn generic<'a, F: Form>(
     piece: &Piece<'_>,
     place: Place<'a>,
 ) -> Result<(Generic<F::Value>, Place<'a>), TextError>
-    ensures { Gives (λ x. x) result (generic_lem F.reading piece.now place.entry) }
+    ensures { Gives (λ x. x) result (generic F.reading piece.now place.entry) }
 {
     if piece.sign().is_indirect() {
         let (piece, place) = place.next()?;
@@ -67,7 +67,7 @@ pub(crate) fn list<'a, F: Form>(
     piece: &Piece<'_>,
     place: Place<'a>,
 ) -> Result<(Seq<F::Value>, Place<'a>), TextError>
-    ensures { Gives (λ x. x) result (list_lem F.reading most piece.now place.entry) }
+    ensures { Gives (λ x. x) result (list F.reading most piece.now place.entry) }
 {
     if piece.sign().is_open() {
         members::<F>(alloc, most, place)

@@ -2,7 +2,7 @@
 //! keyword of all is tried first, which a few letters of the name choose, and the tables are asked where its
 //! name is another.
 ghost use Rattle.std.specs.Prelude.{◌≡◌, Some, true};
-ghost use Rattle.mh_text.specs.Signs.{name_sign as name_sign_lem, mark_sign as mark_sign_lem};
+ghost use Rattle.mh_text.specs.Signs.{name_sign, mark_sign};
 
 use crate::sign::Sign;
 use mh_base::Kind;
@@ -184,7 +184,7 @@ const SPREAD: u32 = 126855103;
 
 /// What the name of a keyword means.
 pub(crate) fn name_sign(name: &[u8]) -> Option<Sign>
-    ensures { result ≡ name_sign_lem name.now }
+    ensures { result ≡ name_sign name.now }
 {
     match likely_sign(name) {
         Some(sign) if is_named(sign, name) => Some(sign),
@@ -213,7 +213,7 @@ fn place_of(name: &[u8]) -> Option<usize> {
 /// Whether this is what the keyword of this name means.
 #[tactic(auto, using(crate::proofs::KeywordLemmas::class_named, crate::proofs::KeywordLemmas::attribute_named, crate::proofs::KeywordLemmas::action_named, crate::proofs::KeywordLemmas::kind_named, crate::proofs::KeywordLemmas::content_ref_named, crate::proofs::KeywordLemmas::indirect_ref_named))]
 fn is_named(sign: Sign, name: &[u8]) -> bool
-    ensures { result ≡ true → name_sign_lem name.now ≡ Some sign }
+    ensures { result ≡ true → name_sign name.now ≡ Some sign }
 {
     match sign {
         Sign::Class(class) => class.word() == name,
@@ -229,7 +229,7 @@ fn is_named(sign: Sign, name: &[u8]) -> bool
 /// What the name of a keyword means, table by table.
 #[tactic(auto, unfolding(crate::specs::Signs::name_sign))]
 fn searched(name: &[u8]) -> Option<Sign>
-    ensures { result ≡ name_sign_lem name.now }
+    ensures { result ≡ name_sign name.now }
 {
     if let Some(class) = Class::of_word(name) {
         return Some(Sign::Class(class));
@@ -249,7 +249,7 @@ fn searched(name: &[u8]) -> Option<Sign>
 /// What a keyword means that no table has.
 #[tactic(auto, unfolding(crate::specs::Signs::mark_sign))]
 fn mark_sign(name: &[u8]) -> Option<Sign>
-    ensures { result ≡ mark_sign_lem name.now }
+    ensures { result ≡ mark_sign name.now }
 {
     if name == b"ContentRef".as_slice() {
         return Some(Sign::ContentRef);

@@ -2,45 +2,45 @@
 //! which token begins behind it. Where a token stands is left to `token`.
 ghost use Rattle.std.specs.Prelude.{◌≡◌, ◌+◌, ◌≤◌, ◌<◌, length, IfSome, false};
 ghost use Rattle.std.specs.List.{prefix_len};
-ghost use Rattle.mh_text.specs.Bytes.{is_space as is_space_lem, is_letter as is_letter_lem, is_digit as is_digit_lem, is_hexadecimal as is_hexadecimal_lem, is_text_byte as is_text_byte_lem, is_quoted_byte as is_quoted_byte_lem, begins_with as begins_with_lem};
-ghost use Rattle.mh_text.specs.Lexing.{gap_length as gap_length_lem, token_at as token_at_lem, bare_token_at as bare_token_at_lem, number_length as number_length_lem, keyword_length as keyword_length_lem, text_length as text_length_lem, quoted_length as quoted_length_lem, is_escaped as is_escaped_lem, is_in as is_in_lem};
+ghost use Rattle.mh_text.specs.Bytes.{is_space, is_letter, is_digit, is_hexadecimal, is_text_byte, is_quoted_byte, begins_with};
+ghost use Rattle.mh_text.specs.Lexing.{gap_length, token_at, bare_token_at, number_length, keyword_length, text_length, quoted_length, is_escaped, is_in};
 
 use crate::TokenKind;
 
 pub(crate) fn is_space(byte: u8) -> bool
-    ensures { result ≡ is_space_lem byte }
+    ensures { result ≡ is_space byte }
 {
     byte == b' ' || byte == b'\t' || byte == b'\r' || byte == b'\n'
 }
 
 pub(crate) fn is_letter(byte: u8) -> bool
-    ensures { result ≡ is_letter_lem byte }
+    ensures { result ≡ is_letter byte }
 {
     matches!(byte, b'A'..=b'Z' | b'a'..=b'z')
 }
 
 pub(crate) fn is_digit(byte: u8) -> bool
-    ensures { result ≡ is_digit_lem byte }
+    ensures { result ≡ is_digit byte }
 {
     matches!(byte, b'0'..=b'9')
 }
 
 pub(crate) fn is_hexadecimal(byte: u8) -> bool
-    ensures { result ≡ is_hexadecimal_lem byte }
+    ensures { result ≡ is_hexadecimal byte }
 {
     matches!(byte, b'0'..=b'9' | b'A'..=b'F' | b'a'..=b'f')
 }
 
 /// Whether the byte may stand in a string between `"`.
 pub(crate) fn is_text_byte(byte: u8) -> bool
-    ensures { result ≡ is_text_byte_lem byte }
+    ensures { result ≡ is_text_byte byte }
 {
     32 <= byte && byte <= 126 && byte != b'"'
 }
 
 /// Whether the byte may stand in a string between `'`.
 pub(crate) fn is_quoted_byte(byte: u8) -> bool
-    ensures { result ≡ is_quoted_byte_lem byte }
+    ensures { result ≡ is_quoted_byte byte }
 {
     32 <= byte && byte <= 126 && byte != b'\''
 }
@@ -48,7 +48,7 @@ pub(crate) fn is_quoted_byte(byte: u8) -> bool
 /// How many bytes of white space and comments stand at the front. A comment goes from `//` to the end
 /// of its line.
 pub(crate) fn gap_length(bytes: &[u8]) -> usize
-    ensures exact { result ≡ gap_length_lem false bytes.now }
+    ensures exact { result ≡ gap_length false bytes.now }
     ensures within { result ≤ length bytes.now }
 {
     let mut is_comment = false;
@@ -66,7 +66,7 @@ pub(crate) fn gap_length(bytes: &[u8]) -> usize
 
 /// Whether this byte stands at the front.
 pub(crate) fn begins_with(bytes: &[u8], wanted: u8) -> bool
-    ensures { result ≡ begins_with_lem wanted bytes.now }
+    ensures { result ≡ begins_with wanted bytes.now }
 {
     match bytes {
         [] => false,
@@ -77,7 +77,7 @@ pub(crate) fn begins_with(bytes: &[u8], wanted: u8) -> bool
 /// The kind and the length of the token at the front, or none where no token begins so.
 #[tactic(auto, unfolding(crate::specs::Lexing::token_at))]
 pub(crate) fn token_at(bytes: &[u8]) -> Option<(TokenKind, usize)>
-    ensures exact { result ≡ token_at_lem bytes.now }
+    ensures exact { result ≡ token_at bytes.now }
     ensures within { IfSome result (λ found. found.1 ≤ length bytes.now) }
     ensures some { IfSome result (λ found. 0 < found.1) }
 {
@@ -98,7 +98,7 @@ pub(crate) fn token_at(bytes: &[u8]) -> Option<(TokenKind, usize)>
 /// The token at the front, where it is a word or begins with a digit.
 #[tactic(auto, unfolding(crate::specs::Lexing::bare_token_at))]
 fn bare_token_at(bytes: &[u8]) -> Option<(TokenKind, usize)>
-    ensures exact { result ≡ bare_token_at_lem bytes.now }
+    ensures exact { result ≡ bare_token_at bytes.now }
     ensures within { IfSome result (λ found. found.1 ≤ length bytes.now) }
     ensures some { IfSome result (λ found. 0 < found.1) }
 {
@@ -123,7 +123,7 @@ enum ByteSet {
 }
 
 fn is_in(set: ByteSet, byte: u8) -> bool
-    ensures { result ≡ is_in_lem set byte }
+    ensures { result ≡ is_in set byte }
 {
     match set {
         ByteSet::Letters => is_letter(byte),
@@ -136,7 +136,7 @@ fn is_in(set: ByteSet, byte: u8) -> bool
 
 /// How many bytes of the set stand at the front.
 fn prefix_length(set: ByteSet, bytes: &[u8]) -> usize
-    ensures exact { result ≡ prefix_len (is_in_lem set) bytes.now }
+    ensures exact { result ≡ prefix_len (is_in set) bytes.now }
     ensures within { result ≤ length bytes.now }
 {
     bytes.iter().take_while(|byte| is_in(set, **byte)).count()
@@ -145,7 +145,7 @@ fn prefix_length(set: ByteSet, bytes: &[u8]) -> usize
 /// The length of a number at the front, if a digit stands there.
 #[tactic(auto, unfolding(crate::specs::Lexing::number_length))]
 fn number_length(bytes: &[u8]) -> Option<usize>
-    ensures exact { result ≡ number_length_lem bytes.now }
+    ensures exact { result ≡ number_length bytes.now }
     ensures within { IfSome result (λ found. found ≤ length bytes.now) }
     ensures some { IfSome result (λ found. 0 < found) }
 {
@@ -159,7 +159,7 @@ fn number_length(bytes: &[u8]) -> Option<usize>
 /// The length of a name at the front, if a letter stands there.
 #[tactic(auto, unfolding(crate::specs::Lexing::keyword_length))]
 fn keyword_length(bytes: &[u8]) -> Option<usize>
-    ensures exact { result ≡ keyword_length_lem bytes.now }
+    ensures exact { result ≡ keyword_length bytes.now }
     ensures within { IfSome result (λ found. found ≤ length bytes.now) }
 {
     match bytes {
@@ -171,7 +171,7 @@ fn keyword_length(bytes: &[u8]) -> Option<usize>
 /// The length of what goes to the closing `"` and takes it in, if the string is closed.
 #[tactic(auto, unfolding(crate::specs::Lexing::text_length))]
 fn text_length(bytes: &[u8]) -> Option<usize>
-    ensures exact { result ≡ text_length_lem bytes.now }
+    ensures exact { result ≡ text_length bytes.now }
     ensures within { IfSome result (λ found. found ≤ length bytes.now) }
 {
     let inner = prefix_length(ByteSet::Text, bytes);
@@ -185,7 +185,7 @@ fn text_length(bytes: &[u8]) -> Option<usize>
 /// has its two digits.
 #[tactic(auto, unfolding(crate::specs::Lexing::quoted_length))]
 fn quoted_length(bytes: &[u8]) -> Option<usize>
-    ensures exact { result ≡ quoted_length_lem bytes.now }
+    ensures exact { result ≡ quoted_length bytes.now }
     ensures within { IfSome result (λ found. found ≤ length bytes.now) }
 {
     let inner = prefix_length(ByteSet::Quoted, bytes);
@@ -197,7 +197,7 @@ fn quoted_length(bytes: &[u8]) -> Option<usize>
 
 /// Whether two hexadecimal digits stand behind each `=`.
 fn is_escaped(bytes: &[u8]) -> bool
-    ensures { result ≡ is_escaped_lem 0 bytes.now }
+    ensures { result ≡ is_escaped 0 bytes.now }
 {
     let mut wanted = 0u8;
     for byte in bytes {

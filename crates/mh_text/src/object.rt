@@ -2,8 +2,8 @@
 ghost use Rattle.std.specs.Prelude.{◌≡◌, ◌≢◌, false, true, IfOk, IfErr};
 ghost use Rattle.mh_text.specs.Gives.{Gives};
 ghost use Rattle.mh_text.specs.Spelling.{Spells, SpellsNone, SpellsNoOther};
-ghost use Rattle.mh_text.specs.Lexing.{behind_gap as behind_gap_lem, begins_group as begins_group_lem};
-ghost use Rattle.mh_text.specs.Reading.{read, group as group_lem, body as body_lem, class_of as class_of_lem, identifier as identifier_lem, items as items_lem, ingredient, group_with as group_with_lem, items_and_fields as items_and_fields_lem, ingredient_with as ingredient_with_lem};
+ghost use Rattle.mh_text.specs.Lexing.{behind_gap, begins_group};
+ghost use Rattle.mh_text.specs.Reading.{read, group, body, class_of, identifier as identifier_lem, items, ingredient, group_with, items_and_fields, ingredient_with};
 
 use crate::field::{complete, fields, fields_behind_items, is_items};
 use crate::form::{Form, list};
@@ -19,7 +19,7 @@ use std::alloc::Global;
 /// Whether the bytes begin as a group does: with `{` and `:`, white space and comments passed over
 /// before and between them.
 pub fn begins_group(bytes: &[u8]) -> bool
-    ensures { result ≡ begins_group_lem bytes.now }
+    ensures { result ≡ begins_group bytes.now }
 {
     match behind_gap(bytes) {
         [b'{', rest @ ..] => begins_with(behind_gap(rest), b':'),
@@ -29,7 +29,7 @@ pub fn begins_group(bytes: &[u8]) -> bool
 
 /// The bytes behind white space and comments.
 fn behind_gap(bytes: &[u8]) -> &[u8]
-    ensures { result.now ≡ behind_gap_lem bytes.now }
+    ensures { result.now ≡ behind_gap bytes.now }
 {
     &bytes[gap_length(bytes)..]
 }
@@ -58,7 +58,7 @@ pub fn read_group(alloc: Global, bytes: &[u8]) -> Result<Group, TextError>
 
 #[tactic(auto, unfolding(crate::specs::Reading::group))]
 fn group<'a>(alloc: Global, place: Place<'a>) -> Result<(Written, Place<'a>), TextError>
-    ensures { Gives (λ x. x) result (group_lem place.entry) }
+    ensures { Gives (λ x. x) result (group place.entry) }
 {
     let place = place.braced()?;
     let (piece, place) = place.next()?;
@@ -74,7 +74,7 @@ fn group_with<'a>(
     identifier: WrittenName,
     place: Place<'a>,
 ) -> Result<(Written, Place<'a>), TextError>
-    ensures { Gives (λ x. x) result (group_with_lem class identifier place.entry) }
+    ensures { Gives (λ x. x) result (group_with class identifier place.entry) }
 {
     let (fields, items, end, place) = body(alloc, class, place)?;
     complete(class, fields.as_slice(), &end)?;
@@ -97,7 +97,7 @@ fn body<'a>(
     class: Class,
     place: Place<'a>,
 ) -> Result<(Seq<Field>, Option<Seq<Ingredient>>, Piece<'a>, Place<'a>), TextError>
-    ensures { Gives (λ x. x) result (body_lem class place.entry) }
+    ensures { Gives (λ x. x) result (body class place.entry) }
 {
     let (fields, end, place) = fields(alloc, class, Seq::new(alloc), place)?;
     if !is_items(class, end.sign()) {
@@ -113,7 +113,7 @@ fn items_and_fields<'a>(
     before: Seq<Field>,
     place: Place<'a>,
 ) -> Result<(Seq<Field>, Option<Seq<Ingredient>>, Piece<'a>, Place<'a>), TextError>
-    ensures { Gives (λ x. x) result (items_and_fields_lem class before place.entry) }
+    ensures { Gives (λ x. x) result (items_and_fields class before place.entry) }
 {
     let (items, place) = items(alloc, place)?;
     let (fields, end, place) = fields_behind_items(alloc, class, before, place)?;
@@ -123,7 +123,7 @@ fn items_and_fields<'a>(
 /// The class that this token names, of a group or of an ingredient.
 #[tactic(auto, unfolding(crate::specs::Reading::class_of))]
 fn class_of(is_group: bool, piece: &Piece<'_>) -> Result<Class, TextError>
-    ensures { Gives (λ x. x) result (class_of_lem is_group piece.now) }
+    ensures { Gives (λ x. x) result (class_of is_group piece.now) }
 {
     match piece.sign() {
         Sign::Class(class) if class.is_group() == is_group => Ok(class),
@@ -151,7 +151,7 @@ fn identifier<'a>(alloc: Global, place: Place<'a>) -> Result<(WrittenName, Place
 /// The ingredients between parentheses.
 #[tactic(auto, unfolding(crate::specs::Reading::items))]
 fn items<'a>(alloc: Global, place: Place<'a>) -> Result<(Seq<Ingredient>, Place<'a>), TextError>
-    ensures { Gives (λ x. x) result (items_lem place.entry) }
+    ensures { Gives (λ x. x) result (items place.entry) }
 {
     let (piece, place) = place.next()?;
     list::<AnyIngredient>(alloc, LONGEST_LIST, &piece, place)
@@ -189,7 +189,7 @@ fn ingredient_with<'a>(
     number: Number,
     place: Place<'a>,
 ) -> Result<(Ingredient, Place<'a>), TextError>
-    ensures { Gives (λ x. x) result (ingredient_with_lem class number place.entry) }
+    ensures { Gives (λ x. x) result (ingredient_with class number place.entry) }
 {
     let (fields, end, place) = fields(alloc, class, Seq::new(alloc), place)?;
     complete(class, fields.as_slice(), &end)?;

@@ -1,7 +1,7 @@
 //! The octets that a quoted string stands for.
 ghost use Rattle.std.specs.Prelude.{◌≡◌, ◌<◌, ◌+◌, ◌*◌, IfOk};
-ghost use Rattle.mh_text.specs.Bytes.{hexadecimal_value as hexadecimal_value_lem};
-ghost use Rattle.mh_text.specs.Escapes.{unescaped as unescaped_lem};
+ghost use Rattle.mh_text.specs.Bytes.{hexadecimal_value};
+ghost use Rattle.mh_text.specs.Escapes.{unescaped};
 
 use std::alloc::{AllocError, Global};
 
@@ -18,7 +18,7 @@ enum Escape {
 /// The octets of the bytes between the marks of a quoted string: `=` and two hexadecimal digits are
 /// one octet, each other byte stands for itself.
 pub(crate) fn unescaped(alloc: Global, inner: &[u8]) -> Result<Vec<u8>, AllocError>
-    ensures { IfOk result (λ octets. octets.items ≡ unescaped_lem Escape.Outside inner.now) }
+    ensures { IfOk result (λ octets. octets.items ≡ unescaped Escape.Outside inner.now) }
 {
     let mut octets = Vec::new(alloc);
     let mut escape = Escape::Outside;
@@ -38,7 +38,7 @@ pub(crate) fn unescaped(alloc: Global, inner: &[u8]) -> Result<Vec<u8>, AllocErr
 
 /// The value of a hexadecimal digit.
 fn hexadecimal_value(digit: u8) -> u8
-    ensures value { result ≡ hexadecimal_value_lem digit }
+    ensures value { result ≡ hexadecimal_value digit }
     ensures small { result < 16 }
 {
     match digit {

@@ -2,10 +2,10 @@
 //! thing that is wrong there; what is wanted is left to the readers.
 ghost use Rattle.std.specs.Prelude.{◌≡◌, false};
 ghost use Rattle.mh_base.specs.Reading.{whole, refused};
-ghost use Rattle.mh_text.specs.Left.{left, meant as meant_lem};
-ghost use Rattle.mh_text.specs.Signs.{sign_of as sign_of_lem};
+ghost use Rattle.mh_text.specs.Left.{left, meant};
+ghost use Rattle.mh_text.specs.Signs.{sign_of};
 ghost use Rattle.mh_text.specs.Gives.{Gives, Fails};
-ghost use Rattle.mh_text.specs.Words.{needs_gap as needs_gap_lem};
+ghost use Rattle.mh_text.specs.Words.{needs_gap};
 ghost use Rattle.mh_text.specs.Reading.{taken, next, opened, closed, closed_list, braced, ended, inner};
 
 use crate::sign::{Sign, sign_of};
@@ -183,8 +183,8 @@ fn meant<'a>(
     token: Token<'a>,
     behind: Tokens<'a>,
 ) -> Result<Option<(Piece<'a>, Place<'a>)>, TextError>
-    ensures { Gives (λ x. x) result (taken (meant_lem is_tight offset token.entry.kind token.entry.start token.entry.text.now
-        (sign_of_lem token.entry.kind token.entry.text.now) (left (needs_gap_lem token.entry.kind) behind.entry))) }
+    ensures { Gives (λ x. x) result (taken (meant is_tight offset token.entry.kind token.entry.start token.entry.text.now
+        (sign_of token.entry.kind token.entry.text.now) (left (needs_gap token.entry.kind) behind.entry))) }
 {
     let start = token.start;
     let sign = match sign_of(token.kind, token.text) {
@@ -212,7 +212,7 @@ fn meant<'a>(
 
 /// Whether white space has to stand between two tokens of such kinds.
 fn needs_gap(kind: TokenKind) -> bool
-    ensures { result ≡ needs_gap_lem kind }
+    ensures { result ≡ needs_gap kind }
 {
     matches!(
         kind,

@@ -4,7 +4,7 @@
 ghost use Rattle.std.specs.Prelude.{◌≡◌, ◌++◌, true, OnOk, IfErr};
 ghost use Rattle.std.specs.List.{list_all, flat_map};
 ghost use Rattle.mh_group.specs.Holdable.{is_reference, is_generic, is_list};
-ghost use Rattle.mh_text.specs.Printed.{opening, closing, keyword, word as word_lem, list, generic, reference as reference_lem, indirect_word as indirect_word_lem, Puts};
+ghost use Rattle.mh_text.specs.Printed.{opening, closing, keyword, word, list, generic, reference, indirect_word, Puts};
 
 use crate::{TextError, Why};
 use mh_base::{LONGEST_LIST, Seq};
@@ -75,7 +75,7 @@ fn print_generic<T: Printable>(
 /// Prints the reference of a variable that holds a value.
 fn print_variable(alloc: Global, out: &mut Vec<u8>, variable: &Ref) -> Result<(), TextError>
     ensures { Puts result out.old.items out.new.items
-        (keyword indirect_word_lem ++ reference_lem variable.now) (is_reference variable.now) }
+        (keyword indirect_word ++ reference variable.now) (is_reference variable.now) }
 {
     put_keyword(out, indirect_word())?;
     variable.print(alloc, out)
@@ -83,7 +83,7 @@ fn print_variable(alloc: Global, out: &mut Vec<u8>, variable: &Ref) -> Result<()
 
 #[tactic(auto, unfolding(crate::specs::Printed::indirect_word))]
 fn indirect_word() -> &'static [u8]
-    ensures { result.now ≡ indirect_word_lem }
+    ensures { result.now ≡ indirect_word }
 {
     b"IndirectRef"
 }
@@ -124,7 +124,7 @@ pub(crate) fn print_several<T: Printable>(
 
 #[tactic(auto, unfolding(crate::specs::Printed::word))]
 pub(crate) fn put_word(out: &mut Vec<u8>, letters: &[u8]) -> Result<(), AllocError>
-    ensures { OnOk result (out.new.items ≡ out.old.items ++ word_lem letters.now) }
+    ensures { OnOk result (out.new.items ≡ out.old.items ++ word letters.now) }
 {
     out.push(b' ')?;
     out.extend_from_slice(letters)

@@ -4,7 +4,7 @@ ghost use Rattle.mh_group.specs.Holdable.{is_list, has_settings, is_ingredient, 
 ghost use Rattle.mh_group.specs.Fit.{written_items};
 ghost use Rattle.mh_text.specs.declared.text_error.Why.{Why};
 ghost use Rattle.mh_text.specs.Spelling.{Spells};
-ghost use Rattle.mh_text.specs.Printed.{items as items_lem, body as body_lem, printed, passes_limit, Refuses, Puts};
+ghost use Rattle.mh_text.specs.Printed.{items as items_lem, body, printed, passes_limit, Refuses, Puts};
 
 use crate::TextError;
 use crate::printable::{PAST_LIMIT, Printable, print_list, print_several, put_keyword, put_word};
@@ -51,7 +51,7 @@ fn print_body(
     items: &Option<Seq<Ingredient>>,
     fields: &[Field],
 ) -> Result<(), TextError>
-    ensures printed { OnOk result (out.new.items ≡ out.old.items ++ body_lem items.now fields.now) }
+    ensures printed { OnOk result (out.new.items ≡ out.old.items ++ body items.now fields.now) }
     ensures settings { OnOk result (has_settings fields.now ≡ true) }
     ensures members { OnOk result (is_list is_ingredient (written_items items.now) ≡ true) }
     ensures limit { IfErr result (Refuses (has_settings fields.now && is_list is_ingredient (written_items items.now))) }

@@ -2,7 +2,7 @@
 ghost use Rattle.std.specs.Prelude.{◌≡◌, ◌<◌, ◌^◌, ◌++◌, true, OnOk};
 ghost use Rattle.std.specs.List.{flat_map};
 ghost use Rattle.mh_group.specs.Holdable.{is_name, is_octets};
-ghost use Rattle.mh_text.specs.Printed.{integer, natural, name as name_lem, named, octets as octets_lem, quoted, hexadecimal_digit as hexadecimal_digit_lem};
+ghost use Rattle.mh_text.specs.Printed.{integer, natural, name as name_lem, named, octets, quoted, hexadecimal_digit};
 
 use crate::TextError;
 use crate::printable::{Printable, put_closing, put_keyword, put_opening, put_word};
@@ -185,7 +185,7 @@ pub(crate) fn put_integer(alloc: Global, out: &mut Vec<u8>, number: i32) -> Resu
 
 #[tactic(auto, using(mh_group::proofs::WritingLemmas::bytes_are_octets), unfolding(crate::specs::Printed::octets))]
 fn put_octets(out: &mut Vec<u8>, bytes: &[u8]) -> Result<(), AllocError>
-    ensures printed { OnOk result (out.new.items ≡ out.old.items ++ octets_lem bytes.now) }
+    ensures printed { OnOk result (out.new.items ≡ out.old.items ++ octets bytes.now) }
     ensures fits { OnOk result (is_octets bytes.now ≡ true) }
 {
     out.extend_from_slice(b" '")?;
@@ -222,7 +222,7 @@ fn put_octet(out: &mut Vec<u8>, byte: u8) -> Result<(), AllocError>
 /// The upper-case digit of this value.
 fn hexadecimal_digit(digit: u8) -> u8
     requires { digit < 16 }
-    ensures { result ≡ hexadecimal_digit_lem digit }
+    ensures { result ≡ hexadecimal_digit digit }
 {
     if digit < 10 {
         b'0' + digit

@@ -1,6 +1,6 @@
 //! The reader of an attribute's value, by its shape.
 ghost use Rattle.mh_text.specs.Gives.{Gives};
-ghost use Rattle.mh_text.specs.Reading.{setting as setting_lem, setting_at as setting_at_lem, single as single_lem, pair as pair_lem, part as part_lem};
+ghost use Rattle.mh_text.specs.Reading.{setting, setting_at, single, pair, part};
 
 use crate::form::{Form, made};
 use crate::place::{Piece, Place};
@@ -21,7 +21,7 @@ pub(crate) fn setting<'a>(
     shape: Shape,
     place: Place<'a>,
 ) -> Result<(Setting, Place<'a>), TextError>
-    ensures { Gives (λ x. x) result (setting_lem shape place.entry) }
+    ensures { Gives (λ x. x) result (setting shape place.entry) }
 {
     let (piece, place) = place.next()?;
     setting_at(alloc, shape, &piece, place)
@@ -35,7 +35,7 @@ fn setting_at<'a>(
     piece: &Piece<'_>,
     place: Place<'a>,
 ) -> Result<(Setting, Place<'a>), TextError>
-    ensures { Gives (λ x. x) result (setting_at_lem shape piece.now place.entry) }
+    ensures { Gives (λ x. x) result (setting_at shape piece.now place.entry) }
 {
     match shape {
         Shape::Ref => made(AnyReference::read(alloc, piece, place), Setting::Ref),
@@ -58,7 +58,7 @@ fn setting_at<'a>(
 /// The value of a shape of one token.
 #[tactic(auto, unfolding(crate::specs::Reading::single))]
 fn single(alloc: Global, shape: Shape, piece: &Piece<'_>) -> Result<Setting, TextError>
-    ensures { Gives (λ x. x) result (single_lem shape piece.now) }
+    ensures { Gives (λ x. x) result (single shape piece.now) }
 {
     match shape {
         Shape::Bool => truth_of(piece).map(Setting::Bool),
@@ -81,7 +81,7 @@ fn pair<'a>(
     piece: &Piece<'_>,
     place: Place<'a>,
 ) -> Result<(Setting, Place<'a>), TextError>
-    ensures { Gives (λ x. x) result (pair_lem shape piece.now place.entry) }
+    ensures { Gives (λ x. x) result (pair shape piece.now place.entry) }
 {
     let first = part(shape, 720, piece)?;
     let (piece, place) = place.next()?;
@@ -92,7 +92,7 @@ fn pair<'a>(
 /// One integer of a pair; the screen's has one value.
 #[tactic(auto, unfolding(crate::specs::Reading::part))]
 fn part(shape: Shape, screen: i32, piece: &Piece<'_>) -> Result<i32, TextError>
-    ensures { Gives (λ x. x) result (part_lem shape screen piece.now) }
+    ensures { Gives (λ x. x) result (part shape screen piece.now) }
 {
     match shape {
         Shape::Size => natural_of(piece),

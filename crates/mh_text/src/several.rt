@@ -1,6 +1,6 @@
 //! Readers of the values that are lists: effects, rows of integers, members, positions and scenes.
 ghost use Rattle.mh_text.specs.Gives.{Gives};
-ghost use Rattle.mh_text.specs.Reading.{several as several_lem, effect, row, member, list_item, position, next_scene};
+ghost use Rattle.mh_text.specs.Reading.{several, effect, row, member, list_item, position, next_scene};
 
 use crate::effect::ElementaryAction;
 use crate::form::{Form, list, made, members};
@@ -21,7 +21,7 @@ pub(crate) fn several<'a>(
     piece: &Piece<'_>,
     place: Place<'a>,
 ) -> Result<(Setting, Place<'a>), TextError>
-    ensures { Gives (λ x. x) result (several_lem shape piece.now place.entry) }
+    ensures { Gives (λ x. x) result (several shape piece.now place.entry) }
 {
     match shape {
         Shape::Effect => {

@@ -1,9 +1,9 @@
 //! `Sign`: what a token means. Keywords, words and integers are looked up here, wherever they stand;
 //! what may stand where is left to the readers.
 ghost use Rattle.std.specs.Prelude.{◌≡◌, Some, None, nat_le, if◌then◌else◌, ◌+◌, ◌*◌};
-ghost use Rattle.mh_text.specs.Signs.{sign_of as sign_of_lem, keyword_sign as keyword_sign_lem, word_sign as word_sign_lem, integer_sign as integer_sign_lem, integer_of as integer_of_lem, positive as positive_lem, negative as negative_lem};
+ghost use Rattle.mh_text.specs.Signs.{sign_of, keyword_sign, word_sign, integer_sign, integer_of, positive, negative};
 ghost use Rattle.mh_text.specs.Bytes.{number_behind};
-ghost use Rattle.mh_text.specs.Reading.{is_open as is_open_lem, is_close as is_close_lem, is_open_brace as is_open_brace_lem, is_close_brace as is_close_brace_lem, is_indirect as is_indirect_lem, is_content_ref as is_content_ref_lem};
+ghost use Rattle.mh_text.specs.Reading.{is_open, is_close, is_open_brace, is_close_brace, is_indirect, is_content_ref};
 
 use crate::keyword::name_sign;
 use crate::{TokenKind, Why};
@@ -36,37 +36,37 @@ pub(crate) enum Sign {
 
 impl Sign {
     pub(crate) fn is_open(self) -> bool
-        ensures { result ≡ is_open_lem self }
+        ensures { result ≡ is_open self }
     {
         matches!(self, Sign::OpenParenthesis)
     }
 
     pub(crate) fn is_close(self) -> bool
-        ensures { result ≡ is_close_lem self }
+        ensures { result ≡ is_close self }
     {
         matches!(self, Sign::CloseParenthesis)
     }
 
     pub(crate) fn is_open_brace(self) -> bool
-        ensures { result ≡ is_open_brace_lem self }
+        ensures { result ≡ is_open_brace self }
     {
         matches!(self, Sign::OpenBrace)
     }
 
     pub(crate) fn is_close_brace(self) -> bool
-        ensures { result ≡ is_close_brace_lem self }
+        ensures { result ≡ is_close_brace self }
     {
         matches!(self, Sign::CloseBrace)
     }
 
     pub(crate) fn is_indirect(self) -> bool
-        ensures { result ≡ is_indirect_lem self }
+        ensures { result ≡ is_indirect self }
     {
         matches!(self, Sign::IndirectRef)
     }
 
     pub(crate) fn is_content_ref(self) -> bool
-        ensures { result ≡ is_content_ref_lem self }
+        ensures { result ≡ is_content_ref self }
     {
         matches!(self, Sign::ContentRef)
     }
@@ -75,7 +75,7 @@ impl Sign {
 /// What the token means: 22 where no table has its name, 23 where its number has more than 32 bits.
 #[tactic(auto, unfolding(crate::specs::Signs::sign_of))]
 pub(crate) fn sign_of(kind: TokenKind, text: &[u8]) -> Result<Sign, Why>
-    ensures { result ≡ sign_of_lem kind text.now }
+    ensures { result ≡ sign_of kind text.now }
 {
     match kind {
         TokenKind::OpenBrace => Ok(Sign::OpenBrace),
@@ -92,7 +92,7 @@ pub(crate) fn sign_of(kind: TokenKind, text: &[u8]) -> Result<Sign, Why>
 
 /// What the keyword means, with its colon in front.
 fn keyword_sign(text: &[u8]) -> Option<Sign>
-    ensures { result ≡ keyword_sign_lem text.now }
+    ensures { result ≡ keyword_sign text.now }
 {
     match text {
         [_, name @ ..] => name_sign(name),
@@ -102,7 +102,7 @@ fn keyword_sign(text: &[u8]) -> Option<Sign>
 
 #[tactic(auto, unfolding(crate::specs::Signs::word_sign))]
 fn word_sign(text: &[u8]) -> Option<Sign>
-    ensures { result ≡ word_sign_lem text.now }
+    ensures { result ≡ word_sign text.now }
 {
     if text == b"true".as_slice() {
         return Some(Sign::Truth(true));
@@ -120,7 +120,7 @@ fn word_sign(text: &[u8]) -> Option<Sign>
 }
 
 fn integer_sign(text: &[u8]) -> Option<Sign>
-    ensures { result ≡ integer_sign_lem text.now }
+    ensures { result ≡ integer_sign text.now }
 {
     match integer_of(text) {
         Some(value) => Some(Sign::Integer(value)),
@@ -131,7 +131,7 @@ fn integer_sign(text: &[u8]) -> Option<Sign>
 /// The number that the digits write, perhaps behind a minus sign, if 32 bits can hold it.
 #[tactic(auto, unfolding(crate::specs::Signs::integer_of))]
 fn integer_of(text: &[u8]) -> Option<i32>
-    ensures { result ≡ integer_of_lem text.now }
+    ensures { result ≡ integer_of text.now }
 {
     match text {
         [] => None,
@@ -141,7 +141,7 @@ fn integer_of(text: &[u8]) -> Option<i32>
 }
 
 fn positive(digits: &[u8]) -> Option<i32>
-    ensures { result ≡ positive_lem (number_behind 0 digits.now) }
+    ensures { result ≡ positive (number_behind 0 digits.now) }
 {
     let magnitude = magnitude(digits)?;
     if magnitude < 2147483648 {
@@ -152,7 +152,7 @@ fn positive(digits: &[u8]) -> Option<i32>
 }
 
 fn negative(digits: &[u8]) -> Option<i32>
-    ensures { result ≡ negative_lem (number_behind 0 digits.now) }
+    ensures { result ≡ negative (number_behind 0 digits.now) }
 {
     let magnitude = magnitude(digits)?;
     Some((-i64::from(magnitude)) as i32)

@@ -2,7 +2,7 @@
 //! Each takes the token at which the value begins, and the place behind that token where it reads on.
 ghost use Rattle.std.specs.Prelude.{◌≡◌, pos, ◌≤ℤ◌, IfOk};
 ghost use Rattle.mh_text.specs.Gives.{Gives};
-ghost use Rattle.mh_text.specs.Reading.{name_of as name_of_lem, integer_of as integer_of_lem, natural_of as natural_of_lem, field_length_of as field_length_of_lem, fixed_of as fixed_of_lem, number_of as number_of_lem, ingredient_number_of as ingredient_number_of_lem, truth_of as truth_of_lem, event_of as event_of_lem, justification_of as justification_of_lem, data_of as data_of_lem, octets_of as octets_of_lem, colour_of as colour_of_lem, named_reference as named_reference_lem};
+ghost use Rattle.mh_text.specs.Reading.{name_of, integer_of, natural_of, field_length_of, fixed_of, number_of, ingredient_number_of, truth_of, event_of, justification_of, data_of, octets_of, colour_of, named_reference};
 
 use crate::octet_text::unescaped;
 use crate::place::{Piece, Place};
@@ -14,7 +14,7 @@ use std::alloc::Global;
 
 #[tactic(auto, unfolding(crate::specs::Reading::name_of))]
 pub(crate) fn name_of(alloc: Global, piece: &Piece<'_>) -> Result<WrittenName, TextError>
-    ensures { Gives (λ x. x) result (name_of_lem piece.now) }
+    ensures { Gives (λ x. x) result (name_of piece.now) }
 {
     let Sign::Text = piece.sign() else {
         return Err(piece.refused(Why::Syntax));
@@ -28,7 +28,7 @@ pub(crate) fn name_of(alloc: Global, piece: &Piece<'_>) -> Result<WrittenName, T
 
 #[tactic(auto, unfolding(crate::specs::Reading::integer_of))]
 pub(crate) fn integer_of(piece: &Piece<'_>) -> Result<i32, TextError>
-    ensures { Gives (λ x. x) result (integer_of_lem piece.now) }
+    ensures { Gives (λ x. x) result (integer_of piece.now) }
 {
     match piece.sign() {
         Sign::Integer(value) => Ok(value),
@@ -39,7 +39,7 @@ pub(crate) fn integer_of(piece: &Piece<'_>) -> Result<i32, TextError>
 /// An integer from 0.
 #[tactic(auto, unfolding(crate::specs::Reading::natural_of))]
 pub(crate) fn natural_of(piece: &Piece<'_>) -> Result<i32, TextError>
-    ensures exact { Gives (λ x. x) result (natural_of_lem piece.now) }
+    ensures exact { Gives (λ x. x) result (natural_of piece.now) }
     ensures natural { IfOk result (λ x. pos 0 ≤ℤ x) }
 {
     let value = integer_of(piece)?;
@@ -52,7 +52,7 @@ pub(crate) fn natural_of(piece: &Piece<'_>) -> Result<i32, TextError>
 /// The length of an entry field, from 1 to 255.
 #[tactic(auto, unfolding(crate::specs::Reading::field_length_of))]
 pub(crate) fn field_length_of(piece: &Piece<'_>) -> Result<i32, TextError>
-    ensures { Gives (λ x. x) result (field_length_of_lem piece.now) }
+    ensures { Gives (λ x. x) result (field_length_of piece.now) }
 {
     let value = integer_of(piece)?;
     if value < 1 || 255 < value {
@@ -64,7 +64,7 @@ pub(crate) fn field_length_of(piece: &Piece<'_>) -> Result<i32, TextError>
 /// This integer and no other.
 #[tactic(auto, unfolding(crate::specs::Reading::fixed_of))]
 pub(crate) fn fixed_of(wanted: i32, piece: &Piece<'_>) -> Result<i32, TextError>
-    ensures { Gives (λ x. x) result (fixed_of_lem wanted piece.now) }
+    ensures { Gives (λ x. x) result (fixed_of wanted piece.now) }
 {
     let value = integer_of(piece)?;
     if value != wanted {
@@ -76,7 +76,7 @@ pub(crate) fn fixed_of(wanted: i32, piece: &Piece<'_>) -> Result<i32, TextError>
 /// The number of an object, from 0.
 #[tactic(auto, unfolding(crate::specs::Reading::number_of))]
 pub(crate) fn number_of(piece: &Piece<'_>) -> Result<Number, TextError>
-    ensures { Gives (λ x. x) result (number_of_lem piece.now) }
+    ensures { Gives (λ x. x) result (number_of piece.now) }
 {
     let value = natural_of(piece)?;
     match Number::new(value.unsigned_abs()) {
@@ -88,7 +88,7 @@ pub(crate) fn number_of(piece: &Piece<'_>) -> Result<Number, TextError>
 /// The number of an ingredient, from 1.
 #[tactic(auto, unfolding(crate::specs::Reading::ingredient_number_of))]
 pub(crate) fn ingredient_number_of(piece: &Piece<'_>) -> Result<Number, TextError>
-    ensures { Gives (λ x. x) result (ingredient_number_of_lem piece.now) }
+    ensures { Gives (λ x. x) result (ingredient_number_of piece.now) }
 {
     let number = number_of(piece)?;
     if number.get() == 0 {
@@ -99,7 +99,7 @@ pub(crate) fn ingredient_number_of(piece: &Piece<'_>) -> Result<Number, TextErro
 
 #[tactic(auto, unfolding(crate::specs::Reading::truth_of))]
 pub(crate) fn truth_of(piece: &Piece<'_>) -> Result<bool, TextError>
-    ensures { Gives (λ x. x) result (truth_of_lem piece.now) }
+    ensures { Gives (λ x. x) result (truth_of piece.now) }
 {
     match piece.sign() {
         Sign::Truth(value) => Ok(value),
@@ -109,7 +109,7 @@ pub(crate) fn truth_of(piece: &Piece<'_>) -> Result<bool, TextError>
 
 #[tactic(auto, unfolding(crate::specs::Reading::event_of))]
 pub(crate) fn event_of(piece: &Piece<'_>) -> Result<EventType, TextError>
-    ensures { Gives (λ x. x) result (event_of_lem piece.now) }
+    ensures { Gives (λ x. x) result (event_of piece.now) }
 {
     match piece.sign() {
         Sign::Event(event) => Ok(event),
@@ -119,7 +119,7 @@ pub(crate) fn event_of(piece: &Piece<'_>) -> Result<EventType, TextError>
 
 #[tactic(auto, unfolding(crate::specs::Reading::justification_of))]
 pub(crate) fn justification_of(piece: &Piece<'_>) -> Result<Justification, TextError>
-    ensures { Gives (λ x. x) result (justification_of_lem piece.now) }
+    ensures { Gives (λ x. x) result (justification_of piece.now) }
 {
     match piece.sign() {
         Sign::Justification(justification) => Ok(justification),
@@ -130,7 +130,7 @@ pub(crate) fn justification_of(piece: &Piece<'_>) -> Result<Justification, TextE
 /// The data of an event: a truth value or an integer.
 #[tactic(auto, unfolding(crate::specs::Reading::data_of))]
 pub(crate) fn data_of(piece: &Piece<'_>) -> Result<EventData, TextError>
-    ensures { Gives (λ x. x) result (data_of_lem piece.now) }
+    ensures { Gives (λ x. x) result (data_of piece.now) }
 {
     match piece.sign() {
         Sign::Truth(value) => Ok(EventData::Bool(value)),
@@ -141,7 +141,7 @@ pub(crate) fn data_of(piece: &Piece<'_>) -> Result<EventData, TextError>
 
 #[tactic(auto, unfolding(crate::specs::Reading::octets_of))]
 pub(crate) fn octets_of(alloc: Global, piece: &Piece<'_>) -> Result<Octets, TextError>
-    ensures { Gives (λ x. x) result (octets_of_lem piece.now) }
+    ensures { Gives (λ x. x) result (octets_of piece.now) }
 {
     match piece.sign() {
         Sign::Text => Ok(Octets::from_slice(alloc, piece.inner())?),
@@ -153,7 +153,7 @@ pub(crate) fn octets_of(alloc: Global, piece: &Piece<'_>) -> Result<Octets, Text
 /// A colour: four octets.
 #[tactic(auto, unfolding(crate::specs::Reading::colour_of))]
 pub(crate) fn colour_of(alloc: Global, piece: &Piece<'_>) -> Result<Colour, TextError>
-    ensures { Gives (λ x. x) result (colour_of_lem piece.now) }
+    ensures { Gives (λ x. x) result (colour_of piece.now) }
 {
     let octets = octets_of(alloc, piece)?;
     let [red, green, blue, transparency] = octets.as_slice() else {
@@ -173,7 +173,7 @@ pub(crate) fn named_reference<'a>(
     alloc: Global,
     place: Place<'a>,
 ) -> Result<(Ref, Place<'a>), TextError>
-    ensures { Gives (λ x. x) result (named_reference_lem place.entry) }
+    ensures { Gives (λ x. x) result (named_reference place.entry) }
 {
     let (piece, place) = place.next()?;
     let name = name_of(alloc, &piece)?;

@@ -1,5 +1,5 @@
 //! The forms of the values that fit a few tokens, and the readers of references and contents.
-ghost use Rattle.mh_text.specs.Reading.{reference as reference_lem, truth, integer, octets, event_data, content_name as content_name_lem, content as content_lem};
+ghost use Rattle.mh_text.specs.Reading.{reference, truth, integer, octets, event_data, content_name, content};
 
 use crate::form::{Form, made};
 use crate::place::{Piece, Place};
@@ -84,7 +84,7 @@ pub(crate) struct AnyReference;
 impl Form for AnyReference {
     type Value = Ref;
 
-    ghost reading = { reference_lem };
+    ghost reading = { reference };
 
     #[tactic(auto, unfolding(crate::specs::Reading::reference))]
     fn read<'a>(
@@ -109,7 +109,7 @@ pub(crate) struct ContentName;
 impl Form for ContentName {
     type Value = WrittenName;
 
-    ghost reading = { content_name_lem };
+    ghost reading = { content_name };
 
     #[tactic(auto, unfolding(crate::specs::Reading::content_name))]
     fn read<'a>(
@@ -134,7 +134,7 @@ pub(crate) struct AnyContent;
 impl Form for AnyContent {
     type Value = Content;
 
-    ghost reading = { content_lem };
+    ghost reading = { content };
 
     #[tactic(auto, unfolding(crate::specs::Reading::content))]
     fn read<'a>(

@@ -1,13 +1,5 @@
-pub mod ListLemmas
 pub mod LeastLemmas
-pub mod SearchLemmas
-pub mod ContainsLemmas
-pub mod ConfigLemmas
 pub mod MannedLemmas
 pub mod OrderLemmas
+pub mod NamedLemmas
 pub mod RefusalLemmas
-pub mod TakenLemmas
-pub mod ListedLemmas
-pub mod DirectLemmas
-pub mod EquippedLemmas
-pub mod CallLemmas

@@ -12,7 +12,7 @@ use Rattle.mh_model.specs.declared.config.Config.{Config}
 use Rattle.mh_verify.specs.Kinds.{kind_number}
 use Rattle.mh_verify.specs.Order.{order, by_place, by_config, is_before}
 use Rattle.mh_verify.specs.Least.{lesser, least_of}
-use Rattle.mh_verify.proofs.ContainsLemmas.{no_member, here, behind, first_or_behind}
+use Rattle.mh_flow.proofs.ContainsLemmas.{no_member, here, behind, first_or_behind}
 
 places_total : IsTotalOrder by_place
 places_total = then_total (then_total (on_total (λ (p : Place). p.group) nat_list_cmp_total) (on_total (λ (p : Place). p.object) nat_cmp_total)) (on_total (λ (p : Place). p.index) nat_cmp_total)

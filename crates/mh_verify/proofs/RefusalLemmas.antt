@@ -1,91 +1,39 @@
 -- A configuration has no refusals exactly where it is free and manned; so what is found says what the contract says.
-use Rattle.std.proofs.Common.{◌≡◌, inl, inr, ℕ, ◌+◌, Bool, true, false, cond, ◌&&◌, not, List, [], ◌∷◌, ◌++◌, filter, Option, Some, None, refl, ap, sym, ◌∙◌, subst}
-use Rattle.std.specs.List.{Contains, list_all, flat_map}
-use Rattle.std.specs.Option.{option_to_list, option_map_or}
+use Rattle.std.proofs.Common.{◌≡◌, inl, inr, Bool, true, false, cond, ◌&&◌, not, List, [], ◌∷◌, ◌++◌, Option, Some, None, refl, ap, sym, ◌∙◌, subst}
+use Rattle.std.specs.List.{Contains, flat_map}
+use Rattle.std.specs.Option.{option_map_or}
 use Rattle.std.proofs.lemmas.List.Elements.{Contains-append_cases}
-use Rattle.mh_base.specs.declared.obj_ref.ObjRef.{ObjRef}
-use Rattle.mh_group.specs.declared.action_name.ActionName.{ActionName}
-use Rattle.mh_group.specs.declared.action_name.ActionName.TheVariants as action
-use Rattle.mh_model.specs.declared.act.Act.{Act}
-use Rattle.mh_model.specs.declared.act.Argument.{Argument}
-use Rattle.mh_model.specs.declared.act.Argument.TheVariants as argument
 use Rattle.mh_model.specs.declared.config.Config.{Config}
-use Rattle.mh_model.specs.declared.fault.Fault.{Fault}
-use Rattle.mh_model.specs.declared.object.Fixed.{Fixed}
 use Rattle.mh_model.specs.Service.{Service}
 use Rattle.mh_model.specs.Configuration.{present, is_among, is_single, starting, same_config}
-use Rattle.mh_model.specs.Active.{actions, is_active, active_actions, is_direct, has_known_id, is_none, is_good}
-use Rattle.mh_model.specs.Acceptable.{IsReached, start, led, IsClosed, is_free, is_manned, leads_into}
+use Rattle.mh_laws.specs.Active.{active_actions, is_good}
+use Rattle.mh_laws.specs.Acceptable.{IsReached, start, led, IsClosed, is_free, is_manned, leads_into}
 use Rattle.mh_verify.specs.declared.refusal.Found.{Found}
-use Rattle.mh_verify.specs.Refusals.{found_at, timer_at, called_at, not_yet_at, id_variable, fault_beside, miscalls, refused_for, wrong_from, wrong_with, several, several_at, refusals_of_members, refusals_of_effects, refusals_in, RefusedIsNot}
+use Rattle.mh_verify.specs.Refusals.{wrong_at, several, several_at, refusals_of_members, refusals_of_effects, refusals_in, RefusedIsNot}
 use Rattle.mh_verify.specs.Order.{IsFirst}
 use Rattle.mh_verify.specs.Least.{least_of}
 use Rattle.mh_verify.specs.Free.{AreFree}
-use Rattle.mh_verify.specs.Reach.{AreReached}
-use Rattle.mh_verify.proofs.ContainsLemmas.{nil_parts, no_member, first_or_behind, in_joined, joined_from, all_of, empty_joined}
-use Rattle.mh_verify.proofs.ConfigLemmas.{config_is, config_itself, member_of, among_of}
+use Rattle.mh_flow.specs.Reach.{AreReached}
+use Rattle.mh_flow.proofs.ContainsLemmas.{nil_parts, no_member, first_or_behind, in_joined, joined_from, joined_none, all_where_none, all_of, empty_joined}
+use Rattle.mh_flow.proofs.ConfigLemmas.{config_is, config_itself, member_of, among_of}
 use Rattle.mh_verify.proofs.OrderLemmas.{first_of, none_of}
-use Rattle.mh_verify.proofs.CallLemmas.{parted}
+use Rattle.mh_verify.proofs.NamedLemmas.{unrefused_where_good, good_where_unrefused, config_of_wrong}
 use Rattle.mh_verify.proofs.MannedLemmas.{none_where_manned, manned_where_none, config_of_members}
-use Rattle.mh_model.proofs.ServiceLemmas.{all_joined, all_left, all_right}
-use Rattle.mh_model.proofs.FaultLemmas.{both_empty}
+use Rattle.mh_flow.specs.Sites.{Site, sites_of}
+use Rattle.mh_flow.proofs.SiteLemmas.{all_active}
+use Rattle.mh_model.proofs.ListLemmas.{both_empty}
 
--- no variable holds the id of a timer
-abbrev is_unheld : Option ObjRef → Bool
-is_unheld None = true
-is_unheld (Some v) = false
+-- nothing is refused of the effects of a configuration exactly where it is free
 
-known_id : (n : ActionName) (xs : List Argument) → has_known_id n xs ≡ is_unheld (id_variable n xs)
-known_id action.SetTimer [] = refl
-known_id action.SetTimer (argument.Direct x ∷ xs) = refl
-known_id action.SetTimer (argument.Through v t ∷ xs) = refl
-known_id action.SetTimer (argument.Receiver v ∷ xs) = refl
-known_id _ xs = refl
+none_where_free : (s : Service) (c : Config) → is_free s c ≡ true → refusals_of_effects s c ≡ []
+none_where_free s c h =
+    let ps = present s c in
+    joined_none (wrong_at s ps c) (λ (x : Site). is_good s ps x.act) (unrefused_where_good s ps c) (sites_of ps) (all_active (is_good s ps) ps ∙ h)
 
-nothing_wrong : (s : Service) (ps : List Fixed) (c : Config) (key : ObjRef) (n : ℕ) (acts : List Act) → list_all (is_good s ps) acts ≡ true → wrong_from s ps c key n acts ≡ []
-nothing_wrong s ps c key n [] h = refl
-nothing_wrong s ps c key n (a ∷ acts) h =
-    by (fault_beside s ps a) (id_variable a.name a.arguments) (miscalls s ps a) (is_direct a) (has_known_id a.name a.arguments) (known_id a.name a.arguments)
-    (subst (λ (o : Bool). (((o && is_direct a) && has_known_id a.name a.arguments) && list_all (is_good s ps) acts) ≡ true) (parted s ps a) h)
-    (nothing_wrong s ps c key (n + 1) acts)
-  where
-    by : (f : Option Fault) (v : Option ObjRef) (m d k : Bool) → k ≡ is_unheld v → ((((is_none f && not m) && d) && k) && list_all (is_good s ps) acts) ≡ true → (list_all (is_good s ps) acts ≡ true → wrong_from s ps c key (n + 1) acts ≡ []) → option_to_list (refused_for c key n a f v m d) ++ wrong_from s ps c key (n + 1) acts ≡ []
-    by None None false true true e h ih = ih h
-    by None None false true false e h ih = cc
-    by None None false false k e h ih = cc
-    by None None true d k e h ih = cc
-    by None (Some v) false true true e h ih = cc
-    by None (Some v) false true false e h ih = cc
-    by None (Some v) false false k e h ih = cc
-    by None (Some v) true d k e h ih = cc
-    by (Some f) v m d k e h ih = cc
-
-all_good : (s : Service) (ps : List Fixed) (c : Config) (key : ObjRef) (n : ℕ) (acts : List Act) → wrong_from s ps c key n acts ≡ [] → list_all (is_good s ps) acts ≡ true
-all_good s ps c key n [] h = refl
-all_good s ps c key n (a ∷ acts) h =
-    subst (λ (o : Bool). (((o && is_direct a) && has_known_id a.name a.arguments) && list_all (is_good s ps) acts) ≡ true) (sym (parted s ps a))
-    (by (fault_beside s ps a) (id_variable a.name a.arguments) (miscalls s ps a) (is_direct a) (has_known_id a.name a.arguments) (known_id a.name a.arguments) h (all_good s ps c key (n + 1) acts))
-  where
-    by : (f : Option Fault) (v : Option ObjRef) (m d k : Bool) → k ≡ is_unheld v → option_to_list (refused_for c key n a f v m d) ++ wrong_from s ps c key (n + 1) acts ≡ [] → (wrong_from s ps c key (n + 1) acts ≡ [] → list_all (is_good s ps) acts ≡ true) → ((((is_none f && not m) && d) && k) && list_all (is_good s ps) acts) ≡ true
-    by None None false true true e h ih = ih h
-    by None None false true false e h ih = cc
-    by None None false false k e h ih = cc
-    by None None true d k e h ih = cc
-    by None (Some v) m d k e h ih = cc
-    by (Some f) v m d k e h ih = cc
-
-nothing_wrong_with : (s : Service) (ps : List Fixed) (c : Config) (parts : List Fixed) → list_all (is_good s ps) (flat_map actions parts) ≡ true → flat_map (wrong_with s ps c) parts ≡ []
-nothing_wrong_with s ps c [] h = refl
-nothing_wrong_with s ps c (p ∷ parts) h =
-    let front = all_left (is_good s ps) (actions p) (flat_map actions parts) h in
-    let back = all_right (is_good s ps) (actions p) (flat_map actions parts) h in
-    both_empty (wrong_with s ps c p) (flat_map (wrong_with s ps c) parts) (nothing_wrong s ps c p.key 1 (actions p) front) (nothing_wrong_with s ps c parts back)
-
-all_good_with : (s : Service) (ps : List Fixed) (c : Config) (parts : List Fixed) → flat_map (wrong_with s ps c) parts ≡ [] → list_all (is_good s ps) (flat_map actions parts) ≡ true
-all_good_with s ps c [] h = refl
-all_good_with s ps c (p ∷ parts) h =
-    let two = nil_parts (wrong_with s ps c p) (flat_map (wrong_with s ps c) parts) h in
-    all_joined (is_good s ps) (actions p) (flat_map actions parts) (all_good s ps c p.key 1 (actions p) two.0) (all_good_with s ps c parts two.1)
+free_where_none : (s : Service) (c : Config) → refusals_of_effects s c ≡ [] → is_free s c ≡ true
+free_where_none s c h =
+    let ps = present s c in
+    sym (all_active (is_good s ps) ps) ∙ all_where_none (wrong_at s ps c) (λ (x : Site). is_good s ps x.act) (good_where_unrefused s ps c) (sites_of ps) h
 
 none_where_single : (s : Service) (c : Config) → is_single s ≡ true → several_at s c ≡ []
 none_where_single s c h = by (same_config c (starting s)) (is_single s) h
@@ -99,7 +47,7 @@ none_where_good : (s : Service) (c : Config) → is_single s ≡ true → is_fre
 none_where_good s c e h k =
     let members = refusals_of_members s c in
     let front = both_empty (several_at s c) members (none_where_single s c e) (none_where_manned s c k) in
-    both_empty (several_at s c ++ members) (refusals_of_effects s c) front (nothing_wrong_with s (present s c) c (filter (is_active (present s c)) (present s c)) h)
+    both_empty (several_at s c ++ members) (refusals_of_effects s c) front (none_where_free s c h)
 
 -- of each of the three parts there is none then
 record HasNone (s : Service) (c : Config) : Type 0 where
@@ -113,10 +61,6 @@ none_of_each s c h =
     let front = nil_parts (several_at s c) (refusals_of_members s c) both.0 in
     record { several = front.0; members = front.1; effects = both.1 }
 
-free_where_none : (s : Service) (c : Config) → HasNone s c → is_free s c ≡ true
-free_where_none s c h =
-    all_good_with s (present s c) c (filter (is_active (present s c)) (present s c)) h.effects
-
 -- it is said of the start
 single_where_none : (s : Service) → HasNone s (starting s) → is_single s ≡ true
 single_where_none s h =
@@ -129,17 +73,6 @@ single_where_none s h =
 
 -- The configuration of what is wrong there.
 
-config_from : (s : Service) (ps : List Fixed) (c : Config) (key : ObjRef) (n : ℕ) (acts : List Act) (x : Found) → Contains (wrong_from s ps c key n acts) x → x.config ≡ c
-config_from s ps c key n [] x m = absurd (no_member x m)
-config_from s ps c key n (a ∷ acts) x m = by (fault_beside s ps a) (id_variable a.name a.arguments) (miscalls s ps a) (is_direct a) m (config_from s ps c key (n + 1) acts x)
-  where
-    by : (f : Option Fault) (v : Option ObjRef) (m d : Bool) → Contains (option_to_list (refused_for c key n a f v m d) ++ wrong_from s ps c key (n + 1) acts) x → (Contains (wrong_from s ps c key (n + 1) acts) x → x.config ≡ c) → x.config ≡ c
-    by None None false true m ih = ih m
-    by None None false false m ih = elim (first_or_behind (not_yet_at c key n a) (wrong_from s ps c key (n + 1) acts) x m) [ inl same ↦ sym (ap (λ (y : Found). y.config) same) | inr k ↦ ih k ]
-    by None None true d m ih = elim (first_or_behind (called_at c key n a) (wrong_from s ps c key (n + 1) acts) x m) [ inl same ↦ sym (ap (λ (y : Found). y.config) same) | inr k ↦ ih k ]
-    by None (Some v) w d m ih = elim (first_or_behind (timer_at c key n a v) (wrong_from s ps c key (n + 1) acts) x m) [ inl same ↦ sym (ap (λ (y : Found). y.config) same) | inr k ↦ ih k ]
-    by (Some f) v w d m ih = elim (first_or_behind (found_at c key n a f) (wrong_from s ps c key (n + 1) acts) x m) [ inl same ↦ sym (ap (λ (y : Found). y.config) same) | inr k ↦ ih k ]
-
 config_of_several : (s : Service) (c : Config) (x : Found) → Contains (several_at s c) x → x.config ≡ c
 config_of_several s c x m = by (same_config c (starting s)) (is_single s) refl m
   where
@@ -150,8 +83,8 @@ config_of_several s c x m = by (same_config c (starting s)) (is_single s) refl m
 
 config_of_effects : (s : Service) (c : Config) (x : Found) → Contains (refusals_of_effects s c) x → x.config ≡ c
 config_of_effects s c x m =
-    let from = joined_from (wrong_with s (present s c) c) (filter (is_active (present s c)) (present s c)) x m in
-    config_from s (present s c) c from.0.key 1 (actions from.0) x from.2
+    let from = joined_from (wrong_at s (present s c) c) (sites_of (present s c)) x m in
+    config_of_wrong s (present s c) c from.0 x from.2
 
 config_of_front : (s : Service) (c : Config) (x : Found) → Contains (several_at s c ++ refusals_of_members s c) x → x.config ≡ c
 config_of_front s c x m =
@@ -179,7 +112,7 @@ free_of s cs h e =
       service = h.service;
       single = single_where_none s (none (starting s) h.closed.start);
       closed = h.closed;
-      free = λ c m. free_where_none s c (none c m);
+      free = λ c m. free_where_none s c (none c m).effects;
       manned = λ c m. manned_where_none s c (none c m).members;
     }
 

@@ -4,7 +4,7 @@ use Rattle.mh_model.specs.declared.config.Config.{Config}
 use Rattle.mh_model.specs.declared.program.Signature.{Signature}
 use Rattle.mh_model.specs.Service.{Service}
 use Rattle.mh_model.specs.Configuration.{is_service, is_single, is_among}
-use Rattle.mh_model.specs.Acceptable.{IsClosed, IsAcceptable, is_free, is_manned}
+use Rattle.mh_laws.specs.Acceptable.{IsClosed, IsAcceptable, is_free, is_manned}
 
 -- there is one application and at most one scene; these are closed, and in none of them can an active action be
 -- stuck, nor a member of a group
@@ -27,7 +27,7 @@ acceptable s cs h = record {
 }
 
 -- what is known of an accepted service, without the service
-pub record Rest : Type 0 where
+pub record Warrant : Type 0 where
   -- the configurations that are reached
   pub reached : List Config
   -- the programs that the receiver has for it

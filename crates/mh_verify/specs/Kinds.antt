@@ -1,7 +1,7 @@
--- The kinds of refusals: their numbers, and the faults that they stand for.
+-- The kinds of refusals: their numbers, and the reasons that they stand for.
 use Rattle.std.specs.Prelude.{ℕ, Option, Some, None}
-use Rattle.mh_model.specs.declared.fault.FaultKind.{FaultKind}
-use Rattle.mh_model.specs.declared.fault.FaultKind.TheVariants as fault
+use Rattle.mh_model.specs.declared.fault.Reason.{Reason}
+use Rattle.mh_model.specs.declared.fault.Reason.TheVariants as reason
 use Rattle.mh_verify.specs.declared.refusal.RefusalKind.{RefusalKind}
 use Rattle.mh_verify.specs.declared.refusal.RefusalKind.TheVariants as kind
 
@@ -14,7 +14,14 @@ kind_number kind.WrongCall = Some 9
 kind_number kind.NotYet = Some 10
 kind_number kind.NoMemory = None
 
-abbrev pub kind_of : FaultKind → RefusalKind
-kind_of fault.Absent = kind.AbsentObject
-kind_of fault.WrongClass = kind.WrongClass
-kind_of fault.WrongKind = kind.WrongKind
+abbrev pub kind_of : Reason → RefusalKind
+kind_of reason.Absent = kind.AbsentObject
+kind_of reason.WrongClass = kind.WrongClass
+kind_of reason.WrongKind = kind.WrongKind
+kind_of reason.TimerHeld = kind.TimerThroughVariable
+kind_of reason.Misfit = kind.WrongCall
+kind_of reason.Unknown = kind.NotYet
+
+-- how late a reason is named: by the number of its refusal
+abbrev pub reason_number : Reason → Option ℕ
+reason_number w = kind_number (kind_of w)

@@ -9,12 +9,12 @@ use Rattle.std.specs.List.{Contains}
 use Rattle.mh_model.specs.declared.config.Config.{Config}
 use Rattle.mh_model.specs.declared.program.Signature.{Signature}
 use Rattle.mh_model.specs.Service.{Service}
-use Rattle.mh_model.specs.Acceptable.{IsReached}
+use Rattle.mh_laws.specs.Acceptable.{IsReached}
 use Rattle.mh_verify.specs.declared.refusal.Found.{Found}
 use Rattle.mh_verify.specs.declared.refusal.Place.{Place}
 use Rattle.mh_verify.specs.declared.refusal.Refusal.{Refusal}
 use Rattle.mh_verify.specs.declared.refusal.RefusalKind.TheVariants as kind
-use Rattle.mh_verify.specs.Equipment.{equipped}
+use Rattle.mh_flow.specs.Equipment.{equipped}
 use Rattle.mh_verify.specs.Kinds.{kind_number}
 use Rattle.mh_verify.specs.Refusals.{refusals_in}
 

@@ -3,8 +3,8 @@
 //! Promise: there is no such value for a service that is not acceptable, and it is made in this crate
 //! alone.
 ghost use Rattle.std.specs.Prelude.{◌≡◌};
-ghost use Rattle.mh_model.specs.Acceptable.{IsAcceptable};
-ghost use Rattle.mh_verify.specs.Equipment.{equipped};
+ghost use Rattle.mh_laws.specs.Acceptable.{IsAcceptable};
+ghost use Rattle.mh_flow.specs.Equipment.{equipped};
 ghost use Rattle.mh_verify.specs.Free.{AreFree};
 
 use mh_model::{Config, Signature};
@@ -14,15 +14,15 @@ use std::marker::Model;
 /// What is known of an accepted service, without the service: the configurations that are reached,
 /// and the programs that the receiver has for it besides the built-in ones.
 #[derive(Drop)]
-pub struct Rest {
+pub struct Warrant {
     reached: Vec<Config>,
     programs: Vec<Signature>,
 }
 
-impl Model for Rest {
-    ghost use Rattle.mh_verify.specs.Free.{Rest as RestValue};
+impl Model for Warrant {
+    ghost use Rattle.mh_verify.specs.Free.{Warrant as WarrantValue};
 
-    ghost Value = { RestValue };
+    ghost Value = { WarrantValue };
 
     ghost view = { λ r. record { reached = r.reached.items; programs = r.programs.items } };
 }
@@ -32,19 +32,19 @@ impl Model for Rest {
 #[derive(Drop)]
 pub struct Accepted {
     service: Service,
-    rest: Rest,
+    warrant: Warrant,
 }
 
 impl Model for Accepted {
     ghost use Rattle.mh_model.specs.Service.{Service as ServiceValue};
-    ghost use Rattle.mh_verify.specs.Equipment.{equipped};
+    ghost use Rattle.mh_flow.specs.Equipment.{equipped};
     ghost use Rattle.mh_verify.specs.Free.{AreFree};
 
     ghost Value = { ServiceValue };
 
-    ghost view = { λ a. equipped a.service a.rest.programs };
+    ghost view = { λ a. equipped a.service a.warrant.programs };
 
-    ghost invariant = { λ a. AreFree (equipped a.service a.rest.programs) a.rest.reached };
+    ghost invariant = { λ a. AreFree (equipped a.service a.warrant.programs) a.warrant.reached };
 }
 
 impl Accepted {
@@ -61,26 +61,26 @@ impl Accepted {
     pub fn programs(&self) -> &[Signature]
         ensures { result.now ≡ self.now.programs }
     {
-        self.rest.programs()
+        self.warrant.programs()
     }
 
     /// The service, and what is known of it.
     #[tactic(auto, using(crate::specs::Free::acceptable))]
-    pub fn apart(self) -> (Service, Rest)
+    pub fn apart(self) -> (Service, Warrant)
         ensures same { equipped result.0 result.1.programs ≡ self }
         ensures acceptable { IsAcceptable self }
         ensures free { AreFree self result.1.reached }
     {
-        let Accepted { service, rest } = self;
-        (service, rest)
+        let Accepted { service, warrant } = self;
+        (service, warrant)
     }
 }
 
-impl Rest {
-    pub(crate) fn new(reached: Vec<Config>, programs: Vec<Signature>) -> Rest
+impl Warrant {
+    pub(crate) fn new(reached: Vec<Config>, programs: Vec<Signature>) -> Warrant
         ensures { result ≡ record { reached = reached.items; programs = programs.items } }
     {
-        Rest { reached, programs }
+        Warrant { reached, programs }
     }
 
     /// The programs that the receiver has besides the built-in ones.
@@ -99,7 +99,7 @@ impl Rest {
     {
         Accepted {
             service,
-            rest: self,
+            warrant: self,
         }
     }
 }

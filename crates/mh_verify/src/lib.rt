@@ -6,17 +6,13 @@
 #![tactic(auto)]
 
 pub mod accepted;
-mod calling;
-mod equipped;
 mod judging;
 mod members;
 mod ordering;
-mod present;
-mod reaching;
 pub mod refusal;
 mod telling;
 pub mod verifying;
 
-pub use accepted::{Accepted, Rest};
+pub use accepted::{Accepted, Warrant};
 pub use refusal::{Found, Place, Refusal, RefusalKind};
 pub use verifying::verify;

@@ -1,51 +1,43 @@
-//! Members of groups of objects: which there are, and what is refused of them.
+//! What is refused of members of groups of objects.
 //!
 //! Promise: each function answers what the definition of the same matter says. Of what is refused the
-//! first is named; the actions of their slots are left to `judging` and `reaching`.
-ghost use Rattle.std.specs.Prelude.{◌≡◌, ◌∷◌, [], map, IfOk};
+//! first is named; the actions of their slots are left to `judging`.
+ghost use Rattle.std.specs.Prelude.{◌≡◌, ◌∷◌, [], None, map, IfOk};
 ghost use Rattle.std.specs.List.{flat_map};
 ghost use Rattle.std.specs.Option.{option_map_or};
-ghost use Rattle.mh_group.specs.Table.{is_list_group as is_list_group_lem};
-ghost use Rattle.mh_model.specs.Active.{member_faults};
+ghost use Rattle.mh_group.specs.Table.{is_list_group};
+ghost use Rattle.mh_laws.specs.Active.{member_wrongs};
 ghost use Rattle.mh_model.specs.Faults.{wrong};
-ghost use Rattle.mh_model.specs.Tokens.{members as members_lem};
 ghost use Rattle.mh_verify.specs.Refusals.{found_of_part, members_refused, part_refused};
-ghost use Rattle.mh_verify.specs.Refusals.{refusal_of_part as refusal_of_part_lem};
+ghost use Rattle.mh_verify.specs.Refusals.{refusal_of_part};
 ghost use Rattle.mh_verify.specs.Least.{least_of};
 
 use crate::ordering::lesser;
-use crate::present::Present;
 use crate::telling::Scope;
 use crate::{Found, Place, RefusalKind};
 use mh_base::ObjRef;
-use mh_group::{ActionName, Attribute, Class};
-use mh_model::held::as_members;
-use mh_model::{FaultKind, Fixed, FixedPart, Member};
+use mh_flow::Present;
+use mh_flow::sites::members;
+use mh_group::Class;
+use mh_model::{Fixed, FixedPart, Member, Reason};
 use std::alloc::AllocError;
 
-/// The members of a group of objects; none of any other object.
-pub fn members(part: &Fixed) -> &[Member]
-    ensures { result.now ≡ members_lem part.now }
-{
-    as_members(part.properties.get(Attribute::TokenGroupItems))
-}
-
 fn is_list_group(class: Class) -> bool
-    ensures { result ≡ is_list_group_lem class }
+    ensures { result ≡ is_list_group class }
 {
     matches!(class, Class::ListGroup)
 }
 
 /// What is wrong with a member, if anything is: the group runs and halts it, so it has to be there, and
 /// a visible.
-fn fault_of(present: &Present<'_>, member: &Member) -> Option<FaultKind>
-    ensures { option_map_or (λ what. wrong what ActionName.Run member.now.object) result []
-        ≡ member_faults present.now member.now }
+fn fault_of(present: &Present<'_>, member: &Member) -> Option<Reason>
+    ensures { option_map_or (λ why. wrong why None member.now.object) result []
+        ≡ member_wrongs present.now member.now }
 {
     match present.find(&member.object) {
-        None => Some(FaultKind::Absent),
+        None => Some(Reason::Absent),
         Some(part) if part.class.is_visible() => None,
-        Some(_) => Some(FaultKind::WrongClass),
+        Some(_) => Some(Reason::WrongClass),
     }
 }
 
@@ -57,7 +49,7 @@ fn refusal_of_part(
     object: &ObjRef,
 ) -> Result<Found, AllocError>
     ensures { IfOk result (λ found. found
-        ≡ refusal_of_part_lem scope.now.config.now key.now kind object.now) }
+        ≡ refusal_of_part scope.now.config.now key.now kind object.now) }
 {
     Ok(Found {
         kind,
@@ -81,12 +73,12 @@ fn least_of_member(
 ) -> Result<Option<Found>, AllocError>
     ensures { IfOk result (λ least. least ≡ least_of best
         (map (found_of_part scope.now.config.now key.now)
-        (member_faults scope.now.present member.now))) }
+        (member_wrongs scope.now.present member.now))) }
 {
     match fault_of(&scope.present, member) {
         None => Ok(best),
-        Some(what) => {
-            let kind = RefusalKind::of_fault(what);
+        Some(reason) => {
+            let kind = RefusalKind::of_reason(reason);
             let found = refusal_of_part(scope, key, kind, &member.object)?;
             Ok(Some(lesser(best, found)))
         }
@@ -119,7 +111,7 @@ fn least_of_list(
 ) -> Result<Option<Found>, AllocError>
     ensures { let c = scope.now.config.now in
         IfOk result (λ least. least ≡ least_of best
-        (refusal_of_part_lem c key.now RefusalKind.NotYet key.now ∷ [])) }
+        (refusal_of_part c key.now RefusalKind.NotYet key.now ∷ [])) }
 {
     let found = refusal_of_part(scope, key, RefusalKind::NotYet, key)?;
     Ok(Some(lesser(best, found)))

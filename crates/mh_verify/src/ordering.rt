@@ -6,8 +6,8 @@ ghost use Rattle.std.specs.Option.{option_cmp};
 ghost use Rattle.std.specs.Ordering.{nat_cmp};
 ghost use Rattle.std.specs.Cmp.Lexicographic.{slice_cmp};
 ghost use Rattle.mh_verify.specs.Kinds.{kind_number};
-ghost use Rattle.mh_verify.specs.Least.{lesser as lesser_lem};
-ghost use Rattle.mh_verify.specs.Order.{by_place as by_place_lem, by_config as by_config_lem, order as order_lem};
+ghost use Rattle.mh_verify.specs.Least.{lesser};
+ghost use Rattle.mh_verify.specs.Order.{by_place, by_config, order};
 
 use crate::{Found, Place, RefusalKind};
 use mh_base::GroupName;
@@ -15,7 +15,7 @@ use mh_model::Config;
 use std::cmp::Ordering;
 
 fn by_place(first: &Place, second: &Place) -> Ordering
-    ensures { result ≡ by_place_lem first.now second.now }
+    ensures { result ≡ by_place first.now second.now }
 {
     let group = first.group.as_bytes().cmp(&second.group.as_bytes());
     group
@@ -25,7 +25,7 @@ fn by_place(first: &Place, second: &Place) -> Ordering
 
 /// By name of the application, then of the scene; no scene comes before any.
 fn by_config(first: &Config, second: &Config) -> Ordering
-    ensures { result ≡ by_config_lem first.now second.now }
+    ensures { result ≡ by_config first.now second.now }
 {
     let app = first.app.as_bytes().cmp(&second.app.as_bytes());
     app.then(by_scene(&first.scene, &second.scene))
@@ -43,7 +43,7 @@ fn by_scene(first: &Option<GroupName>, second: &Option<GroupName>) -> Ordering
 }
 
 fn order(first: &Found, second: &Found) -> Ordering
-    ensures { result ≡ order_lem first.now second.now }
+    ensures { result ≡ order first.now second.now }
 {
     let place = by_place(&first.place, &second.place);
     place
@@ -59,7 +59,7 @@ fn by_kind(first: RefusalKind, second: RefusalKind) -> Ordering
 
 /// The first of one and the best so far.
 pub fn lesser(best: Option<Found>, found: Found) -> Found
-    ensures { result ≡ lesser_lem best found }
+    ensures { result ≡ lesser best found }
 {
     match best {
         None => found,

@@ -1,10 +1,10 @@
 //! Why a service is refused, and where.
 ghost use Rattle.std.specs.Prelude.{◌≡◌};
-ghost use Rattle.mh_verify.specs.Kinds.{kind_number, kind_of as kind_of_lem};
+ghost use Rattle.mh_verify.specs.Kinds.{kind_number, kind_of, reason_number};
 
 use mh_base::{GroupName, ObjRef};
 use mh_group::ActionName;
-use mh_model::{Config, FaultKind};
+use mh_model::{Config, Rank, Reason};
 use mh_service::Service;
 use thiserror::Error;
 
@@ -32,6 +32,16 @@ impl RefusalKind {
     pub fn number(self) -> Option<u32>
         ensures { result ≡ kind_number self }
     {
+        match self.rank() {
+            Some(number) => Some(u32::from(number)),
+            None => None,
+        }
+    }
+
+    /// The number, which is small.
+    pub(crate) fn rank(self) -> Option<u8>
+        ensures { result ≡ kind_number self }
+    {
         match self {
             RefusalKind::AbsentObject => Some(1),
             RefusalKind::WrongClass => Some(2),
@@ -43,15 +53,31 @@ impl RefusalKind {
         }
     }
 
-    /// How the fault is refused.
-    pub(crate) fn of_fault(fault: FaultKind) -> RefusalKind
-        ensures { result ≡ kind_of_lem fault }
+    /// How what is wrong for this reason is refused.
+    pub(crate) fn of_reason(reason: Reason) -> RefusalKind
+        ensures { result ≡ kind_of reason }
     {
-        match fault {
-            FaultKind::Absent => RefusalKind::AbsentObject,
-            FaultKind::WrongClass => RefusalKind::WrongClass,
-            FaultKind::WrongKind => RefusalKind::WrongKind,
+        match reason {
+            Reason::Absent => RefusalKind::AbsentObject,
+            Reason::WrongClass => RefusalKind::WrongClass,
+            Reason::WrongKind => RefusalKind::WrongKind,
+            Reason::TimerHeld => RefusalKind::TimerThroughVariable,
+            Reason::Misfit => RefusalKind::WrongCall,
+            Reason::Unknown => RefusalKind::NotYet,
         }
+    }
+}
+
+/// The order in which the verifier names what is wrong: that of the numbers of refusals.
+pub(crate) struct ByNumber;
+
+impl Rank for ByNumber {
+    ghost use Rattle.mh_verify.specs.Kinds.{reason_number};
+
+    ghost order = { reason_number };
+
+    fn rank(reason: Reason) -> Option<u8> {
+        RefusalKind::of_reason(reason).rank()
     }
 }
 

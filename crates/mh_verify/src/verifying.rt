@@ -4,15 +4,15 @@
 //! want of memory; a refusal names what comes first, and hands the service back.
 ghost use Rattle.std.specs.Prelude.{◌≡◌, None, OnOk, IfOk, IfErr};
 ghost use Rattle.std.specs.List.{flat_map};
-ghost use Rattle.mh_model.specs.Acceptable.{IsAcceptable};
-ghost use Rattle.mh_verify.specs.Equipment.{equipped};
+ghost use Rattle.mh_laws.specs.Acceptable.{IsAcceptable};
+ghost use Rattle.mh_flow.specs.Equipment.{equipped};
 ghost use Rattle.mh_verify.specs.Least.{least_of};
 ghost use Rattle.mh_verify.specs.Order.{refusal_of, unjudged, IsTold};
-ghost use Rattle.mh_verify.specs.Reach.{AreReached};
+ghost use Rattle.mh_flow.specs.Reach.{AreReached};
 ghost use Rattle.mh_verify.specs.Refusals.{refusals_in, RefusedIsNot};
 
-use crate::equipped::Equipped;
-use crate::{Accepted, Found, Refusal, RefusalKind, Rest, judging, reaching};
+use crate::{Accepted, Found, Refusal, RefusalKind, Warrant, judging};
+use mh_flow::{Equipped, reaching};
 use mh_model::Signature;
 use mh_service::Service;
 use std::alloc::{AllocError, Global};
@@ -27,7 +27,7 @@ pub fn verify(alloc: Global, service: Service, programs: &[Signature]) -> Result
 {
     match judge(alloc, &service, programs) {
         Err(_) => Err(unjudged_service(service)),
-        Ok((rest, first)) => decide(service, rest, first),
+        Ok((warrant, first)) => decide(service, warrant, first),
     }
 }
 
@@ -37,7 +37,7 @@ fn judge(
     alloc: Global,
     service: &Service,
     programs: &[Signature],
-) -> Result<(Rest, Option<Found>), AllocError>
+) -> Result<(Warrant, Option<Found>), AllocError>
     ensures programs { IfOk result (λ judged. judged.0.programs ≡ programs.now) }
     ensures reached { let s = equipped service.now programs.now in
         IfOk result (λ judged. AreReached s judged.0.reached) }
@@ -47,9 +47,9 @@ fn judge(
 {
     let whole = Equipped::new(service, programs);
     let reached = reaching::reached(alloc, &whole)?;
-    let first = judging::first_in(&whole, reached.as_slice())?;
+    let first = judging::first_in(alloc, &whole, reached.as_slice())?;
     let programs = copies(alloc, programs)?;
-    Ok((Rest::new(reached, programs), first))
+    Ok((Warrant::new(reached, programs), first))
 }
 
 /// Copies of these, whose names and parameters are shared with them.
@@ -69,17 +69,17 @@ fn copy(program: &Signature) -> Result<Signature, AllocError>
     program.clone()
 }
 
-fn decide(service: Service, rest: Rest, first: Option<Found>) -> Result<Accepted, Refusal>
-    requires reached { AreReached (equipped service rest.programs) rest.reached }
-    requires first { let s = equipped service rest.programs in
-        first ≡ least_of None (flat_map (refusals_in s) rest.reached) }
-    ensures same { IfOk result (λ accepted. accepted ≡ equipped service rest.programs) }
-    ensures acceptable { OnOk result (IsAcceptable (equipped service rest.programs)) }
+fn decide(service: Service, warrant: Warrant, first: Option<Found>) -> Result<Accepted, Refusal>
+    requires reached { AreReached (equipped service warrant.programs) warrant.reached }
+    requires first { let s = equipped service warrant.programs in
+        first ≡ least_of None (flat_map (refusals_in s) warrant.reached) }
+    ensures same { IfOk result (λ accepted. accepted ≡ equipped service warrant.programs) }
+    ensures acceptable { OnOk result (IsAcceptable (equipped service warrant.programs)) }
     ensures back { IfErr result (λ refusal. refusal.service ≡ service) }
-    ensures told { IfErr result (IsTold service rest.programs) }
+    ensures told { IfErr result (IsTold service warrant.programs) }
 {
     match first {
-        None => Ok(rest.join(service)),
+        None => Ok(warrant.join(service)),
         Some(found) => Err(refused(service, found)),
     }
 }

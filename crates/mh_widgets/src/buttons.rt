@@ -3,8 +3,8 @@
 ghost use Rattle.std.specs.Prelude.{◌≡◌, ◌∷◌, [], IfOk, true};
 ghost use Rattle.mh_group.specs.Table.{is_visible};
 ghost use Rattle.mh_model.specs.EntryFields as spec;
-ghost use Rattle.mh_model.specs.EntryFields.{button_worked as button_worked_lem};
-ghost use Rattle.mh_model.specs.Items.{plain_event as plain_event_lem};
+ghost use Rattle.mh_model.specs.EntryFields.{button_worked};
+ghost use Rattle.mh_model.specs.Items.{plain_event};
 ghost use Rattle.mh_widgets.specs.Does.{Does, Presses, placed_by, placed_with};
 
 use crate::done::{Done, Pressed};
@@ -23,7 +23,7 @@ pub fn button_worked(
     at: &ObjRef,
     object: &Object,
 ) -> Result<Done, AllocError>
-    ensures done { let said = button_worked_lem name values.now at.now object.now.fixed object.now.body in
+    ensures done { let said = button_worked name values.now at.now object.now.fixed object.now.body in
         IfOk result (λ done. Does object.now said done) }
     ensures edited { IfOk result (λ done. done.placed.items ≡ placed_with done.edit done.placed.items) }
     ensures unseen { let seen = is_visible object.now.fixed.class in
@@ -111,7 +111,7 @@ pub fn button_pressed(
 pub fn completed(alloc: Global, at: &ObjRef, edit: Option<Edit>) -> Result<Pressed, AllocError>
     ensures edit { IfOk result (λ pressed. pressed.edit ≡ edit) }
     ensures items { IfOk result (λ pressed.
-        pressed.items.items ≡ plain_event_lem at.now EventType.InteractionCompleted ∷ []) }
+        pressed.items.items ≡ plain_event at.now EventType.InteractionCompleted ∷ []) }
     ensures ends { IfOk result (λ pressed. pressed.ends ≡ true) }
 {
     let items = one_event(alloc, at, EventType::InteractionCompleted);

@@ -1,8 +1,8 @@
 //! The items in the cells of a list group.
-ghost use Rattle.std.specs.Prelude.{◌≡◌, ◌++◌, ◌-◌, ◌==◌, [], length, slice_get, take, if◌then◌else◌, OnOk};
+ghost use Rattle.std.specs.Prelude.{◌≡◌, ◌++◌, ◌∷◌, ◌-◌, ◌==◌, [], length, slice_get, take, if◌then◌else◌, OnOk};
 ghost use Rattle.std.specs.Option.{option_copied};
 ghost use Rattle.std.specs.List.{zip};
-ghost use Rattle.mh_model.specs.Lists.{wraps as wraps_lem, before_first as before_first_lem, objects_of, in_cells, is_shown, halted_members, run_members as run_members_lem};
+ghost use Rattle.mh_model.specs.Lists.{wraps, before_first, objects_of, in_cells, is_shown, halted_members, run_members};
 ghost use Rattle.mh_model.specs.Tokens.{numbered, positions as positions_lem};
 
 use crate::slices::{behind_of, front_of};
@@ -16,7 +16,7 @@ use std::marker::Model;
 
 /// Whether the first item of the list follows the last.
 pub(crate) fn wraps(fixed: &Fixed) -> bool
-    ensures { result ≡ wraps_lem fixed.now }
+    ensures { result ≡ wraps fixed.now }
 {
     as_bool(fixed.properties.get(Attribute::WrapAround), false)
 }
@@ -30,7 +30,7 @@ pub(crate) fn positions(fixed: &Fixed) -> &[Position]
 
 /// How many items stand before the one in the first cell.
 pub(crate) fn before_first(list: &Listing) -> usize
-    ensures { result ≡ before_first_lem list.now }
+    ensures { result ≡ before_first list.now }
 {
     list.first().saturating_sub(1)
 }
@@ -141,7 +141,7 @@ impl<'a> Cells<'a> {
         others: &Cells<'_>,
     ) -> Result<(), AllocError>
         ensures { OnOk result (items.new.items
-            ≡ items.old.items ++ run_members_lem others.now self.now) }
+            ≡ items.old.items ++ run_members others.now self.now) }
     {
         run_members(items, self.some, others)?;
         run_members(items, self.wrapped, others)
@@ -176,8 +176,8 @@ fn object_at(entries: &[Entry], place: usize) -> Option<&ObjRef>
 /// The first items of the list, at most so many, where they follow the last: those before the one in the
 /// first cell.
 fn behind_last<'a>(fixed: &Fixed, list: &'a Listing, most: usize) -> &'a [Entry]
-    ensures { result.now ≡ (if wraps_lem fixed.now
-        then take most (take (before_first_lem list.now) list.now.entries) else []) }
+    ensures { result.now ≡ (if wraps fixed.now
+        then take most (take (before_first list.now) list.now.entries) else []) }
 {
     if wraps(fixed) {
         front_of(front_of(list.entries(), before_first(list)), most)
@@ -210,13 +210,25 @@ fn run_members(
     others: &Cells<'_>,
 ) -> Result<(), AllocError>
     ensures { OnOk result (items.new.items
-        ≡ items.old.items ++ run_members_lem others.now (objects_of entries.now)) }
+        ≡ items.old.items ++ run_members others.now (objects_of entries.now)) }
 {
     for entry in entries {
         if !others.shows(&entry.object) {
             items.push(Item::RunMember(entry.object.clone()?))?;
         }
     }
+    Ok(())
+}
+
+/// Puts this object at the position.
+fn place(
+    placed: &mut Vec<(ObjRef, Position)>,
+    object: &ObjRef,
+    position: Position,
+) -> Result<(), AllocError>
+    ensures { OnOk result (placed.new.items ≡ placed.old.items ++ (object.now, position) ∷ []) }
+{
+    placed.push((object.clone()?, position))?;
     Ok(())
 }
 
@@ -235,7 +247,7 @@ fn place_entries(
         let Some((position, others)) = free.split_first() else {
             return Ok(());
         };
-        placed.push((entry.object.clone()?, *position))?;
+        place(placed, &entry.object, *position)?;
         left = behind;
         free = others;
     }

@@ -1,8 +1,8 @@
 //! The events that a widget emits.
 ghost use Rattle.std.specs.Prelude.{◌≡◌, ◌∷◌, [], IfOk};
-ghost use Rattle.mh_model.specs.Items.{plain_event as plain_event_lem};
+ghost use Rattle.mh_model.specs.Items.{plain_event};
 ghost use Rattle.mh_model.specs.Widget.{event_with};
-ghost use Rattle.mh_model.specs.Programs.{counted as counted_lem};
+ghost use Rattle.mh_model.specs.Programs.{counted};
 
 use crate::counts::counted;
 use mh_base::{EventType, ObjRef, Value};
@@ -11,7 +11,7 @@ use std::alloc::{AllocError, Global};
 
 /// An event without data.
 pub(crate) fn plain_event(source: &ObjRef, kind: EventType) -> Result<Item, AllocError>
-    ensures { IfOk result (λ item. item ≡ plain_event_lem source.now kind) }
+    ensures { IfOk result (λ item. item ≡ plain_event source.now kind) }
 {
     let source = source.clone()?;
     Ok(Item::Emit(Event {
@@ -27,7 +27,7 @@ pub(crate) fn count_event(
     kind: EventType,
     count: usize,
 ) -> Result<Item, AllocError>
-    ensures { IfOk result (λ item. item ≡ event_with source.now kind (Value.Int (counted_lem count))) }
+    ensures { IfOk result (λ item. item ≡ event_with source.now kind (Value.Int (counted count))) }
 {
     let source = source.clone()?;
     Ok(Item::Emit(Event {
@@ -55,7 +55,7 @@ pub(crate) fn one_event(
     at: &ObjRef,
     kind: EventType,
 ) -> Result<Vec<Item>, AllocError>
-    ensures { IfOk result (λ items. items.items ≡ plain_event_lem at.now kind ∷ []) }
+    ensures { IfOk result (λ items. items.items ≡ plain_event at.now kind ∷ []) }
 {
     let mut items = Vec::new(alloc);
     items.push(plain_event(at, kind)?)?;

@@ -2,7 +2,7 @@
 //! 13522-5, ListGroup).
 ghost use Rattle.std.specs.Prelude.{None, ◌≡◌, [], true, Some, IfOk};
 ghost use Rattle.std.specs.Option.{option_copied};
-ghost use Rattle.mh_model.specs.Lists.{cells_placed as cells_placed_lem, halted_members, list_changed as list_changed_lem, list_items as list_items_lem, list_worked as list_worked_lem, nothing_shown, shows};
+ghost use Rattle.mh_model.specs.Lists.{cells_placed, halted_members, list_changed, list_items, list_worked, nothing_shown, shows};
 ghost use Rattle.mh_model.specs.Tokens.{numbered};
 ghost use Rattle.mh_widgets.specs.Does.{Does, placed_with};
 
@@ -25,7 +25,7 @@ pub fn list_worked(
     at: &ObjRef,
     object: &Object,
 ) -> Result<Done, AllocError>
-    ensures done { let said = list_worked_lem name values.now at.now object.now.fixed object.now.body in
+    ensures done { let said = list_worked name values.now at.now object.now.fixed object.now.body in
         IfOk result (λ done. Does object.now said done) }
     ensures edited { IfOk result (λ done. done.placed.items ≡ placed_with done.edit done.placed.items) }
 {
@@ -43,7 +43,7 @@ fn list_changed(
     object: &Object,
     list: Listing,
 ) -> Result<Done, AllocError>
-    ensures done { let said = list_changed_lem at.now object.now.fixed object.now.body (Some list) in
+    ensures done { let said = list_changed at.now object.now.fixed object.now.body (Some list) in
         IfOk result (λ done. Does object.now said done) }
     ensures edited { IfOk result (λ done. done.placed.items ≡ placed_with done.edit done.placed.items) }
 {
@@ -63,9 +63,9 @@ fn list_changed(
 /// What comes of a list that begins to run: it shows its items. Its own body is left to who starts it.
 pub fn list_started(alloc: Global, at: &ObjRef, object: &Object) -> Result<Done, AllocError>
     ensures items { let after = shows true object.now.fixed object.now.body.list in
-        IfOk result (λ done. done.items.items ≡ list_items_lem at.now nothing_shown after) }
+        IfOk result (λ done. done.items.items ≡ list_items at.now nothing_shown after) }
     ensures placed { let after = shows true object.now.fixed object.now.body.list in
-        IfOk result (λ done. done.placed.items ≡ cells_placed_lem object.now.fixed after) }
+        IfOk result (λ done. done.placed.items ≡ cells_placed object.now.fixed after) }
     ensures edit { IfOk result (λ done. done.edit ≡ None) }
 {
     let fixed = object.fixed.get();

@@ -3,9 +3,9 @@ ghost use Rattle.std.specs.Prelude.{◌≡◌, ◌∷◌, ◌<◌, ◌≤◌, �
 ghost use Rattle.std.specs.List.{position};
 ghost use Rattle.mh_model.specs.Limits.{most_items};
 ghost use Rattle.mh_model.specs.Lists as spec;
-ghost use Rattle.mh_model.specs.Lists.{relisted as relisted_lem};
+ghost use Rattle.mh_model.specs.Lists.{relisted};
 ghost use Rattle.mh_model.specs.ListItems.{has_item};
-ghost use Rattle.mh_model.specs.Reference.{same_ref as same_ref_lem};
+ghost use Rattle.mh_model.specs.Reference.{same_ref};
 
 use crate::cells::{before_first, wraps};
 use crate::entries::push_copies;
@@ -27,7 +27,7 @@ pub(crate) fn relisted(
     fixed: &Fixed,
     list: &Listing,
 ) -> Result<Option<Listing>, AllocError>
-    ensures { IfOk result (λ after. after ≡ relisted_lem name values.now fixed.now list.now) }
+    ensures { IfOk result (λ after. after ≡ relisted name values.now fixed.now list.now) }
 {
     match (name, values) {
         (ActionName::AddItem, [Value::Int(number), Value::Object(object)]) => {
@@ -115,7 +115,7 @@ fn without_item(
 
 /// The place of the item that the object is, if it is among them.
 fn place_of(object: &ObjRef, entries: &[Entry]) -> Option<usize>
-    ensures { result ≡ position (λ e. same_ref_lem object.now e.object) entries.now }
+    ensures { result ≡ position (λ e. same_ref object.now e.object) entries.now }
 {
     entries
         .iter()

@@ -4,7 +4,7 @@ ghost use Rattle.std.specs.List.{position};
 ghost use Rattle.mh_group.specs.Table.{is_visible};
 ghost use Rattle.mh_model.specs.declared.listing.Entry.{Entry as EntryValue};
 ghost use Rattle.mh_model.specs.Lists as spec;
-ghost use Rattle.mh_model.specs.Lists.{selection_worked as selection_worked_lem};
+ghost use Rattle.mh_model.specs.Lists.{selection_worked};
 ghost use Rattle.mh_widgets.specs.Does.{Does, placed_by, placed_with};
 
 use crate::done::Done;
@@ -25,7 +25,7 @@ pub fn selection_worked(
     at: &ObjRef,
     object: &Object,
 ) -> Result<Done, AllocError>
-    ensures done { let said = selection_worked_lem name values.now at.now object.now.fixed object.now.body in
+    ensures done { let said = selection_worked name values.now at.now object.now.fixed object.now.body in
         IfOk result (λ done. Does object.now said done) }
     ensures edited { IfOk result (λ done. done.placed.items ≡ placed_with done.edit done.placed.items) }
     ensures unseen { let seen = is_visible object.now.fixed.class in

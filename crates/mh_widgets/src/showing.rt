@@ -2,7 +2,7 @@
 ghost use Rattle.std.specs.Prelude.{◌≡◌, ◌++◌, if◌then◌else◌, OnOk, IfOk};
 ghost use Rattle.std.specs.Option.{option_copied};
 ghost use Rattle.mh_model.specs.Lists as spec;
-ghost use Rattle.mh_model.specs.Lists.{shows, nothing_shown, shown_in, in_cells, cells_placed as cells_placed_lem, list_items as list_items_lem};
+ghost use Rattle.mh_model.specs.Lists.{shows, nothing_shown, shown_in, in_cells, cells_placed, list_items};
 
 use crate::cells::{Cells, before_first, positions, wraps};
 use crate::events::{count_event, truth_event};
@@ -174,7 +174,7 @@ pub(crate) fn list_items(
     before: &Showing<'_>,
     after: &Showing<'_>,
 ) -> Result<Vec<Item>, AllocError>
-    ensures { IfOk result (λ items. items.items ≡ list_items_lem at.now before.now after.now) }
+    ensures { IfOk result (λ items. items.items ≡ list_items at.now before.now after.now) }
 {
     let mut items = Vec::new(alloc);
     before.cells().halt_all_but(&mut items, after.cells())?;
@@ -189,7 +189,7 @@ pub(crate) fn cells_placed(
     fixed: &Fixed,
     shown: &Showing<'_>,
 ) -> Result<Vec<(ObjRef, Position)>, AllocError>
-    ensures { IfOk result (λ placed. placed.items ≡ cells_placed_lem fixed.now shown.now) }
+    ensures { IfOk result (λ placed. placed.items ≡ cells_placed fixed.now shown.now) }
 {
     let mut placed = Vec::new(alloc);
     shown.cells().place_at(&mut placed, positions(fixed))?;

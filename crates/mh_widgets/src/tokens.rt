@@ -5,7 +5,7 @@ ghost use Rattle.std.specs.Option.{option_copied};
 ghost use Rattle.mh_group.specs.Table.{is_visible};
 ghost use Rattle.mh_model.specs.Items.{acts};
 ghost use Rattle.mh_model.specs.Tokens as spec;
-ghost use Rattle.mh_model.specs.Tokens.{slot_items, token_worked as token_worked_lem};
+ghost use Rattle.mh_model.specs.Tokens.{slot_items, token_worked};
 ghost use Rattle.mh_widgets.specs.Does.{Does, acts_of, placed_by, placed_with};
 
 use crate::counts::numbered;
@@ -26,7 +26,7 @@ pub fn token_worked(
     at: &ObjRef,
     object: &Object,
 ) -> Result<Done, AllocError>
-    ensures done { let said = token_worked_lem name values.now at.now object.now.fixed object.now.body in
+    ensures done { let said = token_worked name values.now at.now object.now.fixed object.now.body in
         IfOk result (λ done. Does object.now said done) }
     ensures edited { IfOk result (λ done. done.placed.items ≡ placed_with done.edit done.placed.items) }
     ensures unseen { let seen = is_visible object.now.fixed.class in

@@ -1,8 +1,8 @@
 //! What the actions of widgets make of one, each by its family.
 ghost use Rattle.std.specs.Prelude.{◌≡◌, IfOk};
 ghost use Rattle.mh_group.specs.Table.{is_visible};
-ghost use Rattle.mh_model.specs.Lists.{list_worked as list_worked_lem};
-ghost use Rattle.mh_model.specs.Worked.{if_list as if_list_lem, worked as worked_lem};
+ghost use Rattle.mh_model.specs.Lists.{list_worked};
+ghost use Rattle.mh_model.specs.Worked.{if_list, worked};
 ghost use Rattle.mh_widgets.specs.Does.{Does, placed_by, placed_with};
 
 use crate::buttons::button_worked;
@@ -24,7 +24,7 @@ pub fn worked(
     at: &ObjRef,
     object: &Object,
 ) -> Result<Done, AllocError>
-    ensures done { let said = worked_lem name values.now at.now object.now.fixed object.now.body in
+    ensures done { let said = worked name values.now at.now object.now.fixed object.now.body in
         IfOk result (λ done. Does object.now said done) }
     ensures edited { IfOk result (λ done. done.placed.items ≡ placed_with done.edit done.placed.items) }
     ensures unseen { let seen = is_visible object.now.fixed.class in
@@ -51,8 +51,8 @@ fn if_list(
     at: &ObjRef,
     object: &Object,
 ) -> Result<Done, AllocError>
-    ensures done { let said = list_worked_lem name values.now at.now object.now.fixed object.now.body in
-        let done_to = if_list_lem object.now.fixed object.now.body said in
+    ensures done { let said = list_worked name values.now at.now object.now.fixed object.now.body in
+        let done_to = if_list object.now.fixed object.now.body said in
         IfOk result (λ done. Does object.now done_to done) }
     ensures edited { IfOk result (λ done. done.placed.items ≡ placed_with done.edit done.placed.items) }
     ensures unseen { let seen = is_visible object.now.fixed.class in

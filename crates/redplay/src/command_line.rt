@@ -5,7 +5,7 @@
 ghost use Rattle.std.specs.Prelude.{◌≡◌, ◌≤◌, map, codes, true, IfOk, IfErr};
 ghost use Rattle.clap.specs.Words.{FailsBy, fault_of, found_of, kind_of, rows_of, subcommand_of, subcommand_rows_of, takes};
 ghost use Rattle.clap.specs.declared.error.kind.ErrorKind.TheVariants.{OutOfMemory};
-ghost use Rattle.redplay.specs.CommandLine.{HasDay, IsRefusedBy, IsToldAs, TellsNoMemory, asked_by, asked_under, day_in as day_in_lem, day_of as day_of_lem, is_set as is_set_lem, last_day, said, text_of as text_of_lem};
+ghost use Rattle.redplay.specs.CommandLine.{HasDay, IsRefusedBy, IsToldAs, TellsNoMemory, asked_by, asked_under, day_in, day_of, is_set, last_day, said, text_of};
 ghost use Rattle.redplay.specs.declared.command_line.NoTask.TheVariants.{NoMemory};
 ghost use Rattle.redplay.specs.CommandLine as spec;
 
@@ -141,8 +141,8 @@ fn converting<'a>(given: &ArgMatches<'a>, to: Notation) -> Task<'a>
 }
 
 fn source_of<'a>(given: &ArgMatches<'a>) -> Source<'a>
-    ensures folder { result.folder.now ≡ text_of_lem (codes "DIR") (rows_of (found_of given.now)) }
-    ensures start { result.start.now ≡ text_of_lem (codes "start") (rows_of (found_of given.now)) }
+    ensures folder { result.folder.now ≡ text_of (codes "DIR") (rows_of (found_of given.now)) }
+    ensures start { result.start.now ≡ text_of (codes "start") (rows_of (found_of given.now)) }
 {
     Source {
         folder: text_of(given, "DIR"),
@@ -153,7 +153,7 @@ fn source_of<'a>(given: &ArgMatches<'a>) -> Source<'a>
 /// The value of an argument that is required or has a default. Were there none, it would be the empty
 /// text.
 fn text_of<'a>(given: &ArgMatches<'a>, name: &str) -> &'a str
-    ensures { result.now ≡ text_of_lem name.now (rows_of (found_of given.now)) }
+    ensures { result.now ≡ text_of name.now (rows_of (found_of given.now)) }
 {
     match given.get_str(name) {
         Some(text) => text,
@@ -163,7 +163,7 @@ fn text_of<'a>(given: &ArgMatches<'a>, name: &str) -> &'a str
 
 /// Whether a flag was given.
 fn is_set<'a>(given: &ArgMatches<'a>, name: &str) -> bool
-    ensures { result ≡ is_set_lem name.now (rows_of (found_of given.now)) }
+    ensures { result ≡ is_set name.now (rows_of (found_of given.now)) }
 {
     match given.get_str(name) {
         Some(text) => text == "true",
@@ -173,7 +173,7 @@ fn is_set<'a>(given: &ArgMatches<'a>, name: &str) -> bool
 
 /// The day on which a play begins.
 fn day_of<'a>(given: &ArgMatches<'a>) -> u32
-    ensures day { result ≡ day_of_lem (rows_of (found_of given.now)) }
+    ensures day { result ≡ day_of (rows_of (found_of given.now)) }
     ensures last { result ≤ last_day }
 {
     day_in(text_of(given, "mjd"))
@@ -181,7 +181,7 @@ fn day_of<'a>(given: &ArgMatches<'a>) -> u32
 
 /// The day that a text writes. The argument's rule lets no other text through.
 fn day_in(text: &str) -> u32
-    ensures day { result ≡ day_in_lem text.now }
+    ensures day { result ≡ day_in text.now }
     ensures last { result ≤ last_day }
 {
     match text.parse::<u64>() {

@@ -11,5 +11,5 @@ pub loop-left-preserved : goal.loop-left-preserved
 loop-left-preserved c = (
   omega (arith, c.loop-left.invariant.0),
   next_down (all c.args.objects.now) (reverse c.args.stack.now) c.args.stack.now c.loop-left.left (c.loop-left.left - 1) c.index-stack-left.result _ _ _ _ c.loop-left.invariant.0
-      (omega (arith, c.loop-left-test.true)) (search rules) c.kept.ensures c.loop-left.invariant.1 c.paint_found.ensures,
+      (omega (arith, c.loop-left-test.true)) (search rules) c.lined.ensures c.loop-left.invariant.1 c.paint_found.ensures,
 )

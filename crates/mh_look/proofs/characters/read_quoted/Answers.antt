@@ -1,5 +1,5 @@
 use Rattle.std.proofs.Common.{◌≡◌, ◌∙◌, sym, length, slice_index, arith}
-use Rattle.mh_model.specs.Printing.{quoted}
+use Rattle.mh_told.specs.Printing.{quoted}
 use Rattle.mh_look.proofs.NumberLemmas.{found_pair}
 use Rattle.mh_look.proofs.CharacterLemmas.{no_mark, with_slash}
 use Rattle.mh_look.proofs.characters.read_quoted.Goals as goal

@@ -1,6 +1,6 @@
 use Rattle.std.specs.Prelude.{◌≡◌, ◌≢◌, ℕ, List}
 use Rattle.std.proofs.Common.{rules, subst}
-use Rattle.mh_model.specs.Told.{total_line}
+use Rattle.mh_told.specs.Told.{total_line}
 use Rattle.mh_look.specs.Front.{behind}
 use Rattle.mh_look.specs.Reading.{IsNumberFound}
 use Rattle.mh_look.proofs.PartLemmas.{total_read, no_total, total_found, total_elsewhere}

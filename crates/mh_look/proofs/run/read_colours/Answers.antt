@@ -1,6 +1,6 @@
 use Rattle.std.specs.Prelude.{◌≡◌, ◌∷◌, ◌++◌, Some, ℕ}
 use Rattle.std.proofs.Common.{ap, ◌∙◌}
-use Rattle.mh_model.specs.Printing.{hex_colour}
+use Rattle.mh_told.specs.Printing.{hex_colour}
 use Rattle.mh_look.proofs.OptionLemmas.{some_is, nothing_is}
 use Rattle.mh_look.proofs.PlaceLemmas.{at_fore, at_back}
 use Rattle.mh_look.proofs.run.read_colours.Goals as goal

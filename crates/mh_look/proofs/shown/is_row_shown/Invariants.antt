@@ -1,6 +1,6 @@
 use Rattle.std.proofs.Common.{◌≡◌, true, take}
 use Rattle.std.specs.List.{list_all}
-use Rattle.mh_model.specs.Frame.{row_cells}
+use Rattle.mh_told.specs.Frame.{row_cells}
 use Rattle.mh_look.specs.Report.{is_shown}
 use Rattle.mh_look.proofs.shown.is_row_shown.Given as goal
 

@@ -1,6 +1,6 @@
 use Rattle.std.proofs.Common.{rules, sym, subst}
 use Rattle.mh_model.specs.Service.{group_parts}
-use Rattle.mh_actions.specs.Links.{IsIndex}
+use Rattle.mh_work.specs.Links.{IsIndex}
 use Rattle.mh_machine.proofs.ChangeLemmas.{begun_parts, begun_own}
 use Rattle.mh_machine.proofs.works.prepare.Goals as goal
 

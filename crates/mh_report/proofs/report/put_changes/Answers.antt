@@ -1,7 +1,7 @@
 use Rattle.std.proofs.lemmas.Grind.{common_steps}
 use Rattle.std.proofs.Common.{◌∙◌, sym, arith, append-nil, true, false}
 use Rattle.mh_report.proofs.ChangeLemmas.{one_more}
-use Rattle.mh_model.specs.Frame.{row_changes}
+use Rattle.mh_told.specs.Frame.{row_changes}
 use Rattle.mh_report.proofs.report.put_changes.Goals as goal
 use Rattle.mh_report.proofs.report.put_changes.Goals.{then-changed-row+in_ok-put_row, else-changed-row}
 

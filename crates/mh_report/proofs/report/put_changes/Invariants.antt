@@ -1,6 +1,6 @@
 use Rattle.std.proofs.Common.{◌≡◌, ◌++◌}
 use Rattle.std.specs.List.{flat_map, range_with_len}
-use Rattle.mh_model.specs.Frame.{row_change}
+use Rattle.mh_told.specs.Frame.{row_change}
 use Rattle.mh_report.proofs.report.put_changes.Given as goal
 
 abbrev pub invariant-loop-row : goal.invariant-loop-row

@@ -1,6 +1,6 @@
 use Rattle.std.proofs.Common.{◌≡◌, ◌++◌, drop}
 use Rattle.std.specs.List.{flat_map}
-use Rattle.mh_model.specs.Told.{fault_line}
+use Rattle.mh_told.specs.Told.{fault_line}
 use Rattle.mh_report.proofs.telling.put_all_faults.Given as goal
 
 abbrev pub invariant-loop-fault : goal.invariant-loop-fault

@@ -1,9 +1,9 @@
 use Rattle.std.specs.Prelude.{◌≡◌}
 use Rattle.std.proofs.Common.{◌∙◌, sym, subst}
-use Rattle.mh_model.specs.Safe.{IsSafe}
+use Rattle.mh_laws.specs.Safe.{IsSafe}
 use Rattle.mh_model.specs.Service.{Service}
 use Rattle.mh_model.specs.State.{begun}
-use Rattle.mh_model.proofs.SafeLemmas.{safe_begun}
+use Rattle.mh_laws.proofs.SafeLemmas.{safe_begun}
 use Rattle.mh_engine.proofs.StartLemmas.{same_programs}
 use Rattle.mh_engine.proofs.engine.Engine.begin.Goals as goal
 

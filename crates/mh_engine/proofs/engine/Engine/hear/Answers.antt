@@ -1,6 +1,6 @@
 use Rattle.std.proofs.Common.{subst, sym}
-use Rattle.mh_model.specs.Safe.{IsSafe}
-use Rattle.mh_model.proofs.SafeLemmas.{safe_told}
+use Rattle.mh_laws.specs.Safe.{IsSafe}
+use Rattle.mh_laws.proofs.SafeLemmas.{safe_told}
 use Rattle.mh_engine.proofs.engine.Engine.hear.Goals as goal
 
 pub invariant_of-self : goal.invariant_of-self

@@ -1,6 +1,6 @@
 use Rattle.std.proofs.Common.{sym, subst}
-use Rattle.mh_model.specs.Safe.{IsSafe}
-use Rattle.mh_model.proofs.SafeLemmas.{safe_posted}
+use Rattle.mh_laws.specs.Safe.{IsSafe}
+use Rattle.mh_laws.proofs.SafeLemmas.{safe_posted}
 use Rattle.mh_engine.proofs.engine.Engine.post.Goals as goal
 use Rattle.mh_engine.proofs.engine.Engine.post.Goals.{in-Ok, in-Err}
 

@@ -1,6 +1,6 @@
 use Rattle.std.proofs.Common.{◌∙◌, ap, sym, subst}
-use Rattle.mh_model.specs.Safe.{IsSafe}
-use Rattle.mh_model.proofs.SafeLemmas.{safe_front, safe_step}
+use Rattle.mh_laws.specs.Safe.{IsSafe}
+use Rattle.mh_laws.proofs.SafeLemmas.{safe_front, safe_step}
 use Rattle.mh_machine.specs.Rest.{is_faulted}
 use Rattle.mh_engine.specs.Play.{Play}
 use Rattle.mh_engine.proofs.SafeEngine.{KeepsSafe, kept_front, unfaulted}

@@ -1,7 +1,7 @@
 use Rattle.std.specs.Prelude.{◌≡◌, map, slice_get, Some}
 use Rattle.std.proofs.Common.{rules}
 use Rattle.mh_model.specs.declared.item.Item.TheVariants as item
-use Rattle.mh_actions.proofs.FrameLemmas.{front_act}
+use Rattle.mh_work.proofs.PortionLemmas.{front_act}
 use Rattle.mh_machine.proofs.StepLemmas.{called_first}
 use Rattle.mh_machine.proofs.works.Works.call_next.Goals as goal
 

@@ -8,5 +8,5 @@ use Rattle.mh_machine.proofs.works.Works.do_halt.Goals as goal
 
 pub returns-clause-done : goal.returns-clause-done
 returns-clause-done c =
-    let planned = halt_planned c.args.self.now.state c.args.at.now (option_copied c.get.result) (change.Edit c.args.at.now edit.Halt) (interacting.Ends c.args.at.now) c.in_ok-pieces.pieces.items (search rules) refl refl c.in_ok-pieces.ensures in
+    let planned = halt_planned c.args.self.now.state c.args.at.now (option_copied c.get.result) (change.Edit c.args.at.now edit.Halt) (interacting.Ends c.args.at.now) c.in_ok-batches.batches.items (search rules) refl refl c.in_ok-batches.ensures in
     search (rules, planned)

@@ -19,5 +19,5 @@ returns c =
     ∙ ap (λ (xs : List Argument). values (all c.args.self.now.state.objects) (ins c.params_at-params.result.now xs)) given in
     ap (λ (p : Plan). committed p c.args.self.now.state) c.of.ensures
     ∙ call_planned c.args.self.now.state c.args.act.now.name c.args.act.now.arguments c.args.at.now c.builtin_at-which.result
-    c.params_at-params.result.now c.in_ok-ins.ins.items c.in_ok-said.said.items c.in_ok-said.receivers.items c.from_vec.result c.in_ok-gifts.pieces.items
+    c.params_at-params.result.now c.in_ok-ins.ins.items c.in_ok-said.said.items c.in_ok-said.receivers.items c.from_vec.result c.in_ok-gifts.batches.items
     (search rules) (search rules) go_in (search rules) (search rules) (search rules) (search rules)

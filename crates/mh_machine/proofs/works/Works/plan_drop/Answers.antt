@@ -12,4 +12,4 @@ use Rattle.mh_machine.proofs.works.Works.plan_drop.Goals as goal
 pub returns : goal.returns
 returns c =
     ap (λ (p : Plan). committed p c.args.self.now.state) c.of.ensures
-    ∙ drop_planned c.args.self.now.state c.args.at.now (option_copied c.get.result) (change.Edit c.in_ok-changed.changed edit.Drop) (stacking.Fall c.in_ok-changed.fallen) (awaiting.Forget c.in_ok-forgotten.forgotten) c.in_ok-forgotten.pieces.items (search rules) (search rules) (search rules) (search rules) (search rules)
+    ∙ drop_planned c.args.self.now.state c.args.at.now (option_copied c.get.result) (change.Edit c.in_ok-changed.changed edit.Drop) (stacking.Fall c.in_ok-changed.fallen) (awaiting.Forget c.in_ok-forgotten.forgotten) c.in_ok-forgotten.batches.items (search rules) (search rules) (search rules) (search rules) (search rules)

@@ -6,8 +6,8 @@ use Rattle.mh_model.specs.Lifecycle.{is_available_at}
 use Rattle.mh_machine.specs.declared.plan.Change.TheVariants as change
 use Rattle.mh_machine.specs.declared.plan.Plan.{Plan}
 use Rattle.mh_model.specs.declared.edit.Edit.TheVariants as edit
-use Rattle.mh_actions.specs.Loading.{content_told}
-use Rattle.mh_actions.specs.Pieces.{written}
+use Rattle.mh_work.specs.Loading.{content_told}
+use Rattle.mh_work.specs.Batches.{written}
 use Rattle.mh_machine.specs.Plans.{committed, wait_if}
 use Rattle.mh_machine.specs.Working.{Working}
 use Rattle.mh_machine.proofs.PlanLemmas.{load_planned}
@@ -22,12 +22,12 @@ returns c =
     let waits = awaits
     ∙ ap (λ (m : Option (List ℕ)). wait_if c.is_available-is_there.result c.args.at.now m) lacks
     ∙ ap (λ (b : Bool). wait_if b c.args.at.now (missing c.args.self.now.state.files c.args.content.now)) there in
-    let tells : written c.in_ok-awaiting.pieces.items ≡ content_told c.is_loaded.result c.args.at.now = search rules in
+    let tells : written c.in_ok-awaiting.batches.items ≡ content_told c.is_loaded.result c.args.at.now = search rules in
     let told = tells
     ∙ ap (λ (b : Bool). content_told b c.args.at.now) (c.is_loaded.ensures ∙ ap (λ (b : Bool). b && is_some (option_copied c.comes_to-text.result)) there) in
     let at : c.in_ok-awaiting.at ≡ c.args.at.now = search rules in
     let loads : c.in_ok-awaiting.edit ≡ edit.Load c.args.content.now (option_copied c.comes_to-text.result) = search rules in
     ap (λ (p : Plan). committed p c.args.self.now.state) c.of.ensures
     ∙ load_planned c.args.self.now.state c.args.content.now c.args.at.now (option_copied c.get.result) (option_copied c.comes_to-text.result)
-    (change.Edit c.in_ok-awaiting.at c.in_ok-awaiting.edit) c.in_ok-awaiting.awaiting c.in_ok-awaiting.pieces.items
+    (change.Edit c.in_ok-awaiting.at c.in_ok-awaiting.edit) c.in_ok-awaiting.awaiting c.in_ok-awaiting.batches.items
     c.requires (search rules) text (λ i. change.Edit (at i) (loads i)) waits told

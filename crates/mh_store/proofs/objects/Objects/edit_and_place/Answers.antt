@@ -2,8 +2,7 @@ use Rattle.std.proofs.Common.{ap, ◌∙◌}
 use Rattle.mh_model.specs.Edits.{edited}
 use Rattle.mh_model.specs.Rules.{changed}
 use Rattle.mh_model.specs.Service.{parts}
-use Rattle.mh_model.proofs.PartLemmas.{changed-own, changed-others}
-use Rattle.mh_model.proofs.PutLemmas.{placed-own, placed-others}
+use Rattle.mh_model.proofs.PartLemmas.{changed-own, changed-others, placed-own, placed-others}
 use Rattle.mh_store.proofs.PlacingLemmas.{renewed_behind}
 use Rattle.mh_store.proofs.objects.Objects.edit_and_place.Goals as goal
 

@@ -1,0 +1,4 @@
+pub mod Equipment
+pub mod Index
+pub mod Sites
+pub mod Reach

@@ -1,0 +1,11 @@
+pub mod Describing
+pub mod Active
+pub mod Acceptable
+pub mod Safe
+pub mod Headline
+pub mod ExampleFirst
+pub mod ExampleComputing
+pub mod ExampleShowing
+pub mod ExamplePassing
+pub mod ExampleHanding
+pub mod ExampleWidgets

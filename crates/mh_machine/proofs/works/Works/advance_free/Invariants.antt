@@ -1,9 +1,0 @@
-use Rattle.std.proofs.Common.{◌≡◌, ◌-◌}
-use Rattle.mh_model.specs.Safe.{IsSafe}
-use Rattle.mh_model.specs.Step.{advanced}
-use Rattle.mh_machine.proofs.works.Works.advance_free.Given as goal
-
-abbrev pub invariant-loop-made : goal.invariant-loop-made
-invariant-loop-made l =
-    (advanced (l.most - l.made) l.self.state ≡ advanced l.most l.initial.self.state)
-    × (l.self.state ≡ advanced l.made l.initial.self.state) × IsSafe l.self.state

@@ -1,8 +1,0 @@
-use Rattle.mh_model.proofs.EmittingLemmas.{emits_listed, lists_emitted}
-use Rattle.mh_model.proofs.describing.emits_what_is_listed.Goals as goal
-
-pub returns-clause-each : goal.returns-clause-each
-returns-clause-each c = emits_listed
-
-pub returns-clause-all : goal.returns-clause-all
-returns-clause-all c = lists_emitted

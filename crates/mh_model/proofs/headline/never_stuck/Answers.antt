@@ -1,5 +1,0 @@
-use Rattle.mh_model.proofs.SafeLemmas.{never_stuck_law}
-use Rattle.mh_model.proofs.headline.never_stuck.Goals as goal
-
-pub returns : goal.returns
-returns c = never_stuck_law

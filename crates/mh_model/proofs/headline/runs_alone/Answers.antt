@@ -1,5 +1,0 @@
-use Rattle.mh_model.proofs.ReceiverLemmas.{runs_alone_law}
-use Rattle.mh_model.proofs.headline.runs_alone.Goals as goal
-
-pub returns : goal.returns
-returns c = runs_alone_law

@@ -1,0 +1,174 @@
+//! `Lined`: an object with the lines of its text.
+ghost use Rattle.std.specs.Prelude.{◌≡◌, true, IfOk, OnOk, OnErr};
+ghost use Rattle.std.specs.Str.{bytes_eq};
+ghost use Rattle.mh_group.specs.Table.{is_visible};
+ghost use Rattle.mh_model.specs.Bodies.{given};
+ghost use Rattle.mh_model.specs.Edits.{edited};
+ghost use Rattle.mh_model.specs.Looks.{lines_of as lines_of_lem};
+ghost use Rattle.mh_model.specs.Service.{fresh};
+ghost use Rattle.mh_store.specs.Bringing.{with_brought};
+ghost use Rattle.mh_store.specs.Placing.{with_place};
+ghost use Rattle.mh_store.specs.Table.{with_body};
+
+use crate::keeping::{are_same_lines, leaves_lines, lines_for};
+use mh_base::{GroupName, Octets, Seq, Value, both};
+use mh_group::{Attribute, Position};
+use mh_model::{Edit, FixedPart, Held, Line, Object};
+use std::alloc::{AllocError, Global};
+use std::marker::Model;
+
+/// An object with the lines of its text, laid out. A contract sees the object.
+#[derive(Drop)]
+pub struct Lined {
+    object: Object,
+    lines: Seq<Line>,
+}
+
+impl Model for Lined {
+    ghost use Rattle.std.specs.Prelude.{◌≡◌};
+    ghost use Rattle.mh_model.specs.declared.object.Object.{Object};
+    ghost use Rattle.mh_model.specs.Looks.{lines_of};
+
+    ghost Value = { Object };
+
+    ghost view = { λ k. k.object };
+
+    ghost invariant = { λ k. k.lines ≡ lines_of k.object };
+}
+
+impl Lined {
+    /// The object as it is when its group is entered. Where it shows no text its lines take no memory.
+    pub(crate) fn fresh(alloc: Global, part: &FixedPart) -> Result<Lined, AllocError>
+        ensures { IfOk result (λ kept. kept ≡ fresh part.now) }
+    {
+        laid_out(alloc, Object::fresh(alloc, part)?)
+    }
+
+    pub fn object(&self) -> &Object
+        ensures { result.now ≡ self.now }
+    {
+        &self.object
+    }
+
+    /// The lines of the text that is shown, the upper ones first; none where none is.
+    pub fn lines(&self) -> &[Line]
+        ensures { result.now ≡ lines_of_lem self.now }
+    {
+        self.lines.as_slice()
+    }
+
+    /// Gives a variable a value. It takes no memory.
+    pub(crate) fn give(&mut self, value: Value)
+        ensures { self.new ≡ with_body (λ _ b. given value b) self.old }
+    {
+        self.object.body.give(value);
+    }
+
+    /// A copy of it with this text, laid out.
+    pub(crate) fn with_text(&self, alloc: Global, text: &Octets) -> Result<Lined, AllocError>
+        ensures { IfOk result (λ kept. kept ≡ with_brought text.now self.now) }
+    {
+        laid_out(alloc, brought_copy(alloc, &self.object, text)?)
+    }
+
+    /// The number of its reference.
+    pub(crate) fn number(&self) -> u32
+        ensures { result ≡ self.now.fixed.key.number }
+    {
+        self.object.fixed.get().key.number
+    }
+
+    /// Whether it is an object of the group of this name.
+    pub(crate) fn is_in(&self, name: &GroupName) -> bool
+        ensures { result ≡ bytes_eq self.now.fixed.key.group name.now }
+    {
+        self.object.fixed.get().key.group == *name
+    }
+
+    pub(crate) fn is_visible(&self) -> bool
+        ensures { result ≡ is_visible self.now.fixed.class }
+    {
+        self.object.fixed.get().class.is_visible()
+    }
+
+    /// A copy of a visible that is placed here, laid out.
+    pub(crate) fn placed(&self, alloc: Global, position: Position) -> Result<Lined, AllocError>
+        ensures { IfOk result (λ kept. is_visible self.now.fixed.class ≡ true
+            → kept ≡ with_place position self.now) }
+    {
+        let edit = Edit::Put(Attribute::OrigPosition, Held::Pair(position.x, position.y));
+        laid_out(alloc, edited_copy(alloc, &self.object, edit)?)
+    }
+
+    /// Changes the body of the object, and lays its text out anew where its lines can differ.
+    #[inline(always)]
+    pub(crate) fn edit(&mut self, alloc: Global, edit: Edit) -> Result<(), AllocError>
+        ensures done { OnOk result (self.new ≡ with_body (edited edit) self.old) }
+        ensures kept { OnErr result (self.new ≡ self.old) }
+    {
+        if leaves_lines(&edit, &self.object) {
+            return edit_object(&mut self.object, edit);
+        }
+        let after = edited_copy(alloc, &self.object, edit)?;
+        if !are_same_lines(&self.object, &after) {
+            let lines = lines_for(alloc, &after)?;
+            put_lines(&mut self.lines, lines);
+        }
+        put_object(&mut self.object, after);
+        Ok(())
+    }
+}
+
+/// Changes the body of an object in place.
+#[inline(always)]
+fn edit_object(object: &mut Object, edit: Edit) -> Result<(), AllocError>
+    ensures done { OnOk result (object.new ≡ with_body (edited edit) object.old) }
+    ensures kept { OnErr result (object.new ≡ object.old) }
+{
+    object.body.edit(object.fixed.get(), edit)
+}
+
+/// The object with its text laid out.
+fn laid_out(alloc: Global, object: Object) -> Result<Lined, AllocError>
+    ensures { IfOk result (λ kept. kept ≡ object) }
+{
+    let lines = lines_for(alloc, &object)?;
+    Ok(Lined { object, lines })
+}
+
+/// A copy of the object. What never changes is shared with it.
+fn copied(alloc: Global, object: &Object) -> Result<Object, AllocError>
+    ensures { IfOk result (λ copy. copy ≡ object.now) }
+{
+    let (fixed, body) = both(object.fixed.clone(), object.body.copy(alloc))?;
+    Ok(Object { fixed, body })
+}
+
+/// A copy of the object with its body changed.
+fn edited_copy(alloc: Global, object: &Object, edit: Edit) -> Result<Object, AllocError>
+    ensures { IfOk result (λ after. after ≡ with_body (edited edit) object.now) }
+{
+    let (mut copy, edit) = both(copied(alloc, object), Ok(edit))?;
+    edit_object(&mut copy, edit).and(Ok(copy))
+}
+
+/// A copy of the object with this text.
+fn brought_copy(alloc: Global, object: &Object, text: &Octets) -> Result<Object, AllocError>
+    ensures { IfOk result (λ after. after ≡ with_brought text.now object.now) }
+{
+    let (mut copy, text) = both(copied(alloc, object), text.clone())?;
+    copy.body.bring(text);
+    Ok(copy)
+}
+
+fn put_lines(place: &mut Seq<Line>, lines: Seq<Line>)
+    ensures { place.new ≡ lines }
+{
+    *place = lines;
+}
+
+fn put_object(place: &mut Object, object: Object)
+    ensures { place.new ≡ object }
+{
+    *place = object;
+}

@@ -1,0 +1,4 @@
+pub mod Printing
+pub mod Frame
+pub mod Stretch
+pub mod Told

@@ -1,0 +1,2 @@
+pub mod PortionLemmas
+pub mod LinkLemmas

@@ -1,0 +1,5 @@
+pub mod Portions
+pub mod Links
+pub mod Listed
+pub mod Loading
+pub mod Batches
