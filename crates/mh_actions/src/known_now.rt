@@ -39,10 +39,10 @@ impl Known for KnownNow<'_> {
         written_class(self.service.find(at))
     }
 
-    fn refers(&self, variable: &ObjRef) -> Option<&[ObjRef]> {
+    fn refers(&self, variable: &ObjRef) -> &[ObjRef] {
         match refers(self.objects, variable) {
-            Some(at) => Some(slice::from_ref(at)),
-            None => Some(&[]),
+            Some(at) => slice::from_ref(at),
+            None => &[],
         }
     }
 

@@ -17,8 +17,8 @@ use Rattle.indexmap.specs.IndexMap.{shift_remove_entry}
 use Rattle.mh_base.specs.declared.obj_ref.ObjRef.{ObjRef}
 use Rattle.mh_model.specs.declared.file.Wait.{Wait}
 use Rattle.mh_model.specs.Files.{forgotten, is_wait, waits_for}
-use Rattle.mh_model.specs.Reference.{same_ref}
-use Rattle.mh_carousel.specs.Carried.{same_key, wait_of, waits_of}
+use Rattle.mh_model.specs.Reference.{same_key, same_ref}
+use Rattle.mh_carousel.specs.Carried.{wait_of, waits_of}
 
 -- References are equal, or not, as values are
 

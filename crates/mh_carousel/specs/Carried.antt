@@ -1,6 +1,5 @@
 -- The carousel, as a contract sees it.
-use Rattle.std.specs.Prelude.{ℕ, Bool, ◌==◌, ◌&&◌, List, map}
-use Rattle.std.specs.Str.{bytes_eq}
+use Rattle.std.specs.Prelude.{ℕ, List, map}
 use Rattle.mh_base.specs.declared.obj_ref.ObjRef.{ObjRef}
 use Rattle.mh_model.specs.declared.file.File.{File}
 use Rattle.mh_model.specs.declared.file.Wait.{Wait}
@@ -11,10 +10,6 @@ pub record Carried : Type 0 where
   pub waits : List Wait
   pub file_room : ℕ
   pub room : ℕ
-
--- whether two keys are one: a reference is compared by its number first
-abbrev pub same_key : ObjRef → ObjRef → Bool
-same_key a b = a.number == b.number && bytes_eq a.group b.group
 
 -- what a table has under its keys
 

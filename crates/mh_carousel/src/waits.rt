@@ -5,7 +5,8 @@ ghost use Rattle.std.specs.Map.{lookup};
 ghost use Rattle.std.specs.Str.{bytes_eq};
 ghost use Rattle.indexmap.specs.IndexMap.{spare};
 ghost use Rattle.mh_model.specs.Files.{arrived, awaited, forgotten, waits_for};
-ghost use Rattle.mh_carousel.specs.Carried.{same_key, waits_of};
+ghost use Rattle.mh_carousel.specs.Carried.{waits_of};
+ghost use Rattle.mh_model.specs.Reference.{same_key};
 
 use indexmap::IndexMap;
 use mh_base::{GroupName, ObjRef};

@@ -16,7 +16,7 @@ use Rattle.mh_model.specs.Property.{held, as_effect}
 use Rattle.mh_model.specs.Tokens.{members, member_actions, slot_actions}
 use Rattle.mh_flow.specs.Sites.{Site, numbered, through_effects, effects, sites, sites_of}
 
-behind : {X : Type 0} (xs ys zs : List X) → (xs ++ ys) ++ zs ≡ xs ++ (ys ++ zs)
+pub behind : {X : Type 0} (xs ys zs : List X) → (xs ++ ys) ++ zs ≡ xs ++ (ys ++ zs)
 behind {X} [] ys zs = refl
 behind {X} (x ∷ xs) ys zs = ap (λ (t : List X). x ∷ t) (behind xs ys zs)
 
@@ -113,6 +113,14 @@ sites_acts p =
     link : List Act
     link = as_effect (held attribute.LinkEffect p.properties)
 
+flat_mapped : {X : Type 0} (f : Act → List X) (xs : List Site) → flat_map (λ (x : Site). f x.act) xs ≡ flat_map f (map (λ (x : Site). x.act) xs)
+flat_mapped f [] = refl
+flat_mapped {X} f (x ∷ xs) = ap (λ (t : List X). f x.act ++ t) (flat_mapped f xs)
+
+-- what goes over the sites of an object goes over its actions
+pub through_sites : {X : Type 0} (f : Act → List X) (p : Fixed) → flat_map (λ (x : Site). f x.act) (sites p) ≡ flat_map f (actions p)
+through_sites f p = flat_mapped f (sites p) ∙ ap (flat_map f) (sites_acts p)
+
 all_acts : (ps : List Fixed) → map (λ (x : Site). x.act) (flat_map sites ps) ≡ flat_map actions ps
 all_acts [] = refl
 all_acts (p ∷ ps) =
@@ -125,10 +133,6 @@ pub active_acts : (ps : List Fixed) → map (λ (x : Site). x.act) (sites_of ps)
 active_acts ps = all_acts (filter (is_active ps) ps)
 
 -- what goes over the sites goes over the active actions
-
-flat_mapped : {X : Type 0} (f : Act → List X) (xs : List Site) → flat_map (λ (x : Site). f x.act) xs ≡ flat_map f (map (λ (x : Site). x.act) xs)
-flat_mapped f [] = refl
-flat_mapped {X} f (x ∷ xs) = ap (λ (t : List X). f x.act ++ t) (flat_mapped f xs)
 
 pub through_active : {X : Type 0} (f : Act → List X) (ps : List Fixed) → flat_map (λ (x : Site). f x.act) (sites_of ps) ≡ flat_map f (active_actions ps)
 through_active f ps = flat_mapped f (sites_of ps) ∙ ap (flat_map f) (active_acts ps)

@@ -1,4 +1,16 @@
+pub mod Rows
+pub mod Net
+pub mod Gathering
+pub mod Sets
 pub mod Equipment
 pub mod Index
 pub mod Sites
-pub mod Reach
+pub mod Chart
+pub mod Opening
+pub mod Solved
+pub mod Bridge
+pub mod Chains
+pub mod Moves
+pub mod Steps
+pub mod Routes
+pub mod ChainLaws

@@ -7,12 +7,13 @@ ghost use Rattle.std.specs.List.{IsDistinct};
 ghost use Rattle.std.specs.Option.{option_copied};
 ghost use Rattle.mh_group.specs.Table.{is_scene, is_application};
 ghost use Rattle.mh_model.specs.Configuration.{configurations};
-ghost use Rattle.mh_model.specs.Configuration.{is_single};
-ghost use Rattle.mh_model.specs.Configuration.{is_group_of, is_service, same_config};
+ghost use Rattle.mh_model.specs.Configuration.{has_keys, is_group_of, is_service, same_config};
+ghost use Rattle.mh_flow.specs.Index.{AreNamed};
 ghost use Rattle.mh_model.specs.Service.{group_parts, part_at};
 ghost use Rattle.mh_flow.specs.Equipment.{equipped};
 
-use mh_base::{GroupName, ObjRef};
+use indexmap::IndexMap;
+use mh_base::{GroupName, ObjRef, Seq};
 use mh_model::{Config, Fixed, FixedPart, Signature};
 use mh_service::Service;
 use std::alloc::{AllocError, Global};
@@ -63,19 +64,24 @@ impl<'a> Equipped<'a> {
         self.service.find(at)
     }
 
+    /// What the files say of the objects of each group, under the names of the groups.
+    #[tactic(auto, using(crate::proofs::EquippedLemmas::service_itself, crate::proofs::EquippedLemmas::keys_itself))]
+    pub fn groups(&self) -> &'a IndexMap<GroupName, Seq<FixedPart>>
+        ensures entries { result.now.entries ≡ self.now.groups }
+        ensures named { AreNamed self.now }
+        ensures keys { has_keys self.now ≡ true }
+    {
+        let groups = self.service.groups();
+        // its length tells that no two of them have one name
+        let _ = groups.len();
+        groups
+    }
+
     /// The name of the application that is started first.
     pub fn start(&self) -> &'a GroupName
         ensures { result.now ≡ self.now.start }
     {
         self.service.start()
-    }
-
-    /// Whether there is one application at most, and one scene.
-    #[tactic(auto, using(crate::proofs::EquippedLemmas::single_itself))]
-    pub fn is_single(&self) -> bool
-        ensures { result ≡ is_single self.now }
-    {
-        self.service.is_single()
     }
 
     /// Whether a group of this name is an application.

@@ -1,77 +1,90 @@
-//! Parts under their references, so that none is searched for.
+//! The objects of a service under their references, so that none is searched for.
 //!
-//! Promise: what is found under a reference is the first part of the list that it leads to.
-ghost use Rattle.std.specs.Prelude.{◌≡◌, ◌++◌, ◌∷◌, [], false, IfOk, OnOk};
+//! Promise: what is found under a reference is what the files say of the object to which it leads, and how
+//! many objects stand before it in its group.
+ghost use Rattle.std.specs.Prelude.{◌≡◌, ◌++◌, ◌∷◌, [], IfOk, OnOk, false};
 ghost use Rattle.std.specs.Map.{lookup};
 ghost use Rattle.std.specs.Option.{option_copied, is_some};
 ghost use Rattle.mh_model.specs.Reference.{same_ref};
-ghost use Rattle.mh_flow.specs.Index.{with_part, indexed};
+ghost use Rattle.mh_flow.specs.Index.{indexed, with_home, with_homes, with_groups};
 
+use crate::equipped::Equipped;
 use indexmap::IndexMap;
 use mh_base::ObjRef;
-use mh_model::{Fixed, FixedPart};
+use mh_model::FixedPart;
 use std::alloc::{AllocError, Global};
+use std::marker::Model;
 
-/// The part under the reference, if there is one.
-pub(crate) fn found<'a>(parts: &'a IndexMap<ObjRef, FixedPart>, at: &ObjRef) -> Option<&'a Fixed>
-    ensures { option_copied result ≡ lookup (same_ref at.now) parts.now.entries }
-{
-    match parts.get(at) {
-        None => None,
-        Some(part) => Some(part.get()),
-    }
+/// Where an object stands: what the files say of it, and how many stand before it in its group.
+#[derive(Drop)]
+pub(crate) struct Home {
+    pub part: FixedPart,
+    pub place: usize,
 }
 
-fn has(parts: &IndexMap<ObjRef, FixedPart>, at: &ObjRef) -> bool
-    ensures { result ≡ is_some (lookup (same_ref at.now) parts.now.entries) }
-{
-    match parts.get(at) {
-        None => false,
-        Some(_) => true,
-    }
+impl Model for Home {
+    ghost use Rattle.mh_flow.specs.Index.{Home as HomeValue};
+
+    ghost Value = { HomeValue };
+
+    ghost view = { λ h. record { part = h.part; place = h.place } };
 }
 
-/// Puts a part under its reference, where there is none yet.
-fn add(parts: &mut IndexMap<ObjRef, FixedPart>, part: &FixedPart) -> Result<(), AllocError>
-    requires { is_some (lookup (same_ref part.now.key) parts.old.entries) ≡ false }
-    ensures { OnOk result (parts.new.entries ≡ parts.old.entries ++ (part.now.key, part.now) ∷ []) }
+/// The objects of a service under their references.
+pub(crate) type Index = IndexMap<ObjRef, Home>;
+
+/// The home of the object to which the reference leads, if there is one.
+pub(crate) fn home_of<'a>(index: &'a Index, at: &ObjRef) -> Option<&'a Home>
+    ensures { option_copied result ≡ lookup (same_ref at.now) index.now.entries }
+{
+    index.get(at)
+}
+
+fn has(index: &Index, at: &ObjRef) -> bool
+    ensures { result ≡ is_some (lookup (same_ref at.now) index.now.entries) }
+{
+    home_of(index, at).is_some()
+}
+
+/// Puts an object under its reference, where there is none yet.
+fn add(index: &mut Index, place: usize, part: &FixedPart) -> Result<(), AllocError>
+    requires { is_some (lookup (same_ref part.now.key) index.old.entries) ≡ false }
+    ensures { OnOk result (index.new.entries
+        ≡ index.old.entries ++ (part.now.key, record { part = part.now; place = place }) ∷ []) }
 {
     let key = part.get().key.clone()?;
-    let copy = part.clone()?;
-    parts.insert(key, copy)?;
+    let part = part.clone()?;
+    index.insert(key, Home { part, place })?;
     Ok(())
 }
 
-/// Puts a part under its reference, unless there is one already.
-fn put(parts: &mut IndexMap<ObjRef, FixedPart>, part: &FixedPart) -> Result<(), AllocError>
-    ensures { OnOk result (parts.new.entries ≡ with_part parts.old.entries part.now) }
+/// Puts an object under its reference, unless there is one already.
+fn put(index: &mut Index, place: usize, part: &FixedPart) -> Result<(), AllocError>
+    ensures { OnOk result (index.new.entries ≡ with_home index.old.entries place part.now) }
 {
-    if !has(parts, &part.get().key) {
-        add(parts, part)?;
+    if !has(index, &part.get().key) {
+        add(index, place, part)?;
     }
     Ok(())
 }
 
-fn put_all(parts: &mut IndexMap<ObjRef, FixedPart>, list: &[FixedPart]) -> Result<(), AllocError>
-    ensures { OnOk result (parts.new.entries ≡ indexed parts.old.entries list.now) }
+/// Puts the objects of a group under their references.
+fn put_group(index: &mut Index, parts: &[FixedPart]) -> Result<(), AllocError>
+    ensures { OnOk result (index.new.entries ≡ with_homes index.old.entries 0 parts.now) }
 {
-    for part in list {
-        put(parts, part)?;
+    for place in 0..parts.len() {
+        put(index, place, &parts[place])?;
     }
     Ok(())
 }
 
-/// The parts of both lists under their references.
-#[tactic(auto, using(crate::proofs::IndexLemmas::indexed_append))]
-pub(crate) fn index_of(
-    alloc: Global,
-    application: &[FixedPart],
-    scene: &[FixedPart],
-) -> Result<IndexMap<ObjRef, FixedPart>, AllocError>
-    ensures { IfOk result (λ parts. parts.entries ≡ indexed [] (application.now ++ scene.now)) }
+/// The objects of the service under their references.
+pub(crate) fn index_of(alloc: Global, service: &Equipped<'_>) -> Result<Index, AllocError>
+    ensures { IfOk result (λ index. index.entries ≡ indexed service.now) }
 {
-    let mut parts = IndexMap::new(alloc);
-    put_all(&mut parts, application)?;
-    put_all(&mut parts, scene)?;
-    Ok(parts)
+    let mut index = IndexMap::new(alloc);
+    for parts in service.groups().values() {
+        put_group(&mut index, parts.as_slice())?;
+    }
+    Ok(index)
 }

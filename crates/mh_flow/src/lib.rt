@@ -1,16 +1,42 @@
-//! Which configurations of a service are reached, and the one walk over what can come to be done in each.
+//! Flow: which configurations of a service are reached, to what each variable may refer and which items each list may
+//! have there; and the one walk over what can come to be done in each.
 //!
-//! Promise: all that are reached are found, and no others; the actions that can come to be done in a
-//! configuration are one list, each at its place, in written order. What is wrong with one is left to the
-//! crates above.
+//! Promise: the flow is the least solution; the actions that can come to be done in a configuration are one list, each
+//! at its place, in written order; and a chain tells how a reference came to a variable or a list, the first of the
+//! shortest. What is wrong with an action is left to the crates above.
 #![tactic(auto)]
 
+mod bits;
+pub mod chain;
+mod chart;
 mod equipped;
+mod finding;
+mod fixpoint;
+mod flow;
+mod gathered;
 mod index;
+mod known;
+mod law;
+mod link;
+mod moves;
+mod net;
+mod numbering;
+mod opening;
+mod place;
 mod present;
-pub mod reaching;
+mod references;
+mod routes;
+mod rows;
+mod search;
+mod sets;
 pub mod sites;
+mod steps;
 
 pub use equipped::Equipped;
-pub use present::{KnownBefore, Present};
+pub use finding::flow_of;
+pub use flow::{Flow, Held};
+pub use known::KnownWith;
+pub use law::{chains_say_what_is_held, moves_say_what_is_brought};
+pub use link::Link;
+pub use present::Present;
 pub use sites::Site;

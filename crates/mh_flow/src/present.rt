@@ -1,49 +1,52 @@
-//! What is present in a configuration, what is known of it, and where an action leads.
+//! What is present in a configuration, and where an action leads.
 //!
-//! Promise: each function answers what the definition of the same name in `mh_model` says.
-ghost use Rattle.std.specs.Prelude.{◌≡◌, ◌++◌, IfOk};
+//! Promise: each function answers what the definition of the same name says.
+ghost use Rattle.std.specs.Prelude.{◌≡◌, ◌<◌, ◌+◌, ◌++◌, IfOk, Some, length, slice_get};
 ghost use Rattle.std.specs.Option.{option_copied, option_map};
-ghost use Rattle.mh_laws.specs.Active.{has_source, is_active};
-ghost use Rattle.mh_laws.specs.Active.{leads, leads_to};
-ghost use Rattle.mh_model.specs.Configuration.{present, scene_parts};
-ghost use Rattle.mh_model.specs.Known.{known_before};
+ghost use Rattle.mh_flow.specs.Index.{indexed, is_entered};
+ghost use Rattle.mh_flow.specs.Chart.{place_in};
+ghost use Rattle.mh_flow.specs.Solved.{is_holder_in};
+ghost use Rattle.mh_laws.specs.Active.{has_source, is_active, leads_to};
+ghost use Rattle.mh_laws.specs.Flow.{is_reference_in, is_list_in, is_given, is_holder, refers};
+ghost use Rattle.mh_model.specs.Configuration.{present, same_scene, scene_parts};
+ghost use Rattle.mh_model.specs.Known.{class_at};
 ghost use Rattle.mh_model.specs.Property.{held, as_value};
+ghost use Rattle.mh_group.specs.Table.{is_list_group};
 ghost use Rattle.mh_model.specs.Service.{part_at};
 
 use crate::equipped::Equipped;
-use crate::index::{found, index_of};
-use indexmap::IndexMap;
+use crate::index::{Home, Index, home_of};
 use mh_base::{GroupName, ObjRef, Value};
 use mh_group::{ActionName, Attribute, Class};
 use mh_model::held::as_value;
-use mh_model::known::Known;
-use mh_model::{Act, Config, Fixed, FixedPart, Param, Properties, Target};
-use mh_resident::takes;
-use std::alloc::{AllocError, Global};
+use mh_model::{Config, Fixed, FixedPart, Properties};
+use std::alloc::AllocError;
 use std::marker::Model;
 
-/// What the files say of what is present: the parts of the application, then those of the scene, and all of
-/// them under their references. A contract sees them as one list.
+/// What the files say of what is present: the parts of the application, then those of the scene. A contract
+/// sees them as one list.
 #[derive(Drop)]
 pub struct Present<'a> {
+    service: &'a Equipped<'a>,
+    config: &'a Config,
+    index: &'a Index,
     application: &'a [FixedPart],
     scene: &'a [FixedPart],
-    index: IndexMap<ObjRef, FixedPart>,
 }
 
 impl<'a> Model for Present<'a> {
-    ghost use Rattle.std.specs.Prelude.{◌≡◌, List, [], ◌++◌};
+    ghost use Rattle.std.specs.Prelude.{List, ◌++◌};
     ghost use Rattle.mh_model.specs.declared.object.Fixed.{Fixed};
-    ghost use Rattle.mh_flow.specs.Index.{indexed};
+    ghost use Rattle.mh_flow.specs.Index.{IsPresent};
 
     ghost Value = { List Fixed };
 
     ghost view = { λ p. p.application.now ++ p.scene.now };
 
-    ghost invariant = { λ p. p.index.entries ≡ indexed [] (p.application.now ++ p.scene.now) };
+    ghost invariant = { λ p. IsPresent p.service.now p.config.now p.index.now.entries p.application.now p.scene.now };
 }
 
-fn scene_parts<'a>(service: &Equipped<'a>, name: &Option<GroupName>) -> &'a [FixedPart]
+pub(crate) fn scene_parts<'a>(service: &Equipped<'a>, name: &Option<GroupName>) -> &'a [FixedPart]
     ensures { result.now ≡ scene_parts service.now name.now }
 {
     match name {
@@ -52,23 +55,57 @@ fn scene_parts<'a>(service: &Equipped<'a>, name: &Option<GroupName>) -> &'a [Fix
     }
 }
 
+fn part_in(parts: &[FixedPart], place: usize) -> Option<&Fixed>
+    ensures { option_copied result ≡ slice_get parts.now place }
+{
+    match parts.get(place) {
+        None => None,
+        Some(part) => Some(part.get()),
+    }
+}
+
+/// Whether the group of this name is the scene.
+pub(crate) fn is_scene(scene: &Option<GroupName>, group: &GroupName) -> bool
+    ensures { result ≡ same_scene scene.now (Some group.now) }
+{
+    match scene {
+        None => false,
+        Some(scene) => scene == group,
+    }
+}
+
+/// How many stand before the one at this place of the parts, with those before them.
+fn place_behind(before: &[FixedPart], parts: &[FixedPart], place: usize) -> usize
+    requires { place < length parts.now }
+    ensures { result ≡ length before.now + place }
+{
+    // that the sum is a number here is known by the lengths of both
+    let _ = parts.len();
+    before.len() + place
+}
+
+/// Whether the group is the application or the scene.
+fn is_entered(config: &Config, group: &GroupName) -> bool
+    ensures { result ≡ is_entered config.now group.now }
+{
+    *group == config.app || is_scene(&config.scene, group)
+}
+
 impl<'a> Present<'a> {
-    /// What is present in the configuration.
-    pub fn of(
-        alloc: Global,
-        service: &Equipped<'a>,
-        config: &Config,
-    ) -> Result<Present<'a>, AllocError>
-        ensures { IfOk result (λ parts. parts ≡ present service.now config.now) }
+    /// What is present in the configuration, where this is the index of the service.
+    pub(crate) fn of(service: &'a Equipped<'a>, index: &'a Index, config: &'a Config) -> Present<'a>
+        requires { index.now.entries ≡ indexed service.now }
+        ensures { result ≡ present service.now config.now }
     {
-        let application = service.parts(&config.app);
-        let scene = scene_parts(service, &config.scene);
-        let index = index_of(alloc, application, scene)?;
-        Ok(Present {
-            application,
-            scene,
+        // that their names are their own is known where there are groups
+        let _ = service.groups();
+        Present {
+            service,
+            config,
             index,
-        })
+            application: service.parts(&config.app),
+            scene: scene_parts(service, &config.scene),
+        }
     }
 
     /// The parts of the application, and those of the scene.
@@ -78,11 +115,104 @@ impl<'a> Present<'a> {
         (self.application, self.scene)
     }
 
+    /// The object before which so many stand.
+    pub(crate) fn at(&self, place: usize) -> Option<&'a Fixed>
+        ensures { option_copied result ≡ slice_get self.now place }
+    {
+        if place < self.application.len() {
+            Some(self.application[place].get())
+        } else {
+            part_in(self.scene, place - self.application.len())
+        }
+    }
+
+    /// The home of the object to which the reference leads, if it is present.
+    fn home(&self, at: &ObjRef) -> Option<&Home>
+        ensures { option_map (λ h. h.part) (option_copied result) ≡ part_at at.now self.now }
+    {
+        if is_entered(self.config, &at.group) {
+            home_of(self.index, at)
+        } else {
+            None
+        }
+    }
+
     /// The part to which the reference leads, if it is present.
     pub fn find(&self, at: &ObjRef) -> Option<&Fixed>
         ensures { option_copied result ≡ part_at at.now self.now }
     {
-        found(&self.index, at)
+        match self.home(at) {
+            None => None,
+            Some(home) => Some(home.part.get()),
+        }
+    }
+
+    /// How many of those that are present stand before the one to which the reference leads.
+    pub(crate) fn place(&self, at: &ObjRef) -> Option<usize>
+        ensures { result ≡ place_in self.now at.now }
+    {
+        match home_of(self.index, at) {
+            None => None,
+            Some(home) => {
+                if at.group == self.config.app {
+                    return Some(home.place);
+                }
+                if is_scene(&self.config.scene, &at.group) {
+                    return Some(place_behind(self.application, self.scene, home.place));
+                }
+                None
+            }
+        }
+    }
+
+    /// Whether it is a variable of references or a list, and present.
+    pub(crate) fn is_holder(&self, at: &ObjRef) -> bool
+        ensures { result ≡ is_holder_in self.now at.now }
+    {
+        match self.class_of(at) {
+            None => false,
+            Some(class) => is_holder(class),
+        }
+    }
+
+    /// The class of the object to which the reference leads, if it is present.
+    pub fn class_of(&self, at: &ObjRef) -> Option<Class>
+        ensures { result ≡ class_at at.now self.now }
+    {
+        match self.find(at) {
+            None => None,
+            Some(part) => Some(part.class),
+        }
+    }
+
+    /// Whether it is a variable of references, and present.
+    pub(crate) fn is_reference(&self, at: &ObjRef) -> bool
+        ensures { result ≡ is_reference_in self.now at.now }
+    {
+        match self.class_of(at) {
+            None => false,
+            Some(class) => refers(class),
+        }
+    }
+
+    /// Whether it is a list, and present.
+    pub(crate) fn is_list(&self, at: &ObjRef) -> bool
+        ensures { result ≡ is_list_in self.now at.now }
+    {
+        match self.class_of(at) {
+            None => false,
+            Some(class) => is_list(class),
+        }
+    }
+
+    /// Whether the action can hand the object what it keeps.
+    pub(crate) fn is_given(&self, action: ActionName, at: &ObjRef) -> bool
+        ensures { result ≡ is_given self.now action at.now }
+    {
+        match self.class_of(at) {
+            None => false,
+            Some(class) => class.admits(action) && is_holder(class),
+        }
     }
 
     /// Whether the effects of the object can come to be done: those of a link only where its source is
@@ -105,76 +235,30 @@ impl<'a> Present<'a> {
             _ => false,
         }
     }
-
-    /// What is known of an action there, as far as the files tell.
-    pub fn before<'b>(&'b self, service: &'b Equipped<'b>) -> KnownBefore<'b>
-        ensures { known_before result.service.now result.present.now
-            ≡ known_before service.now self.now }
-    {
-        KnownBefore {
-            service,
-            present: self,
-        }
-    }
 }
 
-/// What the files say where these parts of a service are present: of what variables hold, nothing.
-#[derive(Drop)]
-pub struct KnownBefore<'a> {
-    service: &'a Equipped<'a>,
-    present: &'a Present<'a>,
-}
-
-impl<'a> Known for KnownBefore<'a> {
-    ghost use Rattle.mh_model.specs.Known.{known_before};
-
-    ghost known = { λ b. known_before b.service.now b.present.now };
-
-    fn class_of(&self, at: &ObjRef) -> Option<Class> {
-        class_of(self.present.find(at))
-    }
-
-    fn group_class(&self, at: &ObjRef) -> Option<Class> {
-        class_of(self.service.find(at))
-    }
-
-    fn refers(&self, _variable: &ObjRef) -> Option<&[ObjRef]> {
-        None
-    }
-
-    fn number(&self, _variable: &ObjRef) -> Option<&i32> {
-        None
-    }
-
-    fn takes(&self, program: &ObjRef) -> Option<&[Param]> {
-        takes(self.service.programs(), self.present.find(program))
-    }
-}
-
-fn class_of(part: Option<&Fixed>) -> Option<Class>
-    ensures { result ≡ option_map (λ p. p.class) (option_copied part.entry) }
+/// Whether objects of the class are variables of references.
+pub(crate) fn refers(class: Class) -> bool
+    ensures { result ≡ refers class }
 {
-    match part {
-        None => None,
-        Some(part) => Some(part.class),
-    }
+    matches!(class, Class::ObjectRefVar)
 }
 
-/// The configuration to which the action leads, if it leads anywhere.
-pub fn leads(
-    service: &Equipped<'_>,
-    config: &Config,
-    act: &Act,
-) -> Result<Option<Config>, AllocError>
-    ensures { IfOk result (λ led. led ≡ leads service.now config.now act.now) }
+pub(crate) fn is_list(class: Class) -> bool
+    ensures { result ≡ is_list_group class }
 {
-    match &act.target {
-        Target::Direct(at) => leads_to(service, config, act.name, at),
-        Target::Through(_) => Ok(None),
-    }
+    matches!(class, Class::ListGroup)
 }
 
-fn leads_to(
+/// Whether objects of the class have a set: variables of references, and lists.
+pub(crate) fn is_holder(class: Class) -> bool
+    ensures { result ≡ is_holder class }
+{
+    matches!(class, Class::ObjectRefVar | Class::ListGroup)
+}
+
+/// The configuration to which an action leads that is done to this object, if it leads anywhere.
+pub(crate) fn leads_to(
     service: &Equipped<'_>,
     config: &Config,
     action: ActionName,

@@ -125,7 +125,7 @@ pub fn members(part: &Fixed) -> &[Member]
 }
 
 /// The sites of an object: start-up, close-down, what a link does, and slots.
-fn sites(alloc: Global, part: &Fixed) -> Result<Vec<Site<'_>>, AllocError>
+pub(crate) fn sites(alloc: Global, part: &Fixed) -> Result<Vec<Site<'_>>, AllocError>
     ensures { IfOk result (λ sites. sites.items ≡ sites_lem part.now) }
 {
     let mut sites = Vec::new(alloc);

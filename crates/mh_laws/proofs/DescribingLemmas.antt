@@ -33,7 +33,8 @@ use Rattle.mh_model.specs.Tokens.{token_wanted, can_turn, turned, slot_actions, 
 use Rattle.mh_model.specs.Widget.{Worked, no_work, event_with}
 use Rattle.mh_model.specs.Worked.{worked}
 use Rattle.mh_laws.specs.Describing.{Piece, Tells, can_put, list_pieces, IsListed, AreOf, PutsWhatItCan}
-use Rattle.mh_laws.proofs.ListedLemmas.{Each, IsListedIf, slot_among, own_among, shown_among, relisted_among}
+use Rattle.mh_laws.specs.Each.{Each}
+use Rattle.mh_laws.proofs.ListedLemmas.{IsListedIf, slot_among, own_among, shown_among, relisted_among}
 use Rattle.mh_model.specs.Files.{comes_to, is_loadable}
 
 sent_of : (source r : ObjRef) (vs : List Value) (o : Object) (m : Option EventType) (more : List Value) → slice_get vs 0 ≡ Some (value.Object source) → AreOf r vs o (can_put action.SendEvent) (sent source m more)

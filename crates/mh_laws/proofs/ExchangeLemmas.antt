@@ -1,5 +1,6 @@
 -- An exchange keeps a state safe: what stays is of what stays present.
-use Rattle.std.specs.Prelude.{◌≡◌, ℕ, Bool, true, false, ◌||◌, if◌then◌else◌, List, ◌++◌, Option, Some, None, refl}
+use Rattle.std.specs.Prelude.{◌≡◌, ℕ, Bool, true, false, ◌||◌, if◌then◌else◌, List, [], ◌++◌, Option, Some, None, refl}
+use Rattle.std.specs.List.{Contains}
 use Rattle.std.specs.Option.{option_map_or, option_or}
 use Rattle.std.specs.Str.{bytes_eq}
 use Rattle.std.proofs.Common.{inl, inr, ap, ◌∙◌, sym, subst, append-nil}
@@ -8,21 +9,24 @@ use Rattle.std.proofs.lemmas.Slice.Eq.{bytes_eq-Decides}
 use Rattle.mh_base.specs.declared.obj_ref.ObjRef.{ObjRef}
 use Rattle.mh_group.specs.Table.{is_scene, is_application}
 use Rattle.mh_model.specs.declared.config.Config.{Config}
+use Rattle.mh_model.specs.declared.input.Waiting.TheVariants as waiting
 use Rattle.mh_model.specs.declared.input.Waiting.{Waiting}
+use Rattle.mh_model.specs.declared.item.Item.TheVariants as item
 use Rattle.mh_model.specs.declared.item.Item.{Item}
 use Rattle.mh_model.specs.declared.object.Fixed.{Fixed}
 use Rattle.mh_model.specs.declared.time.Timer.{Timer}
-use Rattle.mh_model.specs.declared.input.Waiting.TheVariants as waiting
-use Rattle.mh_model.specs.declared.item.Item.TheVariants as item
-use Rattle.mh_model.specs.Service.{Service, part_at, group_parts, is_in, is_there}
+use Rattle.mh_model.specs.Configuration.{is_group_of, is_service, scene_parts, present}
 use Rattle.mh_model.specs.Reference.{same_ref, group_ref}
-use Rattle.mh_model.specs.State.{State}
 use Rattle.mh_model.specs.Rules.{stays, rule, scene_exchanged, application_exchanged, is_input}
-use Rattle.mh_model.specs.Configuration.{is_group_of, is_service, scene_parts, present, is_among}
-use Rattle.mh_laws.specs.Safe.{config_of, IsSafeItem, behind, IsSafeWork, IsSafe, has_origin, has_group}
+use Rattle.mh_model.specs.Service.{fresh, Service, part_at, group_parts, is_in, is_there}
+use Rattle.mh_model.specs.State.{State}
+use Rattle.mh_laws.specs.Flow.{IsHeld, Flow, IsOpen}
+use Rattle.mh_laws.specs.Safe.{config_of, behind, has_origin, has_group, IsSafeItem, IsSafeWork, IsSafeBy}
+use Rattle.mh_model.proofs.ListLemmas.{found}
 use Rattle.mh_model.proofs.PartLemmas.{parts-fresh}
 use Rattle.mh_model.proofs.ServiceLemmas.{same_ref-same, is_there_left, group_parts_in}
-use Rattle.mh_model.proofs.ListLemmas.{found}
+use Rattle.mh_laws.proofs.EachLemmas.{each_left, each_right}
+use Rattle.mh_laws.proofs.HeldLemmas.{held_fresh, held_passed}
 use Rattle.mh_laws.proofs.TimeLemmas.{all_kept}
 
 -- an object of the application is among its parts
@@ -57,8 +61,8 @@ input_stays : (before after : List Fixed) (w : Waiting) → is_input w ≡ true 
 input_stays before after (waiting.Input i) is h = refl
 input_stays before after (waiting.Event e) is h = absurd cc
 
-pub safe_exchange : (s : State) (k : IsSafe s) (g : List ℕ) (rest : List Item) (n : ℕ) → IsSafeItem s.service k.accepted.reached (config_of s) (item.Exchange g) → IsSafeWork s.service k.accepted.reached (behind s.service (config_of s) (item.Exchange g)) rest → IsSafe (rule (item.Exchange g) (record s { work = rest; taken = n }))
-safe_exchange s k g rest n leads_there behind_it = by (is_group_of is_application s.service g) refl leads_there.0 leads_there.1 behind_it
+pub safe_exchange : {fw : Flow} (s : State) (k : IsSafeBy fw s) (g : List ℕ) (rest : List Item) (n : ℕ) → IsSafeItem s.service fw (config_of s) (item.Exchange g) → IsSafeWork s.service fw (behind s.service (config_of s) (item.Exchange g)) rest → IsSafeBy fw (rule (item.Exchange g) (record s { work = rest; taken = n }))
+safe_exchange {fw} s k g rest n leads_there behind_it = by (is_group_of is_application s.service g) refl leads_there.0 leads_there.1 behind_it
   where
     before : List Fixed
     before = present s.service (config_of s)
@@ -69,26 +73,30 @@ safe_exchange s k g rest n leads_there behind_it = by (is_group_of is_applicatio
     to_scene : Config
     to_scene = record { app = s.application; scene = Some g }
 
-    by : (b : Bool) → is_group_of is_application s.service g ≡ b → (b || is_group_of is_scene s.service g) ≡ true → is_among k.accepted.reached (if b then to_application else to_scene) ≡ true → IsSafeWork s.service k.accepted.reached (if b then to_application else to_scene) rest → IsSafe (if b then application_exchanged g (record s { work = rest; taken = n }) else scene_exchanged g (record s { work = rest; taken = n }))
-    by true is some among safe = record {
+    by : (b : Bool) → is_group_of is_application s.service g ≡ b → (b || is_group_of is_scene s.service g) ≡ true → IsOpen s.service fw (config_of s) (if b then to_application else to_scene) → IsSafeWork s.service fw (if b then to_application else to_scene) rest → IsSafeBy fw (if b then application_exchanged g (record s { work = rest; taken = n }) else scene_exchanged g (record s { work = rest; taken = n }))
+    by true is some opened safe = record {
       accepted = k.accepted;
       application = is;
       scene = refl;
-      among = among;
+      among = opened.0;
       own = parts-fresh (group_parts s.service g);
       others = refl;
+      own_held = held_fresh (fw.sets to_application) (group_parts s.service g) (each_left (λ p. IsHeld (fw.sets to_application) (fresh p)) (group_parts s.service g) [] (k.accepted.solution.original to_application opened.0));
+      others_held = tt;
       work = (inl refl, safe);
       timers = refl;
       queue = all_kept is_input (has_origin before) (has_origin (present s.service to_application)) (input_stays before (present s.service to_application)) s.queue k.queue;
       faultless = k.faultless;
     }
-    by false is some among safe = record {
+    by false is some opened safe = record {
       accepted = k.accepted;
       application = k.application;
       scene = some;
-      among = among;
+      among = opened.0;
       own = k.own;
       others = parts-fresh (group_parts s.service g);
+      own_held = held_passed (fw.sets (config_of s)) (fw.sets to_scene) s.objects.application (λ p among q h. opened.1 p (subst (λ (ps : List Fixed). Contains ps p) k.own among) q h) k.own_held;
+      others_held = held_fresh (fw.sets to_scene) (group_parts s.service g) (each_right (λ p. IsHeld (fw.sets to_scene) (fresh p)) (group_parts s.service s.application) (group_parts s.service g) (k.accepted.solution.original to_scene opened.0));
       work = (inr refl, safe);
       timers = all_kept (λ t. bytes_eq t.group s.application) (has_group before) (has_group (present s.service to_scene)) (timer_stays s.service s.application s.scene g k.accepted.service) s.timers k.timers;
       queue = all_kept (stays s.application) (has_origin before) (has_origin (present s.service to_scene)) (origin_stays s.service s.application s.scene g k.accepted.service) s.queue k.queue;

@@ -2,7 +2,6 @@
 use Rattle.std.specs.Prelude.{◌≡◌, ℕ, Bool, true, false, not, if◌then◌else◌, ◌&&◌, List, [], ◌∷◌, ◌++◌, filter, reverse, Option, Some, None, refl}
 use Rattle.std.specs.Option.{is_some}
 use Rattle.std.proofs.Common.{ap, ◌∙◌, sym, subst}
-use Rattle.mh_base.specs.declared.event.EventType.{EventType}
 use Rattle.mh_base.specs.declared.event.EventType.TheVariants as event
 use Rattle.mh_base.specs.declared.obj_ref.ObjRef.{ObjRef}
 use Rattle.mh_base.specs.declared.value.Value.{Value}
@@ -19,7 +18,7 @@ use Rattle.mh_model.specs.declared.object.Fixed.{Fixed}
 use Rattle.mh_model.specs.declared.object.Object.{Object}
 use Rattle.mh_model.specs.declared.sort.Sort.{Sort}
 use Rattle.mh_model.specs.declared.sort.Sort.TheVariants as sort
-use Rattle.mh_model.specs.Arguments.{values, receivers}
+use Rattle.mh_model.specs.Arguments.{values}
 use Rattle.mh_laws.specs.Describing.{kinds, is_transition, items_by, way_in, PutsByItsRule}
 use Rattle.mh_model.specs.Files.{comes_to, is_loadable}
 use Rattle.mh_model.specs.Groups.{group_effect, effect_of, is_initially_active, is_shared, runs, halts, scene_closing, scene_halts, all_halts, unshared_halts, entering, leaving, quitting}

@@ -2,10 +2,8 @@
 use Rattle.std.specs.Prelude.{◌≡◌, ◌⊎◌, ℕ, zero, suc, ◌+◌, ◌-◌, ◌||◌, Bool, true, false, ◌&&◌, not, nat_le, nat_lt, if◌then◌else◌, List, [], ◌∷◌, ◌++◌, length, take, drop, slice_get, Option, Some, None, unwrap_or, option_and_then, refl, ℤ, pos, negsuc, ◌==◌}
 use Rattle.std.specs.List.{Contains, flat_map, position}
 use Rattle.std.specs.Option.{option_map}
-use Rattle.std.proofs.Common.{rules, inl, inr, ap, ◌∙◌, sym, subst}
-use Rattle.std.proofs.lemmas.Bool.Decides.{Decides-eqb}
+use Rattle.std.proofs.Common.{rules, inl, inr, ap, sym, subst}
 use Rattle.std.proofs.lemmas.List.Elements.{Contains-append_right}
-use Rattle.std.proofs.lemmas.Slice.Eq.{bytes_eq-Decides}
 use Rattle.mh_base.specs.declared.obj_ref.ObjRef.{ObjRef}
 use Rattle.mh_base.specs.declared.value.Value.{Value}
 use Rattle.mh_base.specs.declared.value.Value.TheVariants as value
@@ -24,20 +22,15 @@ use Rattle.mh_model.specs.ListItems.{has_item}
 use Rattle.mh_model.specs.Reference.{same_ref}
 use Rattle.mh_model.specs.Tokens.{members, positions, member_actions, numbered, slot_actions, slot_of}
 use Rattle.mh_laws.specs.Describing.{IsListed}
+use Rattle.mh_laws.specs.Each.{Each}
+use Rattle.mh_laws.proofs.EachLemmas.{each_joined}
+use Rattle.mh_laws.proofs.SetLemmas.{same_itself}
 
--- Each of a list, and one among its members, by recursion
-
-abbrev pub Each : {X : Type 0} → (X → Type 0) → List X → Type 0
-Each P [] = Unit {0}
-Each P (x ∷ xs) = P x × Each P xs
+-- Parts of a list, and one among its members, by recursion
 
 abbrev Among : {X : Type 0} → List X → X → Type 0
 Among [] x = false ≡ true
 Among (y ∷ xs) x = (y ≡ x) ⊎ Among xs x
-
-each_append : {X : Type 0} (P : X → Type 0) (xs ys : List X) → Each P xs → Each P ys → Each P (xs ++ ys)
-each_append {X} P [] ys h k = k
-each_append {X} P (x ∷ xs) ys h k = (h.0, each_append P xs ys h.1 k)
 
 each_take : {X : Type 0} (P : X → Type 0) (n : ℕ) (xs : List X) → Each P xs → Each P (take n xs)
 each_take {X} P zero xs h = tt
@@ -125,12 +118,6 @@ slot_among n p b = contained (slot_of n p b) (by (numbered (members p) b.token) 
 
 -- Items
 
-same_itself : (r : ObjRef) → same_ref r r ≡ true
-same_itself r = both ((bytes_eq-Decides r.group r.group).1 refl) ((Decides-eqb r.number r.number).1 refl)
-  where
-    both : {a b : Bool} → a ≡ true → b ≡ true → (a && b) ≡ true
-    both {a} {b} h k = ap (λ (t : Bool). t && b) h ∙ k
-
 -- an item and its entry
 abbrev pub EntriesListed : List Value → Object → List Entry → Type 0
 EntriesListed vs o es = Each (λ (e : Entry). IsListed vs o e.object) es
@@ -162,7 +149,7 @@ shown_among vs o false p l h = tt
 shown_among vs o true p l h =
     let all : Each (IsListed vs o) (objects_of l.entries) = as_objects vs o l.entries h in
     each_take (IsListed vs o) (length (positions p)) _
-    (each_append (IsListed vs o) (drop (before_first l) (objects_of l.entries)) (if wraps p then take (before_first l) (objects_of l.entries) else [])
+    (each_joined (IsListed vs o) (drop (before_first l) (objects_of l.entries)) (if wraps p then take (before_first l) (objects_of l.entries) else [])
     (each_drop (IsListed vs o) (before_first l) (objects_of l.entries) all) (wrapped (wraps p) all))
   where
     wrapped : (b : Bool) → Each (IsListed vs o) (objects_of l.entries) → Each (IsListed vs o) (if b then take (before_first l) (objects_of l.entries) else [])
@@ -184,7 +171,7 @@ first_among vs o (pos n) = by (nat_le 1 n && nat_le n (length o.body.list.entrie
 removed_among : (vs : List Value) (o : Object) (m : Option ℕ) → IsListedIf vs o (option_map (removed o.body.list) m)
 removed_among vs o None = tt
 removed_among vs o (Some k) =
-    each_append (λ (e : Entry). IsListed vs o e.object) (take k o.body.list.entries) (drop (k + 1) o.body.list.entries)
+    each_joined (λ (e : Entry). IsListed vs o e.object) (take k o.body.list.entries) (drop (k + 1) o.body.list.entries)
     (each_take (λ (e : Entry). IsListed vs o e.object) k o.body.list.entries (own_among vs o))
     (each_drop (λ (e : Entry). IsListed vs o e.object) (k + 1) o.body.list.entries (own_among vs o))
 
@@ -193,7 +180,7 @@ inserted_among vs o i r given = by (nat_le 1 i && nat_le i (length o.body.list.e
   where
     by : (b : Bool) → IsListedIf vs o (if b then Some (record { entries = take (i - 1) o.body.list.entries ++ record { object = r; selected = false } ∷ drop (i - 1) o.body.list.entries; first = if nat_lt i o.body.list.first then o.body.list.first + 1 else o.body.list.first }) else None)
     by true =
-        each_append (λ (e : Entry). IsListed vs o e.object) (take (i - 1) o.body.list.entries) (record { object = r; selected = false } ∷ drop (i - 1) o.body.list.entries)
+        each_joined (λ (e : Entry). IsListed vs o e.object) (take (i - 1) o.body.list.entries) (record { object = r; selected = false } ∷ drop (i - 1) o.body.list.entries)
         (each_take (λ (e : Entry). IsListed vs o e.object) (i - 1) o.body.list.entries (own_among vs o))
         (inr given, each_drop (λ (e : Entry). IsListed vs o e.object) (i - 1) o.body.list.entries (own_among vs o))
     by false = tt

@@ -1,9 +1,7 @@
 -- The headline: from an acceptable service nothing ever goes wrong.
-use Rattle.std.specs.Prelude.{◌≡◌, ℕ, List, [], slice_get, Option, Some, None}
-use Rattle.mh_model.specs.declared.fault.Fault.{Fault}
+use Rattle.std.specs.Prelude.{◌≡◌, ℕ, List, [], None}
 use Rattle.mh_model.specs.declared.file.File.{File}
 use Rattle.mh_model.specs.declared.input.Move.{Move}
-use Rattle.mh_model.specs.declared.item.Item.{Item}
 use Rattle.mh_model.specs.declared.program.Signature.{Signature}
 use Rattle.mh_model.specs.Service.{Service}
 use Rattle.mh_model.specs.State.{State, begun}

@@ -1,5 +1,8 @@
 pub mod Describing
 pub mod Active
+pub mod Each
+pub mod Flow
+pub mod Least
 pub mod Acceptable
 pub mod Safe
 pub mod Headline

@@ -1,8 +1,6 @@
 -- Safe states: nothing on the work list will be stuck when its turn comes, whatever is done before it.
-use Rattle.std.specs.Prelude.{◌≡◌, ◌⊎◌, ℕ, Bool, true, false, ◌&&◌, ◌||◌, if◌then◌else◌, List, [], ◌∷◌, Option, Some, None}
+use Rattle.std.specs.Prelude.{◌≡◌, ◌⊎◌, ℕ, Bool, true, ◌||◌, if◌then◌else◌, List, [], ◌∷◌, Option, Some, None}
 use Rattle.std.specs.List.{list_all}
-use Rattle.std.specs.Option.{option_map_or}
-use Rattle.mh_base.specs.declared.obj_ref.ObjRef.{ObjRef}
 use Rattle.mh_group.specs.Table.{is_scene, is_application, is_visible}
 use Rattle.mh_model.specs.declared.act.Act.{Act}
 use Rattle.mh_model.specs.declared.config.Config.{Config}
@@ -12,22 +10,26 @@ use Rattle.mh_model.specs.declared.item.Item.{Item}
 use Rattle.mh_model.specs.declared.item.Item.TheVariants as item
 use Rattle.mh_model.specs.declared.object.Fixed.{Fixed}
 use Rattle.mh_model.specs.declared.time.Timer.{Timer}
-use Rattle.mh_model.specs.Service.{Service, part_at, parts, group_parts, is_there}
+use Rattle.mh_model.specs.Service.{Service, parts, group_parts, is_there}
 use Rattle.mh_model.specs.Reference.{group_ref}
 use Rattle.mh_model.specs.Faults.{object_wrongs}
 use Rattle.mh_model.specs.Known.{class_at}
 use Rattle.mh_model.specs.State.{State}
-use Rattle.mh_model.specs.Configuration.{is_group_of, scene_parts, present, is_among}
-use Rattle.mh_laws.specs.Active.{is_good}
-use Rattle.mh_laws.specs.Acceptable.{IsAcceptable, leads_into}
+use Rattle.mh_model.specs.Configuration.{is_group_of, scene_parts, present}
+use Rattle.mh_laws.specs.Acceptable.{IsAcceptableBy, is_right}
+use Rattle.mh_laws.specs.Each.{Each}
+use Rattle.mh_laws.specs.Flow.{Flow, IsHeld, IsLed, IsOpen, Keeps, reached}
 
 -- the configuration that a state is in
 abbrev pub config_of : State → Config
 config_of s = record { app = s.application; scene = s.scene }
 
--- an action that is not stuck in the configuration, and that leads to no other than these
-abbrev pub is_fine : Service → List Config → Config → Act → Bool
-is_fine v cs c a = is_good v (present v c) a && leads_into v cs c a
+-- an action with which nothing is wrong in the configuration, whose references the sets keep, and that leads where the flow
+-- does
+pub record IsFine (v : Service) (w : Flow) (c : Config) (a : Act) : Type 0 where
+  pub right : is_right v (w.sets c) (present v c) a ≡ true
+  pub keeps : Keeps (w.sets c) (present v c) a
+  pub led : IsLed v w c a
 
 -- the group is one of those of the configuration
 abbrev pub IsPartOf : Config → List ℕ → Type 0
@@ -39,19 +41,19 @@ exchanged v c g =
     if is_group_of is_application v g then record { app = g; scene = None } else record c { scene = Some g }
 
 -- an item that can be done in the configuration: nothing in it is absent, and it leads to no other than these
-abbrev pub IsSafeItem : Service → List Config → Config → Item → Type 0
-IsSafeItem v cs c (item.Act a) = is_fine v cs c a ≡ true
-IsSafeItem v cs c (item.Prepare r) = Unit {0}
-IsSafeItem v cs c (item.Run r) = Unit {0}
-IsSafeItem v cs c (item.Halt r) = Unit {0}
-IsSafeItem v cs c (item.RunMember r) = object_wrongs is_visible None r (class_at r (present v c)) ≡ []
-IsSafeItem v cs c (item.HaltMember r) = object_wrongs is_visible None r (class_at r (present v c)) ≡ []
-IsSafeItem v cs c (item.Drop r) = Unit {0}
-IsSafeItem v cs c (item.Emit e) = is_there e.source (present v c) ≡ true
-IsSafeItem v cs c (item.Enter g) = IsPartOf c g
-IsSafeItem v cs c (item.Exchange g) =
-    ((is_group_of is_application v g || is_group_of is_scene v g) ≡ true) × (is_among cs (exchanged v c g) ≡ true)
-IsSafeItem v cs c item.End = Unit {0}
+abbrev pub IsSafeItem : Service → Flow → Config → Item → Type 0
+IsSafeItem v w c (item.Act a) = IsFine v w c a
+IsSafeItem v w c (item.Prepare r) = Unit {0}
+IsSafeItem v w c (item.Run r) = Unit {0}
+IsSafeItem v w c (item.Halt r) = Unit {0}
+IsSafeItem v w c (item.RunMember r) = object_wrongs is_visible None r (class_at r (present v c)) ≡ []
+IsSafeItem v w c (item.HaltMember r) = object_wrongs is_visible None r (class_at r (present v c)) ≡ []
+IsSafeItem v w c (item.Drop r) = Unit {0}
+IsSafeItem v w c (item.Emit e) = is_there e.source (present v c) ≡ true
+IsSafeItem v w c (item.Enter g) = IsPartOf c g
+IsSafeItem v w c (item.Exchange g) =
+    ((is_group_of is_application v g || is_group_of is_scene v g) ≡ true) × IsOpen v w c (exchanged v c g)
+IsSafeItem v w c item.End = Unit {0}
 
 -- the configuration in which what stands behind an item is done
 abbrev pub behind : Service → Config → Item → Config
@@ -68,9 +70,9 @@ behind v c (item.Exchange g) = exchanged v c g
 behind v c item.End = c
 
 -- each item is safe in the configuration in which it will be done
-abbrev pub IsSafeWork : Service → List Config → Config → List Item → Type 0
-IsSafeWork v cs c [] = Unit {0}
-IsSafeWork v cs c (i ∷ is) = IsSafeItem v cs c i × IsSafeWork v cs (behind v c i) is
+abbrev pub IsSafeWork : Service → Flow → Config → List Item → Type 0
+IsSafeWork v w c [] = Unit {0}
+IsSafeWork v w c (i ∷ is) = IsSafeItem v w c i × IsSafeWork v w (behind v c i) is
 
 -- a timer is one of a group that is present
 abbrev pub has_group : List Fixed → Timer → Bool
@@ -86,16 +88,22 @@ is_scene_if_any v None = true
 is_scene_if_any v (Some g) = is_group_of is_scene v g
 
 -- A safe state plays an acceptable service in a configuration that may be reached, its objects are those that
--- are present there, its work is safe, its timers are those of groups that are present, what waits comes from
--- objects that are, and no fault was met.
-pub record IsSafe (s : State) : Type 0 where
-  pub accepted : IsAcceptable s.service
+-- are present there and hold what the flow has for them, its work is safe, its timers are those of groups that are
+-- present, what waits comes from objects that are, and no fault was met.
+pub record IsSafeBy (w : Flow) (s : State) : Type 0 where
+  pub accepted : IsAcceptableBy s.service w
   pub application : is_group_of is_application s.service s.application ≡ true
   pub scene : is_scene_if_any s.service s.scene ≡ true
-  pub among : is_among accepted.reached (config_of s) ≡ true
+  pub among : reached w (config_of s) ≡ true
   pub own : parts s.objects.application ≡ group_parts s.service s.application
   pub others : parts s.objects.scene ≡ scene_parts s.service s.scene
-  pub work : IsSafeWork s.service accepted.reached (config_of s) s.work
+  pub own_held : Each (IsHeld (w.sets (config_of s))) s.objects.application
+  pub others_held : Each (IsHeld (w.sets (config_of s))) s.objects.scene
+  pub work : IsSafeWork s.service w (config_of s) s.work
   pub timers : list_all (has_group (present s.service (config_of s))) s.timers ≡ true
   pub queue : list_all (has_origin (present s.service (config_of s))) s.queue ≡ true
   pub faultless : s.faults ≡ []
+
+pub record IsSafe (s : State) : Type 0 where
+  pub flow : Flow
+  pub by : IsSafeBy flow s

@@ -1,9 +1,9 @@
 -- What is wrong with an action. Its places are looked at in the order in which they are written: its target,
 -- then its parameters, by what the table says that it needs; a variable comes before what it holds. A machine and a
 -- verifier judge alike, each by what it knows.
-use Rattle.std.specs.Prelude.{ℕ, Bool, true, false, ◌&&◌, ◌==◌, nat_lt, if◌then◌else◌, List, [], ◌∷◌, ◌++◌, drop, Option, Some, None, unwrap_or, ℤ}
+use Rattle.std.specs.Prelude.{ℕ, Bool, true, false, ◌&&◌, ◌==◌, nat_lt, if◌then◌else◌, List, [], ◌∷◌, ◌++◌, drop, Option, Some, None, ℤ}
 use Rattle.std.specs.List.{flat_map}
-use Rattle.std.specs.Option.{option_map, option_map_or}
+use Rattle.std.specs.Option.{is_some, option_map, option_map_or}
 use Rattle.mh_base.specs.declared.obj_ref.ObjRef.{ObjRef}
 use Rattle.mh_base.specs.declared.value.Kind.{Kind}
 use Rattle.mh_base.specs.declared.value.Kind.TheVariants as kind
@@ -75,22 +75,16 @@ abbrev pub written_at : Target → ObjRef
 written_at (target.Direct r) = r
 written_at (target.Through v) = v
 
--- what is wrong at the objects to which a variable may refer; of one of which nothing is known, that is said of the
--- action's target
-abbrev pub wrongs_behind : Target → (ObjRef → List Wrong) → Option (List ObjRef) → List Wrong
-wrongs_behind t at None = wrong reason.Unknown None (written_at t)
-wrongs_behind t at (Some rs) = flat_map at rs
-
 abbrev pub target_wrongs : Known → ActionName → Target → List Wrong
 target_wrongs k n (target.Direct r) = admitted_wrongs k n None r
 target_wrongs k n (target.Through v) =
     variable_wrongs (same_kind kind.Object) v (k.class_of v)
-    ++ wrongs_behind (target.Through v) (admitted_wrongs k n (Some v)) (k.refers v)
+    ++ flat_map (admitted_wrongs k n (Some v)) (k.refers v)
 
--- the objects to which a target may come, as far as that is known
+-- the objects to which a target may come
 abbrev pub targets : Known → Target → List ObjRef
 targets k (target.Direct r) = r ∷ []
-targets k (target.Through v) = unwrap_or (k.refers v) []
+targets k (target.Through v) = k.refers v
 
 -- the variable through which a target is written
 abbrev pub target_variable : Target → Option ObjRef
@@ -126,7 +120,7 @@ reference_wrongs k a (argument.Direct (value.Object r)) = named_wrongs k a.name 
 reference_wrongs k a (argument.Direct v) = wrong reason.WrongKind None (written_at a.target)
 reference_wrongs k a (argument.Through v t) =
     variable_wrongs (same_kind kind.Object) v (k.class_of v)
-    ++ wrongs_behind a.target (named_wrongs k a.name (Some v)) (k.refers v)
+    ++ flat_map (named_wrongs k a.name (Some v)) (k.refers v)
 reference_wrongs k a (argument.Receiver v) = wrong reason.WrongKind None v
 
 -- Values with their kind. It has to go with that of the variable that is set or tested.
@@ -251,21 +245,28 @@ wrongs k a =
 
 -- Which of it is named: the first of the lowest rank. What has no rank is passed over.
 
+-- how late something is named: by its reason, and by whether the place came to the reference through a variable
+abbrev pub Ranking : Type 0
+Ranking = Reason → Bool → Option ℕ
+
+abbrev pub rank_of : Ranking → Wrong → Option ℕ
+rank_of rank w = rank w.reason (is_some w.through)
+
 -- whether one of this rank is named where this is the best so far
-abbrev pub is_named : (Reason → Option ℕ) → Option Wrong → Option ℕ → Bool
+abbrev pub is_named : Ranking → Option Wrong → Option ℕ → Bool
 is_named rank best None = false
 is_named rank None (Some n) = true
-is_named rank (Some b) (Some n) = option_map_or (nat_lt n) (rank b.reason) true
+is_named rank (Some b) (Some n) = option_map_or (nat_lt n) (rank_of rank b) true
 
-abbrev pub better : (Reason → Option ℕ) → Option Wrong → Wrong → Option Wrong
-better rank best w = if is_named rank best (rank w.reason) then Some w else best
+abbrev pub better : Ranking → Option Wrong → Wrong → Option Wrong
+better rank best w = if is_named rank best (rank_of rank w) then Some w else best
 
 -- the one that is named of the best so far and of these
-abbrev pub least : (Reason → Option ℕ) → Option Wrong → List Wrong → Option Wrong
+abbrev pub least : Ranking → Option Wrong → List Wrong → Option Wrong
 least rank best [] = best
 least rank best (w ∷ ws) = least rank (better rank best w) ws
 
--- A machine can do an action whatever sets a timer; what it knows of a variable is all that there is to know.
+-- A machine can do an action whatever sets a timer.
 
 abbrev pub fault_kind : Reason → Option FaultKind
 fault_kind reason.Absent = Some fault.Absent
@@ -273,16 +274,15 @@ fault_kind reason.WrongClass = Some fault.WrongClass
 fault_kind reason.WrongKind = Some fault.WrongKind
 fault_kind reason.Misfit = Some fault.WrongKind
 fault_kind reason.TimerHeld = None
-fault_kind reason.Unknown = None
 
--- what is absent goes before a wrong class, and that before a wrong kind
+-- what is absent goes before a wrong class, and that before a wrong kind, whether through a variable or not
 abbrev pub fault_rank : FaultKind → ℕ
 fault_rank fault.Absent = 0
 fault_rank fault.WrongClass = 1
 fault_rank fault.WrongKind = 2
 
-abbrev pub machine_rank : Reason → Option ℕ
-machine_rank w = option_map fault_rank (fault_kind w)
+abbrev pub machine_rank : Ranking
+machine_rank w held = option_map fault_rank (fault_kind w)
 
 abbrev pub fault_for : ActionName → ObjRef → Option FaultKind → Option Fault
 fault_for n r None = None

@@ -1,5 +1,5 @@
 -- What is known where an action is judged: in a state all of it, beforehand less.
-use Rattle.std.specs.Prelude.{ℕ, if◌then◌else◌, List, Option, Some, None, option_and_then, ℤ}
+use Rattle.std.specs.Prelude.{ℕ, if◌then◌else◌, List, [], Option, Some, None, option_and_then, ℤ}
 use Rattle.std.specs.Option.{option_map, option_to_list}
 use Rattle.mh_base.specs.declared.obj_ref.ObjRef.{ObjRef}
 use Rattle.mh_base.specs.declared.value.Value.{Value}
@@ -21,8 +21,8 @@ pub record Known : Type 0 where
   pub class_of : ObjRef → Option Class
   -- the class of a group of the service, present or not
   pub group_class : ObjRef → Option Class
-  -- the objects to which a variable may refer, if that is known: in a state the one or none
-  pub refers : ObjRef → Option (List ObjRef)
+  -- the objects to which a variable may refer: in a state the one or none
+  pub refers : ObjRef → List ObjRef
   -- the number that a variable holds
   pub number : ObjRef → Option ℤ
   -- the parameters of a program
@@ -46,7 +46,7 @@ abbrev pub known_before : Service → List Fixed → Known
 known_before s ps = record {
   class_of = λ r. class_at r ps;
   group_class = λ r. class_at r (group_parts s r.group);
-  refers = λ v. None;
+  refers = λ v. [];
   number = λ v. None;
   takes = λ r. params_in s.programs (part_at r ps);
 }
@@ -60,7 +60,7 @@ abbrev pub known_in : Service → List Object → Known
 known_in s os = record {
   class_of = λ r. class_at r (parts os);
   group_class = λ r. class_at r (group_parts s r.group);
-  refers = λ v. Some (option_to_list (as_reference (held_by (object_at v os))));
+  refers = λ v. option_to_list (as_reference (held_by (object_at v os)));
   number = λ v. as_integer (held_by (object_at v os));
   takes = λ r. params_in s.programs (part_at r (parts os));
 }

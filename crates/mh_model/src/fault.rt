@@ -18,8 +18,6 @@ pub enum Reason {
     Misfit,
     /// The id of a timer that is set is held by a variable: beforehand it is not known which one is meant.
     TimerHeld,
-    /// It is not known to which object a variable refers.
-    Unknown,
 }
 
 /// What is wrong with an item that a machine cannot do.
@@ -43,7 +41,7 @@ pub struct Fault {
 }
 
 impl FaultKind {
-    /// What a machine notes for the reason. The last two are none to it: it knows what its variables hold.
+    /// What a machine notes for the reason. The last is none to it: it knows what its variables hold.
     pub(crate) fn of_reason(reason: Reason) -> Option<FaultKind>
         ensures { result ≡ spec.fault_kind reason }
     {
@@ -51,7 +49,7 @@ impl FaultKind {
             Reason::Absent => Some(FaultKind::Absent),
             Reason::WrongClass => Some(FaultKind::WrongClass),
             Reason::WrongKind | Reason::Misfit => Some(FaultKind::WrongKind),
-            Reason::TimerHeld | Reason::Unknown => None,
+            Reason::TimerHeld => None,
         }
     }
 

@@ -30,9 +30,9 @@ pub trait Known {
     fn group_class(&self, at: &ObjRef) -> Option<Class>
         ensures { result ≡ (known self.now).group_class at.now };
 
-    /// The objects to which a variable may refer, if that is known.
-    fn refers(&self, variable: &ObjRef) -> Option<&[ObjRef]>
-        ensures { option_copied result ≡ (known self.now).refers variable.now };
+    /// The objects to which a variable may refer.
+    fn refers(&self, variable: &ObjRef) -> &[ObjRef]
+        ensures { result.now ≡ (known self.now).refers variable.now };
 
     /// The number that a variable holds.
     fn number(&self, variable: &ObjRef) -> Option<&i32>
@@ -70,7 +70,7 @@ impl Rank for ByFault {
 
     ghost order = { machine_rank };
 
-    fn rank(reason: Reason) -> Option<u8> {
+    fn rank(reason: Reason, _held: bool) -> Option<u8> {
         match FaultKind::of_reason(reason) {
             Some(what) => Some(what.rank()),
             None => None,

@@ -31,15 +31,14 @@ impl<'a> Model for Wrong<'a> {
 
 /// An order in which what is wrong is named.
 pub trait Rank {
-    ghost use Rattle.std.specs.Prelude.{ℕ, Option};
-    ghost use Rattle.mh_model.specs.declared.fault.Reason.{Reason as ReasonLem};
+    ghost use Rattle.mh_model.specs.Faults.{Ranking};
 
     /// How late each reason is named; what has no rank is passed over.
-    ghost order: { ReasonLem → Option ℕ };
+    ghost order: { Ranking };
 
-    /// How late the reason is named.
-    fn rank(reason: Reason) -> Option<u8>
-        ensures { result ≡ order reason };
+    /// How late the reason is named, where the place came to the reference through a variable, or did not.
+    fn rank(reason: Reason, held: bool) -> Option<u8>
+        ensures { result ≡ order reason held };
 }
 
 /// The one that is named of what was wrong so far, if anything was.
@@ -55,7 +54,7 @@ fn is_named<R: Rank>(rank: Option<u8>, best: &Best<'_>) -> bool
     let Some(best) = best else {
         return true;
     };
-    match R::rank(best.reason) {
+    match R::rank(best.reason, best.through.is_some()) {
         Some(best) => rank < best,
         None => true,
     }
@@ -70,7 +69,7 @@ pub(crate) fn found<'a, R: Rank>(
 )
     ensures { best.new ≡ spec.least R.order best.old (spec.wrong reason (option_copied through.entry) at.now) }
 {
-    if is_named::<R>(R::rank(reason), best) {
+    if is_named::<R>(R::rank(reason, through.is_some()), best) {
         *best = Some(Wrong {
             reason,
             at,

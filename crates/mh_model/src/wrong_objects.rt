@@ -74,12 +74,9 @@ fn admitted_behind<'a, R: Rank, K: Known>(
 )
     ensures { let k = K.known known.now in
         let at = spec.admitted_wrongs k act.now.name (Some variable.now) in
-        best.new ≡ least R.order best.old (spec.wrongs_behind act.now.target at (k.refers variable.now)) }
+        best.new ≡ least R.order best.old (flat_map at (k.refers variable.now)) }
 {
-    let Some(references) = known.refers(variable) else {
-        return found::<R>(best, Reason::Unknown, None, act.target.written_at());
-    };
-    for at in references {
+    for at in known.refers(variable) {
         admitted::<R, K>(best, known, act.name, Some(variable), at);
     }
 }
@@ -126,12 +123,9 @@ pub(crate) fn named_behind<'a, R: Rank, K: Known>(
 )
     ensures { let k = K.known known.now in
         let at = spec.named_wrongs k act.now.name (Some variable.now) in
-        best.new ≡ least R.order best.old (spec.wrongs_behind act.now.target at (k.refers variable.now)) }
+        best.new ≡ least R.order best.old (flat_map at (k.refers variable.now)) }
 {
-    let Some(references) = known.refers(variable) else {
-        return found::<R>(best, Reason::Unknown, None, act.target.written_at());
-    };
-    for at in references {
+    for at in known.refers(variable) {
         named::<R, K>(best, known, act.name, Some(variable), at);
     }
 }
@@ -216,12 +210,12 @@ fn target_takes<K: Known, F: Fit>(known: &K, at: &ObjRef, fit: &F) -> bool
     }
 }
 
-/// The objects to which a target may come, as far as that is known.
+/// The objects to which a target may come.
 pub(crate) fn targets<'a, K: Known>(known: &'a K, target: &'a Target) -> &'a [ObjRef]
     ensures { result.now ≡ spec.targets (K.known known.now) target.now }
 {
     match target {
         Target::Direct(at) => slice::from_ref(at),
-        Target::Through(at) => known.refers(at).unwrap_or(&[]),
+        Target::Through(at) => known.refers(at),
     }
 }

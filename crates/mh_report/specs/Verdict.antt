@@ -8,8 +8,6 @@ use Rattle.mh_group.specs.Words.{action_word}
 use Rattle.mh_model.specs.declared.config.Config.{Config}
 use Rattle.mh_verify.specs.declared.refusal.Place.{Place}
 use Rattle.mh_verify.specs.declared.refusal.Refusal.{Refusal}
-use Rattle.mh_verify.specs.declared.refusal.RefusalKind.{RefusalKind}
-use Rattle.mh_verify.specs.declared.refusal.RefusalKind.TheVariants as kind
 use Rattle.mh_verify.specs.Kinds.{kind_number}
 
 abbrev pub place_words : Option Place → List ℕ
@@ -32,12 +30,7 @@ abbrev pub object_line : Option ObjRef → List ℕ
 object_line None = []
 object_line (Some r) = codes "object " ++ r.group ++ codes " " ++ decimal r.number ++ 10 ∷ []
 
--- the lines behind the first one; none where the verifier says only that it does not look at this yet
-abbrev pub further_lines : RefusalKind → Option Config → Option ObjRef → List ℕ
-further_lines kind.NotYet c r = []
-further_lines _ c r = config_line c ++ object_line r
-
 unfoldable pub refusal_lines : Refusal → List ℕ
 refusal_lines r =
     codes "refused V" ++ decimal (unwrap_or (kind_number r.kind) 0) ++ place_words r.place ++ action_words r.action ++ 10 ∷ []
-    ++ further_lines r.kind r.config r.object
+    ++ config_line r.config ++ object_line r.object

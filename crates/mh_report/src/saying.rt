@@ -2,14 +2,14 @@
 ghost use Rattle.std.specs.Prelude.{◌≡◌, ◌++◌, OnOk, IfOk, codes};
 ghost use Rattle.std.specs.Fmt.{decimal};
 ghost use Rattle.mh_report.specs.Played.{complaint};
-ghost use Rattle.mh_report.specs.Verdict.{refusal_lines, place_words, action_words, scene_word, config_line, object_line, further_lines};
+ghost use Rattle.mh_report.specs.Verdict.{refusal_lines, place_words, action_words, scene_word, config_line, object_line};
 
 use crate::unplayable::Unplayable;
 use mh_base::{GroupName, ObjRef};
 use mh_group::ActionName;
 use mh_model::Config;
 use mh_told::text::Text;
-use mh_verify::{Place, Refusal, RefusalKind};
+use mh_verify::{Place, Refusal};
 use std::alloc::{AllocError, Global};
 
 /// The line on what cannot be read.
@@ -64,21 +64,9 @@ pub fn refusal_text(alloc: Global, refusal: &Refusal) -> Result<Text, AllocError
     put_place(&mut text, &refusal.place)?;
     put_action(&mut text, refusal.action)?;
     text.put(b"\n")?;
-    put_further(&mut text, refusal)?;
+    put_config(&mut text, &refusal.config)?;
+    put_object(&mut text, &refusal.object)?;
     Ok(text)
-}
-
-/// Puts the lines behind the first one.
-fn put_further(text: &mut Text, refusal: &Refusal) -> Result<(), AllocError>
-    ensures { OnOk result (text.new ≡ text.old ++ further_lines refusal.now.kind refusal.now.config refusal.now.object) }
-{
-    match refusal.kind {
-        RefusalKind::NotYet => Ok(()),
-        _ => {
-            put_config(text, &refusal.config)?;
-            put_object(text, &refusal.object)
-        }
-    }
 }
 
 fn put_place(text: &mut Text, place: &Option<Place>) -> Result<(), AllocError>

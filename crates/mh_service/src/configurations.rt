@@ -1,7 +1,7 @@
 //! The configurations of a service.
 //!
 //! Promise: each application comes without a scene and then with each scene of the service, in the order
-//! of the groups. Which of them are reached is left to `mh_verify`.
+//! of the groups. Which of them are reached is left to `mh_flow`.
 ghost use Rattle.std.specs.Prelude.{◌≡◌, ◌++◌, true, false, None, Some, IfOk, OnOk, map, length, nat_le};
 ghost use Rattle.mh_group.specs.Table.{is_scene, is_application};
 ghost use Rattle.mh_model.specs.Configuration.{configurations, names as names_lem, is_single, with_scenes, is_group_of, is_service, same_config};

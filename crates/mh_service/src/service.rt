@@ -99,8 +99,8 @@ impl Service {
         parts::part_at(self.parts(&at.group), at)
     }
 
-    /// The groups under their names.
-    pub(crate) fn groups(&self) -> &IndexMap<GroupName, Seq<FixedPart>>
+    /// What the files say of the objects of each group, under the names of the groups.
+    pub fn groups(&self) -> &IndexMap<GroupName, Seq<FixedPart>>
         ensures entries { result.now.entries ≡ self.now.groups }
         ensures service { is_service self.now ≡ true }
         ensures keys { has_keys self.now ≡ true }

@@ -14,6 +14,8 @@ mod calls;
 #[cfg(test)]
 mod cases;
 #[cfg(test)]
+mod chains;
+#[cfg(test)]
 mod codec;
 #[cfg(test)]
 mod codec_forms;
@@ -37,6 +39,8 @@ mod examples;
 mod families;
 #[cfg(test)]
 mod files;
+#[cfg(test)]
+mod flows;
 #[cfg(test)]
 mod group;
 #[cfg(test)]

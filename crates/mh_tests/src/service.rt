@@ -5,6 +5,7 @@
 //! does at its start, if not those of the text, and the text; or a file as in a play.
 use crate::building::grown;
 use crate::cases::{Question, all_hold, bytes, said, word};
+use crate::chains::of_flow;
 use crate::engine::of_engine;
 use crate::examples::path_and_text;
 use crate::objects::inside;
@@ -51,6 +52,7 @@ fn of_service(alloc: Global, service: Service, asked: &str) -> Option<Vec<u8>> {
         "made" => said(alloc, b"made"),
         "verdict" => verdict(alloc, service),
         "idle" | "keys" | "ticks" | "files" => of_engine(alloc, service, asked),
+        "held" | "reached" => of_flow(alloc, &service, asked),
         _ => inside(alloc, &service, asked),
     }
 }

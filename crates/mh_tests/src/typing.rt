@@ -164,13 +164,13 @@ check @application @s {:Scene ("~/s" 0) :OnStartUp ( :MoveTo (3 1) :ScrollItems 
 a slot of a group that is not reached
 check @empty @s {:Scene ("~/s" 0) :Items ( {:TokenGroup 3 :TokenGroupItems ((99 (:Run (98)))) } ) }
 => accepted|exit 0|;;
-a list is not verified
+what stands behind a list
 check @application @s {:Scene ("~/s" 0) :Items ( {:ListGroup 3 :Positions () } {:Link 4 :EventSource 0 :EventType
 IsRunning :LinkEffect ( :Run (99) ) } ) }
-=> refused V10 s 3 0 -|exit 1|;;
-one is played leniently alone
+=> refused V1 s 4 1 Run|config a s|object s 99|exit 1|;;
+one is verified and played
 play run| @list @s {:Scene ("~/s" 0) }
-=> refused V10 a 1 0 -|exit 1|;;
+=> did 95 idle|total 95|exit 0|;;
 what comes before a list is
 check @application @s {:Scene ("~/s" 0) :Items ( {:ListGroup 3 :Positions () } {:Link 2 :EventSource 0 :EventType
 IsRunning :LinkEffect ( :ScrollItems (3 1) :CallActionSlot (3 1) ) } ) }

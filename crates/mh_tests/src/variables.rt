@@ -187,18 +187,18 @@ a receiver of another kind
 check @a {:Application ("~/a" 0) :OnStartUp ( :GetRunningStatus (10 1) ) :Items ( {:IntegerVar 1
 :OrigValue 1 } {:Rectangle 10 :OrigBoxSize 12 16 } ) }
 => refused V3 a 0 1 GetRunningStatus|config a -|object a 1|exit 1|;;
-a target through a variable is not known beforehand
+a target through a variable
 check @a {:Application ("~/a" 0) :OnStartUp ( :Add (:IndirectRef 2 1) ) :Items ( {:IntegerVar 1 :OrigValue
 0 } {:ObjectRefVar 2 :OrigValue 1 } ) }
-=> refused V10 a 0 1 Add|exit 1|;;
+=> accepted|exit 0|;;
 a target through a variable of numbers
 check @a {:Application ("~/a" 0) :OnStartUp ( :Add (:IndirectRef 1 1) ) :Items ( {:IntegerVar 1 :OrigValue
 0 } ) }
 => refused V3 a 0 1 Add|config a -|object a 1|exit 1|;;
-an object that is not known beforehand
+an object through a variable
 check @a {:Application ("~/a" 0) :OnStartUp ( :PutBefore (1 :IndirectRef 2) ) :Items ( {:Text 1 :OrigBoxSize 12
 16 } {:ObjectRefVar 2 :OrigValue 1 } ) }
-=> refused V10 a 0 1 PutBefore|exit 1|;;
+=> accepted|exit 0|;;
 a colour through a variable of numbers
 check @a {:Application ("~/a" 0) :OnStartUp ( :SetTextColour (1 :IndirectRef 2) ) :Items ( {:Text 1
 :OrigBoxSize 12 16 } {:IntegerVar 2 :OrigValue 1 } ) }

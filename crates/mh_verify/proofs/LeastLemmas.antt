@@ -5,12 +5,10 @@ use Rattle.std.proofs.lemmas.List.{map-append}
 use Rattle.std.proofs.lemmas.List.Concat.{flat_map-append}
 use Rattle.mh_base.specs.declared.obj_ref.ObjRef.{ObjRef}
 use Rattle.mh_model.specs.declared.config.Config.{Config}
-use Rattle.mh_model.specs.declared.member.Member.{Member}
-use Rattle.mh_model.specs.declared.object.Fixed.{Fixed}
-use Rattle.mh_laws.specs.Active.{member_wrongs}
+use Rattle.mh_model.specs.Faults.{Wrong}
 use Rattle.mh_verify.specs.declared.refusal.Found.{Found}
 use Rattle.mh_verify.specs.Least.{least_of, lesser}
-use Rattle.mh_verify.specs.Refusals.{found_of_part, members_refused}
+use Rattle.mh_verify.specs.Refusals.{found_of_part}
 
 pub least_append : (b : Option Found) (xs ys : List Found) → least_of b (xs ++ ys) ≡ least_of (least_of b xs) ys
 least_append b [] ys = refl
@@ -21,8 +19,8 @@ pub least_joined : {X : Type 0} (f : X → List Found) (b : Option Found) (xs ys
 least_joined f b xs ys =
     sym (least_append b (flat_map f xs) (flat_map f ys)) ∙ ap (least_of b) (sym (flat_map-append f xs ys))
 
--- a member in front of others
-pub least_members : (ps : List Fixed) (c : Config) (key : ObjRef) (b : Option Found) (m : Member) (ms : List Member) → least_of b (members_refused ps c key (m ∷ ms)) ≡ least_of (least_of b (map (found_of_part c key) (member_wrongs ps m))) (members_refused ps c key ms)
-least_members ps c key b m ms =
-    ap (least_of b) (map-append (found_of_part c key) (member_wrongs ps m) (flat_map (member_wrongs ps) ms))
-    ∙ least_append b (map (found_of_part c key) (member_wrongs ps m)) (members_refused ps c key ms)
+-- what is wrong with one in front of others
+pub least_wrongs : {X : Type 0} (at : X → List Wrong) (c : Config) (key : ObjRef) (b : Option Found) (x : X) (xs : List X) → least_of b (map (found_of_part c key) (flat_map at (x ∷ xs))) ≡ least_of (least_of b (map (found_of_part c key) (at x))) (map (found_of_part c key) (flat_map at xs))
+least_wrongs at c key b x xs =
+    ap (least_of b) (map-append (found_of_part c key) (at x) (flat_map at xs))
+    ∙ least_append b (map (found_of_part c key) (at x)) (map (found_of_part c key) (flat_map at xs))

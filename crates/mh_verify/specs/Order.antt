@@ -1,6 +1,6 @@
 -- Which refusal comes first: by name of the group, number of the object, number of the action, and kind; and
 -- then the first configuration, by name of the application and of the scene, no scene before any.
-use Rattle.std.specs.Prelude.{◌≡◌, Bool, false, List, Some, None, ◌⊎◌}
+use Rattle.std.specs.Prelude.{◌≡◌, Bool, true, false, List, Some, None, ◌⊎◌}
 use Rattle.std.specs.declared.cmp.Ordering.{Ordering}
 use Rattle.std.specs.Ordering.{is_lt, nat_cmp, on, then_cmp}
 use Rattle.std.specs.Option.{option_cmp}
@@ -9,7 +9,8 @@ use Rattle.std.specs.List.{Contains}
 use Rattle.mh_model.specs.declared.config.Config.{Config}
 use Rattle.mh_model.specs.declared.program.Signature.{Signature}
 use Rattle.mh_model.specs.Service.{Service}
-use Rattle.mh_laws.specs.Acceptable.{IsReached}
+use Rattle.mh_laws.specs.Flow.{Flow, reached}
+use Rattle.mh_laws.specs.Least.{IsLeast}
 use Rattle.mh_verify.specs.declared.refusal.Found.{Found}
 use Rattle.mh_verify.specs.declared.refusal.Place.{Place}
 use Rattle.mh_verify.specs.declared.refusal.Refusal.{Refusal}
@@ -31,10 +32,10 @@ abbrev pub is_before : Found → Found → Bool
 is_before x y = is_lt (order x y)
 
 -- a refusal of a configuration that is reached, and no refusal of any of those comes before it
-pub record IsFirst (s : Service) (x : Found) : Type 0 where
-  pub reached : IsReached s x.config
-  pub stands : Contains (refusals_in s x.config) x
-  pub first : (c : Config) (y : Found) → IsReached s c → Contains (refusals_in s c) y → is_before y x ≡ false
+pub record IsFirst (s : Service) (w : Flow) (x : Found) : Type 0 where
+  pub among : reached w x.config ≡ true
+  pub stands : Contains (refusals_in s w x.config) x
+  pub first : (c : Config) (y : Found) → reached w c ≡ true → Contains (refusals_in s w c) y → is_before y x ≡ false
 
 -- the refusal says this of the service
 abbrev pub refusal_of : Service → Found → Refusal
@@ -44,10 +45,12 @@ refusal_of s x = record { kind = x.kind; place = Some x.place; action = x.action
 abbrev pub unjudged : Service → Refusal
 unjudged s = record { kind = kind.NoMemory; place = None; action = None; config = None; object = None; service = s }
 
--- the refusal says what comes first, where the receiver has these programs
+-- the refusal says what comes first by the least flow, where the receiver has these programs
 pub record NamesFirst (s : Service) (programs : List Signature) (r : Refusal) : Type 0 where
+  pub flow : Flow
+  pub least : IsLeast (equipped s programs) flow
   pub found : Found
-  pub first : IsFirst (equipped s programs) found
+  pub first : IsFirst (equipped s programs) flow found
   pub names : r ≡ refusal_of s found
 
 -- a refusal of the service says what comes first, or that memory was refused

@@ -5,17 +5,19 @@
 ghost use Rattle.std.specs.Prelude.{◌≡◌};
 ghost use Rattle.mh_laws.specs.Acceptable.{IsAcceptable};
 ghost use Rattle.mh_flow.specs.Equipment.{equipped};
-ghost use Rattle.mh_verify.specs.Free.{AreFree};
+ghost use Rattle.mh_flow.specs.Solved.{IsFlowOf};
+ghost use Rattle.mh_verify.specs.Free.{IsWarranted};
 
-use mh_model::{Config, Signature};
+use mh_flow::Flow;
+use mh_model::Signature;
 use mh_service::Service;
 use std::marker::Model;
 
-/// What is known of an accepted service, without the service: the configurations that are reached,
-/// and the programs that the receiver has for it besides the built-in ones.
+/// What is known of an accepted service, without the service: its flow, and the programs that the
+/// receiver has for it besides the built-in ones.
 #[derive(Drop)]
 pub struct Warrant {
-    reached: Vec<Config>,
+    flow: Flow,
     programs: Vec<Signature>,
 }
 
@@ -24,7 +26,7 @@ impl Model for Warrant {
 
     ghost Value = { WarrantValue };
 
-    ghost view = { λ r. record { reached = r.reached.items; programs = r.programs.items } };
+    ghost view = { λ r. record { flow = r.flow; programs = r.programs.items } };
 }
 
 /// A service that the verifier accepts. A contract sees the service, with the programs that the
@@ -38,23 +40,29 @@ pub struct Accepted {
 impl Model for Accepted {
     ghost use Rattle.mh_model.specs.Service.{Service as ServiceValue};
     ghost use Rattle.mh_flow.specs.Equipment.{equipped};
-    ghost use Rattle.mh_verify.specs.Free.{AreFree};
+    ghost use Rattle.mh_verify.specs.Free.{IsWarranted};
 
     ghost Value = { ServiceValue };
 
     ghost view = { λ a. equipped a.service a.warrant.programs };
 
-    ghost invariant = { λ a. AreFree (equipped a.service a.warrant.programs) a.warrant.reached };
+    ghost invariant = { λ a. IsWarranted (equipped a.service a.warrant.programs) a.warrant };
 }
 
 impl Accepted {
     /// The service, which no active action can get stuck in where it is reached.
-    #[tactic(auto, using(crate::specs::Free::acceptable))]
     pub fn service(&self) -> &Service
         ensures same { equipped result.now self.now.programs ≡ self.now }
         ensures acceptable { IsAcceptable self.now }
     {
         &self.service
+    }
+
+    /// To what its variables may refer and which items its lists may have, in each configuration that is reached.
+    pub fn flow(&self) -> &Flow
+        ensures { IsFlowOf self.now result.now }
+    {
+        self.warrant.flow()
     }
 
     /// The programs that the receiver has for it besides the built-in ones.
@@ -65,11 +73,10 @@ impl Accepted {
     }
 
     /// The service, and what is known of it.
-    #[tactic(auto, using(crate::specs::Free::acceptable))]
     pub fn apart(self) -> (Service, Warrant)
         ensures same { equipped result.0 result.1.programs ≡ self }
+        ensures warranted { IsWarranted self result.1 }
         ensures acceptable { IsAcceptable self }
-        ensures free { AreFree self result.1.reached }
     {
         let Accepted { service, warrant } = self;
         (service, warrant)
@@ -77,10 +84,16 @@ impl Accepted {
 }
 
 impl Warrant {
-    pub(crate) fn new(reached: Vec<Config>, programs: Vec<Signature>) -> Warrant
-        ensures { result ≡ record { reached = reached.items; programs = programs.items } }
+    pub(crate) fn new(flow: Flow, programs: Vec<Signature>) -> Warrant
+        ensures { result ≡ record { flow = flow; programs = programs.items } }
     {
-        Warrant { reached, programs }
+        Warrant { flow, programs }
+    }
+
+    fn flow(&self) -> &Flow
+        ensures { result.now ≡ self.now.flow }
+    {
+        &self.flow
     }
 
     /// The programs that the receiver has besides the built-in ones.
@@ -91,9 +104,8 @@ impl Warrant {
     }
 
     /// The accepted service again, from its two parts.
-    #[tactic(auto, using(crate::specs::Free::acceptable))]
     pub fn join(self, service: Service) -> Accepted
-        requires { AreFree (equipped service self.programs) self.reached }
+        requires { IsWarranted (equipped service self.programs) self }
         ensures same { result ≡ equipped service self.programs }
         ensures acceptable { IsAcceptable (equipped service self.programs) }
     {

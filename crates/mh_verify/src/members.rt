@@ -2,14 +2,15 @@
 //!
 //! Promise: each function answers what the definition of the same matter says. Of what is refused the
 //! first is named; the actions of their slots are left to `judging`.
-ghost use Rattle.std.specs.Prelude.{◌≡◌, ◌∷◌, [], None, map, IfOk};
+ghost use Rattle.std.specs.Prelude.{◌≡◌, [], map, IfOk};
 ghost use Rattle.std.specs.List.{flat_map};
-ghost use Rattle.std.specs.Option.{option_map_or};
-ghost use Rattle.mh_group.specs.Table.{is_list_group};
-ghost use Rattle.mh_laws.specs.Active.{member_wrongs};
-ghost use Rattle.mh_model.specs.Faults.{wrong};
-ghost use Rattle.mh_verify.specs.Refusals.{found_of_part, members_refused, part_refused};
-ghost use Rattle.mh_verify.specs.Refusals.{refusal_of_part};
+ghost use Rattle.std.specs.Option.{option_copied, option_map_or};
+ghost use Rattle.mh_group.specs.Table.{is_list_group, is_visible};
+ghost use Rattle.mh_laws.specs.Active.{item_wrongs, member_wrongs};
+ghost use Rattle.mh_model.specs.Faults.{object_wrongs, wrong};
+ghost use Rattle.mh_model.specs.Known.{class_at};
+ghost use Rattle.mh_flow.specs.Solved.{held_by};
+ghost use Rattle.mh_verify.specs.Refusals.{found_of_part, part_refused};
 ghost use Rattle.mh_verify.specs.Least.{least_of};
 
 use crate::ordering::lesser;
@@ -19,7 +20,7 @@ use mh_base::ObjRef;
 use mh_flow::Present;
 use mh_flow::sites::members;
 use mh_group::Class;
-use mh_model::{Fixed, FixedPart, Member, Reason};
+use mh_model::{Fixed, FixedPart, Member, Reason, Wrong};
 use std::alloc::AllocError;
 
 fn is_list_group(class: Class) -> bool
@@ -30,63 +31,65 @@ fn is_list_group(class: Class) -> bool
 
 /// What is wrong with a member, if anything is: the group runs and halts it, so it has to be there, and
 /// a visible.
-fn fault_of(present: &Present<'_>, member: &Member) -> Option<Reason>
-    ensures { option_map_or (λ why. wrong why None member.now.object) result []
-        ≡ member_wrongs present.now member.now }
+fn fault_of(present: &Present<'_>, at: &ObjRef) -> Option<Reason>
+    ensures { (v : _) → option_map_or (λ why. wrong why v at.now) result []
+        ≡ object_wrongs is_visible v at.now (class_at at.now present.now) }
 {
-    match present.find(&member.object) {
+    match present.class_of(at) {
         None => Some(Reason::Absent),
-        Some(part) if part.class.is_visible() => None,
+        Some(class) if class.is_visible() => None,
         Some(_) => Some(Reason::WrongClass),
     }
 }
 
-/// A refusal of an object itself: it stands in front of those of its actions, with the index 0.
-fn refusal_of_part(
-    scope: &Scope<'_>,
-    key: &ObjRef,
-    kind: RefusalKind,
-    object: &ObjRef,
-) -> Result<Found, AllocError>
-    ensures { IfOk result (λ found. found
-        ≡ refusal_of_part scope.now.config.now key.now kind object.now) }
+/// A refusal of an object itself, with which this is wrong: it stands in front of those of its actions, with the
+/// index 0.
+fn found_of_part(scope: &Scope<'_>, key: &ObjRef, wrong: &Wrong<'_>) -> Result<Found, AllocError>
+    ensures { IfOk result (λ found. found ≡ found_of_part scope.now.config.now key.now wrong.now) }
 {
     Ok(Found {
-        kind,
+        kind: RefusalKind::of_wrong(wrong),
         place: Place {
             group: key.group.clone()?,
             object: key.number,
             index: 0,
         },
         action: None,
-        object: object.clone()?,
+        object: wrong.at.clone()?,
         config: scope.config.clone()?,
     })
 }
 
-/// The first of what is wrong with a member of the group, and of the best so far.
+/// The first of what is wrong with a member of the group, which the group may come to through this list or none,
+/// and of the best so far.
 fn least_of_member(
     best: Option<Found>,
     scope: &Scope<'_>,
     key: &ObjRef,
-    member: &Member,
+    through: Option<&ObjRef>,
+    at: &ObjRef,
 ) -> Result<Option<Found>, AllocError>
-    ensures { IfOk result (λ least. least ≡ least_of best
+    ensures { let list = option_copied through.entry in
+        IfOk result (λ least. least ≡ least_of best
         (map (found_of_part scope.now.config.now key.now)
-        (member_wrongs scope.now.present member.now))) }
+        (object_wrongs is_visible list at.now (class_at at.now scope.now.present)))) }
 {
-    match fault_of(&scope.present, member) {
+    match fault_of(&scope.present, at) {
         None => Ok(best),
         Some(reason) => {
-            let kind = RefusalKind::of_reason(reason);
-            let found = refusal_of_part(scope, key, kind, &member.object)?;
+            let wrong = Wrong {
+                reason,
+                at,
+                through,
+            };
+            let found = found_of_part(scope, key, &wrong)?;
             Ok(Some(lesser(best, found)))
         }
     }
 }
 
 /// The first of what is wrong with these members of the group, and of the best so far.
-#[tactic(auto, using(std::proofs::lemmas::Grind::common_steps, crate::proofs::LeastLemmas::least_append, crate::proofs::LeastLemmas::least_members))]
+#[tactic(auto, using(std::proofs::lemmas::Grind::common_steps, crate::proofs::LeastLemmas::least_append, crate::proofs::LeastLemmas::least_wrongs))]
 fn least_of_members(
     best: Option<Found>,
     scope: &Scope<'_>,
@@ -94,27 +97,33 @@ fn least_of_members(
     members: &[Member],
 ) -> Result<Option<Found>, AllocError>
     ensures { IfOk result (λ least. least ≡ least_of best
-        (members_refused scope.now.present scope.now.config.now key.now members.now)) }
+        (map (found_of_part scope.now.config.now key.now)
+        (flat_map (member_wrongs scope.now.present) members.now))) }
 {
     let mut best = best;
     for member in members {
-        best = least_of_member(best, scope, key, member)?;
+        best = least_of_member(best, scope, key, None, &member.object)?;
     }
     Ok(best)
 }
 
-/// What a list shows changes, and is not verified yet.
-fn least_of_list(
+/// The first of what is wrong with the items that the list may have, and of the best so far.
+#[tactic(auto, using(std::proofs::lemmas::Grind::common_steps, crate::proofs::LeastLemmas::least_append, crate::proofs::LeastLemmas::least_wrongs))]
+fn least_of_items(
     best: Option<Found>,
     scope: &Scope<'_>,
     key: &ObjRef,
+    items: &[ObjRef],
 ) -> Result<Option<Found>, AllocError>
-    ensures { let c = scope.now.config.now in
-        IfOk result (λ least. least ≡ least_of best
-        (refusal_of_part c key.now RefusalKind.NotYet key.now ∷ [])) }
+    ensures { IfOk result (λ least. least ≡ least_of best
+        (map (found_of_part scope.now.config.now key.now)
+        (flat_map (item_wrongs scope.now.present key.now) items.now))) }
 {
-    let found = refusal_of_part(scope, key, RefusalKind::NotYet, key)?;
-    Ok(Some(lesser(best, found)))
+    let mut best = best;
+    for item in items {
+        best = least_of_member(best, scope, key, Some(key), item)?;
+    }
+    Ok(best)
 }
 
 /// The first of what is wrong with the members of the object, and of the best so far.
@@ -123,11 +132,17 @@ fn least_of_group(
     scope: &Scope<'_>,
     part: &Fixed,
 ) -> Result<Option<Found>, AllocError>
-    ensures { IfOk result (λ least. least ≡ least_of best
-        (part_refused scope.now.present scope.now.config.now part.now)) }
+    ensures { let ps = scope.now.present in
+        IfOk result (λ least. least ≡ least_of best
+        (part_refused ps (held_by ps scope.now.held) scope.now.config.now part.now)) }
 {
     if is_list_group(part.class) {
-        least_of_list(best, scope, &part.key)
+        least_of_items(
+            best,
+            scope,
+            &part.key,
+            scope.held.of(&scope.present, &part.key),
+        )
     } else {
         least_of_members(best, scope, &part.key, members(part))
     }
@@ -140,8 +155,9 @@ pub fn least_of_groups(
     scope: &Scope<'_>,
     parts: &[FixedPart],
 ) -> Result<Option<Found>, AllocError>
-    ensures { IfOk result (λ least. least ≡ least_of best
-        (flat_map (part_refused scope.now.present scope.now.config.now) parts.now)) }
+    ensures { let ps = scope.now.present in
+        IfOk result (λ least. least ≡ least_of best
+        (flat_map (part_refused ps (held_by ps scope.now.held) scope.now.config.now) parts.now)) }
 {
     let mut best = best;
     for part in parts {

@@ -1,14 +1,15 @@
 //! Why a service is refused, and where.
 ghost use Rattle.std.specs.Prelude.{◌≡◌};
 ghost use Rattle.mh_verify.specs.Kinds.{kind_number, kind_of, reason_number};
+ghost use Rattle.mh_verify.specs.Refusals.{kind_for};
 
 use mh_base::{GroupName, ObjRef};
 use mh_group::ActionName;
-use mh_model::{Config, Rank, Reason};
+use mh_model::{Config, Rank, Reason, Wrong};
 use mh_service::Service;
 use thiserror::Error;
 
-/// What is wrong with an action, with a member of a group of objects, or with the service itself.
+/// What is wrong with an action, or with a member of a group of objects.
 #[derive(Clone, Copy, Debug, PartialEq, Eq, Error)]
 pub enum RefusalKind {
     #[error("V1: an object that is named is absent")]
@@ -17,12 +18,14 @@ pub enum RefusalKind {
     WrongClass,
     #[error("V3: a value or a variable is of another kind")]
     WrongKind,
+    #[error("V4: an object that a variable or a list may hold is absent")]
+    HeldAbsent,
+    #[error("V5: the action has no rule for objects of the class of one that a variable or a list may hold")]
+    HeldWrongClass,
     #[error("V7: the id of a timer is held by a variable")]
     TimerThroughVariable,
     #[error("V9: the program is not known, or the call does not fit it")]
     WrongCall,
-    #[error("V10: this is not verified yet")]
-    NotYet,
     #[error("memory was refused")]
     NoMemory,
 }
@@ -46,25 +49,35 @@ impl RefusalKind {
             RefusalKind::AbsentObject => Some(1),
             RefusalKind::WrongClass => Some(2),
             RefusalKind::WrongKind => Some(3),
+            RefusalKind::HeldAbsent => Some(4),
+            RefusalKind::HeldWrongClass => Some(5),
             RefusalKind::TimerThroughVariable => Some(7),
             RefusalKind::WrongCall => Some(9),
-            RefusalKind::NotYet => Some(10),
             RefusalKind::NoMemory => None,
         }
     }
 
-    /// How what is wrong for this reason is refused.
-    pub(crate) fn of_reason(reason: Reason) -> RefusalKind
-        ensures { result ≡ kind_of reason }
+    /// How what is wrong for this reason is refused, where the place came to the reference through a variable or a list,
+    /// or did not.
+    pub(crate) fn of_reason(reason: Reason, held: bool) -> RefusalKind
+        ensures { result ≡ kind_of reason held }
     {
-        match reason {
-            Reason::Absent => RefusalKind::AbsentObject,
-            Reason::WrongClass => RefusalKind::WrongClass,
-            Reason::WrongKind => RefusalKind::WrongKind,
-            Reason::TimerHeld => RefusalKind::TimerThroughVariable,
-            Reason::Misfit => RefusalKind::WrongCall,
-            Reason::Unknown => RefusalKind::NotYet,
+        match (reason, held) {
+            (Reason::Absent, false) => RefusalKind::AbsentObject,
+            (Reason::Absent, true) => RefusalKind::HeldAbsent,
+            (Reason::WrongClass, false) => RefusalKind::WrongClass,
+            (Reason::WrongClass, true) => RefusalKind::HeldWrongClass,
+            (Reason::WrongKind, _) => RefusalKind::WrongKind,
+            (Reason::TimerHeld, _) => RefusalKind::TimerThroughVariable,
+            (Reason::Misfit, _) => RefusalKind::WrongCall,
         }
+    }
+
+    /// How this is refused.
+    pub(crate) fn of_wrong(wrong: &Wrong<'_>) -> RefusalKind
+        ensures { result ≡ kind_for wrong.now }
+    {
+        RefusalKind::of_reason(wrong.reason, wrong.through.is_some())
     }
 }
 
@@ -76,14 +89,14 @@ impl Rank for ByNumber {
 
     ghost order = { reason_number };
 
-    fn rank(reason: Reason) -> Option<u8> {
-        RefusalKind::of_reason(reason).rank()
+    fn rank(reason: Reason, held: bool) -> Option<u8> {
+        RefusalKind::of_reason(reason, held).rank()
     }
 }
 
 /// The place of an action: an object, and the number of the action there, counted from 1 through the
 /// effects of the object in their written order, slots last. With the index 0 it is the place of the object
-/// itself, or with the number 0 of a group itself.
+/// itself.
 #[derive(Clone, Drop, PartialEq, Eq)]
 pub struct Place {
     pub group: GroupName,
@@ -91,22 +104,21 @@ pub struct Place {
     pub index: usize,
 }
 
-/// Something wrong with an active action, with a member of a group of objects, or with the service itself.
+/// Something wrong with an active action, or with a member of a group of objects.
 #[derive(Drop)]
 pub struct Found {
     pub kind: RefusalKind,
     pub place: Place,
-    /// None where the place is that of an object or of a group itself.
+    /// None where the place is that of an object itself.
     pub action: Option<ActionName>,
-    /// The reference at the place that is wrong; the target's, of a call that does not fit its
-    /// program or of an action that is not verified yet; of a list or of a group itself, its own.
+    /// The reference at the place that is wrong; of a call that does not fit its program the target's.
     pub object: ObjRef,
     /// The configuration in which it is wrong.
     pub config: Config,
 }
 
-/// A service that is not accepted, and why. For want of memory there is no place; at that of an object or of
-/// a group itself there is no action.
+/// A service that is not accepted, and why. For want of memory there is no place; at that of an object itself there
+/// is no action.
 #[derive(Drop)]
 pub struct Refusal {
     pub kind: RefusalKind,

@@ -3,21 +3,23 @@
 //! Promise: of all that is wrong with an action what comes first by its number is told. Which of several
 //! actions comes first is left to `judging`.
 ghost use Rattle.std.specs.Prelude.{◌≡◌, IfOk};
+ghost use Rattle.mh_flow.specs.Solved.{held_by};
 ghost use Rattle.mh_verify.specs.Refusals.{found_at, refused_at};
 
 use crate::refusal::ByNumber;
 use crate::{Found, Place, RefusalKind};
-use mh_flow::{Equipped, KnownBefore, Present, Site};
+use mh_flow::{Equipped, Held, KnownWith, Present, Site};
 use mh_model::known::first_wrong;
 use mh_model::{Config, Wrong};
 use std::alloc::AllocError;
 
-/// A configuration of a service, with what is present there.
+/// A configuration of a service, with what is present there and what its variables and lists may hold.
 #[derive(Drop)]
 pub struct Scope<'a> {
     pub service: &'a Equipped<'a>,
     pub config: &'a Config,
     pub present: Present<'a>,
+    pub held: Held,
 }
 
 /// The refusal of the action at a site, with which this is wrong.
@@ -25,7 +27,7 @@ fn found_at(scope: &Scope<'_>, site: &Site<'_>, wrong: &Wrong<'_>) -> Result<Fou
     ensures { IfOk result (λ found. found ≡ found_at scope.now.config.now site.now wrong.now) }
 {
     Ok(Found {
-        kind: RefusalKind::of_reason(wrong.reason),
+        kind: RefusalKind::of_wrong(wrong),
         place: Place {
             group: site.key.group.clone()?,
             object: site.key.number,
@@ -40,10 +42,14 @@ fn found_at(scope: &Scope<'_>, site: &Site<'_>, wrong: &Wrong<'_>) -> Result<Fou
 /// Why the action at the site is refused, if it is.
 pub fn refused_at(scope: &Scope<'_>, site: &Site<'_>) -> Result<Option<Found>, AllocError>
     ensures { IfOk result (λ found. found ≡ refused_at scope.now.service.now scope.now.present
-        scope.now.config.now site.now) }
+        (held_by scope.now.present scope.now.held) scope.now.config.now site.now) }
 {
-    let before = scope.present.before(scope.service);
-    match first_wrong::<ByNumber, KnownBefore<'_>>(&before, site.act) {
+    let known = KnownWith {
+        service: scope.service,
+        present: &scope.present,
+        held: &scope.held,
+    };
+    match first_wrong::<ByNumber, KnownWith<'_>>(&known, site.act) {
         Some(wrong) => Ok(Some(found_at(scope, site, &wrong)?)),
         None => Ok(None),
     }

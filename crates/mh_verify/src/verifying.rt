@@ -3,16 +3,15 @@
 //! Promise: a service is accepted only where it is acceptable, and refused only where it is not, or for
 //! want of memory; a refusal names what comes first, and hands the service back.
 ghost use Rattle.std.specs.Prelude.{◌≡◌, None, OnOk, IfOk, IfErr};
-ghost use Rattle.std.specs.List.{flat_map};
 ghost use Rattle.mh_laws.specs.Acceptable.{IsAcceptable};
 ghost use Rattle.mh_flow.specs.Equipment.{equipped};
 ghost use Rattle.mh_verify.specs.Least.{least_of};
 ghost use Rattle.mh_verify.specs.Order.{refusal_of, unjudged, IsTold};
-ghost use Rattle.mh_flow.specs.Reach.{AreReached};
-ghost use Rattle.mh_verify.specs.Refusals.{refusals_in, RefusedIsNot};
+ghost use Rattle.mh_flow.specs.Solved.{IsFlowOf, flow_in};
+ghost use Rattle.mh_verify.specs.Refusals.{all_refusals, RefusedIsNot};
 
 use crate::{Accepted, Found, Refusal, RefusalKind, Warrant, judging};
-use mh_flow::{Equipped, reaching};
+use mh_flow::{Equipped, flow_of};
 use mh_model::Signature;
 use mh_service::Service;
 use std::alloc::{AllocError, Global};
@@ -31,25 +30,25 @@ pub fn verify(alloc: Global, service: Service, programs: &[Signature]) -> Result
     }
 }
 
-/// What is known of the service: the configurations that are reached and the programs; and the first
-/// of what is wrong there.
+/// What is known of the service: its flow and the programs; and the first of what is wrong in the configurations that
+/// are reached.
 fn judge(
     alloc: Global,
     service: &Service,
     programs: &[Signature],
 ) -> Result<(Warrant, Option<Found>), AllocError>
     ensures programs { IfOk result (λ judged. judged.0.programs ≡ programs.now) }
-    ensures reached { let s = equipped service.now programs.now in
-        IfOk result (λ judged. AreReached s judged.0.reached) }
+    ensures flow { IfOk result (λ judged. IsFlowOf (equipped service.now programs.now) judged.0.flow) }
     ensures first { let s = equipped service.now programs.now in
         IfOk result (λ judged. judged.1
-        ≡ least_of None (flat_map (refusals_in s) judged.0.reached)) }
+        ≡ least_of None (all_refusals s (flow_in s judged.0.flow))) }
 {
     let whole = Equipped::new(service, programs);
-    let reached = reaching::reached(alloc, &whole)?;
-    let first = judging::first_in(alloc, &whole, reached.as_slice())?;
+    let flow = flow_of(alloc, &whole)?;
+    let configs = flow.configs(alloc)?;
+    let first = judging::first_in(alloc, &whole, &flow, configs.as_slice())?;
     let programs = copies(alloc, programs)?;
-    Ok((Warrant::new(reached, programs), first))
+    Ok((Warrant::new(flow, programs), first))
 }
 
 /// Copies of these, whose names and parameters are shared with them.
@@ -70,9 +69,9 @@ fn copy(program: &Signature) -> Result<Signature, AllocError>
 }
 
 fn decide(service: Service, warrant: Warrant, first: Option<Found>) -> Result<Accepted, Refusal>
-    requires reached { AreReached (equipped service warrant.programs) warrant.reached }
+    requires flow { IsFlowOf (equipped service warrant.programs) warrant.flow }
     requires first { let s = equipped service warrant.programs in
-        first ≡ least_of None (flat_map (refusals_in s) warrant.reached) }
+        first ≡ least_of None (all_refusals s (flow_in s warrant.flow)) }
     ensures same { IfOk result (λ accepted. accepted ≡ equipped service warrant.programs) }
     ensures acceptable { OnOk result (IsAcceptable (equipped service warrant.programs)) }
     ensures back { IfErr result (λ refusal. refusal.service ≡ service) }
@@ -117,9 +116,9 @@ fn unjudged_service(service: Service) -> Refusal
     }
 }
 
-/// The law that a service with something wrong in a configuration that is reached is not acceptable: what
+/// The law that a service with something wrong in a configuration that its least flow reaches is not acceptable: what
 /// is refused for another cause than memory is refused rightly.
-#[tactic(auto, using(crate::proofs::RefusalLemmas::refused_is_not))]
+
 pub fn refused_is_not()
     ensures { RefusedIsNot }
 {}

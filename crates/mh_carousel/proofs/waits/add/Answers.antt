@@ -1,6 +1,7 @@
 use Rattle.std.proofs.Common.{◌∙◌, ap}
 use Rattle.indexmap.proofs.CallerLemmas.{insert_entry-new}
-use Rattle.mh_carousel.specs.Carried.{same_key, waits_of}
+use Rattle.mh_carousel.specs.Carried.{waits_of}
+use Rattle.mh_model.specs.Reference.{same_key}
 use Rattle.mh_carousel.proofs.WaitLemmas.{waits-append}
 use Rattle.mh_carousel.proofs.waits.add.Goals as goal
 

@@ -1,4 +1,5 @@
-use Rattle.mh_laws.proofs.EmittingLemmas.{emits_listed, lists_emitted}
+use Rattle.mh_laws.proofs.ComingLemmas.{lists_emitted}
+use Rattle.mh_laws.proofs.EmittingLemmas.{emits_listed}
 use Rattle.mh_laws.proofs.describing.emits_what_is_listed.Goals as goal
 
 pub returns-clause-each : goal.returns-clause-each

@@ -1,4 +1,6 @@
-use Rattle.mh_laws.proofs.GivingLemmas.{gives_said, lists_said, answers_items}
+use Rattle.mh_laws.proofs.AnsweringLemmas.{answers_items}
+use Rattle.mh_laws.proofs.GivingLemmas.{gives_said}
+use Rattle.mh_laws.proofs.ItemLemmas.{lists_said}
 use Rattle.mh_laws.proofs.describing.gives_what_it_says.Goals as goal
 
 pub returns-clause-given : goal.returns-clause-given

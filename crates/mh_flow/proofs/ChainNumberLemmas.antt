@@ -1,0 +1,250 @@
+-- Numbers of what a list has: what has a number stands there, and numbers of what is in order are in that order.
+use Rattle.std.proofs.Common.{◌≡◌, ◌⊎◌, inl, inr, ℕ, zero, suc, ◌+◌, ◌<◌, ◌≤◌, Bool, true, false, not, cond, ◌||◌, List, [], ◌∷◌, ◌++◌, length, Option, Some, None, refl, sym, ap, ◌∙◌, subst, arith, get_or, lt-ltb}
+use Rattle.std.specs.Prelude.{slice_get, position, unwrap_or, if◌then◌else◌}
+use Rattle.std.specs.List.{Contains, list_any, position_or_len}
+use Rattle.std.specs.List.Sorted.{IsSorted}
+use Rattle.std.specs.declared.cmp.Ordering.{Ordering}
+use Rattle.std.specs.declared.cmp.Ordering.TheVariants.{Less, Equal, Greater}
+use Rattle.std.specs.Ordering.{is_lt, nat_cmp, MatchOrdering, ordering_reverse, ordering_then}
+use Rattle.std.specs.Cmp.{IsTotalOrder, then_total, on_total, nat_cmp_total, ranked, tied_itself}
+use Rattle.std.specs.Cmp.Lexicographic.{slice_cmp, nat_list_cmp_total}
+use Rattle.std.proofs.lemmas.List.Sorted.{ranks_by, sorted_far}
+use Rattle.std.proofs.lemmas.List.Elements.{Contains-append_left, Contains-append_right}
+use Rattle.std.proofs.Math.Bool.{or-true}
+use Rattle.mh_model.proofs.ListLemmas.{some_same}
+use Rattle.std.proofs.lemmas.Map.Lookups.{exact_bytes, exact_unsigned}
+use Rattle.mh_base.specs.declared.obj_ref.ObjRef.{ObjRef}
+use Rattle.mh_laws.specs.Least.{by_reference}
+use Rattle.mh_flow.specs.declared.moves.Place.{Place}
+use Rattle.mh_flow.specs.declared.moves.Spot.{Spot}
+use Rattle.mh_flow.specs.declared.moves.Move.{Move}
+use Rattle.mh_flow.specs.Routes.{AreSpots, same_place, same_spot, spot_cmp, place_number, spot_number, with_place, with_source, places_from, places_of, with_spot, with_spot_of, spots_from}
+use Rattle.mh_model.specs.Reference.{same_key}
+use Rattle.mh_flow.proofs.ContainsLemmas.{both, halves, no_member, here, behind, first_or_behind}
+use Rattle.mh_flow.proofs.ConfigLemmas.{config_is, config_itself}
+use Rattle.std.proofs.lemmas.Bool.Decides.{Decides-eqb}
+use Rattle.std.proofs.lemmas.Slice.Eq.{bytes_eq-Decides}
+
+-- What is the same is equal.
+
+key_is : (a b : ObjRef) → same_key a b ≡ true → a ≡ b
+key_is a b h =
+    let two = halves _ _ h in
+    let n : a.number ≡ b.number = (Decides-eqb a.number b.number).0 two.0 in
+    let g : a.group ≡ b.group = (bytes_eq-Decides a.group b.group).0 two.1 in
+    λ i. record { number = n i; group = g i }
+
+key_itself : (a : ObjRef) → same_key a a ≡ true
+key_itself a = both _ _ ((Decides-eqb a.number a.number).1 refl) ((bytes_eq-Decides a.group a.group).1 refl)
+
+place_is : (a b : Place) → same_place a b ≡ true → a ≡ b
+place_is a b h =
+    let two = halves _ _ h in
+    let c = config_is a.config b.config two.0 in
+    let r = key_is a.at b.at two.1 in
+    λ i. record { config = c i; at = r i }
+
+place_itself : (a : Place) → same_place a a ≡ true
+place_itself a = both _ _ (config_itself a.config) (key_itself a.at)
+
+spot_is : (a b : Spot) → same_spot a b ≡ true → a ≡ b
+spot_is a b h =
+    let two = halves _ _ h in
+    let k = key_is a.key b.key two.0 in
+    let n : a.index ≡ b.index = (Decides-eqb a.index b.index).0 two.1 in
+    λ i. record { key = k i; index = n i }
+
+spot_itself : (a : Spot) → same_spot a a ≡ true
+spot_itself a = both _ _ (key_itself a.key) ((Decides-eqb a.index a.index).1 refl)
+
+-- Where something stands that passes a test.
+
+stands : {X : Type 0} (p : X → Bool) (xs : List X) → list_any p xs ≡ true → (x : X) × (slice_get xs (position_or_len p xs) ≡ Some x) × (p x ≡ true) × (position_or_len p xs < length xs)
+stands p [] h = cc
+stands {X} p (y ∷ xs) h = by (p y) refl h (stands p xs)
+  where
+    by : (b : Bool) → p y ≡ b → (b || list_any p xs) ≡ true → (list_any p xs ≡ true → (x : X) × (slice_get xs (position_or_len p xs) ≡ Some x) × (p x ≡ true) × (position_or_len p xs < length xs))
+        → (x : X) × (slice_get (y ∷ xs) (cond (not b) (1 + position_or_len p xs) 0) ≡ Some x) × (p x ≡ true) × (cond (not b) (1 + position_or_len p xs) 0 < length (y ∷ xs))
+    by true e h ih = (y, refl, e, omega arith)
+    by false e h ih =
+        let found = ih h in
+        let n : suc (position_or_len p xs) ≡ 1 + position_or_len p xs = omega arith in
+        (found.0, subst (λ (k : ℕ). slice_get (y ∷ xs) k ≡ Some found.0) n found.1, found.2, omega (arith, found.3))
+
+numbered : {X : Type 0} (p : X → Bool) (xs : List X) → position_or_len p xs < length xs → position p xs ≡ Some (position_or_len p xs)
+numbered {X} p xs h = ap (λ (b : Bool). cond b (Some (position_or_len p xs)) None) (lt-ltb (position_or_len p xs) (length xs) h)
+
+-- what is among them stands at its number
+standing : {X : Type 0} (same : X → X → Bool) → ((a b : X) → same a b ≡ true → a ≡ b) → (xs : List X) (x : X) → list_any (same x) xs ≡ true → (slice_get xs (unwrap_or (position (same x) xs) 0) ≡ Some x) × (unwrap_or (position (same x) xs) 0 < length xs)
+standing {X} same is xs x h =
+    let found = stands (same x) xs h in
+    let e : unwrap_or (position (same x) xs) 0 ≡ position_or_len (same x) xs = ap (λ (o : Option ℕ). unwrap_or o 0) (numbered (same x) xs found.3) in (
+      ap (slice_get xs) e ∙ found.1 ∙ ap (λ (y : X). Some y) (sym (is x found.0 found.2)),
+      subst (λ (n : ℕ). n < length xs) (sym e) found.3,
+    )
+
+pub placed : (ps : List Place) (p : Place) → list_any (same_place p) ps ≡ true → (slice_get ps (place_number ps p) ≡ Some p) × (place_number ps p < length ps)
+placed ps p h = standing same_place place_is ps p h
+
+pub spotted : (ss : List Spot) (s : Spot) → list_any (same_spot s) ss ≡ true → (slice_get ss (spot_number ss s) ≡ Some s) × (spot_number ss s < length ss)
+spotted ss s h = standing same_spot spot_is ss s h
+
+-- Membership by tests.
+
+any_member : {X : Type 0} (same : X → X → Bool) → ((a : X) → same a a ≡ true) → (xs : List X) (x : X) → Contains xs x → list_any (same x) xs ≡ true
+any_member same itself [] x m = absurd (no_member x m)
+any_member {X} same itself (y ∷ xs) x m = by (first_or_behind y xs x m) (any_member same itself xs x)
+  where
+    by : (y ≡ x) ⊎ Contains xs x → (Contains xs x → list_any (same x) xs ≡ true) → (same x y || list_any (same x) xs) ≡ true
+    by (inl e) ih = ap (λ (b : Bool). b || list_any (same x) xs) (subst (λ (z : X). same x z ≡ true) (sym e) (itself x))
+    by (inr k) ih = ap (λ (b : Bool). same x y || b) (ih k) ∙ or-true (same x y)
+
+member_any : {X : Type 0} (same : X → X → Bool) → ((a b : X) → same a b ≡ true → a ≡ b) → (xs : List X) (x : X) → list_any (same x) xs ≡ true → Contains xs x
+member_any same is [] x h = cc
+member_any {X} same is (y ∷ xs) x h = by (same x y) refl h (member_any same is xs x)
+  where
+    by : (b : Bool) → same x y ≡ b → (b || list_any (same x) xs) ≡ true → (list_any (same x) xs ≡ true → Contains xs x) → Contains (y ∷ xs) x
+    by true e h ih = subst (λ (z : X). Contains (y ∷ xs) z) (sym (is x y e)) (here y xs)
+    by false e h ih = behind y xs x (ih h)
+
+-- what is put in is there, and what was there stays
+put_there : {X : Type 0} (same : X → X → Bool) → ((a : X) → same a a ≡ true) → (xs : List X) (y : X) (b : Bool) → list_any (same y) xs ≡ b → list_any (same y) (if b then xs else xs ++ y ∷ []) ≡ true
+put_there same itself xs y true e = e
+put_there same itself xs y false e = any_member same itself (xs ++ y ∷ []) y (Contains-append_right xs (y ∷ []) y (here y []))
+
+put_stays : {X : Type 0} (same : X → X → Bool) → ((a : X) → same a a ≡ true) → ((a b : X) → same a b ≡ true → a ≡ b) → (xs : List X) (x y : X) (b : Bool) → list_any (same x) xs ≡ true → list_any (same x) (if b then xs else xs ++ y ∷ []) ≡ true
+put_stays same itself is xs x y true h = h
+put_stays same itself is xs x y false h = any_member same itself (xs ++ y ∷ []) x (Contains-append_left xs (y ∷ []) x (member_any same is xs x h))
+
+-- Places of moves.
+
+abbrev HasPlace : List Place → Place → Type 0
+HasPlace ps p = list_any (same_place p) ps ≡ true
+
+place_there : (ps : List Place) (p : Place) → HasPlace (with_place ps p) p
+place_there ps p = put_there same_place place_itself ps p (list_any (same_place p) ps) refl
+
+place_stays : (ps : List Place) (p q : Place) → HasPlace ps p → HasPlace (with_place ps q) p
+place_stays ps p q h = put_stays same_place place_itself place_is ps p q (list_any (same_place q) ps) h
+
+source_there : (ps : List Place) (o : Option Place) (p : Place) → o ≡ Some p → HasPlace (with_source ps o) p
+source_there ps None p e = cc
+source_there ps (Some q) p e = subst (λ (x : Place). HasPlace (with_place ps q) x) (some_same e) (place_there ps q)
+
+source_stays : (ps : List Place) (o : Option Place) (p : Place) → HasPlace ps p → HasPlace (with_source ps o) p
+source_stays ps None p h = h
+source_stays ps (Some q) p h = place_stays ps p q h
+
+places_stay : (ps : List Place) (ms : List Move) (p : Place) → HasPlace ps p → HasPlace (places_from ps ms) p
+places_stay ps [] p h = h
+places_stay ps (m ∷ ms) p h = places_stay (with_place (with_source ps m.from) m.to) ms p (place_stays (with_source ps m.from) p m.to (source_stays ps m.from p h))
+
+places_to : (ps : List Place) (ms : List Move) (m : Move) → Contains ms m → HasPlace (places_from ps ms) m.to
+places_to ps [] m k = absurd (no_member m k)
+places_to ps (x ∷ ms) m k = by (first_or_behind x ms m k) (places_to (with_place (with_source ps x.from) x.to) ms m)
+  where
+    by : (x ≡ m) ⊎ Contains ms m → (Contains ms m → HasPlace (places_from ps (x ∷ ms)) m.to) → HasPlace (places_from ps (x ∷ ms)) m.to
+    by (inl e) ih = subst (λ (y : Move). HasPlace (places_from ps (x ∷ ms)) y.to) e (places_stay (with_place (with_source ps x.from) x.to) ms x.to (place_there (with_source ps x.from) x.to))
+    by (inr k) ih = ih k
+
+places_source : (ps : List Place) (ms : List Move) (m : Move) (p : Place) → Contains ms m → m.from ≡ Some p → HasPlace (places_from ps ms) p
+places_source ps [] m p k e = absurd (no_member m k)
+places_source ps (x ∷ ms) m p k e = by (first_or_behind x ms m k) (λ k. places_source (with_place (with_source ps x.from) x.to) ms m p k e)
+  where
+    by : (x ≡ m) ⊎ Contains ms m → (Contains ms m → HasPlace (places_from ps (x ∷ ms)) p) → HasPlace (places_from ps (x ∷ ms)) p
+    by (inl same) ih =
+        let mine : x.from ≡ Some p = ap (λ (y : Move). y.from) same ∙ e in
+        places_stay (with_place (with_source ps x.from) x.to) ms p (place_stays (with_source ps x.from) p x.to (source_there ps x.from p mine))
+    by (inr k) ih = ih k
+
+pub has_to : (ms : List Move) (m : Move) → Contains ms m → HasPlace (places_of ms) m.to
+has_to ms m k = places_to [] ms m k
+
+pub has_source : (ms : List Move) (m : Move) (p : Place) → Contains ms m → m.from ≡ Some p → HasPlace (places_of ms) p
+has_source ms m p k e = places_source [] ms m p k e
+
+-- Spots of moves.
+
+abbrev HasSpot : List Spot → Spot → Type 0
+HasSpot ss s = list_any (same_spot s) ss ≡ true
+
+spot_of_there : (ss : List Spot) (o : Option Spot) (s : Spot) → o ≡ Some s → HasSpot (with_spot_of ss o) s
+spot_of_there ss None s e = cc
+spot_of_there ss (Some t) s e = subst (λ (x : Spot). HasSpot (with_spot ss t) x) (some_same e) (put_there same_spot spot_itself ss t (list_any (same_spot t) ss) refl)
+
+spot_of_stays : (ss : List Spot) (o : Option Spot) (s : Spot) → HasSpot ss s → HasSpot (with_spot_of ss o) s
+spot_of_stays ss None s h = h
+spot_of_stays ss (Some t) s h = put_stays same_spot spot_itself spot_is ss s t (list_any (same_spot t) ss) h
+
+spots_stay : (ss : List Spot) (ms : List Move) (s : Spot) → HasSpot ss s → HasSpot (spots_from ss ms) s
+spots_stay ss [] s h = h
+spots_stay ss (m ∷ ms) s h = spots_stay (with_spot_of ss m.spot) ms s (spot_of_stays ss m.spot s h)
+
+has_spot : (ss : List Spot) (ms : List Move) (m : Move) (s : Spot) → Contains ms m → m.spot ≡ Some s → HasSpot (spots_from ss ms) s
+has_spot ss [] m s k e = absurd (no_member m k)
+has_spot ss (x ∷ ms) m s k e = by (first_or_behind x ms m k) (λ k. has_spot (with_spot_of ss x.spot) ms m s k e)
+  where
+    by : (x ≡ m) ⊎ Contains ms m → (Contains ms m → HasSpot (spots_from ss (x ∷ ms)) s) → HasSpot (spots_from ss (x ∷ ms)) s
+    by (inl same) ih = spots_stay (with_spot_of ss x.spot) ms s (spot_of_there ss x.spot s (ap (λ (y : Move). y.spot) same ∙ e))
+    by (inr k) ih = ih k
+
+-- Order.
+
+pub spot_total : IsTotalOrder spot_cmp
+spot_total = then_total (on_total (λ (s : Spot). s.key) (then_total (on_total (λ (r : ObjRef). r.group) nat_list_cmp_total) (on_total (λ (r : ObjRef). r.number) nat_cmp_total))) (on_total (λ (s : Spot). s.index) nat_cmp_total)
+
+both_equal : (a b : Ordering) → ordering_then a b ≡ Equal → (a ≡ Equal) × (b ≡ Equal)
+both_equal Less b e = cc
+both_equal Equal b e = (refl, e)
+both_equal Greater b e = cc
+
+tied_is : (a b : Spot) → spot_cmp a b ≡ Equal → a ≡ b
+tied_is a b e =
+    let two = both_equal (by_reference a.key b.key) (nat_cmp a.index b.index) e in
+    let ref = both_equal (slice_cmp nat_cmp a.key.group b.key.group) (nat_cmp a.key.number b.key.number) two.0 in
+    let g = exact_bytes a.key.group b.key.group ref.0 in
+    let n = exact_unsigned a.key.number b.key.number ref.1 in
+    let i = exact_unsigned a.index b.index two.1 in
+    λ j. record { key = record { number = n j; group = g j }; index = i j }
+
+-- the spots in order, and all of those of the moves
+pub are_spots : (ms : List Move) (ss : List Spot) → IsSorted spot_cmp ss → ((s : Spot) → list_any (same_spot s) ss ≡ list_any (same_spot s) (spots_from [] ms)) → AreSpots ms ss
+are_spots ms ss sorted same = record { sorted = sorted; each = λ m s k e. same s ∙ has_spot [] ms m s k e }
+
+-- numbers of spots are in the order of spots
+got : {X : Type 0} (xs : List X) (n : ℕ) (x d : X) → slice_get xs n ≡ Some x → get_or xs n d ≡ x
+got [] n x d e = cc
+got (y ∷ xs) zero x d e = some_same e
+got (y ∷ xs) (suc n) x d e = got xs n x d e
+
+not_below : (ss : List Spot) → IsSorted spot_cmp ss → (i j : ℕ) (a b : Spot) → i ≤ j → j < length ss → slice_get ss i ≡ Some a → slice_get ss j ≡ Some b → is_lt (spot_cmp b a) ≡ false
+not_below ss up i j a b less within at_i at_j =
+    let far = sorted_far (λ x y. is_lt (spot_cmp x y)) (ranks_by spot_total (λ (s : Spot). s)) ss up i j a less within in
+    subst (λ (z : Spot). is_lt (spot_cmp z a) ≡ false) (got ss j b a at_j) (subst (λ (z : Spot). is_lt (spot_cmp (get_or ss j a) z) ≡ false) (got ss i a a at_i) far)
+
+pub sorted_numbers : (ms : List Move) (ss : List Spot) → AreSpots ms ss → (a b : Spot) → HasSpot ss a → HasSpot ss b → nat_cmp (spot_number ss a) (spot_number ss b) ≡ spot_cmp a b
+sorted_numbers ms ss are a b ha hb = by (nat_cmp i j) refl (ranked i j (nat_cmp i j) refl)
+  where
+    i : ℕ
+    i = spot_number ss a
+
+    j : ℕ
+    j = spot_number ss b
+
+    at_a : (slice_get ss i ≡ Some a) × (i < length ss)
+    at_a = spotted ss a ha
+
+    at_b : (slice_get ss j ≡ Some b) × (j < length ss)
+    at_b = spotted ss b hb
+
+    before : (x y : Spot) → spot_number ss x < spot_number ss y → is_lt (spot_cmp y x) ≡ false → (r : Ordering) → spot_cmp x y ≡ r → r ≡ Less
+    before x y less never Less e = refl
+    before x y less never Equal e = let same = ap (spot_number ss) (tied_is x y e) in absurd (omega (arith, same, less))
+    before x y less never Greater e = let k : is_lt (spot_cmp y x) ≡ true = ap is_lt (spot_total.antisymm y x ∙ ap ordering_reverse e) in cc
+
+    by : (r : Ordering) → nat_cmp i j ≡ r → MatchOrdering r (i < j) (i ≡ j) (j < i) → nat_cmp i j ≡ spot_cmp a b
+    by Less e h = e ∙ sym (before a b h (not_below ss are.sorted i j a b (omega (arith, h)) at_b.1 at_a.0 at_b.0) (spot_cmp a b) refl)
+    by Equal e h =
+        let same : Some a ≡ Some b = sym at_a.0 ∙ ap (slice_get ss) h ∙ at_b.0 in
+        e ∙ sym (tied_itself spot_total a) ∙ ap (spot_cmp a) (some_same same)
+    by Greater e h = e ∙ ap ordering_reverse (sym (before b a h (not_below ss are.sorted j i b a (omega (arith, h)) at_a.1 at_b.0 at_a.0) (spot_cmp b a) refl)) ∙ sym (spot_total.antisymm a b)

@@ -1,0 +1,278 @@
+-- The moves of a reference are what brings it: each move says so, and all that brings it is among them.
+use Rattle.std.proofs.Common.{◌≡◌, ◌⊎◌, inl, inr, ℕ, Bool, true, false, ◌&&◌, ◌||◌, List, [], ◌∷◌, ◌++◌, Option, Some, None, refl, sym, subst, ap, ◌∙◌, append-nil}
+use Rattle.std.specs.Prelude.{if◌then◌else◌, slice_get}
+use Rattle.std.specs.List.{Contains, flat_map, list_any}
+use Rattle.std.specs.Option.{option_to_list}
+use Rattle.std.proofs.lemmas.List.Elements.{Contains-append_left, Contains-append_right, Contains-append_cases}
+use Rattle.mh_base.specs.declared.obj_ref.ObjRef.{ObjRef}
+use Rattle.mh_base.specs.declared.value.Value.TheVariants as value
+use Rattle.mh_model.specs.declared.act.Argument.{Argument}
+use Rattle.mh_model.specs.declared.act.Argument.TheVariants as argument
+use Rattle.mh_model.specs.declared.act.Target.{Target}
+use Rattle.mh_model.specs.declared.act.Target.TheVariants as target
+use Rattle.mh_model.specs.declared.config.Config.{Config}
+use Rattle.mh_model.specs.declared.object.Fixed.{Fixed}
+use Rattle.mh_model.specs.Arguments.{receivers}
+use Rattle.mh_model.specs.Configuration.{present}
+use Rattle.mh_model.specs.Reference.{same_ref}
+use Rattle.mh_model.specs.Service.{Service, group_parts}
+use Rattle.mh_model.proofs.ListLemmas.{some_same}
+use Rattle.mh_model.proofs.ServiceLemmas.{same_ref-same}
+use Rattle.mh_laws.specs.Active.{leads_to}
+use Rattle.mh_laws.specs.Describing.{Says, says}
+use Rattle.mh_laws.specs.Describing as saying
+use Rattle.mh_laws.specs.Flow.{Flow, fills, has, is_given, is_list_in, is_reference_in}
+use Rattle.mh_laws.specs.Least.{Fact, Derived, Reached, Held, Comes, Hands}
+use Rattle.mh_laws.specs.Least as least
+use Rattle.mh_flow.specs.declared.link.Link.{Link}
+use Rattle.mh_flow.specs.declared.moves.Place.{Place}
+use Rattle.mh_flow.specs.declared.moves.Spot.{Spot}
+use Rattle.mh_flow.specs.declared.moves.Move.{Move}
+use Rattle.mh_flow.specs.Chains.{Brings, IsDone, original, written, read, filled, passed, link}
+use Rattle.mh_flow.specs.Chart.{firsts, argument_of, handed_argument}
+use Rattle.mh_group.specs.declared.action_name.ActionName.{ActionName}
+use Rattle.mh_group.specs.declared.action_name.ActionName.TheVariants as action
+use Rattle.mh_flow.specs.Moves.{links_by, Follows, begin, onward}
+use Rattle.mh_flow.specs.Sites.{Site, sites_of}
+use Rattle.mh_flow.specs.Steps.{place, ground, first_spot, site_spot, comes, goes, stays, first_moves, handed_moves, given_moves, received_moves, filled_moves, kept_moves, passed_moves, led_moves, done_moves, targets, site_moves, moves_in, moves_of, IsExact}
+use Rattle.mh_flow.proofs.ContainsLemmas.{both, halves, no_member, here, behind, first_or_behind, in_joined, joined_from}
+use Rattle.mh_flow.proofs.ChainFirstLemmas.{ref_itself}
+use Rattle.mh_flow.proofs.ChainLemmas.{brought_is_held}
+
+-- References among others.
+
+pub among : (q : ObjRef) (rs : List ObjRef) → list_any (same_ref q) rs ≡ true → Contains rs q
+among q [] h = cc
+among q (r ∷ rs) h = by (same_ref q r) refl h (among q rs)
+  where
+    by : (b : Bool) → same_ref q r ≡ b → (b || list_any (same_ref q) rs) ≡ true → (list_any (same_ref q) rs ≡ true → Contains rs q) → Contains (r ∷ rs) q
+    by true e h ih = subst (λ (x : ObjRef). Contains (r ∷ rs) x) (sym (same_ref-same q r e)) (here r rs)
+    by false e h ih = behind r rs q (ih h)
+
+pub is_among : (q : ObjRef) (rs : List ObjRef) → Contains rs q → list_any (same_ref q) rs ≡ true
+is_among q [] m = absurd (no_member q m)
+is_among q (r ∷ rs) m = by (same_ref q r) refl (first_or_behind r rs q m) (is_among q rs)
+  where
+    by : (b : Bool) → same_ref q r ≡ b → (r ≡ q) ⊎ Contains rs q → (Contains rs q → list_any (same_ref q) rs ≡ true) → (b || list_any (same_ref q) rs) ≡ true
+    by true e m ih = refl
+    by false e (inl same) ih = let itself = subst (λ (x : ObjRef). same_ref q x ≡ true) (sym same) (ref_itself q) in cc
+    by false e (inr k) ih = ih k
+
+-- What each member of a list is.
+
+abbrev Are : {X : Type 0} → (X → Type 0) → List X → Type 0
+Are {X} P xs = (x : X) → Contains xs x → P x
+
+are_none : {X : Type 0} (P : X → Type 0) → Are P []
+are_none P x m = absurd (no_member x m)
+
+are_one : {X : Type 0} (P : X → Type 0) (x : X) → P x → Are P (x ∷ [])
+are_one {X} P x h y m = by (first_or_behind x [] y m)
+  where
+    by : (x ≡ y) ⊎ Contains [] y → P y
+    by (inl e) = subst P e h
+    by (inr none) = absurd (no_member y none)
+
+are_both : {X : Type 0} (P : X → Type 0) (xs ys : List X) → Are P xs → Are P ys → Are P (xs ++ ys)
+are_both P xs ys h k x m = elim (Contains-append_cases xs ys x m) [ inl a ↦ h x a | inr b ↦ k x b ]
+
+are_joined : {X Y : Type 0} (P : Y → Type 0) (f : X → List Y) (xs : List X) → ((x : X) → Contains xs x → Are P (f x)) → Are P (flat_map f xs)
+are_joined P f xs h y m = let found = joined_from f xs y m in h found.0 found.1 y found.2
+
+are_if : {X : Type 0} (P : X → Type 0) (b : Bool) (xs : List X) → (b ≡ true → Are P xs) → Are P (if b then xs else [])
+are_if P true xs h = h refl
+are_if P false xs h = are_none P
+
+where_true : {X : Type 0} (b : Bool) (xs : List X) (x : X) → b ≡ true → Contains xs x → Contains (if b then xs else []) x
+where_true true xs x e m = m
+where_true false xs x e m = cc
+
+told : {X : Type 0} (m : Option X) (x : X) → Contains (option_to_list m) x → m ≡ Some x
+told None x k = absurd (no_member x k)
+told {X} (Some y) x k = elim (first_or_behind y [] x k) [ inl e ↦ ap (λ (z : X). Some z) e | inr none ↦ absurd (no_member x none) ]
+
+tells : {X : Type 0} (m : Option X) (x : X) → m ≡ Some x → Contains (option_to_list m) x
+tells {X} m x e = subst (λ (o : Option X). Contains (option_to_list o) x) (sym e) (here x [])
+
+-- What an action hands on.
+
+handed_says : (ss : List Says) (xs : List Argument) (y : Argument) → argument_of ss xs ≡ Some y → (n : ℕ) × Contains ss (saying.Hands n) × (slice_get xs n ≡ Some y)
+handed_says [] xs y e = absurd cc
+handed_says (saying.Hands n ∷ ss) xs y e = (n, here (saying.Hands n) ss, e)
+
+hands_one : (a b : ℕ) → Contains (saying.Hands a ∷ []) (saying.Hands b) → a ≡ b
+hands_one a b m = by (first_or_behind (saying.Hands a) [] (saying.Hands b) m)
+  where
+    number : Says → ℕ
+    number (saying.Hands n) = n
+
+    by : (saying.Hands a ≡ saying.Hands b) ⊎ Contains [] (saying.Hands b) → a ≡ b
+    by (inl e) = ap number e
+    by (inr none) = absurd (no_member (saying.Hands b) none)
+
+says_handed : (a : ActionName) (xs : List Argument) (n : ℕ) (y : Argument) → Contains (says a) (saying.Hands n) → slice_get xs n ≡ Some y → argument_of (says a) xs ≡ Some y
+says_handed action.SetVariable xs n y m e = ap (slice_get xs) (hands_one 0 n m) ∙ e
+says_handed action.AddItem xs n y m e = ap (slice_get xs) (hands_one 1 n m) ∙ e
+says_handed _ xs n y m e = absurd (no_member (saying.Hands n) m)
+
+-- To what a target comes.
+
+abbrev IsTarget : (v : Service) (w : Flow) → Fact → Type 0
+IsTarget v w (Reached c) = Unit {0}
+IsTarget v w (Held c r q) = Unit {0}
+IsTarget v w (Comes c t r) = Contains (targets (present v c) (w.sets c) t) r
+IsTarget v w (Hands c x q) = Unit {0}
+
+module _ (v : Service) (w : Flow) (e : IsExact v w) where
+  is_target : (f : Fact) → Derived v f → IsTarget v w f
+  is_target f (least.start) = tt
+  is_target f (least.named c r) = here r []
+  is_target f (least.referred c y q is h) = where_true (is_reference_in (present v c) y) (w.sets c y) q is (among q (w.sets c y) (e.held c y q h))
+  is_target f (least.written c q) = tt
+  is_target f (least.read c y q k is h) = tt
+  is_target f (least.original_value c p q at m is h) = tt
+  is_target f (least.original_item c p q at m is h) = tt
+  is_target f (least.given c a n x r q at m hands stands comes takes h) = tt
+  is_target f (least.filled c a r y q at m fill comes list receives is h) = tt
+  is_target f (least.led c a r d at m comes leads) = tt
+  is_target f (least.passed c a r d g p q at m comes leads scene part h) = tt
+
+  comes_to : (c : Config) (t : Target) (r : ObjRef) → Contains (targets (present v c) (w.sets c) t) r → Derived v (Comes c t r)
+  comes_to c (target.Direct x) r m = are_one (λ (r : ObjRef). Derived v (Comes c (target.Direct x) r)) x (least.named c x) r m
+  comes_to c (target.Through y) r m = are_if (λ (r : ObjRef). Derived v (Comes c (target.Through y) r)) (is_reference_in (present v c) y) (w.sets c y) (λ is r k. least.referred c y r is (e.only_held c y r (is_among r (w.sets c y) k))) r m
+
+-- What a move does.
+
+record Serves (v : Service) (q : ObjRef) (m : Move) : Type 0 where
+  begins : m.from ≡ None → Brings v q (links_by m) m.to.config m.to.at
+  goes_on : (ls : List Link) (p : Place) → m.from ≡ Some p → Brings v q ls p.config p.at → Brings v q (ls ++ links_by m) m.to.config m.to.at
+
+serves_comes : (v : Service) (q : ObjRef) (s : Spot) (p : Place) → Brings v q (link s.key s.index p.at ∷ []) p.config p.at → Serves v q (comes s p)
+serves_comes v q s p h = record { begins = λ e. h; goes_on = λ ls o e k. absurd cc }
+
+serves_goes : (v : Service) (q : ObjRef) (o : Place) (s : Spot) (p : Place) → ((ls : List Link) → Brings v q ls o.config o.at → Brings v q (ls ++ link s.key s.index p.at ∷ []) p.config p.at) → Serves v q (goes o s p)
+serves_goes v q o s p h = record { begins = λ e. absurd cc; goes_on = λ ls x e k. h ls (subst (λ (z : Place). Brings v q ls z.config z.at) (sym (some_same e)) k) }
+
+serves_stays : (v : Service) (q : ObjRef) (o p : Place) → ((ls : List Link) → Brings v q ls o.config o.at → Brings v q ls p.config p.at) → Serves v q (stays o p)
+serves_stays v q o p h = record {
+  begins = λ e. absurd cc;
+  goes_on = λ ls x e k. subst (λ (ks : List Link). Brings v q ks p.config p.at) (sym (append-nil ls)) (h ls (subst (λ (z : Place). Brings v q ls z.config z.at) (sym (some_same e)) k));
+}
+
+-- Each move serves.
+
+module _ (v : Service) (w : Flow) (e : IsExact v w) (q : ObjRef) where
+  abbrev AreServing : List Move → Type 0
+  AreServing ms = Are (Serves v q) ms
+
+  firsts_serve : (c : Config) → Contains w.configs c → (p : Fixed) → Contains (present v c) p → AreServing (first_moves (ground v w q c) p)
+  firsts_serve c reached p among_parts = are_if (Serves v q) (list_any (same_ref q) (firsts p)) (comes (first_spot p) (place c p.key) ∷ []) (λ h.
+      are_one (Serves v q) (comes (first_spot p) (place c p.key)) (serves_comes v q (first_spot p) (place c p.key) (original c p (e.only_reached c reached) among_parts (among q (firsts p) h))))
+
+  module _ (c : Config) (x : Site) (r : ObjRef) (done : IsDone v c x r) where
+    argument_serves : (n : ℕ) (y : Argument) → Contains (says x.act.name) (saying.Hands n) → slice_get x.act.arguments n ≡ Some y → is_given (present v c) x.act.name r ≡ true → AreServing (handed_moves (ground v w q c) x r y)
+    argument_serves n (argument.Direct (value.Object y)) hands stands takes = are_if (Serves v q) (same_ref q y) (comes (site_spot x) (place c r) ∷ []) (λ h.
+        are_one (Serves v q) (comes (site_spot x) (place c r)) (serves_comes v q (site_spot x) (place c r) (written c x r n done hands (subst (λ (z : ObjRef). slice_get x.act.arguments n ≡ Some (argument.Direct (value.Object z))) (sym (same_ref-same q y h)) stands) takes)))
+    argument_serves n (argument.Through y k) hands stands takes = are_if (Serves v q) (is_reference_in (present v c) y && has (w.sets c) y q) (goes (place c y) (site_spot x) (place c r) ∷ []) (λ h.
+        are_one (Serves v q) (goes (place c y) (site_spot x) (place c r)) (serves_goes v q (place c y) (site_spot x) (place c r) (λ ls b. read ls c x r y n k done hands stands takes (halves _ _ h).0 b)))
+    argument_serves n (argument.Receiver y) hands stands takes = are_none (Serves v q)
+    argument_serves n (argument.Direct y) hands stands takes = are_none (Serves v q)
+
+    given_serves : AreServing (given_moves (ground v w q c) x r)
+    given_serves = are_if (Serves v q) (is_given (present v c) x.act.name r) (flat_map (handed_moves (ground v w q c) x r) (option_to_list (handed_argument x.act))) (λ takes.
+        are_joined (Serves v q) (handed_moves (ground v w q c) x r) (option_to_list (handed_argument x.act)) (λ y k.
+        let said = handed_says (says x.act.name) x.act.arguments y (told (handed_argument x.act) y k) in
+        argument_serves said.0 y said.1 said.2 takes))
+
+    filled_serves : AreServing (filled_moves (ground v w q c) x r)
+    filled_serves = are_if (Serves v q) (fills x.act.name && is_list_in (present v c) r && has (w.sets c) r q) (flat_map (received_moves (ground v w q c) x r) (receivers x.act.arguments)) (λ h.
+        let two = halves _ _ h in
+        let fill_and_list = halves _ _ two.0 in
+        are_joined (Serves v q) (received_moves (ground v w q c) x r) (receivers x.act.arguments) (λ y receives.
+        are_if (Serves v q) (is_reference_in (present v c) y) (goes (place c r) (site_spot x) (place c y) ∷ []) (λ is.
+        are_one (Serves v q) (goes (place c r) (site_spot x) (place c y)) (serves_goes v q (place c r) (site_spot x) (place c y) (λ ls b. filled ls c x r y done fill_and_list.0 fill_and_list.1 receives is b)))))
+
+    passed_serves : (d : Config) (scene : Option (List ℕ)) → leads_to v c x.act.name r ≡ Some d → d.scene ≡ scene → AreServing (passed_moves (ground v w q c) d scene)
+    passed_serves d None leads is = are_none (Serves v q)
+    passed_serves d (Some g) leads is = are_joined (Serves v q) (kept_moves (ground v w q c) d) (group_parts v c.app) (λ p part.
+        are_if (Serves v q) (has (w.sets c) p.key q) (stays (place c p.key) (place d p.key) ∷ []) (λ h.
+        are_one (Serves v q) (stays (place c p.key) (place d p.key)) (serves_stays v q (place c p.key) (place d p.key) (λ ls b. passed ls c x r d g p done leads is part b))))
+
+    led_serves : (d : Option Config) → leads_to v c x.act.name r ≡ d → AreServing (led_moves (ground v w q c) d)
+    led_serves None leads = are_none (Serves v q)
+    led_serves (Some d) leads = passed_serves d d.scene leads refl
+
+    done_serves : AreServing (done_moves (ground v w q c) x r)
+    done_serves = are_both (Serves v q) (given_moves (ground v w q c) x r ++ filled_moves (ground v w q c) x r) (led_moves (ground v w q c) (leads_to v c x.act.name r))
+        (are_both (Serves v q) (given_moves (ground v w q c) x r) (filled_moves (ground v w q c) x r) given_serves filled_serves)
+        (led_serves (leads_to v c x.act.name r) refl)
+
+  moves_serve : AreServing (moves_of v w q)
+  moves_serve = are_joined (Serves v q) (λ c. moves_in (ground v w q c)) w.configs (λ c reached.
+      are_both (Serves v q) (flat_map (first_moves (ground v w q c)) (present v c)) (flat_map (site_moves (ground v w q c)) (sites_of (present v c)))
+      (are_joined (Serves v q) (first_moves (ground v w q c)) (present v c) (λ p k. firsts_serve c reached p k))
+      (are_joined (Serves v q) (site_moves (ground v w q c)) (sites_of (present v c)) (λ x site.
+      are_joined (Serves v q) (done_moves (ground v w q c) x) (targets (present v c) (w.sets c) x.act.target) (λ r comes_here.
+      done_serves c x r (record { reached = e.only_reached c reached; site = site; comes = comes_to v w e c x.act.target r comes_here })))))
+
+  pub follows_brings : (ls : List Link) (p : Place) → Follows (moves_of v w q) ls p → Brings v q ls p.config p.at
+  follows_brings ls p (begin m k from) = (moves_serve m k).begins from
+  follows_brings ls p (onward ks o m f k from) = (moves_serve m k).goes_on ks o from (follows_brings ks o f)
+
+  -- What brings the reference is among the moves.
+
+  in_config : (c : Config) (m : Move) → Derived v (Reached c) → Contains (moves_in (ground v w q c)) m → Contains (moves_of v w q) m
+  in_config c m at k = in_joined (λ c. moves_in (ground v w q c)) w.configs c m (e.reached c at) k
+
+  first_is_in : (c : Config) (p : Fixed) → Derived v (Reached c) → Contains (present v c) p → Contains (firsts p) q → Contains (moves_of v w q) (comes (first_spot p) (place c p.key))
+  first_is_in c p at k h = in_config c (comes (first_spot p) (place c p.key)) at
+      (Contains-append_left (flat_map (first_moves (ground v w q c)) (present v c)) (flat_map (site_moves (ground v w q c)) (sites_of (present v c))) (comes (first_spot p) (place c p.key))
+      (in_joined (first_moves (ground v w q c)) (present v c) p (comes (first_spot p) (place c p.key)) k
+      (where_true (list_any (same_ref q) (firsts p)) (comes (first_spot p) (place c p.key) ∷ []) (comes (first_spot p) (place c p.key)) (is_among q (firsts p) h) (here (comes (first_spot p) (place c p.key)) []))))
+
+  module _ (c : Config) (x : Site) (r : ObjRef) (done : IsDone v c x r) where
+    done_is_in : (m : Move) → Contains (done_moves (ground v w q c) x r) m → Contains (moves_of v w q) m
+    done_is_in m k = in_config c m done.reached
+        (Contains-append_right (flat_map (first_moves (ground v w q c)) (present v c)) (flat_map (site_moves (ground v w q c)) (sites_of (present v c))) m
+        (in_joined (site_moves (ground v w q c)) (sites_of (present v c)) x m done.site
+        (in_joined (done_moves (ground v w q c) x) (targets (present v c) (w.sets c) x.act.target) r m (is_target v w e (Comes c x.act.target r) done.comes) k)))
+
+    given_is_in : (m : Move) (n : ℕ) (y : Argument) → Contains (says x.act.name) (saying.Hands n) → slice_get x.act.arguments n ≡ Some y → is_given (present v c) x.act.name r ≡ true → Contains (handed_moves (ground v w q c) x r y) m → Contains (moves_of v w q) m
+    given_is_in m n y hands stands takes k = done_is_in m
+        (Contains-append_left (given_moves (ground v w q c) x r ++ filled_moves (ground v w q c) x r) (led_moves (ground v w q c) (leads_to v c x.act.name r)) m
+        (Contains-append_left (given_moves (ground v w q c) x r) (filled_moves (ground v w q c) x r) m
+        (where_true (is_given (present v c) x.act.name r) (flat_map (handed_moves (ground v w q c) x r) (option_to_list (handed_argument x.act))) m takes
+        (in_joined (handed_moves (ground v w q c) x r) (option_to_list (handed_argument x.act)) y m (tells (handed_argument x.act) y (says_handed x.act.name x.act.arguments n y hands stands)) k))))
+
+    filled_is_in : (y : ObjRef) → fills x.act.name ≡ true → is_list_in (present v c) r ≡ true → has (w.sets c) r q ≡ true → Contains (receivers x.act.arguments) y → is_reference_in (present v c) y ≡ true → Contains (moves_of v w q) (goes (place c r) (site_spot x) (place c y))
+    filled_is_in y fill list holds receives is = done_is_in (goes (place c r) (site_spot x) (place c y))
+        (Contains-append_left (given_moves (ground v w q c) x r ++ filled_moves (ground v w q c) x r) (led_moves (ground v w q c) (leads_to v c x.act.name r)) (goes (place c r) (site_spot x) (place c y))
+        (Contains-append_right (given_moves (ground v w q c) x r) (filled_moves (ground v w q c) x r) (goes (place c r) (site_spot x) (place c y))
+        (where_true (fills x.act.name && is_list_in (present v c) r && has (w.sets c) r q) (flat_map (received_moves (ground v w q c) x r) (receivers x.act.arguments)) (goes (place c r) (site_spot x) (place c y)) (both _ _ (both _ _ fill list) holds)
+        (in_joined (received_moves (ground v w q c) x r) (receivers x.act.arguments) y (goes (place c r) (site_spot x) (place c y)) receives
+        (where_true (is_reference_in (present v c) y) (goes (place c r) (site_spot x) (place c y) ∷ []) (goes (place c r) (site_spot x) (place c y)) is (here (goes (place c r) (site_spot x) (place c y)) []))))))
+
+    passed_is_in : (d : Config) (g : List ℕ) (p : Fixed) → leads_to v c x.act.name r ≡ Some d → d.scene ≡ Some g → Contains (group_parts v c.app) p → has (w.sets c) p.key q ≡ true → Contains (moves_of v w q) (stays (place c p.key) (place d p.key))
+    passed_is_in d g p leads scene part holds = done_is_in (stays (place c p.key) (place d p.key))
+        (Contains-append_right (given_moves (ground v w q c) x r ++ filled_moves (ground v w q c) x r) (led_moves (ground v w q c) (leads_to v c x.act.name r)) (stays (place c p.key) (place d p.key))
+        (subst (λ (o : Option Config). Contains (led_moves (ground v w q c) o) (stays (place c p.key) (place d p.key))) (sym leads)
+        (subst (λ (o : Option (List ℕ)). Contains (passed_moves (ground v w q c) d o) (stays (place c p.key) (place d p.key))) (sym scene)
+        (in_joined (kept_moves (ground v w q c) d) (group_parts v c.app) p (stays (place c p.key) (place d p.key)) part
+        (where_true (has (w.sets c) p.key q) (stays (place c p.key) (place d p.key) ∷ []) (stays (place c p.key) (place d p.key)) holds (here (stays (place c p.key) (place d p.key)) []))))))
+
+  holds_it : (ls : List Link) (c : Config) (r : ObjRef) → Brings v q ls c r → has (w.sets c) r q ≡ true
+  holds_it ls c r b = e.held c r q (brought_is_held v q ls c r b)
+
+  pub brings_follows : (ls : List Link) (c : Config) (r : ObjRef) → Brings v q ls c r → Follows (moves_of v w q) ls (place c r)
+  brings_follows ls0 c0 r0 (original c p at k first) = begin (comes (first_spot p) (place c p.key)) (first_is_in c p at k first) refl
+  brings_follows ls0 c0 r0 (written c x r n done hands stands takes) =
+      begin (comes (site_spot x) (place c r)) (given_is_in c x r done (comes (site_spot x) (place c r)) n (argument.Direct (value.Object q)) hands stands takes
+      (where_true (same_ref q q) (comes (site_spot x) (place c r) ∷ []) (comes (site_spot x) (place c r)) (ref_itself q) (here (comes (site_spot x) (place c r)) []))) refl
+  brings_follows ls0 c0 r0 (read ls c x r y n k done hands stands takes is b) =
+      onward ls (place c y) (goes (place c y) (site_spot x) (place c r)) (brings_follows ls c y b) (given_is_in c x r done (goes (place c y) (site_spot x) (place c r)) n (argument.Through y k) hands stands takes
+      (where_true (is_reference_in (present v c) y && has (w.sets c) y q) (goes (place c y) (site_spot x) (place c r) ∷ []) (goes (place c y) (site_spot x) (place c r)) (both _ _ is (holds_it ls c y b)) (here (goes (place c y) (site_spot x) (place c r)) []))) refl
+  brings_follows ls0 c0 r0 (filled ls c x r y done fill list receives is b) =
+      onward ls (place c r) (goes (place c r) (site_spot x) (place c y)) (brings_follows ls c r b) (filled_is_in c x r done y fill list (holds_it ls c r b) receives is) refl
+  brings_follows ls0 c0 r0 (passed ls c x r d g p done leads scene part b) =
+      subst (λ (ks : List Link). Follows (moves_of v w q) ks (place d p.key)) (append-nil ls)
+      (onward ls (place c p.key) (stays (place c p.key) (place d p.key)) (brings_follows ls c p.key b) (passed_is_in c x r done d g p leads scene part (holds_it ls c p.key b)) refl)

@@ -1,0 +1,145 @@
+-- The moves of a reference: where it is at first or is written, and where actions take it, in all configurations that
+-- are reached.
+use Rattle.std.specs.Prelude.{◌≡◌, Bool, true, ◌&&◌, if◌then◌else◌, ℕ, List, [], ◌∷◌, ◌++◌, Option, Some, None}
+use Rattle.std.specs.List.{Contains, flat_map, list_any}
+use Rattle.std.specs.Option.{option_to_list}
+use Rattle.mh_base.specs.declared.obj_ref.ObjRef.{ObjRef}
+use Rattle.mh_base.specs.declared.value.Value.TheVariants as value
+use Rattle.mh_model.specs.declared.act.Argument.{Argument}
+use Rattle.mh_model.specs.declared.act.Argument.TheVariants as argument
+use Rattle.mh_model.specs.declared.act.Target.{Target}
+use Rattle.mh_model.specs.declared.act.Target.TheVariants as target
+use Rattle.mh_model.specs.declared.config.Config.{Config}
+use Rattle.mh_model.specs.declared.object.Fixed.{Fixed}
+use Rattle.mh_model.specs.Arguments.{receivers}
+use Rattle.mh_model.specs.Configuration.{present}
+use Rattle.mh_model.specs.Known.{Known}
+use Rattle.mh_model.specs.Reference.{same_ref}
+use Rattle.mh_model.specs.Service.{Service, group_parts}
+use Rattle.mh_laws.specs.Active.{leads_to}
+use Rattle.mh_laws.specs.Flow.{Flow, Sets, fills, has, is_given, is_list_in, is_reference_in}
+use Rattle.mh_laws.specs.Least.{Derived, Reached, Held}
+use Rattle.mh_flow.specs.declared.moves.Place.{Place}
+use Rattle.mh_flow.specs.declared.moves.Spot.{Spot}
+use Rattle.mh_flow.specs.declared.moves.Move.{Move}
+use Rattle.mh_flow.specs.Chart.{firsts, handed_argument}
+use Rattle.mh_flow.specs.Sites.{Site, sites_of}
+
+abbrev pub place : Config → ObjRef → Place
+place c r = record { config = c; at = r }
+
+abbrev pub first_spot : Fixed → Spot
+first_spot p = record { key = p.key; index = 0 }
+
+abbrev pub site_spot : Site → Spot
+site_spot x = record { key = x.key; index = x.index }
+
+-- the reference comes from nowhere; from a place; and stays with what holds it
+
+abbrev pub comes : Spot → Place → Move
+comes s p = record { from = None; spot = Some s; to = p }
+
+abbrev pub goes : Place → Spot → Place → Move
+goes o s p = record { from = Some o; spot = Some s; to = p }
+
+abbrev pub stays : Place → Place → Move
+stays o p = record { from = Some o; spot = None; to = p }
+
+-- A configuration that is reached, with what is present there, the sets that it has, and the reference that is sought.
+pub record Ground : Type 0 where
+  pub service : Service
+  pub config : Config
+  pub present : List Fixed
+  pub sets : Sets
+  pub sought : ObjRef
+
+-- with what is known there
+abbrev pub ground_of : Service → Config → List Fixed → Known → ObjRef → Ground
+ground_of v c ps k q = record { service = v; config = c; present = ps; sets = k.refers; sought = q }
+
+-- a place there
+abbrev pub there : Ground → ObjRef → Place
+there g r = place g.config r
+
+-- what holds the reference there
+abbrev pub holds : Ground → ObjRef → Bool
+holds g r = has g.sets r g.sought
+
+-- the object has the reference at first
+abbrev pub first_moves : Ground → Fixed → List Move
+first_moves g p =
+    if list_any (same_ref g.sought) (firsts p) then comes (first_spot p) (there g p.key) ∷ [] else []
+
+-- Actions. Each function says what the action at a site does where its target comes to an object.
+
+-- it writes a reference there; it hands on what a variable holds
+abbrev pub written_moves : Ground → Site → ObjRef → ObjRef → List Move
+written_moves g x r y = if same_ref g.sought y then comes (site_spot x) (there g r) ∷ [] else []
+
+abbrev pub read_moves : Ground → Site → ObjRef → ObjRef → List Move
+read_moves g x r y =
+    if is_reference_in g.present y && holds g y then goes (there g y) (site_spot x) (there g r) ∷ [] else []
+
+-- the argument brings the reference to the object
+abbrev pub handed_moves : Ground → Site → ObjRef → Argument → List Move
+handed_moves g x r (argument.Direct (value.Object y)) = written_moves g x r y
+handed_moves g x r (argument.Direct y) = []
+handed_moves g x r (argument.Through y k) = read_moves g x r y
+handed_moves g x r (argument.Receiver y) = []
+
+abbrev pub given_moves : Ground → Site → ObjRef → List Move
+given_moves g x r =
+    if is_given g.present x.act.name r
+    then flat_map (handed_moves g x r) (option_to_list (handed_argument x.act)) else []
+
+-- the variable receives what the list has
+abbrev pub received_moves : Ground → Site → ObjRef → ObjRef → List Move
+received_moves g x r y =
+    if is_reference_in g.present y then goes (there g r) (site_spot x) (there g y) ∷ [] else []
+
+abbrev pub filled_moves : Ground → Site → ObjRef → List Move
+filled_moves g x r =
+    if fills x.act.name && is_list_in g.present r && holds g r
+    then flat_map (received_moves g x r) (receivers x.act.arguments) else []
+
+-- the object takes the reference along, if it holds it
+abbrev pub kept_moves : Ground → Config → Fixed → List Move
+kept_moves g d p = if holds g p.key then stays (there g p.key) (place d p.key) ∷ [] else []
+
+abbrev pub passed_moves : Ground → Config → Option (List ℕ) → List Move
+passed_moves g d None = []
+passed_moves g d (Some s) = flat_map (kept_moves g d) (group_parts g.service g.config.app)
+
+abbrev pub led_moves : Ground → Option Config → List Move
+led_moves g None = []
+led_moves g (Some d) = passed_moves g d d.scene
+
+abbrev pub done_moves : Ground → Site → ObjRef → List Move
+done_moves g x r =
+    given_moves g x r ++ filled_moves g x r ++ led_moves g (leads_to g.service g.config x.act.name r)
+
+-- the objects to which a target may come
+abbrev pub targets : List Fixed → Sets → Target → List ObjRef
+targets ps h (target.Direct r) = r ∷ []
+targets ps h (target.Through w) = if is_reference_in ps w then h w else []
+
+abbrev pub site_moves : Ground → Site → List Move
+site_moves g x = flat_map (done_moves g x) (targets g.present g.sets x.act.target)
+
+-- All
+
+abbrev pub moves_in : Ground → List Move
+moves_in g = flat_map (first_moves g) g.present ++ flat_map (site_moves g) (sites_of g.present)
+
+abbrev pub ground : Service → Flow → ObjRef → Config → Ground
+ground v w q c = record { service = v; config = c; present = present v c; sets = w.sets c; sought = q }
+
+abbrev pub moves_of : Service → Flow → ObjRef → List Move
+moves_of v w q = flat_map (λ c. moves_in (ground v w q c)) w.configs
+
+-- the flow has what is derived, and nothing else
+pub record IsExact (v : Service) (w : Flow) : Type 0 where
+  pub reached : (c : Config) → Derived v (Reached c) → Contains w.configs c
+  pub only_reached : (c : Config) → Contains w.configs c → Derived v (Reached c)
+  pub held : (c : Config) (r q : ObjRef) → Derived v (Held c r q) → has (w.sets c) r q ≡ true
+  pub only_held : (c : Config) (r q : ObjRef) → has (w.sets c) r q ≡ true → Derived v (Held c r q)

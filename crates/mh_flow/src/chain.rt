@@ -1,0 +1,90 @@
+//! How a reference came to a variable or a list.
+//!
+//! Promise: a chain is told wherever the flow has the reference, and of all chains it is the first of the shortest.
+ghost use Rattle.std.specs.Prelude.{◌≡◌, ◌++◌, IfNone, IfOk, IfSome, OnOk};
+ghost use Rattle.mh_laws.specs.Least.{Derived, Held};
+ghost use Rattle.mh_flow.specs.Chains.{IsFirstChain};
+ghost use Rattle.mh_flow.specs.Solved.{IsFlowOf, flow_of};
+ghost use Rattle.mh_flow.specs.Steps.{ground, moves_in, moves_of};
+
+use crate::equipped::Equipped;
+use crate::flow::Flow;
+use crate::known::KnownWith;
+use crate::link::Link;
+use crate::moves::Move;
+use crate::search::first_links;
+use crate::steps::{Ground, place};
+use mh_base::ObjRef;
+use mh_model::Config;
+use std::alloc::{AllocError, Global};
+
+/// The moves of the reference in the configuration go behind these.
+fn push_config<'a>(
+    alloc: Global,
+    moves: &mut Vec<Move>,
+    service: &'a Equipped<'a>,
+    flow: &'a Flow,
+    config: &'a Config,
+    sought: &'a ObjRef,
+) -> Result<(), AllocError>
+    requires { IsFlowOf service.now flow.now }
+    ensures { let w = flow_of service.now flow.now.chart flow.now.rows in
+        OnOk result (moves.new.items ≡ moves.old.items ++ moves_in (ground service.now w sought.now config.now)) }
+{
+    let present = flow.present(service, config);
+    let held = flow.held(alloc, service, config)?;
+    let known = KnownWith {
+        service,
+        present: &present,
+        held: &held,
+    };
+    let here = Ground {
+        service,
+        config,
+        present: &present,
+        known: &known,
+        sought,
+    };
+    here.push_moves(alloc, moves)?;
+    Ok(())
+}
+
+/// All moves of the reference.
+fn moves_of(
+    alloc: Global,
+    service: &Equipped<'_>,
+    flow: &Flow,
+    sought: &ObjRef,
+) -> Result<Vec<Move>, AllocError>
+    requires { IsFlowOf service.now flow.now }
+    ensures { let w = flow_of service.now flow.now.chart flow.now.rows in
+        IfOk result (λ moves. moves.items ≡ moves_of service.now w sought.now) }
+{
+    let configs = flow.configs(alloc)?;
+    let mut moves = Vec::new(alloc);
+    for config in &configs {
+        push_config(alloc, &mut moves, &*service, &*flow, config, &*sought)?;
+    }
+    Ok(moves)
+}
+
+/// How the reference came to the variable or the list at `holder`: the first of the shortest chains, if it may hold the
+/// reference in the configuration.
+pub fn chain(
+    alloc: Global,
+    service: &Equipped<'_>,
+    flow: &Flow,
+    config: &Config,
+    holder: &ObjRef,
+    at: &ObjRef,
+) -> Result<Option<Vec<Link>>, AllocError>
+    requires { IsFlowOf service.now flow.now }
+    ensures some { IfOk result (λ found. IfSome found (λ links.
+        IsFirstChain service.now at.now config.now holder.now links.items)) }
+    ensures none { IfOk result (λ found. IfNone found
+        (Derived service.now (Held config.now holder.now at.now) → ⊥)) }
+{
+    let moves = moves_of(alloc, service, flow, at)?;
+    let goal = place(config, holder)?;
+    first_links(alloc, moves.as_slice(), &goal)
+}

@@ -1,0 +1,26 @@
+//! The search for all that follows.
+//!
+//! Promise: what is found is all that follows from the start, and nothing else.
+ghost use Rattle.std.specs.Prelude.{IfOk};
+ghost use Rattle.mh_flow.specs.Net.{IsFit};
+ghost use Rattle.mh_flow.specs.Sets.{IsLeast};
+
+use crate::gathered::Gathered;
+use crate::net::Rules;
+use crate::sets::Sets;
+use std::alloc::{AllocError, Global};
+
+/// All that follows from the start, and nothing else.
+pub fn solve<R: Rules>(alloc: Global, rules: &R) -> Result<Sets, AllocError>
+    requires { IsFit (R.net rules.now) }
+    ensures { IfOk result (λ sets. IsLeast (R.net rules.now) sets) }
+{
+    let mut gathered = Gathered::nothing(alloc, rules.nodes())?;
+    let mut items = Vec::new(alloc);
+    rules.starts(&mut items)?;
+    gathered.put_each(rules, items.as_slice())?;
+    while let Some(fact) = gathered.pending.pop() {
+        gathered.follow(rules, fact, &mut items)?;
+    }
+    Ok(Sets::of(gathered.bits))
+}

@@ -1,0 +1,141 @@
+//! What a member of a set opens.
+//!
+//! Promise: a configuration that is reached, one to which another leads and what a variable holds each open what the
+//! definition says, and nothing that is not there opens anything.
+ghost use Rattle.std.specs.Prelude.{◌≡◌, ◌++◌, [], IfOk, OnOk, slice_get};
+ghost use Rattle.std.specs.Option.{option_map_or};
+ghost use Rattle.mh_model.specs.Configuration.{starting};
+ghost use Rattle.mh_flow.specs.Opening as spec;
+
+use crate::chart::{Chart, Set};
+use crate::equipped::Equipped;
+use crate::net::{Fact, Item, Rules};
+use crate::place::{Place, push_member};
+use mh_model::Config;
+use std::alloc::{AllocError, Global};
+use std::marker::Model;
+
+/// A service and its numbers.
+#[derive(Drop)]
+pub(crate) struct Opening<'a> {
+    pub alloc: Global,
+    pub service: &'a Equipped<'a>,
+    pub chart: &'a Chart,
+}
+
+impl<'a> Model for Opening<'a> {
+    ghost use Rattle.mh_flow.specs.Chart.{IsChart};
+    ghost use Rattle.mh_flow.specs.Opening.{Numbered};
+
+    ghost Value = { Numbered };
+
+    ghost view = { λ o. record { service = o.service.now; chart = o.chart.now } };
+
+    ghost invariant = { λ o. IsChart o.service.now o.chart.now };
+}
+
+impl<'a> Rules for Opening<'a> {
+    ghost use Rattle.mh_flow.specs.Opening.{net_of};
+
+    ghost net = { λ o. net_of o.service o.chart };
+
+    fn nodes(&self) -> usize {
+        self.chart.sets()
+    }
+
+    fn width(&self) -> usize {
+        let members = self.chart.members();
+        let configs = self.chart.configs();
+        if members < configs { configs } else { members }
+    }
+
+    fn starts(&self, items: &mut Vec<Item>) -> Result<(), AllocError> {
+        let start = starting(self.service)?;
+        push_member(items, Some(0), self.chart.config_number(&start))
+    }
+
+    fn open(&self, fact: Fact, items: &mut Vec<Item>) -> Result<(), AllocError> {
+        match self.chart.set_at(fact.node) {
+            None => Ok(()),
+            Some(Set::Reached) => self.push_config(items, fact.member),
+            Some(Set::Led(from)) => self.push_led(items, from, fact.member),
+            Some(Set::Held(config, place)) => self.push_held(items, config, place, fact.member),
+        }
+    }
+}
+
+/// The start application with no scene.
+fn starting(service: &Equipped<'_>) -> Result<Config, AllocError>
+    ensures { IfOk result (λ start. start ≡ starting service.now) }
+{
+    Ok(Config {
+        app: service.start().clone()?,
+        scene: None,
+    })
+}
+
+impl<'a> Opening<'a> {
+    /// The configuration with this number.
+    fn place(&self, number: usize) -> Option<Place<'a>>
+        ensures { result ≡ spec.place_of self.now.service self.now.chart number }
+    {
+        match self.chart.config_at(number) {
+            None => None,
+            Some((config, bases)) => Some(Place {
+                service: self.service,
+                chart: self.chart,
+                number,
+                config,
+                bases,
+                present: self.chart.present(self.service, config),
+            }),
+        }
+    }
+
+    /// What is there where a configuration is reached.
+    fn push_config(&self, items: &mut Vec<Item>, number: usize) -> Result<(), AllocError>
+        ensures { let v = self.now.service in let ch = self.now.chart in
+            OnOk result (items.new.items ≡ items.old.items
+            ++ option_map_or (λ e. spec.by_config v ch number e.0 e.1) (slice_get ch.configs number) []) }
+    {
+        match self.place(number) {
+            None => Ok(()),
+            Some(place) => place.push_reached(self.alloc, items),
+        }
+    }
+
+    /// What is there where a configuration leads to another.
+    fn push_led(&self, items: &mut Vec<Item>, from: usize, to: usize) -> Result<(), AllocError>
+        ensures { let v = self.now.service in let ch = self.now.chart in
+            OnOk result (items.new.items ≡ items.old.items
+            ++ option_map_or (λ e. spec.by_led v e.0 e.1 to (slice_get ch.configs to)) (slice_get ch.configs from) []) }
+    {
+        match self.place(from) {
+            None => Ok(()),
+            Some(place) => place.push_next(items, to, self.chart.config_at(to)),
+        }
+    }
+
+    /// What is there where an object holds a reference in a configuration.
+    fn push_held(
+        &self,
+        items: &mut Vec<Item>,
+        config: usize,
+        place: usize,
+        member: usize,
+    ) -> Result<(), AllocError>
+        ensures { let v = self.now.service in let ch = self.now.chart in
+            OnOk result (items.new.items ≡ items.old.items
+            ++ spec.opened_in v ch member (Set.Held config place)) }
+    {
+        match self.place(config) {
+            None => Ok(()),
+            Some(there) => there.push_object(
+                self.alloc,
+                items,
+                place,
+                self.chart.member_at(member),
+            ),
+        }
+    }
+}
