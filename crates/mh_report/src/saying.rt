@@ -3,9 +3,11 @@ ghost use Rattle.std.specs.Prelude.{◌≡◌, ◌++◌, OnOk, IfOk, codes};
 ghost use Rattle.std.specs.Fmt.{decimal};
 ghost use Rattle.mh_report.specs.Played.{complaint};
 ghost use Rattle.mh_report.specs.Verdict.{refusal_lines, place_words, action_words, scene_word, config_line, object_line};
+ghost use Rattle.mh_report.specs.Verdict.{chain_lines, link_line};
 
 use crate::unplayable::Unplayable;
 use mh_base::{GroupName, ObjRef};
+use mh_flow::Link;
 use mh_group::ActionName;
 use mh_model::Config;
 use mh_told::text::Text;
@@ -66,6 +68,7 @@ pub fn refusal_text(alloc: Global, refusal: &Refusal) -> Result<Text, AllocError
     text.put(b"\n")?;
     put_config(&mut text, &refusal.config)?;
     put_object(&mut text, &refusal.object)?;
+    put_chain(&mut text, refusal.chain.as_slice())?;
     Ok(text)
 }
 
@@ -123,4 +126,24 @@ fn put_object(text: &mut Text, object: &Option<ObjRef>) -> Result<(), AllocError
         text.put(b"\n")?;
     }
     Ok(())
+}
+
+/// A line for each link of the chain that brought the reference.
+fn put_chain(text: &mut Text, chain: &[Link]) -> Result<(), AllocError>
+    ensures { OnOk result (text.new ≡ text.old ++ chain_lines chain.now) }
+{
+    for link in chain {
+        put_link(text, link)?;
+    }
+    Ok(())
+}
+
+fn put_link(text: &mut Text, link: &Link) -> Result<(), AllocError>
+    ensures { OnOk result (text.new ≡ text.old ++ link_line link.now) }
+{
+    text.put(b"by ")?;
+    text.put(link.key.group.as_bytes())?;
+    put_spaced(text, u64::from(link.key.number))?;
+    put_spaced(text, link.index as u64)?;
+    text.put(b"\n")
 }

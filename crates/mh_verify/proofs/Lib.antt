@@ -3,3 +3,6 @@ pub mod MannedLemmas
 pub mod OrderLemmas
 pub mod NamedLemmas
 pub mod RefusalLemmas
+pub mod CarriedLemmas
+pub mod CandidateLemmas
+pub mod SoonestLemmas

@@ -39,17 +39,17 @@ module _ {K : Type 0} {R : K → K → Ordering} (o : IsTotalOrder R) where
       by Equal e k = ap is_lt (alike_right o b x y e) ∙ h
       by Greater e k = ap is_lt (o.trans y x b (less (R y x) h) (o.antisymm x b ∙ ap ordering_reverse e))
 
-  not_before_itself : (x : K) → is_lt (R x x) ≡ false
+  pub not_before_itself : (x : K) → is_lt (R x x) ≡ false
   not_before_itself x = ap is_lt (tied_itself o x)
 
-  not_before : (y b x : K) → is_lt (R y b) ≡ false → is_lt (R b x) ≡ false → is_lt (R y x) ≡ false
+  pub not_before : (y b x : K) → is_lt (R y b) ≡ false → is_lt (R b x) ≡ false → is_lt (R y x) ≡ false
   not_before y b x h k = by (is_lt (R y x)) refl
     where
       by : (t : Bool) → is_lt (R y x) ≡ t → is_lt (R y x) ≡ false
       by false e = e
       by true e = let f = before_level y x b e k in cc
 
-  after_less : (y b x : K) → is_lt (R y b) ≡ true → is_lt (R y x) ≡ false → is_lt (R b x) ≡ false
+  pub after_less : (y b x : K) → is_lt (R y b) ≡ true → is_lt (R y x) ≡ false → is_lt (R b x) ≡ false
   after_less y b x h k = by (is_lt (R b x)) refl
     where
       by : (t : Bool) → is_lt (R b x) ≡ t → is_lt (R b x) ≡ false

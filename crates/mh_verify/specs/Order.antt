@@ -1,6 +1,6 @@
 -- Which refusal comes first: by name of the group, number of the object, number of the action, and kind; and
 -- then the first configuration, by name of the application and of the scene, no scene before any.
-use Rattle.std.specs.Prelude.{◌≡◌, Bool, true, false, List, Some, None, ◌⊎◌}
+use Rattle.std.specs.Prelude.{◌≡◌, Bool, true, false, List, [], Some, None, ◌⊎◌}
 use Rattle.std.specs.declared.cmp.Ordering.{Ordering}
 use Rattle.std.specs.Ordering.{is_lt, nat_cmp, on, then_cmp}
 use Rattle.std.specs.Option.{option_cmp}
@@ -11,12 +11,14 @@ use Rattle.mh_model.specs.declared.program.Signature.{Signature}
 use Rattle.mh_model.specs.Service.{Service}
 use Rattle.mh_laws.specs.Flow.{Flow, reached}
 use Rattle.mh_laws.specs.Least.{IsLeast}
+use Rattle.mh_verify.specs.declared.coming.Coming.{Coming}
 use Rattle.mh_verify.specs.declared.refusal.Found.{Found}
 use Rattle.mh_verify.specs.declared.refusal.Place.{Place}
 use Rattle.mh_verify.specs.declared.refusal.Refusal.{Refusal}
 use Rattle.mh_verify.specs.declared.refusal.RefusalKind.TheVariants as kind
 use Rattle.mh_flow.specs.Equipment.{equipped}
 use Rattle.mh_verify.specs.Kinds.{kind_number}
+use Rattle.mh_verify.specs.Naming.{IsNamed}
 use Rattle.mh_verify.specs.Refusals.{refusals_in}
 
 abbrev pub by_place : Place → Place → Ordering
@@ -37,13 +39,13 @@ pub record IsFirst (s : Service) (w : Flow) (x : Found) : Type 0 where
   pub stands : Contains (refusals_in s w x.config) x
   pub first : (c : Config) (y : Found) → reached w c ≡ true → Contains (refusals_in s w c) y → is_before y x ≡ false
 
--- the refusal says this of the service
-abbrev pub refusal_of : Service → Found → Refusal
-refusal_of s x = record { kind = x.kind; place = Some x.place; action = x.action; config = Some x.config; object = Some x.object; service = s }
+-- the refusal says this of the service, with the reference that came so
+abbrev pub refusal_of : Service → Found → Coming → Refusal
+refusal_of s x k = record { kind = x.kind; place = Some x.place; action = x.action; config = Some x.config; object = Some k.at; chain = k.chain; service = s }
 
 -- no verdict, for want of memory
 abbrev pub unjudged : Service → Refusal
-unjudged s = record { kind = kind.NoMemory; place = None; action = None; config = None; object = None; service = s }
+unjudged s = record { kind = kind.NoMemory; place = None; action = None; config = None; object = None; chain = []; service = s }
 
 -- the refusal says what comes first by the least flow, where the receiver has these programs
 pub record NamesFirst (s : Service) (programs : List Signature) (r : Refusal) : Type 0 where
@@ -51,7 +53,9 @@ pub record NamesFirst (s : Service) (programs : List Signature) (r : Refusal) : 
   pub least : IsLeast (equipped s programs) flow
   pub found : Found
   pub first : IsFirst (equipped s programs) flow found
-  pub names : r ≡ refusal_of s found
+  pub coming : Coming
+  pub named : IsNamed (equipped s programs) flow found coming
+  pub names : r ≡ refusal_of s found coming
 
 -- a refusal of the service says what comes first, or that memory was refused
 abbrev pub IsTold : Service → List Signature → Refusal → Type 0

@@ -24,19 +24,21 @@ use Rattle.mh_verify.specs.Kinds.{kind_of, reason_number}
 abbrev pub kind_for : Wrong → RefusalKind
 kind_for w = kind_of w.reason (is_some w.through)
 
--- a refusal of the action with this number of an object
-abbrev pub refusal_at : Config → ObjRef → ℕ → RefusalKind → ActionName → ObjRef → Found
-refusal_at c key n k name r = record {
-  kind = k;
+-- a refusal of the action with this number of an object, or of the object itself with 0 and no action, with which this is
+-- wrong
+abbrev pub refusal_at : Config → ObjRef → ℕ → Option ActionName → Wrong → Found
+refusal_at c key n name w = record {
+  kind = kind_for w;
   place = record { group = key.group; object = key.number; index = n };
-  action = Some name;
-  object = r;
+  action = name;
+  object = w.at;
+  through = w.through;
   config = c;
 }
 
 -- this is wrong with the action at a site
 abbrev pub found_at : Config → Site → Wrong → Found
-found_at c x w = refusal_at c x.key x.index (kind_for w) x.act.name w.at
+found_at c x w = refusal_at c x.key x.index (Some x.act.name) w
 
 -- the refusal of the action at a site, if there is one: for what comes first, by its number, of all that is wrong
 -- with it where these are present and variables and lists have these sets
@@ -52,18 +54,8 @@ refusals_of_effects s w c = flat_map (wrong_at s (present s c) (w.sets c) c) (si
 
 -- Members of groups of objects. What is refused of one stands at its group, in front of all actions of it.
 
--- a refusal of an object itself
-abbrev pub refusal_of_part : Config → ObjRef → RefusalKind → ObjRef → Found
-refusal_of_part c key k r = record {
-  kind = k;
-  place = record { group = key.group; object = key.number; index = 0 };
-  action = None;
-  object = r;
-  config = c;
-}
-
 abbrev pub found_of_part : Config → ObjRef → Wrong → Found
-found_of_part c key w = refusal_of_part c key (kind_for w) w.at
+found_of_part c key w = refusal_at c key 0 None w
 
 -- what is wrong with the members of a group of objects: those of a list are whatever it may have
 abbrev pub part_wrongs : List Fixed → Sets → Fixed → List Wrong

@@ -6,13 +6,18 @@
 #![tactic(auto)]
 
 pub mod accepted;
+mod alone;
+mod candidates;
+mod coming;
 mod judging;
 mod members;
+mod naming;
 mod ordering;
 pub mod refusal;
 mod telling;
 pub mod verifying;
 
 pub use accepted::{Accepted, Warrant};
+pub(crate) use coming::Coming;
 pub use refusal::{Found, Place, Refusal, RefusalKind};
 pub use verifying::verify;

@@ -14,7 +14,7 @@ ghost use Rattle.mh_verify.specs.Refusals.{found_of_part, part_refused};
 ghost use Rattle.mh_verify.specs.Least.{least_of};
 
 use crate::ordering::lesser;
-use crate::telling::Scope;
+use crate::telling::{Scope, copied};
 use crate::{Found, Place, RefusalKind};
 use mh_base::ObjRef;
 use mh_flow::Present;
@@ -23,7 +23,7 @@ use mh_group::Class;
 use mh_model::{Fixed, FixedPart, Member, Reason, Wrong};
 use std::alloc::AllocError;
 
-fn is_list_group(class: Class) -> bool
+pub fn is_list_group(class: Class) -> bool
     ensures { result ≡ is_list_group class }
 {
     matches!(class, Class::ListGroup)
@@ -31,7 +31,7 @@ fn is_list_group(class: Class) -> bool
 
 /// What is wrong with a member, if anything is: the group runs and halts it, so it has to be there, and
 /// a visible.
-fn fault_of(present: &Present<'_>, at: &ObjRef) -> Option<Reason>
+pub fn fault_of(present: &Present<'_>, at: &ObjRef) -> Option<Reason>
     ensures { (v : _) → option_map_or (λ why. wrong why v at.now) result []
         ≡ object_wrongs is_visible v at.now (class_at at.now present.now) }
 {
@@ -56,6 +56,7 @@ fn found_of_part(scope: &Scope<'_>, key: &ObjRef, wrong: &Wrong<'_>) -> Result<F
         },
         action: None,
         object: wrong.at.clone()?,
+        through: copied(wrong.through)?,
         config: scope.config.clone()?,
     })
 }

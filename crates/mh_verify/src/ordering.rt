@@ -7,10 +7,15 @@ ghost use Rattle.std.specs.Ordering.{nat_cmp};
 ghost use Rattle.std.specs.Cmp.Lexicographic.{slice_cmp};
 ghost use Rattle.mh_verify.specs.Kinds.{kind_number};
 ghost use Rattle.mh_verify.specs.Least.{lesser};
+ghost use Rattle.mh_laws.specs.Least.{by_reference};
+ghost use Rattle.mh_flow.specs.Chains.{by_spot};
+ghost use Rattle.mh_verify.specs.Least.{sooner};
+ghost use Rattle.mh_verify.specs.Naming.{by_coming};
 ghost use Rattle.mh_verify.specs.Order.{by_place, by_config, order};
 
-use crate::{Found, Place, RefusalKind};
-use mh_base::GroupName;
+use crate::{Coming, Found, Place, RefusalKind};
+use mh_base::{GroupName, ObjRef};
+use mh_flow::Link;
 use mh_model::Config;
 use std::cmp::Ordering;
 
@@ -66,6 +71,71 @@ pub fn lesser(best: Option<Found>, found: Found) -> Found
         Some(best) => {
             if order(&found, &best).is_lt() {
                 found
+            } else {
+                best
+            }
+        }
+    }
+}
+
+// How references came
+
+fn by_reference(first: &ObjRef, second: &ObjRef) -> Ordering
+    ensures { result ≡ by_reference first.now second.now }
+{
+    let group = first.group.as_bytes().cmp(&second.group.as_bytes());
+    group.then(first.number.cmp(&second.number))
+}
+
+fn by_spot(first: &Link, second: &Link) -> Ordering
+    ensures { result ≡ by_spot first.now second.now }
+{
+    by_reference(&first.key, &second.key).then(first.index.cmp(&second.index))
+}
+
+/// Place by place.
+fn by_spots(first: &[Link], second: &[Link]) -> Ordering
+    ensures { result ≡ slice_cmp by_spot first.now second.now }
+{
+    let mut first = first;
+    let mut second = second;
+    while let Some((link, behind)) = first.split_first() {
+        let Some((other, others)) = second.split_first() else {
+            return Ordering::Greater;
+        };
+        let order = by_spot(link, other);
+        if order.is_ne() {
+            return order;
+        }
+        first = behind;
+        second = others;
+    }
+    if second.is_empty() {
+        Ordering::Equal
+    } else {
+        Ordering::Less
+    }
+}
+
+/// By the number of links, then place by place, then by the references.
+fn by_coming(first: &Coming, second: &Coming) -> Ordering
+    ensures { result ≡ by_coming first.now second.now }
+{
+    let links = first.chain.len().cmp(&second.chain.len());
+    links
+        .then(by_spots(first.chain.as_slice(), second.chain.as_slice()))
+        .then(by_reference(&first.at, &second.at))
+}
+
+/// The one of this and of the best so far that came sooner.
+pub fn sooner(best: Option<Coming>, coming: Coming) -> Coming
+    ensures { result ≡ sooner best coming }
+{
+    match best {
+        None => coming,
+        Some(best) => {
+            if by_coming(&coming, &best).is_lt() {
+                coming
             } else {
                 best
             }

@@ -3,7 +3,8 @@ ghost use Rattle.std.specs.Prelude.{◌≡◌};
 ghost use Rattle.mh_verify.specs.Kinds.{kind_number, kind_of, reason_number};
 ghost use Rattle.mh_verify.specs.Refusals.{kind_for};
 
-use mh_base::{GroupName, ObjRef};
+use mh_base::{GroupName, ObjRef, Seq};
+use mh_flow::Link;
 use mh_group::ActionName;
 use mh_model::{Config, Rank, Reason, Wrong};
 use mh_service::Service;
@@ -113,6 +114,8 @@ pub struct Found {
     pub action: Option<ActionName>,
     /// The reference at the place that is wrong; of a call that does not fit its program the target's.
     pub object: ObjRef,
+    /// The variable or the list that may hold it; none where it is written at the place.
+    pub through: Option<ObjRef>,
     /// The configuration in which it is wrong.
     pub config: Config,
 }
@@ -127,5 +130,7 @@ pub struct Refusal {
     pub config: Option<Config>,
     /// The reference at the place that is wrong.
     pub object: Option<ObjRef>,
+    /// How it came to the variable or the list that may hold it; no link where it is written at the place.
+    pub chain: Seq<Link>,
     pub service: Service,
 }

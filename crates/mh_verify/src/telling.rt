@@ -3,11 +3,13 @@
 //! Promise: of all that is wrong with an action what comes first by its number is told. Which of several
 //! actions comes first is left to `judging`.
 ghost use Rattle.std.specs.Prelude.{◌≡◌, IfOk};
+ghost use Rattle.std.specs.Option.{option_copied};
 ghost use Rattle.mh_flow.specs.Solved.{held_by};
 ghost use Rattle.mh_verify.specs.Refusals.{found_at, refused_at};
 
 use crate::refusal::ByNumber;
 use crate::{Found, Place, RefusalKind};
+use mh_base::ObjRef;
 use mh_flow::{Equipped, Held, KnownWith, Present, Site};
 use mh_model::known::first_wrong;
 use mh_model::{Config, Wrong};
@@ -20,6 +22,16 @@ pub struct Scope<'a> {
     pub config: &'a Config,
     pub present: Present<'a>,
     pub held: Held,
+}
+
+/// A copy of the reference, if there is one.
+pub fn copied(at: Option<&ObjRef>) -> Result<Option<ObjRef>, AllocError>
+    ensures { IfOk result (λ copy. copy ≡ option_copied at.entry) }
+{
+    let Some(at) = at else {
+        return Ok(None);
+    };
+    Ok(Some(at.clone()?))
 }
 
 /// The refusal of the action at a site, with which this is wrong.
@@ -35,6 +47,7 @@ fn found_at(scope: &Scope<'_>, site: &Site<'_>, wrong: &Wrong<'_>) -> Result<Fou
         },
         action: Some(site.act.name),
         object: wrong.at.clone()?,
+        through: copied(wrong.through)?,
         config: scope.config.clone()?,
     })
 }

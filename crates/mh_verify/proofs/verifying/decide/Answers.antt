@@ -1,6 +1,7 @@
-use Rattle.std.proofs.Common.{sym, ◌∙◌, inl}
+use Rattle.std.proofs.Common.{subst, inl}
 use Rattle.mh_flow.specs.Equipment.{equipped}
 use Rattle.mh_flow.specs.Solved.{flow_in}
+use Rattle.mh_verify.specs.Least.{IsJudged}
 use Rattle.mh_verify.proofs.RefusalLemmas.{accepted_of, first_found}
 use Rattle.mh_verify.proofs.verifying.decide.Goals as goal
 
@@ -8,20 +9,25 @@ use Rattle.mh_verify.proofs.verifying.decide.Goals as goal
 pub join-requires : goal.join-requires
 join-requires c =
     let s = equipped c.args.service c.args.warrant.programs in
+    let w = flow_in s c.args.warrant.flow in
     let k = c.requires.flow in
     record {
       flow = k;
-      acceptable = accepted_of s (flow_in s c.args.warrant.flow) k.chart.service k.least (sym c.requires.first ∙ c.in-None.is);
+      acceptable = accepted_of s w k.chart.service k.least (subst (IsJudged s w) c.in-None.is c.requires.first);
     }
 
 -- what is found comes first
 pub returns-in-Some-clause-told : goal.returns-in-Some-clause-told
 returns-in-Some-clause-told c =
     let s = equipped c.args.service c.args.warrant.programs in
+    let w = flow_in s c.args.warrant.flow in
+    let judged = subst (IsJudged s w) c.in-Some.is c.requires.first in
     inl (record {
-      flow = flow_in s c.args.warrant.flow;
+      flow = w;
       least = c.requires.flow.least;
       found = c.in-Some.found;
-      first = first_found s (flow_in s c.args.warrant.flow) c.in-Some.found (sym c.requires.first ∙ c.in-Some.is);
+      first = first_found s w c.in-Some.found judged.first;
+      coming = c.in-Some.coming;
+      named = judged.named;
       names = c.refused.ensures;
     })
