@@ -14,7 +14,8 @@ use Rattle.mh_laws.specs.Active.{is_active, active_actions}
 use Rattle.mh_model.specs.Effects.{actions}
 use Rattle.mh_model.specs.Property.{held, as_effect}
 use Rattle.mh_model.specs.Tokens.{members, member_actions, slot_actions}
-use Rattle.mh_flow.specs.Sites.{Site, numbered, through_effects, effects, sites, sites_of}
+use Rattle.mh_laws.specs.Costs.{effects}
+use Rattle.mh_flow.specs.Sites.{Site, numbered, through_effects, sites, sites_of}
 
 pub behind : {X : Type 0} (xs ys zs : List X) → (xs ++ ys) ++ zs ≡ xs ++ (ys ++ zs)
 behind {X} [] ys zs = refl

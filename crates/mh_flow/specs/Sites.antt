@@ -2,13 +2,10 @@
 use Rattle.std.specs.Prelude.{ℕ, suc, ◌+◌, List, [], ◌∷◌, ◌++◌, length, filter}
 use Rattle.std.specs.List.{flat_map}
 use Rattle.mh_base.specs.declared.obj_ref.ObjRef.{ObjRef}
-use Rattle.mh_group.specs.declared.attribute.Attribute.TheVariants as attribute
 use Rattle.mh_model.specs.declared.act.Act.{Act}
-use Rattle.mh_model.specs.declared.member.Member.{Member}
 use Rattle.mh_model.specs.declared.object.Fixed.{Fixed}
 use Rattle.mh_laws.specs.Active.{is_active}
-use Rattle.mh_model.specs.Property.{held, as_effect}
-use Rattle.mh_model.specs.Tokens.{members}
+use Rattle.mh_laws.specs.Costs.{effects}
 
 pub record Site : Type 0 where
   -- the object
@@ -28,12 +25,6 @@ numbered k f i (a ∷ acts) = record { key = k; index = i; first = f; act = a } 
 abbrev pub through_effects : ObjRef → ℕ → List (List Act) → List Site
 through_effects k i [] = []
 through_effects k i (e ∷ es) = numbered k i i e ++ through_effects k (i + length e) es
-
--- the effects of an object: start-up, close-down, what a link does, and slots
-abbrev pub effects : Fixed → List (List Act)
-effects p =
-    as_effect (held attribute.OnStartUp p.properties) ∷ as_effect (held attribute.OnCloseDown p.properties)
-    ∷ as_effect (held attribute.LinkEffect p.properties) ∷ flat_map (λ (m : Member). m.slots) (members p)
 
 -- the sites of an object
 abbrev pub sites : Fixed → List Site

@@ -27,8 +27,8 @@ use Rattle.mh_model.specs.Sort.{sort_of}
 use Rattle.mh_model.specs.State.{State, all}
 use Rattle.mh_model.specs.Variables.{same_kind}
 use Rattle.mh_laws.specs.Active.{known_with}
-use Rattle.mh_laws.specs.Flow.{has, MayBe, Flow, Sets, refers, IsHeld, is_reference_in}
-use Rattle.mh_laws.specs.Safe.{config_of, IsFine, IsSafeBy}
+use Rattle.mh_laws.specs.Flow.{has, MayBe, Flow, Sets, refers, is_reference_in}
+use Rattle.mh_laws.specs.Safe.{config_of, IsFine, IsHeldOnce, IsSafeBy}
 use Rattle.mh_model.proofs.ListLemmas.{empty_is, empty_left, empty_right, some_same}
 use Rattle.mh_laws.proofs.EachLemmas.{each_joined, each_found}
 use Rattle.mh_laws.proofs.FaultLemmas.{knowing, IsWithin, wrongs_fewer, fit_variable, alike_wrongs, fit_object}
@@ -53,10 +53,10 @@ number_now s v = as_integer (held_by (object_at v (all s.objects)))
 abbrev pub known_now : State → Known
 known_now s = knowing s.service (parts_of s) (λ v. refers_now s v) (λ v. number_now s v)
 
-pub held_at : {fw : Flow} (s : State) (k : IsSafeBy fw s) (r : ObjRef) (o : Object) → object_at r (all s.objects) ≡ Some o → IsHeld (sets_of s k) o
+pub held_at : {fw : Flow} (s : State) (k : IsSafeBy fw s) (r : ObjRef) (o : Object) → object_at r (all s.objects) ≡ Some o → IsHeldOnce (sets_of s k) o
 held_at {fw} s k r o e =
-    each_found (IsHeld (sets_of s k)) (λ (x : Object). same_ref r x.fixed.key) (all s.objects) o
-    (each_joined (IsHeld (sets_of s k)) s.objects.application s.objects.scene k.own_held k.others_held) e
+    each_found (IsHeldOnce (sets_of s k)) (λ (x : Object). same_ref r x.fixed.key) (all s.objects) o
+    (each_joined (IsHeldOnce (sets_of s k)) s.objects.application s.objects.scene k.own_held k.others_held) e
 
 pub class_now : {fw : Flow} (s : State) (k : IsSafeBy fw s) (r : ObjRef) (o : Object) → object_at r (all s.objects) ≡ Some o → class_at r (parts_of s) ≡ Some o.fixed.class
 class_now {fw} s k r o e = ap (class_at r) (sym (parts_present s k)) ∙ class_found r (all s.objects) o e
@@ -124,7 +124,7 @@ sound {fw} s k a r fine e =
 
 -- Classes
 
-fit_here : (s : State) (n : ActionName) (r : ObjRef) → is_transition n ≡ false → admitted_wrongs (known_before s.service (parts_of s)) n None r ≡ [] → object_wrongs (λ c. admits c n) None r (class_at r (parts_of s)) ≡ []
+pub fit_here : (s : State) (n : ActionName) (r : ObjRef) → is_transition n ≡ false → admitted_wrongs (known_before s.service (parts_of s)) n None r ≡ [] → object_wrongs (λ c. admits c n) None r (class_at r (parts_of s)) ≡ []
 fit_here s n r plain fit =
     subst (λ (b : Bool). object_wrongs (λ c. admits c n) None r (if b && r.number == 0 then (known_before s.service (parts_of s)).group_class r else class_at r (parts_of s)) ≡ []) plain fit
 

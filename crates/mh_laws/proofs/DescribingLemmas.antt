@@ -101,7 +101,8 @@ token_puts vs r o p b (Some (pos n)) = by (can_turn p b n)
 
 -- a button, or highlight
 
-abbrev if_changed : Bool → Body → Body → List Item → Worked
+-- what is worked unless all stays the same
+abbrev pub if_changed : Bool → Body → Body → List Item → Worked
 if_changed same b c is = if same then no_work b else record { body = c; placed = []; items = is }
 
 highlight_puts : (vs : List Value) (r : ObjRef) (o : Object) (on same : Bool) (b c : Body) → AreOf r vs o (can_put action.SetHighlightStatus) (if_changed same b c (plain_event r (if on then event.HighlightOn else event.HighlightOff) ∷ [])).items

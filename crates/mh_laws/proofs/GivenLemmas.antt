@@ -1,5 +1,5 @@
 -- What an action does to bodies leaves no more in them than their sets have.
-use Rattle.std.specs.Prelude.{◌≡◌, ◌⊎◌, Bool, true, false, ◌||◌, List, [], ◌∷◌, ◌++◌, Option, Some, None, refl}
+use Rattle.std.specs.Prelude.{◌≡◌, ◌⊎◌, ◌≤◌, Bool, true, false, ◌||◌, List, [], ◌∷◌, ◌++◌, Option, Some, None, refl}
 use Rattle.std.specs.Option.{option_map_or}
 use Rattle.std.proofs.Common.{inl, inr, ap, ◌∙◌, sym, subst}
 use Rattle.mh_base.specs.declared.obj_ref.ObjRef.{ObjRef}
@@ -25,6 +25,8 @@ use Rattle.mh_model.specs.Arguments.{values, receivers}
 use Rattle.mh_model.specs.Bodies.{changed_by}
 use Rattle.mh_model.specs.Faults.{variable_wrongs, passed_wrongs, passed, arguments_wrongs}
 use Rattle.mh_model.specs.Known.{Known, class_at}
+use Rattle.mh_model.specs.Listed.{Listed}
+use Rattle.mh_model.specs.Lists.{objects_of}
 use Rattle.mh_model.specs.Programs.{fits_param, fits_params, outs, same_plain}
 use Rattle.mh_model.specs.Saying.{answers, answers_at}
 use Rattle.mh_model.specs.Service.{object_at}
@@ -35,8 +37,10 @@ use Rattle.mh_model.specs.Worked.{worked}
 use Rattle.mh_laws.specs.Each.{Each}
 use Rattle.mh_laws.specs.Flow.{has, Flow, Sets, refers, is_holder, fills}
 use Rattle.mh_laws.specs.Safe.{IsSafeBy}
+use Rattle.mh_laws.specs.Ways.{count_of}
 use Rattle.mh_model.proofs.ListLemmas.{empty_left, empty_right, and_left, and_right}
 use Rattle.mh_laws.proofs.ActLemmas.{sets_of, parts_of, IsSound, held_at, class_now, admitted_now, plain_change, plain_widget, plain_ask, no_list_change, no_reference_widget}
+use Rattle.mh_laws.proofs.OnceLemmas.{changed_list, is_worked, still_once}
 use Rattle.mh_laws.proofs.AnsweringLemmas.{answers_fill, answers_items}
 use Rattle.mh_laws.proofs.FaultLemmas.{fit_variable}
 use Rattle.mh_laws.proofs.GivingLemmas.{gives_said}
@@ -51,7 +55,7 @@ pub or_true : (b : Bool) → (b || true) ≡ true
 or_true true = refl
 or_true false = refl
 
-holder_of_list : (c : Class) → is_list_group c ≡ true → is_holder c ≡ true
+pub holder_of_list : (c : Class) → is_list_group c ≡ true → is_holder c ≡ true
 holder_of_list c e = ap (λ (b : Bool). refers c || b) e ∙ or_true (refers c)
 
 either : {A B C : Type 0} → (A → C) → (B → C) → A ⊎ B → C
@@ -64,6 +68,7 @@ held_by_change {fw} s k a r o so same e h = record {
   value = λ is q held. either (λ before. h.value is q before) (λ said. given_held s k a r o q so e (holder_of_reference o.fixed.class is) said) (gives_said a.name (values (all s.objects) a.arguments) o.fixed o.body q held);
   items = λ is q held.
       let never = no_list_change a.name o.fixed.class same is (admitted_now s k a.name r o e (plain_change a.name same) so.fit) in absurd cc;
+  once = λ q. subst (λ (l : Listed). count_of q (objects_of l.entries) ≤ 1) (sym (changed_list a.name (values (all s.objects) a.arguments) o.fixed o.body)) (h.once q);
 }
 
 -- an action that works a widget
@@ -72,6 +77,7 @@ held_by_widget {fw} s k a r o so same e h = record {
   value = λ is q held.
       let never = no_reference_widget a.name o.fixed.class same is (admitted_now s k a.name r o e (plain_widget a.name same) so.fit) in absurd cc;
   items = λ is q held. either (λ before. h.items is q before) (λ said. given_held s k a r o q so e (holder_of_list o.fixed.class is) said) (lists_said a.name (values (all s.objects) a.arguments) r o.fixed o.body q held);
+  once = λ q. still_once (values (all s.objects) a.arguments) _ q _ (h.once q) ((is_worked a.name (values (all s.objects) a.arguments) r o.fixed o.body).items q);
 }
 
 -- Answers

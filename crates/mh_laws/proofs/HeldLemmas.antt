@@ -1,5 +1,5 @@
 -- What is held stays held: the bodies of objects are changed by what their sets have.
-use Rattle.std.specs.Prelude.{◌≡◌, ℕ, Bool, true, false, ◌||◌, if◌then◌else◌, cond, List, [], ◌∷◌, ◌++◌, map, Option, Some, None, refl}
+use Rattle.std.specs.Prelude.{◌≡◌, ◌≤◌, ℕ, Bool, true, false, ◌||◌, if◌then◌else◌, cond, List, [], ◌∷◌, ◌++◌, map, Option, Some, None, refl}
 use Rattle.std.specs.List.{list_any, Contains}
 use Rattle.std.specs.Option.{option_map, option_map_or, option_or}
 use Rattle.std.proofs.Common.{rules, ap, ◌∙◌, sym, subst}
@@ -20,6 +20,7 @@ use Rattle.mh_model.specs.Bodies.{end_of, token_started, put, prepared, started,
 use Rattle.mh_model.specs.Known.{class_at}
 use Rattle.mh_model.specs.ListItems.{has_item}
 use Rattle.mh_model.specs.Listed.{Listed}
+use Rattle.mh_model.specs.Lists.{objects_of}
 use Rattle.mh_model.specs.Property.{held, as_value, as_reference, value_held}
 use Rattle.mh_model.specs.Reference.{same_ref}
 use Rattle.mh_model.specs.Rules.{is_at, on_body, changed_in, changed, with_text, text_brought, filled, placed_at, all_placed}
@@ -27,12 +28,15 @@ use Rattle.mh_model.specs.Service.{object_at, parts, fresh}
 use Rattle.mh_model.specs.State.{Objects, all}
 use Rattle.mh_laws.specs.Each.{Each}
 use Rattle.mh_laws.specs.Flow.{has, Sets, refers, IsHeld, is_reference_in}
+use Rattle.mh_laws.specs.Safe.{IsHeldOnce}
+use Rattle.mh_laws.specs.Ways.{count_of}
+use Rattle.mh_laws.proofs.OnceLemmas.{once_fresh}
 use Rattle.mh_model.proofs.ListLemmas.{some_same}
 use Rattle.mh_model.proofs.PartLemmas.{part_at-parts, parts-all, changed-own, changed-others}
 use Rattle.mh_model.proofs.ServiceLemmas.{same_ref-same}
 
 abbrev pub AreHeld : Sets → Objects → Type 0
-AreHeld h os = Each (IsHeld h) os.application × Each (IsHeld h) os.scene
+AreHeld h os = Each (IsHeldOnce h) os.application × Each (IsHeldOnce h) os.scene
 
 -- what is found
 
@@ -58,13 +62,13 @@ none_found r (o ∷ os) e = by (is_at r o) e (none_found r os)
 -- Changes
 
 abbrev pub KeepsHeld : Sets → (Fixed → Body → Body) → Object → Type 0
-KeepsHeld h f o = IsHeld h o → IsHeld h (on_body f o)
+KeepsHeld h f o = IsHeldOnce h o → IsHeldOnce h (on_body f o)
 
-held_first : (h : Sets) (f : Fixed → Body → Body) (r : ObjRef) (os : List Object) → ((o : Object) → object_at r os ≡ Some o → KeepsHeld h f o) → Each (IsHeld h) os → Each (IsHeld h) (changed_in f r os)
+held_first : (h : Sets) (f : Fixed → Body → Body) (r : ObjRef) (os : List Object) → ((o : Object) → object_at r os ≡ Some o → KeepsHeld h f o) → Each (IsHeldOnce h) os → Each (IsHeldOnce h) (changed_in f r os)
 held_first h f r [] keeps k = tt
 held_first h f r (o ∷ os) keeps k = by (is_at r o) keeps (λ below. held_first h f r os below k.1)
   where
-    by : (b : Bool) → ((x : Object) → cond b (Some o) (object_at r os) ≡ Some x → KeepsHeld h f x) → (((x : Object) → object_at r os ≡ Some x → KeepsHeld h f x) → Each (IsHeld h) (changed_in f r os)) → Each (IsHeld h) (if b then on_body f o ∷ os else o ∷ changed_in f r os)
+    by : (b : Bool) → ((x : Object) → cond b (Some o) (object_at r os) ≡ Some x → KeepsHeld h f x) → (((x : Object) → object_at r os ≡ Some x → KeepsHeld h f x) → Each (IsHeldOnce h) (changed_in f r os)) → Each (IsHeldOnce h) (if b then on_body f o ∷ os else o ∷ changed_in f r os)
     by true keeps below = (keeps o refl k.0, k.1)
     by false keeps below = (k.0, below keeps)
 
@@ -89,6 +93,7 @@ held_left : (h : Sets) (f : Fixed → Body → Body) → LeavesHeld f → (o : O
 held_left h f same o k = record {
   value = λ is q e. k.value is q (same_value_held o.fixed o.body (f o.fixed o.body) q (same o.fixed o.body).0 e);
   items = λ is q e. k.items is q (sym (ap (λ (l : Listed). has_item q l.entries) (same o.fixed o.body).1) ∙ e);
+  once = λ q. subst (λ (l : Listed). count_of q (objects_of l.entries) ≤ 1) (sym (same o.fixed o.body).1) (k.once q);
 }
 
 pub leaves_changed : (h : Sets) (f : Fixed → Body → Body) (r : ObjRef) (os : Objects) → LeavesHeld f → AreHeld h os → AreHeld h (changed f r os)
@@ -128,12 +133,12 @@ held_placed h (p ∷ ps) os k = held_placed h ps (changed (placed_at p.1) p.0 os
 
 -- text that is brought
 
-held_text : (h : Sets) (is : ObjRef → Bool) (text : List ℕ) (os : List Object) → Each (IsHeld h) os → Each (IsHeld h) (with_text is text os)
+held_text : (h : Sets) (is : ObjRef → Bool) (text : List ℕ) (os : List Object) → Each (IsHeldOnce h) os → Each (IsHeldOnce h) (with_text is text os)
 held_text h is text [] k = tt
 held_text h is text (o ∷ os) k = (by (is o.fixed.key), held_text h is text os k.1)
   where
-    by : (t : Bool) → IsHeld h (if t then record o { body = brought text o.body } else o)
-    by true = record { value = k.0.value; items = k.0.items }
+    by : (t : Bool) → IsHeldOnce h (if t then record o { body = brought text o.body } else o)
+    by true = record { value = k.0.value; items = k.0.items; once = k.0.once }
     by false = k.0
 
 pub held_brought : (h : Sets) (is : ObjRef → Bool) (text : List ℕ) (os : Objects) → AreHeld h os → AreHeld h (text_brought is text os)
@@ -141,14 +146,14 @@ held_brought h is text os k = (held_text h is text os.application k.0, held_text
 
 -- Exchanges
 
-pub held_fresh : (h : Sets) (ps : List Fixed) → Each (λ p. IsHeld h (fresh p)) ps → Each (IsHeld h) (map fresh ps)
+pub held_fresh : (h : Sets) (ps : List Fixed) → Each (λ p. IsHeld h (fresh p)) ps → Each (IsHeldOnce h) (map fresh ps)
 held_fresh h [] k = tt
-held_fresh h (p ∷ ps) k = (k.0, held_fresh h ps k.1)
+held_fresh h (p ∷ ps) k = (record { value = k.0.value; items = k.0.items; once = once_fresh p }, held_fresh h ps k.1)
 
-pub held_passed : (h g : Sets) (os : List Object) → ((p : Fixed) → Contains (parts os) p → (q : ObjRef) → has h p.key q ≡ true → has g p.key q ≡ true) → Each (IsHeld h) os → Each (IsHeld g) os
+pub held_passed : (h g : Sets) (os : List Object) → ((p : Fixed) → Contains (parts os) p → (q : ObjRef) → has h p.key q ≡ true → has g p.key q ≡ true) → Each (IsHeldOnce h) os → Each (IsHeldOnce g) os
 held_passed h g [] passes k = tt
 held_passed h g (o ∷ os) passes k =
-    (record { value = λ is q e. passes o.fixed (0, search rules, refl) q (k.0.value is q e); items = λ is q e. passes o.fixed (0, search rules, refl) q (k.0.items is q e) }, held_passed h g os (λ p among q e. passes p (Contains-append_right (o.fixed ∷ []) (parts os) p among) q e) k.1)
+    (record { value = λ is q e. passes o.fixed (0, search rules, refl) q (k.0.value is q e); items = λ is q e. passes o.fixed (0, search rules, refl) q (k.0.items is q e); once = k.0.once }, held_passed h g os (λ p among q e. passes p (Contains-append_right (o.fixed ∷ []) (parts os) p among) q e) k.1)
 
 -- Receivers
 
@@ -168,9 +173,9 @@ as_object (value.Content c) q e = absurd cc
 held_stored : (h : Sets) (v : Value) (o : Object) → ((q : ObjRef) → refers o.fixed.class ≡ true → v ≡ value.Object q → has h o.fixed.key q ≡ true) → KeepsHeld h (λ p b. stored v b) o
 held_stored h v o may k = by (fits_value v)
   where
-    by : (t : Bool) → IsHeld h (record o { body = if t then record o.body { value = Some v } else o.body })
-    by true = record { value = λ is q e. may q is (as_object v q e); items = k.items }
-    by false = record { value = k.value; items = k.items }
+    by : (t : Bool) → IsHeldOnce h (record o { body = if t then record o.body { value = Some v } else o.body })
+    by true = record { value = λ is q e. may q is (as_object v q e); items = k.items; once = k.once }
+    by false = record { value = k.value; items = k.items; once = k.once }
 
 parts_changed : (f : Fixed → Body → Body) (r : ObjRef) (os : Objects) → parts (all (changed f r os)) ≡ parts (all os)
 parts_changed f r os =

@@ -1,9 +1,8 @@
 -- What a list shows, and what it becomes, are items that it had, and what is put into it.
-use Rattle.std.specs.Prelude.{◌≡◌, ◌⊎◌, ℕ, zero, suc, ◌+◌, ◌-◌, ◌||◌, Bool, true, false, ◌&&◌, not, nat_le, nat_lt, if◌then◌else◌, List, [], ◌∷◌, ◌++◌, length, take, drop, slice_get, Option, Some, None, unwrap_or, option_and_then, refl, ℤ, pos, negsuc, ◌==◌}
+use Rattle.std.specs.Prelude.{◌≡◌, ℕ, zero, suc, ◌+◌, ◌-◌, ◌||◌, Bool, true, false, ◌&&◌, not, nat_le, nat_lt, if◌then◌else◌, List, [], ◌∷◌, ◌++◌, length, take, drop, slice_get, Option, Some, None, unwrap_or, option_and_then, refl, ℤ, pos, negsuc, ◌==◌}
 use Rattle.std.specs.List.{Contains, flat_map, position}
 use Rattle.std.specs.Option.{option_map}
-use Rattle.std.proofs.Common.{rules, inl, inr, ap, sym, subst}
-use Rattle.std.proofs.lemmas.List.Elements.{Contains-append_right}
+use Rattle.std.proofs.Common.{inl, inr, sym, subst}
 use Rattle.mh_base.specs.declared.obj_ref.ObjRef.{ObjRef}
 use Rattle.mh_base.specs.declared.value.Value.{Value}
 use Rattle.mh_base.specs.declared.value.Value.TheVariants as value
@@ -22,15 +21,11 @@ use Rattle.mh_model.specs.ListItems.{has_item}
 use Rattle.mh_model.specs.Reference.{same_ref}
 use Rattle.mh_model.specs.Tokens.{members, positions, member_actions, numbered, slot_actions, slot_of}
 use Rattle.mh_laws.specs.Describing.{IsListed}
-use Rattle.mh_laws.specs.Each.{Each}
-use Rattle.mh_laws.proofs.EachLemmas.{each_joined}
+use Rattle.mh_laws.specs.Each.{Each, Among}
+use Rattle.mh_laws.proofs.EachLemmas.{each_joined, among_left, among_right, contains_of, got_among}
 use Rattle.mh_laws.proofs.SetLemmas.{same_itself}
 
--- Parts of a list, and one among its members, by recursion
-
-abbrev Among : {X : Type 0} → List X → X → Type 0
-Among [] x = false ≡ true
-Among (y ∷ xs) x = (y ≡ x) ⊎ Among xs x
+-- Parts of a list
 
 each_take : {X : Type 0} (P : X → Type 0) (n : ℕ) (xs : List X) → Each P xs → Each P (take n xs)
 each_take {X} P zero xs h = tt
@@ -42,15 +37,6 @@ each_drop {X} P zero xs h = h
 each_drop {X} P (suc n) [] h = tt
 each_drop {X} P (suc n) (x ∷ xs) h = each_drop P n xs h.1
 
-among_left : {X : Type 0} (xs ys : List X) (x : X) → Among xs x → Among (xs ++ ys) x
-among_left {X} [] ys x h = absurd cc
-among_left {X} (y ∷ xs) ys x (inl same) = inl same
-among_left {X} (y ∷ xs) ys x (inr more) = inr (among_left xs ys x more)
-
-among_right : {X : Type 0} (xs ys : List X) (x : X) → Among ys x → Among (xs ++ ys) x
-among_right {X} [] ys x h = h
-among_right {X} (y ∷ xs) ys x h = inr (among_right xs ys x h)
-
 each_itself : {X : Type 0} (xs : List X) → Each (Among xs) xs
 each_itself {X} [] = tt
 each_itself {X} (x ∷ xs) = (inl refl, behind xs (each_itself xs))
@@ -58,11 +44,6 @@ each_itself {X} (x ∷ xs) = (inl refl, behind xs (each_itself xs))
     behind : (ys : List X) → Each (Among xs) ys → Each (Among (x ∷ xs)) ys
     behind [] h = tt
     behind (y ∷ ys) h = (inr h.0, behind ys h.1)
-
-contains_of : {X : Type 0} (xs : List X) (x : X) → Among xs x → Contains xs x
-contains_of {X} [] x h = absurd cc
-contains_of {X} (y ∷ xs) x (inl same) = (0, search rules, same)
-contains_of {X} (y ∷ xs) x (inr more) = Contains-append_right (y ∷ []) xs x (contains_of xs x more)
 
 -- Slots
 
@@ -81,12 +62,7 @@ joined_among {A} (ys ∷ xss) xs (inr more) = each xs (joined_among xss xs more)
     each [] k = tt
     each (z ∷ zs) k = (among_right ys (flat_map (λ (t : List A). t) xss) z k.0, each zs k.1)
 
-got_among : {A : Type 0} (xs : List A) (n : ℕ) (x : A) → slice_get xs n ≡ Some x → Among xs x
-got_among {A} [] n x e = absurd cc
-got_among {A} (y ∷ xs) zero x e = inl (ap (λ (m : Option A). unwrap_or m y) e)
-got_among {A} (y ∷ xs) (suc n) x e = inr (got_among xs n x e)
-
-numbered_among : {A : Type 0} (xs : List A) (n : ℕ) (x : A) → numbered xs n ≡ Some x → Among xs x
+pub numbered_among : {A : Type 0} (xs : List A) (n : ℕ) (x : A) → numbered xs n ≡ Some x → Among xs x
 numbered_among xs zero x e = absurd cc
 numbered_among xs (suc n) x e = got_among xs n x e
 

@@ -82,7 +82,7 @@ fit_there is v r ps e =
     by (Some p) c e = refl
 
 -- the source of an event that is sent is one that the action names
-sent_right : (k : Known) (n : ActionName) (t : Target) (xs : List Argument) (y : Argument) → list_any is_sent (can_put n) ≡ true → arguments_wrongs k (record { name = n; target = t; arguments = xs }) (needs_of n) xs ≡ [] → slice_get xs 0 ≡ Some y → argument_wrongs k (record { name = n; target = t; arguments = xs }) need.Ref y ≡ []
+pub sent_right : (k : Known) (n : ActionName) (t : Target) (xs : List Argument) (y : Argument) → list_any is_sent (can_put n) ≡ true → arguments_wrongs k (record { name = n; target = t; arguments = xs }) (needs_of n) xs ≡ [] → slice_get xs 0 ≡ Some y → argument_wrongs k (record { name = n; target = t; arguments = xs }) need.Ref y ≡ []
 sent_right k action.SendEvent t xs y sends good e = by xs e good
   where
     a : Act

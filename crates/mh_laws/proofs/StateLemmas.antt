@@ -21,7 +21,7 @@ use Rattle.mh_model.specs.Service.{Service, parts, group_parts, is_there}
 use Rattle.mh_model.specs.State.{State, Objects, all}
 use Rattle.mh_laws.specs.Acceptable.{is_right, IsAcceptableBy}
 use Rattle.mh_laws.specs.Active.{active_actions}
-use Rattle.mh_laws.specs.Each.{Each}
+use Rattle.mh_laws.specs.Each.{Among, Each}
 use Rattle.mh_laws.specs.Flow.{reached, Flow, Keeps, IsLed}
 use Rattle.mh_laws.specs.Safe.{config_of, IsPartOf, is_scene_if_any, has_origin, has_group, IsFine, IsSafeWork, IsSafeBy}
 use Rattle.mh_model.proofs.ListLemmas.{and_left, and_right}
@@ -40,13 +40,13 @@ parts_present {fw} s k =
 -- all actions that can come to be done in a configuration that is reached are fine
 fine_present : {fw : Flow} (v : Service) (k : IsAcceptableBy v fw) (c : Config) → reached fw c ≡ true → Each (IsFine v fw c) (active_actions (present v c))
 fine_present {fw} v k c h =
-    each_fine (active_actions (present v c)) (k.free c h) (k.solution.keeps c h) (k.solution.leads c h)
+    each_fine (active_actions (present v c)) (λ a there. there) (k.free c h) (k.solution.keeps c h) (k.solution.leads c h)
   where
-    each_fine : (as_written : List Act) → list_all (is_right v (fw.sets c) (present v c)) as_written ≡ true → Each (Keeps (fw.sets c) (present v c)) as_written → Each (IsLed v fw c) as_written → Each (IsFine v fw c) as_written
-    each_fine [] right keeps led = tt
-    each_fine (a ∷ more) right keeps led = (
-      record { right = and_left (is_right v (fw.sets c) (present v c) a) (list_all (is_right v (fw.sets c) (present v c)) more) right; keeps = keeps.0; led = led.0 },
-      each_fine more (and_right (is_right v (fw.sets c) (present v c) a) (list_all (is_right v (fw.sets c) (present v c)) more) right) keeps.1 led.1,
+    each_fine : (as_written : List Act) → ((a : Act) → Among as_written a → Among (active_actions (present v c)) a) → list_all (is_right v (fw.sets c) (present v c)) as_written ≡ true → Each (Keeps (fw.sets c) (present v c)) as_written → Each (IsLed v fw c) as_written → Each (IsFine v fw c) as_written
+    each_fine [] into right keeps led = tt
+    each_fine (a ∷ more) into right keeps led = (
+      record { active = into a (inl refl); right = and_left (is_right v (fw.sets c) (present v c) a) (list_all (is_right v (fw.sets c) (present v c)) more) right; keeps = keeps.0; led = led.0 },
+      each_fine more (λ x there. into x (inr there)) (and_right (is_right v (fw.sets c) (present v c) a) (list_all (is_right v (fw.sets c) (present v c)) more) right) keeps.1 led.1,
     )
 
 pub fine_now : {fw : Flow} (s : State) (k : IsSafeBy fw s) → AreFine (IsFine s.service fw (config_of s)) (present s.service (config_of s)) (present s.service (config_of s))

@@ -92,7 +92,7 @@ safe_item_free {fw} s k (item.Exchange g) h = refl
 safe_item_free {fw} s k item.End h = refl
 
 -- the first item and what is behind it
-first_safe : (v : Service) (fw : Flow) (c : Config) (work : List Item) (i : Item) → slice_get work 0 ≡ Some i → IsSafeWork v fw c work → IsSafeItem v fw c i × IsSafeWork v fw (behind v c i) (drop 1 work)
+pub first_safe : (v : Service) (fw : Flow) (c : Config) (work : List Item) (i : Item) → slice_get work 0 ≡ Some i → IsSafeWork v fw c work → IsSafeItem v fw c i × IsSafeWork v fw (behind v c i) (drop 1 work)
 first_safe v fw c [] i e k = absurd cc
 first_safe v fw c (j ∷ rest) i e k = subst (λ (x : Item). IsSafeItem v fw c x × IsSafeWork v fw (behind v c x) rest) (ap (λ (m : Option Item). option_map_or (λ (x : Item). x) m j) e) k
 

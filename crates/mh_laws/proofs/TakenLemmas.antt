@@ -1,5 +1,5 @@
 -- What is taken keeps a state safe.
-use Rattle.std.specs.Prelude.{◌≡◌, ℕ, ◌+◌, Bool, true, false, ◌&&◌, if◌then◌else◌, List, [], ◌∷◌, ◌++◌, drop, filter, length, nat_lt, slice_get, Option, Some, None, refl, ℤ, pos, int_lt, not}
+use Rattle.std.specs.Prelude.{◌≡◌, ◌≤◌, ℕ, ◌+◌, Bool, true, false, ◌&&◌, if◌then◌else◌, List, [], ◌∷◌, ◌++◌, drop, filter, length, nat_lt, slice_get, Option, Some, None, refl, ℤ, pos, int_lt, not}
 use Rattle.std.specs.List.{list_all}
 use Rattle.std.specs.Option.{option_map_or}
 use Rattle.std.specs.Ordering.{int_eq}
@@ -29,7 +29,7 @@ use Rattle.mh_model.specs.Items.{heard, plain_event}
 use Rattle.mh_model.specs.Key.{passes}
 use Rattle.mh_model.specs.ListItems.{has_item}
 use Rattle.mh_model.specs.Listed.{Listed}
-use Rattle.mh_model.specs.Lists.{are_same}
+use Rattle.mh_model.specs.Lists.{are_same, objects_of}
 use Rattle.mh_model.specs.Reference.{group_ref}
 use Rattle.mh_model.specs.Rules.{changed, text_brought}
 use Rattle.mh_model.specs.Service.{Service, object_at, is_there}
@@ -41,6 +41,7 @@ use Rattle.mh_laws.specs.Flow.{Flow, Sets}
 use Rattle.mh_laws.specs.Safe.{config_of, has_origin, has_group, IsSafeWork, IsSafeBy}
 use Rattle.mh_model.proofs.ListLemmas.{some_same, and_left, and_right, all_joined}
 use Rattle.mh_model.proofs.PartLemmas.{found_there, changed-own, changed-others, with_text-parts}
+use Rattle.mh_laws.specs.Ways.{count_of}
 use Rattle.mh_laws.proofs.ActLemmas.{sets_of}
 use Rattle.mh_laws.proofs.HeldLemmas.{KeepsHeld, held_changed, held_brought, same_value_held}
 use Rattle.mh_laws.proofs.StateLemmas.{held_now, parts_present, fine_objects, group_there, there, kept, unseen, unasked, unwaited}
@@ -152,6 +153,7 @@ pressed_held h k before r o held =
     record {
       value = λ is q e. held.value is q (same_value_held o.fixed o.body (pressed_of o.fixed.class k before r o.fixed o.body).body q same.0 e);
       items = λ is q e. held.items is q (sym (ap (λ (l : Listed). has_item q l.entries) same.1) ∙ e);
+      once = λ q. subst (λ (l : Listed). count_of q (objects_of l.entries) ≤ 1) (sym same.1) (held.once q);
     }
 
 -- what the streams tell that run

@@ -77,10 +77,10 @@ two_set (value.Int x) w vs p l = refl
 two_set (value.Octets x) w vs p l = refl
 two_set (value.Content x) w vs p l = refl
 
-abbrev IsTight : ActionName → List Value → Type 0
+abbrev pub IsTight : ActionName → List Value → Type 0
 IsTight n vs = (x : ObjRef) → slice_get vs 1 ≡ Some (value.Object x) → IsSaid vs (says n) x
 
-tight_or_none : (n : ActionName) (vs : List Value) (p : Fixed) (l : Listed) → list_any is_list_piece (can_put n) ≡ true → IsTight n vs ⊎ (relisted n vs p l ≡ None)
+pub tight_or_none : (n : ActionName) (vs : List Value) (p : Fixed) (l : Listed) → list_any is_list_piece (can_put n) ≡ true → IsTight n vs ⊎ (relisted n vs p l ≡ None)
 tight_or_none action.AddItem vs p l some = inl (λ x e. inl e)
 tight_or_none action.DelItem [] p l some = inl (λ x e. absurd cc)
 tight_or_none action.DelItem (v ∷ []) p l some = inl (λ x e. absurd cc)
@@ -97,7 +97,7 @@ if_none : (is : Bool) (r : ObjRef) (p : Fixed) (b : Body) (m : Option Listed) �
 if_none true r p b m e = ap (λ (x : Option Listed). (list_changed r p b x).items) e
 if_none false r p b m e = refl
 
-none_listed : (n : ActionName) (vs : List Value) (r : ObjRef) (p : Fixed) (b : Body) → list_any is_list_piece (can_put n) ≡ true → relisted n vs p b.list ≡ None → (worked n vs r p b).items ≡ []
+pub none_listed : (n : ActionName) (vs : List Value) (r : ObjRef) (p : Fixed) (b : Body) → list_any is_list_piece (can_put n) ≡ true → relisted n vs p b.list ≡ None → (worked n vs r p b).items ≡ []
 none_listed action.AddItem vs r p b some e = if_none (is_list_group p.class) r p b (relisted action.AddItem vs p b.list) e
 none_listed action.DelItem vs r p b some e = if_none (is_list_group p.class) r p b (relisted action.DelItem vs p b.list) e
 none_listed action.ScrollItems vs r p b some e = if_none (is_list_group p.class) r p b (relisted action.ScrollItems vs p b.list) e

@@ -12,3 +12,9 @@ pub mod ExampleShowing
 pub mod ExamplePassing
 pub mod ExampleHanding
 pub mod ExampleWidgets
+pub mod Price
+pub mod Ways
+pub mod Costs
+pub mod Layers
+pub mod Budget
+pub mod ExampleCounting

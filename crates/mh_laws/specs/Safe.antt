@@ -1,7 +1,8 @@
 -- Safe states: nothing on the work list will be stuck when its turn comes, whatever is done before it.
-use Rattle.std.specs.Prelude.{◌≡◌, ◌⊎◌, ℕ, Bool, true, ◌||◌, if◌then◌else◌, List, [], ◌∷◌, Option, Some, None}
+use Rattle.std.specs.Prelude.{◌≡◌, ◌⊎◌, ◌≤◌, ℕ, Bool, true, ◌||◌, if◌then◌else◌, List, [], ◌∷◌, Option, Some, None}
 use Rattle.std.specs.List.{list_all}
-use Rattle.mh_group.specs.Table.{is_scene, is_application, is_visible}
+use Rattle.mh_base.specs.declared.obj_ref.ObjRef.{ObjRef}
+use Rattle.mh_group.specs.Table.{is_scene, is_application, is_list_group, is_visible}
 use Rattle.mh_model.specs.declared.act.Act.{Act}
 use Rattle.mh_model.specs.declared.config.Config.{Config}
 use Rattle.mh_model.specs.declared.input.Waiting.{Waiting}
@@ -9,24 +10,37 @@ use Rattle.mh_model.specs.declared.input.Waiting.TheVariants as waiting
 use Rattle.mh_model.specs.declared.item.Item.{Item}
 use Rattle.mh_model.specs.declared.item.Item.TheVariants as item
 use Rattle.mh_model.specs.declared.object.Fixed.{Fixed}
+use Rattle.mh_model.specs.declared.object.Object.{Object}
 use Rattle.mh_model.specs.declared.time.Timer.{Timer}
 use Rattle.mh_model.specs.Service.{Service, parts, group_parts, is_there}
 use Rattle.mh_model.specs.Reference.{group_ref}
 use Rattle.mh_model.specs.Faults.{object_wrongs}
 use Rattle.mh_model.specs.Known.{class_at}
+use Rattle.mh_model.specs.ListItems.{has_item}
+use Rattle.mh_model.specs.Lists.{objects_of}
+use Rattle.mh_model.specs.Property.{as_reference, value_held}
 use Rattle.mh_model.specs.State.{State}
 use Rattle.mh_model.specs.Configuration.{is_group_of, scene_parts, present}
 use Rattle.mh_laws.specs.Acceptable.{IsAcceptableBy, is_right}
-use Rattle.mh_laws.specs.Each.{Each}
-use Rattle.mh_laws.specs.Flow.{Flow, IsHeld, IsLed, IsOpen, Keeps, reached}
+use Rattle.mh_laws.specs.Active.{active_actions}
+use Rattle.mh_laws.specs.Each.{Among, Each}
+use Rattle.mh_laws.specs.Flow.{Flow, IsLed, IsOpen, Keeps, Sets, has, reached, refers}
+use Rattle.mh_laws.specs.Ways.{count_of}
+
+-- what an object holds is in its set, and its list has no item twice
+pub record IsHeldOnce (h : Sets) (o : Object) : Type 0 where
+  pub value : refers o.fixed.class ≡ true → (q : ObjRef) → as_reference (value_held o.fixed o.body) ≡ Some q → has h o.fixed.key q ≡ true
+  pub items : is_list_group o.fixed.class ≡ true → (q : ObjRef) → has_item q o.body.list.entries ≡ true → has h o.fixed.key q ≡ true
+  pub once : (q : ObjRef) → count_of q (objects_of o.body.list.entries) ≤ 1
 
 -- the configuration that a state is in
 abbrev pub config_of : State → Config
 config_of s = record { app = s.application; scene = s.scene }
 
--- an action with which nothing is wrong in the configuration, whose references the sets keep, and that leads where the flow
--- does
+-- an action of an active effect, with which nothing is wrong in the configuration, whose references the sets keep, and that
+-- leads where the flow does
 pub record IsFine (v : Service) (w : Flow) (c : Config) (a : Act) : Type 0 where
+  pub active : Among (active_actions (present v c)) a
   pub right : is_right v (w.sets c) (present v c) a ≡ true
   pub keeps : Keeps (w.sets c) (present v c) a
   pub led : IsLed v w c a
@@ -97,8 +111,8 @@ pub record IsSafeBy (w : Flow) (s : State) : Type 0 where
   pub among : reached w (config_of s) ≡ true
   pub own : parts s.objects.application ≡ group_parts s.service s.application
   pub others : parts s.objects.scene ≡ scene_parts s.service s.scene
-  pub own_held : Each (IsHeld (w.sets (config_of s))) s.objects.application
-  pub others_held : Each (IsHeld (w.sets (config_of s))) s.objects.scene
+  pub own_held : Each (IsHeldOnce (w.sets (config_of s))) s.objects.application
+  pub others_held : Each (IsHeldOnce (w.sets (config_of s))) s.objects.scene
   pub work : IsSafeWork s.service w (config_of s) s.work
   pub timers : list_all (has_group (present s.service (config_of s))) s.timers ≡ true
   pub queue : list_all (has_origin (present s.service (config_of s))) s.queue ≡ true

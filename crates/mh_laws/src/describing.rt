@@ -1,6 +1,7 @@
 //! What follows from an action beforehand, against its rule.
 ghost use Rattle.mh_laws.specs.Describing.{PutsWhatItCan, PutsByItsRule, HandsOnWhatItSays, ListsWhatItSays, AnswersItems};
 ghost use Rattle.mh_laws.specs.Describing.{EmitsWhatIsListed, ListsWhatIsEmitted};
+ghost use Rattle.mh_laws.specs.Ways.{PutsAWay};
 
 /// The law that what an action puts is of the pieces that its description lists, and that its rule puts just
 /// that.
@@ -22,4 +23,10 @@ pub fn gives_what_it_says()
 pub fn emits_what_is_listed()
     ensures each { EmitsWhatIsListed }
     ensures all { ListsWhatIsEmitted }
+{}
+
+/// The law that what an action puts, other than a transition, is put in one of the ways that are said of it
+/// beforehand: each share of that way at most once, and in their order.
+pub fn puts_a_way()
+    ensures { PutsAWay }
 {}

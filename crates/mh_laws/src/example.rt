@@ -1,5 +1,6 @@
 //! Examples, played by the definitions alone.
 ghost use Rattle.mh_laws.specs.ExampleComputing.{Computes};
+ghost use Rattle.mh_laws.specs.ExampleCounting.{CountsExamples};
 ghost use Rattle.mh_laws.specs.ExampleFirst.{PlaysFirst, PlaysOthers};
 ghost use Rattle.mh_laws.specs.ExampleHanding.{Hands};
 ghost use Rattle.mh_laws.specs.ExamplePassing.{Passes};
@@ -49,4 +50,11 @@ pub fn hands()
 /// button.
 pub fn works_widgets()
     ensures { WorksWidgets }
+{}
+
+/// The law that the definitions count the costs of small services as they should: of a rectangle that a key
+/// moves, of an application that does nothing, of a chain of tests in which each is made twice as often as
+/// the one before, of references that are handed on, and of timers, one of which is set again when it fires.
+pub fn counts_examples()
+    ensures { CountsExamples }
 {}

@@ -6,6 +6,7 @@
 //! service does not wait for them: verifier and engine alone stand on them.
 #![tactic(auto)]
 
+pub mod costs;
 pub mod describing;
 pub mod example;
 pub mod headline;

@@ -1,0 +1,128 @@
+-- What keys cost, and how they are ranked.
+use Rattle.std.specs.Prelude.{◌≡◌, ◌⊎◌, ◌<◌, ℕ, zero, suc, ◌+◌, min, max, Bool, true, false, Some, refl}
+use Rattle.std.proofs.Common.{arith, inl, inr, ap, ◌∙◌, sym, subst}
+use Rattle.mh_model.specs.Service.{Service}
+use Rattle.mh_laws.specs.Costs as costs
+use Rattle.mh_laws.specs.Flow.{Flow}
+use Rattle.mh_laws.specs.Layers.{IsOn}
+use Rattle.mh_laws.specs.Price.{Price, Nothing, One, Node, Plus, Most, worth, Nodes}
+use Rattle.mh_laws.proofs.PriceLemmas.{nodes_both, nodes_map}
+use Rattle.mh_layers.specs.Around.{Key, Effect, Fired, Entry, Change, Leave, Enter}
+use Rattle.mh_layers.specs.Bridge.{CountedIsMet, IsRead, KeysAgree, KeysAreExact, KeysCost, key_cost}
+use Rattle.mh_layers.specs.Keys.{Heard, IsKept, IsMet, level, price_of, stands_for}
+use Rattle.mh_layers.specs.Known.{top}
+use Rattle.mh_layers.proofs.ActAgreeLemmas.{act_agrees}
+use Rattle.mh_layers.proofs.AgreeLemmas.{Agrees, IsLow, Setting}
+use Rattle.mh_layers.proofs.ExactLemmas.{known_cut}
+use Rattle.mh_layers.proofs.FiredLemmas.{emit_agrees, entry_told_agrees, fired_told_agrees}
+use Rattle.mh_layers.proofs.FoundLemmas.{present_found}
+use Rattle.mh_layers.proofs.KeyAgreeLemmas.{IsOther, effect_agrees, key_agrees, on_is, on_or_nothing}
+use Rattle.mh_layers.proofs.KnownLemmas.{known_same}
+use Rattle.mh_layers.proofs.LifeAgreeLemmas.{change_agrees, enter_group, exchange_agrees, halt_agrees, leave_agrees, run_agrees}
+use Rattle.mh_layers.proofs.ReckonLemmas.{Way, by_test, by_worth, reckon, reckon_worth}
+
+-- a service that was read, reckoned so
+abbrev pub set : {A : Type 0} → Way A → (costs.Effect → A) → (v : Service) (w : Flow) (h : Heard) → IsRead v w h → Setting A
+set y f v w h read = record {
+  way = y;
+  of = f;
+  service = v;
+  flow = w;
+  heard = h;
+  good = read.service;
+  hears = read.hears;
+  found = present_found v read.service read.keys;
+}
+
+-- as costs
+
+worth_by : {K : Type 0} (f g : K → ℕ) (p : Price K) → ((k : K) → f k ≡ g k) → reckon by_worth f p ≡ worth g p
+worth_by f g Nothing e = refl
+worth_by f g One e = refl
+worth_by f g (Node k) e = e k
+worth_by f g (Plus p q) e = λ i. worth_by f g p e i + worth_by f g q e i
+worth_by f g (Most p q) e = λ i. max (worth_by f g p e i) (worth_by f g q e i)
+
+comes : (v : Service) (w : Flow) (h : Heard) (read : IsRead v w h) (f : costs.Costing) (n : ℕ) (p : Price Key) (q : Price costs.Effect) → Agrees (set by_worth f v w h read) n p q → worth (key_cost v w f) p ≡ worth f q
+comes v w h read f n p q a =
+    sym (worth_by (λ k. reckon by_worth f (stands_for v w k)) (key_cost v w f) p (λ k. reckon_worth f (stands_for v w k))) ∙ a.same ∙ reckon_worth f q
+
+pub keys_agree : KeysAgree
+keys_agree v w h read c here = record {
+  fired = λ r kind d there f. comes v w h read f 3 _ _ (fired_told_agrees (set by_worth f v w h read) c r kind d (h r kind) refl here there);
+  entry = λ r kind d f. comes v w h read f 4 _ _ (entry_told_agrees (set by_worth f v w h read) r kind d (h r kind) refl);
+  emit = λ r kind d f. comes v w h read f 4 _ _ (emit_agrees (set by_worth f v w h read) c here r kind d);
+  run = λ r f. comes v w h read f 5 _ _ (run_agrees (set by_worth f v w h read) c here r);
+  halt = λ r f. comes v w h read f 4 _ _ (halt_agrees (set by_worth f v w h read) c here r);
+  change = λ r f. comes v w h read f 4 _ _ (change_agrees (set by_worth f v w h read) c here r);
+  enter = λ g is f. comes v w h read f 5 _ _ (enter_group (set by_worth f v w h read) c here g is);
+  leave_scene = λ f. comes v w h read f 5 _ _ (leave_agrees (set by_worth f v w h read) c here false);
+  leave_all = λ f. comes v w h read f 5 _ _ (leave_agrees (set by_worth f v w h read) c here true);
+  exchange = λ g f. comes v w h read f 6 _ _ (exchange_agrees (set by_worth f v w h read) c g);
+  act = λ a f. comes v w h read f 6 _ _ (act_agrees (set by_worth f v w h read) c here a);
+}
+
+-- What is counted
+
+any_test : costs.Effect → Bool
+any_test x = true
+
+low_met : (v : Service) (w : Flow) (h : Heard) (n : ℕ) (p : Price Key) → Nodes (IsLow v w h n) p → Nodes (IsMet v w h) p
+low_met v w h n p low = nodes_map (IsLow v w h n) (IsMet v w h) (λ k l. l.0) p low
+
+other_met : (v : Service) (w : Flow) (h : Heard) → IsRead v w h → (k : Key) → IsOther k → IsKept v w h k → Nodes (IsMet v w h) (price_of v w h k)
+other_met v w h read k other kept = low_met v w h (level k) (price_of v w h k) (key_agrees (set by_test any_test v w h read) k other kept).low
+
+pub counted_is_met : CountedIsMet
+counted_is_met v w h read (Effect c r n) kept = by (on_or_nothing (set by_test any_test v w h read) c r n kept)
+  where
+    by : IsOn v w (record { config = c; object = r; number = n }) ⊎ (price_of v w h (Effect c r n) ≡ Nothing) → Nodes (IsMet v w h) (price_of v w h (Effect c r n))
+    by (inl on) = low_met v w h 6 (price_of v w h (Effect c r n)) (effect_agrees (set by_test any_test v w h read) (record { config = c; object = r; number = n }) on).low
+    by (inr none) = subst (λ (p : Price Key). Nodes (IsMet v w h) p) (sym none) tt
+counted_is_met v w h read (Fired c r kind g) kept = other_met v w h read (Fired c r kind g) tt kept
+counted_is_met v w h read (Entry r kind g) kept = other_met v w h read (Entry r kind g) tt kept
+counted_is_met v w h read (Change c r) kept = other_met v w h read (Change c r) tt kept
+counted_is_met v w h read (Leave c all) kept = other_met v w h read (Leave c all) tt kept
+counted_is_met v w h read (Enter c) kept = other_met v w h read (Enter c) tt kept
+
+-- what is met may have a number
+pub met_kept : (v : Service) (w : Flow) (h : Heard) → IsRead v w h → (k : Key) → IsMet v w h k → IsKept v w h k
+met_kept v w h read (Effect c r n) met = (on_is (set by_test any_test v w h read) (record { config = c; object = r; number = n }) met.0).here
+met_kept v w h read (Fired c r kind g) met = met
+met_kept v w h read (Entry r kind g) met = met
+met_kept v w h read (Change c r) met = met
+met_kept v w h read (Leave c all) met = met
+met_kept v w h read (Enter c) met = met
+
+-- Costs
+
+pub keys_cost : KeysCost
+keys_cost v w h read f cost (Effect c r n) met =
+    cost (record { config = c; object = r; number = n }) met.0
+    ∙ sym (comes v w h read f 6 (price_of v w h (Effect c r n)) (costs.effect_price v w (record { config = c; object = r; number = n })) (effect_agrees (set by_worth f v w h read) (record { config = c; object = r; number = n }) met.0))
+keys_cost v w h read f cost (Fired c r kind g) met = sym (comes v w h read f _ _ _ (key_agrees (set by_worth f v w h read) (Fired c r kind g) tt met))
+keys_cost v w h read f cost (Entry r kind g) met = sym (comes v w h read f _ _ _ (key_agrees (set by_worth f v w h read) (Entry r kind g) tt met))
+keys_cost v w h read f cost (Change c r) met = sym (comes v w h read f _ _ _ (key_agrees (set by_worth f v w h read) (Change c r) tt met))
+keys_cost v w h read f cost (Leave c all) met = sym (comes v w h read f _ _ _ (key_agrees (set by_worth f v w h read) (Leave c all) tt met))
+keys_cost v w h read f cost (Enter c) met = sym (comes v w h read f _ _ _ (key_agrees (set by_worth f v w h read) (Enter c) tt met))
+
+pub keys_are_exact : KeysAreExact
+keys_are_exact v w h read place count cost rank named f exact k has met = down (suc (rank k)) k has met (omega arith)
+  where
+    Has : Key → Type 0
+    Has j = place j < count
+
+    down : (b : ℕ) (j : Key) → place j < count → IsMet v w h j → rank j < b → cost j ≡ Some (min (key_cost v w f j) top)
+    down zero j has met less = absurd (omega (arith, less))
+    down (suc b) j has met less =
+        let known = named.comes j has in
+        known.1 ∙ sym known.2
+        ∙ known_same cost (λ i. Some (min (key_cost v w f i) top)) (price_of v w h j)
+        (nodes_map (λ (i : Key). ((place i < count) × (rank i < rank j)) × IsMet v w h i) (λ (i : Key). cost i ≡ Some (min (key_cost v w f i) top))
+        (λ i l. down b i l.0.0 l.1 (lower (rank i) (rank j) b l.0.1 less)) (price_of v w h j)
+        (nodes_both (λ (i : Key). (place i < count) × (rank i < rank j)) (IsMet v w h) (price_of v w h j) (named.falls j has) (counted_is_met v w h read j (met_kept v w h read j met))))
+        ∙ known_cut (key_cost v w f) (price_of v w h j)
+        ∙ ap (λ (n : ℕ). Some (min n top)) (sym (keys_cost v w h read f exact j met))
+      where
+        lower : (x y n : ℕ) → x < y → y < suc n → x < n
+        lower x y n l m = omega (arith, l, m)

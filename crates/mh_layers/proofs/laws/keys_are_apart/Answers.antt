@@ -1,0 +1,5 @@
+use Rattle.mh_layers.proofs.KeyedLemmas.{keys_are_apart}
+use Rattle.mh_layers.proofs.laws.keys_are_apart.Goals as goal
+
+pub returns : goal.returns
+returns c = keys_are_apart

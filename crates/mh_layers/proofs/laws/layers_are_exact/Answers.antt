@@ -1,0 +1,8 @@
+use Rattle.mh_layers.proofs.ExactLemmas.{exact, exist}
+use Rattle.mh_layers.proofs.laws.layers_are_exact.Goals as goal
+
+pub returns-clause-exact : goal.returns-clause-exact
+returns-clause-exact c = exact
+
+pub returns-clause-exist : goal.returns-clause-exist
+returns-clause-exist c = exist

@@ -1,0 +1,241 @@
+-- The keys of a service: what each costs over other keys, and what it stands for over effects. A key is priced once,
+-- however often it is counted, so that prices stay small.
+use Rattle.std.specs.Prelude.{◌≡◌, ℕ, zero, suc, Bool, true, false, ◌&&◌, not, if◌then◌else◌, List, [], length, Option, Some, None}
+use Rattle.std.specs.List.{list_any}
+use Rattle.std.specs.Option.{option_map_or}
+use Rattle.mh_base.specs.declared.obj_ref.ObjRef.{ObjRef}
+use Rattle.mh_base.specs.declared.value.Value.{Value}
+use Rattle.mh_base.specs.declared.event.EventType.{EventType}
+use Rattle.mh_base.specs.Event.{is_sync}
+use Rattle.mh_group.specs.declared.attribute.Attribute.TheVariants as attribute
+use Rattle.mh_group.specs.Table.{is_group_class, is_link}
+use Rattle.mh_model.specs.declared.config.Config.{Config}
+use Rattle.mh_model.specs.declared.object.Fixed.{Fixed}
+use Rattle.mh_model.specs.Configuration.{present, scene_parts}
+use Rattle.mh_model.specs.Items.{hears_source, hears_type}
+use Rattle.mh_model.specs.Property.{held, as_event, as_value}
+use Rattle.mh_model.specs.Reference.{group_ref}
+use Rattle.mh_model.specs.Service.{Service, part_at, group_parts, is_there}
+use Rattle.mh_model.specs.Variables.{same_value}
+use Rattle.mh_laws.specs.Active.{is_active}
+use Rattle.mh_laws.specs.Costs as costs
+use Rattle.mh_laws.specs.Each.{Among}
+use Rattle.mh_laws.specs.Flow.{Flow, is_list_in, reached}
+use Rattle.mh_laws.specs.Layers.{IsOn}
+use Rattle.mh_laws.specs.Price.{Price, Nothing, One, Node, Plus, sum_price, if_price}
+use Rattle.mh_laws.specs.Safe.{exchanged}
+use Rattle.mh_laws.specs.Ways.{Told, Sure, Unsure, slots_of}
+use Rattle.mh_layers.specs.Around as around
+use Rattle.mh_layers.specs.Around.{Around, Key, Effect, Fired, Entry, Change, Leave, Enter, Hearing, Plain, With, Any}
+use Rattle.mh_layers.specs.Grouped.{has, is_plain}
+use Rattle.mh_layers.specs.Sums.{sum_from, most_from}
+
+-- What is heard
+
+-- a link that waits for such events of this source, whatever their data
+abbrev pub waits_for : ObjRef → EventType → Fixed → Bool
+waits_for r kind p =
+    is_link p.class && hears_source (as_value (held attribute.EventSource p.properties)) r
+    && hears_type (as_event (held attribute.EventType p.properties)) kind
+
+abbrev pub data_of : Fixed → Option Value
+data_of p = as_value (held attribute.EventData p.properties)
+
+-- of each source and type of events what data links name that wait for them; nothing where no link does
+abbrev pub Heard : Type 0
+Heard = ObjRef → EventType → Option (List Value)
+
+abbrev pub knows : Option (List Value) → Option Value → Bool
+knows None d = false
+knows (Some xs) None = true
+knows (Some xs) (Some d) = list_any (same_value d) xs
+
+-- each link is known that is present in a configuration that may be reached
+pub record HearsAll (v : Service) (w : Flow) (h : Heard) : Type 0 where
+  pub each :
+      (c : Config) → reached w c ≡ true → (p : Fixed) → Among (present v c) p →
+      (r : ObjRef) (kind : EventType) → waits_for r kind p ≡ true → knows (h r kind) (data_of p) ≡ true
+
+-- what is known beforehand of an event's data, among those that are named
+abbrev pub hearing : List Value → Told → Hearing
+hearing xs (Sure None) = Plain
+hearing xs (Sure (Some x)) = if list_any (same_value x) xs then With x else Plain
+hearing xs Unsure = Any
+
+abbrev pub told_by : Hearing → Told
+told_by Plain = Sure None
+told_by (With x) = Sure (Some x)
+told_by Any = Unsure
+
+-- What is asked of a configuration, by keys
+
+-- what an event of this hearing sets going: each link has its data in one hearing
+abbrev pub fired_at : Config → ObjRef → EventType → Hearing → Price Key
+fired_at c r kind Plain = Node (Fired c r kind Plain)
+fired_at c r kind (With x) = Plus (Node (Fired c r kind Plain)) (Node (Fired c r kind (With x)))
+fired_at c r kind Any = Node (Fired c r kind Any)
+
+abbrev pub fired_if_there : Service → Config → ObjRef → EventType → Hearing → Price Key
+fired_if_there v c r kind g = if_price (is_there r (present v c)) (fired_at c r kind g)
+
+-- an event that is dealt with at once, and one that waits, with what is heard of it: where no link hears it, it sets nothing
+-- going, and is only taken
+
+abbrev pub fired_told : Config → ObjRef → EventType → Told → Option (List Value) → Price Key
+fired_told c r kind d None = Nothing
+fired_told c r kind d (Some xs) = fired_at c r kind (hearing xs d)
+
+abbrev pub entry_told : ObjRef → EventType → Told → Option (List Value) → Price Key
+entry_told r kind d None = One
+entry_told r kind d (Some xs) = Node (Entry r kind (hearing xs d))
+
+abbrev pub dealt_with : Service → Config → ObjRef → EventType → Told → Option (List Value) → Price Key
+dealt_with v c r kind d o =
+    if is_sync kind then if_price (is_there r (present v c)) (fired_told c r kind d o) else entry_told r kind d o
+
+-- a link has no slots
+abbrev pub slot_count : Fixed → ℕ
+slot_count p = if is_link p.class then 0 else length (slots_of p)
+
+-- without changes of lists
+abbrev pub around_lists : Service → Flow → Heard → Config → Around
+around_lists v w h c = record {
+  part = λ r. part_at r (present v c);
+  dealt_with = λ r kind d. dealt_with v c r kind d (h r kind);
+  effect = λ r n. if_price (is_there r (present v c)) (Node (Effect c r n));
+  slots = λ r. option_map_or slot_count (part_at r (present v c)) 0;
+  set = w.sets c;
+  change = λ r. Nothing;
+  leave = λ all. Node (Leave c all);
+  exchange = λ g. Plus One (if_price (reached w (exchanged v c g)) (Node (Enter (exchanged v c g))));
+}
+
+-- a change has a key where it is a list's
+abbrev pub net_around : Service → Flow → Heard → Config → Around
+net_around v w h c = record (around_lists v w h c) {
+  change = λ r. if is_list_in (present v c) r then Node (Change c r) else around.change (around_lists v w h c) r;
+}
+
+-- What a key costs over other keys
+
+-- the links that wait for an event and whose data is so
+abbrev pub links_with : Service → Config → ObjRef → EventType → (Option Value → Bool) → Price Key
+links_with v c r kind is =
+    sum_from (λ (p : Fixed). if_price (waits_for r kind p && is (data_of p)) (Node (Effect c p.key costs.link_effect))) Nothing
+    (present v c)
+
+abbrev pub values : Option (List Value) → List Value
+values None = []
+values (Some xs) = xs
+
+abbrev pub fired_price : Service → Heard → Config → ObjRef → EventType → Hearing → Price Key
+fired_price v h c r kind Plain = links_with v c r kind is_plain
+fired_price v h c r kind (With x) = links_with v c r kind (has same_value x)
+fired_price v h c r kind Any =
+    Plus (Node (Fired c r kind Plain)) (most_from (λ x. Node (Fired c r kind (With x))) Nothing (values (h r kind)))
+
+abbrev pub scene_closes : Around → Option (List ℕ) → Price Key
+scene_closes a None = Nothing
+scene_closes a (Some g) = a.effect (group_ref g) costs.on_close_down
+
+abbrev pub leave_price : Service → Flow → Heard → Config → Bool → Price Key
+leave_price v w h c false =
+    Plus (scene_closes (net_around v w h c) c.scene)
+    (Plus (around.all_halted (net_around v w h c) (scene_parts v c.scene))
+    (around.unshared_halted (net_around v w h c) (group_parts v c.app)))
+leave_price v w h c true =
+    Plus (scene_closes (net_around v w h c) c.scene)
+    (Plus ((net_around v w h c).effect (group_ref c.app) costs.on_close_down)
+    (Plus (around.all_halted (net_around v w h c) (scene_parts v c.scene))
+    (around.all_halted (net_around v w h c) (group_parts v c.app))))
+
+-- the group that is entered when a configuration is
+abbrev pub entered : Config → Option (List ℕ) → List ℕ
+entered c None = c.app
+entered c (Some g) = g
+
+-- an effect that is not active costs nothing
+abbrev pub effect_of : Service → Flow → Heard → Config → ℕ → Fixed → Price Key
+effect_of v w h c n p = if_price (is_active (present v c) p) (around.acts (net_around v w h c) (costs.effect_at p n))
+
+abbrev pub price_of : Service → Flow → Heard → Key → Price Key
+price_of v w h (Effect c r n) = option_map_or (effect_of v w h c n) (part_at r (present v c)) Nothing
+price_of v w h (Fired c r kind g) = fired_price v h c r kind g
+price_of v w h (Entry r kind g) = Plus One (most_from (λ c. fired_if_there v c r kind g) Nothing w.configs)
+price_of v w h (Change c r) = around.change (net_around v w h c) r
+price_of v w h (Leave c all) = leave_price v w h c all
+price_of v w h (Enter c) =
+    around.enter (net_around v w h c) (group_ref (entered c c.scene)) (group_parts v (entered c c.scene))
+
+-- What a key stands for, over effects
+
+abbrev pub bucket : Service → Config → ObjRef → EventType → Value → Price costs.Effect
+bucket v c r kind x =
+    sum_price (λ (p : Fixed). if_price (waits_for r kind p && has same_value x (data_of p)) (costs.effect c costs.link_effect p))
+    (present v c)
+
+abbrev pub fires : Service → Config → ObjRef → EventType → Hearing → Price costs.Effect
+fires v c r kind Plain = costs.fired v c r kind (Sure None)
+fires v c r kind (With x) = bucket v c r kind x
+fires v c r kind Any = costs.fired v c r kind Unsure
+
+abbrev pub leaves : Service → Flow → Config → Bool → Price costs.Effect
+leaves v w c false = costs.leave_scene v w c
+leaves v w c true = costs.leave_all v w c
+
+abbrev pub stands_for : Service → Flow → Key → Price costs.Effect
+stands_for v w (Effect c r n) = Node (record { config = c; object = r; number = n })
+stands_for v w (Fired c r kind g) = fires v c r kind g
+stands_for v w (Entry r kind g) = costs.entry v w r kind (told_by g)
+stands_for v w (Change c r) = costs.change v w c r
+stands_for v w (Leave c all) = leaves v w c all
+stands_for v w (Enter c) = costs.enter v w c (entered c c.scene)
+
+-- Which keys are met
+
+-- the hearing is one of those that are named
+abbrev pub is_named : Option (List Value) → Hearing → Bool
+is_named None g = false
+is_named (Some xs) Plain = true
+is_named (Some xs) (With x) = list_any (same_value x) xs
+is_named (Some xs) Any = true
+
+-- the effects by which something else goes on: those of groups and links, and slots
+abbrev pub is_caused : ℕ → Fixed → Bool
+is_caused zero p = is_group_class p.class
+is_caused (suc zero) p = is_group_class p.class
+is_caused (suc (suc zero)) p = is_link p.class
+is_caused (suc (suc (suc n))) p = not (is_link p.class)
+
+-- what is counted by others is one of these: an active effect; what an event sets going whose source is there and for which
+-- links wait, or its entry; a change of a list; what is done when a configuration is left or entered
+abbrev pub IsMet : Service → Flow → Heard → Key → Type 0
+IsMet v w h (Effect c r n) =
+    IsOn v w (record { config = c; object = r; number = n })
+    × (option_map_or (is_caused n) (part_at r (present v c)) false ≡ true)
+IsMet v w h (Fired c r kind g) =
+    (reached w c ≡ true) × (is_there r (present v c) ≡ true) × (is_named (h r kind) g ≡ true)
+IsMet v w h (Entry r kind g) = is_named (h r kind) g ≡ true
+IsMet v w h (Change c r) = (reached w c ≡ true) × (is_list_in (present v c) r ≡ true)
+IsMet v w h (Leave c all) = reached w c ≡ true
+IsMet v w h (Enter c) = reached w c ≡ true
+
+-- and these may have a number: those, and any other effect
+abbrev pub IsKept : Service → Flow → Heard → Key → Type 0
+IsKept v w h (Effect c r n) = reached w c ≡ true
+IsKept v w h k = IsMet v w h k
+
+-- A key counts those of lower levels alone; but an effect counts all.
+
+abbrev pub hearing_level : Hearing → ℕ
+hearing_level Plain = 1
+hearing_level (With x) = 1
+hearing_level Any = 2
+
+abbrev pub level : Key → ℕ
+level (Effect c r n) = 0
+level (Fired c r kind g) = hearing_level g
+level (Entry r kind g) = 3
+level (Change c r) = 4
+level (Leave c all) = 5
+level (Enter c) = 5

@@ -1,0 +1,9 @@
+pub mod Known
+pub mod Layering
+pub mod Numbered
+pub mod Sums
+pub mod Around
+pub mod Grouped
+pub mod Keyed
+pub mod Keys
+pub mod Bridge

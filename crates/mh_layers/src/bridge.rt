@@ -1,0 +1,31 @@
+//! Laws between keys and effects.
+//!
+//! Promise: what is laid out over keys is laid out over the effects of the service, and what is not cannot be.
+ghost use Rattle.mh_layers.specs.Bridge.{CountedIsMet, KeysAgree, KeysAreExact, KeysCost, LaidIsExact, LaidIsLayered, LayersAreRanks, NetsAreFit, NoneIsLayered, RanksAreLayers};
+
+/// Prices over keys come to what prices over effects do, and count what is met alone.
+pub fn keys_agree()
+    ensures prices { KeysAgree }
+    ensures met { CountedIsMet }
+{}
+
+/// Where effects have exact costs, keys have, and what is laid is these.
+pub fn keys_cost()
+    ensures cost { KeysCost }
+    ensures exact { KeysAreExact }
+{}
+
+/// Ranks of keys make a layering of effects, and a layering of effects ranks keys.
+pub fn keys_are_ranked()
+    ensures layers { RanksAreLayers }
+    ensures ranks { LayersAreRanks }
+{}
+
+/// The net of a service can be laid out exactly where its effects have a layering, and what is laid is that, with exact
+/// costs.
+pub fn nets_are_layered()
+    ensures fit { NetsAreFit }
+    ensures layers { LaidIsLayered }
+    ensures exact { LaidIsExact }
+    ensures none { NoneIsLayered }
+{}
