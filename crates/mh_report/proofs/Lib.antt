@@ -1,5 +1,6 @@
 pub mod ScriptLemmas
 pub mod SinkLemmas
+pub mod SourceLemmas
 pub mod ChangeLemmas
 pub mod PostLemmas
 pub mod PresetLemmas

@@ -1,5 +1,6 @@
 pub mod Script
 pub mod Sink
+pub mod Source
 pub mod Report
 pub mod Reading
 pub mod Presets

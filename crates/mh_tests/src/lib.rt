@@ -24,6 +24,8 @@ mod conversions;
 #[cfg(test)]
 mod cutting_sink;
 #[cfg(test)]
+mod cutting_source;
+#[cfg(test)]
 mod der;
 #[cfg(test)]
 mod der_values;
@@ -47,6 +49,8 @@ mod group;
 mod guide;
 #[cfg(test)]
 mod handed;
+#[cfg(test)]
+mod hostile;
 #[cfg(test)]
 mod lengths;
 #[cfg(test)]

@@ -48,9 +48,9 @@ play tick 4294967296| @application @scene
 half an octet of a file
 play file x 0| @application @scene
 => script 1|exit 2|;;
-no steps
-play step 0|step 1| @application @scene
-=> did 0 more|did 1 more|total 1|exit 0|;;
+no steps, and ticks that are too short and too long
+play step 0|tick 0|tick 60001|step 1| @application @scene
+=> did 0 more|refused 54|refused 54|did 1 more|total 1|exit 0|;;
 a text with paragraphs, an escape and a wrong byte
 play run|show|
 @a {:Application ("~/a" 0)  :Items ( {:Text 1 :OrigBoxSize 120 64 :OrigContent

@@ -7,7 +7,7 @@ pub mod gather;
 mod program;
 
 use command_line::{NoTask, Source, Task, line_of};
-use gather::{Ungathered, gather, read_file};
+use gather::{Ungathered, gather, read_file, read_named};
 pub use mh_report::{
     ListSink, Notation, Options, PlayError, Sink, Status, WriterSink, check_bytes, convert_bytes,
     play_bytes,
@@ -77,7 +77,7 @@ fn played<R: Runtime + AllocGlobal>(
     lenient: bool,
 ) -> Result<u8, Ungathered> {
     let files = gather(rt, source.folder)?;
-    let script = read_file(rt, script, script)?;
+    let script = read_named(rt, script)?;
     let options = chosen(rt.alloc(), source.start, mjd, lenient)?;
     let mut sink = WriterSink {
         writer: io::writer(rt),
