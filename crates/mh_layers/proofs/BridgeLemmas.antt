@@ -1,5 +1,5 @@
 -- What keys cost, and how they are ranked.
-use Rattle.std.specs.Prelude.{◌≡◌, ◌⊎◌, ◌<◌, ℕ, zero, suc, ◌+◌, min, max, Bool, true, false, Some, refl}
+use Rattle.std.specs.Prelude.{◌≡◌, ◌⊎◌, ◌<◌, ℕ, zero, suc, ◌+◌, min, max, Bool, true, Option, Some, Result, Ok, refl}
 use Rattle.std.proofs.Common.{arith, inl, inr, ap, ◌∙◌, sym, subst}
 use Rattle.mh_model.specs.Service.{Service}
 use Rattle.mh_laws.specs.Costs as costs
@@ -8,17 +8,17 @@ use Rattle.mh_laws.specs.Layers.{IsOn}
 use Rattle.mh_laws.specs.Price.{Price, Nothing, One, Node, Plus, Most, worth, Nodes}
 use Rattle.mh_laws.proofs.PriceLemmas.{nodes_both, nodes_map}
 use Rattle.mh_layers.specs.Around.{Key, Effect, Fired, Entry, Change, Leave, Enter}
-use Rattle.mh_layers.specs.Bridge.{CountedIsMet, IsRead, KeysAgree, KeysAreExact, KeysCost, key_cost}
+use Rattle.mh_layers.specs.Bridge.{CountedIsMet, IsHad, IsRead, KeysAgree, KeysAreExact, KeysCost, key_cost}
 use Rattle.mh_layers.specs.Keys.{Heard, IsKept, IsMet, level, price_of, stands_for}
-use Rattle.mh_layers.specs.Known.{top}
+use Rattle.mh_layers.specs.Known.{known_worth, told, told_of, top}
 use Rattle.mh_layers.proofs.ActAgreeLemmas.{act_agrees}
 use Rattle.mh_layers.proofs.AgreeLemmas.{Agrees, IsLow, Setting}
 use Rattle.mh_layers.proofs.ExactLemmas.{known_cut}
-use Rattle.mh_layers.proofs.FiredLemmas.{emit_agrees, entry_told_agrees, fired_told_agrees}
+use Rattle.mh_layers.proofs.FiredLemmas.{emit_agrees}
 use Rattle.mh_layers.proofs.FoundLemmas.{present_found}
-use Rattle.mh_layers.proofs.KeyAgreeLemmas.{IsOther, effect_agrees, key_agrees, on_is, on_or_nothing}
+use Rattle.mh_layers.proofs.KeyAgreeLemmas.{IsOther, effect_agrees, key_agrees, on_kept, on_or_nothing}
 use Rattle.mh_layers.proofs.KnownLemmas.{known_same}
-use Rattle.mh_layers.proofs.LifeAgreeLemmas.{change_agrees, enter_group, exchange_agrees, halt_agrees, leave_agrees, run_agrees}
+use Rattle.mh_layers.proofs.LifeAgreeLemmas.{change_agrees, exchange_agrees, halt_agrees, run_agrees}
 use Rattle.mh_layers.proofs.ReckonLemmas.{Way, by_test, by_worth, reckon, reckon_worth}
 
 -- a service that was read, reckoned so
@@ -49,15 +49,10 @@ comes v w h read f n p q a =
 
 pub keys_agree : KeysAgree
 keys_agree v w h read c here = record {
-  fired = λ r kind d there f. comes v w h read f 3 _ _ (fired_told_agrees (set by_worth f v w h read) c r kind d (h r kind) refl here there);
-  entry = λ r kind d f. comes v w h read f 4 _ _ (entry_told_agrees (set by_worth f v w h read) r kind d (h r kind) refl);
   emit = λ r kind d f. comes v w h read f 4 _ _ (emit_agrees (set by_worth f v w h read) c here r kind d);
   run = λ r f. comes v w h read f 5 _ _ (run_agrees (set by_worth f v w h read) c here r);
   halt = λ r f. comes v w h read f 4 _ _ (halt_agrees (set by_worth f v w h read) c here r);
   change = λ r f. comes v w h read f 4 _ _ (change_agrees (set by_worth f v w h read) c here r);
-  enter = λ g is f. comes v w h read f 5 _ _ (enter_group (set by_worth f v w h read) c here g is);
-  leave_scene = λ f. comes v w h read f 5 _ _ (leave_agrees (set by_worth f v w h read) c here false);
-  leave_all = λ f. comes v w h read f 5 _ _ (leave_agrees (set by_worth f v w h read) c here true);
   exchange = λ g f. comes v w h read f 6 _ _ (exchange_agrees (set by_worth f v w h read) c g);
   act = λ a f. comes v w h read f 6 _ _ (act_agrees (set by_worth f v w h read) c here a);
 }
@@ -74,7 +69,7 @@ other_met : (v : Service) (w : Flow) (h : Heard) → IsRead v w h → (k : Key) 
 other_met v w h read k other kept = low_met v w h (level k) (price_of v w h k) (key_agrees (set by_test any_test v w h read) k other kept).low
 
 pub counted_is_met : CountedIsMet
-counted_is_met v w h read (Effect c r n) kept = by (on_or_nothing (set by_test any_test v w h read) c r n kept)
+counted_is_met v w h read (Effect c r n) kept = by (on_or_nothing (set by_test any_test v w h read) c r n kept.0)
   where
     by : IsOn v w (record { config = c; object = r; number = n }) ⊎ (price_of v w h (Effect c r n) ≡ Nothing) → Nodes (IsMet v w h) (price_of v w h (Effect c r n))
     by (inl on) = low_met v w h 6 (price_of v w h (Effect c r n)) (effect_agrees (set by_test any_test v w h read) (record { config = c; object = r; number = n }) on).low
@@ -87,7 +82,7 @@ counted_is_met v w h read (Enter c) kept = other_met v w h read (Enter c) tt kep
 
 -- what is met may have a number
 pub met_kept : (v : Service) (w : Flow) (h : Heard) → IsRead v w h → (k : Key) → IsMet v w h k → IsKept v w h k
-met_kept v w h read (Effect c r n) met = (on_is (set by_test any_test v w h read) (record { config = c; object = r; number = n }) met.0).here
+met_kept v w h read (Effect c r n) met = on_kept (set by_test any_test v w h read) (record { config = c; object = r; number = n }) met.0
 met_kept v w h read (Fired c r kind g) met = met
 met_kept v w h read (Entry r kind g) met = met
 met_kept v w h read (Change c r) met = met
@@ -106,23 +101,27 @@ keys_cost v w h read f cost (Change c r) met = sym (comes v w h read f _ _ _ (ke
 keys_cost v w h read f cost (Leave c all) met = sym (comes v w h read f _ _ _ (key_agrees (set by_worth f v w h read) (Leave c all) tt met))
 keys_cost v w h read f cost (Enter c) met = sym (comes v w h read f _ _ _ (key_agrees (set by_worth f v w h read) (Enter c) tt met))
 
-pub keys_are_exact : KeysAreExact
-keys_are_exact v w h read place count cost rank named f exact k has met = down (suc (rank k)) k has met (omega arith)
-  where
-    Has : Key → Type 0
-    Has j = place j < count
+-- what comes to this costs this
+comes_to : {E : Type 0} (o : Option ℕ) (c : ℕ) (known : Result ℕ E) (n : ℕ) → o ≡ Some c → known ≡ Ok c → known ≡ Ok n → o ≡ Some n
+comes_to o c known n e comes is =
+    let both = sym comes ∙ is in
+    let same : c ≡ n = cc in
+    e ∙ ap Some same
 
-    down : (b : ℕ) (j : Key) → place j < count → IsMet v w h j → rank j < b → cost j ≡ Some (min (key_cost v w f j) top)
-    down zero j has met less = absurd (omega (arith, less))
-    down (suc b) j has met less =
-        let known = named.comes j has in
-        known.1 ∙ sym known.2
-        ∙ known_same cost (λ i. Some (min (key_cost v w f i) top)) (price_of v w h j)
-        (nodes_map (λ (i : Key). ((place i < count) × (rank i < rank j)) × IsMet v w h i) (λ (i : Key). cost i ≡ Some (min (key_cost v w f i) top))
-        (λ i l. down b i l.0.0 l.1 (lower (rank i) (rank j) b l.0.1 less)) (price_of v w h j)
-        (nodes_both (λ (i : Key). (place i < count) × (rank i < rank j)) (IsMet v w h) (price_of v w h j) (named.falls j has) (counted_is_met v w h read j (met_kept v w h read j met))))
+pub keys_are_exact : KeysAreExact
+keys_are_exact v w h read has cost rank named f exact k here met = down (suc (rank k)) k here met (omega arith)
+  where
+    down : (b : ℕ) (j : Key) → has j ≡ true → IsMet v w h j → rank j < b → cost j ≡ Some (min (key_cost v w f j) top)
+    down zero j here met less = absurd (omega (arith, less))
+    down (suc b) j here met less =
+        let known = named.comes j (here, met_kept v w h read j met) in
+        comes_to (cost j) known.0 (known_worth (told cost) (price_of v w h j)) (min (key_cost v w f j) top) known.1 known.2
+        (known_same (told cost) (λ i. Ok (min (key_cost v w f i) top)) (price_of v w h j)
+        (nodes_map (λ (i : Key). (IsHad v w h has i × (rank i < rank j)) × IsMet v w h i) (λ (i : Key). told cost i ≡ Ok (min (key_cost v w f i) top))
+        (λ i l. ap (told_of i) (down b i l.0.0.0 l.1 (lower (rank i) (rank j) b l.0.1 less))) (price_of v w h j)
+        (nodes_both (λ (i : Key). IsHad v w h has i × (rank i < rank j)) (IsMet v w h) (price_of v w h j) (named.falls j (here, met_kept v w h read j met)) (counted_is_met v w h read j (met_kept v w h read j met))))
         ∙ known_cut (key_cost v w f) (price_of v w h j)
-        ∙ ap (λ (n : ℕ). Some (min n top)) (sym (keys_cost v w h read f exact j met))
+        ∙ ap (λ (n : ℕ). Ok (min n top)) (sym (keys_cost v w h read f exact j met)))
       where
         lower : (x y n : ℕ) → x < y → y < suc n → x < n
         lower x y n l m = omega (arith, l, m)

@@ -25,7 +25,7 @@ use Rattle.mh_laws.specs.Ways.{Told, Sure, Unsure}
 use Rattle.mh_layers.specs.Around as around
 use Rattle.mh_layers.specs.Around.{Key, Effect, Fired, Entry, Hearing, Plain, With, Any}
 use Rattle.mh_layers.specs.Grouped.{has, is_plain}
-use Rattle.mh_layers.specs.Keys.{bucket, data_of, fired_at, fired_if_there, fired_price, fired_told, entry_told, dealt_with, fires, hearing, hearing_level, is_caused, is_named, IsMet, knows, links_with, net_around, told_by, values, waits_for}
+use Rattle.mh_layers.specs.Keys.{bucket, data_of, fired_at, fired_if_there, fired_price, fires, heard_with, hearing, hearing_level, is_caused, is_named, IsMet, knows, links_with, net_around, told_by, values, waits_for}
 use Rattle.mh_layers.specs.Sums.{most_from}
 use Rattle.mh_layers.proofs.AgreeLemmas.{Agrees, Setting, agrees_if, agrees_largest, agrees_node, agrees_nothing, agrees_one, agrees_plus, agrees_sum, agrees_then, agrees_wider, effects_come}
 use Rattle.mh_layers.proofs.HeardLemmas.{AreKnown, any_heard, links, plain_heard, unheard, unnamed, value_heard, value_there}
@@ -201,32 +201,27 @@ entry_agrees s r kind g named =
 
 -- Events that are emitted
 
-pub fired_told_agrees : {A : Type 0} (s : Setting A) (c : Config) (r : ObjRef) (kind : EventType) (d : Told) (o : Option (List Value)) → s.heard r kind ≡ o → reached s.flow c ≡ true → is_there r (present s.service c) ≡ true → Agrees s 3 (fired_told c r kind d o) (costs.fired s.service c r kind d)
-fired_told_agrees s c r kind d None e here source =
-    agrees_then s 3 Nothing Nothing (costs.fired s.service c r kind d) (agrees_nothing s 3) (sym (silent_fired s c r kind d e here))
-fired_told_agrees s c r kind d (Some xs) e here source =
-    agrees_then s 3 (fired_at c r kind (hearing xs d)) (costs.fired s.service c r kind (told_by (hearing xs d))) (costs.fired s.service c r kind d)
-    (fired_at_agrees s c r kind (hearing xs d) (here, source, ap (λ (o : Option (List Value)). is_named o (hearing xs d)) e ∙ hearing_named xs d))
-    (fired_hearing s c r kind xs d e here)
-
-pub entry_told_agrees : {A : Type 0} (s : Setting A) (r : ObjRef) (kind : EventType) (d : Told) (o : Option (List Value)) → s.heard r kind ≡ o → Agrees s 4 (entry_told r kind d o) (costs.entry s.service s.flow r kind d)
-entry_told_agrees s r kind d None e =
-    agrees_then s 4 One One (costs.entry s.service s.flow r kind d) (agrees_one s 4) (sym (silent_entry s r kind d e))
-entry_told_agrees s r kind d (Some xs) e =
-    agrees_then s 4 (Node (Entry r kind (hearing xs d))) (costs.entry s.service s.flow r kind (told_by (hearing xs d))) (costs.entry s.service s.flow r kind d)
-    (agrees_node s 4 (Entry r kind (hearing xs d)) (ap (λ (o : Option (List Value)). is_named o (hearing xs d)) e ∙ hearing_named xs d) (omega arith))
-    (entry_hearing s r kind xs d e)
-
-dealt_agrees : {A : Type 0} (s : Setting A) (c : Config) (r : ObjRef) (kind : EventType) (d : Told) → reached s.flow c ≡ true → Agrees s 4 (dealt_with s.service c r kind d (s.heard r kind)) (if is_sync kind then costs.fired_if_there s.service c r kind d else costs.entry s.service s.flow r kind d)
-dealt_agrees {A} s c r kind d here = by (is_sync kind)
+heard_agrees : {A : Type 0} (s : Setting A) (c : Config) (r : ObjRef) (kind : EventType) (d : Told) (o : Option (List Value)) → s.heard r kind ≡ o → reached s.flow c ≡ true → Agrees s 4 (heard_with s.service c r kind d o) (if is_sync kind then costs.fired_if_there s.service c r kind d else costs.entry s.service s.flow r kind d)
+heard_agrees {A} s c r kind d None e here = by (is_sync kind)
   where
-    by : (b : Bool) → Agrees s 4 (if b then if_price (is_there r (present s.service c)) (fired_told c r kind d (s.heard r kind)) else entry_told r kind d (s.heard r kind)) (if b then costs.fired_if_there s.service c r kind d else costs.entry s.service s.flow r kind d)
+    by : (b : Bool) → Agrees s 4 (if b then Nothing else One) (if b then costs.fired_if_there s.service c r kind d else costs.entry s.service s.flow r kind d)
+    by true = agrees_then s 4 Nothing Nothing (costs.fired_if_there s.service c r kind d) (agrees_nothing s 4) (sym (silent_if s c r kind d e here))
+    by false = agrees_then s 4 One One (costs.entry s.service s.flow r kind d) (agrees_one s 4) (sym (silent_entry s r kind d e))
+heard_agrees {A} s c r kind d (Some xs) e here = by (is_sync kind)
+  where
+    named : is_named (s.heard r kind) (hearing xs d) ≡ true
+    named = ap (λ (o : Option (List Value)). is_named o (hearing xs d)) e ∙ hearing_named xs d
+
+    by : (b : Bool) → Agrees s 4 (if b then fired_if_there s.service c r kind (hearing xs d) else Node (Entry r kind (hearing xs d))) (if b then costs.fired_if_there s.service c r kind d else costs.entry s.service s.flow r kind d)
     by true =
-        agrees_if s 4 (is_there r (present s.service c)) (fired_told c r kind d (s.heard r kind)) (costs.fired s.service c r kind d)
-        (λ source. agrees_wider s 3 4 (fired_told c r kind d (s.heard r kind)) (costs.fired s.service c r kind d) (omega arith) (fired_told_agrees s c r kind d (s.heard r kind) refl here source))
-    by false = entry_told_agrees s r kind d (s.heard r kind) refl
+        agrees_then s 4 (fired_if_there s.service c r kind (hearing xs d)) (costs.fired_if_there s.service c r kind (told_by (hearing xs d))) (costs.fired_if_there s.service c r kind d)
+        (agrees_wider s 3 4 (fired_if_there s.service c r kind (hearing xs d)) (costs.fired_if_there s.service c r kind (told_by (hearing xs d))) (omega arith) (there_agrees s c r kind (hearing xs d) here named))
+        (if_hearing s c r kind xs d e here)
+    by false =
+        agrees_then s 4 (Node (Entry r kind (hearing xs d))) (costs.entry s.service s.flow r kind (told_by (hearing xs d))) (costs.entry s.service s.flow r kind d)
+        (agrees_node s 4 (Entry r kind (hearing xs d)) named (omega arith)) (entry_hearing s r kind xs d e)
 
 pub emit_agrees : {A : Type 0} (s : Setting A) (c : Config) → reached s.flow c ≡ true → (r : ObjRef) (kind : EventType) (d : Told) → Agrees s 4 (around.emit (net_around s.service s.flow s.heard c) r kind d) (costs.emit s.service s.flow c r kind d)
 emit_agrees s c here r kind d =
-    agrees_plus s 4 One (dealt_with s.service c r kind d (s.heard r kind)) One (if is_sync kind then costs.fired_if_there s.service c r kind d else costs.entry s.service s.flow r kind d)
-    (agrees_one s 4) (dealt_agrees s c r kind d here)
+    agrees_plus s 4 One (heard_with s.service c r kind d (s.heard r kind)) One (if is_sync kind then costs.fired_if_there s.service c r kind d else costs.entry s.service s.flow r kind d)
+    (agrees_one s 4) (heard_agrees s c r kind d (s.heard r kind) refl here)

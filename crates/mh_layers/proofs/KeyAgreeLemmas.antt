@@ -9,7 +9,7 @@ use Rattle.mh_model.specs.declared.config.Config.{Config}
 use Rattle.mh_model.specs.declared.object.Fixed.{Fixed}
 use Rattle.mh_model.specs.Configuration.{present}
 use Rattle.mh_model.specs.Reference.{same_ref}
-use Rattle.mh_model.specs.Service.{part_at}
+use Rattle.mh_model.specs.Service.{is_there, part_at}
 use Rattle.mh_model.proofs.ServiceLemmas.{same_ref-same}
 use Rattle.mh_laws.specs.Active.{is_active}
 use Rattle.mh_laws.specs.Costs as costs
@@ -60,7 +60,7 @@ pub record IsActiveEffect {A : Type 0} (s : Setting A) (x : costs.Effect) : Type
   pub active : is_active (present s.service x.config) part ≡ true
   pub object : x.object ≡ part.key
 
-pub on_is : {A : Type 0} (s : Setting A) (x : costs.Effect) → IsOn s.service s.flow x → IsActiveEffect s x
+on_is : {A : Type 0} (s : Setting A) (x : costs.Effect) → IsOn s.service s.flow x → IsActiveEffect s x
 on_is {A} s x on =
     let at = from_joined (λ (d : Config). flat_map (effects_in d) (filter (is_active (present s.service d)) (present s.service d))) s.flow.configs x on in
     let own = from_joined (effects_in at.0) (filter (is_active (present s.service at.0)) (present s.service at.0)) x at.2 in
@@ -75,6 +75,17 @@ on_is {A} s x on =
     of c p n there among active same =
         subst (λ (y : costs.Effect). IsActiveEffect s y) same
         (record { part = p; here = reached_among s.flow.configs c there; there = among; active = active; object = refl })
+
+-- so it may have a number
+pub on_kept : {A : Type 0} (s : Setting A) (x : costs.Effect) → IsOn s.service s.flow x → IsKept s.service s.flow s.heard (Effect x.config x.object x.number)
+on_kept {A} s x on = by (on_is s x on)
+  where
+    by : IsActiveEffect s x → IsKept s.service s.flow s.heard (Effect x.config x.object x.number)
+    by k = (
+      k.here,
+      ap (λ (r : ObjRef). is_there r (present s.service x.config)) k.object
+          ∙ ap (λ (o : Option Fixed). option_map_or (λ p. true) o false) (s.found x.config k.part k.there),
+    )
 
 -- it is priced by the one object that has its key
 one_object : {A : Type 0} (s : Setting A) (c : Config) (p : Fixed) (n : ℕ) → Among (present s.service c) p → effects_come s (costs.acts_price s.service s.flow c (costs.effect_at p n)) ≡ effects_come s (costs.effect_price s.service s.flow (record { config = c; object = p.key; number = n }))

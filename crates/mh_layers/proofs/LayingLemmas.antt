@@ -1,210 +1,356 @@
--- What is known grows, and is right.
-use Rattle.std.specs.Prelude.{◌≡◌, ◌⊎◌, ◌<◌, ◌≤◌, ℕ, zero, suc, ◌+◌, Bool, true, false, List, [], ◌∷◌, length, Option, Some, None, slice_set, refl, replicate, is_some, IfSome, IsSome}
+-- What is laid grows, and is right.
+use Rattle.std.specs.Prelude.{◌≡◌, ◌⊎◌, ◌<◌, ◌&&◌, ◌++◌, take, slice_index_or, ◌≤◌, ℕ, zero, suc, ◌+◌, ◌*◌, ◌-◌, ◌^◌, Bool, true, false, List, [], ◌∷◌, length, Option, Some, None, is_some, Ok, Err, refl}
+use Rattle.std.specs.List.{list_all}
+use Rattle.std.proofs.lemmas.List.{take_more}
 use Rattle.std.proofs.Common.{arith, inl, inr, ap, ◌∙◌, sym, subst}
-use Rattle.mh_layers.specs.declared.costs.Laid.{Laid}
+use Rattle.indexmap.specs.IndexMap.{insert_entry}
+use Rattle.mh_laws.specs.Each.{Each}
 use Rattle.mh_laws.specs.Price.{Price, Nodes}
-use Rattle.mh_layers.specs.Known.{known_worth}
-use Rattle.mh_layers.specs.Layering.{Net, IsFit, IsUnfit, laid_at, cost_of, cost_at, rank_at, rank_of, IsRight, IsStep, Waits, IsClosed, IsLayering, NoneLayered, AreLaid, AreLayers}
-use Rattle.mh_laws.proofs.PriceLemmas.{nodes_map, nodes_both}
-use Rattle.mh_layers.proofs.KnownLemmas.{known_same, all_known, one_waits}
-use Rattle.mh_layers.proofs.LaidLemmas.{none_cost, set_cases, set_length, not_known, below_cases}
+use Rattle.mh_laws.proofs.PriceLemmas.{nodes_any, nodes_both, nodes_map}
+use Rattle.mh_layers.specs.declared.costs.Laid.{Laid}
+use Rattle.mh_layers.specs.declared.node_key.NodeKey.{NodeKey}
+use Rattle.mh_layers.specs.Known.{known_worth, told, told_of}
+use Rattle.mh_layers.specs.Layering.{Places, AreBelow, AreLayers, AreWaiting, CountsKept, Grows, IsLower, IsNoted, IsPlaced, IsSettled, IsStep, IsWaiting, IsWaitingAt, NoneRanked, Waits, cost_in, cost_of, has_place, held, is_laid, key_at, laid_in, left, free, place_in}
+use Rattle.mh_layers.specs.NodeKeys.{same_key}
+use Rattle.mh_model.proofs.ListLemmas.{and_left, and_right}
+use Rattle.mh_layers.proofs.KnownLemmas.{all_known, known_also, known_same, one_waits}
+use Rattle.mh_layers.proofs.PlaceLemmas.{cost_laid, none_cost, put_cases, put_here, put_new, put_old, there_key}
 
-none_at : (n m : ℕ) → laid_at (replicate n None) m ≡ None
-none_at zero m = refl
-none_at (suc n) zero = refl
-none_at (suc n) (suc m) = none_at n m
+-- GROWS
 
-none_length : (n : ℕ) → length (replicate {A = Option Laid} n None) ≡ n
-none_length zero = refl
-none_length (suc n) = ap suc (none_length n)
+pub grows_same : (ts : Places) → Grows ts ts
+grows_same ts = record { stays = λ k x e. e; places = λ k has. has }
 
-pub nothing_right : (net : Net) → IsRight net (replicate net.count None) 0
-nothing_right net = record {
-  size = none_length net.count;
-  each = λ n x e. no n x e;
-  falls = λ n x e. no n x e;
-  below = λ n x e. no n x e;
+pub grows_equal : (old new : Places) → new ≡ old → Grows old new
+grows_equal old new is = subst (λ (ts : Places). Grows old ts) (sym is) (grows_same old)
+
+pub grows_on : (a b c : Places) → Grows a b → Grows b c → Grows a c
+grows_on a b c g h = record { stays = λ k x e. h.stays k x (g.stays k x e); places = λ k has. h.places k (g.places k has) }
+
+put_grows : (ts : Places) (k : NodeKey) (v : Option Laid) → laid_in ts k ≡ None → Grows ts (insert_entry same_key ts k v)
+put_grows ts k v none = record {
+  stays = λ j x e. stays j x e (put_cases ts k j v);
+  places = λ j has. places j has (put_cases ts k j v);
 }
   where
-    no : {X : Type 0} (n : ℕ) (x : Laid) → laid_at (replicate net.count None) n ≡ Some x → X
-    no n x e = let f = sym (none_at net.count n) ∙ e in absurd cc
+    us : Places
+    us = insert_entry same_key ts k v
 
--- what is noted is right
-pub noted_right : (net : Net) (ts : List (Option Laid)) (next n cost : ℕ) → IsRight net ts next → n < net.count → laid_at ts n ≡ None → known_worth (cost_at ts) (net.price n) ≡ Some cost → IsRight net (slice_set ts n (Some (record { cost = cost; rank = next }))) (next + 1)
-noted_right net ts next n cost right less none comes = record {
-  size = set_length ts n (Some x) ∙ right.size;
-  each = λ m y e. each m y e (set_cases ts n m (Some x));
-  falls = λ m y e. falls m y e (set_cases ts n m (Some x));
-  below = λ m y e. below m y e (set_cases ts n m (Some x));
+    stays : (j : NodeKey) (x : Laid) → laid_in ts j ≡ Some x → ((j ≡ k) × (place_in us j ≡ Some v)) ⊎ (place_in us j ≡ place_in ts j) → laid_in us j ≡ Some x
+    stays j x e (inl is) = let never = sym none ∙ ap (λ (i : NodeKey). laid_in ts i) (sym is.0) ∙ e in absurd cc
+    stays j x e (inr same) = ap held same ∙ e
+
+    places : (j : NodeKey) → has_place ts j ≡ true → ((j ≡ k) × (place_in us j ≡ Some v)) ⊎ (place_in us j ≡ place_in ts j) → has_place us j ≡ true
+    places j has (inl is) = ap is_some is.1
+    places j has (inr same) = ap is_some same ∙ has
+
+pub nothing_laid : (price : NodeKey → Price NodeKey) (kept : NodeKey → Type 0) (ts : Places) → ts ≡ [] → AreLayers price kept ts
+nothing_laid price kept ts e =
+    subst (λ (us : Places). AreLayers price kept us) (sym e) (record { comes = λ k x has f. absurd cc; falls = λ k x has f. absurd cc })
+
+-- A PLACE IS GIVEN
+
+pub placed_laid : (old new : Places) (k : NodeKey) (given : Bool) → IsPlaced old new k given → (j : NodeKey) → laid_in new j ≡ laid_in old j
+placed_laid old new k false placed j = ap (λ (ts : Places). laid_in ts j) (placed.same refl)
+placed_laid old new k true placed j = ap (λ (ts : Places). laid_in ts j) (placed.now refl) ∙ by (put_cases old k j None)
+  where
+    by : ((j ≡ k) × (place_in (insert_entry same_key old k None) j ≡ Some None)) ⊎ (place_in (insert_entry same_key old k None) j ≡ place_in old j) → laid_in (insert_entry same_key old k None) j ≡ laid_in old j
+    by (inl is) = ap held is.1 ∙ sym (ap held (placed.none refl)) ∙ ap (λ (i : NodeKey). laid_in old i) (sym is.0)
+    by (inr same) = ap held same
+
+pub placed_grows : (old new : Places) (k : NodeKey) (given : Bool) → IsPlaced old new k given → Grows old new
+placed_grows old new k false placed = grows_equal old new (placed.same refl)
+placed_grows old new k true placed =
+    subst (λ (ts : Places). Grows old ts) (sym (placed.now refl)) (put_grows old k None (ap held (placed.none refl)))
+
+same_layers : (price : NodeKey → Price NodeKey) (kept : NodeKey → Type 0) (old new : Places) → ((j : NodeKey) → laid_in new j ≡ laid_in old j) → AreLayers price kept old → AreLayers price kept new
+same_layers price kept old new same layers = record {
+  comes = λ k x has e.
+      known_same (told (cost_in new)) (told (cost_in old)) (price k)
+      (nodes_any (λ (j : NodeKey). told (cost_in new) j ≡ told (cost_in old) j) (λ j. ap (λ (o : Option Laid). told_of j (cost_of o)) (same j)) (price k))
+      ∙ layers.comes k x has (sym (same k) ∙ e);
+  falls = λ k x has e.
+      nodes_map (λ (j : NodeKey). IsLower (laid_in old j) x.rank) (λ (j : NodeKey). IsLower (laid_in new j) x.rank)
+      (λ j low. subst (λ (o : Option Laid). IsLower o x.rank) (sym (same j)) low) (price k) (layers.falls k x has (sym (same k) ∙ e));
+}
+
+pub placed_layers : (price : NodeKey → Price NodeKey) (kept : NodeKey → Type 0) (old new : Places) (k : NodeKey) (given : Bool) → IsPlaced old new k given → AreLayers price kept old → AreLayers price kept new
+placed_layers price kept old new k given placed layers = same_layers price kept old new (placed_laid old new k given placed) layers
+
+pub placed_now : (old new : Places) (k : NodeKey) → place_in old k ≡ None → new ≡ insert_entry same_key old k None → length new < 2 ^ 63 → IsPlaced old new k true
+placed_now old new k none now short = record {
+  now = λ t. now;
+  none = λ t. none;
+  same = λ t. absurd cc;
+  there = ap (λ (ts : Places). has_place ts k) now ∙ ap is_some (put_here old k None);
+  short = short;
+}
+
+pub placed_before : (ts : Places) (k : NodeKey) → has_place ts k ≡ true → length ts < 2 ^ 63 → IsPlaced ts ts k false
+placed_before ts k has short = record { now = λ t. absurd cc; none = λ t. absurd cc; same = λ t. refl; there = has; short = short }
+
+pub below_placed : (ts : Places) (k : NodeKey) (next : ℕ) → place_in ts k ≡ None → AreBelow ts next → AreBelow (insert_entry same_key ts k None) next
+below_placed ts k next none below = record { each = λ j x e. by j x e (put_cases ts k j None) }
+  where
+    by : (j : NodeKey) (x : Laid) → laid_in (insert_entry same_key ts k None) j ≡ Some x → ((j ≡ k) × (place_in (insert_entry same_key ts k None) j ≡ Some None)) ⊎ (place_in (insert_entry same_key ts k None) j ≡ place_in ts j) → x.rank < next
+    by j x e (inl is) = let never = sym e ∙ ap held is.1 in absurd cc
+    by j x e (inr same) = below.each j x (sym (ap held same) ∙ e)
+
+not_some : (o p : Option (Option Laid)) → o ≡ p → is_some o ≡ false → p ≡ None
+not_some o None e none = refl
+not_some o (Some x) e none = let never = sym none ∙ ap is_some e in absurd cc
+
+-- what has none yet is given one
+pub below_given : (ts us : Places) (k : NodeKey) (next : ℕ) (o : Option (Option Laid)) → o ≡ place_in ts k → is_some o ≡ false → us ≡ insert_entry same_key ts k None → AreBelow ts next → AreBelow us next
+below_given ts us k next o e none now below =
+    subst (λ (zs : Places). AreBelow zs next) (sym now) (below_placed ts k next (not_some o (place_in ts k) e none) below)
+
+pub placed_given : (ts us : Places) (k : NodeKey) (len : ℕ) (o : Option (Option Laid)) → o ≡ place_in ts k → is_some o ≡ false → us ≡ insert_entry same_key ts k None → len ≡ length us → len < 2 ^ 63 → IsPlaced ts us k true
+placed_given ts us k len o e none now long short =
+    placed_now ts us k (not_some o (place_in ts k) e none) now (subst (λ (n : ℕ). n < 2 ^ 63) long short)
+
+-- and then one more of these has a place
+pub placed_more : (xs : List NodeKey) (old new : Places) (n : ℕ) (d : NodeKey) (given : Bool) → n < length xs → list_all (has_place old) (take n xs) ≡ true → IsPlaced old new (slice_index_or xs n d) given → list_all (has_place new) (take (n + 1) xs) ≡ true
+placed_more xs old new n d given less all placed =
+    ap (list_all (has_place new)) (take_more xs n d less) ∙ behind (take n xs) all
+  where
+    behind : (ks : List NodeKey) → list_all (has_place old) ks ≡ true → list_all (has_place new) (ks ++ slice_index_or xs n d ∷ []) ≡ true
+    behind [] h = λ i. placed.there i && true
+    behind (k ∷ ks) h = λ i. (placed_grows old new (slice_index_or xs n d) given placed).places k (and_left (has_place old k) (list_all (has_place old) ks) h) i && behind ks (and_right (has_place old k) (list_all (has_place old) ks) h) i
+
+-- A KEY IS LAID
+
+one : (x y : Laid) → Some x ≡ Some y → x ≡ y
+one x y e = cc
+
+pub below_noted : (ts : Places) (k : NodeKey) (cost next : ℕ) → AreBelow ts next → AreBelow (insert_entry same_key ts k (Some (record { cost = cost; rank = next }))) (next + 1)
+below_noted ts k cost next below = record { each = λ j y e. by j y e (put_cases ts k j (Some x)) }
+  where
+    x : Laid
+    x = record { cost = cost; rank = next }
+
+    by : (j : NodeKey) (y : Laid) → laid_in (insert_entry same_key ts k (Some x)) j ≡ Some y → ((j ≡ k) × (place_in (insert_entry same_key ts k (Some x)) j ≡ Some (Some x))) ⊎ (place_in (insert_entry same_key ts k (Some x)) j ≡ place_in ts j) → y.rank < next + 1
+    by j y e (inl is) =
+        let same : next ≡ y.rank = ap (λ (z : Laid). z.rank) (one x y (sym (ap held is.1) ∙ e)) in
+        omega (arith, same)
+    by j y e (inr same) = let less = below.each j y (sym (ap held same) ∙ e) in omega (arith, less)
+
+pub below_now : (ts us : Places) (k : NodeKey) (cost next after : ℕ) → AreBelow ts next → us ≡ insert_entry same_key ts k (Some (record { cost = cost; rank = next })) → after ≡ next + 1 → AreBelow us after
+below_now ts us k cost next after below now is =
+    subst (λ (n : ℕ). AreBelow us n) (sym is) (subst (λ (zs : Places). AreBelow zs (next + 1)) (sym now) (below_noted ts k cost next below))
+
+pub noted_grows : (old new : Places) (k : NodeKey) (cost : ℕ) → laid_in old k ≡ None → IsNoted old new k cost → Grows old new
+noted_grows old new k cost none noted =
+    subst (λ (ts : Places). Grows old ts) (sym noted.now) (put_grows old k (Some (record { cost = cost; rank = noted.rank })) none)
+
+lower_kept : (o u : Option Laid) (r : ℕ) → ((z : Laid) → o ≡ Some z → u ≡ Some z) → IsLower o r → IsLower u r
+lower_kept None u r h low = absurd cc
+lower_kept (Some z) u r h low = subst (λ (w : Option Laid). IsLower w r) (sym (h z refl)) low
+
+told_kept : (j : NodeKey) (o u : Option Laid) (a : ℕ) → ((z : Laid) → o ≡ Some z → u ≡ Some z) → told_of j (cost_of o) ≡ Ok a → told_of j (cost_of u) ≡ Ok a
+told_kept j None u a h e = absurd cc
+told_kept j (Some z) u a h e = ap (λ (w : Option Laid). told_of j (cost_of w)) (h z refl) ∙ e
+
+-- what is known stays known
+still : (old new : Places) (p : Price NodeKey) (c : ℕ) → Grows old new → known_worth (told (cost_in old)) p ≡ Ok c → known_worth (told (cost_in new)) p ≡ Ok c
+still old new p c grows e =
+    known_also (told (cost_in old)) (told (cost_in new)) p c (λ j a h. told_kept j (laid_in old j) (laid_in new j) a (grows.stays j) h) e
+
+put_layers : (price : NodeKey → Price NodeKey) (kept : NodeKey → Type 0) (ts : Places) (k : NodeKey) (cost next : ℕ) →
+    AreLayers price kept ts → laid_in ts k ≡ None → AreBelow ts next → (kept k → known_worth (told (cost_in ts)) (price k) ≡ Ok cost) →
+    AreLayers price kept (insert_entry same_key ts k (Some (record { cost = cost; rank = next })))
+put_layers price kept ts k cost next layers none below comes = record {
+  comes = λ m y has e. each m y has e (put_cases ts k m (Some x));
+  falls = λ m y has e. falls m y has e (put_cases ts k m (Some x));
 }
   where
     x : Laid
     x = record { cost = cost; rank = next }
 
-    us : List (Option Laid)
-    us = slice_set ts n (Some x)
+    us : Places
+    us = insert_entry same_key ts k (Some x)
 
-    -- what was known is as it was
-    kept : (k : ℕ) (a : ℕ) → cost_at ts k ≡ Some a → laid_at us k ≡ laid_at ts k
-    kept k a e = of (set_cases ts n k (Some x))
-      where
-        of : ((k ≡ n) × (laid_at us k ≡ Some x)) ⊎ (laid_at us k ≡ laid_at ts k) → laid_at us k ≡ laid_at ts k
-        of (inr same) = same
-        of (inl is) = let f = sym e ∙ ap (λ (z : ℕ). cost_at ts z) is.0 ∙ ap cost_of none in absurd cc
+    grows : Grows ts us
+    grows = put_grows ts k (Some x) none
 
-    still : (m c : ℕ) → known_worth (cost_at ts) (net.price m) ≡ Some c → known_worth (cost_at us) (net.price m) ≡ Some c
-    still m c e =
-        known_same (cost_at us) (cost_at ts) (net.price m)
-        (nodes_map (λ (k : ℕ). (a : ℕ) × (cost_at ts k ≡ Some a)) (λ (k : ℕ). cost_at us k ≡ cost_at ts k) (λ k h. ap cost_of (kept k h.0 h.1)) (net.price m) (all_known (cost_at ts) (net.price m) c e)) ∙ e
+    here : (m : NodeKey) → m ≡ k → kept m → known_worth (told (cost_in ts)) (price m) ≡ Ok cost
+    here m is has = subst (λ (j : NodeKey). kept j → known_worth (told (cost_in ts)) (price j) ≡ Ok cost) (sym is) comes has
 
-    one : (a b : Laid) → Some a ≡ Some b → a ≡ b
-    one a b e = cc
+    each : (m : NodeKey) (y : Laid) → kept m → laid_in us m ≡ Some y → ((m ≡ k) × (place_in us m ≡ Some (Some x))) ⊎ (place_in us m ≡ place_in ts m) → known_worth (told (cost_in us)) (price m) ≡ Ok y.cost
+    each m y has e (inl is) =
+        still ts us (price m) y.cost grows (here m is.0 has ∙ ap (λ (z : Laid). Ok z.cost) (one x y (sym (ap held is.1) ∙ e)))
+    each m y has e (inr same) = still ts us (price m) y.cost grows (layers.comes m y has (sym (ap held same) ∙ e))
 
-    each : (m : ℕ) (y : Laid) → laid_at us m ≡ Some y → ((m ≡ n) × (laid_at us m ≡ Some x)) ⊎ (laid_at us m ≡ laid_at ts m) → known_worth (cost_at us) (net.price m) ≡ Some y.cost
-    each m y e (inl is) = still m y.cost (ap (λ (z : ℕ). known_worth (cost_at ts) (net.price z)) is.0 ∙ comes ∙ ap (λ (z : Laid). Some z.cost) (one x y (sym is.1 ∙ e)))
-    each m y e (inr same) = still m y.cost (right.each m y (sym same ∙ e))
+    lower : (r : ℕ) → r ≡ next → (j : NodeKey) → (a : ℕ) × (cost_in ts j ≡ Some a) → IsLower (laid_in us j) r
+    lower r is j known =
+        let h = cost_laid (laid_in ts j) known.0 known.1 in
+        subst (λ (o : Option Laid). IsLower o r) (sym (grows.stays j h.0 h.1)) (subst (λ (n : ℕ). h.0.rank < n) (sym is) (below.each j h.0 h.1))
 
-    falls : (m : ℕ) (y : Laid) → laid_at us m ≡ Some y → ((m ≡ n) × (laid_at us m ≡ Some x)) ⊎ (laid_at us m ≡ laid_at ts m) → Nodes (λ k. (z : Laid) → laid_at us k ≡ Some z → z.rank < y.rank) (net.price m)
-    falls m y e (inl is) =
-        nodes_map (λ (k : ℕ). (a : ℕ) × (cost_at ts k ≡ Some a)) (λ (k : ℕ). (z : Laid) → laid_at us k ≡ Some z → z.rank < y.rank)
-        (λ k h z f. subst (λ (r : ℕ). z.rank < r) (ap (λ (w : Laid). w.rank) (one x y (sym is.1 ∙ e))) (right.below k z (sym (kept k h.0 h.1) ∙ f))) (net.price m)
-        (all_known (cost_at ts) (net.price m) cost (ap (λ (z : ℕ). known_worth (cost_at ts) (net.price z)) is.0 ∙ comes))
-    falls m y e (inr same) =
-        nodes_map (λ (k : ℕ). ((a : ℕ) × (cost_at ts k ≡ Some a)) × ((z : Laid) → laid_at ts k ≡ Some z → z.rank < y.rank)) (λ (k : ℕ). (z : Laid) → laid_at us k ≡ Some z → z.rank < y.rank)
-        (λ k h z f. h.1 z (sym (kept k h.0.0 h.0.1) ∙ f)) (net.price m)
-        (nodes_both (λ (k : ℕ). (a : ℕ) × (cost_at ts k ≡ Some a)) (λ (k : ℕ). (z : Laid) → laid_at ts k ≡ Some z → z.rank < y.rank) (net.price m)
-        (all_known (cost_at ts) (net.price m) y.cost (right.each m y (sym same ∙ e))) (right.falls m y (sym same ∙ e)))
+    falls : (m : NodeKey) (y : Laid) → kept m → laid_in us m ≡ Some y → ((m ≡ k) × (place_in us m ≡ Some (Some x))) ⊎ (place_in us m ≡ place_in ts m) → Nodes (λ j. IsLower (laid_in us j) y.rank) (price m)
+    falls m y has e (inl is) =
+        nodes_map (λ (j : NodeKey). (a : ℕ) × (cost_in ts j ≡ Some a)) (λ (j : NodeKey). IsLower (laid_in us j) y.rank)
+        (lower y.rank (ap (λ (z : Laid). z.rank) (one y x (sym e ∙ ap held is.1)))) (price m) (all_known (cost_in ts) (price m) cost (here m is.0 has))
+    falls m y has e (inr same) =
+        nodes_map (λ (j : NodeKey). IsLower (laid_in ts j) y.rank) (λ (j : NodeKey). IsLower (laid_in us j) y.rank)
+        (λ j low. lower_kept (laid_in ts j) (laid_in us j) y.rank (grows.stays j) low) (price m) (layers.falls m y has (sym (ap held same) ∙ e))
 
-    below : (m : ℕ) (y : Laid) → laid_at us m ≡ Some y → ((m ≡ n) × (laid_at us m ≡ Some x)) ⊎ (laid_at us m ≡ laid_at ts m) → y.rank < next + 1
-    below m y e (inl is) =
-        let same : next ≡ y.rank = ap (λ (w : Laid). w.rank) (one x y (sym is.1 ∙ e)) in
-        omega (arith, same)
-    below m y e (inr same) =
-        let less : y.rank < next = right.below m y (sym same ∙ e) in
-        omega (arith, less)
+pub noted_layers : (price : NodeKey → Price NodeKey) (kept : NodeKey → Type 0) (old new : Places) (k : NodeKey) (cost : ℕ) →
+    AreLayers price kept old → laid_in old k ≡ None → (kept k → known_worth (told (cost_in old)) (price k) ≡ Ok cost) → IsNoted old new k cost → AreLayers price kept new
+noted_layers price kept old new k cost layers none comes noted =
+    subst (λ (ts : Places). AreLayers price kept ts) (sym noted.now) (put_layers price kept old k cost noted.rank layers none noted.below comes)
 
-pub noted : (net : Net) (old new : List (Option Laid)) (next after node cost : ℕ) (look : Option ℕ) → IsRight net old next → node < net.count → look ≡ cost_at old node → is_some look ≡ false → known_worth (cost_at old) (net.price node) ≡ Some cost → new ≡ slice_set old node (Some (record { cost = cost; rank = next })) → after ≡ next + 1 → IsRight net new after
-noted net old new next after node cost look right less e f comes is then =
-    subst (λ (a : ℕ). IsRight net new a) (sym then)
-    (subst (λ (ts : List (Option Laid)). IsRight net ts (next + 1)) (sym is) (noted_right net old next node cost right less (not_known (laid_at old node) look e f) comes))
-
--- rounds
-
-pub closed_none : (net : Net) (ts : List (Option Laid)) (x : Bool) → IsClosed net ts 0 x
-closed_none net ts x = record { each = λ e k less. absurd (omega (arith, less)) }
-
-pub closed_true : (net : Net) (ts : List (Option Laid)) (n : ℕ) → IsClosed net ts n true
-closed_true net ts n = record { each = λ e. absurd cc }
-
-pub closed_more : (net : Net) (ts us : List (Option Laid)) (n : ℕ) (x : Bool) → IsStep ts us x → IsClosed net ts n x → Waits net us n false → IsClosed net ts (n + 1) x
-closed_more net ts us n x step closed waits = record { each = λ e k less none. of e k none (below_cases k n less) }
+noted_less : (old new : Places) (k : NodeKey) (cost : ℕ) → laid_in old k ≡ None → IsNoted old new k cost → has_place old k ≡ true → left new < left old
+noted_less old new k cost none noted has = by (place_in old k) refl none has
   where
-    of : x ≡ false → (k : ℕ) → laid_at ts k ≡ None → (k < n) ⊎ (k ≡ n) → known_worth (cost_at ts) (net.price k) ≡ None
-    of e k none (inl less) = closed.each e k less none
-    of e k none (inr is) =
-        let same : us ≡ ts = step.same e in
-        subst (λ (zs : List (Option Laid)). known_worth (cost_at zs) (net.price k) ≡ None) same
-        (ap (λ (z : ℕ). known_worth (cost_at us) (net.price z)) is
-        ∙ waits.waits refl (ap (λ (z : ℕ). laid_at us z) (sym is) ∙ ap (λ (zs : List (Option Laid)). laid_at zs k) same ∙ none))
+    x : Laid
+    x = record { cost = cost; rank = noted.rank }
 
-pub closed_now : (net : Net) (ts us : List (Option Laid)) → IsStep ts us false → IsClosed net ts net.count false → IsClosed net us net.count false
-closed_now net ts us step closed = subst (λ (zs : List (Option Laid)). IsClosed net zs net.count false) (sym (step.same refl)) closed
+    by : (o : Option (Option Laid)) → place_in old k ≡ o → held o ≡ None → is_some o ≡ true → left new < left old
+    by None e h some = absurd cc
+    by (Some (Some y)) e h some = absurd cc
+    by (Some None) e h some =
+        let put = put_old old k None (Some x) e in
+        let long : length new ≡ length old = ap (λ (ts : Places). length ts) noted.now ∙ put.0 in
+        let same : free new ≡ free (insert_entry same_key old k (Some x)) = ap (λ (ts : Places). free ts) noted.now in
+        let fewer = put.1 in
+        fall (length old) (length new) (free old) (free new) (free (insert_entry same_key old k (Some x))) long same fewer
+      where
+        fall : (a b c d f : ℕ) → b ≡ a → d ≡ f → 1 + f ≡ 0 + c → 2 * (2 ^ 64 - b) + d < 2 * (2 ^ 64 - a) + c
+        fall a b c d f long same fewer = omega (arith, long, same, fewer)
 
--- the end
+pub settled_noted : (price : NodeKey → Price NodeKey) (kept : NodeKey → Type 0) (old new : Places) (k : NodeKey) (cost : ℕ) → laid_in old k ≡ None → IsNoted old new k cost → IsSettled price kept old new k None
+settled_noted price kept old new k cost none noted = record {
+  less = λ t has. noted_less old new k cost none noted has;
+  same = λ j e. absurd cc;
+  waits = λ j e has. absurd cc;
+}
 
-pub all_layers : (net : Net) (ts : List (Option Laid)) (next : ℕ) → IsRight net ts next → AreLaid ts net.count → AreLayers net ts
-all_layers net ts next right laid = record {
-  size = right.size;
-  known = λ n less. let h = laid.each n less in (h.0, h.1, right.each n h.0 h.1);
-  layering = λ n less. falls n (laid.each n less);
+pub settled_waits : (price : NodeKey → Price NodeKey) (kept : NodeKey → Type 0) (ts : Places) (k j : NodeKey) → (kept k → known_worth (told (cost_in ts)) (price k) ≡ Err j) → IsSettled price kept ts ts k (Some j)
+settled_waits price kept ts k j waits = record {
+  less = λ e has. absurd cc;
+  same = λ i e. refl;
+  waits = λ i e has. waits has ∙ ap Err (same i e);
 }
   where
-    found : (o : Option Laid) (a : ℕ) → cost_of o ≡ Some a → (r : ℕ) → ((z : Laid) → o ≡ Some z → z.rank < r) → rank_of o < r
-    found None a e r h = absurd cc
-    found (Some z) a e r h = h z refl
+    same : (i : NodeKey) → Some j ≡ Some i → j ≡ i
+    same i e = cc
 
-    falls : (n : ℕ) → (x : Laid) × (laid_at ts n ≡ Some x) → Nodes (λ k. rank_at ts k < rank_at ts n) (net.price n)
-    falls n (x, e) =
-        nodes_map (λ (k : ℕ). ((a : ℕ) × (cost_at ts k ≡ Some a)) × ((z : Laid) → laid_at ts k ≡ Some z → z.rank < x.rank)) (λ (k : ℕ). rank_at ts k < rank_at ts n)
-        (λ k h. subst (λ (r : ℕ). rank_at ts k < r) (sym (ap rank_of e)) (found (laid_at ts k) h.0.0 h.0.1 x.rank h.1)) (net.price n)
-        (nodes_both (λ (k : ℕ). (a : ℕ) × (cost_at ts k ≡ Some a)) (λ (k : ℕ). (z : Laid) → laid_at ts k ≡ Some z → z.rank < x.rank) (net.price n)
-        (all_known (cost_at ts) (net.price n) x.cost (right.each n x e)) (right.falls n x e))
+-- STEPS
 
-pub none_layered : (net : Net) (ts : List (Option Laid)) (n : ℕ) → IsFit net → IsClosed net ts net.count false → n < net.count → laid_at ts n ≡ None → NoneLayered net
-none_layered net ts n fit closed less none = record { none = λ rank l. down rank l (suc (rank n)) n less none (omega arith) }
+pub same_step : (ts : Places) → IsStep ts ts false
+same_step ts = record { less = λ e. absurd cc; no_more = omega arith; same = λ e. refl }
+
+less_step : (old new : Places) → left new < left old → IsStep old new true
+less_step old new less = record { less = λ e. less; no_more = weak (left new) (left old) less; same = λ e. absurd cc }
   where
-    down : (rank : ℕ → ℕ) → IsLayering net rank → (b m : ℕ) → m < net.count → laid_at ts m ≡ None → rank m < b → false ≡ true
-    down rank l zero m within none below = absurd (omega (arith, below))
-    down rank l (suc b) m within none below =
-        next (down rank l b) (one_waits (λ (k : ℕ). (k < net.count) × (rank k < rank m)) (cost_at ts) (net.price m)
-        (nodes_both (λ (k : ℕ). k < net.count) (λ (k : ℕ). rank k < rank m) (net.price m) (fit.each m within) (l m within)) (closed.each refl m within none))
-      where
-        next : ((m : ℕ) → m < net.count → laid_at ts m ≡ None → rank m < b → false ≡ true) → (k : ℕ) × ((k < net.count) × (rank k < rank m)) × (cost_at ts k ≡ None) → false ≡ true
-        next f (k, h, e) =
-            let less = h.1 in
-            f k h.0 (none_cost (laid_at ts k) e) (omega (arith, less, below))
+    weak : (a b : ℕ) → a < b → a ≤ b
+    weak a b h = omega (arith, h)
 
-pub none_found : (net : Net) (ts : List (Option Laid)) (n : ℕ) (found : Option ℕ) → IsFit net → IsClosed net ts net.count false → n ≡ net.count → IfSome found (λ k. (k < n) × (laid_at ts k ≡ None)) → IsSome found → NoneLayered net
-none_found net ts n None fit closed is h some = absurd cc
-none_found net ts n (Some k) fit closed is h some = none_layered net ts k fit closed (subst (λ (m : ℕ). k < m) is h.0) h.1
-
-laid_within : (ts : List (Option Laid)) (k : ℕ) (a : ℕ) → cost_at ts k ≡ Some a → k < length ts
-laid_within [] k a e = absurd cc
-laid_within (x ∷ ts) zero a e = omega arith
-laid_within (x ∷ ts) (suc k) a e = let less = laid_within ts k a e in omega (arith, less)
-
--- where a price comes to something, all that it counts is there
-pub within_all : (ts : List (Option Laid)) (n c : ℕ) (p : Price ℕ) → length ts ≡ n → known_worth (cost_at ts) p ≡ Some c → Nodes (λ k. k < n) p
-within_all ts n c p size e =
-    nodes_map (λ (k : ℕ). (a : ℕ) × (cost_at ts k ≡ Some a)) (λ (k : ℕ). k < n)
-    (λ k h. subst (λ (m : ℕ). k < m) size (laid_within ts k h.0 h.1)) p (all_known (cost_at ts) p c e)
-
-pub layers_fit : (net : Net) (ts : List (Option Laid)) → AreLayers net ts → IsFit net
-layers_fit net ts layers = record { each = λ n less. let h = layers.known n less in within_all ts net.count h.0.cost (net.price n) layers.size h.2 }
-
--- nodes up to this one count what is there
-abbrev pub FitTo : Net → ℕ → Type 0
-FitTo net n = (k : ℕ) → k < n → Nodes (λ j. j < net.count) (net.price k)
-
-some_worth : (o : Option ℕ) → is_some o ≡ true → (c : ℕ) × (o ≡ Some c)
-some_worth None e = absurd cc
-some_worth (Some c) e = (c, refl)
-
-all_length : {X : Type 0} (n : ℕ) (x : X) → length (replicate n x) ≡ n
-all_length zero x = refl
-all_length (suc n) x = ap suc (all_length n x)
-
-pub fit_more : (net : Net) (ts : List (Option Laid)) (count n : ℕ) (x : Option Laid) (found : Option ℕ) → ts ≡ replicate count x → count ≡ net.count → FitTo net n → found ≡ known_worth (cost_at ts) (net.price n) → is_some found ≡ true → FitTo net (n + 1)
-fit_more net ts count n x found is same fit e some k less = of k (below_cases k n less)
+pub step_true : (a b c : Places) (x : Bool) → IsStep a b x → IsStep b c true → IsStep a c true
+step_true a b c x s t = less_step a c (down (left a) (left b) (left c) s.no_more (t.less refl))
   where
-    size : length ts ≡ net.count
-    size = ap (λ (us : List (Option Laid)). length us) is ∙ all_length count x ∙ same
+    down : (l m n : ℕ) → m ≤ l → n < m → n < l
+    down l m n h k = omega (arith, h, k)
 
-    of : (k : ℕ) → (k < n) ⊎ (k ≡ n) → Nodes (λ j. j < net.count) (net.price k)
-    of k (inl h) = fit k h
-    of k (inr h) =
-        let w = some_worth found some in
-        subst (λ (m : ℕ). Nodes (λ j. j < net.count) (net.price m)) (sym h) (within_all ts net.count w.0 (net.price n) size (sym e ∙ w.1))
+pub step_false : (a b c : Places) (x : Bool) → IsStep a b x → IsStep b c false → IsStep a c x
+step_false a b c x s t = subst (λ (z : Places). IsStep a z x) (sym (t.same refl)) s
 
-pub fit_none : (net : Net) → FitTo net 0
-fit_none net k less = absurd (omega (arith, less))
+pub settled_step : (price : NodeKey → Price NodeKey) (kept : NodeKey → Type 0) (old new : Places) (k : NodeKey) → IsSettled price kept old new k None → has_place old k ≡ true → IsStep old new true
+settled_step price kept old new k settled has = less_step old new (settled.less refl has)
 
-pub fit_all : (net : Net) (count n : ℕ) → FitTo net n → count ≤ n → count ≡ net.count → IsFit net
-fit_all net count n fit past same = record { each = λ k less. fit k (lower k less) }
+placed_step : (old new : Places) (k : NodeKey) (given : Bool) → IsPlaced old new k given → IsStep old new given
+placed_step old new k false placed = subst (λ (ts : Places). IsStep old ts false) (sym (placed.same refl)) (same_step old)
+placed_step old new k true placed =
+    let put = put_new old k None (placed.none refl) in
+    less_step old new (fall (length old) (length new) (free old) (free new) (ap (λ (ts : Places). length ts) (placed.now refl) ∙ put.0) (ap (λ (ts : Places). free ts) (placed.now refl) ∙ put.1) placed.short)
   where
-    lower : (k : ℕ) → k < net.count → k < n
-    lower k less = omega (arith, less, past, same)
+    fall : (a b c d : ℕ) → b ≡ suc a → d ≡ 1 + c → b < 2 ^ 63 → 2 * (2 ^ 64 - b) + d < 2 * (2 ^ 64 - a) + c
+    fall a b c d long more short = omega (arith, long, more, short)
 
-all_there : (n k : ℕ) (x : Laid) → k < n → cost_at (replicate n (Some x)) k ≡ None → false ≡ true
-all_there zero k x less e = absurd (omega (arith, less))
-all_there (suc n) zero x less e = absurd cc
-all_there (suc n) (suc k) x less e = all_there n k x (omega (arith, less)) e
+pub waits_step : (price : NodeKey → Price NodeKey) (kept : NodeKey → Type 0) (old mid new : Places) (k j : NodeKey) (given : Bool) (next : Option NodeKey) → next ≡ Some j → IsSettled price kept old mid k next → IsPlaced mid new j given → IsStep old new given
+waits_step price kept old mid new k j given next is settled placed =
+    subst (λ (ts : Places). IsStep ts new given) (settled.same j is) (placed_step mid new j given placed)
 
-pub unfit : (net : Net) (ts : List (Option Laid)) (count n : ℕ) (x : Laid) (found : Option ℕ) → ts ≡ replicate count (Some x) → count ≡ net.count → n < count → found ≡ known_worth (cost_at ts) (net.price n) → found ≡ None → IsUnfit net
-unfit net ts count n x found is same less e none = record {
-  none = λ fit.
-      by (one_waits (λ (k : ℕ). k < net.count) (cost_at ts) (net.price n) (fit.each n (subst (λ (m : ℕ). n < m) same less)) (sym e ∙ none));
+-- WHAT WAITS
+
+pub waiting_true : (price : NodeKey → Price NodeKey) (kept : NodeKey → Type 0) (ts : Places) (k : NodeKey) → IsWaiting price kept ts k true
+waiting_true price kept ts k = record { waits = λ e. absurd cc }
+
+pub waiting_laid : (price : NodeKey → Price NodeKey) (kept : NodeKey → Type 0) (ts : Places) (k : NodeKey) (o : Option Laid) → o ≡ laid_in ts k → is_some o ≡ true → IsWaiting price kept ts k false
+waiting_laid price kept ts k o e some = record { waits = λ t has none. let never = sym some ∙ ap is_some e ∙ ap is_some none in absurd cc }
+
+pub waiting_placed : (price : NodeKey → Price NodeKey) (kept : NodeKey → Type 0) (old mid new : Places) (k j : NodeKey) (given : Bool) → IsSettled price kept old mid k (Some j) → IsPlaced mid new j given → IsWaiting price kept old k given
+waiting_placed price kept old mid new k j given settled placed = record {
+  waits = λ e has none.
+      (j, settled.waits j refl has, subst (λ (ts : Places). has_place ts j ≡ true) (placed.same e ∙ settled.same j refl) placed.there);
+}
+
+pub waiting_at : (price : NodeKey → Price NodeKey) (kept : NodeKey → Type 0) (ts : Places) (n : ℕ) (k : NodeKey) (changed : Bool) → key_at ts n ≡ Some k → IsWaiting price kept ts k changed → IsWaitingAt price kept ts n changed
+waiting_at price kept ts n k changed e waiting = record { waits = λ t j f. subst (λ (i : NodeKey). kept i → laid_in ts i ≡ None → Waits price ts i) (same j f) (waiting.waits t) }
+  where
+    same : (j : NodeKey) → key_at ts n ≡ Some j → k ≡ j
+    same j f = let both = sym e ∙ f in cc
+
+pub waiting_past : (price : NodeKey → Price NodeKey) (kept : NodeKey → Type 0) (ts : Places) (n : ℕ) (changed : Bool) → key_at ts n ≡ None → IsWaitingAt price kept ts n changed
+waiting_past price kept ts n changed e = record { waits = λ t j f. let never = sym e ∙ f in absurd cc }
+
+below_cases : (k n : ℕ) → k < n + 1 → (k < n) ⊎ (k ≡ n)
+below_cases zero zero less = inr refl
+below_cases zero (suc n) less = inl (omega arith)
+below_cases (suc k) zero less = absurd (omega (arith, less))
+below_cases (suc k) (suc n) less = more (below_cases k n (omega (arith, less)))
+  where
+    more : (k < n) ⊎ (k ≡ n) → (suc k < suc n) ⊎ (suc k ≡ suc n)
+    more (inl h) = inl (omega (arith, h))
+    more (inr h) = inr (ap suc h)
+
+pub none_waiting : (price : NodeKey → Price NodeKey) (kept : NodeKey → Type 0) (ts : Places) (changed : Bool) → AreWaiting price kept ts 0 changed
+none_waiting price kept ts changed = record { each = λ e i k less. absurd (omega (arith, less)) }
+
+pub all_changed : (price : NodeKey → Price NodeKey) (kept : NodeKey → Type 0) (ts : Places) (n : ℕ) → AreWaiting price kept ts n true
+all_changed price kept ts n = record { each = λ e. absurd cc }
+
+pub waiting_more : (price : NodeKey → Price NodeKey) (kept : NodeKey → Type 0) (ts us : Places) (n : ℕ) (changed : Bool) → IsStep ts us changed → AreWaiting price kept ts n changed → IsWaitingAt price kept us n false → AreWaiting price kept ts (n + 1) changed
+waiting_more price kept ts us n changed step waiting last = record { each = λ e i k less. of e i k (below_cases i n less) }
+  where
+    of : changed ≡ false → (i : ℕ) (k : NodeKey) → (i < n) ⊎ (i ≡ n) → key_at ts i ≡ Some k → kept k → laid_in ts k ≡ None → Waits price ts k
+    of e i k (inl less) = waiting.each e i k less
+    of e i k (inr is) =
+        subst (λ (m : ℕ). key_at ts m ≡ Some k → kept k → laid_in ts k ≡ None → Waits price ts k) (sym is)
+        (subst (λ (zs : Places). key_at zs n ≡ Some k → kept k → laid_in zs k ≡ None → Waits price zs k) (step.same e) (last.waits refl k))
+
+pub waiting_now : (price : NodeKey → Price NodeKey) (kept : NodeKey → Type 0) (ts us : Places) (n : ℕ) (changed : Bool) → IsStep ts us changed → AreWaiting price kept ts n changed → length us ≤ n → AreWaiting price kept us (length us) changed
+waiting_now price kept ts us n changed step waiting past = record {
+  each = λ e i k less.
+      subst (λ (zs : Places). key_at zs i ≡ Some k → kept k → laid_in zs k ≡ None → Waits price zs k) (sym (step.same e)) (waiting.each e i k (within i (length us) n less past));
 }
   where
-    by : (k : ℕ) × (k < net.count) × (cost_at ts k ≡ None) → false ≡ true
-    by (k, h, f) = all_there count k x (subst (λ (m : ℕ). k < m) (sym same) h) (ap (λ (us : List (Option Laid)). cost_at us k) (sym is) ∙ f)
+    within : (a b c : ℕ) → a < b → b ≤ c → a < c
+    within a b c h k = omega (arith, h, k)
+
+-- THE END
+
+-- where a key waits that is kept, and all do, there are no ranks: each waits for one of a lower rank
+pub none_ranked : (price : NodeKey → Price NodeKey) (kept : NodeKey → Type 0) (ts : Places) (k : NodeKey) → CountsKept price kept → AreWaiting price kept ts (length ts) false → kept k → has_place ts k ≡ true → laid_in ts k ≡ None → NoneRanked price kept
+none_ranked price kept ts k counted waiting has there none = record { none = λ rank falls. down rank falls (suc (rank k)) k has there none (omega arith) }
+  where
+    down : (rank : NodeKey → ℕ) → ((j : NodeKey) → kept j → Nodes (λ i. rank i < rank j) (price j)) → (b : ℕ) (j : NodeKey) → kept j → has_place ts j ≡ true → laid_in ts j ≡ None → rank j < b → ⊥
+    down rank falls zero j has there none below = omega (arith, below)
+    down rank falls (suc b) j has there none below =
+        let found = there_key ts j there in
+        let waits = waiting.each refl found.0 j found.1 found.2 has none in
+        let next = one_waits (λ (i : NodeKey). kept i × (rank i < rank j)) (cost_in ts) (price j) waits.0 (nodes_both kept (λ (i : NodeKey). rank i < rank j) (price j) (counted.each j has) (falls j has)) waits.1 in
+        down rank falls b waits.0 next.0.0 waits.2 (none_cost (laid_in ts waits.0) next.1) (lower (rank waits.0) (rank j) b next.0.1 below)
+      where
+        lower : (l m n : ℕ) → l < m → m < suc n → l < n
+        lower l m n s t = omega (arith, s, t)
+
+-- one of these that is not laid waits so
+pub none_found : (price : NodeKey → Price NodeKey) (kept : NodeKey → Type 0) (before ts : Places) (roots : List NodeKey) → CountsKept price kept → AreWaiting price kept ts (length ts) false → Grows before ts → Each kept roots → list_all (has_place before) roots ≡ true → list_all (is_laid ts) roots ≡ false → NoneRanked price kept
+none_found price kept before ts [] counted waiting grows has there none = absurd cc
+none_found price kept before ts (k ∷ ks) counted waiting grows has there none =
+    by (laid_in ts k) refl (none_found price kept before ts ks counted waiting grows has.1 (and_right (has_place before k) (list_all (has_place before) ks) there))
+  where
+    by : (o : Option Laid) → laid_in ts k ≡ o → (list_all (is_laid ts) ks ≡ false → NoneRanked price kept) → NoneRanked price kept
+    by None e behind = none_ranked price kept ts k counted waiting has.0 (grows.places k (and_left (has_place before k) (list_all (has_place before) ks) there)) e
+    by (Some x) e behind = behind (ap (λ (o : Option Laid). is_some o && list_all (is_laid ts) ks) (sym e) ∙ none)

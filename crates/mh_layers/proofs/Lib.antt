@@ -1,11 +1,10 @@
 pub mod KnownLemmas
-pub mod LaidLemmas
+pub mod PlaceLemmas
 pub mod LayingLemmas
 pub mod ExactLemmas
 pub mod NamedLemmas
 pub mod SumLemmas
 pub mod GroupedLemmas
-pub mod KeyedLemmas
 pub mod ReckonLemmas
 pub mod AgreeLemmas
 pub mod MetLemmas
@@ -17,4 +16,7 @@ pub mod KeyAgreeLemmas
 pub mod FoundLemmas
 pub mod BridgeLemmas
 pub mod RankLemmas
-pub mod NetLemmas
+pub mod NumbersLemmas
+pub mod PositionLemmas
+pub mod LinkSumLemmas
+pub mod ListeningLemmas

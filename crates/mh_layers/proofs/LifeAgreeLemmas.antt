@@ -276,7 +276,7 @@ entered_part : (c : Config) (scene : Option (List ℕ)) → c.scene ≡ scene �
 entered_part c None e = inl refl
 entered_part c (Some g) e = inr e
 
-pub enter_group : {A : Type 0} (s : Setting A) (c : Config) → reached s.flow c ≡ true → (g : List ℕ) → IsPartOf c g → Agrees s 5 (around.enter (net s c) (group_ref g) (group_parts s.service g)) (costs.enter s.service s.flow c g)
+enter_group : {A : Type 0} (s : Setting A) (c : Config) → reached s.flow c ≡ true → (g : List ℕ) → IsPartOf c g → Agrees s 5 (around.enter (net s c) (group_ref g) (group_parts s.service g)) (costs.enter s.service s.flow c g)
 unfolding around.enter
 enter_group s c here g is =
     agrees_then s 5

@@ -11,11 +11,11 @@ use Rattle.mh_laws.specs.Layers.{IsOn, most_of}
 use Rattle.mh_laws.specs.Price.{Price, Nothing, counted_in, Nodes}
 use Rattle.mh_laws.proofs.PriceLemmas.{nodes_both, nodes_map, nodes_of, of_nodes}
 use Rattle.mh_layers.specs.Around.{Key, Effect, Fired, Entry, Change, Leave, Enter}
-use Rattle.mh_layers.specs.Bridge.{LayersAreRanks, RanksAreLayers, key_of, key_rank}
+use Rattle.mh_layers.specs.Bridge.{IsHad, LayersAreRanks, RanksAreLayers, key_of, key_rank}
 use Rattle.mh_layers.specs.Keys.{Heard, IsKept, IsMet, level, price_of, stands_for}
 use Rattle.mh_layers.proofs.AgreeLemmas.{IsLow}
 use Rattle.mh_layers.proofs.BridgeLemmas.{counted_is_met, met_kept, set}
-use Rattle.mh_layers.proofs.KeyAgreeLemmas.{IsOther, effect_agrees, key_agrees, on_is, on_or_nothing}
+use Rattle.mh_layers.proofs.KeyAgreeLemmas.{IsOther, effect_agrees, key_agrees, on_kept, on_or_nothing}
 use Rattle.mh_layers.proofs.ReckonLemmas.{by_test, nodes_pass, pass_nodes, reckon}
 
 -- a key is an effect's, or another
@@ -40,7 +40,7 @@ yes_lower a b e = (Decides-ltb a b).0 e
 -- Ranks of keys make a layering
 
 pub ranks_are_layers : RanksAreLayers
-ranks_are_layers v w h read place count rank ranked x y on causes =
+ranks_are_layers v w h read has rank ranked x y on causes =
     let all = nodes_pass (λ j. reckon by_test under (stands_for v w j)) (price_of v w h (key_of x)) inner in
     yes_lower (rank (key_of y)) (rank (key_of x))
     (of_nodes (λ z. under z ≡ true) (costs.effect_price v w x) (pass_nodes under (costs.effect_price v w x) (sym (effect_agrees (set by_test under v w h read) x on).same ∙ all)) y causes)
@@ -48,36 +48,36 @@ ranks_are_layers v w h read place count rank ranked x y on causes =
     under : costs.Effect → Bool
     under z = nat_lt (rank (key_of z)) (rank (key_of x))
 
-    down : (b : ℕ) (k : Key) → place k < count → IsMet v w h k → rank k < b → rank k < rank (key_of x) → Under v w (λ z. rank (key_of z)) (rank (key_of x)) k
-    down zero k has met less low = absurd (omega (arith, less))
-    down (suc b) k has met less low = by (effect_or_other k) (down b)
+    down : (b : ℕ) (k : Key) → has k ≡ true → IsMet v w h k → rank k < b → rank k < rank (key_of x) → Under v w (λ z. rank (key_of z)) (rank (key_of x)) k
+    down zero k here met less low = absurd (omega (arith, less))
+    down (suc b) k here met less low = by (effect_or_other k) (down b)
       where
         lower : (l m n : ℕ) → l < m → m < suc n → l < n
         lower l m n s t = omega (arith, s, t)
 
-        by : ((z : costs.Effect) × (k ≡ key_of z)) ⊎ IsOther k → ((j : Key) → place j < count → IsMet v w h j → rank j < b → rank j < rank (key_of x) → Under v w (λ z. rank (key_of z)) (rank (key_of x)) j) → Under v w (λ z. rank (key_of z)) (rank (key_of x)) k
+        by : ((z : costs.Effect) × (k ≡ key_of z)) ⊎ IsOther k → ((j : Key) → has j ≡ true → IsMet v w h j → rank j < b → rank j < rank (key_of x) → Under v w (λ z. rank (key_of z)) (rank (key_of x)) j) → Under v w (λ z. rank (key_of z)) (rank (key_of x)) k
         by (inl (z, is)) behind =
             subst (λ (j : Key). Under v w (λ z. rank (key_of z)) (rank (key_of x)) j) (sym is)
             (lower_yes (rank (key_of z)) (rank (key_of x)) (subst (λ (j : Key). rank j < rank (key_of x)) is low))
         by (inr other) behind =
             sym (key_agrees (set by_test under v w h read) k other (met_kept v w h read k met)).same
             ∙ nodes_pass (λ j. reckon by_test under (stands_for v w j)) (price_of v w h k)
-            (nodes_map (λ (j : Key). ((place j < count) × (rank j < rank k)) × IsMet v w h j) (λ (j : Key). reckon by_test under (stands_for v w j) ≡ true)
-            (λ j l. behind j l.0.0 l.1 (lower (rank j) (rank k) b l.0.1 less) (between (rank j) (rank k) (rank (key_of x)) l.0.1 low)) (price_of v w h k)
-            (nodes_both (λ (j : Key). (place j < count) × (rank j < rank k)) (IsMet v w h) (price_of v w h k) (ranked.falls k has) (counted_is_met v w h read k (met_kept v w h read k met))))
+            (nodes_map (λ (j : Key). (IsHad v w h has j × (rank j < rank k)) × IsMet v w h j) (λ (j : Key). reckon by_test under (stands_for v w j) ≡ true)
+            (λ j l. behind j l.0.0.0 l.1 (lower (rank j) (rank k) b l.0.1 less) (between (rank j) (rank k) (rank (key_of x)) l.0.1 low)) (price_of v w h k)
+            (nodes_both (λ (j : Key). IsHad v w h has j × (rank j < rank k)) (IsMet v w h) (price_of v w h k) (ranked.falls k (here, met_kept v w h read k met)) (counted_is_met v w h read k (met_kept v w h read k met))))
           where
             between : (l m n : ℕ) → l < m → m < n → l < n
             between l m n s t = omega (arith, s, t)
 
     here : IsKept v w h (key_of x)
-    here = (on_is (set by_test under v w h read) x on).here
+    here = on_kept (set by_test under v w h read) x on
 
     inner : Nodes (λ j. reckon by_test under (stands_for v w j) ≡ true) (price_of v w h (key_of x))
     inner =
-        nodes_map (λ (j : Key). ((place j < count) × (rank j < rank (key_of x))) × IsMet v w h j) (λ (j : Key). reckon by_test under (stands_for v w j) ≡ true)
-        (λ j l. down (rank (key_of x)) j l.0.0 l.1 l.0.1 l.0.1) (price_of v w h (key_of x))
-        (nodes_both (λ (j : Key). (place j < count) × (rank j < rank (key_of x))) (IsMet v w h) (price_of v w h (key_of x))
-        (ranked.falls (key_of x) (ranked.effects x y on causes)) (counted_is_met v w h read (key_of x) here))
+        nodes_map (λ (j : Key). (IsHad v w h has j × (rank j < rank (key_of x))) × IsMet v w h j) (λ (j : Key). reckon by_test under (stands_for v w j) ≡ true)
+        (λ j l. down (rank (key_of x)) j l.0.0.0 l.1 l.0.1 l.0.1) (price_of v w h (key_of x))
+        (nodes_both (λ (j : Key). IsHad v w h has j × (rank j < rank (key_of x))) (IsMet v w h) (price_of v w h (key_of x))
+        (ranked.falls (key_of x) (ranked.effects x y on causes, here)) (counted_is_met v w h read (key_of x) here))
 
 -- A layering ranks keys
 
@@ -164,7 +164,7 @@ layers_are_ranks v w h read rank layering k kept = by (effect_or_other k)
     by : ((x : costs.Effect) × (k ≡ key_of x)) ⊎ IsOther k → Nodes (λ j. key_rank v w rank j < key_rank v w rank k) (price_of v w h k)
     by (inl (x, is)) =
         subst (λ (i : Key). Nodes (λ j. key_rank v w rank j < key_rank v w rank i) (price_of v w h i)) (sym is)
-        (effect x (on_or_nothing (set by_test any v w h read) x.config x.object x.number (subst (λ (i : Key). IsKept v w h i) is kept)))
+        (effect x (on_or_nothing (set by_test any v w h read) x.config x.object x.number (subst (λ (i : Key). IsKept v w h i) is kept).0))
     by (inr other) =
         let agrees = key_agrees (set by_test (λ y. nat_lt (rank y) (above v w rank k)) v w h read) k other kept in
         subst (λ (m : ℕ). Nodes (λ j. key_rank v w rank j < m) (price_of v w h k)) (sym (other_rank v w rank k other))

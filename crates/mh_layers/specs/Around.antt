@@ -136,23 +136,15 @@ drop_price a r = Plus One (plain_emit a r event.IsDeleted)
 
 -- Groups
 
-abbrev pub run_if_active : Around → Fixed → Price Key
-run_if_active a p = if_price (is_initially_active p) (run a p.key)
-
 abbrev pub all_run : Around → List Fixed → Price Key
-all_run a ps = sum_from (run_if_active a) Nothing ps
-
-abbrev pub halt_if_runnable : Around → Fixed → Price Key
-halt_if_runnable a p = if_price (is_runnable p.class) (halt a p.key)
+all_run a ps = sum_from (λ (p : Fixed). if_price (is_initially_active p) (run a p.key)) Nothing ps
 
 abbrev pub all_halted : Around → List Fixed → Price Key
-all_halted a ps = sum_from (halt_if_runnable a) Nothing ps
-
-abbrev pub halt_if_unshared : Around → Fixed → Price Key
-halt_if_unshared a p = if_price (is_runnable p.class && not (is_shared p)) (halt a p.key)
+all_halted a ps = sum_from (λ (p : Fixed). if_price (is_runnable p.class) (halt a p.key)) Nothing ps
 
 abbrev pub unshared_halted : Around → List Fixed → Price Key
-unshared_halted a ps = sum_from (halt_if_unshared a) Nothing ps
+unshared_halted a ps =
+    sum_from (λ (p : Fixed). if_price (is_runnable p.class && not (is_shared p)) (halt a p.key)) Nothing ps
 
 -- a group of these parts is entered
 unfoldable pub enter : Around → ObjRef → List Fixed → Price Key

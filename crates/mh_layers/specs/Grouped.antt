@@ -30,5 +30,4 @@ abbrev pub SumsByData : Type 0 → Type 0 → Type 0
 SumsByData X V =
     (same : V → V → Bool) («data» : X → Option V) (cost : X → ℕ) (xs : List X) (vs : List V) →
     most_of (λ m. sum_of (λ x. only (hears same («data» x) m) (cost x)) xs) (None ∷ map Some vs)
-    ≡ sum_of (λ x. only (is_plain («data» x)) (cost x)) xs
-    + most_of (λ v. sum_of (λ x. only (has same v («data» x)) (cost x)) xs) vs
+    ≡ sum_of (λ x. only (is_plain («data» x)) (cost x)) xs + most_of (λ v. sum_of (λ x. only (has same v («data» x)) (cost x)) xs) vs

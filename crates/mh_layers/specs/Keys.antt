@@ -78,20 +78,11 @@ fired_at c r kind Any = Node (Fired c r kind Any)
 abbrev pub fired_if_there : Service → Config → ObjRef → EventType → Hearing → Price Key
 fired_if_there v c r kind g = if_price (is_there r (present v c)) (fired_at c r kind g)
 
--- an event that is dealt with at once, and one that waits, with what is heard of it: where no link hears it, it sets nothing
--- going, and is only taken
-
-abbrev pub fired_told : Config → ObjRef → EventType → Told → Option (List Value) → Price Key
-fired_told c r kind d None = Nothing
-fired_told c r kind d (Some xs) = fired_at c r kind (hearing xs d)
-
-abbrev pub entry_told : ObjRef → EventType → Told → Option (List Value) → Price Key
-entry_told r kind d None = One
-entry_told r kind d (Some xs) = Node (Entry r kind (hearing xs d))
-
-abbrev pub dealt_with : Service → Config → ObjRef → EventType → Told → Option (List Value) → Price Key
-dealt_with v c r kind d o =
-    if is_sync kind then if_price (is_there r (present v c)) (fired_told c r kind d o) else entry_told r kind d o
+-- an event is dealt with at once, or waits; where no link hears it, it is only taken
+abbrev pub heard_with : Service → Config → ObjRef → EventType → Told → Option (List Value) → Price Key
+heard_with v c r kind d None = if is_sync kind then Nothing else One
+heard_with v c r kind d (Some xs) =
+    if is_sync kind then fired_if_there v c r kind (hearing xs d) else Node (Entry r kind (hearing xs d))
 
 -- a link has no slots
 abbrev pub slot_count : Fixed → ℕ
@@ -101,7 +92,7 @@ slot_count p = if is_link p.class then 0 else length (slots_of p)
 abbrev pub around_lists : Service → Flow → Heard → Config → Around
 around_lists v w h c = record {
   part = λ r. part_at r (present v c);
-  dealt_with = λ r kind d. dealt_with v c r kind d (h r kind);
+  dealt_with = λ r kind d. heard_with v c r kind d (h r kind);
   effect = λ r n. if_price (is_there r (present v c)) (Node (Effect c r n));
   slots = λ r. option_map_or slot_count (part_at r (present v c)) 0;
   set = w.sets c;
@@ -121,8 +112,7 @@ net_around v w h c = record (around_lists v w h c) {
 -- the links that wait for an event and whose data is so
 abbrev pub links_with : Service → Config → ObjRef → EventType → (Option Value → Bool) → Price Key
 links_with v c r kind is =
-    sum_from (λ (p : Fixed). if_price (waits_for r kind p && is (data_of p)) (Node (Effect c p.key costs.link_effect))) Nothing
-    (present v c)
+    sum_from (λ (p : Fixed). if_price (waits_for r kind p && is (data_of p)) (Node (Effect c p.key costs.link_effect))) Nothing (present v c)
 
 abbrev pub values : Option (List Value) → List Value
 values None = []
@@ -171,8 +161,7 @@ price_of v w h (Enter c) =
 
 abbrev pub bucket : Service → Config → ObjRef → EventType → Value → Price costs.Effect
 bucket v c r kind x =
-    sum_price (λ (p : Fixed). if_price (waits_for r kind p && has same_value x (data_of p)) (costs.effect c costs.link_effect p))
-    (present v c)
+    sum_price (λ (p : Fixed). if_price (waits_for r kind p && has same_value x (data_of p)) (costs.effect c costs.link_effect p)) (present v c)
 
 abbrev pub fires : Service → Config → ObjRef → EventType → Hearing → Price costs.Effect
 fires v c r kind Plain = costs.fired v c r kind (Sure None)
@@ -211,8 +200,7 @@ is_caused (suc (suc (suc n))) p = not (is_link p.class)
 -- links wait, or its entry; a change of a list; what is done when a configuration is left or entered
 abbrev pub IsMet : Service → Flow → Heard → Key → Type 0
 IsMet v w h (Effect c r n) =
-    IsOn v w (record { config = c; object = r; number = n })
-    × (option_map_or (is_caused n) (part_at r (present v c)) false ≡ true)
+    IsOn v w (record { config = c; object = r; number = n }) × (option_map_or (is_caused n) (part_at r (present v c)) false ≡ true)
 IsMet v w h (Fired c r kind g) =
     (reached w c ≡ true) × (is_there r (present v c) ≡ true) × (is_named (h r kind) g ≡ true)
 IsMet v w h (Entry r kind g) = is_named (h r kind) g ≡ true
@@ -220,12 +208,12 @@ IsMet v w h (Change c r) = (reached w c ≡ true) × (is_list_in (present v c) r
 IsMet v w h (Leave c all) = reached w c ≡ true
 IsMet v w h (Enter c) = reached w c ≡ true
 
--- and these may have a number: those, and any other effect
+-- and these may have a number: those, and any other effect of what is there
 abbrev pub IsKept : Service → Flow → Heard → Key → Type 0
-IsKept v w h (Effect c r n) = reached w c ≡ true
+IsKept v w h (Effect c r n) = (reached w c ≡ true) × (is_there r (present v c) ≡ true)
 IsKept v w h k = IsMet v w h k
 
--- A key counts those of lower levels alone; but an effect counts all.
+-- LEVELS. A key counts those of lower levels alone; but an effect counts all.
 
 abbrev pub hearing_level : Hearing → ℕ
 hearing_level Plain = 1

@@ -1,27 +1,36 @@
--- What prices come to where the costs of some nodes are known: sums stop at the largest number of 64 bits.
-use Rattle.std.specs.Prelude.{ℕ, ◌+◌, ◌-◌, ◌^◌, Option, Some, None, max, min}
+-- What prices come to where the costs of some nodes are known: sums stop at the largest number of 64 bits, and where a
+-- node is waited for, the first of them is told.
+use Rattle.std.specs.Prelude.{ℕ, ◌+◌, ◌-◌, ◌^◌, Option, Some, None, Result, Ok, Err, max, min}
 use Rattle.mh_laws.specs.Price.{Price, Nothing, One, Node, Plus, Most}
 
 -- the largest number of 64 bits
 abbrev pub top : ℕ
 top = 2 ^ 64 - 1
 
-abbrev pub both : (ℕ → ℕ → ℕ) → Option ℕ → Option ℕ → Option ℕ
-both f None y = None
-both f (Some a) None = None
-both f (Some a) (Some b) = Some (f a b)
+abbrev pub both : {E : Type 0} → (ℕ → ℕ → ℕ) → Result ℕ E → Result ℕ E → Result ℕ E
+both f (Err e) y = Err e
+both f (Ok a) (Err e) = Err e
+both f (Ok a) (Ok b) = Ok (f a b)
 
 -- a sum that stops at the largest number
-abbrev pub added : Option ℕ → Option ℕ → Option ℕ
+abbrev pub added : {E : Type 0} → Result ℕ E → Result ℕ E → Result ℕ E
 added x y = both (λ a b. min (a + b) top) x y
 
-abbrev pub larger : Option ℕ → Option ℕ → Option ℕ
+abbrev pub larger : {E : Type 0} → Result ℕ E → Result ℕ E → Result ℕ E
 larger x y = both max x y
 
--- what a price comes to, where the costs of some nodes are known; none where one that it counts is not
-abbrev pub known_worth : {K : Type 0} → (K → Option ℕ) → Price K → Option ℕ
-known_worth f Nothing = Some 0
-known_worth f One = Some 1
+-- what a price comes to, where this is told of each node: its cost, or what is waited for; then the first of these
+abbrev pub known_worth : {K E : Type 0} → (K → Result ℕ E) → Price K → Result ℕ E
+known_worth f Nothing = Ok 0
+known_worth f One = Ok 1
 known_worth f (Node k) = f k
 known_worth f (Plus p q) = added (known_worth f p) (known_worth f q)
 known_worth f (Most p q) = larger (known_worth f p) (known_worth f q)
+
+-- what is told of a node whose cost is this, if it is known: it is waited for where it is not
+abbrev pub told_of : {K : Type 0} → K → Option ℕ → Result ℕ K
+told_of k (Some c) = Ok c
+told_of k None = Err k
+
+abbrev pub told : {K : Type 0} → (K → Option ℕ) → K → Result ℕ K
+told cost k = told_of k (cost k)

@@ -1,109 +1,164 @@
--- Nodes with prices, by number: layers, and that there are none. Layers are a cost and a rank for each node, with ranks that are
--- above those of all nodes that its price counts.
-use Rattle.std.specs.Prelude.{◌≡◌, ℕ, zero, suc, ◌+◌, ◌<◌, ◌≤◌, Bool, true, false, List, [], ◌∷◌, length, min, Option, Some, None, slice_get}
+-- Costs and ranks of keys as they are laid, and that there are no ranks.
+use Rattle.std.specs.Prelude.{◌≡◌, ℕ, zero, suc, ◌+◌, ◌*◌, ◌-◌, ◌^◌, ◌<◌, ◌≤◌, Bool, true, false, List, [], ◌∷◌, length, min, Option, Some, None, is_some, Err, Ok, slice_get}
+use Rattle.std.specs.Map.{lookup}
+use Rattle.std.specs.Option.{option_map}
+use Rattle.indexmap.specs.IndexMap.{insert_entry}
 use Rattle.mh_layers.specs.declared.costs.Laid.{Laid}
+use Rattle.mh_layers.specs.declared.node_key.NodeKey.{NodeKey}
 use Rattle.mh_laws.specs.Price.{Price, worth, Nodes}
-use Rattle.mh_layers.specs.Known.{known_worth, top}
+use Rattle.mh_layers.specs.Known.{known_worth, told, top}
+use Rattle.mh_layers.specs.NodeKeys.{same_key}
 
-pub record Net : Type 0 where
-  pub count : ℕ
-  pub price : ℕ → Price ℕ
-
--- a price counts nodes that there are
-pub record IsFit (net : Net) : Type 0 where
-  pub each : (n : ℕ) → n < net.count → Nodes (λ k. k < net.count) (net.price n)
-
--- a price counts a node that is not there
-pub record IsUnfit (net : Net) : Type 0 where
-  pub none : IsFit net → false ≡ true
+-- what is known of keys, in the order in which they got a place: cost and rank of what is laid
+abbrev pub Places : Type 0
+Places = List (NodeKey × Option Laid)
 
 abbrev pub held : Option (Option Laid) → Option Laid
 held None = None
 held (Some x) = x
 
-abbrev pub laid_at : List (Option Laid) → ℕ → Option Laid
-laid_at ts n = held (slice_get ts n)
+-- what stands at the key's place, if it has one
+abbrev pub place_in : Places → NodeKey → Option (Option Laid)
+place_in ts k = lookup (same_key k) ts
+
+abbrev pub has_place : Places → NodeKey → Bool
+has_place ts k = is_some (place_in ts k)
+
+abbrev pub laid_in : Places → NodeKey → Option Laid
+laid_in ts k = held (place_in ts k)
+
+abbrev pub is_laid : Places → NodeKey → Bool
+is_laid ts k = is_some (laid_in ts k)
 
 abbrev pub cost_of : Option Laid → Option ℕ
 cost_of None = None
 cost_of (Some x) = Some x.cost
 
-abbrev pub cost_at : List (Option Laid) → ℕ → Option ℕ
-cost_at ts n = cost_of (laid_at ts n)
-
-abbrev pub is_free : Option Laid → ℕ
-is_free None = 1
-is_free (Some x) = 0
-
-abbrev pub free : List (Option Laid) → ℕ
-free [] = 0
-free (x ∷ xs) = is_free x + free xs
-
--- what is known so far: costs are what the prices come to, ranks fall, and all are below the next one
-pub record IsRight (net : Net) (ts : List (Option Laid)) (next : ℕ) : Type 0 where
-  pub size : length ts ≡ net.count
-  pub each : (n : ℕ) (x : Laid) → laid_at ts n ≡ Some x → known_worth (cost_at ts) (net.price n) ≡ Some x.cost
-  pub falls :
-      (n : ℕ) (x : Laid) → laid_at ts n ≡ Some x →
-      Nodes (λ k. (y : Laid) → laid_at ts k ≡ Some y → y.rank < x.rank) (net.price n)
-  pub below : (n : ℕ) (x : Laid) → laid_at ts n ≡ Some x → x.rank < next
-
--- what is known grows, or stays as it is
-pub record IsStep (old new : List (Option Laid)) (changed : Bool) : Type 0 where
-  pub less : changed ≡ true → free new < free old
-  pub no_more : free new ≤ free old
-  pub same : changed ≡ false → new ≡ old
-
--- where nothing changed, a node was known, or it waits for what is not
-pub record Waits (net : Net) (ts : List (Option Laid)) (n : ℕ) (changed : Bool) : Type 0 where
-  pub waits : changed ≡ false → laid_at ts n ≡ None → known_worth (cost_at ts) (net.price n) ≡ None
-
--- where nothing changed, each of the first nodes was known, or it waits for what is not
-pub record IsClosed (net : Net) (ts : List (Option Laid)) (n : ℕ) (changed : Bool) : Type 0 where
-  pub each : changed ≡ false → (k : ℕ) → k < n → laid_at ts k ≡ None → known_worth (cost_at ts) (net.price k) ≡ None
-
--- a number for each node, smaller for what its price counts
-abbrev pub IsLayering : Net → (ℕ → ℕ) → Type 0
-IsLayering net rank = (n : ℕ) → n < net.count → Nodes (λ k. rank k < rank n) (net.price n)
-
-pub record NoneLayered (net : Net) : Type 0 where
-  pub none : (rank : ℕ → ℕ) → IsLayering net rank → false ≡ true
+abbrev pub cost_in : Places → NodeKey → Option ℕ
+cost_in ts k = cost_of (laid_in ts k)
 
 abbrev pub rank_of : Option Laid → ℕ
 rank_of None = 0
 rank_of (Some x) = x.rank
 
-abbrev pub rank_at : List (Option Laid) → ℕ → ℕ
-rank_at ts n = rank_of (laid_at ts n)
+abbrev pub rank_in : Places → NodeKey → ℕ
+rank_in ts k = rank_of (laid_in ts k)
 
--- a cost and a rank for each node
-pub record AreLayers (net : Net) (ts : List (Option Laid)) : Type 0 where
-  pub size : length ts ≡ net.count
-  pub known :
-      (n : ℕ) → n < net.count →
-      (x : Laid) × (laid_at ts n ≡ Some x) × (known_worth (cost_at ts) (net.price n) ≡ Some x.cost)
-  pub layering : IsLayering net (rank_at ts)
+-- the key of the place with this number
+abbrev pub key_at : Places → ℕ → Option NodeKey
+key_at ts n = option_map (λ e. e.0) (slice_get ts n)
 
-pub record AreLaid (ts : List (Option Laid)) (n : ℕ) : Type 0 where
-  pub each : (k : ℕ) → k < n → (x : Laid) × (laid_at ts k ≡ Some x)
+-- WHAT IS LAID
 
--- exact costs: each is what its price comes to
-pub record IsCost (net : Net) (f : ℕ → ℕ) : Type 0 where
-  pub each : (n : ℕ) → n < net.count → f n ≡ worth f (net.price n)
+-- it is laid, with a rank below this
+abbrev pub IsLower : Option Laid → ℕ → Type 0
+IsLower None n = false ≡ true
+IsLower (Some x) n = x.rank < n
 
--- costs that are laid are the exact ones, or the largest number where these are larger
-abbrev pub LayersAreExact : Type 0
-LayersAreExact =
-    (net : Net) (ts : List (Option Laid)) (f : ℕ → ℕ) → AreLayers net ts → IsCost net f → (n : ℕ) → n < net.count →
-    cost_at ts n ≡ Some (min (f n) top)
+-- Costs are what the prices come to, and all that a price counts is laid and has a lower rank. That is said of the keys that
+-- are kept: of another nothing is known.
+pub record AreLayers (price : NodeKey → Price NodeKey) (kept : NodeKey → Type 0) (ts : Places) : Type 0 where
+  pub comes : (k : NodeKey) (x : Laid) → kept k → laid_in ts k ≡ Some x → known_worth (told (cost_in ts)) (price k) ≡ Ok x.cost
+  pub falls : (k : NodeKey) (x : Laid) → kept k → laid_in ts k ≡ Some x → Nodes (λ j. IsLower (laid_in ts j) x.rank) (price k)
 
--- the cost of a node, counted so many nodes deep
-abbrev pub counted_to : Net → ℕ → ℕ → ℕ
-counted_to net zero n = 0
-counted_to net (suc d) n = worth (counted_to net d) (net.price n)
+-- all ranks are below the next one
+pub record AreBelow (ts : Places) (next : ℕ) : Type 0 where
+  pub each : (k : NodeKey) (x : Laid) → laid_in ts k ≡ Some x → x.rank < next
 
--- and there are exact costs where there are layers
-abbrev pub CostsExist : Type 0
-CostsExist =
-    (net : Net) (rank : ℕ → ℕ) → IsFit net → IsLayering net rank → (most : ℕ) → ((n : ℕ) → n < net.count → rank n < most) →
-    IsCost net (counted_to net (suc most))
+-- what was laid stays as it was, and what had a place has one
+pub record Grows (old new : Places) : Type 0 where
+  pub stays : (k : NodeKey) (x : Laid) → laid_in old k ≡ Some x → laid_in new k ≡ Some x
+  pub places : (k : NodeKey) → has_place old k ≡ true → has_place new k ≡ true
+
+-- NO RANKS
+
+-- what a kept key counts is kept
+pub record CountsKept (price : NodeKey → Price NodeKey) (kept : NodeKey → Type 0) : Type 0 where
+  pub each : (k : NodeKey) → kept k → Nodes kept (price k)
+
+-- a number for each key that is kept, smaller for what its price counts
+abbrev pub AreRanks : (NodeKey → Price NodeKey) → (NodeKey → Type 0) → (NodeKey → ℕ) → Type 0
+AreRanks price kept rank = (k : NodeKey) → kept k → Nodes (λ j. rank j < rank k) (price k)
+
+pub record NoneRanked (price : NodeKey → Price NodeKey) (kept : NodeKey → Type 0) : Type 0 where
+  pub none : (rank : NodeKey → ℕ) → AreRanks price kept rank → ⊥
+
+-- EXACT COSTS
+
+-- each is what its price comes to
+abbrev pub IsCost : (NodeKey → Price NodeKey) → (NodeKey → Type 0) → (NodeKey → ℕ) → Type 0
+IsCost price kept f = (k : NodeKey) → kept k → f k ≡ worth f (price k)
+
+-- costs that are laid are these, or the largest number where these are larger
+abbrev pub LayersAreExact : (NodeKey → Price NodeKey) → (NodeKey → Type 0) → Type 0
+LayersAreExact price kept =
+    (ts : Places) (f : NodeKey → ℕ) → CountsKept price kept → AreLayers price kept ts → IsCost price kept f →
+    (k : NodeKey) → kept k → is_laid ts k ≡ true → cost_in ts k ≡ Some (min (f k) top)
+
+-- the cost of a key, counted so many keys deep
+abbrev pub counted_to : (NodeKey → Price NodeKey) → ℕ → NodeKey → ℕ
+counted_to price zero k = 0
+counted_to price (suc d) k = worth (counted_to price d) (price k)
+
+-- and there are exact costs where there are ranks
+abbrev pub CostsExist : (NodeKey → Price NodeKey) → (NodeKey → Type 0) → Type 0
+CostsExist price kept =
+    (rank : NodeKey → ℕ) → CountsKept price kept → AreRanks price kept rank → (most : ℕ) → ((k : NodeKey) → kept k → rank k < most) →
+    IsCost price kept (counted_to price (suc most))
+
+-- STEPS
+
+abbrev pub is_free : Option Laid → ℕ
+is_free None = 1
+is_free (Some x) = 0
+
+-- how many have a place and are not laid
+abbrev pub free : Places → ℕ
+free [] = 0
+free (e ∷ es) = is_free e.1 + free es
+
+-- twice the places that are left, and what is not laid: it falls with each place that is given and each cost that is laid
+abbrev pub left : Places → ℕ
+left ts = 2 * (2 ^ 64 - length ts) + free ts
+
+-- something changed, or nothing
+pub record IsStep (old new : Places) (changed : Bool) : Type 0 where
+  pub less : changed ≡ true → left new < left old
+  pub no_more : left new ≤ left old
+  pub same : changed ≡ false → new ≡ old
+
+-- the key is laid now, with this cost and with a rank above all others
+pub record IsNoted (old new : Places) (k : NodeKey) (cost : ℕ) : Type 0 where
+  pub rank : ℕ
+  pub below : AreBelow old rank
+  pub now : new ≡ insert_entry same_key old k (Some (record { cost = cost; rank = rank }))
+
+-- the key has a place now: one was given to it, or it had one
+pub record IsPlaced (old new : Places) (k : NodeKey) (given : Bool) : Type 0 where
+  pub now : given ≡ true → new ≡ insert_entry same_key old k None
+  pub none : given ≡ true → place_in old k ≡ None
+  pub same : given ≡ false → new ≡ old
+  pub there : has_place new k ≡ true
+  pub short : length new < 2 ^ 63
+
+-- the key is laid now, or its price tells that it waits for another
+pub record IsSettled (price : NodeKey → Price NodeKey) (kept : NodeKey → Type 0) (old new : Places) (k : NodeKey) (next : Option NodeKey) : Type 0 where
+  pub less : next ≡ None → has_place old k ≡ true → left new < left old
+  pub same : (j : NodeKey) → next ≡ Some j → new ≡ old
+  pub waits : (j : NodeKey) → next ≡ Some j → kept k → known_worth (told (cost_in old)) (price k) ≡ Err j
+
+-- it waits for a key that has a place
+abbrev pub Waits : (NodeKey → Price NodeKey) → Places → NodeKey → Type 0
+Waits price ts k = (j : NodeKey) × (known_worth (told (cost_in ts)) (price k) ≡ Err j) × (has_place ts j ≡ true)
+
+-- where nothing changed, the key waits, if it is kept and not laid
+pub record IsWaiting (price : NodeKey → Price NodeKey) (kept : NodeKey → Type 0) (ts : Places) (k : NodeKey) (changed : Bool) : Type 0 where
+  pub waits : changed ≡ false → kept k → laid_in ts k ≡ None → Waits price ts k
+
+-- the same of the key of the place with this number
+pub record IsWaitingAt (price : NodeKey → Price NodeKey) (kept : NodeKey → Type 0) (ts : Places) (n : ℕ) (changed : Bool) : Type 0 where
+  pub waits : changed ≡ false → (k : NodeKey) → key_at ts n ≡ Some k → kept k → laid_in ts k ≡ None → Waits price ts k
+
+-- and of each of the first places
+pub record AreWaiting (price : NodeKey → Price NodeKey) (kept : NodeKey → Type 0) (ts : Places) (n : ℕ) (changed : Bool) : Type 0 where
+  pub each : changed ≡ false → (i : ℕ) (k : NodeKey) → i < n → key_at ts i ≡ Some k → kept k → laid_in ts k ≡ None → Waits price ts k

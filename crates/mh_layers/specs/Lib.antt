@@ -1,9 +1,12 @@
 pub mod Known
+pub mod NodeKeys
+pub mod NodeKeyLaws
 pub mod Layering
 pub mod Numbered
 pub mod Sums
 pub mod Around
 pub mod Grouped
-pub mod Keyed
 pub mod Keys
 pub mod Bridge
+pub mod Hashing
+pub mod Listening

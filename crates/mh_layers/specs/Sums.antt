@@ -1,5 +1,5 @@
 -- Sums and maxima over lists, from the first on: what a loop over the list makes.
-use Rattle.std.specs.Prelude.{ℕ, List, [], ◌∷◌, Option}
+use Rattle.std.specs.Prelude.{ℕ, List, [], ◌∷◌, Result}
 use Rattle.mh_laws.specs.Price.{Price, Plus, Most}
 use Rattle.mh_layers.specs.Known.{added, larger}
 
@@ -12,10 +12,10 @@ most_from f p [] = p
 most_from f p (x ∷ xs) = most_from f (Most p (f x)) xs
 
 -- the same of what is known
-abbrev pub summed : {X : Type 0} → (X → Option ℕ) → Option ℕ → List X → Option ℕ
+abbrev pub summed : {E X : Type 0} → (X → Result ℕ E) → Result ℕ E → List X → Result ℕ E
 summed f s [] = s
 summed f s (x ∷ xs) = summed f (added s (f x)) xs
 
-abbrev pub mosted : {X : Type 0} → (X → Option ℕ) → Option ℕ → List X → Option ℕ
+abbrev pub mosted : {E X : Type 0} → (X → Result ℕ E) → Result ℕ E → List X → Result ℕ E
 mosted f s [] = s
 mosted f s (x ∷ xs) = mosted f (larger s (f x)) xs

@@ -1,7 +1,7 @@
 //! Laws between keys and effects.
 //!
 //! Promise: what is laid out over keys is laid out over the effects of the service, and what is not cannot be.
-ghost use Rattle.mh_layers.specs.Bridge.{CountedIsMet, KeysAgree, KeysAreExact, KeysCost, LaidIsExact, LaidIsLayered, LayersAreRanks, NetsAreFit, NoneIsLayered, RanksAreLayers};
+ghost use Rattle.mh_layers.specs.Bridge.{CountedIsMet, KeysAgree, KeysAreExact, KeysCost, LaidByNumber, LayersAreRanks, RanksAreLayers};
 
 /// Prices over keys come to what prices over effects do, and count what is met alone.
 pub fn keys_agree()
@@ -21,11 +21,7 @@ pub fn keys_are_ranked()
     ensures ranks { LayersAreRanks }
 {}
 
-/// The net of a service can be laid out exactly where its effects have a layering, and what is laid is that, with exact
-/// costs.
-pub fn nets_are_layered()
-    ensures fit { NetsAreFit }
-    ensures layers { LaidIsLayered }
-    ensures exact { LaidIsExact }
-    ensures none { NoneIsLayered }
+/// What is laid by numbers is laid by name: exact costs and a layering of the service, or there is none.
+pub fn numbers_serve()
+    ensures { LaidByNumber }
 {}

@@ -1,138 +1,134 @@
-//! The costs that are known so far, by the numbers of nodes.
-//!
-//! Promise: contracts see what is known of each node. What was asked for and not known is noted beside it, as advice on
-//! what to look at first; no contract speaks of that.
-ghost use Rattle.std.specs.Prelude.{◌≡◌, ◌<◌, length, replicate, None, Some, IfOk, slice_set};
-ghost use Rattle.mh_layers.specs.Layering.{laid_at, cost_at};
+//! The costs that are known so far, by key.
+ghost use Rattle.std.specs.Prelude.{◌≡◌, ◌<◌, ◌^◌, [], length, IfOk, OnOk, OnErr};
+ghost use Rattle.indexmap.specs.IndexMap.{insert_entry};
+ghost use Rattle.mh_layers.specs.Known.{told};
+ghost use Rattle.mh_layers.specs.Layering.{cost_in, key_at, laid_in, place_in};
+ghost use Rattle.mh_layers.specs.NodeKeys.{same_key};
 
+use crate::node_key::NodeKey;
+use crate::sums::Worth;
+use indexmap::IndexMap;
 use std::alloc::{AllocError, Global};
 use std::cell::Cell;
 use std::marker::Model;
 
-/// What a node costs, and its rank: those that it counts have lower ones.
+/// What a key costs, and its rank: those that it counts have lower ones.
 #[derive(Clone, Copy)]
 pub struct Laid {
     pub cost: u64,
     pub rank: usize,
 }
 
-/// What is known of each node, and what was asked for and not known.
+/// What is known of each key that has a place. Beside it stands what was asked for and has none: advice on what to
+/// look at first, of which no contract speaks.
 #[derive(Drop)]
 pub struct Costs {
-    laid: Vec<Option<Laid>>,
-    wants: Vec<Cell<usize>>,
+    places: IndexMap<NodeKey, Option<Laid>>,
+    wants: Vec<Cell<NodeKey>>,
     wanted: Cell<usize>,
 }
 
 impl Model for Costs {
     ghost use Rattle.std.specs.Prelude.{List, Option};
     ghost use Rattle.mh_layers.specs.declared.costs.Laid.{Laid as LaidLem};
+    ghost use Rattle.mh_layers.specs.declared.node_key.NodeKey.{NodeKey as NodeKeyLem};
 
-    ghost Value = { List (Option LaidLem) };
+    ghost Value = { List (NodeKeyLem × Option LaidLem) };
 
-    ghost view = { λ c. c.laid.items };
-}
-
-fn none_laid(alloc: Global, count: usize) -> Result<Vec<Option<Laid>>, AllocError>
-    ensures { IfOk result (λ laid. laid.items ≡ replicate count None) }
-{
-    let mut laid = Vec::new(alloc);
-    for _ in 0..count {
-        laid.push(None)?;
-    }
-    Ok(laid)
-}
-
-fn all_laid(alloc: Global, count: usize) -> Result<Vec<Option<Laid>>, AllocError>
-    ensures { IfOk result (λ laid. laid.items ≡ replicate count (Some (record { cost = 0; rank = 0 }))) }
-{
-    let mut laid = Vec::new(alloc);
-    for _ in 0..count {
-        laid.push(Some(Laid { cost: 0, rank: 0 }))?;
-    }
-    Ok(laid)
+    ghost view = { λ c. c.places.entries };
 }
 
 /// How many are noted at most that were asked for.
 const NOTED: usize = 65_536;
 
-fn no_wants(alloc: Global) -> Result<Vec<Cell<usize>>, AllocError> {
+fn no_wants(alloc: Global) -> Result<Vec<Cell<NodeKey>>, AllocError> {
     let mut wants = Vec::new(alloc);
     for _ in 0..NOTED {
-        wants.push(Cell::new(0))?;
+        wants.push(Cell::new(NodeKey::Enter(0)))?;
     }
     Ok(wants)
 }
 
 impl Costs {
-    pub fn new(alloc: Global, count: usize) -> Result<Costs, AllocError>
-        ensures { IfOk result (λ costs. costs ≡ replicate count None) }
+    /// Nothing has a place.
+    pub fn new(alloc: Global) -> Result<Costs, AllocError>
+        ensures { IfOk result (λ costs. costs ≡ []) }
     {
-        let laid = none_laid(alloc, count)?;
         let wants = no_wants(alloc)?;
         Ok(Costs {
-            laid,
+            places: IndexMap::new(alloc),
             wants,
             wanted: Cell::new(0),
         })
     }
 
-    /// All nodes cost nothing.
-    pub fn all_nothing(alloc: Global, count: usize) -> Result<Costs, AllocError>
-        ensures { IfOk result (λ costs. costs ≡ replicate count (Some (record { cost = 0; rank = 0 }))) }
+    /// What stands at the key's place, if it has one.
+    pub fn at(&self, key: &NodeKey) -> Option<Option<Laid>>
+        ensures { result ≡ place_in self.now key.now }
     {
-        let laid = all_laid(alloc, count)?;
-        Ok(Costs {
-            laid,
-            wants: Vec::new(alloc),
-            wanted: Cell::new(0),
-        })
-    }
-
-    /// The cost of a node, if it is known.
-    pub fn get(&self, node: usize) -> Option<u64>
-        ensures { result ≡ cost_at self.now node }
-    {
-        let cost = self.look(node);
-        if cost.is_none() {
-            self.want(node);
-        }
-        cost
-    }
-
-    /// The cost of a node, if it is known, without a note.
-    pub fn look(&self, node: usize) -> Option<u64>
-        ensures { result ≡ cost_at self.now node }
-    {
-        match self.laid_at(node) {
+        match self.places.get(key) {
             None => None,
-            Some(laid) => Some(laid.cost),
+            Some(laid) => Some(*laid),
         }
     }
 
-    /// What is known of a node.
-    pub fn laid_at(&self, node: usize) -> Option<Laid>
-        ensures { result ≡ laid_at self.now node }
+    /// The cost of a key, or that it is waited for; and a note, if it has no place.
+    pub fn get(&self, key: &NodeKey) -> Worth
+        ensures { result ≡ told (cost_in self.now) key.now }
     {
-        match self.laid.get(node) {
-            None => None,
-            Some(laid) => *laid,
+        match self.at(key) {
+            Some(Some(laid)) => Ok(laid.cost),
+            Some(None) => Err(*key),
+            None => {
+                self.want(*key);
+                Err(*key)
+            }
         }
     }
 
-    fn want(&self, node: usize) {
+    /// Cost and rank of a key, if it is laid.
+    pub fn laid(&self, key: &NodeKey) -> Option<Laid>
+        ensures { result ≡ laid_in self.now key.now }
+    {
+        match self.at(key) {
+            None => None,
+            Some(laid) => laid,
+        }
+    }
+
+    /// How many keys have a place.
+    pub fn len(&self) -> usize
+        ensures all { result ≡ length self.now }
+        ensures small { result < 2 ^ 63 }
+    {
+        self.places.len()
+    }
+
+    /// The key of the place with this number.
+    pub fn key_at(&self, place: usize) -> Option<NodeKey>
+        ensures { result ≡ key_at self.now place }
+    {
+        match self.places.get_index(place) {
+            None => None,
+            Some((key, _)) => Some(*key),
+        }
+    }
+
+    /// Puts this at the key's place. A key that has none gets one, behind all.
+    pub fn set(&mut self, key: NodeKey, laid: Option<Laid>) -> Result<(), AllocError>
+        ensures done { OnOk result (self.new ≡ insert_entry same_key self.old key laid) }
+        ensures kept { OnErr result (self.new ≡ self.old) }
+    {
+        self.places.insert(key, laid)?;
+        Ok(())
+    }
+
+    fn want(&self, key: NodeKey) {
         let place = self.wanted.get();
         if place < self.wants.len() {
-            self.wants[place].set(node);
+            self.wants[place].set(key);
             self.wanted.set(place + 1);
         }
-    }
-
-    pub fn set(&mut self, node: usize, laid: Laid)
-        requires { node < length self.old }
-        ensures { self.new ≡ slice_set self.old node (Some laid) }
-    {
-        self.laid[node] = Some(laid);
     }
 
     /// How many were asked for.
@@ -141,11 +137,11 @@ impl Costs {
     }
 
     /// One that was asked for.
-    pub fn want_at(&self, place: usize) -> usize {
+    pub fn want_at(&self, place: usize) -> Option<NodeKey> {
         if place < self.wants.len() {
-            self.wants[place].get()
+            Some(self.wants[place].get())
         } else {
-            0
+            None
         }
     }
 

@@ -1,26 +1,21 @@
 //! Laws of layers.
 //!
-//! Promise: what is laid out by numbers is so by names, and is exact; numbers and names are told apart.
+//! Promise: what is laid is exact; keys are told apart.
 ghost use Rattle.mh_layers.specs.Grouped.{SumsByData};
-ghost use Rattle.mh_layers.specs.Keyed.{KeysAreApart};
 ghost use Rattle.mh_layers.specs.Layering.{CostsExist, LayersAreExact};
-ghost use Rattle.mh_layers.specs.Numbered.{GuessesName, LayersByName, NoneByName};
+ghost use Rattle.mh_layers.specs.NodeKeys.{KeysAreApart};
 
-/// Costs that are laid are the exact ones, cut at the largest number; and exact costs exist.
-pub fn layers_are_exact()
-    ensures exact { LayersAreExact }
-    ensures exist { CostsExist }
-{}
+use crate::laying::Prices;
 
-/// Layers by number are layers by name, and where there are none by number there are none by name; numbers that are
-/// guessed do for names, if what stands there is looked at.
-pub fn layers_by_name<K>()
-    ensures layers { LayersByName K }
-    ensures none { NoneByName K }
-    ensures guesses { GuessesName K }
-{}
+/// Costs that are laid are the exact ones, cut at the largest number; and where there are ranks, exact costs exist.
+pub fn layers_are_exact<P: Prices>(prices: &P)
+    ensures exact { LayersAreExact (P.price prices.now) (P.kept prices.now) }
+    ensures exist { CostsExist (P.price prices.now) (P.kept prices.now) }
+{
+    let _ = prices;
+}
 
-/// Nodes that are called the same are the same.
+/// Keys that are equal are one key.
 pub fn keys_are_apart()
     ensures { KeysAreApart }
 {}

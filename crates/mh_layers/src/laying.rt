@@ -1,44 +1,39 @@
-//! Layers: costs and ranks of all nodes, or that there are none.
-//!
-//! Promise: a layering is found where there is one, and costs are what prices come to, cut at the largest number. In
-//! which order nodes are looked at is advice alone: dives note each node behind those that it needs, as far as they see,
-//! and rounds over all nodes end it.
-ghost use Rattle.std.specs.Prelude.{◌≡◌, ◌<◌, ◌+◌, length, replicate, slice_set, OnOk, IfOk, IfSome, IsSome, IsNone, IsErrOf, true, false, None, Some};
-ghost use Rattle.mh_layers.specs.Layering.{IsFit, IsUnfit, IsRight, IsStep, Waits, IsClosed, AreLaid, AreLayers, NoneLayered, laid_at, cost_at};
+//! Layers: costs and ranks of keys and of all that they count, or that there are no ranks.
+ghost use Rattle.std.specs.Prelude.{◌≡◌, [], None, true, false, length, OnOk, OnErr, IfOk, IsErrOf};
+ghost use Rattle.std.specs.List.{list_all};
+ghost use Rattle.mh_laws.specs.Each.{Each};
+ghost use Rattle.mh_layers.specs.Layering.{AreLayers, AreWaiting, CountsKept, Grows, IsNoted, IsPlaced, IsSettled, IsStep, IsWaiting, IsWaitingAt, NoneRanked, has_place, is_laid, laid_in};
 
 use crate::costs::{Costs, Laid};
+use crate::node_key::NodeKey;
+use crate::sums::Worth;
 use std::alloc::{AllocError, Global};
+use std::marker::Model;
 
-/// Nodes with their prices.
+/// Keys with prices.
 pub trait Prices {
-    ghost use Rattle.std.specs.Prelude.{◌≡◌, ◌<◌};
-    ghost use Rattle.mh_layers.specs.Known.{known_worth};
-    ghost use Rattle.mh_layers.specs.Layering.{Net, cost_at};
+    ghost use Rattle.std.specs.Prelude.{◌≡◌, IfOk};
+    ghost use Rattle.mh_laws.specs.Price.{Price};
+    ghost use Rattle.mh_layers.specs.declared.node_key.NodeKey.{NodeKey as NodeKeyLem};
+    ghost use Rattle.mh_layers.specs.Known.{known_worth, told};
+    ghost use Rattle.mh_layers.specs.Layering.{cost_in};
 
-    ghost net: { Self → Net };
+    /// What a key costs, over those that it counts.
+    ghost price: { Self → NodeKeyLem → Price NodeKeyLem };
 
-    fn count(&self) -> usize
-        ensures { result ≡ (net self.now).count };
+    /// The keys whose prices are known.
+    ghost kept: { Self → NodeKeyLem → Type 0 };
 
-    /// What the node costs, if all that it needs is known.
-    fn known_worth(&self, costs: &Costs, node: usize) -> Option<u64>
-        requires { node < (net self.now).count }
-        ensures { result ≡ known_worth (cost_at costs.now) ((net self.now).price node) };
-}
-
-/// What every node costs, and its rank.
-#[derive(Drop)]
-pub struct Layers {
-    pub costs: Costs,
+    /// What a key costs, or the first that it counts whose cost is not known. Each that it counts is asked for.
+    fn worth(&self, costs: &Costs, key: &NodeKey) -> Result<Worth, AllocError>
+        ensures { kept self.now key.now → IfOk result (λ worth. worth ≡ known_worth (told (cost_in costs.now)) (price self.now key.now)) };
 }
 
 /// Why there are no layers.
 #[derive(Clone, Copy)]
 pub enum LayersError {
-    /// A node counts itself.
+    /// A key counts itself, by way of others.
     Cycle,
-    /// A node counts one that is not there.
-    Unfit,
     NoMemory,
 }
 
@@ -52,81 +47,173 @@ impl From<AllocError> for LayersError {
     }
 }
 
-/// What is known so far.
+/// Costs and ranks that are laid so far. A contract sees what is known of each key that has a place.
 #[derive(Drop)]
-struct Laying {
+pub struct Laying {
+    alloc: Global,
     costs: Costs,
-    /// The nodes in the order in which they were noted.
-    order: Vec<usize>,
+    /// The rank of the next key that is laid.
+    next: usize,
+}
+
+impl Model for Laying {
+    ghost use Rattle.std.specs.Prelude.{List, Option};
+    ghost use Rattle.mh_layers.specs.declared.costs.Laid.{Laid as LaidLem};
+    ghost use Rattle.mh_layers.specs.declared.node_key.NodeKey.{NodeKey as NodeKeyLem};
+    ghost use Rattle.mh_layers.specs.Layering.{AreBelow};
+
+    ghost Value = { List (NodeKeyLem × Option LaidLem) };
+
+    ghost view = { λ l. l.costs };
+
+    ghost invariant = { λ l. AreBelow l.costs l.next };
+}
+
+/// A key on the path of a dive: it is looked at for the first time, or again once what it waited for was.
+#[derive(Clone, Copy)]
+struct Step {
+    key: NodeKey,
+    again: bool,
 }
 
 impl Laying {
-    fn new(alloc: Global, count: usize) -> Result<Laying, AllocError>
-        ensures costs { IfOk result (λ l. l.costs ≡ replicate count None) }
+    /// Nothing is laid.
+    pub fn new(alloc: Global) -> Result<Laying, AllocError>
+        ensures { IfOk result (λ laying. laying ≡ []) }
     {
-        let costs = Costs::new(alloc, count)?;
+        let costs = Costs::new(alloc)?;
         Ok(Laying {
+            alloc,
             costs,
-            order: Vec::new(alloc),
+            next: 0,
         })
     }
 
-    fn note(&mut self, node: usize, cost: u64) -> Result<(), AllocError>
-        requires { node < length self.old.costs }
-        ensures costs { OnOk result (self.new.costs
-            ≡ slice_set self.old.costs node (Some (record { cost = cost; rank = length self.old.order.items }))) }
-        ensures order { OnOk result (length self.new.order.items ≡ length self.old.order.items + 1) }
+    /// What is known so far.
+    pub fn costs(&self) -> &Costs
+        ensures { result.now ≡ self.now }
     {
-        let rank = self.order.len();
-        self.order.push(node)?;
-        self.costs.set(node, Laid { cost, rank });
+        &self.costs
+    }
+
+    /// Lays a key with this cost.
+    fn note(&mut self, key: NodeKey, cost: u64) -> Result<(), AllocError>
+        ensures noted { OnOk result (IsNoted self.old self.new key cost) }
+        ensures kept { OnErr result (self.new ≡ self.old) }
+    {
+        let rank = self.next;
+        let Some(next) = rank.checked_add(1) else {
+            return Err(AllocError);
+        };
+        self.costs.set(key, Some(Laid { cost, rank }))?;
+        self.next = next;
         Ok(())
     }
 
-    /// Notes what a node costs, if it is not known and can be: whether it was noted.
-    #[tactic(auto, using(crate::proofs::LaidLemmas::same_step, crate::proofs::LaidLemmas::noted_step, crate::proofs::LayingLemmas::noted_right))]
-    fn settle<P: Prices>(&mut self, prices: &P, node: usize) -> Result<bool, AllocError>
-        requires right { IsRight (P.net prices.now) self.old.costs (length self.old.order.items) }
-        requires node { node < (P.net prices.now).count }
-        ensures right { OnOk result (IsRight (P.net prices.now) self.new.costs (length self.new.order.items)) }
-        ensures step { IfOk result (λ changed. IsStep self.old.costs self.new.costs changed) }
-        ensures waits { IfOk result (λ changed. Waits (P.net prices.now) self.old.costs node changed) }
+    /// Gives a key a place, if it has none: whether it had none.
+    #[tactic(auto, using(crate::proofs::LayingLemmas::placed_before))]
+    fn place(&mut self, key: NodeKey) -> Result<bool, AllocError>
+        ensures placed { IfOk result (λ given. IsPlaced self.old self.new key given) }
+        ensures kept { OnErr result (self.new ≡ self.old) }
     {
-        if self.costs.look(node).is_some() {
+        let _ = self.costs.len();
+        if self.costs.at(&key).is_some() {
             return Ok(false);
         }
-        match prices.known_worth(&self.costs, node) {
-            None => Ok(false),
-            Some(cost) => {
-                self.note(node, cost)?;
-                Ok(true)
+        self.costs.set(key, None)?;
+        let _ = self.costs.len();
+        Ok(true)
+    }
+
+    /// Lays a key that is not laid, if all that it counts is: else what it waits for.
+    #[tactic(auto, using(crate::proofs::LayingLemmas::noted_layers, crate::proofs::LayingLemmas::noted_grows, crate::proofs::LayingLemmas::settled_noted, crate::proofs::LayingLemmas::settled_waits, crate::proofs::LayingLemmas::grows_same, crate::proofs::LayingLemmas::grows_equal))]
+    fn settle<P: Prices>(
+        &mut self,
+        prices: &P,
+        key: &NodeKey,
+    ) -> Result<Option<NodeKey>, AllocError>
+        requires layers { AreLayers (P.price prices.now) (P.kept prices.now) self.old }
+        requires free { laid_in self.old key.now ≡ None }
+        ensures layers { AreLayers (P.price prices.now) (P.kept prices.now) self.new }
+        ensures grows { Grows self.old self.new }
+        ensures settled { IfOk result (λ waits. IsSettled (P.price prices.now) (P.kept prices.now) self.old self.new key.now waits) }
+    {
+        match prices.worth(&self.costs, key)? {
+            Ok(cost) => {
+                self.note(*key, cost)?;
+                Ok(None)
+            }
+            Err(next) => Ok(Some(next)),
+        }
+    }
+
+    /// Lays a key that has a place, or gives what it waits for a place: whether something changed.
+    #[tactic(auto, using(crate::proofs::LayingLemmas::placed_layers, crate::proofs::LayingLemmas::placed_grows, crate::proofs::LayingLemmas::grows_on, crate::proofs::LayingLemmas::grows_same, crate::proofs::LayingLemmas::settled_step, crate::proofs::LayingLemmas::waits_step, crate::proofs::LayingLemmas::waiting_placed, crate::proofs::LayingLemmas::waiting_true, crate::proofs::LayingLemmas::waiting_laid, crate::proofs::LayingLemmas::same_step))]
+    fn advance<P: Prices>(&mut self, prices: &P, key: &NodeKey) -> Result<bool, AllocError>
+        requires layers { AreLayers (P.price prices.now) (P.kept prices.now) self.old }
+        requires place { has_place self.old key.now ≡ true }
+        ensures layers { AreLayers (P.price prices.now) (P.kept prices.now) self.new }
+        ensures grows { Grows self.old self.new }
+        ensures step { IfOk result (λ changed. IsStep self.old self.new changed) }
+        ensures waiting { IfOk result (λ changed. IsWaiting (P.price prices.now) (P.kept prices.now) self.old key.now changed) }
+    {
+        if self.costs.laid(key).is_some() {
+            return Ok(false);
+        }
+        match self.settle(prices, key)? {
+            None => Ok(true),
+            Some(next) => {
+                let given = self.place(next)?;
+                Ok(given)
             }
         }
     }
 
-    /// A round over all nodes: whether one was noted.
-    #[tactic(auto, using(crate::proofs::LaidLemmas::same_step, crate::proofs::LaidLemmas::step_true, crate::proofs::LaidLemmas::step_false, crate::proofs::LayingLemmas::closed_none, crate::proofs::LayingLemmas::closed_true, crate::proofs::LayingLemmas::closed_more))]
+    /// The same with the key of the place with this number.
+    #[tactic(auto, using(crate::proofs::PlaceLemmas::key_there, crate::proofs::LayingLemmas::waiting_at, crate::proofs::LayingLemmas::waiting_past, crate::proofs::LayingLemmas::grows_same, crate::proofs::LayingLemmas::same_step))]
+    fn advance_at<P: Prices>(&mut self, prices: &P, place: usize) -> Result<bool, AllocError>
+        requires layers { AreLayers (P.price prices.now) (P.kept prices.now) self.old }
+        ensures layers { AreLayers (P.price prices.now) (P.kept prices.now) self.new }
+        ensures grows { Grows self.old self.new }
+        ensures step { IfOk result (λ changed. IsStep self.old self.new changed) }
+        ensures waiting { IfOk result (λ changed. IsWaitingAt (P.price prices.now) (P.kept prices.now) self.old place changed) }
+    {
+        match self.costs.key_at(place) {
+            None => Ok(false),
+            Some(key) => {
+                let changed = self.advance(prices, &key)?;
+                Ok(changed)
+            }
+        }
+    }
+
+    /// A round over all places: whether something changed.
+    #[tactic(auto, using(crate::proofs::LayingLemmas::grows_on, crate::proofs::LayingLemmas::grows_same, crate::proofs::LayingLemmas::same_step, crate::proofs::LayingLemmas::step_true, crate::proofs::LayingLemmas::step_false, crate::proofs::LayingLemmas::none_waiting, crate::proofs::LayingLemmas::all_changed, crate::proofs::LayingLemmas::waiting_more, crate::proofs::LayingLemmas::waiting_now))]
     fn round<P: Prices>(&mut self, prices: &P) -> Result<bool, AllocError>
-        requires right { IsRight (P.net prices.now) self.old.costs (length self.old.order.items) }
-        ensures right { OnOk result (IsRight (P.net prices.now) self.new.costs (length self.new.order.items)) }
-        ensures step { IfOk result (λ changed. IsStep self.old.costs self.new.costs changed) }
-        ensures closed { IfOk result (λ changed. IsClosed (P.net prices.now) self.old.costs (P.net prices.now).count changed) }
+        requires layers { AreLayers (P.price prices.now) (P.kept prices.now) self.old }
+        ensures layers { AreLayers (P.price prices.now) (P.kept prices.now) self.new }
+        ensures grows { Grows self.old self.new }
+        ensures step { IfOk result (λ changed. IsStep self.old self.new changed) }
+        ensures waiting { IfOk result (λ changed. AreWaiting (P.price prices.now) (P.kept prices.now) self.new (length self.new) changed) }
     {
         let mut changed = false;
-        for node in 0..prices.count() {
-            if self.settle(prices, node)? {
+        let mut place = 0;
+        while place < self.costs.len() {
+            if self.advance_at(prices, place)? {
                 changed = true;
             }
+            place += 1;
         }
         Ok(changed)
     }
 
-    /// Rounds until nothing more can be noted.
-    #[tactic(auto, using(crate::proofs::LayingLemmas::closed_now))]
+    /// Rounds until nothing more changes.
+    #[tactic(auto, using(crate::proofs::LayingLemmas::grows_on, crate::proofs::LayingLemmas::grows_same))]
     fn rounds<P: Prices>(&mut self, prices: &P) -> Result<(), AllocError>
-        requires right { IsRight (P.net prices.now) self.old.costs (length self.old.order.items) }
-        ensures right { OnOk result (IsRight (P.net prices.now) self.new.costs (length self.new.order.items)) }
-        ensures closed { OnOk result (IsClosed (P.net prices.now) self.new.costs (P.net prices.now).count false) }
+        requires layers { AreLayers (P.price prices.now) (P.kept prices.now) self.old }
+        ensures layers { AreLayers (P.price prices.now) (P.kept prices.now) self.new }
+        ensures grows { Grows self.old self.new }
+        ensures waiting { OnOk result (AreWaiting (P.price prices.now) (P.kept prices.now) self.new (length self.new) false) }
     {
         loop {
             if !self.round(prices)? {
@@ -135,137 +222,155 @@ impl Laying {
         }
     }
 
-    /// The first node that is not known.
-    fn unknown(&self, count: usize) -> Option<usize>
-        ensures some { IfSome result (λ node. (node < count) × (laid_at self.now.costs node ≡ None)) }
-        ensures none { IsNone result → AreLaid self.now.costs count }
-    {
-        for node in 0..count {
-            if self.costs.laid_at(node).is_none() {
-                return Some(node);
-            }
-        }
-        None
-    }
-
-    /// Notes what can be, each node behind those that it needs, from this one on. What is left to the
-    /// rounds is no matter of promises.
+    /// Lays what can be, each key behind those that it counts, from this one on. What is left to the rounds is no
+    /// matter of promises.
+    #[tactic(auto, using(crate::proofs::LayingLemmas::grows_on, crate::proofs::LayingLemmas::grows_same))]
     fn dive<P: Prices>(
         &mut self,
         prices: &P,
-        opened: &mut Vec<bool>,
-        path: &mut Vec<usize>,
-        root: usize,
+        path: &mut Vec<Step>,
+        root: NodeKey,
     ) -> Result<(), AllocError>
-        requires right { IsRight (P.net prices.now) self.old.costs (length self.old.order.items) }
-        ensures right { OnOk result (IsRight (P.net prices.now) self.new.costs (length self.new.order.items)) }
+        requires layers { AreLayers (P.price prices.now) (P.kept prices.now) self.old }
+        ensures layers { AreLayers (P.price prices.now) (P.kept prices.now) self.new }
+        ensures grows { Grows self.old self.new }
     {
-        let count = prices.count();
-        path.push(root)?;
+        path.push(Step {
+            key: root,
+            again: false,
+        })?;
         for _ in 0..u64::MAX {
-            let Some(node) = path.pop() else {
+            let Some(step) = path.pop() else {
                 break;
             };
-            if node < count && self.costs.look(node).is_none() {
-                self.costs.forget();
-                if !self.settle(prices, node)? {
-                    self.open(opened, path, node)?;
-                }
+            if !self.is_passed(&step) {
+                self.visit(prices, path, step.key)?;
             }
         }
         Ok(())
     }
 
-    /// What was asked for goes on the path, behind the node that wants it.
-    fn open(
-        &self,
-        opened: &mut Vec<bool>,
-        path: &mut Vec<usize>,
-        node: usize,
-    ) -> Result<(), AllocError> {
-        path.push(node)?;
-        let mut further = false;
-        if node < opened.len() {
-            opened[node] = true;
+    /// Whether there is nothing to do: the key was looked at, and does not come again.
+    fn is_passed(&self, step: &Step) -> bool {
+        match self.costs.at(&step.key) {
+            None => false,
+            Some(_) => !step.again,
         }
-        for place in 0..self.costs.wanted() {
-            let next = self.costs.want_at(place);
-            if next < opened.len() && !opened[next] {
-                path.push(next)?;
-                further = true;
-            }
-        }
-        if !further {
-            path.pop();
-        }
-        Ok(())
     }
 
-    fn dives<P: Prices>(&mut self, alloc: Global, prices: &P) -> Result<(), AllocError>
-        requires right { IsRight (P.net prices.now) self.old.costs (length self.old.order.items) }
-        ensures right { OnOk result (IsRight (P.net prices.now) self.new.costs (length self.new.order.items)) }
+    /// Lays a key, or has those looked at first that it waits for.
+    #[tactic(auto, using(crate::proofs::LayingLemmas::placed_layers, crate::proofs::LayingLemmas::placed_grows, crate::proofs::LayingLemmas::grows_on, crate::proofs::LayingLemmas::grows_same))]
+    fn visit<P: Prices>(
+        &mut self,
+        prices: &P,
+        path: &mut Vec<Step>,
+        key: NodeKey,
+    ) -> Result<(), AllocError>
+        requires layers { AreLayers (P.price prices.now) (P.kept prices.now) self.old }
+        ensures layers { AreLayers (P.price prices.now) (P.kept prices.now) self.new }
+        ensures grows { Grows self.old self.new }
     {
-        let count = prices.count();
-        let mut opened = none_opened(alloc, count)?;
-        let mut path = Vec::new(alloc);
-        for node in 0..count {
-            self.dive(prices, &mut opened, &mut path, node)?;
+        if self.costs.laid(&key).is_some() {
+            return Ok(());
+        }
+        self.costs.forget();
+        if self.settle(prices, &key)?.is_some() {
+            self.place(key)?;
+            self.open(path, key)?;
         }
         Ok(())
     }
-}
 
-fn none_opened(alloc: Global, count: usize) -> Result<Vec<bool>, AllocError> {
-    let mut opened = Vec::new(alloc);
-    for _ in 0..count {
-        opened.push(false)?;
+    /// What was asked for and has no place goes on the path, in front of the key that waits for it.
+    fn open(&self, path: &mut Vec<Step>, key: NodeKey) -> Result<(), AllocError> {
+        let wanted = self.costs.wanted();
+        if wanted == 0 {
+            return Ok(());
+        }
+        path.push(Step { key, again: true })?;
+        for place in 0..wanted {
+            if let Some(key) = self.costs.want_at(place) {
+                path.push(Step { key, again: false })?;
+            }
+        }
+        Ok(())
     }
-    Ok(opened)
-}
 
-/// Whether all nodes that are counted are there.
-fn is_fit<P: Prices>(alloc: Global, prices: &P) -> Result<bool, AllocError>
-    ensures fit { IfOk result (λ fits. fits ≡ true → IsFit (P.net prices.now)) }
-    ensures unfit { IfOk result (λ fits. fits ≡ false → IsUnfit (P.net prices.now)) }
-{
-    let count = prices.count();
-    let costs = Costs::all_nothing(alloc, count)?;
-    for node in 0..count {
-        if prices.known_worth(&costs, node).is_none() {
-            return Ok(false);
+    #[tactic(auto, using(crate::proofs::LayingLemmas::grows_on, crate::proofs::LayingLemmas::grows_same))]
+    fn dives<P: Prices>(&mut self, prices: &P, roots: &[NodeKey]) -> Result<(), AllocError>
+        requires layers { AreLayers (P.price prices.now) (P.kept prices.now) self.old }
+        ensures layers { AreLayers (P.price prices.now) (P.kept prices.now) self.new }
+        ensures grows { Grows self.old self.new }
+    {
+        let mut path = Vec::new(self.alloc);
+        for root in roots {
+            self.dive(prices, &mut path, *root)?;
+        }
+        Ok(())
+    }
+
+    /// Gives each of these a place.
+    #[tactic(auto, using(crate::proofs::LayingLemmas::placed_layers, crate::proofs::LayingLemmas::placed_grows, crate::proofs::LayingLemmas::grows_on, crate::proofs::LayingLemmas::grows_same))]
+    fn places<P: Prices>(&mut self, prices: &P, roots: &[NodeKey]) -> Result<(), AllocError>
+        requires layers { AreLayers (P.price prices.now) (P.kept prices.now) self.old }
+        ensures layers { AreLayers (P.price prices.now) (P.kept prices.now) self.new }
+        ensures grows { Grows self.old self.new }
+        ensures there { OnOk result (list_all (has_place self.new) roots.now ≡ true) }
+    {
+        for root in roots {
+            self.place(*root)?;
+        }
+        Ok(())
+    }
+
+    fn has_laid(&self, key: &NodeKey) -> bool
+        ensures { result ≡ is_laid self.now key.now }
+    {
+        self.costs.laid(key).is_some()
+    }
+
+    /// Whether all of these are laid.
+    pub fn has_all(&self, roots: &[NodeKey]) -> bool
+        ensures { result ≡ list_all (is_laid self.now) roots.now }
+    {
+        roots.iter().all(|root| self.has_laid(root))
+    }
+
+    /// Lays these keys and all that they count. What was laid stays as it was, also where it cannot be done.
+    #[tactic(auto, using(crate::proofs::LayingLemmas::grows_on))]
+    pub fn reach<P: Prices>(&mut self, prices: &P, roots: &[NodeKey]) -> Result<(), LayersError>
+        requires layers { AreLayers (P.price prices.now) (P.kept prices.now) self.old }
+        requires counted { CountsKept (P.price prices.now) (P.kept prices.now) }
+        requires kept { Each (P.kept prices.now) roots.now }
+        ensures layers { AreLayers (P.price prices.now) (P.kept prices.now) self.new }
+        ensures grows { Grows self.old self.new }
+        ensures laid { OnOk result (list_all (is_laid self.new) roots.now ≡ true) }
+        ensures cycle { IsErrOf result LayersError.Cycle → NoneRanked (P.price prices.now) (P.kept prices.now) }
+    {
+        self.dives(prices, roots)?;
+        if self.has_all(roots) {
+            return Ok(());
+        }
+        self.places(prices, roots)?;
+        self.rounds(prices)?;
+        if self.has_all(roots) {
+            Ok(())
+        } else {
+            Err(LayersError::Cycle)
         }
     }
-    Ok(true)
 }
 
-/// What can be noted, and the first node that is not known then.
-#[tactic(auto, using(crate::proofs::LayingLemmas::nothing_right, crate::proofs::LayingLemmas::all_layers, crate::proofs::LayingLemmas::none_layered))]
-fn laid_out<P: Prices>(alloc: Global, prices: &P) -> Result<(Layers, Option<usize>), AllocError>
-    ensures layers { IfOk result (λ r. IsNone r.1 → AreLayers (P.net prices.now) r.0.costs) }
-    ensures cycle { IfOk result (λ r. IsSome r.1 → IsFit (P.net prices.now) → NoneLayered (P.net prices.now)) }
+/// Lays these keys and all that they count.
+#[tactic(auto, using(crate::proofs::LayingLemmas::nothing_laid))]
+pub fn lay<P: Prices>(alloc: Global, prices: &P, roots: &[NodeKey]) -> Result<Laying, LayersError>
+    requires counted { CountsKept (P.price prices.now) (P.kept prices.now) }
+    requires kept { Each (P.kept prices.now) roots.now }
+    ensures layers { IfOk result (λ laying. AreLayers (P.price prices.now) (P.kept prices.now) laying) }
+    ensures laid { IfOk result (λ laying. list_all (is_laid laying) roots.now ≡ true) }
+    ensures cycle { IsErrOf result LayersError.Cycle → NoneRanked (P.price prices.now) (P.kept prices.now) }
 {
-    let mut laying = Laying::new(alloc, prices.count())?;
-    laying.dives(alloc, prices)?;
-    laying.rounds(prices)?;
-    let unknown = laying.unknown(prices.count());
-    let Laying { costs, .. } = laying;
-    Ok((Layers { costs }, unknown))
-}
-
-/// The layers of these prices.
-pub fn lay<P: Prices>(alloc: Global, prices: &P) -> Result<Layers, LayersError>
-    ensures layers { IfOk result (λ l. AreLayers (P.net prices.now) l.costs) }
-    ensures cycle { IsErrOf result LayersError.Cycle → NoneLayered (P.net prices.now) }
-    ensures fit { IsErrOf result LayersError.Cycle → IsFit (P.net prices.now) }
-    ensures unfit { IsErrOf result LayersError.Unfit → IsUnfit (P.net prices.now) }
-{
-    let (layers, unknown) = laid_out(alloc, prices)?;
-    if unknown.is_none() {
-        return Ok(layers);
-    }
-    if is_fit(alloc, prices)? {
-        Err(LayersError::Cycle)
-    } else {
-        Err(LayersError::Unfit)
-    }
+    let mut laying = Laying::new(alloc)?;
+    laying.reach(prices, roots)?;
+    Ok(laying)
 }

@@ -1,16 +1,20 @@
 //! Sums and maxima of what may not be known yet.
-//!
-//! Promise: nothing is known of a sum of which a part is not known; a sum stops at the largest number.
 ghost use Rattle.std.specs.Prelude.{◌≡◌, ◌+◌, min, max};
 ghost use Rattle.mh_layers.specs.Known.{added, larger, top};
 
-/// Both, or nothing where one is not known.
-pub fn plus(first: Option<u64>, second: Option<u64>) -> Option<u64>
+use crate::node_key::NodeKey;
+
+/// What a price comes to, or the first key that it counts whose cost is not known.
+pub type Worth = Result<u64, NodeKey>;
+
+/// Both, or the first that is waited for.
+pub fn plus(first: Worth, second: Worth) -> Worth
     ensures { result ≡ added first second }
 {
     match (first, second) {
-        (Some(first), Some(second)) => Some(sum(first, second)),
-        _ => None,
+        (Ok(first), Ok(second)) => Ok(sum(first, second)),
+        (Err(key), _) => Err(key),
+        (_, Err(key)) => Err(key),
     }
 }
 
@@ -23,12 +27,13 @@ fn sum(first: u64, second: u64) -> u64
     }
 }
 
-/// The larger of them, or nothing where one is not known.
-pub fn most(first: Option<u64>, second: Option<u64>) -> Option<u64>
+/// The larger of them, or the first that is waited for.
+pub fn most(first: Worth, second: Worth) -> Worth
     ensures { result ≡ larger first second }
 {
     match (first, second) {
-        (Some(first), Some(second)) => Some(first.max(second)),
-        _ => None,
+        (Ok(first), Ok(second)) => Ok(first.max(second)),
+        (Err(key), _) => Err(key),
+        (_, Err(key)) => Err(key),
     }
 }

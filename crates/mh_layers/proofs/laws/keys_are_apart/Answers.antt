@@ -1,4 +1,4 @@
-use Rattle.mh_layers.proofs.KeyedLemmas.{keys_are_apart}
+use Rattle.mh_layers.specs.NodeKeyLaws.{keys_are_apart}
 use Rattle.mh_layers.proofs.laws.keys_are_apart.Goals as goal
 
 pub returns : goal.returns

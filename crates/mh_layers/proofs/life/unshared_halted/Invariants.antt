@@ -1,9 +1,12 @@
-use Rattle.std.proofs.Common.{◌≡◌, Some, drop}
+use Rattle.std.proofs.Common.{◌≡◌, Ok, drop, ◌&&◌, not}
+use Rattle.mh_laws.specs.Price.{if_price}
 use Rattle.mh_layers.specs.Known.{known_worth}
+use Rattle.mh_group.specs.Table.{is_runnable}
 use Rattle.mh_model.specs.declared.object.Fixed.{Fixed}
+use Rattle.mh_model.specs.Groups.{is_shared}
 use Rattle.mh_layers.specs.Sums.{summed}
-use Rattle.mh_layers.specs.Around.{halt_if_unshared}
+use Rattle.mh_layers.specs.Around.{halt}
 use Rattle.mh_layers.proofs.life.unshared_halted.Given as goal
 
 abbrev pub invariant-loop-part : goal.invariant-loop-part
-invariant-loop-part g l = summed (λ (p : Fixed). known_worth (g.A.Around.known l.around) (halt_if_unshared (g.A.Around.around l.around) p)) l.sum (drop l.part-index l.parts) ≡ summed (λ (p : Fixed). known_worth (g.A.Around.known l.around) (halt_if_unshared (g.A.Around.around l.around) p)) (Some 0) l.parts
+invariant-loop-part g l = summed (λ (p : Fixed). known_worth (g.A.Around.known l.around) (if_price (is_runnable p.class && not (is_shared p)) (halt (g.A.Around.around l.around) p.key))) l.sum (drop l.part-index l.parts) ≡ summed (λ (p : Fixed). known_worth (g.A.Around.known l.around) (if_price (is_runnable p.class && not (is_shared p)) (halt (g.A.Around.around l.around) p.key))) (Ok 0) l.parts

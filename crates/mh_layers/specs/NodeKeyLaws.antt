@@ -1,0 +1,112 @@
+-- Keys by numbers: what is equal is one key, and so equality is as it should be. The laws of equality and hash cite these.
+use Rattle.std.specs.Prelude.{◌≡◌, ℕ, ◌&&◌, ◌==◌, Bool, true, false, Option, Some, unwrap_or, refl}
+use Rattle.std.specs.Cmp.{IsEquivalence, both_ways, first_so, second_so}
+use Rattle.std.proofs.Common.{ap, ◌∙◌, sym, subst, true≢false}
+use Rattle.std.proofs.lemmas.Bool.Decides.{Decides-eqb}
+use Rattle.mh_base.specs.declared.event.EventType.{EventType}
+use Rattle.mh_base.specs.declared.event.EventType.TheVariants.{IsAvailable}
+use Rattle.mh_base.specs.Event.{event_of, number_of}
+use Rattle.mh_layers.specs.declared.node_key.Hears.{Hears}
+use Rattle.mh_layers.specs.declared.node_key.Hears.TheVariants as hears
+use Rattle.mh_layers.specs.declared.node_key.NodeKey.{NodeKey}
+use Rattle.mh_layers.specs.declared.node_key.NodeKey.TheVariants as key
+use Rattle.mh_layers.specs.NodeKeys.{hears_fed, key_fed, same_flag, same_hears, same_key}
+
+number : (m n : ℕ) → (m == n) ≡ true → m ≡ n
+number m n e = (Decides-eqb m n).0 e
+
+itself : (n : ℕ) → (n == n) ≡ true
+itself n = (Decides-eqb n n).1 refl
+
+flag : (a b : Bool) → same_flag a b ≡ true → a ≡ b
+flag true true e = refl
+flag false false e = refl
+flag true false e = absurd (true≢false (sym e))
+flag false true e = absurd (true≢false (sym e))
+
+flag_itself : (a : Bool) → same_flag a a ≡ true
+flag_itself true = refl
+flag_itself false = refl
+
+event_back : (t : EventType) → event_of (number_of t) ≡ Some t
+event_back IsAvailable = refl
+event_back t = refl
+
+one : (t u : EventType) → Some t ≡ Some u → t ≡ u
+one t u e = ap (λ (o : Option EventType). unwrap_or o t) e
+
+kind : (t u : EventType) → (number_of t == number_of u) ≡ true → t ≡ u
+kind t u e = one t u (sym (event_back t) ∙ ap event_of (number (number_of t) (number_of u) e) ∙ event_back u)
+
+two : (a b : Bool) → (a && b) ≡ true → (a ≡ true) × (b ≡ true)
+two a b e = (first_so a b e, second_so a b e)
+
+pub hears_are_apart : (g h : Hears) → same_hears g h ≡ true → g ≡ h
+hears_are_apart hears.Plain hears.Plain e = refl
+hears_are_apart (hears.With x) (hears.With y) e = ap hears.With (number x y e)
+hears_are_apart hears.Any hears.Any e = refl
+hears_are_apart _ _ e = absurd (true≢false (sym e))
+
+hears_itself : (g : Hears) → same_hears g g ≡ true
+hears_itself hears.Plain = refl
+hears_itself (hears.With x) = itself x
+hears_itself hears.Any = refl
+
+pub keys_are_apart : (j k : NodeKey) → same_key j k ≡ true → j ≡ k
+keys_are_apart (key.Effect c r n) (key.Effect d q m) e =
+    let last = two (c == d && r == q) (n == m) e in
+    let first = two (c == d) (r == q) last.0 in
+    let a = number c d first.0 in let x = number r q first.1 in let y = number n m last.1 in
+    λ i. key.Effect (a i) (x i) (y i)
+keys_are_apart (key.Fired c r t g) (key.Fired d q u h) e =
+    let last = two (c == d && r == q && number_of t == number_of u) (same_hears g h) e in
+    let third = two (c == d && r == q) (number_of t == number_of u) last.0 in
+    let first = two (c == d) (r == q) third.0 in
+    let a = number c d first.0 in let x = number r q first.1 in let y = kind t u third.1 in let z = hears_are_apart g h last.1 in
+    λ i. key.Fired (a i) (x i) (y i) (z i)
+keys_are_apart (key.Entry r t g) (key.Entry q u h) e =
+    let last = two (r == q && number_of t == number_of u) (same_hears g h) e in
+    let first = two (r == q) (number_of t == number_of u) last.0 in
+    let x = number r q first.0 in let y = kind t u first.1 in let z = hears_are_apart g h last.1 in
+    λ i. key.Entry (x i) (y i) (z i)
+keys_are_apart (key.Change c r) (key.Change d q) e =
+    let both = two (c == d) (r == q) e in
+    let a = number c d both.0 in let x = number r q both.1 in
+    λ i. key.Change (a i) (x i)
+keys_are_apart (key.Leave c a) (key.Leave d b) e =
+    let both = two (c == d) (same_flag a b) e in
+    let x = number c d both.0 in let y = flag a b both.1 in
+    λ i. key.Leave (x i) (y i)
+keys_are_apart (key.Enter c) (key.Enter d) e = ap key.Enter (number c d e)
+keys_are_apart _ _ e = absurd (true≢false (sym e))
+
+pub key_itself : (k : NodeKey) → same_key k k ≡ true
+key_itself (key.Effect c r n) = λ i. itself c i && itself r i && itself n i
+key_itself (key.Fired c r t g) = λ i. itself c i && itself r i && itself (number_of t) i && hears_itself g i
+key_itself (key.Entry r t g) = λ i. itself r i && itself (number_of t) i && hears_itself g i
+key_itself (key.Change c r) = λ i. itself c i && itself r i
+key_itself (key.Leave c a) = λ i. itself c i && flag_itself a i
+key_itself (key.Enter c) = itself c
+
+-- a test that holds of what is one alone
+equivalence : {X : Type 0} (same : X → X → Bool) → ((x : X) → same x x ≡ true) → ((x y : X) → same x y ≡ true → x ≡ y) → IsEquivalence same
+equivalence {X} same own apart = record {
+  refl = own;
+  symm = λ x y. both_ways (same x y) (same y x) (turned x y) (turned y x);
+  congr = λ x y z e. ap (λ (a : X). same a z) (apart x y e);
+}
+  where
+    turned : (x y : X) → same x y ≡ true → same y x ≡ true
+    turned x y e = subst (λ (a : X). same a x ≡ true) (apart x y e) (own x)
+
+pub hears_laws : IsEquivalence same_hears
+hears_laws = equivalence same_hears hears_itself hears_are_apart
+
+pub key_laws : IsEquivalence same_key
+key_laws = equivalence same_key key_itself keys_are_apart
+
+pub hears_alike : (g h : Hears) → same_hears g h ≡ true → hears_fed g ≡ hears_fed h
+hears_alike g h e = ap hears_fed (hears_are_apart g h e)
+
+pub key_alike : (j k : NodeKey) → same_key j k ≡ true → key_fed j ≡ key_fed k
+key_alike j k e = ap key_fed (keys_are_apart j k e)
