@@ -43,7 +43,7 @@ worth_by f g (Node k) e = e k
 worth_by f g (Plus p q) e = λ i. worth_by f g p e i + worth_by f g q e i
 worth_by f g (Most p q) e = λ i. max (worth_by f g p e i) (worth_by f g q e i)
 
-comes : (v : Service) (w : Flow) (h : Heard) (read : IsRead v w h) (f : costs.Costing) (n : ℕ) (p : Price Key) (q : Price costs.Effect) → Agrees (set by_worth f v w h read) n p q → worth (key_cost v w f) p ≡ worth f q
+pub comes : (v : Service) (w : Flow) (h : Heard) (read : IsRead v w h) (f : costs.Costing) (n : ℕ) (p : Price Key) (q : Price costs.Effect) → Agrees (set by_worth f v w h read) n p q → worth (key_cost v w f) p ≡ worth f q
 comes v w h read f n p q a =
     sym (worth_by (λ k. reckon by_worth f (stands_for v w k)) (key_cost v w f) p (λ k. reckon_worth f (stands_for v w k))) ∙ a.same ∙ reckon_worth f q
 
@@ -102,7 +102,7 @@ keys_cost v w h read f cost (Leave c all) met = sym (comes v w h read f _ _ _ (k
 keys_cost v w h read f cost (Enter c) met = sym (comes v w h read f _ _ _ (key_agrees (set by_worth f v w h read) (Enter c) tt met))
 
 -- what comes to this costs this
-comes_to : {E : Type 0} (o : Option ℕ) (c : ℕ) (known : Result ℕ E) (n : ℕ) → o ≡ Some c → known ≡ Ok c → known ≡ Ok n → o ≡ Some n
+pub comes_to : {E : Type 0} (o : Option ℕ) (c : ℕ) (known : Result ℕ E) (n : ℕ) → o ≡ Some c → known ≡ Ok c → known ≡ Ok n → o ≡ Some n
 comes_to o c known n e comes is =
     let both = sym comes ∙ is in
     let same : c ≡ n = cc in

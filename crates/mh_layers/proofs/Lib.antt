@@ -20,3 +20,8 @@ pub mod NumbersLemmas
 pub mod PositionLemmas
 pub mod LinkSumLemmas
 pub mod ListeningLemmas
+pub mod ReadingLemmas
+pub mod SpotLemmas
+pub mod EffectLemmas
+pub mod PriceReadLemmas
+pub mod LayeredLemmas

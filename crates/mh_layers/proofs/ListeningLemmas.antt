@@ -42,13 +42,13 @@ use Rattle.mh_layers.proofs.PositionLemmas.{AreOnce, TellsOne, any_position, kep
 
 -- What tells one from another
 
-tells_objects : TellsOne same_key
+pub tells_objects : TellsOne same_key
 tells_objects = record {
   itself = λ a. key_is a a ∙ value_itself (value.Object a);
   one = λ a b e. same_ref-same a b (sym (key_is a b) ∙ e);
 }
 
-tells_values : TellsOne same_value
+pub tells_values : TellsOne same_value
 tells_values = record { itself = value_itself; one = value_one }
 
 number_one : (m n : ℕ) → (m == n) ≡ true → m ≡ n
@@ -277,7 +277,7 @@ named_knows w o (q ∷ ps) p (inl e) h =
 named_knows w o (q ∷ ps) p (inr more) h = named_knows w (named_by w o q) ps p more h
 
 -- all that is present is among the groups
-present_among : (v : Service) (c : Config) (p : Fixed) → Among (present v c) p → Among (all_parts v) p
+pub present_among : (v : Service) (c : Config) (p : Fixed) → Among (present v c) p → Among (all_parts v) p
 present_among v c p there = by (among_either (group_parts v c.app) (scene_parts v c.scene) p there)
   where
     of_scene : (g : Option (List ℕ)) → Among (scene_parts v g) p → Among (all_parts v) p

@@ -105,11 +105,11 @@ put_all same itself ks (y ∷ xs) x (inr more) = put_all same itself (insert_key
 
 -- Each once
 
-no_left : (a b : Bool) → (a || b) ≡ false → a ≡ false
+pub no_left : (a b : Bool) → (a || b) ≡ false → a ≡ false
 no_left true b e = absurd cc
 no_left false b e = refl
 
-no_right : (a b : Bool) → (a || b) ≡ false → b ≡ false
+pub no_right : (a b : Bool) → (a || b) ≡ false → b ≡ false
 no_right true b e = absurd cc
 no_right false b e = e
 

@@ -10,3 +10,5 @@ pub mod Keys
 pub mod Bridge
 pub mod Hashing
 pub mod Listening
+pub mod Reading
+pub mod Layered

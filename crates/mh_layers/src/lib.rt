@@ -7,14 +7,19 @@
 
 pub mod actions;
 pub mod around;
+pub(crate) mod at;
 pub mod bridge;
 pub mod costs;
+mod effects;
 pub mod laws;
 pub mod laying;
 pub mod life;
 pub(crate) mod listening;
+pub(crate) mod net;
 pub mod node_key;
 mod place;
+mod price;
+mod slots;
 pub mod sums;
 mod values;
 
@@ -22,5 +27,6 @@ pub use around::Around;
 pub use costs::{Costs, Laid};
 pub use laying::{LayersError, Laying, Prices, lay};
 pub use listening::listeners_are_exact;
+pub use net::numbers_are_names;
 pub use node_key::{Hears, NodeKey};
 pub use sums::Worth;

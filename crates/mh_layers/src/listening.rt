@@ -3,7 +3,7 @@
 //!
 //! Promise: of each group exactly the links that wait for such an event are found, in their order, by their data; and
 //! the data that is named is each once in one list, which leaves none out.
-ghost use Rattle.std.specs.Prelude.{◌≡◌, ◌++◌, ◌∷◌, [], ◌&&◌, IfOk, OnOk, if◌then◌else◌, None, Some, filter, position, slice_get};
+ghost use Rattle.std.specs.Prelude.{◌≡◌, ◌++◌, ◌∷◌, [], ◌&&◌, IfOk, OnOk, if◌then◌else◌, None, Some, filter, length, position, slice_get};
 ghost use Rattle.std.specs.List.{flat_map};
 ghost use Rattle.std.specs.Map.{lookup};
 ghost use Rattle.std.specs.Option.{option_copied};
@@ -85,6 +85,13 @@ impl Listeners {
         ensures { option_copied result ≡ slice_get self.now.objects number }
     {
         self.objects.get_index(number)
+    }
+
+    /// How many have a number.
+    pub fn len(&self) -> usize
+        ensures { result ≡ length self.now.objects }
+    {
+        self.objects.len()
     }
 
     /// The data that links name which wait for such an event; nothing where none waits.

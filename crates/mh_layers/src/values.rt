@@ -74,7 +74,7 @@ impl Datum {
         })
     }
 
-    fn get(&self) -> &Value
+    pub fn get(&self) -> &Value
         ensures { result.now ≡ self.now }
     {
         &self.value
@@ -127,6 +127,13 @@ impl Values {
         ensures { result ≡ length self.now }
     {
         self.known.len()
+    }
+
+    /// The values.
+    pub fn as_slice(&self) -> &[Datum]
+        ensures { result.now ≡ self.now }
+    {
+        self.known.as_slice()
     }
 
     /// The value with this number.

@@ -1,0 +1,129 @@
+-- All active effects are laid.
+use Rattle.std.specs.Prelude.{◌≡◌, ◌<◌, ℕ, Bool, true, Ok, List, [], ◌∷◌, ◌++◌, map, filter, length, min, Option, Some, refl}
+use Rattle.std.specs.List.{flat_map, list_all, range_with_len}
+use Rattle.std.proofs.Common.{ap, ◌∙◌, sym, subst}
+use Rattle.mh_model.specs.declared.config.Config.{Config}
+use Rattle.mh_model.specs.declared.object.Fixed.{Fixed}
+use Rattle.mh_model.specs.Configuration.{present}
+use Rattle.mh_laws.specs.Active.{is_active}
+use Rattle.mh_laws.specs.Costs as costs
+use Rattle.mh_laws.specs.Each.{Among, Each}
+use Rattle.mh_laws.specs.Layers.{IsOn, IsCost, IsLayering, effects_in}
+use Rattle.mh_laws.proofs.EachLemmas.{among_all, among_each, among_joined, among_mapped, from_joined, from_mapped}
+use Rattle.mh_laws.specs.Flow.{Flow}
+use Rattle.mh_model.specs.Service.{Service}
+use Rattle.mh_layers.specs.declared.node_key.NodeKey.{NodeKey}
+use Rattle.mh_layers.specs.Bridge.{IsRead, NumbersServe, has_by, key_of}
+use Rattle.mh_layers.specs.Layered.{AreLayersOf, Layered, active_keys, keys_of}
+use Rattle.mh_layers.specs.Layering.{AreLayers, CountsKept, NoneRanked, Places, is_laid}
+use Rattle.mh_layers.specs.Reading.{IsReading, Reading, flow_read, heard_read, kept, name, number, price}
+use Rattle.mh_laws.specs.Price.{Nodes}
+use Rattle.mh_laws.proofs.PriceLemmas.{nodes_both, nodes_map}
+use Rattle.mh_layers.specs.Around.{Key}
+use Rattle.mh_layers.specs.Keys.{Heard, IsKept, IsMet, price_of}
+use Rattle.mh_layers.specs.Known.{known_worth, told, told_of, top}
+use Rattle.mh_layers.specs.Numbered.{AreNamed}
+use Rattle.mh_layers.specs.Bridge.{IsHad, key_cost}
+use Rattle.mh_layers.proofs.BridgeLemmas.{comes, comes_to, counted_is_met, keys_are_exact, set}
+use Rattle.mh_layers.proofs.ExactLemmas.{known_cut}
+use Rattle.mh_layers.proofs.KeyAgreeLemmas.{effect_agrees, on_kept}
+use Rattle.mh_layers.proofs.KnownLemmas.{known_same}
+use Rattle.mh_layers.proofs.ReckonLemmas.{by_test, by_worth}
+use Rattle.mh_layers.proofs.ListeningLemmas.{hears_all}
+use Rattle.mh_layers.proofs.NumbersLemmas.{laid_by_number}
+use Rattle.mh_layers.proofs.ReadingLemmas.{numbers_are_names}
+
+pub read_of : (r : Reading) → IsReading r → IsRead r.service (flow_read r) (heard_read r)
+read_of r read = record {
+  service = read.flow.chart.service;
+  keys = read.flow.chart.keys;
+  hears = hears_all r.service (flow_read r) r.listeners read.listening;
+}
+
+serves : (r : Reading) → IsReading r → NumbersServe r.service (flow_read r) (heard_read r) (number r) (name r) (price r)
+serves r read = laid_by_number r.service (flow_read r) (heard_read r) (read_of r read) (number r) (name r) (price r) (numbers_are_names r read)
+
+-- an active effect may have a number
+pub active_kept : (v : Service) (w : Flow) (h : Heard) → IsRead v w h → (x : costs.Effect) → IsOn v w x → IsKept v w h (key_of x)
+active_kept v w h read x on = on_kept (set by_test (λ (y : costs.Effect). true) v w h read) x on
+
+-- and its cost is exact, if it is laid
+pub active_exact : (v : Service) (w : Flow) (h : Heard) → IsRead v w h → (has : Key → Bool) (cost : Key → Option ℕ) (rank : Key → ℕ) → AreNamed (price_of v w h) (IsHad v w h has) cost rank
+    → (f : costs.Costing) → IsCost v w f → (x : costs.Effect) → IsOn v w x → has (key_of x) ≡ true → cost (key_of x) ≡ Some (min (f x) top)
+active_exact v w h read has cost rank named f exact x on here =
+    comes_to (cost k) known.0 (known_worth (told cost) (price_of v w h k)) (min (f x) top) known.1 known.2
+    (known_same (told cost) (λ i. Ok (min (key_cost v w f i) top)) (price_of v w h k)
+    (nodes_map (λ (i : Key). (IsHad v w h has i × (rank i < rank k)) × IsMet v w h i) (λ (i : Key). told cost i ≡ Ok (min (key_cost v w f i) top))
+    (λ i l. ap (told_of i) (keys_are_exact v w h read has cost rank named f exact i l.0.0.0 l.1)) (price_of v w h k)
+    (nodes_both (λ (i : Key). IsHad v w h has i × (rank i < rank k)) (IsMet v w h) (price_of v w h k) (named.falls k (here, kept)) (counted_is_met v w h read k kept)))
+    ∙ known_cut (key_cost v w f) (price_of v w h k)
+    ∙ ap (λ (n : ℕ). Ok (min n top)) (sym (exact x on ∙ sym (comes v w h read f 6 (price_of v w h k) (costs.effect_price v w x) (effect_agrees (set by_worth f v w h read) x on)))))
+  where
+    k : Key
+    k = key_of x
+
+    kept : IsKept v w h (key_of x)
+    kept = active_kept v w h read x on
+
+    known : (c : ℕ) × (cost (key_of x) ≡ Some c) × (known_worth (told cost) (price_of v w h (key_of x)) ≡ Ok c)
+    known = named.comes (key_of x) (here, kept)
+
+-- each active effect has its number among them
+pub on_listed : (r : Reading) (x : costs.Effect) → IsOn r.service (flow_read r) x → Among (active_keys r) (number r (key_of x))
+on_listed r x on =
+    let at = from_joined (λ (c : Config). flat_map (effects_in c) (filter (is_active (present r.service c)) (present r.service c))) (flow_read r).configs x on in
+    let own = from_joined (effects_in at.0) (filter (is_active (present r.service at.0)) (present r.service at.0)) x at.2 in
+    let nth = from_mapped (λ (n : ℕ). place at.0 own.0 n) (range_with_len 0 (length (costs.effects own.0))) x own.2 in
+    subst (λ (y : costs.Effect). Among (active_keys r) (number r (key_of y))) nth.2
+    (among_joined (λ (c : Config). flat_map (keys_of r c) (filter (is_active (present r.service c)) (present r.service c))) (flow_read r).configs at.0 (number r (key_of (place at.0 own.0 nth.0))) at.1
+    (among_joined (keys_of r at.0) (filter (is_active (present r.service at.0)) (present r.service at.0)) own.0 (number r (key_of (place at.0 own.0 nth.0))) own.1
+    (among_mapped (λ (n : ℕ). number r (key_of (place at.0 own.0 n))) (range_with_len 0 (length (costs.effects own.0))) nth.0 nth.1)))
+  where
+    place : Config → Fixed → ℕ → costs.Effect
+    place c p n = record { config = c; object = p.key; number = n }
+
+-- and nothing else is among them
+listed_on : (r : Reading) (k : NodeKey) → Among (active_keys r) k → (x : costs.Effect) × IsOn r.service (flow_read r) x × (number r (key_of x) ≡ k)
+listed_on r k there =
+    let at = from_joined (λ (c : Config). flat_map (keys_of r c) (filter (is_active (present r.service c)) (present r.service c))) (flow_read r).configs k there in
+    let own = from_joined (keys_of r at.0) (filter (is_active (present r.service at.0)) (present r.service at.0)) k at.2 in
+    let nth = from_mapped (λ (n : ℕ). number r (key_of (place at.0 own.0 n))) (range_with_len 0 (length (costs.effects own.0))) k own.2 in (
+      place at.0 own.0 nth.0,
+      among_joined (λ (c : Config). flat_map (effects_in c) (filter (is_active (present r.service c)) (present r.service c))) (flow_read r).configs at.0 (place at.0 own.0 nth.0) at.1
+          (among_joined (effects_in at.0) (filter (is_active (present r.service at.0)) (present r.service at.0)) own.0 (place at.0 own.0 nth.0) own.1
+          (among_mapped (λ (n : ℕ). place at.0 own.0 n) (range_with_len 0 (length (costs.effects own.0))) nth.0 nth.1)),
+      nth.2,
+    )
+  where
+    place : Config → Fixed → ℕ → costs.Effect
+    place c p n = record { config = c; object = p.key; number = n }
+
+-- so all of them are kept
+pub listed_kept : (r : Reading) → IsReading r → Each (kept r) (active_keys r)
+listed_kept r read = among_each (kept r) (active_keys r) (λ k there. by k (listed_on r k there))
+  where
+    by : (k : NodeKey) → (x : costs.Effect) × IsOn r.service (flow_read r) x × (number r (key_of x) ≡ k) → kept r k
+    by k (x, on, same) =
+        let has = active_kept r.service (flow_read r) (heard_read r) (read_of r read) x on in
+        subst (kept r) same (subst (IsKept r.service (flow_read r) (heard_read r)) (sym ((numbers_are_names r read).back (key_of x) has)) has)
+
+laid : (r : Reading) (ts : Places) → list_all (is_laid ts) (active_keys r) ≡ true → (x : costs.Effect) → IsOn r.service (flow_read r) x → has_by ts (number r) (key_of x) ≡ true
+laid r ts all x on = among_all (is_laid ts) (active_keys r) (number r (key_of x)) all (on_listed r x on)
+
+-- what is laid are the layers
+pub layers_of : (l : Layered) → IsReading l.reading → AreLayers (price l.reading) (kept l.reading) l.places → list_all (is_laid l.places) (active_keys l.reading) ≡ true → AreLayersOf l.reading.service l.reading.flow l
+layers_of l read layers all = record {
+  service = refl;
+  flow = refl;
+  layering = (serves l.reading read).layering l.places layers (λ x y on causes. laid l.reading l.places all x on);
+  exact = λ cost is x on.
+      active_exact l.reading.service (flow_read l.reading) (heard_read l.reading) (read_of l.reading read) _ _ _
+      ((serves l.reading read).named l.places layers) cost is x on (laid l.reading l.places all x on);
+}
+
+pub counted_kept : (r : Reading) → IsReading r → CountsKept (price r) (kept r)
+counted_kept r read = (serves r read).counted
+
+-- and where keys have no ranks there is no layering
+pub none_layered : (r : Reading) → IsReading r → NoneRanked (price r) (kept r) → (rank : costs.Effect → ℕ) → IsLayering r.service (flow_read r) rank → ⊥
+none_layered r read = (serves r read).none

@@ -1,0 +1,146 @@
+-- What is asked of a configuration of a net.
+use Rattle.std.specs.Prelude.{◌≡◌, ◌<◌, ◌^◌, ℕ, suc, Bool, true, false, ◌&&◌, ◌||◌, if◌then◌else◌, cond, List, [], ◌∷◌, ◌++◌, length, map, get_or, slice_get, position, unwrap_or, Option, Some, None, refl}
+use Rattle.std.specs.List.{list_all, list_any}
+use Rattle.std.specs.Option.{is_some, option_eq, option_map, option_map_or}
+use Rattle.std.specs.Str.{bytes_eq}
+use Rattle.std.proofs.Common.{arith, inl, inr, ap, ◌∙◌, sym, leb-true}
+use Rattle.std.proofs.lemmas.Option.{get_or_from_slice_get}
+use Rattle.indexmap.specs.IndexSet.{insert_all, insert_key}
+use Rattle.mh_base.specs.declared.obj_ref.ObjRef.{ObjRef}
+use Rattle.mh_base.specs.declared.value.Value.{Value}
+use Rattle.mh_group.specs.Table.{is_application, is_link}
+use Rattle.mh_model.specs.declared.config.Config.{Config}
+use Rattle.mh_model.specs.declared.object.Fixed.{Fixed}
+use Rattle.mh_model.specs.Configuration.{is_group_of, present, same_config, same_scene, starting}
+use Rattle.mh_model.specs.Reference.{group_ref}
+use Rattle.mh_model.specs.Service.{Service, part_at}
+use Rattle.mh_model.proofs.ListLemmas.{and_left, and_right, some_same}
+use Rattle.mh_laws.specs.Each.{Among}
+use Rattle.mh_laws.specs.Flow.{Flow, reached}
+use Rattle.mh_laws.specs.Safe.{exchanged}
+use Rattle.mh_laws.specs.Ways.{Sure, slots_of}
+use Rattle.mh_model.specs.Variables.{same_value}
+use Rattle.mh_layers.specs.Around.{Plain, With}
+use Rattle.mh_laws.proofs.NodeLemmas.{config_among}
+use Rattle.mh_flow.specs.Chart.{all_parts}
+use Rattle.mh_flow.specs.Solved.{held_by, held_in}
+use Rattle.mh_flow.proofs.HeldLemmas.{get_mapped, held_is_set}
+use Rattle.mh_layers.specs.Around as around
+use Rattle.mh_layers.specs.Keys.{Heard, around_lists, hearing, net_around, slot_count}
+use Rattle.mh_layers.specs.Layering.{Places}
+use Rattle.mh_layers.specs.Reading.{IsReading, IsSpot, Reading, Spot, config_named, flow_read, has_few_slots, object_named, same_setting, setting, settings, spot_at, spot_in}
+use Rattle.mh_layers.proofs.ListeningLemmas.{present_among}
+use Rattle.mh_layers.proofs.MetLemmas.{found_among}
+use Rattle.mh_layers.proofs.PositionLemmas.{any_position, no_left, no_right, once_all, once_at, position_is, put_all}
+use Rattle.mh_layers.proofs.ReadingLemmas.{setting_itself, tells_settings}
+
+pub is_spot : (r : Reading) → IsReading r → (ts : Places) (n : ℕ) (c : Config) (ps : List Fixed) (lists : List (List ObjRef)) → slice_get (settings r) n ≡ Some c → slice_get (map (held_in r.service r.flow) (settings r)) n ≡ Some lists → ps ≡ present r.service c
+    → IsSpot (record { reading = r; places = ts; config = c }) n ps lists
+is_spot r read ts n c ps lists at held there = record {
+  read = read;
+  place = sym (ap (λ (o : Option ℕ). unwrap_or o (length (settings r))) (once_at same_setting tells_settings (settings r) (once_all same_setting [] (flow_read r).configs tt) n c at));
+  there = there;
+  sets = λ i o. (ap (λ (x : List (List ObjRef)). held_by (present r.service c) x o) same ∙ held_is_set r.service r.flow c o) i;
+}
+  where
+    own : Some lists ≡ Some (held_in r.service r.flow c)
+    own = sym held ∙ get_mapped (held_in r.service r.flow) (settings r) n ∙ ap (option_map (held_in r.service r.flow)) at
+
+    same : lists ≡ held_in r.service r.flow c
+    same = some_same own
+
+pub named_spot : (r : Reading) (ts : Places) (n : ℕ) (c : Config) → slice_get (settings r) n ≡ Some c → record { reading = r; places = ts; config = c } ≡ spot_at r ts n
+named_spot r ts n c at =
+    let same : c ≡ config_named r n = sym (get_or_from_slice_get (settings r) n c (starting r.service) at) in
+    λ i. record { reading = r; places = ts; config = same i }
+
+-- slots are few where something is there
+
+passed : {X : Type 0} (t : X → Bool) (xs : List X) (x : X) → list_all t xs ≡ true → Among xs x → t x ≡ true
+passed t [] x all there = absurd cc
+passed t (y ∷ xs) x all (inl same) = ap t (sym same) ∙ and_left (t y) (list_all t xs) all
+passed t (y ∷ xs) x all (inr more) = passed t xs x (and_right (t y) (list_all t xs) all) more
+
+pub few_there : (r : Reading) → IsReading r → (c : Config) (o : ObjRef) (p : Fixed) → part_at o (present r.service c) ≡ Some p → has_few_slots p ≡ true
+few_there r read c o p at = passed has_few_slots (all_parts r.service) p read.few (present_among r.service c p (found_among o (present r.service c) p at).1)
+
+pub slots_few : (r : Reading) → IsReading r → (c : Config) (o : ObjRef) → option_map_or slot_count (part_at o (present r.service c)) 0 < 2 ^ 62
+slots_few r read c o = by (part_at o (present r.service c)) refl
+  where
+    cut : (b : Bool) (n : ℕ) → n < 2 ^ 62 → (if b then 0 else n) < 2 ^ 62
+    cut true n less = omega arith
+    cut false n less = less
+
+    by : (x : Option Fixed) → part_at o (present r.service c) ≡ x → option_map_or slot_count x 0 < 2 ^ 62
+    by None e = omega arith
+    by (Some p) e = cut (is_link p.class) (length (slots_of p)) (leb-true (suc (length (slots_of p))) (2 ^ 62) (few_there r read c o p e))
+
+-- a change of what is no list
+
+pub change_lists : (v : Service) (w : Flow) (h : Heard) (c : Config) (r : ObjRef) → around.change (net_around v w h c) r ≡ around.change (around_lists v w h c) r
+unfolding around.change around.list_told around.run_alone around.halt_alone around.rise
+change_lists v w h c r = refl
+
+-- what is reached has a number, and nothing else
+
+neither : (a b : Bool) → a ≡ false → b ≡ false → (a || b) ≡ false
+neither true b e f = e
+neither false b e f = f
+
+any_put : {X : Type 0} (same : X → X → Bool) (t : X → Bool) (ks : List X) (x : X) → list_any t ks ≡ false → t x ≡ false → list_any t (insert_key same ks x) ≡ false
+any_put {X} same t ks x none fails = by (list_any (same x) ks)
+  where
+    last : (ys : List X) → list_any t ys ≡ false → list_any t (ys ++ x ∷ []) ≡ false
+    last [] e = ap (λ (b : Bool). b || false) fails
+    last (y ∷ ys) e = neither (t y) (list_any t (ys ++ x ∷ [])) (no_left (t y) (list_any t ys) e) (last ys (no_right (t y) (list_any t ys) e))
+
+    by : (b : Bool) → list_any t (cond b ks (ks ++ x ∷ [])) ≡ false
+    by true = none
+    by false = last ks none
+
+any_inserted : {X : Type 0} (same : X → X → Bool) (t : X → Bool) (ks xs : List X) → list_any t ks ≡ false → list_any t xs ≡ false → list_any t (insert_all same ks xs) ≡ false
+any_inserted same t ks [] none fails = none
+any_inserted same t ks (x ∷ xs) none fails =
+    any_inserted same t (insert_key same ks x) xs (any_put same t ks x none (no_left (t x) (list_any t xs) fails)) (no_right (t x) (list_any t xs) fails)
+
+setting_is : (c d : Config) → same_setting c d ≡ same_config c d
+setting_is c d = ap (λ (b : Bool). bytes_eq c.app d.app && b) (by c.scene d.scene)
+  where
+    by : (a b : Option (List ℕ)) → option_eq bytes_eq a b ≡ same_scene a b
+    by None None = refl
+    by None (Some h) = refl
+    by (Some g) None = refl
+    by (Some g) (Some h) = refl
+
+pub reached_numbered : (r : Reading) (c : Config) → reached (flow_read r) c ≡ is_some (position (same_setting c) (settings r))
+reached_numbered r c = by (reached (flow_read r) c) refl ∙ any_position (same_setting c) (settings r)
+  where
+    by : (b : Bool) → reached (flow_read r) c ≡ b → reached (flow_read r) c ≡ list_any (same_setting c) (settings r)
+    by true e = e ∙ sym (put_all same_setting setting_itself [] (flow_read r).configs c (config_among (flow_read r).configs c e))
+    by false e = e ∙ sym (any_inserted same_setting (same_setting c) [] (flow_read r).configs refl ((λ i. list_any (λ d. setting_is c d i) (flow_read r).configs) ∙ e))
+
+-- what stands at a number has its name
+
+pub got_there : (r : Reading) (n : ℕ) (o : ObjRef) → slice_get r.listeners.objects n ≡ Some o → o ≡ object_named r n
+got_there r n o at = sym (get_or_from_slice_get r.listeners.objects n o (group_ref []) at)
+
+pub named_in : (r : Reading) (ts : Places) (c : Config) (n : ℕ) → position (same_setting c) (settings r) ≡ Some n → spot_at r ts n ≡ spot_in r ts c
+named_in r ts c n at =
+    let same : config_named r n ≡ c = get_or_from_slice_get (settings r) n c (starting r.service) (position_is same_setting tells_settings (settings r) c n at) in
+    λ i. record { reading = r; places = ts; config = same i }
+
+-- what is known of an event's data, by the number of the value
+
+pub not_named : (xs : List Value) (x : Value) → position (same_value x) xs ≡ None → hearing xs (Sure (Some x)) ≡ Plain
+not_named xs x e = ap (λ (b : Bool). if b then With x else Plain) (any_position (same_value x) xs ∙ ap is_some e)
+
+pub named_there : (xs : List Value) (x : Value) (n : ℕ) → position (same_value x) xs ≡ Some n → hearing xs (Sure (Some x)) ≡ With x
+named_there xs x n e = ap (λ (b : Bool). if b then With x else Plain) (any_position (same_value x) xs ∙ ap is_some e)
+
+-- where a group is entered from here
+
+pub to_application : (v : Service) (c : Config) (g : List ℕ) → is_group_of is_application v g ≡ true → exchanged v c g ≡ setting g None
+to_application v c g is = ap (λ (b : Bool). if b then setting g None else setting c.app (Some g)) is
+
+pub to_scene : (v : Service) (c : Config) (g : List ℕ) → is_group_of is_application v g ≡ false → exchanged v c g ≡ setting c.app (Some g)
+to_scene v c g other = ap (λ (b : Bool). if b then setting g None else setting c.app (Some g)) other

@@ -1,0 +1,11 @@
+use Rattle.std.proofs.Common.{◌≡◌, drop}
+use Rattle.std.specs.Prelude.{Ok}
+use Rattle.mh_layers.specs.Around.{Any}
+use Rattle.mh_layers.specs.Reading.{there_worth}
+use Rattle.mh_layers.specs.Sums.{mosted}
+use Rattle.mh_layers.proofs.price.most_any.Given as goal
+
+abbrev pub invariant-loop-config : goal.invariant-loop-config
+invariant-loop-config l =
+    mosted (there_worth l.net l.costs l.source l.kind Any) l.best (drop l.config-index l.configs)
+    ≡ mosted (there_worth l.net l.costs l.source l.kind Any) (Ok 0) l.configs

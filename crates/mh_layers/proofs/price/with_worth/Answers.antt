@@ -1,0 +1,20 @@
+use Rattle.std.proofs.Common.{◌&&◌, filter, slice_get, ap, ◌∙◌}
+use Rattle.mh_model.specs.declared.config.Config.{Config}
+use Rattle.mh_model.specs.Service.{group_parts}
+use Rattle.mh_model.specs.Variables.{same_value}
+use Rattle.mh_layers.specs.Grouped.{has}
+use Rattle.mh_layers.specs.Keys.{data_of, waits_for}
+use Rattle.mh_layers.specs.Reading.{Reading, values_read}
+use Rattle.mh_layers.proofs.PriceReadLemmas.{links_come}
+use Rattle.mh_layers.proofs.price.with_worth.Goals as goal
+
+pub returns : goal.returns
+returns c x at =
+    let s = c.args.here.now in
+    let o = c.args.source.now in
+    let kind = c.args.kind in
+    links_come s o kind (has same_value x) c.links_with-app.result.now c.scene_links_with.result.now c.links_sum-sum.result c.links_sum.result
+    (c.links_with-app.ensures x (ap (λ (r : Reading). slice_get (values_read r o kind) c.args.value) c.net.ensures ∙ at)
+    ∙ ap (λ (r : Reading). filter (λ p. waits_for o kind p && has same_value x (data_of p)) (group_parts r.service c.config.result.now.app)) c.net.ensures
+    ∙ ap (λ (d : Config). filter (λ p. waits_for o kind p && has same_value x (data_of p)) (group_parts s.reading.service d.app)) c.config.ensures)
+    c.links_sum-sum.ensures (c.scene_links_with.ensures x at) c.links_sum.ensures

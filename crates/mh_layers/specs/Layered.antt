@@ -1,0 +1,51 @@
+-- The layers of a service, as they are laid: by numbers, of all active effects.
+use Rattle.std.specs.Prelude.{◌≡◌, ℕ, List, map, filter, length, min, Option, Some}
+use Rattle.std.specs.List.{flat_map, range_with_len}
+use Rattle.mh_model.specs.declared.config.Config.{Config}
+use Rattle.mh_model.specs.declared.object.Fixed.{Fixed}
+use Rattle.mh_model.specs.Configuration.{present}
+use Rattle.mh_model.specs.Service.{Service}
+use Rattle.mh_laws.specs.Active.{is_active}
+use Rattle.mh_laws.specs.Costs as costs
+use Rattle.mh_laws.specs.Layers.{IsCost, IsLayering, IsOn, active_effects}
+use Rattle.mh_flow.specs.Solved.{Solved}
+use Rattle.mh_layers.specs.declared.node_key.NodeKey.{NodeKey}
+use Rattle.mh_layers.specs.declared.node_key.NodeKey.TheVariants as key
+use Rattle.mh_layers.specs.Bridge.{cost_by, key_of, rank_by}
+use Rattle.mh_layers.specs.Known.{top}
+use Rattle.mh_layers.specs.Layering.{Places}
+use Rattle.mh_layers.specs.Reading.{Reading, config_number, flow_read, number, object_number}
+
+-- what was read, and what is laid
+pub record Layered : Type 0 where
+  pub reading : Reading
+  pub places : Places
+
+-- the numbers of the effects of an object, and of all that are active in a configuration, and anywhere
+
+abbrev pub keys_at : Reading → ℕ → Fixed → List NodeKey
+keys_at r c p = map (λ n. key.Effect c (object_number r p.key) n) (range_with_len 0 (length (costs.effects p)))
+
+abbrev pub keys_of : Reading → Config → Fixed → List NodeKey
+keys_of r c p = keys_at r (config_number r c) p
+
+abbrev pub keys_active : Reading → Config → List NodeKey
+keys_active r c = flat_map (keys_of r c) (filter (is_active (present r.service c)) (present r.service c))
+
+abbrev pub active_keys : Reading → List NodeKey
+active_keys r = flat_map (keys_active r) (flow_read r).configs
+
+abbrev pub rank_laid : Layered → costs.Effect → ℕ
+rank_laid l x = rank_by l.places (number l.reading) (key_of x)
+
+abbrev pub cost_laid : Layered → costs.Effect → Option ℕ
+cost_laid l x = cost_by l.places (number l.reading) (key_of x)
+
+-- the ranks are a layering of the service, and each active effect has its exact cost, cut at the largest number
+pub record AreLayersOf (v : Service) (f : Solved) (l : Layered) : Type 0 where
+  pub service : l.reading.service ≡ v
+  pub flow : l.reading.flow ≡ f
+  pub layering : IsLayering l.reading.service (flow_read l.reading) (rank_laid l)
+  pub exact :
+      (cost : costs.Costing) → IsCost l.reading.service (flow_read l.reading) cost → (x : costs.Effect) →
+      IsOn l.reading.service (flow_read l.reading) x → cost_laid l x ≡ Some (min (cost x) top)

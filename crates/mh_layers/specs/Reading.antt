@@ -1,0 +1,213 @@
+-- A service as it is read for its layers, and the numbers of its keys: a key is told by the places of its configuration, of
+-- its object and of its value, each among all of its kind.
+use Rattle.std.specs.Prelude.{◌≡◌, ◌^◌, nat_lt, ℕ, Bool, true, false, ◌&&◌, if◌then◌else◌, List, [], length, map, position, unwrap_or, get_or, Option, Result}
+use Rattle.std.specs.List.{list_all}
+use Rattle.std.specs.Option.{option_eq}
+use Rattle.std.specs.Str.{bytes_eq}
+use Rattle.indexmap.specs.IndexSet.{insert_all}
+use Rattle.mh_base.specs.declared.obj_ref.ObjRef.{ObjRef}
+use Rattle.mh_base.specs.declared.value.Value.{Value}
+use Rattle.mh_base.specs.declared.value.Value.TheVariants as value
+use Rattle.mh_base.specs.declared.event.EventType.{EventType}
+use Rattle.mh_base.specs.Event.{is_sync}
+use Rattle.mh_model.specs.declared.config.Config.{Config}
+use Rattle.mh_model.specs.declared.object.Fixed.{Fixed}
+use Rattle.mh_model.specs.Configuration.{present, starting}
+use Rattle.mh_model.specs.Reference.{group_ref, same_key}
+use Rattle.mh_model.specs.Service.{Service}
+use Rattle.mh_model.specs.Variables.{same_value}
+use Rattle.mh_laws.specs.Flow.{Flow}
+use Rattle.mh_laws.specs.Price.{Price, Node}
+use Rattle.mh_laws.specs.Ways.{slots_of}
+use Rattle.mh_flow.specs.Chart.{all_parts}
+use Rattle.mh_flow.specs.Solved.{IsFlowOf, Solved, flow_in, held_by, held_in}
+use Rattle.mh_layers.specs.declared.node_key.Hears.{Hears}
+use Rattle.mh_layers.specs.declared.node_key.Hears.TheVariants as hears
+use Rattle.mh_layers.specs.declared.node_key.NodeKey.{NodeKey}
+use Rattle.mh_layers.specs.declared.node_key.NodeKey.TheVariants as key
+use Rattle.mh_layers.specs.Around.{Around, Key, Effect, Fired, Entry, Change, Leave, Enter, Hearing, Plain, With, Any}
+use Rattle.mh_layers.specs.Bridge.{AreNumbers, KeptBy}
+use Rattle.mh_layers.specs.Keys.{Heard, around_lists, fired_if_there, net_around, price_of, values}
+use Rattle.mh_layers.specs.Known.{known_worth, told}
+use Rattle.mh_layers.specs.Layering.{Places, cost_in}
+use Rattle.mh_layers.specs.Listening.{IsListening, Listeners, heard, link_node}
+use Rattle.mh_layers.specs.Numbered.{numbered}
+
+pub record Reading : Type 0 where
+  pub service : Service
+  pub flow : Solved
+  pub listeners : Listeners
+
+abbrev pub flow_read : Reading → Flow
+flow_read r = flow_in r.service r.flow
+
+abbrev pub heard_read : Reading → Heard
+heard_read r = heard r.listeners
+
+-- the slots of an object are few enough to be counted
+abbrev pub has_few_slots : Fixed → Bool
+has_few_slots p = nat_lt (length (slots_of p)) (2 ^ 62)
+
+-- the flow is that of the service, the listeners are all of its links, and slots can be counted
+pub record IsReading (r : Reading) : Type 0 where
+  pub flow : IsFlowOf r.service r.flow
+  pub listening : IsListening r.service r.listeners
+  pub few : list_all has_few_slots (all_parts r.service) ≡ true
+
+-- Places
+
+-- the place of the first that passes; behind all, if none does
+abbrev pub place_among : {X : Type 0} → (X → Bool) → List X → ℕ
+place_among t xs = unwrap_or (position t xs) (length xs)
+
+abbrev pub same_setting : Config → Config → Bool
+same_setting c d = bytes_eq c.app d.app && option_eq bytes_eq c.scene d.scene
+
+abbrev pub setting : List ℕ → Option (List ℕ) → Config
+setting app scene = record { app = app; scene = scene }
+
+-- the configurations that are reached, each once
+abbrev pub settings : Reading → List Config
+settings r = insert_all same_setting [] (flow_read r).configs
+
+-- what is held in each of them
+abbrev pub lists_read : Reading → List (List (List ObjRef))
+lists_read r = map (held_in r.service r.flow) (settings r)
+
+-- the data that links name which wait for such events
+abbrev pub values_read : Reading → ObjRef → EventType → List Value
+values_read r o kind = values (heard_read r o kind)
+
+abbrev pub config_number : Reading → Config → ℕ
+config_number r c = place_among (same_setting c) (settings r)
+
+abbrev pub object_number : Reading → ObjRef → ℕ
+object_number r o = place_among (same_key o) r.listeners.objects
+
+abbrev pub hears_number : Reading → ObjRef → EventType → Hearing → Hears
+hears_number r o kind Plain = hears.Plain
+hears_number r o kind (With x) = hears.With (place_among (same_value x) (values_read r o kind))
+hears_number r o kind Any = hears.Any
+
+-- the number of a key
+abbrev pub number : Reading → Key → NodeKey
+number r (Effect c o n) = key.Effect (config_number r c) (object_number r o) n
+number r (Fired c o kind g) = key.Fired (config_number r c) (object_number r o) kind (hears_number r o kind g)
+number r (Entry o kind g) = key.Entry (object_number r o) kind (hears_number r o kind g)
+number r (Change c o) = key.Change (config_number r c) (object_number r o)
+number r (Leave c all) = key.Leave (config_number r c) all
+number r (Enter c) = key.Enter (config_number r c)
+
+-- Names: where there is none, any
+
+abbrev pub config_named : Reading → ℕ → Config
+config_named r n = get_or (settings r) n (starting r.service)
+
+abbrev pub object_named : Reading → ℕ → ObjRef
+object_named r n = get_or r.listeners.objects n (group_ref [])
+
+abbrev pub hearing_named : Reading → ObjRef → EventType → Hears → Hearing
+hearing_named r o kind hears.Plain = Plain
+hearing_named r o kind (hears.With n) = With (get_or (values_read r o kind) n (value.Bool false))
+hearing_named r o kind hears.Any = Any
+
+-- the key with a number
+abbrev pub name : Reading → NodeKey → Key
+name r (key.Effect c o n) = Effect (config_named r c) (object_named r o) n
+name r (key.Fired c o kind g) = Fired (config_named r c) (object_named r o) kind (hearing_named r (object_named r o) kind g)
+name r (key.Entry o kind g) = Entry (object_named r o) kind (hearing_named r (object_named r o) kind g)
+name r (key.Change c o) = Change (config_named r c) (object_named r o)
+name r (key.Leave c all) = Leave (config_named r c) all
+name r (key.Enter c) = Enter (config_named r c)
+
+-- Prices
+
+-- what a key costs over others
+abbrev pub price_read : Reading → Key → Price Key
+price_read r k = price_of r.service (flow_read r) (heard_read r) k
+
+abbrev pub price : Reading → NodeKey → Price NodeKey
+price r n = numbered (number r) (price_read r (name r n))
+
+-- the numbers whose keys may have a cost
+abbrev pub kept : Reading → NodeKey → Type 0
+kept r n = KeptBy r.service (flow_read r) (heard_read r) (name r) n
+
+-- A net, and what is asked of it
+
+-- the configurations in the order of the flow, each once under its number, and what is held in each
+pub record IsNet (r : Reading) (cs keys : List Config) (lists : List (List (List ObjRef))) : Type 0 where
+  pub reading : IsReading r
+  pub all : cs ≡ (flow_read r).configs
+  pub once : keys ≡ settings r
+  pub held : lists ≡ map (held_in r.service r.flow) keys
+
+-- a configuration of a net, where some costs are known
+pub record Spot : Type 0 where
+  pub reading : Reading
+  pub places : Places
+  pub config : Config
+
+abbrev pub around_at : Spot → Around
+around_at s = net_around s.reading.service (flow_read s.reading) (heard_read s.reading) s.config
+
+-- the same without changes of lists
+abbrev pub still_at : Spot → Around
+still_at s = around_lists s.reading.service (flow_read s.reading) (heard_read s.reading) s.config
+
+-- what is told of a key, by its number
+unfoldable pub told_in : Places → NodeKey → Result ℕ NodeKey
+told_in ts n = told (cost_in ts) n
+
+abbrev pub known_by : Reading → Places → Key → Result ℕ NodeKey
+known_by r ts k = told_in ts (number r k)
+
+abbrev pub known_at : Spot → Key → Result ℕ NodeKey
+known_at s k = known_by s.reading s.places k
+
+-- a configuration by its number
+abbrev pub spot_at : Reading → Places → ℕ → Spot
+spot_at r ts n = record { reading = r; places = ts; config = config_named r n }
+
+-- the same by its name, and what an event of such a hearing sets going there
+abbrev pub spot_in : Reading → Places → Config → Spot
+spot_in r ts c = record { reading = r; places = ts; config = c }
+
+abbrev pub there_worth : Reading → Places → ObjRef → EventType → Hearing → Config → Result ℕ NodeKey
+there_worth r ts o kind g c = known_worth (known_by r ts) (fired_if_there r.service c o kind g)
+
+-- the number of what an event of a source sets going here, and of its entry
+abbrev pub fired_key : Spot → ObjRef → EventType → Hears → NodeKey
+fired_key s o kind g = key.Fired (config_number s.reading s.config) (object_number s.reading o) kind g
+
+abbrev pub entry_key : Spot → ObjRef → EventType → Hears → NodeKey
+entry_key s o kind g = key.Entry (object_number s.reading o) kind g
+
+-- an event that links hear is dealt with at once, or waits
+abbrev pub dealt_at : Spot → ObjRef → EventType → Hearing → Price Key
+dealt_at s o kind g = if is_sync kind then fired_if_there s.reading.service s.config o kind g else Node (Entry o kind g)
+
+-- what a key costs over others
+abbrev pub spot_price : Spot → Key → Price Key
+spot_price s k = price_read s.reading k
+
+-- what is told of a link's effect, and of the links with a value
+abbrev pub link_worth : Spot → Fixed → Result ℕ NodeKey
+link_worth s p = known_worth (known_at s) (link_node s.config p)
+
+abbrev pub value_worth : Spot → ObjRef → EventType → Value → Result ℕ NodeKey
+value_worth s o kind x = known_at s (Fired s.config o kind (With x))
+
+-- the number is that of the configuration, and this is present and held there
+pub record IsSpot (s : Spot) (n : ℕ) (ps : List Fixed) (lists : List (List ObjRef)) : Type 0 where
+  pub read : IsReading s.reading
+  pub place : n ≡ config_number s.reading s.config
+  pub there : ps ≡ present s.reading.service s.config
+  pub sets : held_by (present s.reading.service s.config) lists ≡ (flow_read s.reading).sets s.config
+
+-- Laws
+
+-- numbers and names are one for the other
+abbrev pub NumbersAreNames : Type 0
+NumbersAreNames =
+    (r : Reading) → IsReading r → AreNumbers r.service (flow_read r) (heard_read r) (number r) (name r) (price r)
