@@ -1,7 +1,12 @@
 -- All active effects are laid.
-use Rattle.std.specs.Prelude.{◌≡◌, ◌<◌, ℕ, Bool, true, Ok, List, [], ◌∷◌, ◌++◌, map, filter, length, min, Option, Some, refl}
+use Rattle.std.specs.Prelude.{◌≡◌, ◌<◌, ◌+◌, ℕ, Bool, true, Ok, Err, Result, List, [], ◌∷◌, ◌++◌, map, filter, length, min, position, unwrap_or, Option, Some, refl}
 use Rattle.std.specs.List.{flat_map, list_all, range_with_len}
-use Rattle.std.proofs.Common.{ap, ◌∙◌, sym, subst}
+use Rattle.std.proofs.Common.{ap, ◌∙◌, sym, subst, arith}
+use Rattle.std.proofs.lemmas.List.FromFn.{map-range_with_len_more}
+use Rattle.std.proofs.lemmas.List.Elements.{filter-append}
+use Rattle.std.proofs.lemmas.List.Concat.{flat_map-append}
+use Rattle.mh_flow.proofs.SiteLemmas.{behind}
+use Rattle.mh_layers.specs.declared.node_key.NodeKey.TheVariants as key
 use Rattle.mh_model.specs.declared.config.Config.{Config}
 use Rattle.mh_model.specs.declared.object.Fixed.{Fixed}
 use Rattle.mh_model.specs.Configuration.{present}
@@ -12,11 +17,12 @@ use Rattle.mh_laws.specs.Layers.{IsOn, IsCost, IsLayering, effects_in}
 use Rattle.mh_laws.proofs.EachLemmas.{among_all, among_each, among_joined, among_mapped, from_joined, from_mapped}
 use Rattle.mh_laws.specs.Flow.{Flow}
 use Rattle.mh_model.specs.Service.{Service}
+use Rattle.mh_flow.specs.Solved.{Solved, flow_in}
 use Rattle.mh_layers.specs.declared.node_key.NodeKey.{NodeKey}
 use Rattle.mh_layers.specs.Bridge.{IsRead, NumbersServe, has_by, key_of}
-use Rattle.mh_layers.specs.Layered.{AreLayersOf, Layered, active_keys, keys_of}
+use Rattle.mh_layers.specs.Layered.{AreLayersOf, Layered, active_keys, keys_active, keys_at, keys_of}
 use Rattle.mh_layers.specs.Layering.{AreLayers, CountsKept, NoneRanked, Places, is_laid}
-use Rattle.mh_layers.specs.Reading.{IsReading, Reading, flow_read, heard_read, kept, name, number, price}
+use Rattle.mh_layers.specs.Reading.{IsReading, Reading, flow_read, heard_read, kept, name, number, price, same_setting, settings}
 use Rattle.mh_laws.specs.Price.{Nodes}
 use Rattle.mh_laws.proofs.PriceLemmas.{nodes_both, nodes_map}
 use Rattle.mh_layers.specs.Around.{Key}
@@ -127,3 +133,43 @@ counted_kept r read = (serves r read).counted
 -- and where keys have no ranks there is no layering
 pub none_layered : (r : Reading) → IsReading r → NoneRanked (price r) (kept r) → (rank : costs.Effect → ℕ) → IsLayering r.service (flow_read r) rank → ⊥
 none_layered r read = (serves r read).none
+
+-- Loops
+
+pub numbers_more : (c o n : ℕ) (old keys new : List NodeKey) → keys ≡ old ++ map (λ (m : ℕ). key.Effect c o m) (range_with_len 0 n) → new ≡ keys ++ key.Effect c o n ∷ [] → new ≡ old ++ map (λ (m : ℕ). key.Effect c o m) (range_with_len 0 (n + 1))
+numbers_more c o n old keys new so_far more =
+    more ∙ ap (λ (ks : List NodeKey). ks ++ key.Effect c o n ∷ []) so_far
+    ∙ behind old (map (λ (m : ℕ). key.Effect c o m) (range_with_len 0 n)) (key.Effect c o n ∷ [])
+    ∙ ap (λ (ks : List NodeKey). old ++ ks) (sym (map-range_with_len_more (λ (m : ℕ). key.Effect c o m) 0 n n (omega arith)))
+
+pub config_pushed : (r : Reading) (c : Config) (n : ℕ) (ps xs ys : List Fixed) (old one two : List NodeKey) → position (same_setting c) (settings r) ≡ Some n → ps ≡ present r.service c → xs ++ ys ≡ ps
+    → one ≡ old ++ flat_map (keys_at r n) (filter (is_active ps) xs) → two ≡ one ++ flat_map (keys_at r n) (filter (is_active ps) ys) → two ≡ old ++ keys_active r c
+config_pushed r c n ps xs ys old one two at there joined first second =
+    second ∙ ap (λ (ks : List NodeKey). ks ++ flat_map (keys_at r n) (filter (is_active ps) ys)) first
+    ∙ behind old (flat_map (keys_at r n) (filter (is_active ps) xs)) (flat_map (keys_at r n) (filter (is_active ps) ys))
+    ∙ ap (λ (ks : List NodeKey). old ++ ks) (
+    sym (flat_map-append (keys_at r n) (filter (is_active ps) xs) (filter (is_active ps) ys))
+    ∙ ap (flat_map (keys_at r n)) (sym (filter-append (is_active ps) xs ys) ∙ ap (filter (is_active ps)) joined)
+    ∙ ap (λ (qs : List Fixed). flat_map (keys_at r n) (filter (is_active qs) qs)) there
+    ∙ ap (λ (m : ℕ). flat_map (keys_at r m) (filter (is_active (present r.service c)) (present r.service c))) (sym (ap (λ (o : Option ℕ). unwrap_or o (length (settings r))) at)))
+
+-- the same of a service and a flow that were read
+
+pub layers_read : (l : Layered) (v : Service) (f : Solved) → l.reading.service ≡ v → l.reading.flow ≡ f → IsReading l.reading → AreLayers (price l.reading) (kept l.reading) l.places → list_all (is_laid l.places) (active_keys l.reading) ≡ true → AreLayersOf v f l
+layers_read l v f service flow read layers all =
+    let k = layers_of l read layers all in
+    record { service = service; flow = flow; layering = k.layering; exact = k.exact }
+
+pub none_read : (r : Reading) (v : Service) (f : Solved) → r.service ≡ v → r.flow ≡ f → IsReading r → NoneRanked (price r) (kept r) → (rank : costs.Effect → ℕ) → IsLayering v (flow_in v f) rank → ⊥
+none_read r v f service flow read none rank layering =
+    none_layered r read none rank
+    (subst (λ (g : Solved). IsLayering r.service (flow_in r.service g) rank) (sym flow) (subst (λ (s : Service). IsLayering s (flow_in s f) rank) (sym service) layering))
+
+-- what is refused of one result is refused of another
+
+abbrev err_of : {A E : Type 0} → E → Result A E → E
+err_of d (Ok a) = d
+err_of d (Err x) = x
+
+pub other_err : {A B E : Type 0} (r : Result A E) (s : Result B E) (w e : E) → r ≡ Err w → r ≡ Err e → s ≡ Err w → s ≡ Err e
+other_err {A} {B} {E} r s w e rw re sw = sw ∙ ap (λ (x : E). Err x) (sym (ap (err_of w) rw) ∙ ap (err_of w) re)

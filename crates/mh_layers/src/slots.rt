@@ -63,6 +63,13 @@ pub(crate) fn have_few_slots(service: &Equipped<'_>) -> bool
     have_few_in(service.groups())
 }
 
+/// How many slots the object has, if a number can tell.
+pub(crate) fn known_slots(part: &Fixed) -> Option<usize>
+    ensures { IfSome result (λ n. n ≡ length (slots_of part.now)) }
+{
+    count(members(part))
+}
+
 /// How many slots the object has.
 pub(crate) fn slot_count(part: &Fixed) -> usize
     requires { has_few_slots part.now ≡ true }
