@@ -7,7 +7,7 @@ use Rattle.mh_laws.specs.Flow.{Flow}
 use Rattle.mh_laws.specs.Layers.{IsOn}
 use Rattle.mh_laws.specs.Price.{Price, Nothing, One, Node, Plus, Most, worth, Nodes}
 use Rattle.mh_laws.proofs.PriceLemmas.{nodes_both, nodes_map}
-use Rattle.mh_layers.specs.Around.{Key, Effect, Fired, Entry, Change, Leave, Enter}
+use Rattle.mh_layers.specs.Around.{Key, Effect, Fired, Entry, Change, Leave, Enter, Taken}
 use Rattle.mh_layers.specs.Bridge.{CountedIsMet, IsHad, IsRead, KeysAgree, KeysAreExact, KeysCost, key_cost}
 use Rattle.mh_layers.specs.Keys.{Heard, IsKept, IsMet, level, price_of, stands_for}
 use Rattle.mh_layers.specs.Known.{known_worth, told, told_of, top}
@@ -79,6 +79,7 @@ counted_is_met v w h read (Entry r kind g) kept = other_met v w h read (Entry r 
 counted_is_met v w h read (Change c r) kept = other_met v w h read (Change c r) tt kept
 counted_is_met v w h read (Leave c all) kept = other_met v w h read (Leave c all) tt kept
 counted_is_met v w h read (Enter c) kept = other_met v w h read (Enter c) tt kept
+counted_is_met v w h read (Taken c k) kept = other_met v w h read (Taken c k) tt kept
 
 -- what is met may have a number
 pub met_kept : (v : Service) (w : Flow) (h : Heard) → IsRead v w h → (k : Key) → IsMet v w h k → IsKept v w h k
@@ -88,6 +89,7 @@ met_kept v w h read (Entry r kind g) met = met
 met_kept v w h read (Change c r) met = met
 met_kept v w h read (Leave c all) met = met
 met_kept v w h read (Enter c) met = met
+met_kept v w h read (Taken c k) met = met
 
 -- Costs
 
@@ -100,6 +102,7 @@ keys_cost v w h read f cost (Entry r kind g) met = sym (comes v w h read f _ _ _
 keys_cost v w h read f cost (Change c r) met = sym (comes v w h read f _ _ _ (key_agrees (set by_worth f v w h read) (Change c r) tt met))
 keys_cost v w h read f cost (Leave c all) met = sym (comes v w h read f _ _ _ (key_agrees (set by_worth f v w h read) (Leave c all) tt met))
 keys_cost v w h read f cost (Enter c) met = sym (comes v w h read f _ _ _ (key_agrees (set by_worth f v w h read) (Enter c) tt met))
+keys_cost v w h read f cost (Taken c k) met = sym (comes v w h read f _ _ _ (key_agrees (set by_worth f v w h read) (Taken c k) tt met))
 
 -- what comes to this costs this
 pub comes_to : {E : Type 0} (o : Option ℕ) (c : ℕ) (known : Result ℕ E) (n : ℕ) → o ≡ Some c → known ≡ Ok c → known ≡ Ok n → o ≡ Some n

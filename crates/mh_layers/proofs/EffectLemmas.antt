@@ -1,7 +1,7 @@
 -- Effects by their numbers.
-use Rattle.std.specs.Prelude.{◌≡◌, ◌≤◌, ℕ, zero, suc, ◌-◌, ◌<◌, ◌+◌, List, [], ◌∷◌, ◌++◌, length, get_or, refl}
-use Rattle.std.proofs.Common.{arith, ap, ◌∙◌, sym}
-use Rattle.std.proofs.lemmas.List.{get_or_append_left, get_or-append-add}
+use Rattle.std.specs.Prelude.{◌≡◌, ◌≤◌, ℕ, zero, suc, ◌-◌, ◌+◌, List, ◌∷◌, ◌++◌, length, get_or}
+use Rattle.std.proofs.Common.{arith, ap, ◌∙◌}
+use Rattle.std.proofs.lemmas.List.{get_or-append-add}
 
 -- behind the first three stand the slots
 pub behind_three : {X : Type 0} (a b c d : X) (xs : List X) (n : ℕ) → 3 ≤ n → get_or (a ∷ b ∷ c ∷ xs) n d ≡ get_or xs (n - 3) d

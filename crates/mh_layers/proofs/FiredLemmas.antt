@@ -153,7 +153,7 @@ entry_hearing {A} s r kind xs d e =
 
 -- where no link waits
 
-silent_fired : {A : Type 0} (s : Setting A) (c : Config) (r : ObjRef) (kind : EventType) (d : Told) → s.heard r kind ≡ None → reached s.flow c ≡ true → effects_come s (costs.fired s.service c r kind d) ≡ s.way.none
+pub silent_fired : {A : Type 0} (s : Setting A) (c : Config) (r : ObjRef) (kind : EventType) (d : Told) → s.heard r kind ≡ None → reached s.flow c ≡ true → effects_come s (costs.fired s.service c r kind d) ≡ s.way.none
 silent_fired {A} s c r kind d e here = by d
   where
     known : AreKnown r kind None (present s.service c)
@@ -201,7 +201,7 @@ entry_agrees s r kind g named =
 
 -- Events that are emitted
 
-heard_agrees : {A : Type 0} (s : Setting A) (c : Config) (r : ObjRef) (kind : EventType) (d : Told) (o : Option (List Value)) → s.heard r kind ≡ o → reached s.flow c ≡ true → Agrees s 4 (heard_with s.service c r kind d o) (if is_sync kind then costs.fired_if_there s.service c r kind d else costs.entry s.service s.flow r kind d)
+pub heard_agrees : {A : Type 0} (s : Setting A) (c : Config) (r : ObjRef) (kind : EventType) (d : Told) (o : Option (List Value)) → s.heard r kind ≡ o → reached s.flow c ≡ true → Agrees s 4 (heard_with s.service c r kind d o) (if is_sync kind then costs.fired_if_there s.service c r kind d else costs.entry s.service s.flow r kind d)
 heard_agrees {A} s c r kind d None e here = by (is_sync kind)
   where
     by : (b : Bool) → Agrees s 4 (if b then Nothing else One) (if b then costs.fired_if_there s.service c r kind d else costs.entry s.service s.flow r kind d)

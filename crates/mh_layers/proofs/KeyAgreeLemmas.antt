@@ -19,13 +19,14 @@ use Rattle.mh_laws.specs.Layers.{IsOn, effects_in}
 use Rattle.mh_laws.specs.Price.{Price, Nothing, most_price, if_price}
 use Rattle.mh_laws.proofs.EachLemmas.{among_filtered, from_joined, from_mapped}
 use Rattle.mh_layers.specs.Around as around
-use Rattle.mh_layers.specs.Around.{Key, Effect, Fired, Entry, Change, Leave, Enter}
+use Rattle.mh_layers.specs.Around.{Key, Effect, Fired, Entry, Change, Leave, Enter, Taken}
 use Rattle.mh_layers.specs.Keys.{effect_of, IsKept, level, price_of, stands_for}
 use Rattle.mh_layers.proofs.ActAgreeLemmas.{acts_agree}
 use Rattle.mh_layers.proofs.AgreeLemmas.{Agrees, Setting, agrees_then, effects_come}
 use Rattle.mh_layers.proofs.FiredLemmas.{entry_agrees, fired_agrees}
 use Rattle.mh_layers.proofs.LifeAgreeLemmas.{change_agrees, enter_agrees, leave_agrees, net}
 use Rattle.mh_layers.proofs.MetLemmas.{found_among, on_of, reached_among, same_itself}
+use Rattle.mh_layers.proofs.TakenAgreeLemmas.{taken_agrees}
 use Rattle.mh_layers.proofs.ReckonLemmas.{Below, all_below, below_among, below_same, both_below}
 
 -- keys that are no effects
@@ -40,10 +41,11 @@ key_agrees s (Entry r kind g) other kept = entry_agrees s r kind g kept
 key_agrees s (Change c r) other kept = change_agrees s c kept.0 r
 key_agrees s (Leave c all) other kept = leave_agrees s c kept all
 key_agrees s (Enter c) other kept = enter_agrees s c kept
+key_agrees s (Taken c k) other kept = taken_agrees s c kept.0 kept.1 k
 
 -- Effects
 
-from_filtered : {X : Type 0} (t : X → Bool) (xs : List X) (x : X) → Among (filter t xs) x → (t x ≡ true) × Among xs x
+pub from_filtered : {X : Type 0} (t : X → Bool) (xs : List X) (x : X) → Among (filter t xs) x → (t x ≡ true) × Among xs x
 from_filtered t [] x there = absurd cc
 from_filtered {X} t (y ∷ xs) x there = by (t y) refl there (from_filtered t xs x)
   where

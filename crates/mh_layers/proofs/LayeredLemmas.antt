@@ -1,6 +1,6 @@
 -- All active effects are laid.
-use Rattle.std.specs.Prelude.{◌≡◌, ◌<◌, ◌+◌, ℕ, Bool, true, Ok, Err, Result, List, [], ◌∷◌, ◌++◌, map, filter, length, min, position, unwrap_or, Option, Some, refl}
-use Rattle.std.specs.List.{flat_map, list_all, range_with_len}
+use Rattle.std.specs.Prelude.{◌≡◌, ◌<◌, ◌+◌, ℕ, Bool, true, Ok, Err, Result, List, [], ◌∷◌, ◌++◌, map, filter, length, min, Option, Some}
+use Rattle.std.specs.List.{flat_map, range_with_len}
 use Rattle.std.proofs.Common.{ap, ◌∙◌, sym, subst, arith}
 use Rattle.std.proofs.lemmas.List.FromFn.{map-range_with_len_more}
 use Rattle.std.proofs.lemmas.List.Elements.{filter-append}
@@ -14,16 +14,15 @@ use Rattle.mh_laws.specs.Active.{is_active}
 use Rattle.mh_laws.specs.Costs as costs
 use Rattle.mh_laws.specs.Each.{Among, Each}
 use Rattle.mh_laws.specs.Layers.{IsOn, IsCost, IsLayering, effects_in}
-use Rattle.mh_laws.proofs.EachLemmas.{among_all, among_each, among_joined, among_mapped, from_joined, from_mapped}
+use Rattle.mh_laws.proofs.EachLemmas.{among_each, among_joined, among_mapped, from_joined, from_mapped}
 use Rattle.mh_laws.specs.Flow.{Flow}
 use Rattle.mh_model.specs.Service.{Service}
 use Rattle.mh_flow.specs.Solved.{Solved, flow_in}
 use Rattle.mh_layers.specs.declared.node_key.NodeKey.{NodeKey}
-use Rattle.mh_layers.specs.Bridge.{IsRead, NumbersServe, has_by, key_of}
-use Rattle.mh_layers.specs.Layered.{AreLayersOf, Layered, active_keys, keys_active, keys_at, keys_of}
+use Rattle.mh_layers.specs.Bridge.{IsRead, cost_by, has_by, key_of, rank_by}
+use Rattle.mh_layers.specs.Layered.{active_keys, keys_active, keys_at, keys_of}
 use Rattle.mh_layers.specs.Layering.{AreLayers, CountsKept, NoneRanked, Places, is_laid}
-use Rattle.mh_layers.specs.Reading.{IsReading, Reading, flow_read, heard_read, kept, name, number, price, same_setting, settings}
-use Rattle.mh_laws.specs.Price.{Nodes}
+use Rattle.mh_layers.specs.Reading.{IsReading, Reading, config_number, flow_read, heard_read, kept, number, price}
 use Rattle.mh_laws.proofs.PriceLemmas.{nodes_both, nodes_map}
 use Rattle.mh_layers.specs.Around.{Key}
 use Rattle.mh_layers.specs.Keys.{Heard, IsKept, IsMet, price_of}
@@ -35,19 +34,8 @@ use Rattle.mh_layers.proofs.ExactLemmas.{known_cut}
 use Rattle.mh_layers.proofs.KeyAgreeLemmas.{effect_agrees, on_kept}
 use Rattle.mh_layers.proofs.KnownLemmas.{known_same}
 use Rattle.mh_layers.proofs.ReckonLemmas.{by_test, by_worth}
-use Rattle.mh_layers.proofs.ListeningLemmas.{hears_all}
-use Rattle.mh_layers.proofs.NumbersLemmas.{laid_by_number}
 use Rattle.mh_layers.proofs.ReadingLemmas.{numbers_are_names}
-
-pub read_of : (r : Reading) → IsReading r → IsRead r.service (flow_read r) (heard_read r)
-read_of r read = record {
-  service = read.flow.chart.service;
-  keys = read.flow.chart.keys;
-  hears = hears_all r.service (flow_read r) r.listeners read.listening;
-}
-
-serves : (r : Reading) → IsReading r → NumbersServe r.service (flow_read r) (heard_read r) (number r) (name r) (price r)
-serves r read = laid_by_number r.service (flow_read r) (heard_read r) (read_of r read) (number r) (name r) (price r) (numbers_are_names r read)
+use Rattle.mh_layers.proofs.ServeLemmas.{read_of, serves}
 
 -- an active effect may have a number
 pub active_kept : (v : Service) (w : Flow) (h : Heard) → IsRead v w h → (x : costs.Effect) → IsOn v w x → IsKept v w h (key_of x)
@@ -89,7 +77,7 @@ on_listed r x on =
     place c p n = record { config = c; object = p.key; number = n }
 
 -- and nothing else is among them
-listed_on : (r : Reading) (k : NodeKey) → Among (active_keys r) k → (x : costs.Effect) × IsOn r.service (flow_read r) x × (number r (key_of x) ≡ k)
+pub listed_on : (r : Reading) (k : NodeKey) → Among (active_keys r) k → (x : costs.Effect) × IsOn r.service (flow_read r) x × (number r (key_of x) ≡ k)
 listed_on r k there =
     let at = from_joined (λ (c : Config). flat_map (keys_of r c) (filter (is_active (present r.service c)) (present r.service c))) (flow_read r).configs k there in
     let own = from_joined (keys_of r at.0) (filter (is_active (present r.service at.0)) (present r.service at.0)) k at.2 in
@@ -113,19 +101,16 @@ listed_kept r read = among_each (kept r) (active_keys r) (λ k there. by k (list
         let has = active_kept r.service (flow_read r) (heard_read r) (read_of r read) x on in
         subst (kept r) same (subst (IsKept r.service (flow_read r) (heard_read r)) (sym ((numbers_are_names r read).back (key_of x) has)) has)
 
-laid : (r : Reading) (ts : Places) → list_all (is_laid ts) (active_keys r) ≡ true → (x : costs.Effect) → IsOn r.service (flow_read r) x → has_by ts (number r) (key_of x) ≡ true
-laid r ts all x on = among_all (is_laid ts) (active_keys r) (number r (key_of x)) all (on_listed r x on)
+-- where their numbers are laid, ranks are a layering
+pub layering_of : (r : Reading) → IsReading r → (ts : Places) → AreLayers (price r) (kept r) ts → ((k : NodeKey) → Among (active_keys r) k → is_laid ts k ≡ true) → IsLayering r.service (flow_read r) (λ x. rank_by ts (number r) (key_of x))
+layering_of r read ts layers laid = (serves r read).layering ts layers (λ x y on causes. laid (number r (key_of x)) (on_listed r x on))
 
--- what is laid are the layers
-pub layers_of : (l : Layered) → IsReading l.reading → AreLayers (price l.reading) (kept l.reading) l.places → list_all (is_laid l.places) (active_keys l.reading) ≡ true → AreLayersOf l.reading.service l.reading.flow l
-layers_of l read layers all = record {
-  service = refl;
-  flow = refl;
-  layering = (serves l.reading read).layering l.places layers (λ x y on causes. laid l.reading l.places all x on);
-  exact = λ cost is x on.
-      active_exact l.reading.service (flow_read l.reading) (heard_read l.reading) (read_of l.reading read) _ _ _
-      ((serves l.reading read).named l.places layers) cost is x on (laid l.reading l.places all x on);
-}
+-- and costs are exact
+pub costs_of : (r : Reading) → IsReading r → (ts : Places) → AreLayers (price r) (kept r) ts → ((k : NodeKey) → Among (active_keys r) k → is_laid ts k ≡ true)
+    → (cost : costs.Costing) → IsCost r.service (flow_read r) cost → (x : costs.Effect) → IsOn r.service (flow_read r) x → cost_by ts (number r) (key_of x) ≡ Some (min (cost x) top)
+costs_of r read ts layers laid cost is x on =
+    active_exact r.service (flow_read r) (heard_read r) (read_of r read) (has_by ts (number r)) (cost_by ts (number r)) (rank_by ts (number r))
+    ((serves r read).named ts layers) cost is x on (laid (number r (key_of x)) (on_listed r x on))
 
 pub counted_kept : (r : Reading) → IsReading r → CountsKept (price r) (kept r)
 counted_kept r read = (serves r read).counted
@@ -142,7 +127,7 @@ numbers_more c o n old keys new so_far more =
     ∙ behind old (map (λ (m : ℕ). key.Effect c o m) (range_with_len 0 n)) (key.Effect c o n ∷ [])
     ∙ ap (λ (ks : List NodeKey). old ++ ks) (sym (map-range_with_len_more (λ (m : ℕ). key.Effect c o m) 0 n n (omega arith)))
 
-pub config_pushed : (r : Reading) (c : Config) (n : ℕ) (ps xs ys : List Fixed) (old one two : List NodeKey) → position (same_setting c) (settings r) ≡ Some n → ps ≡ present r.service c → xs ++ ys ≡ ps
+pub config_pushed : (r : Reading) (c : Config) (n : ℕ) (ps xs ys : List Fixed) (old one two : List NodeKey) → n ≡ config_number r c → ps ≡ present r.service c → xs ++ ys ≡ ps
     → one ≡ old ++ flat_map (keys_at r n) (filter (is_active ps) xs) → two ≡ one ++ flat_map (keys_at r n) (filter (is_active ps) ys) → two ≡ old ++ keys_active r c
 config_pushed r c n ps xs ys old one two at there joined first second =
     second ∙ ap (λ (ks : List NodeKey). ks ++ flat_map (keys_at r n) (filter (is_active ps) ys)) first
@@ -151,15 +136,9 @@ config_pushed r c n ps xs ys old one two at there joined first second =
     sym (flat_map-append (keys_at r n) (filter (is_active ps) xs) (filter (is_active ps) ys))
     ∙ ap (flat_map (keys_at r n)) (sym (filter-append (is_active ps) xs ys) ∙ ap (filter (is_active ps)) joined)
     ∙ ap (λ (qs : List Fixed). flat_map (keys_at r n) (filter (is_active qs) qs)) there
-    ∙ ap (λ (m : ℕ). flat_map (keys_at r m) (filter (is_active (present r.service c)) (present r.service c))) (sym (ap (λ (o : Option ℕ). unwrap_or o (length (settings r))) at)))
+    ∙ ap (λ (m : ℕ). flat_map (keys_at r m) (filter (is_active (present r.service c)) (present r.service c))) at)
 
 -- the same of a service and a flow that were read
-
-pub layers_read : (l : Layered) (v : Service) (f : Solved) → l.reading.service ≡ v → l.reading.flow ≡ f → IsReading l.reading → AreLayers (price l.reading) (kept l.reading) l.places → list_all (is_laid l.places) (active_keys l.reading) ≡ true → AreLayersOf v f l
-layers_read l v f service flow read layers all =
-    let k = layers_of l read layers all in
-    record { service = service; flow = flow; layering = k.layering; exact = k.exact }
-
 pub none_read : (r : Reading) (v : Service) (f : Solved) → r.service ≡ v → r.flow ≡ f → IsReading r → NoneRanked (price r) (kept r) → (rank : costs.Effect → ℕ) → IsLayering v (flow_in v f) rank → ⊥
 none_read r v f service flow read none rank layering =
     none_layered r read none rank

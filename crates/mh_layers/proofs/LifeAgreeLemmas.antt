@@ -204,7 +204,7 @@ close_down = (λ p. refl, omega arith)
 -- Groups
 
 -- the order of a sum is no matter
-turned : {A X : Type 0} (s : Setting A) (h : X → Price costs.Effect) (xs : List X) → effects_come s (sum_price h (reverse xs)) ≡ effects_come s (sum_price h xs)
+pub turned : {A X : Type 0} (s : Setting A) (h : X → Price costs.Effect) (xs : List X) → effects_come s (sum_price h (reverse xs)) ≡ effects_come s (sum_price h xs)
 turned s h [] = refl
 turned {A} {X} s h (x ∷ xs) =
     ap (λ (zs : List X). effects_come s (sum_price h zs)) (reverse-append (x ∷ []) xs) ∙ sum_joined s.way s.of h (reverse xs) (x ∷ [])

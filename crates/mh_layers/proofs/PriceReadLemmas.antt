@@ -1,5 +1,5 @@
 -- What prices of events come to, as loops make them.
-use Rattle.std.specs.Prelude.{◌≡◌, ◌&&◌, ℕ, Bool, List, [], filter, Option, Result, Ok}
+use Rattle.std.specs.Prelude.{◌≡◌, ◌&&◌, ℕ, Bool, List, filter, Option, Result, Ok}
 use Rattle.std.proofs.Common.{ap, ◌∙◌, sym}
 use Rattle.mh_base.specs.declared.obj_ref.ObjRef.{ObjRef}
 use Rattle.mh_base.specs.declared.value.Value.{Value}

@@ -10,7 +10,7 @@ use Rattle.mh_laws.specs.Flow.{Flow}
 use Rattle.mh_laws.specs.Layers.{IsOn, most_of}
 use Rattle.mh_laws.specs.Price.{Price, Nothing, counted_in, Nodes}
 use Rattle.mh_laws.proofs.PriceLemmas.{nodes_both, nodes_map, nodes_of, of_nodes}
-use Rattle.mh_layers.specs.Around.{Key, Effect, Fired, Entry, Change, Leave, Enter}
+use Rattle.mh_layers.specs.Around.{Key, Effect, Fired, Entry, Change, Leave, Enter, Taken}
 use Rattle.mh_layers.specs.Bridge.{IsHad, LayersAreRanks, RanksAreLayers, key_of, key_rank}
 use Rattle.mh_layers.specs.Keys.{Heard, IsKept, IsMet, level, price_of, stands_for}
 use Rattle.mh_layers.proofs.AgreeLemmas.{IsLow}
@@ -26,6 +26,7 @@ effect_or_other (Entry r kind g) = inr tt
 effect_or_other (Change c r) = inr tt
 effect_or_other (Leave c all) = inr tt
 effect_or_other (Enter c) = inr tt
+effect_or_other (Taken c k) = inr tt
 
 -- all effects for which it stands have lower ranks
 abbrev Under : Service → Flow → (costs.Effect → ℕ) → ℕ → Key → Type 0
@@ -121,6 +122,7 @@ other_rank v w rank (Entry r kind g) other = refl
 other_rank v w rank (Change c r) other = refl
 other_rank v w rank (Leave c all) other = refl
 other_rank v w rank (Enter c) other = refl
+other_rank v w rank (Taken c k) other = refl
 
 ranked_below : (v : Service) (w : Flow) (rank : costs.Effect → ℕ) (n l : ℕ) (j : Key) → Under v w rank n j → level j < l → key_rank v w rank j < 7 * n + l
 ranked_below v w rank n l j under less = by (effect_or_other j)

@@ -1,9 +1,8 @@
 -- Numbers and names are one for the other.
-use Rattle.std.specs.Prelude.{◌≡◌, ℕ, Bool, true, false, ◌&&◌, ◌||◌, List, [], ◌∷◌, length, get_or, slice_get, position, unwrap_or, option_and_then, Option, Some, None, refl}
-use Rattle.std.specs.List.{list_any}
+use Rattle.std.specs.Prelude.{◌≡◌, ℕ, Bool, true, false, ◌&&◌, List, [], length, get_or, position, unwrap_or, option_and_then, Option, Some, None, refl}
 use Rattle.std.specs.Option.{option_eq, option_map, option_map_or}
 use Rattle.std.specs.Str.{bytes_eq}
-use Rattle.std.proofs.Common.{inl, inr, ap, ◌∙◌, sym, subst}
+use Rattle.std.proofs.Common.{inl, ap, ◌∙◌, sym}
 use Rattle.std.proofs.lemmas.Option.{get_or_from_slice_get}
 use Rattle.std.proofs.lemmas.Slice.Eq.{bytes_eq-Decides}
 use Rattle.mh_base.specs.declared.obj_ref.ObjRef.{ObjRef}
@@ -20,12 +19,11 @@ use Rattle.mh_model.specs.Variables.{same_value}
 use Rattle.mh_model.proofs.ListLemmas.{and_left, and_right}
 use Rattle.mh_laws.specs.Flow.{is_list_in, reached}
 use Rattle.mh_laws.proofs.NodeLemmas.{config_among}
-use Rattle.indexmap.specs.IndexSet.{insert_all}
-use Rattle.mh_layers.specs.Around.{Key, Effect, Fired, Entry, Change, Leave, Enter, Hearing, Plain, With, Any}
+use Rattle.mh_layers.specs.Around.{Key, Effect, Fired, Entry, Change, Leave, Enter, Taken, Hearing, Plain, With, Any}
 use Rattle.mh_layers.specs.Keys.{IsKept, is_named, values}
-use Rattle.mh_layers.specs.Listening.{Listeners, heard, ear_at, same_ear}
+use Rattle.mh_layers.specs.Listening.{ear_at, same_ear}
 use Rattle.std.specs.Map.{lookup}
-use Rattle.mh_layers.specs.Reading.{IsReading, NumbersAreNames, Reading, config_named, config_number, flow_read, heard_read, hearing_named, hears_number, name, number, object_named, object_number, place_among, same_setting, settings, values_read}
+use Rattle.mh_layers.specs.Reading.{IsReading, NumbersAreNames, Reading, config_named, config_number, flow_read, heard_read, hearing_named, hears_number, name, number, object_named, object_number, place_among, same_setting, settings}
 use Rattle.mh_layers.proofs.ListeningLemmas.{objects_numbered, present_among, tells_objects, tells_values}
 use Rattle.mh_layers.proofs.MetLemmas.{found_among, there_found}
 use Rattle.mh_layers.proofs.PositionLemmas.{TellsOne, position_is, position_there, put_all}
@@ -144,6 +142,9 @@ back r read (Leave c all) kept =
 back r read (Enter c) kept =
     let config = config_back r c kept in
     λ i. Enter (config i)
+back r read (Taken c k) kept =
+    let config = config_back r c kept.0 in
+    λ i. Taken (config i) k
 
 pub numbers_are_names : NumbersAreNames
 numbers_are_names r read = record {

@@ -1,5 +1,5 @@
 -- What is asked of a configuration of a net.
-use Rattle.std.specs.Prelude.{◌≡◌, ◌<◌, ◌^◌, ℕ, suc, Bool, true, false, ◌&&◌, ◌||◌, if◌then◌else◌, cond, List, [], ◌∷◌, ◌++◌, length, map, get_or, slice_get, position, unwrap_or, Option, Some, None, refl}
+use Rattle.std.specs.Prelude.{◌≡◌, ◌<◌, ◌^◌, ℕ, suc, Bool, true, false, ◌&&◌, ◌||◌, if◌then◌else◌, cond, List, [], ◌∷◌, ◌++◌, length, map, slice_get, position, unwrap_or, Option, Some, None, refl}
 use Rattle.std.specs.List.{list_all, list_any}
 use Rattle.std.specs.Option.{is_some, option_eq, option_map, option_map_or}
 use Rattle.std.specs.Str.{bytes_eq}
@@ -28,7 +28,7 @@ use Rattle.mh_flow.proofs.HeldLemmas.{get_mapped, held_is_set}
 use Rattle.mh_layers.specs.Around as around
 use Rattle.mh_layers.specs.Keys.{Heard, around_lists, hearing, net_around, slot_count}
 use Rattle.mh_layers.specs.Layering.{Places}
-use Rattle.mh_layers.specs.Reading.{IsReading, IsSpot, Reading, Spot, config_named, flow_read, has_few_slots, object_named, same_setting, setting, settings, spot_at, spot_in}
+use Rattle.mh_layers.specs.Reading.{IsReading, IsSpot, Reading, config_named, flow_read, has_few_slots, object_named, same_setting, setting, settings, spot_at, spot_in}
 use Rattle.mh_layers.proofs.ListeningLemmas.{present_among}
 use Rattle.mh_layers.proofs.MetLemmas.{found_among}
 use Rattle.mh_layers.proofs.PositionLemmas.{any_position, no_left, no_right, once_all, once_at, position_is, put_all}

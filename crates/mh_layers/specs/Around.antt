@@ -10,7 +10,7 @@ use Rattle.mh_group.specs.declared.action_name.ActionName.{ActionName}
 use Rattle.mh_group.specs.declared.action_name.ActionName.TheVariants as action
 use Rattle.mh_group.specs.declared.class.Class.{Class}
 use Rattle.mh_group.specs.declared.class.Class.TheVariants as class
-use Rattle.mh_group.specs.Table.{is_runnable, has_content}
+use Rattle.mh_group.specs.Table.{is_runnable, is_stream, has_content}
 use Rattle.mh_model.specs.declared.act.Act.{Act}
 use Rattle.mh_model.specs.declared.act.Argument.{Argument}
 use Rattle.mh_model.specs.declared.act.Argument.TheVariants as argument
@@ -20,11 +20,13 @@ use Rattle.mh_model.specs.declared.config.Config.{Config}
 use Rattle.mh_model.specs.declared.member.Member.{Member}
 use Rattle.mh_model.specs.declared.object.Fixed.{Fixed}
 use Rattle.mh_model.specs.Groups.{is_initially_active, is_shared}
+use Rattle.mh_model.specs.Reference.{group_ref}
 use Rattle.mh_model.specs.Saying.{event_numbered}
 use Rattle.mh_model.specs.Tokens.{members}
-use Rattle.mh_laws.specs.Costs.{data_sent, first_slot, on_start_up}
+use Rattle.mh_laws.specs.Costs.{TimerKey, data_sent, first_slot, on_start_up}
 use Rattle.mh_laws.specs.Price.{Price, Nothing, One, Plus, Most, if_price}
 use Rattle.mh_laws.specs.Ways.{Told, Sure, Unsure}
+use Rattle.mh_layers.specs.declared.bounds.InputKind.{InputKind}
 use Rattle.mh_layers.specs.Sums.{sum_from, most_from}
 
 -- the links that an event can match: those without data, those with this data, or those with any one data
@@ -34,7 +36,8 @@ pub data Hearing : Type 0 where
   Any : Hearing
 
 -- what has a cost of its own: an effect by its number, what an event sets going that is dealt with at once, an event that
--- waits, a change of a list, what is done when the scene or all of a configuration is left, and when one is entered
+-- waits, a change of a list, what is done when the scene or all of a configuration is left, and when one is entered, and an
+-- input of a kind that is taken
 pub data Key : Type 0 where
   Effect : Config → ObjRef → ℕ → Key
   Fired : Config → ObjRef → EventType → Hearing → Key
@@ -42,6 +45,7 @@ pub data Key : Type 0 where
   Change : Config → ObjRef → Key
   Leave : Config → Bool → Key
   Enter : Config → Key
+  Taken : Config → InputKind → Key
 
 -- What is asked of a configuration: what is said of an object, what an event sets going, an effect of an object, how many slots
 -- it has, to what a variable may refer or which items a list may have, a change of a list, to leave the scene or all, and to
@@ -149,6 +153,33 @@ unshared_halted a ps =
 -- a group of these parts is entered
 unfoldable pub enter : Around → ObjRef → List Fixed → Price Key
 enter a g ps = Plus (Plus One (a.effect g on_start_up)) (Plus (all_run a ps) (plain_emit a g event.IsRunning))
+
+-- Inputs
+
+-- what a key makes an object of this class put that interacts
+abbrev pub pressed_by : Around → ObjRef → Class → Price Key
+pressed_by a r class.EntryField = Most (plain_emit a r event.EntryFieldFull) (plain_emit a r event.InteractionCompleted)
+pressed_by a r class.PushButton = Most (plain_emit a r event.IsSelected) (plain_emit a r event.InteractionCompleted)
+pressed_by a r _ = Nothing
+
+abbrev pub pressed : Around → Fixed → Price Key
+pressed a p = pressed_by a p.key p.class
+
+-- what streams have to tell
+abbrev pub stream_told : Around → Fixed → Price Key
+stream_told a p = if_price (is_stream p.class) (a.dealt_with p.key event.StreamEvent Unsure)
+
+-- what there is that has content, and can wait for a file
+abbrev pub reads : Option Fixed → Bool
+reads None = false
+reads (Some p) = has_content p.class
+
+abbrev pub content_told : Around → Fixed → Price Key
+content_told a p = if_price (reads (a.part p.key)) (a.dealt_with p.key event.ContentAvailable (Sure None))
+
+-- a timer of the configuration is due
+abbrev pub timer_due : Around → (List ℕ → Bool) → TimerKey → Price Key
+timer_due a here t = if_price (here t.0) (a.dealt_with (group_ref t.0) event.TimerFired (Sure (Some (value.Int t.1))))
 
 -- Actions
 

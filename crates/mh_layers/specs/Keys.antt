@@ -1,15 +1,19 @@
 -- The keys of a service: what each costs over other keys, and what it stands for over effects. A key is priced once,
 -- however often it is counted, so that prices stay small.
-use Rattle.std.specs.Prelude.{◌≡◌, ℕ, zero, suc, Bool, true, false, ◌&&◌, not, if◌then◌else◌, List, [], length, Option, Some, None}
+use Rattle.std.specs.Prelude.{◌≡◌, ℕ, zero, suc, Bool, true, false, ◌&&◌, not, if◌then◌else◌, List, [], length, reverse, Option, Some, None, pos}
 use Rattle.std.specs.List.{list_any}
 use Rattle.std.specs.Option.{option_map_or}
 use Rattle.mh_base.specs.declared.obj_ref.ObjRef.{ObjRef}
 use Rattle.mh_base.specs.declared.value.Value.{Value}
 use Rattle.mh_base.specs.declared.event.EventType.{EventType}
+use Rattle.mh_base.specs.declared.event.EventType.TheVariants as event
 use Rattle.mh_base.specs.Event.{is_sync}
+use Rattle.indexmap.specs.IndexSet.{insert_all}
 use Rattle.mh_group.specs.declared.attribute.Attribute.TheVariants as attribute
 use Rattle.mh_group.specs.Table.{is_group_class, is_link}
 use Rattle.mh_model.specs.declared.config.Config.{Config}
+use Rattle.mh_model.specs.declared.input.Input.TheVariants as input
+use Rattle.mh_model.specs.declared.key.Key.TheVariants as pressed
 use Rattle.mh_model.specs.declared.object.Fixed.{Fixed}
 use Rattle.mh_model.specs.Configuration.{present, scene_parts}
 use Rattle.mh_model.specs.Items.{hears_source, hears_type}
@@ -22,11 +26,13 @@ use Rattle.mh_laws.specs.Costs as costs
 use Rattle.mh_laws.specs.Each.{Among}
 use Rattle.mh_laws.specs.Flow.{Flow, is_list_in, reached}
 use Rattle.mh_laws.specs.Layers.{IsOn}
-use Rattle.mh_laws.specs.Price.{Price, Nothing, One, Node, Plus, sum_price, if_price}
+use Rattle.mh_laws.specs.Price.{Price, Nothing, One, Node, Plus, Most, sum_price, if_price}
 use Rattle.mh_laws.specs.Safe.{exchanged}
 use Rattle.mh_laws.specs.Ways.{Told, Sure, Unsure, slots_of}
 use Rattle.mh_layers.specs.Around as around
-use Rattle.mh_layers.specs.Around.{Around, Key, Effect, Fired, Entry, Change, Leave, Enter, Hearing, Plain, With, Any}
+use Rattle.mh_layers.specs.Around.{Around, Key, Effect, Fired, Entry, Change, Leave, Enter, Taken, Hearing, Plain, With, Any}
+use Rattle.mh_layers.specs.declared.bounds.InputKind.{InputKind}
+use Rattle.mh_layers.specs.declared.bounds.InputKind.TheVariants as kind
 use Rattle.mh_layers.specs.Grouped.{has, is_plain}
 use Rattle.mh_layers.specs.Sums.{sum_from, most_from}
 
@@ -139,6 +145,31 @@ leave_price v w h c true =
     (Plus (around.all_halted (net_around v w h c) (scene_parts v c.scene))
     (around.all_halted (net_around v w h c) (group_parts v c.app))))
 
+-- what the links put that wait for such an event, whatever its data; nothing where none waits
+abbrev pub fired_of : Config → ObjRef → EventType → Option (List Value) → Price Key
+fired_of c r kind None = Nothing
+fired_of c r kind (Some xs) = Node (Fired c r kind Any)
+
+abbrev pub heard_key : Heard → Config → Option (List ℕ) → Price Key
+heard_key h c None = Nothing
+heard_key h c (Some g) = fired_of c (group_ref g) event.UserInput (h (group_ref g) event.UserInput)
+
+-- all timers that can be set, each once, from the last on
+abbrev pub every_timer : Service → Flow → List costs.TimerKey
+every_timer v w = insert_all costs.same_timer [] (reverse (costs.set_timers v w))
+
+-- what an input of this kind costs that is taken in the configuration; the start, in the one that is entered then
+abbrev pub taken_price : Service → Flow → Heard → Config → InputKind → Price Key
+taken_price v w h c kind.Start = Node (Enter c)
+taken_price v w h c kind.Key =
+    Plus One (Most (heard_key h c c.scene) (most_from (around.pressed (net_around v w h c)) Nothing (present v c)))
+taken_price v w h c kind.Tick =
+    Plus One (sum_from (around.timer_due (net_around v w h c) (costs.is_group_in c)) Nothing (every_timer v w))
+taken_price v w h c kind.Stream = Plus One (sum_from (around.stream_told (net_around v w h c)) Nothing (present v c))
+taken_price v w h c kind.Engine =
+    Plus One (fired_of c (group_ref c.app) event.EngineEvent (h (group_ref c.app) event.EngineEvent))
+taken_price v w h c kind.Arrive = Plus One (sum_from (around.content_told (net_around v w h c)) Nothing (present v c))
+
 -- the group that is entered when a configuration is
 abbrev pub entered : Config → Option (List ℕ) → List ℕ
 entered c None = c.app
@@ -156,6 +187,7 @@ price_of v w h (Change c r) = around.change (net_around v w h c) r
 price_of v w h (Leave c all) = leave_price v w h c all
 price_of v w h (Enter c) =
     around.enter (net_around v w h c) (group_ref (entered c c.scene)) (group_parts v (entered c c.scene))
+price_of v w h (Taken c k) = taken_price v w h c k
 
 -- What a key stands for, over effects
 
@@ -172,6 +204,14 @@ abbrev pub leaves : Service → Flow → Config → Bool → Price costs.Effect
 leaves v w c false = costs.leave_scene v w c
 leaves v w c true = costs.leave_all v w c
 
+abbrev pub takes : Service → Flow → Config → InputKind → Price costs.Effect
+takes v w c kind.Start = costs.enter v w c (entered c c.scene)
+takes v w c kind.Key = costs.input_price v w c (input.Key pressed.Red)
+takes v w c kind.Tick = costs.input_price v w c (input.Tick 0)
+takes v w c kind.Stream = costs.input_price v w c (input.Stream (pos 0))
+takes v w c kind.Engine = costs.input_price v w c (input.Engine (pos 0))
+takes v w c kind.Arrive = costs.input_price v w c (input.Arrive (record { name = []; content = [] }))
+
 abbrev pub stands_for : Service → Flow → Key → Price costs.Effect
 stands_for v w (Effect c r n) = Node (record { config = c; object = r; number = n })
 stands_for v w (Fired c r kind g) = fires v c r kind g
@@ -179,6 +219,7 @@ stands_for v w (Entry r kind g) = costs.entry v w r kind (told_by g)
 stands_for v w (Change c r) = costs.change v w c r
 stands_for v w (Leave c all) = leaves v w c all
 stands_for v w (Enter c) = costs.enter v w c (entered c c.scene)
+stands_for v w (Taken c k) = takes v w c k
 
 -- Which keys are met
 
@@ -196,8 +237,17 @@ is_caused (suc zero) p = is_group_class p.class
 is_caused (suc (suc zero)) p = is_link p.class
 is_caused (suc (suc (suc n))) p = not (is_link p.class)
 
+-- the groups of the configuration are there themselves
+
+abbrev pub scene_there : Service → Config → Bool
+scene_there v c = option_map_or (λ g. is_there (group_ref g) (present v c)) c.scene true
+
+abbrev pub has_groups : Service → Config → Bool
+has_groups v c = is_there (group_ref c.app) (present v c) && scene_there v c
+
 -- what is counted by others is one of these: an active effect; what an event sets going whose source is there and for which
--- links wait, or its entry; a change of a list; what is done when a configuration is left or entered
+-- links wait, or its entry; a change of a list; what is done when a configuration is left or entered. And an input is met that
+-- is taken where a configuration is whole.
 abbrev pub IsMet : Service → Flow → Heard → Key → Type 0
 IsMet v w h (Effect c r n) =
     IsOn v w (record { config = c; object = r; number = n }) × (option_map_or (is_caused n) (part_at r (present v c)) false ≡ true)
@@ -207,6 +257,7 @@ IsMet v w h (Entry r kind g) = is_named (h r kind) g ≡ true
 IsMet v w h (Change c r) = (reached w c ≡ true) × (is_list_in (present v c) r ≡ true)
 IsMet v w h (Leave c all) = reached w c ≡ true
 IsMet v w h (Enter c) = reached w c ≡ true
+IsMet v w h (Taken c k) = (reached w c ≡ true) × (has_groups v c ≡ true)
 
 -- and these may have a number: those, and any other effect of what is there
 abbrev pub IsKept : Service → Flow → Heard → Key → Type 0
@@ -227,3 +278,4 @@ level (Entry r kind g) = 3
 level (Change c r) = 4
 level (Leave c all) = 5
 level (Enter c) = 5
+level (Taken c k) = 6

@@ -1,25 +1,30 @@
 -- The layers of a service, as they are laid: by numbers, of all active effects.
-use Rattle.std.specs.Prelude.{◌≡◌, ℕ, List, map, filter, length, min, Option, Some}
+use Rattle.std.specs.Prelude.{◌≡◌, ℕ, List, [], ◌∷◌, ◌++◌, map, filter, length, min, Option, Some}
 use Rattle.std.specs.List.{flat_map, range_with_len}
 use Rattle.mh_model.specs.declared.config.Config.{Config}
 use Rattle.mh_model.specs.declared.object.Fixed.{Fixed}
-use Rattle.mh_model.specs.Configuration.{present}
+use Rattle.mh_model.specs.Configuration.{present, starting}
 use Rattle.mh_model.specs.Service.{Service}
 use Rattle.mh_laws.specs.Active.{is_active}
+use Rattle.mh_laws.specs.Budget.{Bounds, six_costs}
 use Rattle.mh_laws.specs.Costs as costs
-use Rattle.mh_laws.specs.Layers.{IsCost, IsLayering, IsOn, active_effects}
-use Rattle.mh_flow.specs.Solved.{Solved}
+use Rattle.mh_laws.specs.Layers.{IsCost, IsLayering, IsOn}
+use Rattle.mh_flow.specs.Solved.{Solved, flow_in}
+use Rattle.mh_layers.specs.declared.bounds.InputKind.{InputKind}
+use Rattle.mh_layers.specs.declared.bounds.InputKind.TheVariants as kind
 use Rattle.mh_layers.specs.declared.node_key.NodeKey.{NodeKey}
 use Rattle.mh_layers.specs.declared.node_key.NodeKey.TheVariants as key
+use Rattle.mh_layers.specs.Bounding.{capped}
 use Rattle.mh_layers.specs.Bridge.{cost_by, key_of, rank_by}
 use Rattle.mh_layers.specs.Known.{top}
 use Rattle.mh_layers.specs.Layering.{Places}
 use Rattle.mh_layers.specs.Reading.{Reading, config_number, flow_read, number, object_number}
 
--- what was read, and what is laid
+-- what was read, what is laid, and the bounds
 pub record Layered : Type 0 where
   pub reading : Reading
   pub places : Places
+  pub bounds : Bounds
 
 -- the numbers of the effects of an object, and of all that are active in a configuration, and anywhere
 
@@ -41,11 +46,22 @@ rank_laid l x = rank_by l.places (number l.reading) (key_of x)
 abbrev pub cost_laid : Layered → costs.Effect → Option ℕ
 cost_laid l x = cost_by l.places (number l.reading) (key_of x)
 
--- the ranks are a layering of the service, and each active effect has its exact cost, cut at the largest number
+-- the ranks are a layering of the service; each active effect has its exact cost, and the start and each kind of input its
+-- own, cut at the largest number
 pub record AreLayersOf (v : Service) (f : Solved) (l : Layered) : Type 0 where
-  pub service : l.reading.service ≡ v
-  pub flow : l.reading.flow ≡ f
-  pub layering : IsLayering l.reading.service (flow_read l.reading) (rank_laid l)
+  pub layering : IsLayering v (flow_in v f) (rank_laid l)
   pub exact :
-      (cost : costs.Costing) → IsCost l.reading.service (flow_read l.reading) cost → (x : costs.Effect) →
-      IsOn l.reading.service (flow_read l.reading) x → cost_laid l x ≡ Some (min (cost x) top)
+      (cost : costs.Costing) → IsCost v (flow_in v f) cost → (x : costs.Effect) → IsOn v (flow_in v f) x →
+      cost_laid l x ≡ Some (min (cost x) top)
+  pub bounds : (cost : costs.Costing) → IsCost v (flow_in v f) cost → l.bounds ≡ capped (six_costs v (flow_in v f) cost)
+
+-- the keys of the start and of all inputs, and after them those of all effects
+abbrev pub kinds : List InputKind
+kinds = kind.Key ∷ kind.Tick ∷ kind.Stream ∷ kind.Engine ∷ kind.Arrive ∷ []
+
+abbrev pub input_keys : Reading → Config → List NodeKey
+input_keys r c = map (λ k. key.Taken (config_number r c) k) kinds
+
+abbrev pub root_keys : Reading → List NodeKey
+root_keys r =
+    key.Taken (config_number r (starting r.service)) kind.Start ∷ flat_map (input_keys r) (flow_read r).configs ++ active_keys r

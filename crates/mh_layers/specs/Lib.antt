@@ -12,3 +12,14 @@ pub mod Hashing
 pub mod Listening
 pub mod Reading
 pub mod Layered
+pub mod Bounding
+pub mod SetTimers
+pub mod Taking
+pub mod Cycle
+pub mod Cheapest
+pub mod Causing
+pub mod Web
+pub mod Asked
+pub mod Standings
+pub mod Walk
+pub mod Ranked

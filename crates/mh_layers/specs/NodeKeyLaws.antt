@@ -1,5 +1,5 @@
 -- Keys by numbers: what is equal is one key, and so equality is as it should be. The laws of equality and hash cite these.
-use Rattle.std.specs.Prelude.{◌≡◌, ℕ, ◌&&◌, ◌==◌, Bool, true, false, Option, Some, unwrap_or, refl}
+use Rattle.std.specs.Prelude.{◌≡◌, ℕ, zero, suc, ◌&&◌, ◌==◌, Bool, true, false, Option, Some, unwrap_or, refl}
 use Rattle.std.specs.Cmp.{IsEquivalence, both_ways, first_so, second_so}
 use Rattle.std.proofs.Common.{ap, ◌∙◌, sym, subst, true≢false}
 use Rattle.std.proofs.lemmas.Bool.Decides.{Decides-eqb}
@@ -10,7 +10,9 @@ use Rattle.mh_layers.specs.declared.node_key.Hears.{Hears}
 use Rattle.mh_layers.specs.declared.node_key.Hears.TheVariants as hears
 use Rattle.mh_layers.specs.declared.node_key.NodeKey.{NodeKey}
 use Rattle.mh_layers.specs.declared.node_key.NodeKey.TheVariants as key
-use Rattle.mh_layers.specs.NodeKeys.{hears_fed, key_fed, same_flag, same_hears, same_key}
+use Rattle.mh_layers.specs.declared.bounds.InputKind.{InputKind}
+use Rattle.mh_layers.specs.declared.bounds.InputKind.TheVariants as input
+use Rattle.mh_layers.specs.NodeKeys.{hears_fed, key_fed, kind_number, same_flag, same_hears, same_key}
 
 number : (m n : ℕ) → (m == n) ≡ true → m ≡ n
 number m n e = (Decides-eqb m n).0 e
@@ -37,6 +39,22 @@ one t u e = ap (λ (o : Option EventType). unwrap_or o t) e
 
 kind : (t u : EventType) → (number_of t == number_of u) ≡ true → t ≡ u
 kind t u e = one t u (sym (event_back t) ∙ ap event_of (number (number_of t) (number_of u) e) ∙ event_back u)
+
+-- the kind of input with a number
+abbrev kind_of : ℕ → InputKind
+kind_of zero = input.Start
+kind_of (suc zero) = input.Key
+kind_of (suc (suc zero)) = input.Tick
+kind_of (suc (suc (suc zero))) = input.Stream
+kind_of (suc (suc (suc (suc zero)))) = input.Engine
+kind_of n = input.Arrive
+
+kind_back : (k : InputKind) → kind_of (kind_number k) ≡ k
+kind_back input.Start = refl
+kind_back k = refl
+
+input_kind : (j k : InputKind) → (kind_number j == kind_number k) ≡ true → j ≡ k
+input_kind j k e = sym (kind_back j) ∙ ap kind_of (number (kind_number j) (kind_number k) e) ∙ kind_back k
 
 two : (a b : Bool) → (a && b) ≡ true → (a ≡ true) × (b ≡ true)
 two a b e = (first_so a b e, second_so a b e)
@@ -78,6 +96,10 @@ keys_are_apart (key.Leave c a) (key.Leave d b) e =
     let x = number c d both.0 in let y = flag a b both.1 in
     λ i. key.Leave (x i) (y i)
 keys_are_apart (key.Enter c) (key.Enter d) e = ap key.Enter (number c d e)
+keys_are_apart (key.Taken c k) (key.Taken d j) e =
+    let both = two (c == d) (kind_number k == kind_number j) e in
+    let x = number c d both.0 in let y = input_kind k j both.1 in
+    λ i. key.Taken (x i) (y i)
 keys_are_apart _ _ e = absurd (true≢false (sym e))
 
 pub key_itself : (k : NodeKey) → same_key k k ≡ true
@@ -87,6 +109,7 @@ key_itself (key.Entry r t g) = λ i. itself r i && itself (number_of t) i && hea
 key_itself (key.Change c r) = λ i. itself c i && itself r i
 key_itself (key.Leave c a) = λ i. itself c i && flag_itself a i
 key_itself (key.Enter c) = itself c
+key_itself (key.Taken c k) = λ i. itself c i && itself (kind_number k) i
 
 -- a test that holds of what is one alone
 equivalence : {X : Type 0} (same : X → X → Bool) → ((x : X) → same x x ≡ true) → ((x y : X) → same x y ≡ true → x ≡ y) → IsEquivalence same

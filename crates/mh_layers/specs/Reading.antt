@@ -16,6 +16,7 @@ use Rattle.mh_model.specs.Configuration.{present, starting}
 use Rattle.mh_model.specs.Reference.{group_ref, same_key}
 use Rattle.mh_model.specs.Service.{Service}
 use Rattle.mh_model.specs.Variables.{same_value}
+use Rattle.mh_laws.specs.Costs.{TimerKey}
 use Rattle.mh_laws.specs.Flow.{Flow}
 use Rattle.mh_laws.specs.Price.{Price, Node}
 use Rattle.mh_laws.specs.Ways.{slots_of}
@@ -25,9 +26,9 @@ use Rattle.mh_layers.specs.declared.node_key.Hears.{Hears}
 use Rattle.mh_layers.specs.declared.node_key.Hears.TheVariants as hears
 use Rattle.mh_layers.specs.declared.node_key.NodeKey.{NodeKey}
 use Rattle.mh_layers.specs.declared.node_key.NodeKey.TheVariants as key
-use Rattle.mh_layers.specs.Around.{Around, Key, Effect, Fired, Entry, Change, Leave, Enter, Hearing, Plain, With, Any}
+use Rattle.mh_layers.specs.Around.{Around, Key, Effect, Fired, Entry, Change, Leave, Enter, Taken, Hearing, Plain, With, Any}
 use Rattle.mh_layers.specs.Bridge.{AreNumbers, KeptBy}
-use Rattle.mh_layers.specs.Keys.{Heard, around_lists, fired_if_there, net_around, price_of, values}
+use Rattle.mh_layers.specs.Keys.{Heard, around_lists, every_timer, fired_if_there, net_around, price_of, values}
 use Rattle.mh_layers.specs.Known.{known_worth, told}
 use Rattle.mh_layers.specs.Layering.{Places, cost_in}
 use Rattle.mh_layers.specs.Listening.{IsListening, Listeners, heard, link_node}
@@ -97,6 +98,7 @@ number r (Entry o kind g) = key.Entry (object_number r o) kind (hears_number r o
 number r (Change c o) = key.Change (config_number r c) (object_number r o)
 number r (Leave c all) = key.Leave (config_number r c) all
 number r (Enter c) = key.Enter (config_number r c)
+number r (Taken c k) = key.Taken (config_number r c) k
 
 -- Names: where there is none, any
 
@@ -119,6 +121,7 @@ name r (key.Entry o kind g) = Entry (object_named r o) kind (hearing_named r (ob
 name r (key.Change c o) = Change (config_named r c) (object_named r o)
 name r (key.Leave c all) = Leave (config_named r c) all
 name r (key.Enter c) = Enter (config_named r c)
+name r (key.Taken c k) = Taken (config_named r c) k
 
 -- Prices
 
@@ -135,12 +138,14 @@ kept r n = KeptBy r.service (flow_read r) (heard_read r) (name r) n
 
 -- A net, and what is asked of it
 
--- the configurations in the order of the flow, each once under its number, and what is held in each
-pub record IsNet (r : Reading) (cs keys : List Config) (lists : List (List (List ObjRef))) : Type 0 where
+-- the configurations in the order of the flow, each once under its number, and what is held in each; and the timers that can
+-- be set
+pub record IsNet (r : Reading) (cs keys : List Config) (lists : List (List (List ObjRef))) (ts : List TimerKey) : Type 0 where
   pub reading : IsReading r
   pub all : cs ≡ (flow_read r).configs
   pub once : keys ≡ settings r
   pub held : lists ≡ map (held_in r.service r.flow) keys
+  pub timers : ts ≡ every_timer r.service (flow_read r)
 
 -- a configuration of a net, where some costs are known
 pub record Spot : Type 0 where

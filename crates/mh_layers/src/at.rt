@@ -1,7 +1,7 @@
 //! `At`: a configuration of a net, where some costs are known.
 //!
 //! Promise: each answer is what its price comes to, over what is told of keys by their numbers.
-ghost use Rattle.std.specs.Prelude.{◌≡◌, ◌+◌, ◌<◌, ℕ, None, Some, if◌then◌else◌, position, slice_get, IfSome};
+ghost use Rattle.std.specs.Prelude.{◌≡◌, ◌+◌, ◌++◌, ◌<◌, ℕ, None, Some, if◌then◌else◌, position, slice_get, IfSome};
 ghost use Rattle.std.specs.Option.{option_copied};
 ghost use Rattle.mh_base.specs.Event.{is_sync};
 ghost use Rattle.mh_model.specs.Configuration.{present as present_there};
@@ -14,7 +14,7 @@ ghost use Rattle.mh_laws.specs.Price.{Nothing, One};
 ghost use Rattle.mh_laws.specs.Safe.{exchanged};
 ghost use Rattle.mh_laws.specs.Ways.{Sure, Unsure};
 ghost use Rattle.mh_layers.specs.Around as around_lem;
-ghost use Rattle.mh_layers.specs.Around.{Any, Plain, With};
+ghost use Rattle.mh_layers.specs.Around.{Any, Enter, Plain, With};
 ghost use Rattle.mh_layers.specs.Keys.{fired_if_there, hearing};
 ghost use Rattle.mh_layers.specs.Known.{known_worth};
 ghost use Rattle.mh_layers.specs.Reading.{IsReading, around_at as around_spot, config_number, dealt_at, entry_key, fired_key, known_at, link_worth, lists_read, place_among, same_setting, settings, spot_at, still_at, told_in, value_worth, values_read};
@@ -30,7 +30,7 @@ use crate::values::Values;
 use mh_base::{EventType, GroupName, ObjRef, Value};
 use mh_flow::{Held, Present};
 use mh_group::Class;
-use mh_model::{Config, Fixed};
+use mh_model::{Config, Fixed, FixedPart};
 use std::marker::Model;
 
 /// A configuration of a net, where some costs are known.
@@ -354,6 +354,20 @@ impl<'a> At<'a> {
         ensures { result.now ≡ self.now.config }
     {
         self.config
+    }
+
+    /// What is present: the parts of the application, and those of the scene.
+    pub fn parts(&self) -> (&'a [FixedPart], &'a [FixedPart])
+        ensures { result.0.now ++ result.1.now ≡ present_there self.now.reading.service self.now.config }
+    {
+        self.present.parts()
+    }
+
+    /// What it costs to enter it.
+    pub fn entering(&self) -> Worth
+        ensures { result ≡ known_at self.now (Enter self.now.config) }
+    {
+        self.told(NodeKey::Enter(self.number()))
     }
 
     /// Whether the effects of the object can come to be done here.

@@ -1,6 +1,7 @@
 //! Laws of layers.
 //!
-//! Promise: what is laid is exact; keys are told apart.
+//! Promise: what is laid is exact; keys are told apart; by the least flow effects cost least.
+ghost use Rattle.mh_layers.specs.Cheapest.{LeastIsCheapest};
 ghost use Rattle.mh_layers.specs.Grouped.{SumsByData};
 ghost use Rattle.mh_layers.specs.Layering.{CostsExist, LayersAreExact};
 ghost use Rattle.mh_layers.specs.NodeKeys.{KeysAreApart};
@@ -24,4 +25,10 @@ pub fn keys_are_apart()
 /// those with one data.
 pub fn sums_by_data<X, V>()
     ensures { SumsByData X V }
+{}
+
+/// By the least flow of a service no more is active than by any other solution, effects cause no more and cost no
+/// more, and the start and the inputs cost no more.
+pub fn least_is_cheapest()
+    ensures { LeastIsCheapest }
 {}

@@ -1,24 +1,36 @@
-//! `Layers`: what every effect of a service costs, and its rank.
+//! `Layers`: what every effect of a service costs, and its rank; and the most that the start and an input of each kind
+//! can cost.
 //!
-//! Promise: the ranks are a layering, and each active effect has its exact cost, cut at the largest number of 64 bits;
-//! a cycle is told only where no layering is.
-ghost use Rattle.std.specs.Prelude.{◌≡◌, IfOk, IsErrOf};
+//! Promise: the ranks are a layering, each active effect has its exact cost, and so have the start and the costliest
+//! inputs, cut at the largest number of 64 bits; a cycle is told only where no layering is.
+ghost use Rattle.std.specs.Prelude.{◌≡◌, max, IfOk, IsErrOf};
+ghost use Rattle.mh_model.specs.Configuration.{starting};
 ghost use Rattle.mh_laws.specs.Layers.{IsLayering};
 ghost use Rattle.mh_flow.specs.Solved.{IsFlowOf, flow_in};
-ghost use Rattle.mh_layers.specs.Layered.{AreLayersOf};
+ghost use Rattle.mh_layers.specs.declared.node_key.NodeKey.TheVariants as key;
+ghost use Rattle.mh_layers.specs.Bridge.{key_of};
+ghost use Rattle.mh_layers.specs.Layered.{AreLayersOf, cost_laid, rank_laid};
+ghost use Rattle.mh_layers.specs.Layering.{cost_in};
+ghost use Rattle.mh_layers.specs.Reading.{config_number, number as number_of_key};
+ghost use Rattle.mh_layers.specs.Taking.{bound_laid, bounds_laid, largest_from, or_nothing, taken_laid};
 
+use crate::bounds::{Bounds, InputKind};
 use crate::laying::{LayersError, Laying, lay};
 use crate::net::Net;
-use crate::roots::roots;
+use crate::node_key::NodeKey;
+use crate::roots::{roots, start_number};
+use mh_base::ObjRef;
 use mh_flow::{Equipped, Flow};
+use mh_model::Config;
 use std::alloc::Global;
 use std::marker::Model;
 
-/// Costs and ranks of the effects of a service.
+/// Costs and ranks of the effects of a service, and the bounds of its start and its inputs.
 #[derive(Drop)]
 pub struct Layers<'a> {
     net: Net<'a>,
     laying: Laying,
+    bounds: Bounds,
 }
 
 impl<'a> Model for Layers<'a> {
@@ -29,7 +41,127 @@ impl<'a> Model for Layers<'a> {
     ghost view = { λ l. record {
       reading = l.net;
       places = l.laying;
+      bounds = l.bounds;
     } };
+}
+
+impl<'a> Layers<'a> {
+    /// The most steps to which the start, and an input of each kind, can lead.
+    pub fn bounds(&self) -> Bounds
+        ensures { result ≡ self.now.bounds }
+    {
+        self.bounds
+    }
+
+    /// The rank of an effect: the object's effects are start-up, close-down, what a link does, and then slots.
+    pub fn rank(&self, config: &Config, at: &ObjRef, number: usize) -> usize
+        ensures { result ≡ rank_laid self.now (record { config = config.now; object = at.now; number = number }) }
+    {
+        match self.laying.costs().laid(&self.key(config, at, number)) {
+            None => 0,
+            Some(laid) => laid.rank,
+        }
+    }
+
+    /// What the effect costs, if that is laid.
+    pub fn cost(&self, config: &Config, at: &ObjRef, number: usize) -> Option<u64>
+        ensures { result ≡ cost_laid self.now (record { config = config.now; object = at.now; number = number }) }
+    {
+        match self.laying.costs().laid(&self.key(config, at, number)) {
+            None => None,
+            Some(laid) => Some(laid.cost),
+        }
+    }
+
+    fn key(&self, config: &Config, at: &ObjRef, number: usize) -> NodeKey
+        ensures { result ≡ number_of_key self.now.reading (key_of (record { config = config.now; object = at.now; number = number })) }
+    {
+        NodeKey::Effect(
+            self.net.config_number(config),
+            self.net.object_number(at),
+            number,
+        )
+    }
+}
+
+// Bounds
+
+/// What an input of the kind costs that is taken in the configuration with this number; nothing, if it is not laid.
+fn taken_cost(laying: &Laying, config: usize, kind: InputKind) -> u64
+    ensures { result ≡ or_nothing (cost_in laying.now (key.Taken config kind)) }
+{
+    match laying.costs().laid(&NodeKey::Taken(config, kind)) {
+        None => 0,
+        Some(laid) => laid.cost,
+    }
+}
+
+/// What it costs in the configuration.
+#[tactic(auto, unfolding(crate::specs::Taking::taken_laid))]
+fn cost_in_config(net: &Net<'_>, laying: &Laying, config: &Config, kind: InputKind) -> u64
+    ensures { result ≡ taken_laid net.now laying.now kind config.now }
+{
+    taken_cost(laying, net.config_number(config), kind)
+}
+
+/// What the start costs, where this is the number of its configuration.
+#[tactic(auto, unfolding(crate::specs::Taking::taken_laid))]
+fn start_cost(net: &Net<'_>, laying: &Laying, start: usize) -> u64
+    requires { start ≡ config_number net.now (starting net.now.service) }
+    ensures { result ≡ taken_laid net.now laying.now InputKind.Start (starting net.now.service) }
+{
+    taken_cost(laying, start, InputKind::Start)
+}
+
+fn larger(first: u64, second: u64) -> u64
+    ensures { result ≡ max first second }
+{
+    first.max(second)
+}
+
+/// The most that an input of the kind costs in any of these.
+fn most_in(net: &Net<'_>, laying: &Laying, configs: &[Config], kind: InputKind) -> u64
+    ensures { result ≡ largest_from (taken_laid net.now laying.now kind) 0 configs.now }
+{
+    let mut most: u64 = 0;
+    for config in configs {
+        most = larger(most, cost_in_config(net, laying, config, kind));
+    }
+    most
+}
+
+/// The most that an input of the kind costs in any configuration.
+fn bound(net: &Net<'_>, laying: &Laying, kind: InputKind) -> u64
+    ensures { result ≡ bound_laid net.now laying.now kind }
+{
+    most_in(net, laying, net.configs(), kind)
+}
+
+fn bounds_of(net: &Net<'_>, laying: &Laying, start: usize) -> Bounds
+    requires { start ≡ config_number net.now (starting net.now.service) }
+    ensures { result ≡ bounds_laid net.now laying.now }
+{
+    Bounds {
+        start: start_cost(net, laying, start),
+        key: bound(net, laying, InputKind::Key),
+        tick: bound(net, laying, InputKind::Tick),
+        stream: bound(net, laying, InputKind::Stream),
+        engine: bound(net, laying, InputKind::Engine),
+        arrive: bound(net, laying, InputKind::Arrive),
+    }
+}
+
+/// What is laid of a net, with its bounds.
+fn with_bounds<'a>(net: Net<'a>, laying: Laying, start: usize) -> Layers<'a>
+    requires { start ≡ config_number net (starting net.service) }
+    ensures { result ≡ record { reading = net.entry; places = laying; bounds = bounds_laid net.entry laying } }
+{
+    let bounds = bounds_of(&net, &laying, start);
+    Layers {
+        net,
+        laying,
+        bounds,
+    }
 }
 
 /// The layers of a service, whose flow is this.
@@ -45,8 +177,9 @@ pub fn lay_service<'a>(
     let net = Net::of(alloc, service, flow)?;
     net.read();
     let keys = roots(alloc, &net)?;
+    let start = start_number(&net)?;
     match lay(alloc, &net, keys.as_slice()) {
-        Ok(laying) => Ok(Layers { net, laying }),
+        Ok(laying) => Ok(with_bounds(net, laying, start)),
         Err(why) => Err(why),
     }
 }

@@ -10,12 +10,13 @@ ghost use Rattle.mh_model.specs.Configuration.{present};
 ghost use Rattle.mh_model.specs.Service.{group_parts};
 ghost use Rattle.mh_flow.specs.Solved.{IsFlowOf, held_in};
 ghost use Rattle.mh_layers.specs.Grouped.{has, is_plain};
-ghost use Rattle.mh_layers.specs.Keys.{data_of, waits_for};
-ghost use Rattle.mh_layers.specs.Reading.{IsReading, NumbersAreNames, flow_read, heard_read, lists_read, object_number, place_among, same_setting, setting as spec_setting, settings, values_read};
+ghost use Rattle.mh_layers.specs.Keys.{data_of, every_timer, waits_for};
+ghost use Rattle.mh_layers.specs.Reading.{IsReading, NumbersAreNames, config_number, flow_read, heard_read, lists_read, object_number, place_among, same_setting, setting as spec_setting, settings, values_read};
 ghost use Rattle.mh_model.specs.Variables.{same_value};
 
 use crate::listening::Listeners;
 use crate::slots::have_few_slots;
+use crate::timers::{SetTimer, Timers};
 use crate::values::Values;
 use indexmap::IndexSet;
 use mh_base::{EventType, GroupName, ObjRef, Value};
@@ -35,6 +36,7 @@ pub(crate) struct Net<'a> {
     configs: IndexSet<Config>,
     held: Vec<Held>,
     listeners: Listeners,
+    timers: Timers,
 }
 
 impl<'a> Model for Net<'a> {
@@ -49,7 +51,7 @@ impl<'a> Model for Net<'a> {
     } };
 
     ghost invariant = { λ n.
-        IsNet (record { service = n.service.now; flow = n.flow.now; listeners = n.listeners }) n.all.items n.configs.keys n.held.items };
+        IsNet (record { service = n.service.now; flow = n.flow.now; listeners = n.listeners }) n.all.items n.configs.keys n.held.items n.timers };
 }
 
 fn copied(config: &Config) -> Result<Config, AllocError>
@@ -150,6 +152,7 @@ impl<'a> Net<'a> {
         let all = flow.configs(alloc)?;
         let configs = each_once(alloc, &all)?;
         let held = held_in_each(alloc, service, flow, configs.as_slice())?;
+        let timers = Timers::of(alloc, service, flow, &all, &configs, &held)?;
         Ok(Net {
             service,
             flow,
@@ -157,6 +160,7 @@ impl<'a> Net<'a> {
             configs,
             held,
             listeners,
+            timers,
         })
     }
 
@@ -194,6 +198,23 @@ impl<'a> Net<'a> {
         ensures { result ≡ position (same_setting config.now) (settings self.now) }
     {
         self.configs.get_index_of(config)
+    }
+
+    /// The number of the configuration; behind all, if it is not reached.
+    pub fn config_number(&self, config: &Config) -> usize
+        ensures { result ≡ config_number self.now config.now }
+    {
+        match self.number_of(config) {
+            None => self.configs.len(),
+            Some(number) => number,
+        }
+    }
+
+    /// The timers that can be set, each once.
+    pub fn timers(&self) -> &[SetTimer]
+        ensures { result.now ≡ every_timer self.now.service (flow_read self.now) }
+    {
+        self.timers.as_slice()
     }
 
     /// The number of this application with this scene or none, if it is reached.

@@ -3,9 +3,10 @@
 //! Promise: keys that are equal are one key.
 ghost use Rattle.std.specs.Prelude.{◌≡◌};
 ghost use Rattle.std.specs.Cmp.{partial_equiv_from_equiv};
-ghost use Rattle.mh_layers.specs.NodeKeys.{hears_fed, key_fed, same_flag as same_flag_lem, same_hears as same_hears_lem, same_key as same_key_lem};
+ghost use Rattle.mh_layers.specs.NodeKeys.{hears_fed, key_fed, kind_number as kind_number_lem, same_flag as same_flag_lem, same_hears as same_hears_lem, same_key as same_key_lem};
 ghost use Rattle.mh_layers.specs.NodeKeyLaws.{hears_laws, hears_alike, key_laws, key_alike};
 
+use crate::bounds::InputKind;
 use mh_base::EventType;
 use std::hash::{Hash, Hasher};
 
@@ -33,6 +34,8 @@ pub enum NodeKey {
     Leave(usize, bool),
     /// To enter a configuration.
     Enter(usize),
+    /// An input of a kind that is taken in a configuration.
+    Taken(usize, InputKind),
 }
 
 fn same_flag(first: bool, second: bool) -> bool
@@ -52,6 +55,20 @@ fn same_hears(first: &Hears, second: &Hears) -> bool
     }
 }
 
+/// A number for each kind.
+fn kind_number(kind: InputKind) -> u8
+    ensures { result ≡ kind_number_lem kind }
+{
+    match kind {
+        InputKind::Start => 0,
+        InputKind::Key => 1,
+        InputKind::Tick => 2,
+        InputKind::Stream => 3,
+        InputKind::Engine => 4,
+        InputKind::Arrive => 5,
+    }
+}
+
 fn same_key(first: &NodeKey, second: &NodeKey) -> bool
     ensures { result ≡ same_key_lem first.now second.now }
 {
@@ -66,6 +83,9 @@ fn same_key(first: &NodeKey, second: &NodeKey) -> bool
         (NodeKey::Change(c, r), NodeKey::Change(d, q)) => *c == *d && *r == *q,
         (NodeKey::Leave(c, all), NodeKey::Leave(d, every)) => *c == *d && same_flag(*all, *every),
         (NodeKey::Enter(c), NodeKey::Enter(d)) => *c == *d,
+        (NodeKey::Taken(c, kind), NodeKey::Taken(d, other)) => {
+            *c == *d && kind_number(*kind) == kind_number(*other)
+        }
         _ => false,
     }
 }
@@ -154,6 +174,11 @@ impl Hash for NodeKey {
             NodeKey::Enter(config) => {
                 state.write_u8(5);
                 config.hash(state);
+            }
+            NodeKey::Taken(config, kind) => {
+                state.write_u8(6);
+                config.hash(state);
+                state.write_u8(kind_number(*kind));
             }
         }
     }

@@ -16,6 +16,7 @@ ghost use Rattle.mh_layers.specs.Sums.{mosted, summed};
 use crate::actions::acts;
 use crate::around::Around;
 use crate::at::At;
+use crate::bounds::InputKind;
 use crate::costs::Costs;
 use crate::effects::effect_acts;
 use crate::laying::Prices;
@@ -23,6 +24,7 @@ use crate::life;
 use crate::net::Net;
 use crate::node_key::{Hears, NodeKey};
 use crate::sums::{Worth, most, plus};
+use crate::taken::taken_worth;
 use crate::values::Datum;
 use mh_base::{EventType, GroupName, ObjRef, Value};
 use mh_model::parts::group_ref;
@@ -333,6 +335,19 @@ fn enter_key(net: &Net<'_>, costs: &Costs, config: usize) -> Result<Worth, Alloc
     enter_worth(&here)
 }
 
+fn taken_key(
+    net: &Net<'_>,
+    costs: &Costs,
+    config: usize,
+    kind: InputKind,
+) -> Result<Worth, AllocError>
+    ensures { let r = net.now in IfOk result (λ worth. worth
+        ≡ known_worth (known_by r costs.now) (price_read r (name r (key.Taken config kind)))) }
+{
+    let here = standing(net, costs, config)?;
+    taken_worth(&here, kind)
+}
+
 // Entries
 
 /// The configuration in the net, if it is reached.
@@ -448,6 +463,7 @@ fn key_worth(net: &Net<'_>, costs: &Costs, node: &NodeKey) -> Result<Worth, Allo
         NodeKey::Change(config, list) => change_key(net, costs, *config, *list),
         NodeKey::Leave(config, all) => leave_key(net, costs, *config, *all),
         NodeKey::Enter(config) => enter_key(net, costs, *config),
+        NodeKey::Taken(config, kind) => taken_key(net, costs, *config, *kind),
     }
 }
 

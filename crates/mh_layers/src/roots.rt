@@ -1,17 +1,20 @@
-//! The keys of all active effects.
+//! The keys that are laid first: of the start, of all inputs, and of all active effects.
 //!
 //! Promise: each of them is there, in the order of configurations and of what is present.
 ghost use Rattle.std.specs.Prelude.{◌≡◌, ◌++◌, length, map, filter, IfOk, IfSome, OnOk};
 ghost use Rattle.std.specs.List.{flat_map, range_with_len};
+ghost use Rattle.mh_model.specs.Configuration.{starting as starting_lem};
 ghost use Rattle.mh_laws.specs.Active.{is_active};
 ghost use Rattle.mh_laws.specs.Costs.{effects};
-ghost use Rattle.mh_layers.specs.Layered.{active_keys, keys_active, keys_at};
+ghost use Rattle.mh_layers.specs.Layered.{active_keys, input_keys, keys_active, keys_at, kinds, root_keys};
+ghost use Rattle.mh_layers.specs.Reading.{config_number, flow_read};
 ghost use Rattle.mh_layers.specs.declared.node_key.NodeKey.TheVariants as key;
 
+use crate::bounds::InputKind;
 use crate::net::Net;
 use crate::node_key::NodeKey;
 use crate::slots::known_slots;
-use mh_flow::Present;
+use mh_flow::{Equipped, Present};
 use mh_model::{Config, Fixed, FixedPart};
 use std::alloc::{AllocError, Global};
 
@@ -75,9 +78,7 @@ fn push_active(
 fn push_config(keys: &mut Vec<NodeKey>, net: &Net<'_>, config: &Config) -> Result<(), AllocError>
     ensures { OnOk result (keys.new.items ≡ keys.old.items ++ keys_active net.now config.now) }
 {
-    let Some(number) = net.number_of(config) else {
-        return Err(AllocError);
-    };
+    let number = net.config_number(config);
     let present = net.present(config);
     let (application, scene) = present.parts();
     push_active(keys, net, &present, number, application)?;
@@ -85,13 +86,70 @@ fn push_config(keys: &mut Vec<NodeKey>, net: &Net<'_>, config: &Config) -> Resul
     Ok(())
 }
 
-/// The keys of all active effects.
+pub(crate) fn push_effects(keys: &mut Vec<NodeKey>, net: &Net<'_>) -> Result<(), AllocError>
+    ensures { OnOk result (keys.new.items ≡ keys.old.items ++ active_keys net.now) }
+{
+    for config in net.configs() {
+        push_config(keys, net, config)?;
+    }
+    Ok(())
+}
+
+// Inputs
+
+/// Puts the keys of all kinds of input that are taken in the configuration with this number.
+fn push_kinds(keys: &mut Vec<NodeKey>, config: usize) -> Result<(), AllocError>
+    ensures { OnOk result (keys.new.items ≡ keys.old.items ++ map (λ k. key.Taken config k) kinds) }
+{
+    keys.push(NodeKey::Taken(config, InputKind::Key))?;
+    keys.push(NodeKey::Taken(config, InputKind::Tick))?;
+    keys.push(NodeKey::Taken(config, InputKind::Stream))?;
+    keys.push(NodeKey::Taken(config, InputKind::Engine))?;
+    keys.push(NodeKey::Taken(config, InputKind::Arrive))?;
+    Ok(())
+}
+
+fn push_taken(keys: &mut Vec<NodeKey>, net: &Net<'_>, config: &Config) -> Result<(), AllocError>
+    ensures { OnOk result (keys.new.items ≡ keys.old.items ++ input_keys net.now config.now) }
+{
+    push_kinds(keys, net.config_number(config))
+}
+
+fn push_inputs(keys: &mut Vec<NodeKey>, net: &Net<'_>) -> Result<(), AllocError>
+    ensures { OnOk result (keys.new.items ≡ keys.old.items ++ flat_map (input_keys net.now) (flow_read net.now).configs) }
+{
+    for config in net.configs() {
+        push_taken(keys, net, config)?;
+    }
+    Ok(())
+}
+
+/// The start application with no scene.
+fn starting(service: &Equipped<'_>) -> Result<Config, AllocError>
+    ensures { IfOk result (λ start. start ≡ starting_lem service.now) }
+{
+    Ok(Config {
+        app: service.start().clone()?,
+        scene: None,
+    })
+}
+
+/// The number of the configuration in which the service starts.
+pub(crate) fn start_number(net: &Net<'_>) -> Result<usize, AllocError>
+    ensures { IfOk result (λ number. number ≡ config_number net.now (starting_lem net.now.service)) }
+{
+    let start = starting(net.service())?;
+    Ok(net.config_number(&start))
+}
+
+/// The keys of the start, of all inputs and of all active effects.
 pub(crate) fn roots(alloc: Global, net: &Net<'_>) -> Result<Vec<NodeKey>, AllocError>
-    ensures { IfOk result (λ keys. keys.items ≡ active_keys net.now) }
+    ensures { IfOk result (λ keys. keys.items ≡ root_keys net.now) }
 {
     let mut keys = Vec::new(alloc);
-    for config in net.configs() {
-        push_config(&mut keys, net, config)?;
-    }
+    let start = start_number(net)?;
+    keys.push(NodeKey::Taken(start, InputKind::Start))?;
+    push_inputs(&mut keys, net)?;
+    push_effects(&mut keys, net)?;
     Ok(keys)
 }

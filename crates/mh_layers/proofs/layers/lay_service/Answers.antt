@@ -3,9 +3,12 @@ use Rattle.std.specs.List.{list_all}
 use Rattle.mh_laws.specs.Each.{Each}
 use Rattle.mh_layers.specs.declared.laying.LayersError.TheVariants as error
 use Rattle.mh_layers.specs.declared.node_key.NodeKey.{NodeKey}
+use Rattle.mh_layers.specs.Layered.{AreLayersOf}
 use Rattle.mh_layers.specs.Layering.{AreLayers, is_laid}
 use Rattle.mh_layers.specs.Reading.{kept, price}
-use Rattle.mh_layers.proofs.LayeredLemmas.{counted_kept, layers_read, listed_kept, none_read, other_err}
+use Rattle.mh_layers.specs.Taking.{bounds_laid}
+use Rattle.mh_layers.proofs.LayeredLemmas.{counted_kept, none_read, other_err}
+use Rattle.mh_layers.proofs.RootLemmas.{layers_read, roots_kept}
 use Rattle.mh_layers.proofs.layers.lay_service.Goals as goal
 
 pub lay-requires-clause-counted : goal.lay-requires-clause-counted
@@ -13,14 +16,15 @@ lay-requires-clause-counted c = counted_kept c.in_ok-net.net c.in_ok-net.ensures
 
 pub lay-requires-clause-kept : goal.lay-requires-clause-kept
 lay-requires-clause-kept c =
-    subst (Each (kept c.in_ok-net.net)) (sym (c.as_slice.ensures.value ∙ c.in_ok-keys.ensures)) (listed_kept c.in_ok-net.net c.in_ok-net.ensures.reading)
+    subst (Each (kept c.in_ok-net.net)) (sym (c.as_slice.ensures.value ∙ c.in_ok-keys.ensures)) (roots_kept c.in_ok-net.net c.in_ok-net.ensures.reading)
 
 pub returns-in-Ok-clause-layers : goal.returns-in-Ok-clause-layers
 returns-in-Ok-clause-layers c =
-    layers_read (record { reading = c.in_ok-net.net; places = c.in-Ok.laying }) c.args.service.now c.args.flow.now c.in_ok-net.ensures.service c.in_ok-net.ensures.flow c.in_ok-net.ensures.reading
+    subst (AreLayersOf c.args.service.now c.args.flow.now) (sym c.with_bounds.ensures)
+    (layers_read (record { reading = c.in_ok-net.net; places = c.in-Ok.laying; bounds = bounds_laid c.in_ok-net.net c.in-Ok.laying }) c.args.service.now c.args.flow.now c.in_ok-net.ensures.service c.in_ok-net.ensures.flow c.in_ok-net.ensures.reading
     (subst (λ r. IfOk r (λ x. AreLayers (price c.in_ok-net.net) (kept c.in_ok-net.net) x)) c.in-Ok.is c.lay.ensures.layers)
     (subst (λ (ks : List NodeKey). list_all (is_laid c.in-Ok.laying) ks ≡ true) (c.as_slice.ensures.value ∙ c.in_ok-keys.ensures)
-    (subst (λ r. IfOk r (λ x. list_all (is_laid x) c.as_slice.result.now ≡ true)) c.in-Ok.is c.lay.ensures.laid))
+    (subst (λ r. IfOk r (λ x. list_all (is_laid x) c.as_slice.result.now ≡ true)) c.in-Ok.is c.lay.ensures.laid)) refl)
 
 pub returns-clause-cycle : goal.returns-clause-cycle
 returns-clause-cycle c = λ h rank layering.

@@ -1,5 +1,4 @@
-use Rattle.std.proofs.Common.{◌&&◌, List, Some, ℕ, Option, filter, slice_get, ap, ◌∙◌, sym, subst}
-use Rattle.mh_base.specs.declared.value.Value.{Value}
+use Rattle.std.proofs.Common.{◌&&◌, List, ℕ, Option, filter, slice_get, ap, ◌∙◌, sym}
 use Rattle.mh_model.specs.declared.config.Config.{Config}
 use Rattle.mh_model.specs.Configuration.{scene_parts}
 use Rattle.mh_model.specs.Service.{group_parts}

@@ -1,4 +1,4 @@
-use Rattle.std.proofs.Common.{List, ℕ, Some, None, position, ap, ◌∙◌, sym}
+use Rattle.std.proofs.Common.{Some, None, position, ap, ◌∙◌, sym}
 use Rattle.mh_group.specs.Table.{is_application}
 use Rattle.mh_model.specs.declared.config.Config.{Config}
 use Rattle.mh_model.specs.Configuration.{is_group_of}

@@ -1,0 +1,20 @@
+use Rattle.mh_layers.proofs.LayeredLemmas.{counted_kept}
+use Rattle.mh_layers.proofs.WalkLemmas.{left_kept, none_of, some_of}
+use Rattle.mh_layers.proofs.cycle.cycle_in.Goals as goal
+
+pub web_of-requires-clause-counted : goal.web_of-requires-clause-counted
+web_of-requires-clause-counted c = counted_kept c.args.net.now c.requires.reading
+
+pub web_of-requires-clause-kept : goal.web_of-requires-clause-kept
+web_of-requires-clause-kept c =
+    left_kept c.args.net.now c.requires.reading c.args.laying.now c.args.keys.now c.in_ok-left.left.items c.as_slice.result.now c.requires.all c.in_ok-left.ensures c.as_slice.ensures.value
+
+pub returns-in-None-clause-none : goal.returns-in-None-clause-none
+returns-in-None-clause-none c =
+    none_of c.args.net.now c.requires.reading c.args.laying.now c.requires.layers c.args.keys.now c.in_ok-left.left.items c.as_slice.result.now c.as_slice-2.result.now c.in_ok-web.web.keys.keys c.in_ok-web.web.graph c.in_ok-first_of.field-0
+    c.requires.all c.in_ok-left.ensures c.as_slice.ensures.value c.as_slice-2.ensures.value c.in_ok-web.ensures c.in_ok-first_of.ensures c.in-None.is
+
+pub returns-clause-some : goal.returns-clause-some
+returns-clause-some c =
+    some_of c.args.net.now c.requires.reading c.args.laying.now c.requires.layers c.args.keys.now c.in_ok-left.left.items c.as_slice.result.now c.as_slice-2.result.now c.in_ok-web.web.keys.keys c.in_ok-web.web.graph c.in_ok-first_of.field-0 c.in-Some.best c.in_ok-causes-in-Some.causes.items
+    c.requires.all c.in_ok-left.ensures c.as_slice.ensures.value c.as_slice-2.ensures.value c.in_ok-web.ensures c.in_ok-first_of.ensures c.in-Some.is c.in_ok-causes-in-Some.ensures

@@ -1,0 +1,6 @@
+use Rattle.std.proofs.Common.{take}
+use Rattle.mh_layers.specs.Walk.{AreBest}
+use Rattle.mh_layers.proofs.cycle.first_of.Given as goal
+
+abbrev pub invariant-loop-key : goal.invariant-loop-key
+invariant-loop-key l = AreBest l.net l.web.keys.keys l.web.graph (take l.key-index l.keys) l.best

@@ -1,0 +1,241 @@
+//! The first cycle of effects.
+//!
+//! Promise: of all active effects that put themselves to work, by way of others, the first is told by its place and
+//! configuration, with the first of the shortest ways; and none only where no effect does.
+ghost use Rattle.std.specs.Prelude.{◌≡◌, ◌++◌, ◌∷◌, length, take, true, Some, IfNone, IfOk, IfSome, OnOk};
+ghost use Rattle.std.specs.Option.{option_map_or};
+ghost use Rattle.std.specs.Ordering.{is_lt};
+ghost use Rattle.mh_flow.specs.Solved.{IsFlowOf, flow_in};
+ghost use Rattle.mh_paths.specs.Chains.{IsFirstCycle, NoCycle};
+ghost use Rattle.mh_layers.specs.Cycle.{AreFirstCycle, NoCycles, by_standing};
+ghost use Rattle.mh_layers.specs.Layered.{active_keys};
+ghost use Rattle.mh_layers.specs.Layering.{AreLayers, is_laid};
+ghost use Rattle.mh_layers.specs.Ranked.{IsOrder};
+ghost use Rattle.mh_layers.specs.Reading.{IsReading, flow_read, kept, price};
+ghost use Rattle.mh_layers.specs.Standings.{causes_to};
+ghost use Rattle.mh_layers.specs.Walk.{AreBest, IsTried, causes_along, unlaid};
+
+use crate::cause::Cause;
+use crate::laying::{LayersError, Laying};
+use crate::net::Net;
+use crate::node_key::NodeKey;
+use crate::order::Order;
+use crate::roots::push_effects;
+use crate::standing::{by_standing, cause_of};
+use crate::web::{Web, node_of, web_of};
+use indexmap::IndexSet;
+use mh_flow::{Equipped, Flow};
+use mh_paths::Arrow;
+use std::alloc::{AllocError, Global};
+
+/// The first effect so far that is on a cycle, and its first cycle.
+#[derive(Drop)]
+pub(crate) struct Best {
+    pub key: NodeKey,
+    pub cause: Cause,
+    pub trail: Vec<Arrow>,
+}
+
+/// Whether the cause comes before the best.
+fn comes_first(cause: &Cause, best: &Option<Best>) -> bool
+    ensures { result ≡ option_map_or (λ b. is_lt (by_standing cause.now b.cause)) best.now true }
+{
+    match best {
+        None => true,
+        Some(best) => by_standing(cause, &best.cause).is_lt(),
+    }
+}
+
+fn set(best: &mut Option<Best>, found: Best)
+    ensures { best.new ≡ Some found }
+{
+    *best = Some(found);
+}
+
+/// The first cycle through the node, if there is one. No search is made where the node lies before all cycles.
+#[tactic(auto, using(crate::proofs::OrderLemmas::passed_by))]
+fn cycle_through(
+    alloc: Global,
+    web: &Web,
+    order: &Order,
+    node: usize,
+) -> Result<Option<Vec<Arrow>>, AllocError>
+    requires { IsOrder web.now.graph order.now.places.items order.now.behind }
+    ensures some { IfOk result (λ found. IfSome found (λ p. IsFirstCycle web.now.graph node p.items)) }
+    ensures none { IfOk result (λ found. IfNone found (NoCycle web.now.graph node)) }
+{
+    if order.is_passed(node) {
+        return Ok(None);
+    }
+    mh_paths::first_cycle(alloc, &web.graph, node)
+}
+
+/// The effect is the best, if it comes before it and is on a cycle.
+#[tactic(auto, using(crate::proofs::WalkLemmas::tried_later, crate::proofs::WalkLemmas::tried_none, crate::proofs::WalkLemmas::tried_found))]
+fn try_key(
+    alloc: Global,
+    net: &Net<'_>,
+    web: &Web,
+    order: &Order,
+    best: &mut Option<Best>,
+    key: &NodeKey,
+) -> Result<(), AllocError>
+    requires { IsOrder web.now.graph order.now.places.items order.now.behind }
+    ensures { OnOk result (IsTried net.now web.now.keys.keys web.now.graph key.now best.old best.new) }
+{
+    let cause = cause_of(net, key)?;
+    if !comes_first(&cause, best) {
+        return Ok(());
+    }
+    let node = node_of(&web.keys, key);
+    match cycle_through(alloc, web, order, node)? {
+        None => Ok(()),
+        Some(trail) => {
+            set(
+                best,
+                Best {
+                    key: *key,
+                    cause,
+                    trail,
+                },
+            );
+            Ok(())
+        }
+    }
+}
+
+/// The first of these that is on a cycle.
+fn first_of(
+    alloc: Global,
+    net: &Net<'_>,
+    web: &Web,
+    keys: &[NodeKey],
+) -> Result<Option<Best>, AllocError>
+    ensures { IfOk result (λ best. AreBest net.now web.now.keys.keys web.now.graph keys.now best) }
+{
+    let order = Order::of(alloc, &web.graph)?;
+    let mut best = None;
+    for key in keys {
+        try_key(alloc, net, web, &order, &mut best, key)?;
+    }
+    Ok(best)
+}
+
+/// Puts the effect to which the arrow leads, if it leads to one.
+fn put_cause(
+    net: &Net<'_>,
+    keys: &IndexSet<NodeKey>,
+    causes: &mut Vec<Cause>,
+    arrow: &Arrow,
+) -> Result<(), AllocError>
+    ensures { OnOk result (causes.new.items ≡ causes.old.items ++ causes_to net.now keys.now.keys arrow.now) }
+{
+    if let Some(key) = keys.get_index(arrow.to) {
+        if let NodeKey::Effect(..) = key {
+            causes.push(cause_of(net, key)?)?;
+        }
+    }
+    Ok(())
+}
+
+/// Puts the effects along the trail.
+fn put_causes(
+    net: &Net<'_>,
+    keys: &IndexSet<NodeKey>,
+    causes: &mut Vec<Cause>,
+    trail: &[Arrow],
+) -> Result<(), AllocError>
+    ensures { OnOk result (causes.new.items ≡ causes.old.items ++ causes_along net.now keys.now.keys trail.now) }
+{
+    for arrow in trail {
+        put_cause(net, keys, causes, arrow)?;
+    }
+    Ok(())
+}
+
+/// The effects of the cycle, from the first on: the last to which its trail leads is the first again.
+#[tactic(auto, using(crate::proofs::WalkLemmas::last_gone))]
+fn causes_of(alloc: Global, net: &Net<'_>, web: &Web, best: Best) -> Result<Vec<Cause>, AllocError>
+    ensures { let along = causes_along net.now web.now.keys.keys best.trail.items in
+        IfOk result (λ causes. causes.items ≡ take (length along) (best.cause ∷ along)) }
+{
+    let mut causes = Vec::new(alloc);
+    causes.push(best.cause)?;
+    put_causes(net, &web.keys, &mut causes, best.trail.as_slice())?;
+    causes.pop();
+    Ok(causes)
+}
+
+fn has_laid(laying: &Laying, key: &NodeKey) -> bool
+    ensures { result ≡ is_laid laying.now key.now }
+{
+    laying.costs().laid(key).is_some()
+}
+
+/// Those of these keys that are not laid.
+fn unlaid(alloc: Global, laying: &Laying, keys: &[NodeKey]) -> Result<Vec<NodeKey>, AllocError>
+    ensures { IfOk result (λ left. left.items ≡ unlaid laying.now keys.now) }
+{
+    let mut left = Vec::new(alloc);
+    for key in keys {
+        if !has_laid(laying, key) {
+            left.push(*key)?;
+        }
+    }
+    Ok(left)
+}
+
+/// The keys of all active effects.
+fn effects(alloc: Global, net: &Net<'_>) -> Result<Vec<NodeKey>, AllocError>
+    ensures { IfOk result (λ keys. keys.items ≡ active_keys net.now) }
+{
+    let mut keys = Vec::new(alloc);
+    push_effects(&mut keys, net)?;
+    Ok(keys)
+}
+
+/// The first cycle, where these layers are laid and these are the keys of all active effects.
+fn cycle_in(
+    alloc: Global,
+    net: &Net<'_>,
+    laying: &Laying,
+    keys: &[NodeKey],
+) -> Result<Option<Vec<Cause>>, AllocError>
+    requires layers { AreLayers (price net.now) (kept net.now) laying.now }
+    requires reading { IsReading net.now }
+    requires all { keys.now ≡ active_keys net.now }
+    ensures some { let v = net.now.service in let w = flow_read net.now in IfOk result (λ found. IfSome found (λ causes. AreFirstCycle v w causes.items)) }
+    ensures none { let v = net.now.service in let w = flow_read net.now in IfOk result (λ found. IfNone found (NoCycles v w)) }
+{
+    let left = unlaid(alloc, laying, keys)?;
+    let web = web_of(alloc, net, left.as_slice(), keys)?;
+    match first_of(alloc, net, &web, left.as_slice())? {
+        None => Ok(None),
+        Some(best) => {
+            let causes = causes_of(alloc, net, &web, best)?;
+            Ok(Some(causes))
+        }
+    }
+}
+
+/// The effects of the first cycle, from the first on: of all active effects that put themselves to work, by way of
+/// others, the first by its place and configuration, and of the shortest ways the first, place by place. None where
+/// no effect does.
+pub fn first_cycle(
+    alloc: Global,
+    service: &Equipped<'_>,
+    flow: &Flow,
+) -> Result<Option<Vec<Cause>>, AllocError>
+    requires { IsFlowOf service.now flow.now }
+    ensures some { IfOk result (λ found. IfSome found (λ causes. AreFirstCycle service.now (flow_in service.now flow.now) causes.items)) }
+    ensures none { IfOk result (λ found. IfNone found (NoCycles service.now (flow_in service.now flow.now))) }
+{
+    let net = Net::of(alloc, service, flow)?;
+    net.read();
+    let keys = effects(alloc, &net)?;
+    let mut laying = Laying::new(alloc)?;
+    if let Err(LayersError::NoMemory) = laying.reach(&net, keys.as_slice()) {
+        return Err(AllocError);
+    }
+    cycle_in(alloc, &net, &laying, keys.as_slice())
+}

@@ -1,0 +1,269 @@
+//! Effects by their numbers, as causes; and labels for their places.
+//!
+//! Promise: a cause is that of the effect with the number, and labels are in the order of places.
+ghost use Rattle.std.specs.Prelude.{◌≡◌, ◌∷◌, [], map, slice_get, None, IfOk, OnOk};
+ghost use Rattle.std.specs.Option.{option_cmp, option_copied, option_map, option_map_or};
+ghost use Rattle.std.specs.Ordering.{nat_cmp};
+ghost use Rattle.std.specs.Cmp.Lexicographic.{slice_cmp};
+ghost use Rattle.indexmap.specs.IndexSet.{insert_all};
+ghost use Rattle.mh_laws.specs.Costs.{effect_at};
+ghost use Rattle.mh_laws.specs.Least.{by_reference};
+ghost use Rattle.mh_layers.specs.Cycle as spec;
+ghost use Rattle.mh_layers.specs.Standings.{AreStandings, cause_by, cause_named, label_in, same_standing, standing_cmp, standing_named, standing_number};
+ghost use Rattle.mh_layers.specs.Web.{label_to};
+
+use crate::cause::Cause;
+use crate::effects::effect_acts;
+use crate::net::Net;
+use crate::node_key::NodeKey;
+use indexmap::IndexSet;
+use mh_base::{GroupName, ObjRef};
+use mh_group::ActionName;
+use mh_model::{Act, Config, Fixed};
+use std::alloc::{AllocError, Global};
+use std::cmp::Ordering;
+
+/// The place of an action: its object, and its number through the object's effects.
+#[derive(Drop, PartialEq, Eq, Hash)]
+pub struct Standing {
+    pub at: ObjRef,
+    pub index: usize,
+}
+
+// Causes
+
+/// The number of the first action of the object's effect with this number, from 1 on.
+fn first_number(part: &Fixed, number: usize) -> Result<usize, AllocError>
+    ensures { IfOk result (λ index. index ≡ spec.first_number number part.now) }
+{
+    let mut index: usize = 1;
+    for place in 0..number {
+        match index.checked_add(effect_acts(part, place).len()) {
+            None => return Err(AllocError),
+            Some(sum) => index = sum,
+        }
+    }
+    Ok(index)
+}
+
+/// The same of the object that is present, if one is.
+fn index_in(part: Option<&Fixed>, number: usize) -> Result<usize, AllocError>
+    ensures { IfOk result (λ index. index ≡ option_map_or (spec.first_number number) (option_copied part.entry) 1) }
+{
+    match part {
+        None => Ok(1),
+        Some(part) => first_number(part, number),
+    }
+}
+
+/// The name of the first of these actions.
+fn first_name(acts: &[Act]) -> Option<ActionName>
+    ensures { result ≡ option_map (λ a. a.name) (slice_get acts.now 0) }
+{
+    match acts.first() {
+        None => None,
+        Some(act) => Some(act.name),
+    }
+}
+
+fn action_in(part: Option<&Fixed>, number: usize) -> Option<ActionName>
+    ensures { result ≡ option_map_or (λ p. option_map (λ a. a.name) (slice_get (effect_at p number) 0)) (option_copied part.entry) None }
+{
+    match part {
+        None => None,
+        Some(part) => first_name(effect_acts(part, number)),
+    }
+}
+
+fn copied_config(config: &Config) -> Result<Config, AllocError>
+    ensures { IfOk result (λ copy. copy ≡ config.now) }
+{
+    config.clone()
+}
+
+fn copied_reference(at: &ObjRef) -> Result<ObjRef, AllocError>
+    ensures { IfOk result (λ copy. copy ≡ at.now) }
+{
+    at.clone()
+}
+
+/// The effect as a cause.
+fn cause_at(net: &Net<'_>, config: &Config, at: &ObjRef, number: usize) -> Result<Cause, AllocError>
+    ensures { IfOk result (λ cause. cause ≡ spec.cause_of net.now.service (record { config = config.now; object = at.now; number = number })) }
+{
+    let present = net.present(config);
+    let part = present.find(at);
+    let action = action_in(part, number);
+    let index = index_in(part, number)?;
+    let config = copied_config(config)?;
+    let at = copied_reference(at)?;
+    Ok(Cause {
+        config,
+        at,
+        index,
+        action,
+    })
+}
+
+/// The effect with these numbers as a cause.
+#[tactic(auto, using(crate::proofs::StandingLemmas::cause_found))]
+fn cause_by(net: &Net<'_>, config: usize, object: usize, number: usize) -> Result<Cause, AllocError>
+    ensures { IfOk result (λ cause. cause ≡ cause_by net.now config object number) }
+{
+    let (Some(config), Some(at)) = (net.config_at(config), net.object_at(object)) else {
+        return Err(AllocError);
+    };
+    let cause = cause_at(net, config, at, number)?;
+    Ok(cause)
+}
+
+/// The effect with this number as a cause.
+pub(crate) fn cause_of(net: &Net<'_>, key: &NodeKey) -> Result<Cause, AllocError>
+    ensures { IfOk result (λ cause. cause ≡ cause_named net.now key.now) }
+{
+    match key {
+        NodeKey::Effect(config, object, number) => cause_by(net, *config, *object, *number),
+        _ => Err(AllocError),
+    }
+}
+
+// Orders
+
+fn by_name(first: &GroupName, second: &GroupName) -> Ordering
+    ensures { result ≡ slice_cmp nat_cmp first.now second.now }
+{
+    first.as_bytes().cmp(&second.as_bytes())
+}
+
+fn by_scene(first: &Option<GroupName>, second: &Option<GroupName>) -> Ordering
+    ensures { result ≡ option_cmp (slice_cmp nat_cmp) first.now second.now }
+{
+    match (first, second) {
+        (None, None) => Ordering::Equal,
+        (None, Some(_)) => Ordering::Less,
+        (Some(_), None) => Ordering::Greater,
+        (Some(first), Some(second)) => by_name(first, second),
+    }
+}
+
+fn by_config(first: &Config, second: &Config) -> Ordering
+    ensures { result ≡ spec.by_config first.now second.now }
+{
+    by_name(&first.app, &second.app).then(by_scene(&first.scene, &second.scene))
+}
+
+fn by_reference(first: &ObjRef, second: &ObjRef) -> Ordering
+    ensures { result ≡ by_reference first.now second.now }
+{
+    by_name(&first.group, &second.group).then(first.number.cmp(&second.number))
+}
+
+fn by_place(first: &Cause, second: &Cause) -> Ordering
+    ensures { result ≡ spec.by_place first.now second.now }
+{
+    by_reference(&first.at, &second.at).then(first.index.cmp(&second.index))
+}
+
+/// By place, then by configuration.
+pub(crate) fn by_standing(first: &Cause, second: &Cause) -> Ordering
+    ensures { result ≡ spec.by_standing first.now second.now }
+{
+    by_place(first, second).then(by_config(&first.config, &second.config))
+}
+
+// Labels
+
+fn by_order(first: &Standing, second: &Standing) -> Ordering
+    ensures { result ≡ standing_cmp first.now second.now }
+{
+    by_reference(&first.at, &second.at).then(first.index.cmp(&second.index))
+}
+
+/// Where the effect with this number stands.
+fn place_of(net: &Net<'_>, key: &NodeKey) -> Result<Standing, AllocError>
+    ensures { IfOk result (λ standing. standing ≡ standing_named net.now key.now) }
+{
+    let cause = cause_of(net, key)?;
+    Ok(Standing {
+        at: cause.at,
+        index: cause.index,
+    })
+}
+
+/// Puts where it stands among these.
+fn put(standings: &mut IndexSet<Standing>, net: &Net<'_>, key: &NodeKey) -> Result<(), AllocError>
+    ensures { OnOk result (standings.new.keys ≡ insert_all same_standing standings.old.keys (standing_named net.now key.now ∷ [])) }
+{
+    standings.insert(place_of(net, key)?)?;
+    Ok(())
+}
+
+/// Where these effects stand, as they come.
+fn met(alloc: Global, net: &Net<'_>, keys: &[NodeKey]) -> Result<IndexSet<Standing>, AllocError>
+    ensures { IfOk result (λ standings. standings.keys ≡ insert_all same_standing [] (map (standing_named net.now) keys.now)) }
+{
+    let mut standings = IndexSet::new(alloc);
+    for key in keys {
+        put(&mut standings, net, key)?;
+    }
+    Ok(standings)
+}
+
+/// Where these effects stand, in the order of places.
+pub(crate) fn standings_of(
+    alloc: Global,
+    net: &Net<'_>,
+    keys: &[NodeKey],
+) -> Result<IndexSet<Standing>, AllocError>
+    ensures { IfOk result (λ standings. AreStandings net.now keys.now standings.keys) }
+{
+    let mut standings = met(alloc, net, keys)?;
+    standings.sort_by(by_order)?;
+    Ok(standings)
+}
+
+/// The number of the place.
+fn number_of(standings: &IndexSet<Standing>, standing: &Standing) -> usize
+    ensures { result ≡ standing_number standings.now.keys standing.now }
+{
+    standings.get_index_of(standing).unwrap_or(0)
+}
+
+/// The label of an arrow to an effect: the number of its place.
+fn label_of(net: &Net<'_>, standings: &IndexSet<Standing>, key: &NodeKey) -> Result<u64, AllocError>
+    ensures { IfOk result (λ label. label ≡ label_in net.now standings.now.keys key.now) }
+{
+    let place = place_of(net, key)?;
+    Ok(number_of(standings, &place) as u64)
+}
+
+/// The label of an arrow to this key, if it has one.
+#[tactic(auto, using(crate::proofs::StandingLemmas::label_tells))]
+fn label_to(
+    net: &Net<'_>,
+    standings: &IndexSet<Standing>,
+    key: &NodeKey,
+) -> Result<Option<u64>, AllocError>
+    ensures { IfOk result (λ label. label ≡ label_to (label_in net.now standings.now.keys) key.now) }
+{
+    match key {
+        NodeKey::Effect(..) => Ok(Some(label_of(net, standings, key)?)),
+        _ => Ok(None),
+    }
+}
+
+/// The labels of arrows to these keys.
+pub(crate) fn labels_of(
+    alloc: Global,
+    net: &Net<'_>,
+    standings: &IndexSet<Standing>,
+    keys: &[NodeKey],
+) -> Result<Vec<Option<u64>>, AllocError>
+    ensures { IfOk result (λ labels. labels.items ≡ map (label_to (label_in net.now standings.now.keys)) keys.now) }
+{
+    let mut labels = Vec::new(alloc);
+    for key in keys {
+        labels.push(label_to(net, standings, key)?)?;
+    }
+    Ok(labels)
+}
