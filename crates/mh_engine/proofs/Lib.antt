@@ -1,4 +1,5 @@
 pub mod RunLemmas
+pub mod WithinLemmas
 pub mod SafeEngine
 pub mod StartLemmas
 pub mod ReceiverLemmas

@@ -1,9 +1,11 @@
 //! What an engine does for whoever plays it beside programs of a receiver.
-ghost use Rattle.std.specs.Prelude.{◌≡◌, map, true, false, [], None, IfOk, IfErr};
+ghost use Rattle.std.specs.Prelude.{◌≡◌, ◌≤◌, map, true, false, [], None, IfOk, IfErr};
 ghost use Rattle.mh_model.specs.Stuck.{front_fault};
 ghost use Rattle.mh_model.specs.State.{begun};
 ghost use Rattle.mh_model.specs.Receiver.{call_next, told};
+ghost use Rattle.mh_layers.specs.Known.{top};
 ghost use Rattle.mh_engine.specs.Answer.{is_ready};
+ghost use Rattle.mh_engine.specs.Play.{unbounded, with_more};
 
 use crate::engine::Engine;
 use crate::refusal::{StartError, Unaccepted};
@@ -23,16 +25,13 @@ impl Engine {
         mjd: u32,
     ) -> Result<Engine, Unstarted>
         ensures begun { let whole = record service { programs = programs.items } in
-            IfOk result (λ engine. engine ≡ record { state = begun whole mjd; accepted = false }) }
+            IfOk result (λ engine. engine ≡ record { state = begun whole mjd; accepted = false; bounds = unbounded; budget = top }) }
         ensures back { IfErr result (λ unstarted. unstarted.service ≡ service) }
     {
         let mut service = service;
         let carried = service.exchange_programs(programs);
         match Machine::beside(alloc, service, mjd) {
-            Ok(machine) => Ok(Engine {
-                machine,
-                accepted: false,
-            }),
+            Ok(machine) => Ok(Engine::lenient(machine)),
             Err(unstarted) => Err(unstarted.carrying(carried)),
         }
     }
@@ -44,16 +43,20 @@ impl Engine {
         programs: Vec<Signature>,
         mjd: u32,
     ) -> Result<Engine, Unaccepted>
-        requires { programs.items ≡ accepted.programs }
-        ensures begun { IfOk result (λ engine. engine ≡ record { state = begun accepted mjd; accepted = true }) }
+        requires { programs.items ≡ accepted.service.programs }
+        ensures begun { IfOk result (λ engine. engine ≡ record { state = begun accepted.service mjd; accepted = true; bounds = accepted.bounds; budget = accepted.bounds.start }) }
         ensures back { IfErr result (λ refused. refused.accepted ≡ accepted) }
         ensures why { IfErr result (λ refused. refused.why ≡ StartError.NoMemory) }
     {
         let (service, rest) = accepted.apart();
+        let bounds = rest.bounds();
+        let budget = bounds.start;
         match Machine::beside(alloc, service.with_programs(programs), mjd) {
             Ok(machine) => Ok(Engine {
                 machine,
                 accepted: true,
+                bounds,
+                budget,
             }),
             Err(unstarted) => Err(Unaccepted {
                 why: StartError::NoMemory,
@@ -85,11 +88,13 @@ impl Engine {
         self.machine.hear(said)
     }
 
-    /// What is known of an engine whose service was accepted.
+    /// What is known of each engine, and of one whose service was accepted.
     pub(crate) fn vouch(&self)
         ensures never { self.now.accepted ≡ true → front_fault self.now.state ≡ None }
         ensures faultless { self.now.accepted ≡ true → self.now.state.faults ≡ [] }
+        ensures within { self.now.state.taken ≤ self.now.budget }
+        ensures same { with_more self.now.budget 0 ≡ self.now.budget }
     {
-        let _ = &self.accepted;
+        let _ = self.machine.taken();
     }
 }

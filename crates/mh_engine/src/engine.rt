@@ -1,18 +1,22 @@
-//! `Engine`: a machine with the verdict on its service.
-ghost use Rattle.std.specs.Prelude.{◌≡◌, ◌+◌, ◌<◌, ◌^◌, true, false, None, Some, [], IfOk, IfErr, OnOk, OnErr, IsErrOf, IsErrAnd, MatchOption};
+//! `Engine`: a machine with the verdict on its service, and with how many steps may be taken.
+ghost use Rattle.std.specs.Prelude.{◌≡◌, ◌+◌, ◌<◌, ◌≤◌, ◌^◌, true, false, None, Some, [], IfOk, IfErr, OnOk, OnErr, IsErrOf, IsErrAnd, MatchOption};
 ghost use Rattle.mh_model.specs.State.{begun};
 ghost use Rattle.mh_model.specs.declared.input.Obstacle.{Obstacle};
 ghost use Rattle.mh_model.specs.Step.{step, is_empty, posted, preset, preset_obstacle, obstacle, is_settled, advanced};
 ghost use Rattle.mh_model.specs.Limits.{most_steps};
 ghost use Rattle.mh_model.specs.Stuck.{front_fault};
+ghost use Rattle.mh_laws.specs.Budget.{bound_of};
 ghost use Rattle.mh_laws.specs.Safe.{IsSafe};
+ghost use Rattle.mh_layers.specs.Known.{top};
 ghost use Rattle.mh_model.specs.Picture.{shown};
 ghost use Rattle.mh_machine.specs.Rest.{answer_of, is_faulted, rest_of};
 ghost use Rattle.mh_machine.specs.Working.{IsPartly};
 ghost use Rattle.mh_engine.specs.Answer.{refusal_for, start_refusal, step_refusal, post_refusal, preset_refusal};
+ghost use Rattle.mh_engine.specs.Play.{unbounded, with_more};
 
 use crate::passing::{post_or_back, preset_copy, refuse, refuse_file};
 use crate::refusal::{Refused, RefusedFile, RefusedWhy, StartError, StepError, Unaccepted};
+use mh_layers::Bounds;
 use mh_machine::{Free, Judged, Machine, Rest, Stepped, Unstarted};
 use mh_model::{Fault, File, Input, Picture, Signature};
 use mh_service::Service;
@@ -21,24 +25,36 @@ use std::alloc::{AllocError, Global};
 use std::marker::Model;
 
 /// An engine that plays a service (ETSI ES 202 184, the receiver's MHEG-5 engine). A contract sees the
-/// state of the machine, and whether its service was accepted: then its state is safe. A call that is
-/// refused, for want of memory too, leaves everything as it was, and may be made again.
+/// state of the machine, whether its service was accepted, what the start and each input are bound to, and
+/// how many steps may be taken for what was posted so far: where the service was accepted no more ever are,
+/// and its state is safe. A call that is refused, for want of memory too, leaves everything as it was, and
+/// may be made again.
 #[derive(Drop)]
 pub struct Engine {
     pub(crate) machine: Machine,
     pub(crate) accepted: bool,
+    pub(crate) bounds: Bounds,
+    pub(crate) budget: u64,
 }
 
 impl Model for Engine {
-    ghost use Rattle.std.specs.Prelude.{◌≡◌, true};
-    ghost use Rattle.mh_laws.specs.Safe.{IsSafe};
-    ghost use Rattle.mh_engine.specs.Play.{Play};
+    ghost use Rattle.mh_engine.specs.Play.{IsKept, Play};
 
     ghost Value = { Play };
 
-    ghost view = { λ e. record { state = e.machine; accepted = e.accepted } };
+    ghost view = { λ e. record {
+      state = e.machine;
+      accepted = e.accepted;
+      bounds = e.bounds;
+      budget = e.budget;
+    } };
 
-    ghost invariant = { λ e. e.accepted ≡ true → IsSafe e.machine };
+    ghost invariant = { λ e. IsKept (record {
+      state = e.machine;
+      accepted = e.accepted;
+      bounds = e.bounds;
+      budget = e.budget;
+    }) };
 }
 
 impl Engine {
@@ -47,23 +63,33 @@ impl Engine {
     /// those of a receiver that it may carry (`Receiver` has them).
     pub fn start_lenient(alloc: Global, service: Service, mjd: u32) -> Result<Engine, Unstarted>
         ensures begun { let alone = record service { programs = [] } in
-            IfOk result (λ engine. engine ≡ record { state = begun alone mjd; accepted = false }) }
+            IfOk result (λ engine. engine ≡ record { state = begun alone mjd; accepted = false; bounds = unbounded; budget = top }) }
         ensures back { IfErr result (λ unstarted. unstarted.service ≡ service) }
     {
         let machine = Machine::new(alloc, service, mjd)?;
-        Ok(Engine {
+        Ok(Engine::lenient(machine))
+    }
+
+    /// An engine that plays this machine, whose service no verifier has seen.
+    pub(crate) fn lenient(machine: Machine) -> Engine
+        ensures { result ≡ record { state = machine; accepted = false; bounds = unbounded; budget = top } }
+    {
+        Engine {
             machine,
             accepted: false,
-        })
+            bounds: no_bounds(),
+            budget: u64::MAX,
+        }
     }
 
     /// An engine for a service that the verifier accepted, and that begins on this modified Julian day,
-    /// 1,000,000 at most: none of its steps finds an item stuck. It has the built-in programs alone, and
-    /// refuses a service that was verified with others. What is refused is handed back.
+    /// 1,000,000 at most: none of its steps finds an item stuck, and its start and each input lead to no more
+    /// steps than the verifier has for them. It has the built-in programs alone, and refuses a service that was
+    /// verified with others. What is refused is handed back.
     pub fn start(alloc: Global, accepted: Accepted, mjd: u32) -> Result<Engine, Unaccepted>
-        ensures begun { IfOk result (λ engine. engine ≡ record { state = begun accepted mjd; accepted = true }) }
+        ensures begun { IfOk result (λ engine. engine ≡ record { state = begun accepted.service mjd; accepted = true; bounds = accepted.bounds; budget = accepted.bounds.start }) }
         ensures back { IfErr result (λ refused. refused.accepted ≡ accepted) }
-        ensures refused { MatchOption (start_refusal accepted) (IfErr result (λ refused. refused.why ≡ StartError.NoMemory)) (λ why. IsErrAnd result (λ refused. refused.why ≡ why)) }
+        ensures refused { MatchOption (start_refusal accepted.service) (IfErr result (λ refused. refused.why ≡ StartError.NoMemory)) (λ why. IsErrAnd result (λ refused. refused.why ≡ why)) }
     {
         if !are_none(accepted.programs()) {
             return Err(Unaccepted {
@@ -91,9 +117,11 @@ impl Engine {
         }
     }
 
-    /// Adds an input at the end of the queue. A refused one is handed back, and nothing changes.
+    /// Adds an input at the end of the queue, and what it is bound to to the budget. A refused one is handed
+    /// back, and nothing changes.
     pub fn post(&mut self, input: Input) -> Result<(), Refused>
-        ensures posted { OnOk result (self.new ≡ record self.old { state = posted input self.old.state }) }
+        ensures posted { let more = bound_of self.old.bounds input in
+            OnOk result (self.new ≡ record self.old { state = posted input self.old.state; budget = with_more self.old.budget more }) }
         ensures accepted { OnOk result (obstacle input self.old.state ≡ None) }
         ensures barred { IfErr result (λ refused. (o : Obstacle) → refused.why ≡ refusal_for o → obstacle input self.old.state ≡ Some o) }
         ensures back { IfErr result (λ refused. refused.input ≡ input) }
@@ -103,8 +131,12 @@ impl Engine {
         if let Some(obstacle) = self.machine.obstacle(&input) {
             return refuse(RefusedWhy::for_obstacle(obstacle), input);
         }
+        let budget = self.budget.saturating_add(self.bounds.of_input(&input));
         match post_or_back(&mut self.machine, input) {
-            Ok(()) => Ok(()),
+            Ok(()) => {
+                self.budget = budget;
+                Ok(())
+            }
             Err(refused) => Err(refused),
         }
     }
@@ -120,16 +152,19 @@ impl Engine {
         ensures room { OnOk result (self.old.state.taken ≡ most_steps → is_settled self.old.state ≡ true) }
         ensures full { IsErrOf result StepError.CountFull → (self.old.state.taken ≡ most_steps) × (is_settled self.old.state ≡ false) }
         ensures refused { MatchOption (step_refusal self.old.state) (IfErr result (λ why. (why ≡ StepError.NoMemory) × (is_settled self.old.state ≡ false))) (λ why. IsErrOf result why) }
+        ensures within { self.new.state.taken ≤ self.new.budget }
     {
+        let taken = self.machine.taken();
         match self.machine.rest() {
             Rest::Ended => return Ok(Stepped::Ended),
             Rest::Idle => return Ok(Stepped::Idle),
             Rest::More => {}
         }
-        if self.machine.taken() == u64::MAX {
+        if taken == u64::MAX {
             return Err(StepError::CountFull);
         }
         let answer = step_by(&mut self.machine, self.accepted)?;
+        self.vouch();
         Ok(answer)
     }
 
@@ -140,8 +175,13 @@ impl Engine {
         ensures all { OnOk result (self.new ≡ record self.old { state = advanced most self.old.state }) }
         ensures some { OnErr result (IsPartly most self.old.state self.new.state) }
         ensures same { self.new.accepted ≡ self.old.accepted }
+        ensures bounds { self.new.bounds ≡ self.old.bounds }
+        ensures budget { self.new.budget ≡ self.old.budget }
+        ensures within { self.new.state.taken ≤ self.new.budget }
     {
-        advance_by(&mut self.machine, self.accepted, most)
+        let made = advance_by(&mut self.machine, self.accepted, most);
+        self.vouch();
+        made
     }
 
     /// The picture that is shown.
@@ -156,6 +196,24 @@ impl Engine {
         ensures { result ≡ self.now.state.taken }
     {
         self.machine.taken()
+    }
+
+    /// The most steps that may be taken for what was posted so far: the bound of the start and those of the
+    /// inputs that were accepted; of a service that no verifier has seen, as many as 64 bits can count.
+    pub fn budget(&self) -> u64
+        ensures same { result ≡ self.now.budget }
+        ensures within { self.now.state.taken ≤ result }
+    {
+        self.vouch();
+        self.budget
+    }
+
+    /// The most steps to which its start and an input of each kind can lead; of a service that no verifier has
+    /// seen, as many as 64 bits can count.
+    pub fn bounds(&self) -> Bounds
+        ensures { result ≡ self.now.bounds }
+    {
+        self.bounds
     }
 
     /// The faults met, in order. Where the service was accepted there are none.
@@ -199,6 +257,20 @@ fn advance_by(machine: &mut Machine, accepted: bool, most: u32) -> Result<(), Al
         machine.advance::<Free>(most)
     } else {
         machine.advance::<Judged>(most)
+    }
+}
+
+/// What is known of a service that no verifier has seen: as many steps as can be counted.
+fn no_bounds() -> Bounds
+    ensures { result ≡ unbounded }
+{
+    Bounds {
+        start: u64::MAX,
+        key: u64::MAX,
+        tick: u64::MAX,
+        stream: u64::MAX,
+        engine: u64::MAX,
+        arrive: u64::MAX,
     }
 }
 

@@ -1,8 +1,9 @@
-//! The engine: the object machine of `mh_machine`, with the verdict on its service and what it refuses, and runs
-//! of it.
+//! The engine: the object machine of `mh_machine`, with the verdict on its service, a budget of steps and what it
+//! refuses, and runs of it.
 //!
 //! Promise: whatever is posted and however many steps are taken, the state and the picture are those of
-//! the machine's definitions, and an engine whose service was accepted never meets a stuck item.
+//! the machine's definitions, and an engine whose service was accepted never meets a stuck item and takes no
+//! more steps than the bounds of its start and of the inputs that were accepted come to.
 #![tactic(auto)]
 
 mod beside;

@@ -2,7 +2,7 @@
 //!
 //! The engine itself calls none of them. Before each step it is asked which call the step makes, the
 //! program is called, and the engine is told what came of it.
-ghost use Rattle.std.specs.Prelude.{◌≡◌, map, true, false, None, Ok, Err, IfOk, IfErr, OnOk, OnErr, IsErrOf, IsErrAnd, MatchOption};
+ghost use Rattle.std.specs.Prelude.{◌≡◌, ◌≤◌, map, true, false, None, Ok, Err, IfOk, IfErr, OnOk, OnErr, IsErrOf, IsErrAnd, MatchOption};
 ghost use Rattle.mh_model.specs.State.{begun};
 ghost use Rattle.mh_model.specs.Stuck.{front_fault};
 ghost use Rattle.mh_model.specs.Limits.{most_steps};
@@ -10,7 +10,10 @@ ghost use Rattle.mh_model.specs.Receiver.{IsStep, call_next, told};
 ghost use Rattle.mh_model.specs.Step.{is_settled, posted, preset, step};
 ghost use Rattle.mh_resident.specs.Coming.{MayCome};
 ghost use Rattle.mh_machine.specs.Rest.{answer_of, is_faulted};
+ghost use Rattle.mh_laws.specs.Budget.{bound_of};
+ghost use Rattle.mh_layers.specs.Known.{top};
 ghost use Rattle.mh_engine.specs.Answer.{is_ready, post_refusal, preset_refusal, step_refusal};
+ghost use Rattle.mh_engine.specs.Play.{unbounded, with_more};
 ghost use Rattle.mh_engine.specs.Told.{IsTold};
 
 use crate::engine::Engine;
@@ -56,7 +59,7 @@ impl<P: Resident> Receiver<P> {
         mjd: u32,
     ) -> Result<Receiver<P>, Unequipped<P>>
         ensures begun { let whole = record service { programs = map P.signature_of programs.items } in
-            IfOk result (λ receiver. receiver.engine ≡ record { state = begun whole mjd; accepted = false }) }
+            IfOk result (λ receiver. receiver.engine ≡ record { state = begun whole mjd; accepted = false; bounds = unbounded; budget = top }) }
         ensures programs { IfOk result (λ receiver. receiver.programs ≡ programs) }
         ensures back { IfErr result (λ refused. (refused.service ≡ service) × (refused.programs ≡ programs)) }
     {
@@ -73,8 +76,9 @@ impl<P: Resident> Receiver<P> {
     }
 
     /// An engine for a service that the verifier accepted beside these programs, and that begins on this
-    /// modified Julian day, 1,000,000 at most: none of its steps finds an item stuck, whatever the
-    /// programs answer. What was verified beside other programs is refused.
+    /// modified Julian day, 1,000,000 at most: none of its steps finds an item stuck, and its start and each
+    /// input lead to no more steps than the verifier has for them, whatever the programs answer. What was
+    /// verified beside other programs is refused.
     pub fn start(
         alloc: Global,
         accepted: Accepted,
@@ -82,11 +86,11 @@ impl<P: Resident> Receiver<P> {
         mjd: u32,
     ) -> Result<Receiver<P>, Unready<P>>
         ensures begun { IfOk result (λ receiver. receiver.engine
-            ≡ record { state = begun accepted mjd; accepted = true }) }
+            ≡ record { state = begun accepted.service mjd; accepted = true; bounds = accepted.bounds; budget = accepted.bounds.start }) }
         ensures programs { IfOk result (λ receiver. receiver.programs ≡ programs) }
-        ensures same { OnOk result (map P.signature_of programs.items ≡ accepted.programs) }
+        ensures same { OnOk result (map P.signature_of programs.items ≡ accepted.service.programs) }
         ensures differ { IfErr result (λ refused. refused.why ≡ StartError.ProgramsDiffer →
-            map P.signature_of programs.items ≡ accepted.programs → ⊥) }
+            map P.signature_of programs.items ≡ accepted.service.programs → ⊥) }
         ensures back { IfErr result (λ refused. (refused.accepted ≡ accepted) × (refused.programs ≡ programs)) }
     {
         match matching(alloc, programs.as_slice(), accepted.programs()) {
@@ -143,9 +147,14 @@ impl<P: Resident> Receiver<P> {
         self.engine.preset(file)
     }
 
-    /// Adds an input at the end of the queue. A refused one is handed back, and nothing changes.
+    /// Adds an input at the end of the queue, and what it is bound to to the budget. A refused one is handed
+    /// back, and nothing changes.
     pub fn post(&mut self, input: Input) -> Result<(), Refused>
-        ensures posted { let after = record self.old.engine { state = posted input self.old.engine.state } in
+        ensures posted { let more = bound_of self.old.engine.bounds input in
+            let after = record self.old.engine {
+              state = posted input self.old.engine.state;
+              budget = with_more self.old.engine.budget more;
+            } in
             OnOk result (self.new.engine ≡ after) }
         ensures back { IfErr result (λ refused. refused.input ≡ input) }
         ensures kept { OnErr result (self.new.engine ≡ self.old.engine) }
@@ -166,6 +175,9 @@ impl<P: Resident> Receiver<P> {
             OnOk result (IsStep signatures may self.old.engine.state self.new.engine.state) }
         ensures same { self.new.programs ≡ self.old.programs }
         ensures accepted { self.new.engine.accepted ≡ self.old.engine.accepted }
+        ensures bounds { self.new.engine.bounds ≡ self.old.engine.bounds }
+        ensures budget { self.new.engine.budget ≡ self.old.engine.budget }
+        ensures within { self.new.engine.state.taken ≤ self.new.engine.budget }
         ensures kept { OnErr result (self.new.engine ≡ self.old.engine) }
         ensures answer { IfOk result (λ answer. answer ≡ answer_of self.old.engine.state) }
         ensures never { self.old.engine.accepted ≡ true → front_fault self.old.engine.state ≡ None }
@@ -209,6 +221,9 @@ impl<P: Resident> Receiver<P> {
         ensures step { OnOk result (self.new.engine.state ≡ step (told said self.old.engine.state)) }
         ensures same { self.new.programs ≡ self.old.programs }
         ensures accepted { self.new.engine.accepted ≡ self.old.engine.accepted }
+        ensures bounds { self.new.engine.bounds ≡ self.old.engine.bounds }
+        ensures budget { self.new.engine.budget ≡ self.old.engine.budget }
+        ensures within { self.new.engine.state.taken ≤ self.new.engine.budget }
         ensures answer { IfOk result (λ answer. answer ≡ answer_of self.old.engine.state) }
         ensures faultless { IfOk result (λ answer. self.old.engine.accepted ≡ true → is_faulted answer ≡ false) }
         ensures why { IfErr result (λ why. why ≡ StepError.NoMemory) }
@@ -224,6 +239,9 @@ fn step_told(engine: &mut Engine, said: Outcome) -> Result<Stepped, StepError>
     requires { is_ready engine.old.state ≡ true }
     ensures step { OnOk result (engine.new.state ≡ step (told said engine.old.state)) }
     ensures accepted { engine.new.accepted ≡ engine.old.accepted }
+    ensures bounds { engine.new.bounds ≡ engine.old.bounds }
+    ensures budget { engine.new.budget ≡ engine.old.budget }
+    ensures within { engine.new.state.taken ≤ engine.new.budget }
     ensures answer { IfOk result (λ answer. answer ≡ answer_of engine.old.state) }
     ensures faultless { IfOk result (λ answer. engine.old.accepted ≡ true → is_faulted answer ≡ false) }
     ensures why { IfErr result (λ why. why ≡ StepError.NoMemory) }

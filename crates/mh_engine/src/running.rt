@@ -1,11 +1,11 @@
 //! Runs of a receiver: posts and steps in a given order, by what its programs answer.
-ghost use Rattle.std.specs.Prelude.{◌≡◌, ◌<◌, true, false, None, [], length, map, take, slice_get, IfErr, OnOk, OnErr, IsErrOf};
+ghost use Rattle.std.specs.Prelude.{◌≡◌, ◌<◌, ◌≤◌, true, false, None, [], length, map, take, slice_get, IfErr, OnOk, OnErr, IsErrOf};
 ghost use Rattle.std.specs.Option.{option_map_or};
 ghost use Rattle.mh_model.specs.Stuck.{front_fault};
-ghost use Rattle.mh_model.specs.Receiver.{IsMoved, IsRun};
+ghost use Rattle.mh_model.specs.Receiver.{IsRun};
 ghost use Rattle.mh_resident.specs.Coming.{MayCome};
 ghost use Rattle.mh_engine.specs.Answer.{is_counted, is_left};
-ghost use Rattle.mh_engine.specs.Beside.{IsCountedRun};
+ghost use Rattle.mh_engine.specs.Beside.{IsCountedRun, IsPlayed};
 
 use crate::receiver::Receiver;
 use crate::refusal::{RunEnd, StepError};
@@ -24,11 +24,11 @@ impl<P: Resident> Receiver<P> {
             OnOk result (IsRun signatures may moves.now self.old.engine.state self.new.engine.state) }
         ensures counted { let may = MayCome P.signature_of P.may_answer self.old.programs.items in
             let signatures = map P.signature_of self.old.programs.items in
-            OnOk result (IsCountedRun signatures may moves.now self.old.engine.state self.new.engine.state) }
+            OnOk result (IsCountedRun signatures may moves.now self.old.engine self.new.engine) }
         ensures part { let may = MayCome P.signature_of P.may_answer self.old.programs.items in
             let signatures = map P.signature_of self.old.programs.items in
-            let before = self.old.engine.state in
-            IfErr result (λ end. IsCountedRun signatures may (take end.made moves.now) before self.new.engine.state) }
+            let before = self.old.engine in
+            IfErr result (λ end. IsCountedRun signatures may (take end.made moves.now) before self.new.engine) }
         ensures within { IfErr result (λ end. end.made < length moves.now) }
         ensures more { IfErr result (λ end.
             option_map_or (λ next. is_left next self.new.engine.state) (slice_get moves.now end.made) false ≡ true) }
@@ -36,6 +36,8 @@ impl<P: Resident> Receiver<P> {
             option_map_or (λ next. is_counted next self.new.engine.state) (slice_get moves.now end.made) true ≡ false) }
         ensures same { self.new.programs ≡ self.old.programs }
         ensures accepted { self.new.engine.accepted ≡ self.old.engine.accepted }
+        ensures bounds { self.new.engine.bounds ≡ self.old.engine.bounds }
+        ensures steps { self.new.engine.state.taken ≤ self.new.engine.budget }
         ensures never { self.old.engine.accepted ≡ true → front_fault self.new.engine.state ≡ None }
         ensures faultless { self.old.engine.accepted ≡ true → self.new.engine.state.faults ≡ [] }
     {
@@ -53,13 +55,14 @@ impl<P: Resident> Receiver<P> {
     fn make(&mut self, next: &Move) -> Result<(), StepError>
         ensures made { let may = MayCome P.signature_of P.may_answer self.old.programs.items in
             let signatures = map P.signature_of self.old.programs.items in
-            OnOk result (IsMoved signatures may next.now self.old.engine.state self.new.engine.state) }
+            OnOk result (IsPlayed signatures may next.now self.old.engine self.new.engine) }
         ensures counted { OnOk result (is_counted next.now self.old.engine.state ≡ true) }
         ensures kept { OnErr result (self.new.engine ≡ self.old.engine) }
         ensures more { OnErr result (is_left next.now self.old.engine.state ≡ true) }
         ensures full { IfErr result (λ why. why ≡ StepError.CountFull → is_counted next.now self.old.engine.state ≡ false) }
         ensures same { self.new.programs ≡ self.old.programs }
         ensures accepted { self.new.engine.accepted ≡ self.old.engine.accepted }
+        ensures bounds { self.new.engine.bounds ≡ self.old.engine.bounds }
     {
         match next {
             Move::Post(input) => post_copy_or_pass(&mut self.engine, input),
@@ -70,15 +73,17 @@ impl<P: Resident> Receiver<P> {
     fn step_on(&mut self) -> Result<(), StepError>
         ensures made { let may = MayCome P.signature_of P.may_answer self.old.programs.items in
             let signatures = map P.signature_of self.old.programs.items in
-            OnOk result (IsMoved signatures may Move.Step self.old.engine.state self.new.engine.state) }
+            OnOk result (IsPlayed signatures may Move.Step self.old.engine self.new.engine) }
         ensures counted { OnOk result (is_counted Move.Step self.old.engine.state ≡ true) }
         ensures kept { OnErr result (self.new.engine ≡ self.old.engine) }
         ensures more { OnErr result (is_left Move.Step self.old.engine.state ≡ true) }
         ensures full { IfErr result (λ why. why ≡ StepError.CountFull → is_counted Move.Step self.old.engine.state ≡ false) }
         ensures same { self.new.programs ≡ self.old.programs }
         ensures accepted { self.new.engine.accepted ≡ self.old.engine.accepted }
+        ensures bounds { self.new.engine.bounds ≡ self.old.engine.bounds }
     {
         let _ = self.step()?;
+        self.engine.vouch();
         Ok(())
     }
 }

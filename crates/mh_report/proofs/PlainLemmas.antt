@@ -2,12 +2,13 @@
 use Rattle.std.specs.Prelude.{◌≡◌, ℕ, List, [], map, Option, Some, None, Result, Ok, Err, IfOk, OnOk, refl}
 use Rattle.std.proofs.Common.{ap, sym, subst, ◌∙◌}
 use Rattle.std.proofs.lemmas.Result.{IfOk-weaker}
-use Rattle.mh_laws.specs.Acceptable.{IsAcceptable}
+use Rattle.mh_laws.specs.Budget.{IsAccepted}
 use Rattle.mh_model.specs.declared.program.Signature.{Signature}
 use Rattle.mh_model.specs.Service.{Service}
 use Rattle.mh_service.specs.Refusals.{File, Refusal as ServiceRefusal}
 use Rattle.mh_service.specs.Resolved.{resolved}
 use Rattle.mh_flow.specs.Equipment.{equipped}
+use Rattle.mh_verify.specs.Free.{IsVerified, Verified, most_cost}
 use Rattle.mh_report.specs.declared.material.Material.{Material}
 use Rattle.mh_report.specs.declared.script.Command.{Command}
 use Rattle.mh_report.specs.declared.unplayable.Unplayable.{Unplayable}
@@ -46,8 +47,9 @@ plain_material start files script m e = by (service_read start files) refl (comm
 pub unequipped : (s : Service) → s.programs ≡ [] → equipped s [] ≡ s
 unequipped s none = ap (λ (ps : List Signature). record s { programs = ps }) (sym none)
 
-pub same_service : {E : Type 0} (s : Service) (r : Result Service E) → s.programs ≡ [] → IfOk r (λ a. a ≡ equipped s []) → IfOk r (λ a. a ≡ s)
+pub same_service : {E : Type 0} (s : Service) (r : Result Verified E) → s.programs ≡ [] → IfOk r (λ a. a.service ≡ equipped s []) → IfOk r (λ a. a.service ≡ s)
 same_service {E} s r none same = IfOk-weaker r _ _ (λ a e. e ∙ unequipped s none) same
 
-pub acceptable_service : {T E : Type 0} (s : Service) (r : Result T E) → s.programs ≡ [] → OnOk r (IsAcceptable (equipped s [])) → OnOk r (IsAcceptable s)
-acceptable_service {T} {E} s r none good = subst (λ (v : Service). OnOk r (IsAcceptable v)) (unequipped s none) good
+pub accepted_service : {E : Type 0} (s : Service) (r : Result Verified E) → s.programs ≡ [] → IfOk r (λ a. a.service ≡ equipped s []) → IfOk r (λ a. IsVerified a) → OnOk r (IsAccepted most_cost s)
+accepted_service {E} s (Ok a) none same so = subst (λ (v : Service). IsAccepted most_cost v) (same ∙ unequipped s none) so.by.accepted
+accepted_service {E} s (Err e) none same so = tt

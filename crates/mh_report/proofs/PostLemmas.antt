@@ -6,7 +6,8 @@ use Rattle.mh_model.specs.Planes.{Planes}
 use Rattle.mh_model.specs.State.{State}
 use Rattle.mh_model.specs.declared.input.Obstacle.{Obstacle}
 use Rattle.mh_model.specs.Step.{posted, posted_by, obstacle}
-use Rattle.mh_engine.specs.Play.{Play}
+use Rattle.mh_laws.specs.Budget.{bound_of}
+use Rattle.mh_engine.specs.Play.{Play, with_more}
 use Rattle.std.specs.Option.{option_map}
 use Rattle.mh_engine.specs.Answer.{post_refusal, refusal_for}
 use Rattle.mh_engine.specs.declared.refusal.Refused.{Refused}
@@ -47,14 +48,18 @@ barred_stays i s why e = by (obstacle i s) e
 abbrev pub IsTold : {E : Type 0} → Input → Session → Session → Result (List ℕ) E → Type 0
 IsTold i before after answer = OnOk answer (after ≡ played (command.Post i) before) × IfOk answer (λ text. text ≡ post_lines i before.state)
 
+-- the engine behind a post that it takes
+abbrev pub taken : Play → Input → Play
+taken e i = record e { state = posted i e.state; budget = with_more e.budget (bound_of e.bounds i) }
+
 abbrev pub session : Play → Planes → ℕ → Session
 session e f n = record { state = e.state; frame = f; frames = n }
 
 pub taken_told : {E : Type 0} (i : Input) (e new : Play) (f : Planes) (n : ℕ) (s : Session) (r : Result (Unit {0}) Refused) (u : Unit {0}) (answer : Result (List ℕ) E) (text : List ℕ)
-    → session e f n ≡ s → r ≡ Ok u → IsAnswer i e r → OnOk r (new ≡ record e { state = posted i e.state }) → answer ≡ Ok text → text ≡ [] → IsTold i s (session new f n) answer
+    → session e f n ≡ s → r ≡ Ok u → IsAnswer i e r → OnOk r (new ≡ taken e i) → answer ≡ Ok text → text ≡ [] → IsTold i s (session new f n) answer
 taken_told {E} i e new f n s r u answer text seen is told did given nothing =
     let none : post_refusal i e.state ≡ None = free i e r u is told in
-    let next : new ≡ record e { state = posted i e.state } = subst (λ (x : Result (Unit {0}) Refused). OnOk x (new ≡ record e { state = posted i e.state })) is did in
+    let next : new ≡ taken e i = subst (λ (x : Result (Unit {0}) Refused). OnOk x (new ≡ taken e i)) is did in
     let done : session new f n ≡ played (command.Post i) (session e f n) = ap (λ (p : Play). session p f n) next in
     let whole : text ≡ post_lines i e.state = nothing ∙ sym (ap why_line none) in
     subst (λ (t : Session). IsTold i t (session new f n) answer) seen

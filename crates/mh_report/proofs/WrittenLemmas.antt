@@ -7,12 +7,15 @@ use Rattle.mh_report.specs.declared.play_error.PlayError.{PlayError}
 use Rattle.mh_model.specs.Service.{Service}
 use Rattle.mh_verify.specs.declared.refusal.Refusal.{Refusal}
 use Rattle.mh_verify.specs.declared.refusal.RefusalKind.TheVariants as kind
-use Rattle.mh_verify.specs.Order.{NamesFirst, IsTold}
+use Rattle.mh_laws.specs.Budget.{Bounds}
+use Rattle.mh_verify.specs.Free.{IsVerified, Verified}
+use Rattle.mh_verify.specs.Order.{Names, IsTold}
 use Rattle.mh_report.specs.declared.unplayable.Unplayable.{Unplayable}
 use Rattle.mh_report.specs.declared.unplayable.Unplayable.TheVariants as unplayable
 use Rattle.std.specs.Io.KnownBytes.{Appends}
 use Rattle.mh_report.specs.Sink.{IsBeginning}
-use Rattle.mh_report.specs.Played.{complaint, HasWritten, HasBegun, begun_some}
+use Rattle.mh_report.specs.Played.{Checks, check_accepted, complaint, HasWritten, HasBegun, begun_some}
+use Rattle.mh_report.specs.Verdict.{accepted_lines}
 use Rattle.mh_report.specs.Reading.{Fails}
 
 -- a whole report that is meant
@@ -27,8 +30,14 @@ pub cut : (Means : List ℕ → Status → Type 0) (before after : Option (List 
 cut Means before after (Ok st) report how so begun = tt
 cut Means before after (Err e) report how so begun = begun_some report how so begun
 
+-- an accepted service is said with its bounds
+pub accepted_so : (a : Verified) (s : Service) (b : Bounds) → a.service ≡ s → IsVerified a → b ≡ a.bounds → Checks (Ok s) (accepted_lines b) status.Good
+accepted_so a s b same so bounds =
+    subst (λ (v : Service). Checks (Ok v) (accepted_lines b) status.Good) same
+    (subst (λ (x : Bounds). Checks (Ok a.service) (accepted_lines x) status.Good) (sym bounds) (check_accepted a so))
+
 -- a refusal that is not for want of memory names what comes first
-pub named : (s : Service) (r : Refusal) → IsTold s [] r → (r.kind ≡ kind.NoMemory → ⊥) → NamesFirst s [] r
+pub named : (s : Service) (r : Refusal) → IsTold s [] r → (r.kind ≡ kind.NoMemory → ⊥) → Names s [] r
 named s r (inl first) other = first
 named s r (inr same) other = absurd (other (ap (λ (x : Refusal). x.kind) same))
 

@@ -3,10 +3,11 @@
 -- on the service that the files make.
 use Rattle.std.specs.Prelude.{◌≡◌, ℕ, Bool, false, List, [], ◌∷◌, ◌++◌, Option, Result, Ok, Err, codes}
 use Rattle.std.specs.Fmt.{decimal}
-use Rattle.mh_laws.specs.Acceptable.{IsAcceptable}
+use Rattle.mh_laws.specs.Budget.{IsAccepted}
 use Rattle.mh_model.specs.Service.{Service}
 use Rattle.mh_verify.specs.declared.refusal.Refusal.{Refusal}
-use Rattle.mh_verify.specs.Order.{NamesFirst}
+use Rattle.mh_verify.specs.Free.{IsVerified, Verified, most_cost}
+use Rattle.mh_verify.specs.Order.{Names}
 use Rattle.mh_report.specs.declared.material.Material.{Material}
 use Rattle.mh_report.specs.declared.script.Command.{Command}
 use Rattle.mh_report.specs.declared.status.Status.{Status}
@@ -15,7 +16,7 @@ use Rattle.mh_report.specs.declared.unplayable.Unplayable.{Unplayable}
 use Rattle.mh_report.specs.declared.unplayable.Unplayable.TheVariants as unplayable
 use Rattle.std.specs.Io.KnownBytes.{Appends}
 use Rattle.mh_report.specs.Sink.{IsBeginning}
-use Rattle.mh_report.specs.Verdict.{refusal_lines}
+use Rattle.mh_report.specs.Verdict.{accepted_lines, refusal_lines}
 use Rattle.mh_report.specs.Report.{Session, script_lines, ended, status_of}
 use Rattle.mh_report.specs.Presets.{opened}
 
@@ -40,21 +41,17 @@ play_status cs (Err e) = status.Unreadable
 -- unless a lenient play is wanted; the files are put there only then.
 pub data Plays (mjd : ℕ) (lenient : Bool) : Result Material Unplayable → List ℕ → Status → Type 0 where
   play_unreadable : (e : Unplayable) → Plays mjd lenient (Err e) (complaint e) status.Unreadable
-  play_refused : (m : Material) (r : Refusal) → lenient ≡ false → NamesFirst m.service [] r →
+  play_refused : (m : Material) (r : Refusal) → lenient ≡ false → Names m.service [] r →
       Plays mjd lenient (Ok m) (refusal_lines r) status.Refused
-  play_done : (m : Material) → (lenient ≡ false → IsAcceptable m.service) →
+  play_done : (m : Material) → (lenient ≡ false → IsAccepted most_cost m.service) →
       Plays mjd lenient (Ok m) (play_lines m.commands (opened m.service mjd m.files))
       (play_status m.commands (opened m.service mjd m.files))
-
--- the line on a service that is accepted
-unfoldable pub accepted_line : List ℕ
-accepted_line = codes "accepted" ++ 10 ∷ []
 
 -- What is written of a service that is checked, and how it ends.
 pub data Checks : Result Service Unplayable → List ℕ → Status → Type 0 where
   check_unreadable : (e : Unplayable) → Checks (Err e) (complaint e) status.Unreadable
-  check_refused : (s : Service) (r : Refusal) → NamesFirst s [] r → Checks (Ok s) (refusal_lines r) status.Refused
-  check_accepted : (s : Service) → IsAcceptable s → Checks (Ok s) accepted_line status.Good
+  check_refused : (s : Service) (r : Refusal) → Names s [] r → Checks (Ok s) (refusal_lines r) status.Refused
+  check_accepted : (a : Verified) → IsVerified a → Checks (Ok a.service) (accepted_lines a.bounds) status.Good
 
 -- the sink has taken a whole report that is meant, with this status
 pub record HasWritten (Means : List ℕ → Status → Type 0) (before after : Option (List ℕ)) (how : Status) : Type 0 where

@@ -1,5 +1,6 @@
--- What is printed of a refusal of the verifier: its number, the place and its action; then the configuration, the reference
--- that is wrong, and a line for each link of the chain that brought it.
+-- What is printed of a verdict. Of a service that is accepted: the bounds of the start and of each kind of input. Of a
+-- refusal: its number, the place and its action, or the kind of what leads to too many steps; then the configuration, the
+-- reference that is wrong, and a line for each link of the chain that brought it, or for each effect of a cycle.
 use Rattle.std.specs.Prelude.{ℕ, List, [], ◌∷◌, ◌++◌, Option, Some, None, unwrap_or, codes}
 use Rattle.std.specs.Fmt.{decimal}
 use Rattle.std.specs.List.{flat_map}
@@ -7,9 +8,15 @@ use Rattle.mh_base.specs.declared.obj_ref.ObjRef.{ObjRef}
 use Rattle.mh_group.specs.declared.action_name.ActionName.{ActionName}
 use Rattle.mh_group.specs.Words.{action_word}
 use Rattle.mh_model.specs.declared.config.Config.{Config}
+use Rattle.mh_laws.specs.Budget.{Bounds}
 use Rattle.mh_flow.specs.declared.link.Link.{Link}
+use Rattle.mh_layers.specs.declared.bounds.InputKind.{InputKind}
+use Rattle.mh_layers.specs.declared.bounds.InputKind.TheVariants as input
+use Rattle.mh_layers.specs.declared.cause.Cause.{Cause}
 use Rattle.mh_verify.specs.declared.refusal.Place.{Place}
 use Rattle.mh_verify.specs.declared.refusal.Refusal.{Refusal}
+use Rattle.mh_verify.specs.declared.refusal.RefusalKind.{RefusalKind}
+use Rattle.mh_verify.specs.declared.refusal.RefusalKind.TheVariants as kind
 use Rattle.mh_verify.specs.Kinds.{kind_number}
 
 abbrev pub place_words : Option Place → List ℕ
@@ -38,7 +45,36 @@ link_line l = codes "by " ++ l.key.group ++ codes " " ++ decimal l.key.number ++
 abbrev pub chain_lines : List Link → List ℕ
 chain_lines ls = flat_map link_line ls
 
+abbrev pub cause_line : Cause → List ℕ
+cause_line x = codes "cause " ++ x.at.group ++ codes " " ++ decimal x.at.number ++ codes " " ++ decimal x.index ++ 10 ∷ []
+
+abbrev pub cycle_lines : List Cause → List ℕ
+cycle_lines xs = flat_map cause_line xs
+
+abbrev pub kind_word : InputKind → List ℕ
+kind_word input.Start = codes "start"
+kind_word input.Key = codes "key"
+kind_word input.Tick = codes "tick"
+kind_word input.Stream = codes "stream"
+kind_word input.Engine = codes "engine"
+kind_word input.Arrive = codes "arrive"
+
+-- the place and its action, or the kind of what leads to too many steps
+abbrev pub where_words : RefusalKind → Option Place → Option ActionName → List ℕ
+where_words (kind.TooManySteps k) p a = codes " " ++ kind_word k
+where_words _ p a = place_words p ++ action_words a
+
 unfoldable pub refusal_lines : Refusal → List ℕ
 refusal_lines r =
-    codes "refused V" ++ decimal (unwrap_or (kind_number r.kind) 0) ++ place_words r.place ++ action_words r.action ++ 10 ∷ []
-    ++ config_line r.config ++ object_line r.object ++ chain_lines r.chain
+    codes "refused V" ++ decimal (unwrap_or (kind_number r.kind) 0) ++ where_words r.kind r.place r.action ++ 10 ∷ []
+    ++ config_line r.config ++ object_line r.object ++ chain_lines r.chain ++ cycle_lines r.cycle
+
+-- of a service that is accepted
+
+abbrev pub bound_line : InputKind → ℕ → List ℕ
+bound_line k n = kind_word k ++ codes " " ++ decimal n ++ 10 ∷ []
+
+unfoldable pub accepted_lines : Bounds → List ℕ
+accepted_lines b =
+    codes "accepted" ++ 10 ∷ [] ++ bound_line input.Start b.start ++ bound_line input.Key b.key ++ bound_line input.Tick b.tick
+    ++ bound_line input.Stream b.stream ++ bound_line input.Engine b.engine ++ bound_line input.Arrive b.arrive

@@ -2,23 +2,26 @@
 ghost use Rattle.std.specs.Prelude.{◌≡◌, ◌-◌, ◌<◌, ◌^◌, [], IfOk, OnOk, OnErr, IsErrOf};
 ghost use Rattle.std.specs.Io.KnownBytes.{Appends};
 ghost use Rattle.mh_report.specs.Sink.{IsBeginning};
-ghost use Rattle.mh_report.specs.Played.{accepted_line, Checks, HasWritten, HasBegun};
+ghost use Rattle.mh_report.specs.Played.{Checks, HasWritten, HasBegun};
+ghost use Rattle.mh_report.specs.Verdict.{accepted_lines};
 ghost use Rattle.mh_report.specs.Reading.{service_read};
 
 use crate::options::Options;
 use crate::play::{complain, refuse};
 use crate::play_error::PlayError;
 use crate::reading::read_service;
+use crate::saying::accepted_text;
 use crate::sink::{Sink, write_all};
 use crate::status::Status;
 use crate::unplayable::Unplayable;
 use crate::verdict::verified;
 use mh_base::GroupName;
+use mh_layers::Bounds;
 use mh_service::Service;
 use mh_verify::RefusalKind;
 use std::alloc::Global;
 
-/// Says whether the verifier accepts the service of these files, or why not. After an error a beginning of
+/// Says whether the verifier accepts the service of these files, with its bounds, or why not. After an error a beginning of
 /// that was written, or nothing.
 pub fn check_bytes<S: Sink>(
     alloc: Global,
@@ -48,7 +51,7 @@ fn judge<S: Sink>(alloc: Global, service: Service, sink: &mut S) -> Result<Statu
     ensures write { IsErrOf result PlayError.Write → S.failures sink.old < S.failures sink.new }
 {
     match verified(alloc, service) {
-        Ok(_) => accept(sink),
+        Ok(accepted) => accept(alloc, &accepted.bounds(), sink),
         Err(refusal) => match refusal.kind {
             RefusalKind::NoMemory => Err(PlayError::NoMemory),
             _ => refuse(alloc, &refusal, sink),
@@ -56,14 +59,14 @@ fn judge<S: Sink>(alloc: Global, service: Service, sink: &mut S) -> Result<Statu
     }
 }
 
-#[tactic(auto, unfolding(crate::specs::Played::accepted_line))]
-fn accept<S: Sink>(sink: &mut S) -> Result<Status, PlayError>
+fn accept<S: Sink>(alloc: Global, bounds: &Bounds, sink: &mut S) -> Result<Status, PlayError>
     requires { S.failures sink.old < 2 ^ 64 - 1 }
-    ensures report { OnOk result (Appends (S.written sink.old) (S.written sink.new) accepted_line) }
+    ensures report { OnOk result (Appends (S.written sink.old) (S.written sink.new) (accepted_lines bounds.now)) }
     ensures status { IfOk result (λ status. status ≡ Status.Good) }
-    ensures cut { OnErr result (IsBeginning (S.written sink.old) (S.written sink.new) accepted_line) }
+    ensures cut { OnErr result (IsBeginning (S.written sink.old) (S.written sink.new) (accepted_lines bounds.now)) }
     ensures write { IsErrOf result PlayError.Write → S.failures sink.old < S.failures sink.new }
 {
-    write_all(sink, b"accepted\n")?;
+    let lines = accepted_text(alloc, bounds)?;
+    write_all(sink, lines.as_slice())?;
     Ok(Status::Good)
 }

@@ -152,9 +152,9 @@ fn play_accepted<S: Sink>(
     sink: &mut S,
 ) -> Result<Status, PlayError>
     requires { S.failures sink.old < 2 ^ 64 - 1 }
-    ensures report { OnOk result (Appends (S.written sink.old) (S.written sink.new) (play_lines commands.now (opened accepted mjd files.now))) }
-    ensures status { IfOk result (λ status. status ≡ play_status commands.now (opened accepted mjd files.now)) }
-    ensures cut { OnErr result (IsBeginning (S.written sink.old) (S.written sink.new) (play_lines commands.now (opened accepted mjd files.now))) }
+    ensures report { OnOk result (Appends (S.written sink.old) (S.written sink.new) (play_lines commands.now (opened accepted.service mjd files.now))) }
+    ensures status { IfOk result (λ status. status ≡ play_status commands.now (opened accepted.service mjd files.now)) }
+    ensures cut { OnErr result (IsBeginning (S.written sink.old) (S.written sink.new) (play_lines commands.now (opened accepted.service mjd files.now))) }
     ensures write { IsErrOf result PlayError.Write → S.failures sink.old < S.failures sink.new }
 {
     play_on(

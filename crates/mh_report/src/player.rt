@@ -73,7 +73,7 @@ impl Player {
         mjd: u32,
         files: &[File],
     ) -> Result<Player, Unplayable>
-        ensures opened { Gives (λ player. player) result (opened accepted mjd files.now) }
+        ensures opened { Gives (λ player. player) result (opened accepted.service mjd files.now) }
         ensures fresh { IfOk result (λ player. player.frames ≡ 0) }
     {
         let frame = Picture::black(alloc)?;

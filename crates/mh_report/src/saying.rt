@@ -1,17 +1,18 @@
-//! What is said of what cannot be read, and of what the verifier refuses.
+//! What is said of what cannot be read, of what the verifier accepts, and of what it refuses.
 ghost use Rattle.std.specs.Prelude.{◌≡◌, ◌++◌, OnOk, IfOk, codes};
 ghost use Rattle.std.specs.Fmt.{decimal};
 ghost use Rattle.mh_report.specs.Played.{complaint};
 ghost use Rattle.mh_report.specs.Verdict.{refusal_lines, place_words, action_words, scene_word, config_line, object_line};
-ghost use Rattle.mh_report.specs.Verdict.{chain_lines, link_line};
+ghost use Rattle.mh_report.specs.Verdict.{accepted_lines, bound_line, cause_line, chain_lines, cycle_lines, kind_word as kind_word_lem, link_line, where_words};
 
 use crate::unplayable::Unplayable;
 use mh_base::{GroupName, ObjRef};
 use mh_flow::Link;
 use mh_group::ActionName;
+use mh_layers::{Bounds, Cause, InputKind};
 use mh_model::Config;
 use mh_told::text::Text;
-use mh_verify::{Place, Refusal};
+use mh_verify::{Place, Refusal, RefusalKind};
 use std::alloc::{AllocError, Global};
 
 /// The line on what cannot be read.
@@ -63,13 +64,30 @@ pub fn refusal_text(alloc: Global, refusal: &Refusal) -> Result<Text, AllocError
     let mut text = Text::new(alloc);
     text.put(b"refused V")?;
     text.put_number(u64::from(refusal.kind.number().unwrap_or(0)))?;
-    put_place(&mut text, &refusal.place)?;
-    put_action(&mut text, refusal.action)?;
+    put_where(&mut text, refusal.kind, &refusal.place, refusal.action)?;
     text.put(b"\n")?;
     put_config(&mut text, &refusal.config)?;
     put_object(&mut text, &refusal.object)?;
     put_chain(&mut text, refusal.chain.as_slice())?;
+    put_cycle(&mut text, refusal.cycle.as_slice())?;
     Ok(text)
+}
+
+/// The place and its action, or the kind of what leads to too many steps.
+fn put_where(
+    text: &mut Text,
+    kind: RefusalKind,
+    place: &Option<Place>,
+    action: Option<ActionName>,
+) -> Result<(), AllocError>
+    ensures { OnOk result (text.new ≡ text.old ++ where_words kind place.now action) }
+{
+    if let RefusalKind::TooManySteps(input) = kind {
+        text.put(b" ")?;
+        return text.put(kind_word(input));
+    }
+    put_place(text, place)?;
+    put_action(text, action)
 }
 
 fn put_place(text: &mut Text, place: &Option<Place>) -> Result<(), AllocError>
@@ -146,4 +164,64 @@ fn put_link(text: &mut Text, link: &Link) -> Result<(), AllocError>
     put_spaced(text, u64::from(link.key.number))?;
     put_spaced(text, link.index as u64)?;
     text.put(b"\n")
+}
+
+/// A line for each of the effects that put each other to work.
+fn put_cycle(text: &mut Text, cycle: &[Cause]) -> Result<(), AllocError>
+    ensures { OnOk result (text.new ≡ text.old ++ cycle_lines cycle.now) }
+{
+    for cause in cycle {
+        put_cause(text, cause)?;
+    }
+    Ok(())
+}
+
+fn put_cause(text: &mut Text, cause: &Cause) -> Result<(), AllocError>
+    ensures { OnOk result (text.new ≡ text.old ++ cause_line cause.now) }
+{
+    text.put(b"cause ")?;
+    text.put(cause.at.group.as_bytes())?;
+    put_spaced(text, u64::from(cause.at.number))?;
+    put_spaced(text, cause.index as u64)?;
+    text.put(b"\n")
+}
+
+// Of a service that is accepted
+
+/// The word for the start and for each kind of input.
+fn kind_word(kind: InputKind) -> &'static [u8]
+    ensures { result.now ≡ kind_word_lem kind }
+{
+    match kind {
+        InputKind::Start => b"start",
+        InputKind::Key => b"key",
+        InputKind::Tick => b"tick",
+        InputKind::Stream => b"stream",
+        InputKind::Engine => b"engine",
+        InputKind::Arrive => b"arrive",
+    }
+}
+
+fn put_bound(text: &mut Text, kind: InputKind, bound: u64) -> Result<(), AllocError>
+    ensures { OnOk result (text.new ≡ text.old ++ bound_line kind bound) }
+{
+    text.put(kind_word(kind))?;
+    put_spaced(text, bound)?;
+    text.put(b"\n")
+}
+
+/// The lines on a service that is accepted.
+#[tactic(auto, unfolding(crate::specs::Verdict::accepted_lines))]
+pub fn accepted_text(alloc: Global, bounds: &Bounds) -> Result<Text, AllocError>
+    ensures { IfOk result (λ text. text ≡ accepted_lines bounds.now) }
+{
+    let mut text = Text::new(alloc);
+    text.put(b"accepted\n")?;
+    put_bound(&mut text, InputKind::Start, bounds.start)?;
+    put_bound(&mut text, InputKind::Key, bounds.key)?;
+    put_bound(&mut text, InputKind::Tick, bounds.tick)?;
+    put_bound(&mut text, InputKind::Stream, bounds.stream)?;
+    put_bound(&mut text, InputKind::Engine, bounds.engine)?;
+    put_bound(&mut text, InputKind::Arrive, bounds.arrive)?;
+    Ok(text)
 }

@@ -53,6 +53,15 @@ fn start(alloc: Global, sources: &[Source]) -> Option<Engine> {
     Engine::start(alloc, accepted, 60_000).ok()
 }
 
+/// What the verifier says of the service, if it accepts it: to how many steps the start, a key and a tick lead at most.
+fn longest(alloc: Global, sources: &[Source]) -> Option<Vec<u8>> {
+    let accepted = verify(alloc, service(alloc, sources)?, &[]).ok()?;
+    let bounds = accepted.bounds();
+    let (start, key, tick) = (bounds.start, bounds.key, bounds.tick);
+    let line = format!(in alloc; "start {start} key {key} tick {tick}\n").ok()?;
+    Some(line.into_bytes())
+}
+
 /// A file as content.
 fn content(alloc: Global, source: &Source) -> Option<File> {
     Some(File {
@@ -81,11 +90,12 @@ fn play(alloc: Global, engine: &mut Engine, sources: &[Source]) -> Option<Vec<u8
     Some(screen)
 }
 
-/// Makes the steps that there are to make, tells how many were made so far, and draws what is shown.
+/// Makes the steps that there are to make, tells how many were made so far and how many could have been at most, and draws
+/// what is shown.
 fn turn(alloc: Global, engine: &mut Engine, screen: &mut Vec<u8>) -> Option<()> {
     engine.advance(1_000_000).ok()?;
-    let taken = engine.taken();
-    let line = format!(in alloc; "{taken} steps\n").ok()?;
+    let (taken, most) = (engine.taken(), engine.budget());
+    let line = format!(in alloc; "{taken} of {most} steps\n").ok()?;
     screen.extend_from_slice(line.as_bytes()).ok()?;
     draw(alloc, engine.picture(), screen)
 }
@@ -173,26 +183,37 @@ static SCENE: &str =
 "#;
 
 /// The steps and the cells of the two frames.
-static SCREENS: &str = r#"11 steps
+static SCREENS: &str = r#"11 of 12 steps
 1 1: 32 000000 ff0000
 1 2: 32 000000 ff0000
 2 1: 32 000000 ff0000
 2 2: 32 000000 ff0000
-13 steps
+13 of 14 steps
 1 2: 32 000000 ff0000
 1 3: 32 000000 ff0000
 2 2: 32 000000 ff0000
 2 3: 32 000000 ff0000
 "#;
 
-fn screens(alloc: Global) -> Option<Vec<u8>> {
+fn first(alloc: Global) -> Option<Vec<Source>> {
     let mut sources = Vec::new(alloc);
     sources.push(file(alloc, "a", APPLICATION)?).ok()?;
     sources.push(file(alloc, "s", SCENE)?).ok()?;
+    Some(sources)
+}
+
+fn screens(alloc: Global) -> Option<Vec<u8>> {
+    let sources = first(alloc)?;
     of_played(alloc, start(alloc, sources.as_slice()), sources.as_slice())
+}
+
+fn told(alloc: Global) -> Option<Vec<u8>> {
+    let sources = first(alloc)?;
+    longest(alloc, sources.as_slice())
 }
 
 #[test]
 fn first_is_embedded(rt: HostRuntime) {
+    assert!(rt; are(told(rt.alloc()), b"start 12 key 2 tick 1\n"));
     assert!(rt; are(screens(rt.alloc()), SCREENS.as_bytes()));
 }

@@ -6,7 +6,7 @@ static VARIABLES: &str = r#"
 a target through a variable that holds what is there
 check @a {:Application ("~/a" 0) :OnStartUp ( :SetPosition (:IndirectRef 1 2 3) ) :Items ( {:ObjectRefVar 1
 :OrigValue 10 } {:Rectangle 10 :OrigBoxSize 24 32 } ) }
-=> accepted|exit 0|;;
+=> accepted|start 6|key 1|tick 1|stream 1|engine 1|arrive 1|exit 0|;;
 one that may be set to what is not
 check @a {:Application ("~/a" 0) :OnStartUp ( :SetVariable (1 :GObjectRef 99) :SetPosition (:IndirectRef 1 2
 3) ) :Items ( {:ObjectRefVar 1 :OrigValue 10 } {:Rectangle 10 :OrigBoxSize 24 32 } ) }
@@ -36,7 +36,7 @@ check @a {:Application ("~/a" 0) :OnStartUp ( :SetVariable (:IndirectRef 1 :GInt
 a list whose items are there
 check @application @s {:Scene ("~/s" 0) :Items ( {:ListGroup 3 :TokenGroupItems ( (10) ) :Positions ( ( 0 0 )
 ) } {:Rectangle 10 :OrigBoxSize 24 32 } ) }
-=> accepted|exit 0|"#;
+=> accepted|start 21|key 1|tick 1|stream 1|engine 1|arrive 1|exit 0|"#;
 
 static LISTS_AND_SCENES: &str = r#"
 a list that may have what is no visible
@@ -69,7 +69,7 @@ to another application it takes nothing
 check @a {:Application ("~/a" 0) :OnStartUp ( :SetVariable (1 :GObjectRef 99) :Launch (("~/b" 0)) ) :Items (
 {:ObjectRefVar 1 :OrigValue 2 } {:Text 2 :OrigBoxSize 24 16 } ) } @b {:Application ("~/b" 0) :OnStartUp (
 :SetPosition (:IndirectRef 1 1 1) ) :Items ( {:ObjectRefVar 1 :OrigValue 2 } {:Text 2 :OrigBoxSize 24 16 } ) }
-=> accepted|exit 0|;;
+=> accepted|start 20|key 1|tick 1|stream 1|engine 1|arrive 2|exit 0|;;
 a scene to which a variable leads
 check @a {:Application ("~/a" 0) :OnStartUp ( :SetVariable (1 :GObjectRef ("~/s" 0)) :TransitionTo
 (:IndirectRef 1) ) :Items ( {:ObjectRefVar 1 :OrigValue ("~/s" 0) } ) } @s {:Scene ("~/s" 0) :OnStartUp ( :Run

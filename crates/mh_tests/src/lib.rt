@@ -92,6 +92,8 @@ mod runs;
 #[cfg(test)]
 mod service;
 #[cfg(test)]
+mod settling;
+#[cfg(test)]
 mod sinks;
 #[cfg(test)]
 mod tables;

@@ -53,10 +53,10 @@ play run|show|key red|run|show| @application @absent
 => refused V1 s 11 1 SetPosition|config a s|object s 99|exit 1|;;
 a red box, seen by the verifier
 check @application @scene
-=> accepted|exit 0|;;
+=> accepted|start 12|key 2|tick 1|stream 1|engine 1|arrive 1|exit 0|;;
 an empty application, seen by it
 check @empty
-=> accepted|exit 0|;;
+=> accepted|start 2|key 1|tick 1|stream 1|engine 1|arrive 1|exit 0|;;
 a box that is a scene
 check @application
 @s {:Scene ("~/s" 0) :OnCloseDown ( :SetPosition (0 24 16) ) :Items ( {:Link 11 :EventSource 12
@@ -66,7 +66,7 @@ a scene that is never reached
 check @empty
 @s {:Scene ("~/s" 0) :OnCloseDown ( :SetPosition (0 24 16) ) :Items ( {:Link 11 :EventSource 12
 :EventType IsRunning :LinkEffect ( :SetPosition (99 24 16) ) } ) }
-=> accepted|exit 0|;;
+=> accepted|start 2|key 1|tick 1|stream 1|engine 1|arrive 1|exit 0|;;
 no application to look at
 check @scene
 => service 31 a|exit 2|"#;

@@ -77,7 +77,7 @@ lenient run|key red|key red|run|show| @a {:Application ("~/a" 0) :OnStartUp ( :T
 => did 8 idle|did 15 idle|frame 1|row 01: 2-3 000000/ff0000 ""|row 02: 2-3 000000/ff0000 ""|total 23|exit 0|;;
 two scenes, seen by the verifier
 check @a {:Application ("~/a" 0) } @p {:Scene ("~/p" 0) } @scene
-=> accepted|exit 0|;;
+=> accepted|start 2|key 1|tick 1|stream 1|engine 1|arrive 1|exit 0|;;
 a transition when a scene closes down
 lenient run|key red|run| @a {:Application ("~/a" 0) :OnStartUp ( :TransitionTo (("~/p" 0)) ) }
 @p {:Scene ("~/p" 0) :InputEventReg 3 :OnCloseDown ( :TransitionTo (("~/p" 0)) ) :Items ( {:Link 11

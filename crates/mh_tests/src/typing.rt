@@ -134,7 +134,7 @@ static VERIFIED: &str = r#"
 a group of buttons, whose slots do what they can
 check @application @s {:Scene ("~/s" 0) :Items ( {:PushButton 1 :OrigBoxSize 12 16 } {:EntryField 2 :OrigBoxSize 12 16
 } {:TokenGroup 3 :TokenGroupItems ((1 (:Select (1)) (:MoveTo (3 2))) (2 (:SetInteractionStatus (2 true)))) } ) }
-=> accepted|exit 0|;;
+=> accepted|start 26|key 3|tick 1|stream 1|engine 1|arrive 2|exit 0|;;
 a member that is not there, behind one that is no visible
 check @application @s {:Scene ("~/s" 0) :Items ( {:IntegerVar 2 :OrigValue 0 } {:TokenGroup 3 :TokenGroupItems ((2)
 (99) (98)) } ) }
@@ -163,7 +163,7 @@ check @application @s {:Scene ("~/s" 0) :OnStartUp ( :MoveTo (3 1) :ScrollItems 
 => refused V2 s 0 2 ScrollItems|config a s|object s 3|exit 1|;;
 a slot of a group that is not reached
 check @empty @s {:Scene ("~/s" 0) :Items ( {:TokenGroup 3 :TokenGroupItems ((99 (:Run (98)))) } ) }
-=> accepted|exit 0|;;
+=> accepted|start 2|key 1|tick 1|stream 1|engine 1|arrive 1|exit 0|;;
 what stands behind a list
 check @application @s {:Scene ("~/s" 0) :Items ( {:ListGroup 3 :Positions () } {:Link 4 :EventSource 0 :EventType
 IsRunning :LinkEffect ( :Run (99) ) } ) }

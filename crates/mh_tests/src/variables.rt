@@ -190,7 +190,7 @@ check @a {:Application ("~/a" 0) :OnStartUp ( :GetRunningStatus (10 1) ) :Items 
 a target through a variable
 check @a {:Application ("~/a" 0) :OnStartUp ( :Add (:IndirectRef 2 1) ) :Items ( {:IntegerVar 1 :OrigValue
 0 } {:ObjectRefVar 2 :OrigValue 1 } ) }
-=> accepted|exit 0|;;
+=> accepted|start 3|key 1|tick 1|stream 1|engine 1|arrive 1|exit 0|;;
 a target through a variable of numbers
 check @a {:Application ("~/a" 0) :OnStartUp ( :Add (:IndirectRef 1 1) ) :Items ( {:IntegerVar 1 :OrigValue
 0 } ) }
@@ -198,7 +198,7 @@ check @a {:Application ("~/a" 0) :OnStartUp ( :Add (:IndirectRef 1 1) ) :Items (
 an object through a variable
 check @a {:Application ("~/a" 0) :OnStartUp ( :PutBefore (1 :IndirectRef 2) ) :Items ( {:Text 1 :OrigBoxSize 12
 16 } {:ObjectRefVar 2 :OrigValue 1 } ) }
-=> accepted|exit 0|;;
+=> accepted|start 8|key 1|tick 1|stream 1|engine 1|arrive 2|exit 0|;;
 a colour through a variable of numbers
 check @a {:Application ("~/a" 0) :OnStartUp ( :SetTextColour (1 :IndirectRef 2) ) :Items ( {:Text 1
 :OrigBoxSize 12 16 } {:IntegerVar 2 :OrigValue 1 } ) }

@@ -11,7 +11,7 @@ a link that moves a rectangle
 check @application
 @s {:Scene ("~/s" 0) :Items ( {:Rectangle 10 :OrigBoxSize 24 32} {:Link 11 :EventSource 0 :EventType
 UserInput :LinkEffect (:SetPosition(10 1 1))} ) }
-=> accepted|exit 0|;;
+=> accepted|start 12|key 2|tick 1|stream 1|engine 1|arrive 1|exit 0|;;
 a link that moves what is not there
 check @application
 @s {:Scene ("~/s" 0) :Items ( {:Rectangle 10 :OrigBoxSize 24 32} {:Link 11 :EventSource 0 :EventType
@@ -36,13 +36,13 @@ a link whose source is not there
 check @application
 @s {:Scene ("~/s" 0) :Items ( {:Link 11 :EventSource 5 :EventType UserInput :LinkEffect (:SetPosition(99
 1 1))} ) }
-=> accepted|exit 0|;;
+=> accepted|start 9|key 1|tick 1|stream 1|engine 1|arrive 1|exit 0|;;
 a transition to an application
 check @application @s {:Scene ("~/s" 0) :OnStartUp (:TransitionTo(("~/a" 0))) }
 => refused V2 s 0 1 TransitionTo|config a s|object a 0|exit 1|;;
 a scene that is not reached
 check @a {:Application ("~/a" 0) } @s {:Scene ("~/s" 0) :OnStartUp (:SetPosition(99 1 1)) }
-=> accepted|exit 0|"#;
+=> accepted|start 2|key 1|tick 1|stream 1|engine 1|arrive 1|exit 0|"#;
 
 static APPLICATIONS: &str = r#"
 what is in the scene is not there before
@@ -67,7 +67,7 @@ an object of the application is there in each configuration
 check @a {:Application ("~/a" 0) :OnStartUp (:Add(30 1) :TransitionTo(("~/s" 0))) :OnCloseDown
 (:SetVariable(30 :GInteger 1)) :Items ( {:IntegerVar 30 :OrigValue 0} ) }
 @s {:Scene ("~/s" 0) :Items ( {:Rectangle 10 :OrigBoxSize 24 32} {:IntegerVar 20 :OrigValue 0} ) }
-=> accepted|exit 0|"#;
+=> accepted|start 10|key 1|tick 1|stream 1|engine 1|arrive 1|exit 0|"#;
 
 /// Calls of programs. Which programs there are is known beforehand.
 static CALLS: &str = r#"
@@ -105,7 +105,7 @@ check @a {:Application ("~/a" 0) :OnStartUp (:Run(1)) :Items ( {:ResidentPrg 1 :
 a call that is never made
 check @a {:Application ("~/a" 0) :Items ( {:ResidentPrg 1 :Name 'XYZ'} {:Link 4 :EventSource 9 :EventType
 IsRunning :LinkEffect (:Call(1 2 ())) } ) }
-=> accepted|exit 0|"#;
+=> accepted|start 5|key 1|tick 1|stream 1|engine 1|arrive 1|exit 0|"#;
 
 #[test]
 fn judges(rt: HostRuntime) {

@@ -9,11 +9,8 @@ use Rattle.std.proofs.lemmas.List.Elements.{Contains-append_left, Contains-appen
 use Rattle.std.proofs.lemmas.List.Concat.{flat_map-append}
 use Rattle.mh_base.specs.declared.obj_ref.ObjRef.{ObjRef}
 use Rattle.mh_group.specs.Table.{is_list_group, is_visible}
-use Rattle.mh_model.specs.declared.act.Act.{Act}
-use Rattle.mh_model.specs.declared.config.Config.{Config}
 use Rattle.mh_model.specs.declared.fault.Reason.{Reason}
 use Rattle.mh_model.specs.declared.fault.Reason.TheVariants as reason
-use Rattle.mh_model.specs.declared.member.Member.{Member}
 use Rattle.mh_model.specs.declared.object.Fixed.{Fixed}
 use Rattle.mh_model.specs.Configuration.{present}
 use Rattle.mh_model.specs.Faults.{Ranking, Wrong, is_named, least, object_wrongs, rank_of, unless, wrongs}
@@ -23,7 +20,7 @@ use Rattle.mh_model.specs.Service.{Service}
 use Rattle.mh_model.specs.Tokens.{members}
 use Rattle.mh_model.proofs.ListLemmas.{some_same}
 use Rattle.mh_laws.specs.Active.{item_wrongs, known_with, member_wrongs}
-use Rattle.mh_laws.specs.Flow.{Flow, Sets, has}
+use Rattle.mh_laws.specs.Flow.{Flow, Sets}
 use Rattle.mh_flow.specs.Sites.{Site, sites_of}
 use Rattle.mh_flow.proofs.ContainsLemmas.{both, halves, no_member, here, behind, first_or_behind, in_joined, joined_from}
 use Rattle.mh_verify.specs.declared.refusal.Found.{Found}
@@ -32,10 +29,10 @@ use Rattle.mh_verify.specs.declared.refusal.RefusalKind.{RefusalKind}
 use Rattle.mh_verify.specs.declared.refusal.RefusalKind.TheVariants as kind
 use Rattle.mh_verify.specs.Held.{is_object_reason}
 use Rattle.mh_verify.specs.Kinds.{kind_of, reason_number}
-use Rattle.mh_verify.specs.Naming.{AreCandidates, AreHeld, IsWrongToo, absent_held, alone, candidates_at, candidates_from, candidates_in, candidates_of_parts, candidates_of_sites, candidates_through, class_held, is_at, is_part_at, is_site_at, is_wrong_alone, is_wrong_item, wrongs_at}
+use Rattle.mh_verify.specs.Naming.{AreCandidates, IsWrongToo, absent_held, alone, candidates_at, candidates_from, candidates_in, candidates_of_parts, candidates_of_sites, candidates_through, class_held, is_at, is_part_at, is_site_at, is_wrong_alone, is_wrong_item, wrongs_at}
 use Rattle.mh_verify.specs.Order.{IsFirst}
 use Rattle.mh_verify.specs.Refusals.{found_at, found_of_part, kind_for, part_refused, part_wrongs, refusals_of_effects, refusals_of_members, wrong_at}
-use Rattle.mh_verify.proofs.CarriedLemmas.{IsCarried, carried}
+use Rattle.mh_verify.proofs.CarriedLemmas.{carried}
 
 -- Keys and places
 

@@ -6,3 +6,5 @@ pub mod RefusalLemmas
 pub mod CarriedLemmas
 pub mod CandidateLemmas
 pub mod SoonestLemmas
+pub mod BoundLemmas
+pub mod CycleRefusedLemmas

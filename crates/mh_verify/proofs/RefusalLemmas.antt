@@ -1,20 +1,18 @@
 -- A configuration has no refusals exactly where it is free and manned; so what is found says what the contract says.
-use Rattle.std.proofs.Common.{◌≡◌, inl, inr, Bool, true, false, ◌&&◌, List, [], ◌∷◌, ◌++◌, Option, Some, None, refl, ap, sym, ◌∙◌, subst}
-use Rattle.std.specs.List.{Contains, flat_map, list_all}
+use Rattle.std.proofs.Common.{◌≡◌, inl, inr, Bool, true, false, ◌&&◌, List, [], ◌∷◌, Some, None, refl, sym, ◌∙◌, subst}
+use Rattle.std.specs.List.{Contains, list_all}
 use Rattle.std.proofs.lemmas.List.Elements.{Contains-append_cases}
-use Rattle.mh_model.specs.declared.act.Act.{Act}
 use Rattle.mh_model.specs.declared.config.Config.{Config}
-use Rattle.mh_model.specs.declared.object.Fixed.{Fixed}
 use Rattle.mh_model.specs.Service.{Service}
-use Rattle.mh_model.specs.Configuration.{is_service, present, is_among}
+use Rattle.mh_model.specs.Configuration.{is_service, present}
 use Rattle.mh_laws.specs.Active.{active_actions}
-use Rattle.mh_laws.specs.Acceptable.{IsAcceptable, has_good_members, is_free, is_manned, is_right}
+use Rattle.mh_laws.specs.Acceptable.{IsAcceptable, IsAcceptableBy, has_good_members, is_free, is_manned, is_right}
 use Rattle.mh_laws.specs.Flow.{Flow, reached}
 use Rattle.mh_laws.specs.Least.{IsLeast}
-use Rattle.mh_laws.proofs.RefusedLemmas.{refused_action, refused_part, accepted_by_least}
+use Rattle.mh_laws.proofs.RefusedLemmas.{refused_action, refused_part}
 use Rattle.mh_flow.specs.Sites.{Site, sites_of}
 use Rattle.mh_flow.proofs.ContainsLemmas.{nil_parts, no_member, here, behind, in_joined, joined_from, joined_none, all_where_none, empty_joined}
-use Rattle.mh_flow.proofs.ConfigLemmas.{config_itself, member_of, among_of}
+use Rattle.mh_flow.proofs.ConfigLemmas.{member_of, among_of}
 use Rattle.mh_flow.proofs.SiteLemmas.{all_active}
 use Rattle.mh_model.proofs.ListLemmas.{both_empty}
 use Rattle.mh_verify.specs.declared.refusal.Found.{Found}
@@ -65,11 +63,17 @@ config_of s w c x m =
 
 -- The verdicts.
 
-pub accepted_of : (s : Service) (w : Flow) → is_service s ≡ true → IsLeast s w → least_of None (all_refusals s w) ≡ None → IsAcceptable s
-accepted_of s w is k e =
+-- by the least flow the service is acceptable where nothing is refused
+pub acceptable_by : (s : Service) (w : Flow) → is_service s ≡ true → IsLeast s w → least_of None (all_refusals s w) ≡ None → IsAcceptableBy s w
+acceptable_by s w is k e =
     let none : (c : Config) → reached w c ≡ true → HasNone s w c =
     λ c m. none_of_each s w c (empty_joined (refusals_in s w) w.configs c (none_of (all_refusals s w) e) (member_of w.configs c m)) in
-    accepted_by_least s w is k (λ c m. free_where_none s w c (none c m).effects) (λ c m. manned_where_none s w c (none c m).members)
+    record {
+      service = is;
+      solution = k.solution;
+      free = λ c m. free_where_none s w c (none c m).effects;
+      manned = λ c m. manned_where_none s w c (none c m).members;
+    }
 
 pub first_found : (s : Service) (w : Flow) (x : Found) → least_of None (all_refusals s w) ≡ Some x → IsFirst s w x
 first_found s w x e =

@@ -12,7 +12,9 @@ kind_number kind.WrongClass = Some 2
 kind_number kind.WrongKind = Some 3
 kind_number kind.HeldAbsent = Some 4
 kind_number kind.HeldWrongClass = Some 5
+kind_number kind.Cycle = Some 6
 kind_number kind.TimerThroughVariable = Some 7
+kind_number (kind.TooManySteps k) = Some 8
 kind_number kind.WrongCall = Some 9
 kind_number kind.NoMemory = None
 

@@ -5,3 +5,4 @@ pub mod Refusals
 pub mod Naming
 pub mod Order
 pub mod Least
+pub mod Verdicts

@@ -1,6 +1,6 @@
 -- Which refusal comes first: by name of the group, number of the object, number of the action, and kind; and
 -- then the first configuration, by name of the application and of the scene, no scene before any.
-use Rattle.std.specs.Prelude.{◌≡◌, Bool, true, false, List, [], Some, None, ◌⊎◌}
+use Rattle.std.specs.Prelude.{◌≡◌, ℕ, Bool, true, false, List, [], ◌∷◌, Some, None, ◌⊎◌}
 use Rattle.std.specs.declared.cmp.Ordering.{Ordering}
 use Rattle.std.specs.Ordering.{is_lt, nat_cmp, on, then_cmp}
 use Rattle.std.specs.Option.{option_cmp}
@@ -9,14 +9,24 @@ use Rattle.std.specs.List.{Contains}
 use Rattle.mh_model.specs.declared.config.Config.{Config}
 use Rattle.mh_model.specs.declared.program.Signature.{Signature}
 use Rattle.mh_model.specs.Service.{Service}
+use Rattle.mh_laws.specs.Acceptable.{IsAcceptableBy}
+use Rattle.mh_laws.specs.Budget.{six_costs}
+use Rattle.mh_laws.specs.Costs.{Costing, Effect}
 use Rattle.mh_laws.specs.Flow.{Flow, reached}
+use Rattle.mh_laws.specs.Layers.{IsCost, IsLayering}
 use Rattle.mh_laws.specs.Least.{IsLeast}
+use Rattle.mh_layers.specs.declared.bounds.InputKind.{InputKind}
+use Rattle.mh_layers.specs.declared.cause.Cause.{Cause}
+use Rattle.mh_layers.specs.Bounding.{IsFirstAbove}
+use Rattle.mh_layers.specs.Cycle.{AreFirstCycle}
 use Rattle.mh_verify.specs.declared.coming.Coming.{Coming}
 use Rattle.mh_verify.specs.declared.refusal.Found.{Found}
 use Rattle.mh_verify.specs.declared.refusal.Place.{Place}
 use Rattle.mh_verify.specs.declared.refusal.Refusal.{Refusal}
+use Rattle.mh_verify.specs.declared.refusal.RefusalKind.{RefusalKind}
 use Rattle.mh_verify.specs.declared.refusal.RefusalKind.TheVariants as kind
 use Rattle.mh_flow.specs.Equipment.{equipped}
+use Rattle.mh_verify.specs.Free.{most_cost}
 use Rattle.mh_verify.specs.Kinds.{kind_number}
 use Rattle.mh_verify.specs.Naming.{IsNamed}
 use Rattle.mh_verify.specs.Refusals.{refusals_in}
@@ -41,11 +51,19 @@ pub record IsFirst (s : Service) (w : Flow) (x : Found) : Type 0 where
 
 -- the refusal says this of the service, with the reference that came so
 abbrev pub refusal_of : Service → Found → Coming → Refusal
-refusal_of s x k = record { kind = x.kind; place = Some x.place; action = x.action; config = Some x.config; object = Some k.at; chain = k.chain; service = s }
+refusal_of s x k = record { kind = x.kind; place = Some x.place; action = x.action; config = Some x.config; object = Some k.at; chain = k.chain; cycle = []; service = s }
+
+-- the refusal says that this effect puts itself to work, by way of those behind it
+abbrev pub cycle_refusal : Service → Cause → List Cause → Refusal
+cycle_refusal s x xs = record { kind = kind.Cycle; place = Some (record { group = x.at.group; object = x.at.number; index = x.index }); action = x.action; config = Some x.config; object = None; chain = []; cycle = x ∷ xs; service = s }
+
+-- the refusal has a kind alone
+abbrev pub bare_refusal : RefusalKind → Service → Refusal
+bare_refusal k s = record { kind = k; place = None; action = None; config = None; object = None; chain = []; cycle = []; service = s }
 
 -- no verdict, for want of memory
 abbrev pub unjudged : Service → Refusal
-unjudged s = record { kind = kind.NoMemory; place = None; action = None; config = None; object = None; chain = []; service = s }
+unjudged s = bare_refusal kind.NoMemory s
 
 -- the refusal says what comes first by the least flow, where the receiver has these programs
 pub record NamesFirst (s : Service) (programs : List Signature) (r : Refusal) : Type 0 where
@@ -57,6 +75,35 @@ pub record NamesFirst (s : Service) (programs : List Signature) (r : Refusal) : 
   pub named : IsNamed (equipped s programs) flow found coming
   pub names : r ≡ refusal_of s found coming
 
+-- nothing can be stuck by the least flow, but effects put themselves to work: the refusal names the first, and the first of
+-- the shortest ways
+pub record NamesCycle (s : Service) (programs : List Signature) (r : Refusal) : Type 0 where
+  pub flow : Flow
+  pub least : IsLeast (equipped s programs) flow
+  pub acceptable : IsAcceptableBy (equipped s programs) flow
+  pub first : Cause
+  pub behind : List Cause
+  pub cycle : AreFirstCycle (equipped s programs) flow (first ∷ behind)
+  pub names : r ≡ cycle_refusal s first behind
+
+-- nothing can be stuck by the least flow, and no effect puts itself to work; but the start or an input can lead to too many
+-- steps, whatever exact costs are taken: the refusal names the first kind
+pub record NamesBound (s : Service) (programs : List Signature) (r : Refusal) : Type 0 where
+  pub flow : Flow
+  pub least : IsLeast (equipped s programs) flow
+  pub acceptable : IsAcceptableBy (equipped s programs) flow
+  pub rank : Effect → ℕ
+  pub layering : IsLayering (equipped s programs) flow rank
+  pub input : InputKind
+  pub first :
+      (cost : Costing) → IsCost (equipped s programs) flow cost →
+      IsFirstAbove most_cost (six_costs (equipped s programs) flow cost) input
+  pub names : r ≡ bare_refusal (kind.TooManySteps input) s
+
+-- a refusal that is no want of memory
+abbrev pub Names : Service → List Signature → Refusal → Type 0
+Names s programs r = NamesFirst s programs r ⊎ (NamesCycle s programs r ⊎ NamesBound s programs r)
+
 -- a refusal of the service says what comes first, or that memory was refused
 abbrev pub IsTold : Service → List Signature → Refusal → Type 0
-IsTold s programs r = NamesFirst s programs r ⊎ (r ≡ unjudged s)
+IsTold s programs r = Names s programs r ⊎ (r ≡ unjudged s)

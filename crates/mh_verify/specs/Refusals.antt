@@ -1,5 +1,5 @@
 -- Why a configuration is refused, with the place of each refusal: an active action, or a group of objects.
-use Rattle.std.specs.Prelude.{◌≡◌, ℕ, true, if◌then◌else◌, List, [], ◌∷◌, ◌++◌, map, Option, Some, None}
+use Rattle.std.specs.Prelude.{◌≡◌, ℕ, true, if◌then◌else◌, List, ◌++◌, map, Option, Some, None}
 use Rattle.std.specs.List.{flat_map, Contains}
 use Rattle.std.specs.Option.{is_some, option_map, option_to_list}
 use Rattle.mh_base.specs.declared.obj_ref.ObjRef.{ObjRef}
@@ -13,9 +13,16 @@ use Rattle.mh_model.specs.Configuration.{present}
 use Rattle.mh_model.specs.Tokens.{members}
 use Rattle.mh_laws.specs.Active.{known_with, item_wrongs, member_wrongs}
 use Rattle.mh_laws.specs.Acceptable.{IsAcceptable}
+use Rattle.mh_laws.specs.Budget.{IsAccepted, six_costs}
+use Rattle.mh_laws.specs.Costs.{Costing}
 use Rattle.mh_laws.specs.Flow.{Flow, Sets, reached}
+use Rattle.mh_laws.specs.Layers.{IsCost}
 use Rattle.mh_laws.specs.Least.{IsLeast}
 use Rattle.mh_flow.specs.Sites.{Site, sites_of}
+use Rattle.mh_layers.specs.declared.bounds.InputKind.{InputKind}
+use Rattle.mh_layers.specs.declared.cause.Cause.{Cause}
+use Rattle.mh_layers.specs.Bounding.{IsFirstAbove}
+use Rattle.mh_layers.specs.Cycle.{AreFirstCycle}
 use Rattle.mh_verify.specs.declared.refusal.Found.{Found}
 use Rattle.mh_verify.specs.declared.refusal.RefusalKind.{RefusalKind}
 use Rattle.mh_verify.specs.Kinds.{kind_of, reason_number}
@@ -82,3 +89,14 @@ abbrev pub RefusedIsNot : Type 0
 RefusedIsNot =
     (s : Service) (w : Flow) (c : Config) (x : Found) → IsLeast s w → reached w c ≡ true → Contains (refusals_in s w c) x →
     IsAcceptable s → ⊥
+
+-- nor is a service accepted whose effects put themselves to work by the least flow
+abbrev pub CyclicIsNot : Type 0
+CyclicIsNot =
+    (s : Service) (w : Flow) (cs : List Cause) → IsLeast s w → AreFirstCycle s w cs → (most : ℕ) → IsAccepted most s → ⊥
+
+-- nor one whose start, or an input, can lead to more than so many steps by the least flow
+abbrev pub CostlyIsNot : Type 0
+CostlyIsNot =
+    (s : Service) (w : Flow) (most : ℕ) (k : InputKind) → IsLeast s w →
+    ((cost : Costing) → IsCost s w cost → IsFirstAbove most (six_costs s w cost) k) → IsAccepted most s → ⊥

@@ -1,12 +1,13 @@
 //! The verifier: which services never go wrong.
 //!
-//! Promise: a service is accepted only where it is acceptable by the definitions of `mh_model`, and refused,
-//! but for want of memory, only where it is not; a refusal names the first place. That nothing goes wrong in
-//! runs of what is accepted is left to the crates that play it.
+//! Promise: a service is accepted only where it is so by the definitions of `mh_laws`, and refused, but for want of memory,
+//! only where it is not; a refusal names what comes first. That nothing goes wrong in runs of what is accepted is left to
+//! the crates that play it.
 #![tactic(auto)]
 
 pub mod accepted;
 mod alone;
+mod bounding;
 mod candidates;
 mod coming;
 mod judging;
@@ -15,9 +16,11 @@ mod naming;
 mod ordering;
 pub mod refusal;
 mod telling;
+mod verdict;
 pub mod verifying;
 
 pub use accepted::{Accepted, Warrant};
+pub use bounding::MOST_COST;
 pub(crate) use coming::Coming;
 pub use refusal::{Found, Place, Refusal, RefusalKind};
 pub use verifying::verify;

@@ -6,6 +6,7 @@ ghost use Rattle.mh_verify.specs.Refusals.{kind_for};
 use mh_base::{GroupName, ObjRef, Seq};
 use mh_flow::Link;
 use mh_group::ActionName;
+use mh_layers::{Cause, InputKind};
 use mh_model::{Config, Rank, Reason, Wrong};
 use mh_service::Service;
 use thiserror::Error;
@@ -23,8 +24,12 @@ pub enum RefusalKind {
     HeldAbsent,
     #[error("V5: the action has no rule for objects of the class of one that a variable or a list may hold")]
     HeldWrongClass,
+    #[error("V6: an effect puts itself to work, by way of others")]
+    Cycle,
     #[error("V7: the id of a timer is held by a variable")]
     TimerThroughVariable,
+    #[error("V8: the start or an input can lead to more than 1,000,000 steps: {0:?}")]
+    TooManySteps(InputKind),
     #[error("V9: the program is not known, or the call does not fit it")]
     WrongCall,
     #[error("memory was refused")]
@@ -52,7 +57,9 @@ impl RefusalKind {
             RefusalKind::WrongKind => Some(3),
             RefusalKind::HeldAbsent => Some(4),
             RefusalKind::HeldWrongClass => Some(5),
+            RefusalKind::Cycle => Some(6),
             RefusalKind::TimerThroughVariable => Some(7),
+            RefusalKind::TooManySteps(_) => Some(8),
             RefusalKind::WrongCall => Some(9),
             RefusalKind::NoMemory => None,
         }
@@ -120,17 +127,20 @@ pub struct Found {
     pub config: Config,
 }
 
-/// A service that is not accepted, and why. For want of memory there is no place; at that of an object itself there
-/// is no action.
+/// A service that is not accepted, and why. For want of memory there is no place, nor for too many steps; at that of an
+/// object itself there is no action.
 #[derive(Drop)]
 pub struct Refusal {
     pub kind: RefusalKind,
+    /// Of an effect that puts itself to work that of its first action.
     pub place: Option<Place>,
     pub action: Option<ActionName>,
     pub config: Option<Config>,
-    /// The reference at the place that is wrong.
+    /// The reference at the place that is wrong; none for an effect that puts itself to work.
     pub object: Option<ObjRef>,
     /// How it came to the variable or the list that may hold it; no link where it is written at the place.
     pub chain: Seq<Link>,
+    /// The effects that put each other to work, and the last of them the first; none of any other refusal.
+    pub cycle: Seq<Cause>,
     pub service: Service,
 }

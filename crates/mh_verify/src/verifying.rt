@@ -1,15 +1,20 @@
 //! `verify`: the verdict on a service.
 //!
-//! Promise: a service is accepted only where it is acceptable, and refused only where it is not, or for
-//! want of memory; a refusal names what comes first, and hands the service back.
+//! Promise: a service is accepted only where it is acceptable and the start and each of its inputs lead to no more steps
+//! than its bounds say, and refused only where it is not, or for want of memory; a refusal names what comes first, and
+//! hands the service back.
 ghost use Rattle.std.specs.Prelude.{◌≡◌, OnOk, IfOk, IfErr};
 ghost use Rattle.mh_laws.specs.Acceptable.{IsAcceptable};
 ghost use Rattle.mh_flow.specs.Equipment.{equipped};
-ghost use Rattle.mh_verify.specs.Least.{IsJudged};
-ghost use Rattle.mh_verify.specs.Order.{refusal_of, unjudged, IsTold};
 ghost use Rattle.mh_flow.specs.Solved.{IsFlowOf, flow_in};
-ghost use Rattle.mh_verify.specs.Refusals.{RefusedIsNot};
+ghost use Rattle.mh_verify.specs.Free.{IsVerified};
+ghost use Rattle.mh_verify.specs.Least.{IsJudged};
+ghost use Rattle.mh_verify.specs.Order.{bare_refusal, refusal_of, unjudged, IsTold};
+ghost use Rattle.mh_verify.specs.Refusals.{CostlyIsNot, CyclicIsNot, RefusedIsNot};
+ghost use Rattle.mh_verify.specs.Verdicts.{IsVerdict, refusal_of_cycle};
 
+use crate::bounding::bound;
+use crate::verdict::{Cycle, Head, Verdict};
 use crate::{Accepted, Coming, Found, Refusal, RefusalKind, Warrant, judging, naming};
 use mh_base::Seq;
 use mh_flow::{Equipped, Flow, flow_of};
@@ -17,37 +22,55 @@ use mh_model::Signature;
 use mh_service::Service;
 use std::alloc::{AllocError, Global};
 
-/// Accepts the service, where the receiver has these programs for it besides the built-in ones, or
-/// says what comes first of what is wrong in the configurations that are reached.
+/// Accepts the service, where the receiver has these programs for it besides the built-in ones, or says what comes first:
+/// of what is wrong in the configurations that are reached; else the effects that put themselves to work; else the kind
+/// of input that can lead to too many steps.
 pub fn verify(alloc: Global, service: Service, programs: &[Signature]) -> Result<Accepted, Refusal>
-    ensures same { IfOk result (λ accepted. accepted ≡ equipped service programs.now) }
+    ensures same { IfOk result (λ accepted. accepted.service ≡ equipped service programs.now) }
+    ensures verified { IfOk result (λ accepted. IsVerified accepted) }
     ensures acceptable { OnOk result (IsAcceptable (equipped service programs.now)) }
     ensures back { IfErr result (λ refusal. refusal.service ≡ service) }
     ensures told { IfErr result (IsTold service programs.now) }
 {
     match judge(alloc, &service, programs) {
         Err(_) => Err(unjudged_service(alloc, service)),
-        Ok((warrant, first)) => decide(service, warrant, first),
+        Ok(judged) => decide(alloc, service, judged),
     }
 }
 
-/// What is known of the service: its flow and the programs; and the first of what is wrong in the configurations that
-/// are reached, with the reference that is named.
-fn judge(
-    alloc: Global,
-    service: &Service,
-    programs: &[Signature],
-) -> Result<(Warrant, Option<(Found, Coming)>), AllocError>
-    ensures programs { IfOk result (λ judged. judged.0.programs ≡ programs.now) }
-    ensures flow { IfOk result (λ judged. IsFlowOf (equipped service.now programs.now) judged.0.flow) }
-    ensures first { let s = equipped service.now programs.now in
-        IfOk result (λ judged. IsJudged s (flow_in s judged.0.flow) judged.1) }
+/// The flow of a service, the programs that the receiver has for it, and what is found of it.
+#[derive(Drop)]
+struct Judged {
+    flow: Flow,
+    programs: Vec<Signature>,
+    verdict: Verdict,
+}
+
+fn judge(alloc: Global, service: &Service, programs: &[Signature]) -> Result<Judged, AllocError>
+    ensures programs { IfOk result (λ judged. judged.programs.items ≡ programs.now) }
+    ensures flow { IfOk result (λ judged. IsFlowOf (equipped service.now programs.now) judged.flow) }
+    ensures verdict { IfOk result (λ judged. IsVerdict (equipped service.now programs.now) judged.flow judged.verdict) }
 {
     let whole = Equipped::new(service, programs);
     let flow = flow_of(alloc, &whole)?;
-    let first = first_of(alloc, &whole, &flow)?;
+    let verdict = verdict_of(alloc, &whole, &flow)?;
     let programs = copies(alloc, programs)?;
-    Ok((Warrant::new(flow, programs), first))
+    Ok(Judged {
+        flow,
+        programs,
+        verdict,
+    })
+}
+
+/// What is wrong is found first, and what its effects come to only where nothing is.
+fn verdict_of(alloc: Global, service: &Equipped<'_>, flow: &Flow) -> Result<Verdict, AllocError>
+    requires { IsFlowOf service.now flow.now }
+    ensures { IfOk result (IsVerdict service.now flow.now) }
+{
+    match first_of(alloc, service, flow)? {
+        Some((found, coming)) => Ok(Verdict::Wrong(found, coming)),
+        None => bound(alloc, service, flow),
+    }
 }
 
 /// The first of what is wrong in the configurations that are reached, with the reference that is named.
@@ -86,26 +109,32 @@ fn copy(program: &Signature) -> Result<Signature, AllocError>
     program.clone()
 }
 
-fn decide(
-    service: Service,
-    warrant: Warrant,
-    first: Option<(Found, Coming)>,
-) -> Result<Accepted, Refusal>
-    requires flow { IsFlowOf (equipped service warrant.programs) warrant.flow }
-    requires first { let s = equipped service warrant.programs in
-        IsJudged s (flow_in s warrant.flow) first }
-    ensures same { IfOk result (λ accepted. accepted ≡ equipped service warrant.programs) }
-    ensures acceptable { OnOk result (IsAcceptable (equipped service warrant.programs)) }
+fn decide(alloc: Global, service: Service, judged: Judged) -> Result<Accepted, Refusal>
+    requires flow { IsFlowOf (equipped service judged.programs.items) judged.flow }
+    requires verdict { IsVerdict (equipped service judged.programs.items) judged.flow judged.verdict }
+    ensures same { IfOk result (λ accepted. accepted.service ≡ equipped service judged.programs.items) }
+    ensures verified { IfOk result (λ accepted. IsVerified accepted) }
+    ensures acceptable { OnOk result (IsAcceptable (equipped service judged.programs.items)) }
     ensures back { IfErr result (λ refusal. refusal.service ≡ service) }
-    ensures told { IfErr result (IsTold service warrant.programs) }
+    ensures told { IfErr result (IsTold service judged.programs.items) }
 {
-    match first {
-        None => Ok(warrant.join(service)),
-        Some((found, coming)) => Err(refused(service, found, coming)),
+    let Judged {
+        flow,
+        programs,
+        verdict,
+    } = judged;
+    match verdict {
+        Verdict::Wrong(found, coming) => Err(refused(alloc, service, found, coming)),
+        Verdict::Cyclic(cycle) => Err(refused_for_cycle(alloc, service, cycle)),
+        Verdict::Costly(kind) => {
+            let kind = RefusalKind::TooManySteps(kind);
+            Err(refused_as(alloc, service, kind))
+        }
+        Verdict::Fine(bounds) => Ok(Warrant::new(flow, bounds, programs).join(service)),
     }
 }
 
-fn refused(service: Service, found: Found, coming: Coming) -> Refusal
+fn refused(alloc: Global, service: Service, found: Found, coming: Coming) -> Refusal
     ensures { result ≡ refusal_of service found coming }
 {
     let Found {
@@ -123,6 +152,44 @@ fn refused(service: Service, found: Found, coming: Coming) -> Refusal
         config: Some(config),
         object: Some(at),
         chain,
+        cycle: Seq::new(alloc),
+        service,
+    }
+}
+
+fn refused_for_cycle(alloc: Global, service: Service, cycle: Cycle) -> Refusal
+    ensures { result ≡ refusal_of_cycle service cycle }
+{
+    let Cycle { head, causes } = cycle;
+    let Head {
+        place,
+        action,
+        config,
+    } = head;
+    Refusal {
+        kind: RefusalKind::Cycle,
+        place: Some(place),
+        action,
+        config: Some(config),
+        object: None,
+        chain: Seq::new(alloc),
+        cycle: causes,
+        service,
+    }
+}
+
+/// A refusal that has a kind alone.
+fn refused_as(alloc: Global, service: Service, kind: RefusalKind) -> Refusal
+    ensures { result ≡ bare_refusal kind service }
+{
+    Refusal {
+        kind,
+        place: None,
+        action: None,
+        config: None,
+        object: None,
+        chain: Seq::new(alloc),
+        cycle: Seq::new(alloc),
         service,
     }
 }
@@ -130,20 +197,22 @@ fn refused(service: Service, found: Found, coming: Coming) -> Refusal
 fn unjudged_service(alloc: Global, service: Service) -> Refusal
     ensures { result ≡ unjudged service }
 {
-    Refusal {
-        kind: RefusalKind::NoMemory,
-        place: None,
-        action: None,
-        config: None,
-        object: None,
-        chain: Seq::new(alloc),
-        service,
-    }
+    refused_as(alloc, service, RefusalKind::NoMemory)
 }
 
 /// The law that a service with something wrong in a configuration that its least flow reaches is not acceptable: what
-/// is refused for another cause than memory is refused rightly.
-
+/// is refused for that is refused rightly.
 pub fn refused_is_not()
     ensures { RefusedIsNot }
+{}
+
+/// The law that a service whose effects put themselves to work by its least flow is accepted by no flow.
+pub fn cyclic_is_not()
+    ensures { CyclicIsNot }
+{}
+
+/// The law that a service whose start or whose inputs can lead to more steps by its least flow than are allowed is accepted
+/// by no flow.
+pub fn costly_is_not()
+    ensures { CostlyIsNot }
 {}

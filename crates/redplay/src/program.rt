@@ -83,7 +83,7 @@ fn check<'a>(alloc: Global) -> Result<Command<'a>, AllocError>
     described(
         alloc,
         "check",
-        "Says whether a service is accepted: nothing makes it name what is absent or of a wrong class",
+        "Says whether a service is accepted: nothing makes it name what is absent or of a wrong class, and each input settles in so many steps",
         "Example:\n  redplay check examples/first/service",
     )
     .arg(folder(alloc))?

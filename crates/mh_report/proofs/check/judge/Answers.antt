@@ -1,14 +1,16 @@
 use Rattle.mh_report.specs.declared.status.Status.TheVariants as status
 use Rattle.mh_report.specs.Verdict.{refusal_lines}
-use Rattle.mh_report.specs.Played.{accepted_line, check_accepted, check_refused}
-use Rattle.mh_report.proofs.WrittenLemmas.{whole, cut, named}
+use Rattle.mh_report.specs.Played.{check_refused}
+use Rattle.mh_report.proofs.WrittenLemmas.{accepted_so, whole, cut, named}
 use Rattle.mh_report.proofs.check.judge.Goals as goal
 
 pub returns-in-Ok-clause-written : goal.returns-in-Ok-clause-written
-returns-in-Ok-clause-written g c = whole _ _ _ c.accept.result accepted_line status.Good (check_accepted _ c.in-Ok.ensures.acceptable) c.accept.ensures.report c.accept.ensures.status
+returns-in-Ok-clause-written g c =
+    whole _ _ _ c.accept.result _ status.Good (accepted_so _ _ _ c.in-Ok.ensures.same c.in-Ok.ensures.verified c.bounds.ensures.same) c.accept.ensures.report c.accept.ensures.status
 
 pub returns-in-Ok-clause-begun : goal.returns-in-Ok-clause-begun
-returns-in-Ok-clause-begun g c = cut _ _ _ c.accept.result accepted_line status.Good (check_accepted _ c.in-Ok.ensures.acceptable) c.accept.ensures.cut
+returns-in-Ok-clause-begun g c =
+    cut _ _ _ c.accept.result _ status.Good (accepted_so _ _ _ c.in-Ok.ensures.same c.in-Ok.ensures.verified c.bounds.ensures.same) c.accept.ensures.cut
 
 pub returns : goal.returns
 returns g c = record {

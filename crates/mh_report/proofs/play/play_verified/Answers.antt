@@ -16,7 +16,7 @@ returns-in-Ok-clause-written g c =
     let cs = c.args.commands.now in
     let start = λ (s : Service). opened s c.args.mjd c.args.files.now in
     whole _ _ _ c.play_accepted.result (play_lines cs (start c.args.service)) (play_status cs (start c.args.service))
-    (play_done _ (λ strict. c.in-Ok.ensures.acceptable))
+    (play_done _ (λ strict. c.in-Ok.ensures.accepted))
     (subst (λ (s : Service). OnOk c.play_accepted.result (Appends (g.S.Sink.written c.args.sink.now) (g.S.Sink.written c.play_accepted.new.sink) (play_lines cs (start s)))) c.in-Ok.ensures.same c.play_accepted.ensures.report)
     (subst (λ (s : Service). IfOk c.play_accepted.result (λ (how : Status). how ≡ play_status cs (start s))) c.in-Ok.ensures.same c.play_accepted.ensures.status)
 
@@ -25,7 +25,7 @@ returns-in-Ok-clause-begun g c =
     let cs = c.args.commands.now in
     let start = λ (s : Service). opened s c.args.mjd c.args.files.now in
     cut _ _ _ c.play_accepted.result (play_lines cs (start c.args.service)) (play_status cs (start c.args.service))
-    (play_done _ (λ strict. c.in-Ok.ensures.acceptable))
+    (play_done _ (λ strict. c.in-Ok.ensures.accepted))
     (subst (λ (s : Service). OnErr c.play_accepted.result (IsBeginning (g.S.Sink.written c.args.sink.now) (g.S.Sink.written c.play_accepted.new.sink) (play_lines cs (start s)))) c.in-Ok.ensures.same c.play_accepted.ensures.cut)
 
 pub returns : goal.returns

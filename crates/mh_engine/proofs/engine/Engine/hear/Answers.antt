@@ -1,8 +1,5 @@
-use Rattle.std.proofs.Common.{subst, sym}
-use Rattle.mh_laws.specs.Safe.{IsSafe}
-use Rattle.mh_laws.proofs.SafeLemmas.{safe_told}
+use Rattle.mh_engine.proofs.SafeEngine.{keeps_told}
 use Rattle.mh_engine.proofs.engine.Engine.hear.Goals as goal
 
 pub invariant_of-self : goal.invariant_of-self
-invariant_of-self c = λ accepted.
-    subst IsSafe (sym c.hear.ensures.told) (safe_told c.self.inside.machine (c.self.invariant accepted) c.args.said)
+invariant_of-self c = keeps_told _ _ _ _ _ c.args.said c.hear.ensures.told c.self.invariant

@@ -1,11 +1,9 @@
-use Rattle.std.proofs.Common.{sym, subst}
-use Rattle.mh_laws.specs.Safe.{IsSafe}
-use Rattle.mh_laws.proofs.SafeLemmas.{safe_posted}
+use Rattle.std.proofs.Common.{rules}
+use Rattle.mh_engine.proofs.SafeEngine.{keeps_posted, keeps_same}
 use Rattle.mh_engine.proofs.engine.Engine.post.Goals as goal
-use Rattle.mh_engine.proofs.engine.Engine.post.Goals.{in-Ok, in-Err}
 
 pub invariant_of-self : goal.invariant_of-self
-invariant_of-self c = λ accepted. elim c.match-post_or_back.branch [
-  | in-Ok w ↦ subst IsSafe (sym w.in-Ok.ensures.posted) (safe_posted c.self.inside.machine (c.self.invariant accepted) c.args.input)
-  | in-Err w ↦ subst IsSafe (sym w.in-Err.ensures.kept) (c.self.invariant accepted)
-]
+invariant_of-self c = keeps_posted _ _ _ _ _ _ c.args.input (search rules) c.in-Ok.ensures.posted (search rules) c.self.invariant
+
+pub invariant_of-self-in-Err : goal.invariant_of-self-in-Err
+invariant_of-self-in-Err c = keeps_same _ _ _ _ _ c.in-Err.ensures.kept c.self.invariant

@@ -10,6 +10,7 @@ loop-made-preserved g c = (
       c.loop-made.invariant.1 c.loop-made-test.true (search rules) c.loop-made.invariant.0 c.in_default.ensures.counted c.in_default.ensures.made,
   c.make.ensures.same ∙ c.loop-made.invariant.1,
   c.make.ensures.accepted ∙ c.loop-made.invariant.2,
+  c.make.ensures.bounds ∙ c.loop-made.invariant.3,
 )
 
 pub returns-clause-all : goal.returns-clause-all

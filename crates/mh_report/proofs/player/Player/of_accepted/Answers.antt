@@ -14,4 +14,4 @@ unclaimed view (Err e) o is refused = subst (λ (u : Unplayable). Fails u o) (sy
 
 pub returns-in_err-frame-clause-opened : goal.returns-in_err-frame-clause-opened
 returns-in_err-frame-clause-opened c =
-    unclaimed (λ p. p) c.from_residual.result (opened c.args.accepted c.args.mjd c.args.files.now) c.from_residual.ensures.0 c.from_residual.ensures.1
+    unclaimed (λ p. p) c.from_residual.result (opened c.args.accepted.service c.args.mjd c.args.files.now) c.from_residual.ensures.0 c.from_residual.ensures.1
