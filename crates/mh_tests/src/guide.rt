@@ -180,7 +180,7 @@ fn report(alloc: Global) -> Option<Vec<u8>> {
     let groups = application.zip(file(alloc, "s", SCENE));
     let ((application, scene), today) = groups.zip(file(alloc, "today", TODAY))?;
     let files = vec![in alloc; application, scene, today].ok()?;
-    reported(alloc, files.as_slice(), SCRIPT, false)
+    reported(alloc, files.as_slice(), SCRIPT)
 }
 
 #[test]

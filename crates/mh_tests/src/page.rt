@@ -210,11 +210,11 @@ pub fn file(alloc: Global, path: &str, text: &str) -> Option<File> {
     name.zip(Vec::from_slice(alloc, text.as_bytes()).ok())
 }
 
-/// What the play of a script writes, lenient or not, if it ends well.
-pub fn reported(alloc: Global, files: &[File], script: &str, lenient: bool) -> Option<Vec<u8>> {
+/// What the play of a script writes, if the service is accepted and the play ends well.
+pub fn reported(alloc: Global, files: &[File], script: &str) -> Option<Vec<u8>> {
     let options = Options {
         start: Vec::from_slice(alloc, b"a").ok()?,
-        lenient,
+        lenient: false,
         mjd: DAY,
     };
     let mut sink = ListSink {
@@ -231,7 +231,7 @@ fn report(alloc: Global) -> Option<Vec<u8>> {
     let application = file(alloc, "a", APPLICATION);
     let (application, scene) = application.zip(file(alloc, "s", SCENE))?;
     let files = vec![in alloc; application, scene].ok()?;
-    reported(alloc, files.as_slice(), SCRIPT, false)
+    reported(alloc, files.as_slice(), SCRIPT)
 }
 
 #[test]

@@ -114,8 +114,7 @@ static SCENE: &str =
 }
 "#;
 
-static SCRIPT: &str =
-    r#"# Played with --lenient, since lists are not verified yet. The menu with its first button lit, and three trees.
+static SCRIPT: &str = r#"# The menu with its first button lit, and three trees.
 run
 show
 # Right, twice: the list goes on by two.
@@ -192,7 +191,7 @@ fn report(alloc: Global) -> Option<Vec<u8>> {
     let application = file(alloc, "a", APPLICATION);
     let (application, scene) = application.zip(file(alloc, "s", SCENE))?;
     let files = vec![in alloc; application, scene].ok()?;
-    reported(alloc, files.as_slice(), SCRIPT, true)
+    reported(alloc, files.as_slice(), SCRIPT)
 }
 
 #[test]
