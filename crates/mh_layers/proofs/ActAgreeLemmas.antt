@@ -183,7 +183,7 @@ leaving : {A : Type 0} (s : Setting A) (c : Config) → reached s.flow c ≡ tru
 leaving s c here all p q a =
     agrees_plus s 6 (Node (Leave c all)) p (leaves s.service s.flow c all) q (agrees_node s 6 (Leave c all) here (omega arith)) a
 
-done_agrees : {A : Type 0} (s : Setting A) (c : Config) → reached s.flow c ≡ true → (n : ActionName) (xs : List Argument) (r : ObjRef) → Agrees s 6 (around.done_to (net s c) n xs r) (costs.done_to s.service s.flow c n xs r)
+pub done_agrees : {A : Type 0} (s : Setting A) (c : Config) → reached s.flow c ≡ true → (n : ActionName) (xs : List Argument) (r : ObjRef) → Agrees s 6 (around.done_to (net s c) n xs r) (costs.done_to s.service s.flow c n xs r)
 done_agrees s c here action.TransitionTo xs r = leaving s c here false ((net s c).exchange r.group) (costs.exchange s.service s.flow c r.group) (exchange_agrees s c r.group)
 done_agrees s c here action.Launch xs r = leaving s c here true ((net s c).exchange r.group) (costs.exchange s.service s.flow c r.group) (exchange_agrees s c r.group)
 done_agrees s c here action.Quit xs r = leaving s c here true One One (agrees_one s 6)

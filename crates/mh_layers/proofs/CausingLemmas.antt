@@ -27,7 +27,7 @@ use Rattle.mh_layers.proofs.ReckonLemmas.{by_test, pass_nodes, reckon}
 
 -- A test that one effect alone does not pass
 
-abbrev same_effect : costs.Effect → costs.Effect → Bool
+abbrev pub same_effect : costs.Effect → costs.Effect → Bool
 same_effect x y = same_setting x.config y.config && same_ref x.object y.object && x.number == y.number
 
 effect_is : (x y : costs.Effect) → same_effect x y ≡ true → x ≡ y
@@ -41,7 +41,7 @@ effect_is x y e =
 effect_itself : (x : costs.Effect) → same_effect x x ≡ true
 effect_itself x = λ i. tells_settings.itself x.config i && same_itself x.object i && (Decides-eqb x.number x.number).1 refl i
 
-abbrev other_than : costs.Effect → costs.Effect → Bool
+abbrev pub other_than : costs.Effect → costs.Effect → Bool
 other_than y x = not (same_effect x y)
 
 not_other : (b : Bool) → not b ≡ false → b ≡ true
@@ -96,10 +96,10 @@ counted_fails y q there = failed (other_than y) q y there (ap not (effect_itself
 
 -- What is counted over effects, and over keys
 
-abbrev tested : (v : Service) (w : Flow) (h : Heard) → IsRead v w h → costs.Effect → Setting Bool
+abbrev pub tested : (v : Service) (w : Flow) (h : Heard) → IsRead v w h → costs.Effect → Setting Bool
 tested v w h read y = set by_test (other_than y) v w h read
 
-abbrev StandsFor : Service → Flow → costs.Effect → Key → Type 0
+abbrev pub StandsFor : Service → Flow → costs.Effect → Key → Type 0
 StandsFor v w y k = Among (counted_in (stands_for v w k)) y
 
 to_key : (v : Service) (w : Flow) (h : Heard) (read : IsRead v w h) (y : costs.Effect) (n : ℕ) (p : Price Key) (q : Price costs.Effect) → Agrees (tested v w h read y) n p q → Among (counted_in q) y
@@ -108,14 +108,14 @@ to_key v w h read y n p q a there =
     let found = fails (λ k. reckon by_test (other_than y) (stands_for v w k)) p (a.same ∙ counted_fails y q there) in
     (found.0, found.1, is_counted y (stands_for v w found.0) found.2)
 
-from_key : (v : Service) (w : Flow) (h : Heard) (read : IsRead v w h) (y : costs.Effect) (n : ℕ) (p : Price Key) (q : Price costs.Effect) → Agrees (tested v w h read y) n p q
+pub from_key : (v : Service) (w : Flow) (h : Heard) (read : IsRead v w h) (y : costs.Effect) (n : ℕ) (p : Price Key) (q : Price costs.Effect) → Agrees (tested v w h read y) n p q
     → (k : Key) → Among (counted_in p) k → StandsFor v w y k → Among (counted_in q) y
 from_key v w h read y n p q a k there stands =
     is_counted y q (sym a.same ∙ failed (λ k. reckon by_test (other_than y) (stands_for v w k)) p k there (counted_fails y (stands_for v w k) stands))
 
 -- Keys that are no effects
 
-other_is : (k : Key) → is_effect k ≡ false → IsOther k
+pub other_is : (k : Key) → is_effect k ≡ false → IsOther k
 other_is (Effect c r n) e = absurd (true≢false e)
 other_is k e = tt
 
@@ -157,7 +157,7 @@ stands_counts v w h read y (suc b) k other kept less there =
 
 -- From keys to effects
 
-counts_price : (v : Service) (w : Flow) (h : Heard) (read : IsRead v w h) (y : costs.Effect) (n : ℕ) (q : Price costs.Effect) (k z : Key) → Agrees (tested v w h read y) n (price_of v w h k) q → IsKept v w h k → z ≡ key_of y → Counts v w h k z → Among (counted_in q) y
+pub counts_price : (v : Service) (w : Flow) (h : Heard) (read : IsRead v w h) (y : costs.Effect) (n : ℕ) (q : Price costs.Effect) (k z : Key) → Agrees (tested v w h read y) n (price_of v w h k) q → IsKept v w h k → z ≡ key_of y → Counts v w h k z → Among (counted_in q) y
 counts_price v w h read y n q k z a kept is (once i j there) =
     from_key v w h read y n (price_of v w h k) q a z there (subst (λ (x : Key). StandsFor v w y x) (sym is) (inl refl))
 counts_price v w h read y n q k z a kept is (onward i j l there quiet more) =

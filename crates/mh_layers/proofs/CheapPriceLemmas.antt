@@ -59,7 +59,7 @@ pub below_sum : {X : Type 0} (g h : X → Price Effect) → ((x : X) → IsBelow
 below_sum g h each [] = below_itself Nothing
 below_sum g h each (x ∷ xs) = below_plus (each x) (below_sum g h each xs)
 
-counted_sum : {X : Type 0} (h : X → Price Effect) (xs : List X) (x : X) (y : Effect) → Among xs x → Among (counted_in (h x)) y → Among (counted_in (sum_price h xs)) y
+pub counted_sum : {X : Type 0} (h : X → Price Effect) (xs : List X) (x : X) (y : Effect) → Among xs x → Among (counted_in (h x)) y → Among (counted_in (sum_price h xs)) y
 counted_sum h [] x y there own = absurd cc
 counted_sum {X} h (z ∷ xs) x y (inl same) own =
     among_left (counted_in (h z)) (counted_in (sum_price h xs)) y (subst (λ (t : X). Among (counted_in (h t)) y) (sym same) own)
@@ -82,7 +82,7 @@ below_counted same count is g h each xs ys fewer =
 
 -- The dearest
 
-counted_most : {X : Type 0} (h : X → Price Effect) (xs : List X) (x : X) (y : Effect) → Among xs x → Among (counted_in (h x)) y → Among (counted_in (most_price h xs)) y
+pub counted_most : {X : Type 0} (h : X → Price Effect) (xs : List X) (x : X) (y : Effect) → Among xs x → Among (counted_in (h x)) y → Among (counted_in (most_price h xs)) y
 counted_most h [] x y there own = absurd cc
 counted_most {X} h (z ∷ xs) x y (inl same) own =
     among_left (counted_in (h z)) (counted_in (most_price h xs)) y (subst (λ (t : X). Among (counted_in (h t)) y) (sym same) own)

@@ -62,7 +62,7 @@ pub record IsActiveEffect {A : Type 0} (s : Setting A) (x : costs.Effect) : Type
   pub active : is_active (present s.service x.config) part ≡ true
   pub object : x.object ≡ part.key
 
-on_is : {A : Type 0} (s : Setting A) (x : costs.Effect) → IsOn s.service s.flow x → IsActiveEffect s x
+pub on_is : {A : Type 0} (s : Setting A) (x : costs.Effect) → IsOn s.service s.flow x → IsActiveEffect s x
 on_is {A} s x on =
     let at = from_joined (λ (d : Config). flat_map (effects_in d) (filter (is_active (present s.service d)) (present s.service d))) s.flow.configs x on in
     let own = from_joined (effects_in at.0) (filter (is_active (present s.service at.0)) (present s.service at.0)) x at.2 in

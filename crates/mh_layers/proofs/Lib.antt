@@ -46,3 +46,8 @@ pub mod CheapCostLemmas
 pub mod CheapTimerLemmas
 pub mod CheapestLemmas
 pub mod OrderLemmas
+pub mod FocusLemmas
+pub mod TrailLemmas
+pub mod DeedLemmas
+pub mod GrantLemmas
+pub mod ArrowLemmas

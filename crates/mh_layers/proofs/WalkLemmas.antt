@@ -146,7 +146,7 @@ labels_compare label cause P order (x ∷ xs) (y ∷ ys) h k =
 -- EFFECTS AND THEIR NUMBERS
 
 module _ (r : Reading) (read : IsReading r) where
-  named_back : (x : costs.Effect) → IsOn r.service (flow_read r) x → effect_named r (effect_number r x) ≡ x
+  pub named_back : (x : costs.Effect) → IsOn r.service (flow_read r) x → effect_named r (effect_number r x) ≡ x
   named_back x on =
       ap of_key ((numbers_are_names r read).back (key_of x) (effect_kept r.service (flow_read r) (heard_read r) (read_of r read) x on))
     where
@@ -172,22 +172,16 @@ module _ (r : Reading) (read : IsReading r) where
   causes_back [] on = refl
   causes_back (x ∷ xs) on = λ i. cause_back x on.0 i ∷ causes_back xs on.1 i
 
-causes_effects : (r : Reading) (ks : List NodeKey) (p : List Arrow) → causes_along r ks p ≡ map (cause_named r) (effects_along ks p)
+pub causes_effects : (r : Reading) (ks : List NodeKey) (p : List Arrow) → causes_along r ks p ≡ map (cause_named r) (effects_along ks p)
 causes_effects r ks [] = refl
 causes_effects r ks (a ∷ p) =
     ap (λ (cs : List Cause). causes_to r ks a ++ cs) (causes_effects r ks p) ∙ sym (map-append (cause_named r) (effect_to ks a) (effects_along ks p))
 
-take_whole : {X : Type 0} (xs : List X) (y : X) → take (length xs) (xs ++ y ∷ []) ≡ xs
+pub take_whole : {X : Type 0} (xs : List X) (y : X) → take (length xs) (xs ++ y ∷ []) ≡ xs
 take_whole [] y = refl
 take_whole {X} (x ∷ xs) y = ap (λ (zs : List X). x ∷ zs) (take_whole xs y)
 
--- the last of several is gone
-pub last_gone : (x : Cause) (along old new : List Cause) (n : ℕ) → old ≡ x ∷ along → n ≡ length old → new ≡ take (n - 1) old → new ≡ take (length along) (x ∷ along)
-last_gone x along old new n is long now =
-    let len : n - 1 ≡ length along = (let e : n ≡ suc (length along) = long ∙ ap length is in omega (arith, e)) in
-    now ∙ (λ i. take (len i) (is i))
-
-from_filtered : {X : Type 0} (t : X → Bool) (xs : List X) (x : X) → Among (filter t xs) x → Among xs x
+pub from_filtered : {X : Type 0} (t : X → Bool) (xs : List X) (x : X) → Among (filter t xs) x → Among xs x
 from_filtered t [] x there = there
 from_filtered {X} t (y ∷ xs) x there = by (t y) there (from_filtered t xs x)
   where

@@ -35,7 +35,7 @@ use Rattle.mh_layers.proofs.ServeLemmas.{read_of, serves}
 
 -- What is said of a reading
 
-abbrev Kept : Reading → Key → Type 0
+abbrev pub Kept : Reading → Key → Type 0
 Kept r k = IsKept r.service (flow_read r) (heard_read r) k
 
 abbrev Counted : Reading → Key → Key → Type 0
@@ -47,15 +47,15 @@ CountsIn r k j = Counts r.service (flow_read r) (heard_read r) k j
 abbrev LeadsIn : Reading → costs.Effect → List costs.Effect → costs.Effect → Type 0
 LeadsIn r x zs z = Leads r.service (flow_read r) x zs z
 
-abbrev IsActive : Reading → costs.Effect → Type 0
+abbrev pub IsActive : Reading → costs.Effect → Type 0
 IsActive r x = IsOn r.service (flow_read r) x
 
-active_kept : (r : Reading) → IsReading r → (x : costs.Effect) → IsActive r x → Kept r (key_of x)
+pub active_kept : (r : Reading) → IsReading r → (x : costs.Effect) → IsActive r x → Kept r (key_of x)
 active_kept r read x on = effect_kept r.service (flow_read r) (heard_read r) (read_of r read) x on
 
 -- Numbers of what is counted
 
-counted_numbered : {K L : Type 0} (g : K → L) (p : Price K) → counted_in (numbered g p) ≡ map g (counted_in p)
+pub counted_numbered : {K L : Type 0} (g : K → L) (p : Price K) → counted_in (numbered g p) ≡ map g (counted_in p)
 counted_numbered g Nothing = refl
 counted_numbered g One = refl
 counted_numbered g (Node k) = refl
@@ -75,7 +75,7 @@ number_counts : (r : Reading) → IsReading r → (k : Key) → Kept r k → (n 
 number_counts r read k kept n there =
     from_mapped (number r) (counted_in (price_read r k)) n (subst (λ (ns : List NodeKey). Among ns n) (numbers_counted r read k kept) there)
 
-number_tells : (r : Reading) → IsReading r → (k j : Key) → Kept r k → Kept r j → number r k ≡ number r j → k ≡ j
+pub number_tells : (r : Reading) → IsReading r → (k j : Key) → Kept r k → Kept r j → number r k ≡ number r j → k ≡ j
 number_tells r read k j kept there same =
     sym ((numbers_are_names r read).back k kept) ∙ ap (name r) same ∙ (numbers_are_names r read).back j there
 

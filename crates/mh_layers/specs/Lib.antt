@@ -23,3 +23,8 @@ pub mod Asked
 pub mod Standings
 pub mod Walk
 pub mod Ranked
+pub mod Arrows
+pub mod Trails
+pub mod Stretches
+pub mod Deeds
+pub mod Granting

@@ -68,7 +68,7 @@ fn forget(costs: &mut Costs, keys: &[NodeKey]) -> Result<(), AllocError>
 }
 
 /// The keys that the key counts. No cost is known before, and none after.
-fn counted_keys<P: Prices>(
+pub(crate) fn counted_keys<P: Prices>(
     alloc: Global,
     prices: &P,
     costs: &mut Costs,

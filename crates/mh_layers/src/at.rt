@@ -254,7 +254,7 @@ impl<'a> At<'a> {
     }
 
     /// The number of the configuration to which it goes on from here to the group, if that is reached.
-    fn exchanged(&self, group: &GroupName) -> Option<usize>
+    pub fn exchanged(&self, group: &GroupName) -> Option<usize>
         ensures { let s = self.now in
             result ≡ position (same_setting (exchanged s.reading.service s.config group.now)) (settings s.reading) }
     {
@@ -347,6 +347,13 @@ impl<'a> At<'a> {
         ensures { result.now ≡ self.now.reading }
     {
         self.net
+    }
+
+    /// The costs that are known.
+    pub fn costs(&self) -> &'a Costs
+        ensures { result.now ≡ self.now.places }
+    {
+        self.costs
     }
 
     /// The configuration.

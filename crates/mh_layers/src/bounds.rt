@@ -19,18 +19,6 @@ pub enum InputKind {
     Arrive,
 }
 
-impl InputKind {
-    /// All of them, in the order in which they are reported.
-    pub const ALL: [InputKind; 6] = [
-        InputKind::Start,
-        InputKind::Key,
-        InputKind::Tick,
-        InputKind::Stream,
-        InputKind::Engine,
-        InputKind::Arrive,
-    ];
-}
-
 /// The most steps to which the start and an input of each kind can lead. A number that 64 bits cannot tell is the
 /// largest that they can.
 #[derive(Clone, Copy)]

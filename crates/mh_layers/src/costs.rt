@@ -39,7 +39,7 @@ impl Model for Costs {
 }
 
 /// How many are noted at most that were asked for.
-const NOTED: usize = 65_536;
+const NOTED: usize = 1_024;
 
 fn no_wants(alloc: Global) -> Result<Vec<Cell<NodeKey>>, AllocError> {
     let mut wants = Vec::new(alloc);

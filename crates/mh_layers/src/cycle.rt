@@ -2,19 +2,20 @@
 //!
 //! Promise: of all active effects that put themselves to work, by way of others, the first is told by its place and
 //! configuration, with the first of the shortest ways; and none only where no effect does.
-ghost use Rattle.std.specs.Prelude.{◌≡◌, ◌++◌, ◌∷◌, length, take, true, Some, IfNone, IfOk, IfSome, OnOk};
+ghost use Rattle.std.specs.Prelude.{◌≡◌, true, Some, IfNone, IfOk, IfSome, OnOk};
 ghost use Rattle.std.specs.Option.{option_map_or};
 ghost use Rattle.std.specs.Ordering.{is_lt};
 ghost use Rattle.mh_flow.specs.Solved.{IsFlowOf, flow_in};
 ghost use Rattle.mh_paths.specs.Chains.{IsFirstCycle, NoCycle};
-ghost use Rattle.mh_layers.specs.Cycle.{AreFirstCycle, NoCycles, by_standing};
+ghost use Rattle.mh_layers.specs.Arrows.{AreFirstArrows};
+ghost use Rattle.mh_layers.specs.Cycle.{NoCycles, by_standing};
 ghost use Rattle.mh_layers.specs.Layered.{active_keys};
-ghost use Rattle.mh_layers.specs.Layering.{AreLayers, is_laid};
+ghost use Rattle.mh_layers.specs.Layering.{AreLayers};
 ghost use Rattle.mh_layers.specs.Ranked.{IsOrder};
 ghost use Rattle.mh_layers.specs.Reading.{IsReading, flow_read, kept, price};
-ghost use Rattle.mh_layers.specs.Standings.{causes_to};
-ghost use Rattle.mh_layers.specs.Walk.{AreBest, IsTried, causes_along, unlaid};
+ghost use Rattle.mh_layers.specs.Walk.{AreBest, IsTried, unlaid};
 
+use crate::arrow::Arrow;
 use crate::cause::Cause;
 use crate::laying::{LayersError, Laying};
 use crate::net::Net;
@@ -22,10 +23,9 @@ use crate::node_key::NodeKey;
 use crate::order::Order;
 use crate::roots::push_effects;
 use crate::standing::{by_standing, cause_of};
+use crate::trail::arrows_along;
 use crate::web::{Web, node_of, web_of};
-use indexmap::IndexSet;
 use mh_flow::{Equipped, Flow};
-use mh_paths::Arrow;
 use std::alloc::{AllocError, Global};
 
 /// The first effect so far that is on a cycle, and its first cycle.
@@ -33,7 +33,7 @@ use std::alloc::{AllocError, Global};
 pub(crate) struct Best {
     pub key: NodeKey,
     pub cause: Cause,
-    pub trail: Vec<Arrow>,
+    pub trail: Vec<mh_paths::Arrow>,
 }
 
 /// Whether the cause comes before the best.
@@ -46,10 +46,11 @@ fn comes_first(cause: &Cause, best: &Option<Best>) -> bool
     }
 }
 
-fn set(best: &mut Option<Best>, found: Best)
-    ensures { best.new ≡ Some found }
+/// Sets the best.
+fn set(best: &mut Option<Best>, key: NodeKey, cause: Cause, trail: Vec<mh_paths::Arrow>)
+    ensures { best.new ≡ Some (record { key = key; cause = cause; trail = trail }) }
 {
-    *best = Some(found);
+    *best = Some(Best { key, cause, trail });
 }
 
 /// The first cycle through the node, if there is one. No search is made where the node lies before all cycles.
@@ -59,7 +60,7 @@ fn cycle_through(
     web: &Web,
     order: &Order,
     node: usize,
-) -> Result<Option<Vec<Arrow>>, AllocError>
+) -> Result<Option<Vec<mh_paths::Arrow>>, AllocError>
     requires { IsOrder web.now.graph order.now.places.items order.now.behind }
     ensures some { IfOk result (λ found. IfSome found (λ p. IsFirstCycle web.now.graph node p.items)) }
     ensures none { IfOk result (λ found. IfNone found (NoCycle web.now.graph node)) }
@@ -91,14 +92,7 @@ fn try_key(
     match cycle_through(alloc, web, order, node)? {
         None => Ok(()),
         Some(trail) => {
-            set(
-                best,
-                Best {
-                    key: *key,
-                    cause,
-                    trail,
-                },
-            );
+            set(best, *key, cause, trail);
             Ok(())
         }
     }
@@ -121,64 +115,13 @@ fn first_of(
     Ok(best)
 }
 
-/// Puts the effect to which the arrow leads, if it leads to one.
-fn put_cause(
-    net: &Net<'_>,
-    keys: &IndexSet<NodeKey>,
-    causes: &mut Vec<Cause>,
-    arrow: &Arrow,
-) -> Result<(), AllocError>
-    ensures { OnOk result (causes.new.items ≡ causes.old.items ++ causes_to net.now keys.now.keys arrow.now) }
-{
-    if let Some(key) = keys.get_index(arrow.to) {
-        if let NodeKey::Effect(..) = key {
-            causes.push(cause_of(net, key)?)?;
-        }
-    }
-    Ok(())
-}
-
-/// Puts the effects along the trail.
-fn put_causes(
-    net: &Net<'_>,
-    keys: &IndexSet<NodeKey>,
-    causes: &mut Vec<Cause>,
-    trail: &[Arrow],
-) -> Result<(), AllocError>
-    ensures { OnOk result (causes.new.items ≡ causes.old.items ++ causes_along net.now keys.now.keys trail.now) }
-{
-    for arrow in trail {
-        put_cause(net, keys, causes, arrow)?;
-    }
-    Ok(())
-}
-
-/// The effects of the cycle, from the first on: the last to which its trail leads is the first again.
-#[tactic(auto, using(crate::proofs::WalkLemmas::last_gone))]
-fn causes_of(alloc: Global, net: &Net<'_>, web: &Web, best: Best) -> Result<Vec<Cause>, AllocError>
-    ensures { let along = causes_along net.now web.now.keys.keys best.trail.items in
-        IfOk result (λ causes. causes.items ≡ take (length along) (best.cause ∷ along)) }
-{
-    let mut causes = Vec::new(alloc);
-    causes.push(best.cause)?;
-    put_causes(net, &web.keys, &mut causes, best.trail.as_slice())?;
-    causes.pop();
-    Ok(causes)
-}
-
-fn has_laid(laying: &Laying, key: &NodeKey) -> bool
-    ensures { result ≡ is_laid laying.now key.now }
-{
-    laying.costs().laid(key).is_some()
-}
-
 /// Those of these keys that are not laid.
 fn unlaid(alloc: Global, laying: &Laying, keys: &[NodeKey]) -> Result<Vec<NodeKey>, AllocError>
     ensures { IfOk result (λ left. left.items ≡ unlaid laying.now keys.now) }
 {
     let mut left = Vec::new(alloc);
     for key in keys {
-        if !has_laid(laying, key) {
+        if !laying.has_laid(key) {
             left.push(*key)?;
         }
     }
@@ -200,11 +143,11 @@ fn cycle_in(
     net: &Net<'_>,
     laying: &Laying,
     keys: &[NodeKey],
-) -> Result<Option<Vec<Cause>>, AllocError>
+) -> Result<Option<Vec<Arrow>>, AllocError>
     requires layers { AreLayers (price net.now) (kept net.now) laying.now }
     requires reading { IsReading net.now }
     requires all { keys.now ≡ active_keys net.now }
-    ensures some { let v = net.now.service in let w = flow_read net.now in IfOk result (λ found. IfSome found (λ causes. AreFirstCycle v w causes.items)) }
+    ensures some { let v = net.now.service in let w = flow_read net.now in IfOk result (λ found. IfSome found (λ arrows. AreFirstArrows v w arrows.items)) }
     ensures none { let v = net.now.service in let w = flow_read net.now in IfOk result (λ found. IfNone found (NoCycles v w)) }
 {
     let left = unlaid(alloc, laying, keys)?;
@@ -212,22 +155,23 @@ fn cycle_in(
     match first_of(alloc, net, &web, left.as_slice())? {
         None => Ok(None),
         Some(best) => {
-            let causes = causes_of(alloc, net, &web, best)?;
-            Ok(Some(causes))
+            let trail = best.trail.as_slice();
+            let arrows = arrows_along(alloc, net, &web.keys, best.key, trail)?;
+            Ok(Some(arrows))
         }
     }
 }
 
-/// The effects of the first cycle, from the first on: of all active effects that put themselves to work, by way of
-/// others, the first by its place and configuration, and of the shortest ways the first, place by place. None where
-/// no effect does.
+/// The effects of the first cycle, from the first on, each with an action that puts the next to work: of all active effects
+/// that put themselves to work, by way of others, the first by its place and configuration, and of the shortest ways the
+/// first, place by place. None where no effect does.
 pub fn first_cycle(
     alloc: Global,
     service: &Equipped<'_>,
     flow: &Flow,
-) -> Result<Option<Vec<Cause>>, AllocError>
+) -> Result<Option<Vec<Arrow>>, AllocError>
     requires { IsFlowOf service.now flow.now }
-    ensures some { IfOk result (λ found. IfSome found (λ causes. AreFirstCycle service.now (flow_in service.now flow.now) causes.items)) }
+    ensures some { IfOk result (λ found. IfSome found (λ arrows. AreFirstArrows service.now (flow_in service.now flow.now) arrows.items)) }
     ensures none { IfOk result (λ found. IfNone found (NoCycles service.now (flow_in service.now flow.now))) }
 {
     let net = Net::of(alloc, service, flow)?;

@@ -323,7 +323,8 @@ impl Laying {
         Ok(())
     }
 
-    fn has_laid(&self, key: &NodeKey) -> bool
+    /// Whether the key is laid.
+    pub(crate) fn has_laid(&self, key: &NodeKey) -> bool
         ensures { result ≡ is_laid self.now key.now }
     {
         self.costs.laid(key).is_some()

@@ -9,6 +9,8 @@
 
 pub mod actions;
 pub mod around;
+pub mod arrow;
+mod arrows;
 mod asked;
 pub(crate) mod at;
 pub mod bounds;
@@ -16,7 +18,9 @@ pub mod bridge;
 pub mod cause;
 pub mod costs;
 pub mod cycle;
+mod deeds;
 mod effects;
+mod granting;
 pub mod inputs;
 pub mod laws;
 pub mod layers;
@@ -28,16 +32,19 @@ pub mod node_key;
 mod order;
 mod place;
 mod price;
+mod putting;
 mod roots;
 mod slots;
 pub(crate) mod standing;
 pub mod sums;
 mod taken;
 pub(crate) mod timers;
+mod trail;
 mod values;
 pub(crate) mod web;
 
 pub use around::Around;
+pub use arrow::{Arrow, By, Held};
 pub use bounds::{Bounds, InputKind};
 pub use cause::Cause;
 pub use costs::{Costs, Laid};

@@ -205,7 +205,7 @@ fn place_at(ear: Ear, group: usize, value: Option<usize>) -> Place
 }
 
 /// The source for whose events a link waits.
-fn source_of(part: &Fixed) -> Option<&ObjRef>
+pub(crate) fn source_of(part: &Fixed) -> Option<&ObjRef>
     ensures { option_copied result ≡ spec.source_of part.now }
 {
     if !matches!(part.class, Class::Link) {
@@ -218,7 +218,7 @@ fn source_of(part: &Fixed) -> Option<&ObjRef>
 }
 
 /// The data that a link names.
-fn data_of(part: &Fixed) -> Option<&Value>
+pub(crate) fn data_of(part: &Fixed) -> Option<&Value>
     ensures { option_copied result ≡ keys.data_of part.now }
 {
     as_value(part.properties.get(Attribute::EventData))

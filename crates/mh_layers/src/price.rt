@@ -220,7 +220,11 @@ fn enter_worth(here: &At<'_>) -> Result<Worth, AllocError>
 // Keys
 
 /// The configuration with this number.
-fn standing<'a>(net: &'a Net<'a>, costs: &'a Costs, number: usize) -> Result<At<'a>, AllocError>
+pub(crate) fn standing<'a>(
+    net: &'a Net<'a>,
+    costs: &'a Costs,
+    number: usize,
+) -> Result<At<'a>, AllocError>
     ensures { IfOk result (λ here. here ≡ spot_at net.now costs.now number) }
 {
     match At::of(net, costs, number) {
@@ -231,7 +235,7 @@ fn standing<'a>(net: &'a Net<'a>, costs: &'a Costs, number: usize) -> Result<At<
 
 /// The object with this number.
 #[tactic(auto, using(crate::proofs::SpotLemmas::got_there))]
-fn object<'a>(net: &'a Net<'_>, number: usize) -> Result<&'a ObjRef, AllocError>
+pub(crate) fn object<'a>(net: &'a Net<'_>, number: usize) -> Result<&'a ObjRef, AllocError>
     ensures { IfOk result (λ at. at.now ≡ object_named net.now number) }
 {
     match net.object_at(number) {
@@ -352,7 +356,11 @@ fn taken_key(
 
 /// The configuration in the net, if it is reached.
 #[tactic(auto, using(crate::proofs::SpotLemmas::named_in))]
-fn reached<'a>(net: &'a Net<'a>, costs: &'a Costs, config: &Config) -> Result<At<'a>, AllocError>
+pub(crate) fn reached<'a>(
+    net: &'a Net<'a>,
+    costs: &'a Costs,
+    config: &Config,
+) -> Result<At<'a>, AllocError>
     ensures { IfOk result (λ here. here ≡ spot_in net.now costs.now config.now) }
 {
     match net.number_of(config) {

@@ -81,7 +81,7 @@ fn copied_config(config: &Config) -> Result<Config, AllocError>
     config.clone()
 }
 
-fn copied_reference(at: &ObjRef) -> Result<ObjRef, AllocError>
+pub(crate) fn copied_reference(at: &ObjRef) -> Result<ObjRef, AllocError>
     ensures { IfOk result (λ copy. copy ≡ at.now) }
 {
     at.clone()

@@ -82,7 +82,7 @@ impl Datum {
 }
 
 /// A copy of the value, which shares what it holds.
-fn copied(value: &Value) -> Result<Value, AllocError>
+pub(crate) fn copied(value: &Value) -> Result<Value, AllocError>
     ensures { IfOk result (λ copy. copy ≡ value.now) }
 {
     value.clone()

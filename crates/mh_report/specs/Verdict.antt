@@ -12,6 +12,7 @@ use Rattle.mh_laws.specs.Budget.{Bounds}
 use Rattle.mh_flow.specs.declared.link.Link.{Link}
 use Rattle.mh_layers.specs.declared.bounds.InputKind.{InputKind}
 use Rattle.mh_layers.specs.declared.bounds.InputKind.TheVariants as input
+use Rattle.mh_layers.specs.declared.arrow.Arrow.{Arrow}
 use Rattle.mh_layers.specs.declared.cause.Cause.{Cause}
 use Rattle.mh_verify.specs.declared.refusal.Place.{Place}
 use Rattle.mh_verify.specs.declared.refusal.Refusal.{Refusal}
@@ -48,8 +49,8 @@ chain_lines ls = flat_map link_line ls
 abbrev pub cause_line : Cause → List ℕ
 cause_line x = codes "cause " ++ x.at.group ++ codes " " ++ decimal x.at.number ++ codes " " ++ decimal x.index ++ 10 ∷ []
 
-abbrev pub cycle_lines : List Cause → List ℕ
-cycle_lines xs = flat_map cause_line xs
+abbrev pub cycle_lines : List Arrow → List ℕ
+cycle_lines xs = flat_map (λ (a : Arrow). cause_line a.cause) xs
 
 abbrev pub kind_word : InputKind → List ℕ
 kind_word input.Start = codes "start"

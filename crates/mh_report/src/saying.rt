@@ -9,7 +9,7 @@ use crate::unplayable::Unplayable;
 use mh_base::{GroupName, ObjRef};
 use mh_flow::Link;
 use mh_group::ActionName;
-use mh_layers::{Bounds, Cause, InputKind};
+use mh_layers::{Arrow, Bounds, Cause, InputKind};
 use mh_model::Config;
 use mh_told::text::Text;
 use mh_verify::{Place, Refusal, RefusalKind};
@@ -167,11 +167,11 @@ fn put_link(text: &mut Text, link: &Link) -> Result<(), AllocError>
 }
 
 /// A line for each of the effects that put each other to work.
-fn put_cycle(text: &mut Text, cycle: &[Cause]) -> Result<(), AllocError>
+fn put_cycle(text: &mut Text, cycle: &[Arrow]) -> Result<(), AllocError>
     ensures { OnOk result (text.new ≡ text.old ++ cycle_lines cycle.now) }
 {
-    for cause in cycle {
-        put_cause(text, cause)?;
+    for arrow in cycle {
+        put_cause(text, &arrow.cause)?;
     }
     Ok(())
 }

@@ -10,11 +10,13 @@ use mh_paths::{Arrow, Graph, first_chains, first_cycle, is_chain};
 use mh_service::Service;
 use std::alloc::Global;
 
-fn group(alloc: Global, name: &str) -> Option<GroupName> {
+/// The group of this name.
+pub fn group(alloc: Global, name: &str) -> Option<GroupName> {
     GroupName::of_path(alloc, name.as_bytes()).ok()
 }
 
-fn reference(alloc: Global, name: &str, number: &str) -> Option<ObjRef> {
+/// The object of this number in the group of this name.
+pub fn reference(alloc: Global, name: &str, number: &str) -> Option<ObjRef> {
     Some(ObjRef {
         number: number.parse::<u32>().ok()?,
         group: group(alloc, name)?,
@@ -22,7 +24,7 @@ fn reference(alloc: Global, name: &str, number: &str) -> Option<ObjRef> {
 }
 
 /// The application `a`, with the scene of this name, or none for `-`.
-fn config(alloc: Global, scene: &str) -> Option<Config> {
+pub fn config(alloc: Global, scene: &str) -> Option<Config> {
     let scene = match scene {
         "-" => None,
         _ => Some(group(alloc, scene)?),

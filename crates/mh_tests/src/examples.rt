@@ -25,6 +25,11 @@
 /// was heard is shown in row 3: that the first field is full (!), that the interaction of the first field, the
 /// second or the button is complete (. : ,), that the button is selected (+) and no longer is (-), highlighted
 /// (h) and no longer (l), and a key that comes to the scene (k).
+///
+/// The verifier refuses the following. `carrier` is an application whose variable 21 takes a text of the scene
+/// `giver` along to the scene `quiet`; `sets` one whose variable 1 is set to what is not there, and from itself;
+/// `tests` has two links that put each other to work, `quits` closes down by quitting, and `adds` is a scene that
+/// puts an item into a list when the item runs.
 static FILES: &str =
     r#"application: a {:Application ("~/a" 0) :OnStartUp ( :TransitionTo (("~/s" 0)) ) }
 
@@ -136,6 +141,31 @@ EngineEvent :EventData 2 :LinkEffect ( :SetInteractionStatus (1 false) ) } {:Lin
 :EventType EngineEvent :EventData 12 :LinkEffect ( :Deselect (3) ) } {:Link 44 :EventSource ("a" 0)
 :EventType EngineEvent :EventData 13 :LinkEffect ( :SetHighlightStatus (3 true) ) } {:Link 45 :EventSource
 ("a" 0) :EventType EngineEvent :EventData 14 :LinkEffect ( :SetHighlightStatus (3 false) ) } ) }
+
+carrier: a {:Application ("~/a" 0) :Items ( {:ObjectRefVar 20 :OrigValue 30 } {:ObjectRefVar 21 :OrigValue
+30 } {:Text 30 :OrigBoxSize 120 16 } {:Link 31 :Shared true :EventSource ("~/q" 0) :EventType IsRunning
+:LinkEffect ( :SetData (:IndirectRef 21 'X') ) } {:Link 32 :EventSource 0 :EventType IsRunning :LinkEffect
+( :TransitionTo (("~/p" 0)) ) } ) }
+
+giver: p {:Scene ("~/p" 0) :OnStartUp ( :SetVariable (("~/a" 20) :GObjectRef 10) :SetVariable (("~/a" 21)
+:GObjectRef :IndirectRef ("~/a" 20)) ) :Items ( {:Text 10 :OrigBoxSize 120 16 } {:Link 11 :EventSource 0
+:EventType UserInput :EventData 100 :LinkEffect ( :TransitionTo (("~/q" 0)) ) } ) }
+
+quiet: q {:Scene ("~/q" 0) }
+
+sets: a {:Application ("~/a" 0) :OnStartUp ( :SetVariable (1 :GObjectRef 99) :SetPosition (:IndirectRef 1 2 3)
+:SetVariable (1 :GObjectRef :IndirectRef 1) ) :Items ( {:ObjectRefVar 1 :OrigValue 10 } {:ObjectRefVar 2
+:OrigValue 10 } {:Rectangle 10 :OrigBoxSize 24 32 } ) }
+
+tests: a {:Application ("~/a" 0) :Items ( {:IntegerVar 1 :OrigValue 0 } {:IntegerVar 2 :OrigValue 0 } {:Link 3
+:EventSource 1 :EventType TestEvent :LinkEffect ( :TestVariable (2 1 :GInteger 0) ) } {:Link 4 :EventSource 2
+:EventType TestEvent :LinkEffect ( :TestVariable (1 1 :GInteger 0) ) } {:Link 5 :EventSource 0 :EventType
+IsRunning :LinkEffect ( :TestVariable (1 1 :GInteger 0) ) } ) }
+
+quits: a {:Application ("~/a" 0) :OnCloseDown ( :Quit (0) ) }
+
+adds: s {:Scene ("~/s" 0) :Items ( {:Rectangle 10 :OrigBoxSize 24 32 } {:ListGroup 3 :Positions ( ( 0 0 ) ) }
+{:Link 4 :EventSource 10 :EventType IsRunning :LinkEffect ( :AddItem (3 1 10) ) } ) }
 
 empty: a {:Application ("~/a" 0) :Items ( ) }
 

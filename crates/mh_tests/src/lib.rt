@@ -6,6 +6,8 @@
 #![tactic(auto)]
 
 #[cfg(test)]
+mod arrows;
+#[cfg(test)]
 mod base;
 #[cfg(test)]
 mod building;
@@ -15,6 +17,8 @@ mod calls;
 mod cases;
 #[cfg(test)]
 mod chains;
+#[cfg(test)]
+mod claims;
 #[cfg(test)]
 mod codec;
 #[cfg(test)]
@@ -35,6 +39,8 @@ mod display;
 mod embedding;
 #[cfg(test)]
 mod engine;
+#[cfg(test)]
+mod evidence;
 #[cfg(test)]
 mod examples;
 #[cfg(test)]
@@ -63,6 +69,8 @@ mod look_parts;
 mod look_reading;
 #[cfg(test)]
 mod looking;
+#[cfg(test)]
+mod marks;
 #[cfg(test)]
 mod notations;
 #[cfg(test)]

@@ -7,6 +7,7 @@ use crate::building::grown;
 use crate::cases::{Question, all_hold, bytes, said, word};
 use crate::chains::of_flow;
 use crate::engine::of_engine;
+use crate::evidence::of_evidence;
 use crate::examples::path_and_text;
 use crate::objects::inside;
 use crate::verify::verdict;
@@ -51,6 +52,7 @@ fn of_service(alloc: Global, service: Service, asked: &str) -> Option<Vec<u8>> {
     match word(asked, 0) {
         "made" => said(alloc, b"made"),
         "verdict" => verdict(alloc, service),
+        "holds" | "arrows" | "changed" | "claimed" => of_evidence(alloc, service, asked),
         "idle" | "keys" | "ticks" | "files" => of_engine(alloc, service, asked),
         "held" | "reached" => of_flow(alloc, &service, asked),
         _ => inside(alloc, &service, asked),

@@ -24,3 +24,4 @@ pub mod PrintingLemmas
 pub mod TableWords
 pub mod PrintedLemmas
 pub mod PrintedLaw
+pub mod MarksLemmas

@@ -10,4 +10,5 @@ pub mod Gives
 pub mod Escapes
 pub mod Reading
 pub mod Printed
+pub mod Marks
 pub mod Laws

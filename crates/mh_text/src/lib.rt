@@ -1,5 +1,5 @@
-//! The textual notation: tokens over the bytes of a file, the group that the tokens write, and the
-//! printed form of a group.
+//! The textual notation: tokens over the bytes of a file, the group that the tokens write, the printed
+//! form of a group, and where the actions of a group stand.
 //!
 //! Promise: reading returns on every input, with a group that the tables allow, or with the first
 //! place from the left at which the text goes wrong; and what is printed of a group is read as that
@@ -12,6 +12,8 @@ mod form;
 mod keyword;
 pub mod laws;
 mod lexing;
+mod mark;
+mod marking;
 pub mod object;
 mod octet_text;
 mod place;
@@ -28,6 +30,8 @@ pub mod token_kind;
 mod value;
 mod value_form;
 
+pub use mark::{Mark, mark_of};
+pub use marking::marks;
 pub use mh_base::LARGEST_FILE;
 pub use object::{begins_group, read_group};
 pub use printing::print_group;

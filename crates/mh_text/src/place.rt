@@ -1,6 +1,6 @@
 //! `Place`: where reading stands in a text. It gives the next token with its meaning, or the first
 //! thing that is wrong there; what is wanted is left to the readers.
-ghost use Rattle.std.specs.Prelude.{◌≡◌, false};
+ghost use Rattle.std.specs.Prelude.{◌≡◌, false, length};
 ghost use Rattle.mh_base.specs.Reading.{whole, refused};
 ghost use Rattle.mh_text.specs.Left.{left, meant};
 ghost use Rattle.mh_text.specs.Signs.{sign_of};
@@ -33,6 +33,20 @@ impl<'a> Piece<'a> {
         ensures { result ≡ self.now.sign }
     {
         self.sign
+    }
+
+    /// Where it begins.
+    pub(crate) fn start(&self) -> usize
+        ensures { result ≡ self.now.start }
+    {
+        self.start
+    }
+
+    /// How many bytes it has.
+    pub(crate) fn length(&self) -> usize
+        ensures { result ≡ length self.now.text }
+    {
+        self.text.len()
     }
 
     /// The refusal that names this token.
@@ -84,7 +98,7 @@ impl<'a> Place<'a> {
     }
 
     /// The next token and the place behind it; none at the end, whose offset is the second part.
-    fn taken(self) -> Result<Option<(Piece<'a>, Place<'a>)>, TextError>
+    pub(crate) fn taken(self) -> Result<Option<(Piece<'a>, Place<'a>)>, TextError>
         ensures { Gives (λ x. x) result (taken self.entry) }
     {
         let Place {

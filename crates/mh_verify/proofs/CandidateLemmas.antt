@@ -43,13 +43,13 @@ key_is a b h =
     let g : a.group ≡ b.group = (bytes_eq-Decides a.group b.group).0 two.1 in
     λ i. record { number = n i; group = g i }
 
-key_itself : (a : ObjRef) → same_key a a ≡ true
+pub key_itself : (a : ObjRef) → same_key a a ≡ true
 key_itself a = both _ _ ((Decides-eqb a.number a.number).1 refl) ((bytes_eq-Decides a.group a.group).1 refl)
 
 ref_itself : (a : ObjRef) → same_ref a a ≡ true
 ref_itself a = both _ _ ((bytes_eq-Decides a.group a.group).1 refl) ((Decides-eqb a.number a.number).1 refl)
 
-at_itself : (r : ObjRef) (n : ℕ) → is_at (record { group = r.group; object = r.number; index = n }) r n ≡ true
+pub at_itself : (r : ObjRef) (n : ℕ) → is_at (record { group = r.group; object = r.number; index = n }) r n ≡ true
 at_itself r n =
     both _ _ (both _ _ ((bytes_eq-Decides r.group r.group).1 refl) ((Decides-eqb r.number r.number).1 refl)) ((Decides-eqb n n).1 refl)
 
@@ -270,7 +270,7 @@ found_in_members s w x m =
       reference = ap (λ (z : Found). z.object) one.2;
     }
 
-found_there : (s : Service) (w : Flow) (x : Found) → IsFirst s w x → IsWrongToo s w x x.object
+pub found_there : (s : Service) (w : Flow) (x : Found) → IsFirst s w x → IsWrongToo s w x x.object
 found_there s w x first =
     elim (Contains-append_cases (refusals_of_members s w x.config) (refusals_of_effects s w x.config) x first.stands) [
       | inl m ↦ found_in_members s w x m
@@ -300,7 +300,7 @@ of_unless false w v r u m = elim (first_or_behind _ [] u m) [
   | inr none ↦ absurd (no_member u none)
 ]
 
-of_object : (ps : List Fixed) (v : Option ObjRef) (q : ObjRef) (u : Wrong) → Contains (object_wrongs is_visible v q (class_at q ps)) u → (u.through ≡ v) × (u.at ≡ q)
+pub of_object : (ps : List Fixed) (v : Option ObjRef) (q : ObjRef) (u : Wrong) → Contains (object_wrongs is_visible v q (class_at q ps)) u → (u.through ≡ v) × (u.at ≡ q)
 of_object ps v q u m = by (class_at q ps) m
   where
     by : (o : Option _) → Contains (object_wrongs is_visible v q o) u → (u.through ≡ v) × (u.at ≡ q)

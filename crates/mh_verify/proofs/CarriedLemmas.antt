@@ -204,7 +204,7 @@ named_wrong why u r w m = by (first_or_behind (record { reason = why; at = r; th
     by (inl e) = (ap (λ (x : Wrong). x.at) e, ap (λ (x : Wrong). x.through) e)
     by (inr k) = absurd (no_member w k)
 
-named_object : (is : Class → Bool) (u : Option ObjRef) (r : ObjRef) (m : Option Class) (w : Wrong) → Contains (object_wrongs is u r m) w → IsNamed r u w
+pub named_object : (is : Class → Bool) (u : Option ObjRef) (r : ObjRef) (m : Option Class) (w : Wrong) → Contains (object_wrongs is u r m) w → IsNamed r u w
 named_object is u r None w m = named_wrong reason.Absent u r w m
 named_object is u r (Some c) w m = by (is c) m
   where

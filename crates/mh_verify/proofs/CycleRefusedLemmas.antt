@@ -1,5 +1,5 @@
 -- What is refused for a cycle, or for too many steps, is accepted by no flow.
-use Rattle.std.specs.Prelude.{◌≡◌, ◌<◌, ◌≤◌, ℕ, true, List, [], ◌∷◌}
+use Rattle.std.specs.Prelude.{◌≡◌, ◌<◌, ◌≤◌, ℕ, false, true, List, [], ◌∷◌, length}
 use Rattle.std.proofs.Common.{arith}
 use Rattle.mh_model.specs.Configuration.{is_service}
 use Rattle.mh_model.specs.Service.{Service}
@@ -11,8 +11,10 @@ use Rattle.mh_laws.specs.Least.{IsLeast}
 use Rattle.mh_laws.proofs.LayerLemmas.{costs_exist}
 use Rattle.mh_laws.proofs.NodeLemmas.{effect_nodes}
 use Rattle.mh_laws.proofs.PriceLemmas.{of_nodes}
+use Rattle.mh_layers.specs.declared.arrow.Arrow.{Arrow}
 use Rattle.mh_layers.specs.declared.bounds.InputKind.{InputKind}
 use Rattle.mh_layers.specs.declared.bounds.InputKind.TheVariants as kind
+use Rattle.mh_layers.specs.Arrows.{AreFirstArrows}
 use Rattle.mh_layers.specs.Bounding.{bound_by}
 use Rattle.mh_layers.specs.Cheapest.{IsCheapest}
 use Rattle.mh_layers.specs.Cycle.{Leads, NoCycles, onward, once}
@@ -46,6 +48,14 @@ cheapest most s w least k = least_is_cheapest s w k.flow least k.acceptable.solu
 pub cyclic_is_not : CyclicIsNot
 cyclic_is_not s w cs least first most k =
     layered_has_none s w k.rank k.acceptable.service ((cheapest most s w least k).layering k.rank k.layering) first.effect first.behind first.first.cycle
+
+-- what goes round has an arrow
+pub some_arrows : (v : Service) (w : Flow) (arrows : List Arrow) → AreFirstArrows v w arrows → 0 < length arrows
+some_arrows v w [] first = absurd (never first.round)
+  where
+    never : false ≡ true → ⊥
+    never e = cc
+some_arrows v w (a ∷ rest) first = omega arith
 
 -- Steps
 

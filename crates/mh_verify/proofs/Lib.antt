@@ -8,3 +8,8 @@ pub mod CandidateLemmas
 pub mod SoonestLemmas
 pub mod BoundLemmas
 pub mod CycleRefusedLemmas
+pub mod ProgramLemmas
+pub mod ShownPlaceLemmas
+pub mod ShownWrongLemmas
+pub mod ShownChainLemmas
+pub mod ShownLemmas

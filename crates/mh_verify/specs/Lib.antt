@@ -6,3 +6,4 @@ pub mod Naming
 pub mod Order
 pub mod Least
 pub mod Verdicts
+pub mod Evidence

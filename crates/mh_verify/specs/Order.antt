@@ -16,9 +16,9 @@ use Rattle.mh_laws.specs.Flow.{Flow, reached}
 use Rattle.mh_laws.specs.Layers.{IsCost, IsLayering}
 use Rattle.mh_laws.specs.Least.{IsLeast}
 use Rattle.mh_layers.specs.declared.bounds.InputKind.{InputKind}
-use Rattle.mh_layers.specs.declared.cause.Cause.{Cause}
+use Rattle.mh_layers.specs.declared.arrow.Arrow.{Arrow}
+use Rattle.mh_layers.specs.Arrows.{AreFirstArrows}
 use Rattle.mh_layers.specs.Bounding.{IsFirstAbove}
-use Rattle.mh_layers.specs.Cycle.{AreFirstCycle}
 use Rattle.mh_verify.specs.declared.coming.Coming.{Coming}
 use Rattle.mh_verify.specs.declared.refusal.Found.{Found}
 use Rattle.mh_verify.specs.declared.refusal.Place.{Place}
@@ -53,9 +53,9 @@ pub record IsFirst (s : Service) (w : Flow) (x : Found) : Type 0 where
 abbrev pub refusal_of : Service → Found → Coming → Refusal
 refusal_of s x k = record { kind = x.kind; place = Some x.place; action = x.action; config = Some x.config; object = Some k.at; chain = k.chain; cycle = []; service = s }
 
--- the refusal says that this effect puts itself to work, by way of those behind it
-abbrev pub cycle_refusal : Service → Cause → List Cause → Refusal
-cycle_refusal s x xs = record { kind = kind.Cycle; place = Some (record { group = x.at.group; object = x.at.number; index = x.index }); action = x.action; config = Some x.config; object = None; chain = []; cycle = x ∷ xs; service = s }
+-- the refusal says that the effect of this arrow puts itself to work, by way of those behind it
+abbrev pub cycle_refusal : Service → Arrow → List Arrow → Refusal
+cycle_refusal s a behind = record { kind = kind.Cycle; place = Some (record { group = a.cause.at.group; object = a.cause.at.number; index = a.cause.index }); action = a.cause.action; config = Some a.cause.config; object = None; chain = []; cycle = a ∷ behind; service = s }
 
 -- the refusal has a kind alone
 abbrev pub bare_refusal : RefusalKind → Service → Refusal
@@ -76,14 +76,14 @@ pub record NamesFirst (s : Service) (programs : List Signature) (r : Refusal) : 
   pub names : r ≡ refusal_of s found coming
 
 -- nothing can be stuck by the least flow, but effects put themselves to work: the refusal names the first, and the first of
--- the shortest ways
+-- the shortest ways, each effect with an action that puts the next to work
 pub record NamesCycle (s : Service) (programs : List Signature) (r : Refusal) : Type 0 where
   pub flow : Flow
   pub least : IsLeast (equipped s programs) flow
   pub acceptable : IsAcceptableBy (equipped s programs) flow
-  pub first : Cause
-  pub behind : List Cause
-  pub cycle : AreFirstCycle (equipped s programs) flow (first ∷ behind)
+  pub first : Arrow
+  pub behind : List Arrow
+  pub cycle : AreFirstArrows (equipped s programs) flow (first ∷ behind)
   pub names : r ≡ cycle_refusal s first behind
 
 -- nothing can be stuck by the least flow, and no effect puts itself to work; but the start or an input can lead to too many

@@ -9,9 +9,10 @@ use Rattle.mh_laws.specs.Flow.{Flow}
 use Rattle.mh_laws.specs.Layers.{IsCost, IsLayering}
 use Rattle.mh_flow.specs.Solved.{Solved, flow_in}
 use Rattle.mh_layers.specs.declared.bounds.InputKind.{InputKind}
+use Rattle.mh_layers.specs.declared.arrow.Arrow.{Arrow}
 use Rattle.mh_layers.specs.declared.cause.Cause.{Cause}
+use Rattle.mh_layers.specs.Arrows.{AreFirstArrows}
 use Rattle.mh_layers.specs.Bounding.{IsFirstAbove}
-use Rattle.mh_layers.specs.Cycle.{AreFirstCycle}
 use Rattle.mh_verify.specs.declared.refusal.Refusal.{Refusal}
 use Rattle.mh_verify.specs.declared.refusal.RefusalKind.TheVariants as kind
 use Rattle.mh_verify.specs.declared.verdict.Cycle.{Cycle}
@@ -25,19 +26,19 @@ use Rattle.mh_verify.specs.Least.{IsFirstNamed}
 abbrev pub head_of : Cause → Head
 head_of x = record { place = record { group = x.at.group; object = x.at.number; index = x.index }; action = x.action; config = x.config }
 
--- the cycle is of these effects, and its head is the place of the first
-pub record IsHeaded (cs : List Cause) (k : Cycle) : Type 0 where
-  pub first : Cause
-  pub behind : List Cause
-  pub causes : cs ≡ first ∷ behind
-  pub is : k ≡ record { head = head_of first; causes = first ∷ behind }
+-- the cycle is of these arrows, and its head is the place of the first effect
+pub record IsHeaded (arrows : List Arrow) (k : Cycle) : Type 0 where
+  pub first : Arrow
+  pub behind : List Arrow
+  pub all : arrows ≡ first ∷ behind
+  pub is : k ≡ record { head = head_of first.cause; arrows = first ∷ behind }
 
 -- nothing can be stuck, but these effects put themselves to work, and come first
 pub record IsCyclic (s : Service) (w : Flow) (k : Cycle) : Type 0 where
   pub acceptable : IsAcceptableBy s w
-  pub causes : List Cause
-  pub first : AreFirstCycle s w causes
-  pub headed : IsHeaded causes k
+  pub arrows : List Arrow
+  pub first : AreFirstArrows s w arrows
+  pub headed : IsHeaded arrows k
 
 -- nothing can be stuck and no effect puts itself to work, but an input of this kind can lead to too many steps
 pub record IsCostly (s : Service) (w : Flow) (k : InputKind) : Type 0 where
@@ -61,6 +62,6 @@ refusal_of_cycle s k = record {
   config = Some k.head.config;
   object = None;
   chain = [];
-  cycle = k.causes;
+  cycle = k.arrows;
   service = s;
 }

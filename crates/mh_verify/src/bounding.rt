@@ -47,13 +47,14 @@ fn by_layers(service: &Equipped<'_>, flow: &Flow, layers: &Layers<'_>) -> Verdic
 }
 
 /// The first cycle of a service that has no layers.
+#[tactic(auto, using(crate::proofs::CycleRefusedLemmas::some_arrows))]
 fn cyclic(alloc: Global, service: &Equipped<'_>, flow: &Flow) -> Result<Verdict, AllocError>
     requires flow { IsFlowOf service.now flow.now }
     requires acceptable { IsAcceptableBy service.now (flow_in service.now flow.now) }
     ensures { IfOk result (IsVerdict service.now flow.now) }
 {
     match first_cycle(alloc, service, flow)? {
-        Some(causes) => Ok(Verdict::Cyclic(Cycle::of(causes)?)),
+        Some(arrows) => Ok(Verdict::Cyclic(Cycle::of(arrows)?)),
         // where there are no layers there is a cycle; were none found, nothing could be said of the service
         None => Err(AllocError),
     }

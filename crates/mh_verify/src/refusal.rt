@@ -6,7 +6,7 @@ ghost use Rattle.mh_verify.specs.Refusals.{kind_for};
 use mh_base::{GroupName, ObjRef, Seq};
 use mh_flow::Link;
 use mh_group::ActionName;
-use mh_layers::{Cause, InputKind};
+use mh_layers::{Arrow, InputKind};
 use mh_model::{Config, Rank, Reason, Wrong};
 use mh_service::Service;
 use thiserror::Error;
@@ -140,7 +140,8 @@ pub struct Refusal {
     pub object: Option<ObjRef>,
     /// How it came to the variable or the list that may hold it; no link where it is written at the place.
     pub chain: Seq<Link>,
-    /// The effects that put each other to work, and the last of them the first; none of any other refusal.
-    pub cycle: Seq<Cause>,
+    /// The effects that put each other to work, each by an arrow to the next, and the last of them the first; none of any
+    /// other refusal.
+    pub cycle: Seq<Arrow>,
     pub service: Service,
 }

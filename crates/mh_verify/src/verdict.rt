@@ -5,7 +5,7 @@ ghost use Rattle.mh_verify.specs.Verdicts.{IsHeaded, head_of};
 use crate::{Coming, Found, Place};
 use mh_base::Seq;
 use mh_group::ActionName;
-use mh_layers::{Bounds, Cause, InputKind};
+use mh_layers::{Arrow, Bounds, Cause, InputKind};
 use mh_model::Config;
 use std::alloc::AllocError;
 
@@ -21,7 +21,7 @@ pub struct Head {
 #[derive(Drop)]
 pub struct Cycle {
     pub head: Head,
-    pub causes: Seq<Cause>,
+    pub arrows: Seq<Arrow>,
 }
 
 /// What is found first: what is wrong, then effects that put themselves to work, then what can lead to too many steps;
@@ -50,17 +50,17 @@ fn head_of(cause: &Cause) -> Result<Head, AllocError>
 }
 
 impl Cycle {
-    /// Of effects the first of which is there.
-    pub fn of(causes: Vec<Cause>) -> Result<Cycle, AllocError>
-        requires { 0 < length causes.items }
-        ensures { IfOk result (λ cycle. IsHeaded causes.items cycle) }
+    /// Of arrows the first of which is there.
+    pub fn of(arrows: Vec<Arrow>) -> Result<Cycle, AllocError>
+        requires { 0 < length arrows.items }
+        ensures { IfOk result (λ cycle. IsHeaded arrows.items cycle) }
     {
-        match causes.first() {
+        match arrows.first() {
             Some(first) => {
-                let head = head_of(first)?;
+                let head = head_of(&first.cause)?;
                 Ok(Cycle {
                     head,
-                    causes: Seq::from_vec(causes),
+                    arrows: Seq::from_vec(arrows),
                 })
             }
             None => unreachable!(),

@@ -1,12 +1,13 @@
 //! `verify`: the verdict on a service.
 //!
 //! Promise: a service is accepted only where it is acceptable and the start and each of its inputs lead to no more steps
-//! than its bounds say, and refused only where it is not, or for want of memory; a refusal names what comes first, and
-//! hands the service back.
+//! than its bounds say, and refused only where it is not, or for want of memory; a refusal names what comes first, shows
+//! what it says, and hands the service back.
 ghost use Rattle.std.specs.Prelude.{◌≡◌, OnOk, IfOk, IfErr};
 ghost use Rattle.mh_laws.specs.Acceptable.{IsAcceptable};
 ghost use Rattle.mh_flow.specs.Equipment.{equipped};
 ghost use Rattle.mh_flow.specs.Solved.{IsFlowOf, flow_in};
+ghost use Rattle.mh_verify.specs.Evidence.{IsShown};
 ghost use Rattle.mh_verify.specs.Free.{IsVerified};
 ghost use Rattle.mh_verify.specs.Least.{IsJudged};
 ghost use Rattle.mh_verify.specs.Order.{bare_refusal, refusal_of, unjudged, IsTold};
@@ -24,14 +25,17 @@ use std::alloc::{AllocError, Global};
 
 /// Accepts the service, where the receiver has these programs for it besides the built-in ones, or says what comes first:
 /// of what is wrong in the configurations that are reached; else the effects that put themselves to work; else the kind
-/// of input that can lead to too many steps.
+/// of input that can lead to too many steps. What a refusal carries shows it.
 pub fn verify(alloc: Global, service: Service, programs: &[Signature]) -> Result<Accepted, Refusal>
     ensures same { IfOk result (λ accepted. accepted.service ≡ equipped service programs.now) }
     ensures verified { IfOk result (λ accepted. IsVerified accepted) }
     ensures acceptable { OnOk result (IsAcceptable (equipped service programs.now)) }
     ensures back { IfErr result (λ refusal. refusal.service ≡ service) }
     ensures told { IfErr result (IsTold service programs.now) }
+    ensures shown { IfErr result IsShown }
 {
+    // what a refusal shows rests on what every service is, and that is known where there are groups
+    let _ = service.groups();
     match judge(alloc, &service, programs) {
         Err(_) => Err(unjudged_service(alloc, service)),
         Ok(judged) => decide(alloc, service, judged),
@@ -160,7 +164,7 @@ fn refused(alloc: Global, service: Service, found: Found, coming: Coming) -> Ref
 fn refused_for_cycle(alloc: Global, service: Service, cycle: Cycle) -> Refusal
     ensures { result ≡ refusal_of_cycle service cycle }
 {
-    let Cycle { head, causes } = cycle;
+    let Cycle { head, arrows } = cycle;
     let Head {
         place,
         action,
@@ -173,7 +177,7 @@ fn refused_for_cycle(alloc: Global, service: Service, cycle: Cycle) -> Refusal
         config: Some(config),
         object: None,
         chain: Seq::new(alloc),
-        cycle: causes,
+        cycle: arrows,
         service,
     }
 }

@@ -1,7 +1,8 @@
 use Rattle.std.proofs.Common.{◌∙◌, IfNone, IfOk, IfSome, subst, sym}
 use Rattle.mh_flow.specs.Solved.{flow_in}
 use Rattle.mh_laws.specs.Each.{Each}
-use Rattle.mh_layers.specs.Cycle.{AreFirstCycle, NoCycles}
+use Rattle.mh_layers.specs.Arrows.{AreFirstArrows}
+use Rattle.mh_layers.specs.Cycle.{NoCycles}
 use Rattle.mh_layers.specs.Reading.{kept}
 use Rattle.mh_layers.proofs.LayeredLemmas.{counted_kept, listed_kept}
 use Rattle.mh_layers.proofs.WalkLemmas.{turned}
@@ -16,7 +17,7 @@ reach-requires-clause-kept c =
 
 pub returns-clause-some : goal.returns-clause-some
 returns-clause-some c =
-    turned (λ v f. IfOk c.cycle_in.result (λ found. IfSome found (λ causes. AreFirstCycle v (flow_in v f) causes.items)))
+    turned (λ v f. IfOk c.cycle_in.result (λ found. IfSome found (λ arrows. AreFirstArrows v (flow_in v f) arrows.items)))
     c.in_ok-net.net c.args.service.now c.args.flow.now c.in_ok-net.ensures.service c.in_ok-net.ensures.flow c.cycle_in.ensures.some
 
 pub returns-clause-none : goal.returns-clause-none

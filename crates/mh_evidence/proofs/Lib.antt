@@ -1,0 +1,13 @@
+pub mod AnyLemmas
+pub mod PutLemmas
+pub mod HearLemmas
+pub mod LifeLemmas
+pub mod GroupLemmas
+pub mod ActLemmas
+pub mod EffectLemmas
+pub mod ArrowLemmas
+pub mod RoundLemmas
+pub mod ClaimLemmas
+pub mod SiteLemmas
+pub mod CaseLemmas
+pub mod ChainLemmas

@@ -1,0 +1,8 @@
+use Rattle.std.proofs.Common.{◌∙◌}
+use Rattle.mh_evidence.proofs.LifeLemmas.{token_group_halts}
+use Rattle.mh_evidence.proofs.asked.Asked.group_halts.Goals as goal
+
+pub returns-in-TokenGroup : goal.returns-in-TokenGroup
+returns-in-TokenGroup c =
+    c.members_halt.ensures
+    ∙ token_group_halts c.args.self.now c.args.at.now c.args.part.now c.args.part.now.class c.members.result.now c.in-TokenGroup.is c.members.ensures

@@ -1,0 +1,4 @@
+pub mod Putting
+pub mod Cases
+pub mod Counting
+pub mod Spots

@@ -1,0 +1,55 @@
+-- Trails: the keys by way of which one effect puts another to work, and the arrow that tells of it.
+use Rattle.std.specs.Prelude.{◌≡◌, ◌⊎◌, true, false, ◌&&◌, []}
+use Rattle.std.specs.List.{list_any}
+use Rattle.std.specs.Option.{option_map_or}
+use Rattle.mh_model.specs.Configuration.{present}
+use Rattle.mh_model.specs.Reference.{group_ref}
+use Rattle.mh_model.specs.Service.{Service, part_at}
+use Rattle.mh_laws.specs.Costs.{Effect, act}
+use Rattle.mh_laws.specs.Each.{Among}
+use Rattle.mh_laws.specs.Flow.{Flow}
+use Rattle.mh_laws.specs.Layers.{IsOn}
+use Rattle.mh_flow.specs.Sites.{sites_of}
+use Rattle.mh_layers.specs.declared.arrow.Arrow.{Arrow}
+use Rattle.mh_layers.specs.declared.node_key.NodeKey.{NodeKey}
+use Rattle.mh_layers.specs.declared.node_key.NodeKey.TheVariants as key
+use Rattle.mh_layers.specs.Arrows.{AreGrantedBy, counts, granted, is_action_in, is_action_of, is_waited_for, number_by}
+use Rattle.mh_layers.specs.Bridge.{key_of}
+use Rattle.mh_layers.specs.Causing.{Counts, is_effect}
+use Rattle.mh_layers.specs.Cycle.{cause_of}
+use Rattle.mh_layers.specs.Reading.{Reading, config_named, flow_read, heard_read, name, object_named}
+use Rattle.mh_layers.specs.Web.{counted, effect_number}
+
+-- the effect with a number; of a key that is no effect, any
+abbrev pub effect_named : Reading → NodeKey → Effect
+effect_named r (key.Effect c o n) = record { config = config_named r c; object = object_named r o; number = n }
+effect_named r _ = record { config = config_named r 0; object = group_ref []; number = 0 }
+
+-- the key is the effect's, or one that is no effect and counts it
+abbrev pub LeadsTo : Reading → NodeKey → Effect → Type 0
+LeadsTo r k y =
+    (k ≡ effect_number r y)
+    ⊎ ((is_effect (name r k) ≡ false) × Counts r.service (flow_read r) (heard_read r) (name r k) (key_of y))
+
+-- the first effect, which is active, counts this key, which leads to the last, which is active too
+pub record IsStep (r : Reading) (from first to : NodeKey) : Type 0 where
+  pub from_number : from ≡ effect_number r (effect_named r from)
+  pub to_number : to ≡ effect_number r (effect_named r to)
+  pub from_on : IsOn r.service (flow_read r) (effect_named r from)
+  pub to_on : IsOn r.service (flow_read r) (effect_named r to)
+  pub counted : Among (counted r from) first
+  pub onward : LeadsTo r first (effect_named r to)
+
+-- The arrow from one effect to another: its action is one of the first, and with what it grants puts the other to work; what it
+-- says of how is so; and what it grants is so by the flow.
+pub record IsArrowFor (v : Service) (w : Flow) (x y : Effect) (a : Arrow) : Type 0 where
+  pub cause : a.cause ≡ cause_of v x
+  pub own : option_map_or (is_action_in x.number a) (part_at x.object (present v x.config)) false ≡ true
+  pub puts :
+      list_any (λ s. is_action_of a s && counts y (act v (granted v a y.config s.act) x.config s.act)) (sites_of (present v x.config)) ≡ true
+  pub by : number_by a.by ≡ y.number
+  pub waited : option_map_or (is_waited_for a.by) (part_at y.object (present v y.config)) false ≡ true
+  pub granted : AreGrantedBy w a
+
+abbrev pub IsArrowOf : Reading → NodeKey → NodeKey → Arrow → Type 0
+IsArrowOf r from to a = IsArrowFor r.service (flow_read r) (effect_named r from) (effect_named r to) a

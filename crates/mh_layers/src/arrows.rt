@@ -1,0 +1,138 @@
+//! Arrows between effects.
+//!
+//! Promise: the arrow is one of an action of the first effect that puts the other to work, as the flow allows.
+ghost use Rattle.std.specs.Prelude.{◌≡◌, ◌+◌, Some, IfOk};
+ghost use Rattle.mh_model.specs.Configuration.{present};
+ghost use Rattle.mh_model.specs.Service.{part_at};
+ghost use Rattle.mh_layers.specs.Deeds.{number_in};
+ghost use Rattle.mh_layers.specs.Granting.{held_for};
+ghost use Rattle.mh_layers.specs.Listening.{source_of as source_of_lem};
+ghost use Rattle.mh_layers.specs.Reading.{IsReading, flow_read, spot_in};
+ghost use Rattle.mh_layers.specs.Trails.{IsArrowOf, IsStep, effect_named};
+
+use crate::arrow::{Arrow, By};
+use crate::at::At;
+use crate::cause::Cause;
+use crate::costs::Costs;
+use crate::deeds::{Doing, doing_of};
+use crate::effects::effect_acts;
+use crate::granting::held_for;
+use crate::listening::source_of;
+use crate::net::Net;
+use crate::node_key::NodeKey;
+use crate::price::{object, standing};
+use crate::putting::by_of;
+use crate::standing::cause_of;
+use mh_base::Seq;
+use mh_model::Fixed;
+use std::alloc::{AllocError, Global};
+
+/// The configuration of the effect.
+fn config_of<'a>(net: &'a Net<'_>, costs: &'a Costs, key: &NodeKey) -> Result<At<'a>, AllocError>
+    ensures { IfOk result (λ here. here ≡ spot_in net.now costs.now (effect_named net.now key.now).config) }
+{
+    match key {
+        NodeKey::Effect(config, _, _) => standing(net, costs, *config),
+        _ => Err(AllocError),
+    }
+}
+
+/// What is said of the object of the effect.
+fn part_of<'a>(here: &'a At<'_>, key: &NodeKey) -> Result<&'a Fixed, AllocError>
+    ensures { let s = here.now in let ps = present s.reading.service s.config in
+        IfOk result (λ part. part_at (effect_named s.reading key.now).object ps ≡ Some part.now) }
+{
+    let NodeKey::Effect(_, number, _) = key else {
+        return Err(AllocError);
+    };
+    let at = object(here.net(), *number)?;
+    match here.find(at) {
+        None => Err(AllocError),
+        Some(part) => Ok(part),
+    }
+}
+
+/// The number of the effect through those of its object.
+fn number_of(key: &NodeKey) -> usize
+    ensures { result ≡ number_in key.now }
+{
+    match key {
+        NodeKey::Effect(_, _, number) => *number,
+        _ => 0,
+    }
+}
+
+/// The arrow of this action of the effect, where it puts to work an effect of the object of which this is said.
+fn arrow_by(
+    alloc: Global,
+    here: &At<'_>,
+    cause: Cause,
+    doing: &Doing<'_>,
+    aim: &Fixed,
+    by: By,
+) -> Result<Arrow, AllocError>
+    ensures cause { IfOk result (λ arrow. arrow.cause ≡ cause) }
+    ensures index { IfOk result (λ arrow. arrow.index ≡ cause.index + doing.now.offset) }
+    ensures action { IfOk result (λ arrow. arrow.action ≡ doing.now.act.name) }
+    ensures held { let s = here.now in let held = held_for s.reading.service (flow_read s.reading) s.config doing.now.act doing.now.at (source_of_lem aim.now) in
+        IfOk result (λ arrow. arrow.held ≡ held) }
+    ensures by { IfOk result (λ arrow. arrow.by ≡ by) }
+{
+    let Some(index) = cause.index.checked_add(doing.offset) else {
+        return Err(AllocError);
+    };
+    let held = held_for(alloc, here, doing.act, doing.at, source_of(aim))?;
+    Ok(Arrow {
+        cause,
+        index,
+        action: doing.act.name,
+        held: Seq::from_vec(held),
+        by,
+    })
+}
+
+/// The arrow from an effect that is in the one configuration to an effect that is in the other.
+fn arrow_between(
+    alloc: Global,
+    here: &At<'_>,
+    there: &At<'_>,
+    from: &NodeKey,
+    first: &NodeKey,
+    to: &NodeKey,
+) -> Result<Arrow, AllocError>
+    requires reading { IsReading here.now.reading }
+    requires step { IsStep here.now.reading from.now first.now to.now }
+    requires here { here.now.config ≡ (effect_named here.now.reading from.now).config }
+    requires there { there.now ≡ spot_in here.now.reading there.now.places (effect_named here.now.reading to.now).config }
+    ensures { IfOk result (IsArrowOf here.now.reading from.now to.now) }
+{
+    let aim = part_of(there, to)?;
+    let by = by_of(aim, number_of(to))?;
+    let cause = cause_of(here.net(), from)?;
+    let acts = effect_acts(part_of(here, from)?, number_of(from));
+    match doing_of(alloc, here, acts, first)? {
+        None => Err(AllocError),
+        Some(doing) => {
+            let arrow = arrow_by(alloc, here, cause, &doing, aim, by)?;
+            Ok(arrow)
+        }
+    }
+}
+
+/// The arrow from an effect to another, to which the first of its keys leads.
+pub(crate) fn arrow_for(
+    alloc: Global,
+    net: &Net<'_>,
+    from: &NodeKey,
+    first: &NodeKey,
+    to: &NodeKey,
+) -> Result<Arrow, AllocError>
+    requires reading { IsReading net.now }
+    requires step { IsStep net.now from.now first.now to.now }
+    ensures { IfOk result (IsArrowOf net.now from.now to.now) }
+{
+    let costs = Costs::new(alloc)?;
+    let here = config_of(net, &costs, from)?;
+    let there = config_of(net, &costs, to)?;
+    arrow_between(alloc, &here, &there, from, first, to)
+}
