@@ -1,13 +1,12 @@
 //! `Asked`: an effect of which is asked whether an action puts it to work, and what is granted.
 //!
 //! Promise: each function answers what the definitions say. Nothing is copied: all is lent.
-ghost use Rattle.std.specs.Prelude.{◌≡◌, ◌&&◌, ◌==◌, not};
+ghost use Rattle.std.specs.Prelude.{◌≡◌, ◌&&◌, ◌==◌};
 ghost use Rattle.std.specs.Option.{option_copied, option_eq};
 ghost use Rattle.std.specs.Str.{bytes_eq};
-ghost use Rattle.mh_model.specs.Configuration.{present};
+ghost use Rattle.mh_model.specs.Configuration.{present, scene_parts};
 ghost use Rattle.mh_model.specs.Reference.{same_key};
 ghost use Rattle.mh_model.specs.Service.{group_parts, part_at};
-ghost use Rattle.mh_model.specs.Configuration.{scene_parts as scene_parts_lem};
 ghost use Rattle.mh_laws.specs.Safe.{exchanged};
 ghost use Rattle.mh_layers.specs.Reading.{same_setting};
 ghost use Rattle.mh_evidence.specs.Putting.{asked};
@@ -139,7 +138,7 @@ impl<'a> Asked<'a> {
 
     /// The parts of the scene, if there is one.
     pub(crate) fn scene_parts(&self) -> &[FixedPart]
-        ensures { result.now ≡ scene_parts_lem self.now.service self.now.config.scene }
+        ensures { result.now ≡ scene_parts self.now.service self.now.config.scene }
     {
         scene_parts(self.service, self.scene)
     }

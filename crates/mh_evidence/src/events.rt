@@ -1,13 +1,12 @@
 //! Events: whether one of them puts the effect to work that is asked for.
 //!
 //! Promise: each function answers whether its price tells of the effect.
-ghost use Rattle.std.specs.Prelude.{◌≡◌, ◌&&◌, ◌||◌, ◌==◌, not, None, Some};
+ghost use Rattle.std.specs.Prelude.{◌≡◌, ◌&&◌, ◌||◌, ◌==◌, not};
 ghost use Rattle.std.specs.List.{list_any};
-ghost use Rattle.std.specs.Option.{option_copied};
 ghost use Rattle.mh_base.specs.Event.{is_sync};
 ghost use Rattle.mh_model.specs.Reference.{same_key, group_ref};
 ghost use Rattle.mh_laws.specs.Costs as costs;
-ghost use Rattle.mh_laws.specs.Ways.{Sure, Unsure};
+ghost use Rattle.mh_laws.specs.Ways.{Unsure};
 ghost use Rattle.mh_layers.specs.Arrows.{number_by};
 ghost use Rattle.mh_layers.specs.Reading.{same_setting};
 ghost use Rattle.mh_evidence.specs.Putting.{asks, could_hear, is_heard, ref_of};

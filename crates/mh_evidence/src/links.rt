@@ -2,23 +2,21 @@
 //!
 //! Promise: each function answers what the definition of the same name says.
 ghost use Rattle.std.specs.Prelude.{◌≡◌, ◌&&◌, ◌==◌};
-ghost use Rattle.std.specs.List.{list_any};
 ghost use Rattle.std.specs.Option.{option_copied, option_eq};
 ghost use Rattle.mh_model.specs.Items.{hears_data, hears_source, hears_type};
 ghost use Rattle.mh_model.specs.Property.{held, as_event, as_value};
-ghost use Rattle.mh_model.specs.Reference.{same_key};
-ghost use Rattle.mh_model.specs.Variables.{same_value as same_value_lem};
+ghost use Rattle.mh_model.specs.Variables.{same_value};
 ghost use Rattle.mh_laws.specs.Ways.{Sure, Unsure};
 ghost use Rattle.mh_layers.specs.Arrows.{is_waited_for};
 ghost use Rattle.mh_layers.specs.Keys.{data_of, waits_for};
 ghost use Rattle.mh_evidence.specs.Putting.{could_hear, ref_of};
 
-use mh_base::{EventType, GroupName, ObjRef, Value};
+use mh_base::{EventType, GroupName, Value};
 use mh_group::{Attribute, Class};
 use mh_layers::By;
+use mh_model::Fixed;
 use mh_model::held::{as_event, as_value};
 use mh_model::kinds::same_value;
-use mh_model::{Fixed, FixedPart};
 use std::marker::Model;
 
 /// What is known of the data of an event.
@@ -115,7 +113,7 @@ pub(crate) fn could_hear(
 }
 
 fn has_data(link: &Fixed, given: &Option<Value>) -> bool
-    ensures { result ≡ option_eq same_value_lem (data_of link.now) given.now }
+    ensures { result ≡ option_eq same_value (data_of link.now) given.now }
 {
     match (data_of(link), given) {
         (None, None) => true,

@@ -3,7 +3,7 @@
 //! Promise: each function answers whether its price tells of the effect.
 ghost use Rattle.std.specs.Prelude.{◌≡◌, ◌&&◌, ◌||◌};
 ghost use Rattle.std.specs.List.{list_any};
-ghost use Rattle.std.specs.Option.{option_copied, option_map_or};
+ghost use Rattle.std.specs.Option.{option_map_or};
 ghost use Rattle.mh_group.specs.Table.{has_content};
 ghost use Rattle.mh_model.specs.declared.object.Fixed.{Fixed as FixedLem};
 ghost use Rattle.mh_model.specs.Configuration.{present};

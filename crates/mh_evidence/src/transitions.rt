@@ -3,11 +3,11 @@
 //! Promise: each function answers whether its price tells of the effect.
 ghost use Rattle.std.specs.Prelude.{◌≡◌, ◌&&◌, ◌==◌, false, not};
 ghost use Rattle.std.specs.List.{list_any};
-ghost use Rattle.std.specs.Option.{option_copied, option_map_or};
+ghost use Rattle.std.specs.Option.{option_map_or};
 ghost use Rattle.mh_group.specs.Table.{is_runnable};
 ghost use Rattle.mh_model.specs.Groups as groups;
 ghost use Rattle.mh_model.specs.Reference.{group_ref, same_key};
-ghost use Rattle.mh_model.specs.Service.{group_parts, part_at as part_at_lem};
+ghost use Rattle.mh_model.specs.Service.{group_parts, part_at};
 ghost use Rattle.mh_laws.specs.Costs as costs;
 ghost use Rattle.mh_laws.specs.Safe.{exchanged};
 ghost use Rattle.mh_layers.specs.Arrows.{number_by};
@@ -55,7 +55,7 @@ impl<'a> Asked<'a> {
     fn is_of_group(&self, group: &GroupName) -> bool
         ensures { let a = self.now in
             result ≡ option_map_or (λ p. same_setting a.next.cause.config a.config && same_key a.next.cause.at p.key)
-            (part_at_lem (group_ref group.now) (group_parts a.service group.now)) false }
+            (part_at (group_ref group.now) (group_parts a.service group.now)) false }
     {
         match part_at(self.parts(group), group, 0) {
             None => false,

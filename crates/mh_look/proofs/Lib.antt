@@ -1,6 +1,7 @@
 pub mod RangeLemmas
 pub mod EscapeLemmas
 pub mod ImageLemmas
+pub mod HarmlessLemmas
 pub mod DifferenceLemmas
 pub mod CommandLemmas
 pub mod BeginningLemmas
@@ -15,6 +16,7 @@ pub mod OptionLemmas
 pub mod PartLemmas
 pub mod PictureLemmas
 pub mod PlaceLemmas
+pub mod PlacesLemmas
 pub mod PutLemmas
 pub mod QuotedLemmas
 pub mod ReachLemmas
@@ -26,3 +28,5 @@ pub mod RowPartLemmas
 pub mod SpaceLemmas
 pub mod StepLemmas
 pub mod TailLemmas
+pub mod AdviceLemmas
+pub mod WhyLemmas

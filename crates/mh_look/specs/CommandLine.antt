@@ -18,7 +18,7 @@ use Rattle.mh_look.specs.declared.command_line_error.CommandLineError.TheVariant
 
 -- The arguments.
 
--- a file that has to be named
+-- a file or folder that has to be named
 abbrev pub file : Text → Rule
 file id = record (new_rule id) { required = true; action = Some Set }
 
@@ -27,6 +27,12 @@ report = file (codes "REPORT")
 
 abbrev pub other : Rule
 other = file (codes "OTHER")
+
+abbrev pub output : Rule
+output = file (codes "OUTPUT")
+
+abbrev pub folder : Rule
+folder = file (codes "DIR")
 
 -- the largest number that a frame can be asked for under
 abbrev pub last_frame : ℕ
@@ -56,6 +62,9 @@ image = with_rule (with_rule (new_app (codes "image")) report) frame_required
 abbrev pub diff : App
 diff = with_rule (with_rule (new_app (codes "diff")) report) other
 
+abbrev pub why : App
+why = with_rule (with_rule (new_app (codes "why")) output) folder
+
 -- the program without them: it has a version, and one of them has to be given
 abbrev pub bare : App
 bare = on_top (λ s. record s { has_version = true; subcommand_required = true }) (new_app (codes "redlook"))
@@ -64,7 +73,7 @@ abbrev pub with_views : App
 with_views = with_subcommand (with_subcommand bare show.top) page.top
 
 abbrev pub program : App
-program = with_subcommand (with_subcommand with_views image.top) diff.top
+program = with_subcommand (with_subcommand (with_subcommand with_views image.top) diff.top) why.top
 
 -- What is asked for.
 
@@ -73,6 +82,7 @@ pub data Asked : Type 0 where
   paged : (report : Text) → Asked
   drawn : (report : Text) (frame : Option ℕ) → Asked
   compared : (first second : Text) → Asked
+  explained : (output folder : Text) → Asked
 
 -- the value of an argument; each that is read here is required
 abbrev pub text_of : Text → List Row → Text
@@ -99,12 +109,16 @@ drawing rows = drawn (text_of (codes "REPORT") rows) (frame_of rows)
 abbrev pub comparing : List Row → Asked
 comparing rows = compared (text_of (codes "REPORT") rows) (text_of (codes "OTHER") rows)
 
+abbrev pub explaining : List Row → Asked
+explaining rows = explained (text_of (codes "OUTPUT") rows) (text_of (codes "DIR") rows)
+
 -- the subcommand of this name
 abbrev pub asked_under : Text → List Row → Asked
 asked_under name rows =
     if bytes_eq name (codes "show") then showing rows
     else (if bytes_eq name (codes "image") then drawing rows
-    else (if bytes_eq name (codes "diff") then comparing rows else paged (text_of (codes "REPORT") rows)))
+    else (if bytes_eq name (codes "diff") then comparing rows
+    else (if bytes_eq name (codes "why") then explaining rows else paged (text_of (codes "REPORT") rows))))
 
 -- one subcommand is required
 abbrev pub asked_by : Option (Text × List Row) → Asked
@@ -117,6 +131,7 @@ said (task.Show report frame plain) = shown report.now frame plain
 said (task.Page report) = paged report.now
 said (task.Image report frame) = drawn report.now frame
 said (task.Diff first second) = compared first.now second.now
+said (task.Why output folder) = explained output.now folder.now
 
 -- Why words ask for nothing that can be done.
 

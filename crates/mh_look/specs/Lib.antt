@@ -11,3 +11,8 @@ pub mod Front
 pub mod Lines
 pub mod Changes
 pub mod Parts
+pub mod LineWords
+pub mod Advice
+pub mod Sources
+pub mod Why
+pub mod Places

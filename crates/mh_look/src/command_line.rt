@@ -15,7 +15,7 @@ use clap::{ArgMatches, Error};
 use std::alloc::Global;
 use std::convert::AsStr;
 
-/// What is asked for, and which reports it is done with.
+/// What is asked for, and which files it is done with.
 #[derive(Drop)]
 pub enum Task<'a> {
     /// The report in the terminal, or one frame of it.
@@ -37,6 +37,11 @@ pub enum Task<'a> {
     Diff {
         first: &'a str,
         second: &'a str,
+    },
+    /// Why `redplay` refuses a service, by what it printed of the service in a folder.
+    Why {
+        output: &'a str,
+        folder: &'a str,
     },
 }
 
@@ -79,6 +84,7 @@ fn task_under<'a>(name: &str, given: &ArgMatches<'a>) -> Task<'a>
         "show" => showing(given),
         "image" => drawing(given),
         "diff" => comparing(given),
+        "why" => explaining(given),
         _ => Task::Page {
             report: text_of(given, "REPORT"),
         },
@@ -110,6 +116,15 @@ fn comparing<'a>(given: &ArgMatches<'a>) -> Task<'a>
     Task::Diff {
         first: text_of(given, "REPORT"),
         second: text_of(given, "OTHER"),
+    }
+}
+
+fn explaining<'a>(given: &ArgMatches<'a>) -> Task<'a>
+    ensures { said result ≡ spec.explaining (rows_of (found_of given.now)) }
+{
+    Task::Why {
+        output: text_of(given, "OUTPUT"),
+        folder: text_of(given, "DIR"),
     }
 }
 

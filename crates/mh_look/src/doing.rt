@@ -5,9 +5,12 @@ use crate::frames::frame_at;
 use crate::image::image_of;
 use crate::page::page_of;
 use crate::report::Report;
+use crate::service::files_of;
 use crate::show::{put_frame, put_report};
-use crate::source::{Failure, report_of};
+use crate::source::{Failure, output_of, report_of};
 use crate::telling::told;
+use crate::why_names::named;
+use crate::why_output::why;
 use mh_model::Picture;
 use mh_told::text::Text;
 use std::io;
@@ -34,6 +37,7 @@ pub fn done<R: Runtime + AllocGlobal>(rt: &R, task: &Task) -> Result<Outcome, Fa
         Task::Page { report } => paged(rt, report),
         Task::Image { report, frame } => drawn(rt, report, frame.unwrap_or(0)),
         Task::Diff { first, second } => compared(rt, first, second),
+        Task::Why { output, folder } => explained(rt, output, folder),
     }
 }
 
@@ -81,6 +85,18 @@ fn compared<R: Runtime + AllocGlobal>(
         _ => Outcome::Different,
     };
     written(rt, &text, outcome)
+}
+
+fn explained<R: Runtime + AllocGlobal>(
+    rt: &R,
+    output: &str,
+    folder: &str,
+) -> Result<Outcome, Failure> {
+    let output = output_of(rt, output)?;
+    let names = named(rt.alloc(), output.as_slice())?;
+    let files = files_of(rt, folder, names.as_slice())?;
+    let text = why(rt.alloc(), files.as_slice(), output.as_slice())?;
+    written(rt, &text, Outcome::Written)
 }
 
 /// The picture of the frame with this number.

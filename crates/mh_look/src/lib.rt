@@ -5,6 +5,7 @@
 //! it is exactly what is defined for it. The exit statuses are left to the program.
 #![tactic(auto)]
 
+mod advice;
 mod characters;
 mod checksum;
 mod command_line;
@@ -23,14 +24,23 @@ mod line;
 mod number;
 mod outline;
 mod page;
+mod place;
 mod program;
 mod report;
 mod row;
 mod run;
+mod service;
 mod show;
 mod shown;
 mod source;
 mod telling;
+mod why_keyword;
+mod why_line;
+mod why_names;
+mod why_output;
+mod why_source;
+mod why_spot;
+mod why_words;
 
 pub use characters::read_characters;
 pub use checksum::{Adler, Crc};
@@ -44,7 +54,11 @@ pub use frames::frame_at;
 pub use image::image_of;
 pub use number::{read_colour, read_number};
 pub use page::page_of;
+pub use place::{place_text, places_are_harmless};
 pub use report::{Part, ReadError, Report, read_report};
 pub use show::{harmless, put_frame, put_report};
 pub use source::Failure;
 pub use telling::told;
+pub use why_names::named;
+pub use why_output::{explanations_are_harmless, why};
+pub use why_source::File;

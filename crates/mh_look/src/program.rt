@@ -22,7 +22,8 @@ pub fn program<'a>(alloc: Global) -> Result<Command<'a>, AllocError>
 {
     with_views(alloc)?
         .subcommand(image(alloc)?)?
-        .subcommand(diff(alloc)?)
+        .subcommand(diff(alloc)?)?
+        .subcommand(why(alloc)?)
 }
 
 /// The program with the subcommands that show all of a report.
@@ -40,7 +41,7 @@ fn bare<'a>(alloc: Global) -> Command<'a>
 {
     Command::new(alloc, "redlook")
         .version(VERSION)
-        .about("Shows what `redplay play` printed; a report `-` is read from standard input")
+        .about("Shows what `redplay` printed; a file `-` is read from standard input")
         .subcommand_required(true)
 }
 
@@ -100,6 +101,20 @@ fn diff<'a>(alloc: Global) -> Result<Command<'a>, AllocError>
     .arg(other(alloc))
 }
 
+fn why<'a>(alloc: Global) -> Result<Command<'a>, AllocError>
+    ensures app { IfOk result (λ c. app_of c ≡ spec.why) }
+    ensures local { IfOk result (λ c. (fields_of c).has_globals ≡ false) }
+{
+    described(
+        alloc,
+        "why",
+        "Explains why a service is refused, with the places in its files, and how to mend it",
+        "Example:\n  redplay check examples/broken/service | redlook why - examples/broken/service",
+    )
+    .arg(output(alloc))?
+    .arg(folder(alloc))
+}
+
 /// A subcommand with its texts, before it has arguments.
 fn described<'a>(alloc: Global, name: &'a str, about: &'a str, example: &'a str) -> Command<'a>
     ensures app { app_of result ≡ new_app name.entry.now }
@@ -112,25 +127,43 @@ fn report<'a>(alloc: Global) -> Arg<'a>
     ensures rule { rule_of result ≡ spec.report }
     ensures local { result.global ≡ false }
 {
-    file(alloc, "REPORT")
+    file(alloc, "REPORT", "The file with the report, or `-`")
 }
 
 fn other<'a>(alloc: Global) -> Arg<'a>
     ensures rule { rule_of result ≡ spec.other }
     ensures local { result.global ≡ false }
 {
-    file(alloc, "OTHER")
+    file(alloc, "OTHER", "The file with the report, or `-`")
 }
 
-/// A file that has to be named.
-fn file<'a>(alloc: Global, name: &'a str) -> Arg<'a>
+fn output<'a>(alloc: Global) -> Arg<'a>
+    ensures rule { rule_of result ≡ spec.output }
+    ensures local { result.global ≡ false }
+{
+    file(
+        alloc,
+        "OUTPUT",
+        "The file with what `redplay check` or `redplay play` printed, or `-`",
+    )
+}
+
+fn folder<'a>(alloc: Global) -> Arg<'a>
+    ensures rule { rule_of result ≡ spec.folder }
+    ensures local { result.global ≡ false }
+{
+    file(alloc, "DIR", "The folder of the service")
+}
+
+/// A file or folder that has to be named.
+fn file<'a>(alloc: Global, name: &'a str, help: &'a str) -> Arg<'a>
     ensures rule { rule_of result ≡ spec.file name.entry.now }
     ensures local { result.global ≡ false }
 {
     Arg::new(alloc, name)
         .required(true)
         .action(ArgAction::Set)
-        .help("The file with the report, or `-`")
+        .help(help)
 }
 
 fn frame<'a>(alloc: Global) -> Arg<'a>

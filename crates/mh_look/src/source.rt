@@ -1,6 +1,6 @@
-//! Reports, read from files or from standard input.
+//! Reports and other output, read from files or from standard input.
 use crate::report::{ReadError, Report, read_report};
-use std::alloc::{AllocError, Global};
+use std::alloc::{AllocError, AllocFailed, Global};
 use std::io::Read;
 use std::rt::Runtime;
 use std::{fs, io};
@@ -29,6 +29,12 @@ impl From<AllocError> for Failure {
     }
 }
 
+impl<T: Drop> From<AllocFailed<T>> for Failure {
+    fn from(_refused: AllocFailed<T>) -> Failure {
+        Failure::Failed
+    }
+}
+
 impl From<io::Error> for Failure {
     fn from(_failed: io::Error) -> Failure {
         Failure::Failed
@@ -37,18 +43,22 @@ impl From<io::Error> for Failure {
 
 /// The report of the file with this name, or of standard input for `-`.
 pub fn report_of<R: Runtime + AllocGlobal>(rt: &R, name: &str) -> Result<Report, Failure> {
-    let alloc = rt.alloc();
-    let bytes = match bytes_of(rt, name) {
-        Ok(bytes) => bytes,
-        Err(error) => return Err(unreadable(alloc, &error, called(name))),
-    };
-    match read_report(alloc, bytes.as_slice()) {
+    let bytes = output_of(rt, name)?;
+    match read_report(rt.alloc(), bytes.as_slice()) {
         Ok(report) => Ok(report),
         Err(ReadError::Line(line)) => {
-            let name = String::from_str(alloc, called(name))?;
+            let name = String::from_str(rt.alloc(), called(name))?;
             Err(Failure::NoReport(name, line))
         }
         Err(ReadError::NoMemory) => Err(Failure::Failed),
+    }
+}
+
+/// The bytes of the file with this name, or of standard input for `-`.
+pub(crate) fn output_of<R: Runtime + AllocGlobal>(rt: &R, name: &str) -> Result<Vec<u8>, Failure> {
+    match bytes_of(rt, name) {
+        Ok(bytes) => Ok(bytes),
+        Err(error) => Err(unreadable(rt.alloc(), &error, called(name))),
     }
 }
 

@@ -92,6 +92,37 @@ holds @a {:Application ("~/a" 0) :Items ( {:PushButton 1 :OrigBoxSize 9 9} {:Pus
 :EventSource 4 :EventType IsSelected :LinkEffect (:Select(5) :Select(5) :Select(5) :Select(5) :Select(5) :Select(5)
 :Select(5) :Select(5) :Select(5) :Select(5)) } {:Link 15 :EventSource 5 :EventType IsSelected :LinkEffect (:Select(6)
 :Select(6) :Select(6) :Select(6) :Select(6) :Select(6) :Select(6) :Select(6) :Select(6) :Select(6)) } ) }
+=> V8 shown;;
+doublings
+holds @a {:Application ("~/a" 0) :Items ( {:BooleanVar 1 :OrigValue true } {:BooleanVar 2 :OrigValue true }
+{:BooleanVar 3 :OrigValue true } {:BooleanVar 4 :OrigValue true } {:BooleanVar 5 :OrigValue true } {:BooleanVar 6
+:OrigValue true } {:BooleanVar 7 :OrigValue true } {:BooleanVar 8 :OrigValue true } {:BooleanVar 9 :OrigValue true }
+{:BooleanVar 10 :OrigValue true } {:BooleanVar 11 :OrigValue true } {:BooleanVar 12 :OrigValue true } {:BooleanVar 13
+:OrigValue true } {:BooleanVar 14 :OrigValue true } {:BooleanVar 15 :OrigValue true } {:BooleanVar 16 :OrigValue true
+} {:BooleanVar 17 :OrigValue true } {:BooleanVar 18 :OrigValue true } {:BooleanVar 19 :OrigValue true } {:Link 101
+:EventSource 1 :EventType TestEvent :LinkEffect ( :TestVariable (2 1 :GBoolean true) :TestVariable (2 1 :GBoolean
+true) ) } {:Link 102 :EventSource 2 :EventType TestEvent :LinkEffect ( :TestVariable (3 1 :GBoolean true)
+:TestVariable (3 1 :GBoolean true) ) } {:Link 103 :EventSource 3 :EventType TestEvent :LinkEffect ( :TestVariable (4 1
+:GBoolean true) :TestVariable (4 1 :GBoolean true) ) } {:Link 104 :EventSource 4 :EventType TestEvent :LinkEffect (
+:TestVariable (5 1 :GBoolean true) :TestVariable (5 1 :GBoolean true) ) } {:Link 105 :EventSource 5 :EventType
+TestEvent :LinkEffect ( :TestVariable (6 1 :GBoolean true) :TestVariable (6 1 :GBoolean true) ) } {:Link 106
+:EventSource 6 :EventType TestEvent :LinkEffect ( :TestVariable (7 1 :GBoolean true) :TestVariable (7 1 :GBoolean
+true) ) } {:Link 107 :EventSource 7 :EventType TestEvent :LinkEffect ( :TestVariable (8 1 :GBoolean true)
+:TestVariable (8 1 :GBoolean true) ) } {:Link 108 :EventSource 8 :EventType TestEvent :LinkEffect ( :TestVariable (9 1
+:GBoolean true) :TestVariable (9 1 :GBoolean true) ) } {:Link 109 :EventSource 9 :EventType TestEvent :LinkEffect (
+:TestVariable (10 1 :GBoolean true) :TestVariable (10 1 :GBoolean true) ) } {:Link 110 :EventSource 10 :EventType
+TestEvent :LinkEffect ( :TestVariable (11 1 :GBoolean true) :TestVariable (11 1 :GBoolean true) ) } {:Link 111
+:EventSource 11 :EventType TestEvent :LinkEffect ( :TestVariable (12 1 :GBoolean true) :TestVariable (12 1 :GBoolean
+true) ) } {:Link 112 :EventSource 12 :EventType TestEvent :LinkEffect ( :TestVariable (13 1 :GBoolean true)
+:TestVariable (13 1 :GBoolean true) ) } {:Link 113 :EventSource 13 :EventType TestEvent :LinkEffect ( :TestVariable
+(14 1 :GBoolean true) :TestVariable (14 1 :GBoolean true) ) } {:Link 114 :EventSource 14 :EventType TestEvent
+:LinkEffect ( :TestVariable (15 1 :GBoolean true) :TestVariable (15 1 :GBoolean true) ) } {:Link 115 :EventSource 15
+:EventType TestEvent :LinkEffect ( :TestVariable (16 1 :GBoolean true) :TestVariable (16 1 :GBoolean true) ) } {:Link
+116 :EventSource 16 :EventType TestEvent :LinkEffect ( :TestVariable (17 1 :GBoolean true) :TestVariable (17 1
+:GBoolean true) ) } {:Link 117 :EventSource 17 :EventType TestEvent :LinkEffect ( :TestVariable (18 1 :GBoolean true)
+:TestVariable (18 1 :GBoolean true) ) } {:Link 118 :EventSource 18 :EventType TestEvent :LinkEffect ( :TestVariable
+(19 1 :GBoolean true) :TestVariable (19 1 :GBoolean true) ) } {:Link 119 :EventSource 0 :EventType IsRunning
+:LinkEffect ( :TestVariable (1 1 :GBoolean true) ) } ) }
 => V8 shown"#;
 
 /// What is wrong at a place.

@@ -80,6 +80,8 @@ mod octets;
 #[cfg(test)]
 mod page;
 #[cfg(test)]
+mod places;
+#[cfg(test)]
 mod plain;
 #[cfg(test)]
 mod playing;
@@ -121,6 +123,8 @@ mod visibles;
 mod vote;
 #[cfg(test)]
 mod whole;
+#[cfg(test)]
+mod why;
 #[cfg(test)]
 mod widgets;
 #[cfg(test)]

@@ -1,4 +1,4 @@
-use Rattle.std.specs.Prelude.{◌≡◌, true, map, Result, IfErr}
+use Rattle.std.specs.Prelude.{◌≡◌, true, map, IfErr}
 use Rattle.std.proofs.Common.{sym, subst}
 use Rattle.std.proofs.lemmas.Result.{err_from_is_err_and}
 use Rattle.clap.specs.Words.{takes}

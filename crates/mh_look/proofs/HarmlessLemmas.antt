@@ -1,0 +1,159 @@
+-- What is put of words, numbers, names and lines of files gives a terminal no order.
+use Rattle.std.specs.Prelude.{◌≡◌, ℕ, zero, suc, ◌+◌, ◌/◌, ◌%◌, ◌<◌, ◌==◌, Bool, true, false, ◌&&◌, ◌||◌, not, nat_le, nat_lt, if◌then◌else◌, List, [], ◌∷◌, ◌++◌, map, take, drop, replicate, codes, refl}
+use Rattle.std.specs.List.{flat_map, list_all}
+use Rattle.std.specs.Fmt.{digit_glyph, digits_onto, digits, decimal}
+use Rattle.std.proofs.Common.{ap, ◌∙◌, sym, arith}
+use Rattle.std.proofs.lemmas.Bool.{and_parts, and_from, lt-ltb, le-leb}
+use Rattle.std.proofs.lemmas.Bool.Decides.{nat_tests}
+use Rattle.std.proofs.lemmas.Grind.{flat_map-append}
+use Rattle.std.proofs.lemmas.List.Folds.{flat_map-map, list_all-append}
+use Rattle.std.proofs.lemmas.Str.{encode_ascii}
+use Rattle.bstr.specs.Text.{without_terminator}
+use Rattle.bstr.specs.Utf8.{lossy_chars}
+use Rattle.mh_told.specs.Printing.{character}
+use Rattle.mh_look.specs.Shown.{is_order, harmless}
+use Rattle.mh_look.specs.Places.{plain, is_shown, IsHarmless, Line, spaced, column, first_shown, shift, caret_count, line_at, shown_from_column, place_words, shown_line, caret_line, shown_at, shown_place, PlacesAreHarmless}
+
+or_true : (b : Bool) → (b || true) ≡ true
+or_true true = refl
+or_true false = refl
+
+-- what is put one behind the other
+pub harmless_append : (xs ys : List ℕ) → IsHarmless xs → IsHarmless ys → IsHarmless (xs ++ ys)
+harmless_append xs ys front behind = record {
+  characters = front.characters ++ behind.characters;
+  spelled =
+      ap (λ (zs : List ℕ). zs ++ ys) front.spelled ∙ ap (λ (zs : List ℕ). flat_map character front.characters ++ zs) behind.spelled
+      ∙ sym (flat_map-append character front.characters behind.characters);
+  shown = list_all-append is_shown front.characters behind.characters ∙ and_from _ _ front.shown behind.shown;
+}
+
+-- the same, as an operator that groups as `++` does
+infixl 65 ◌⌢◌
+pub ◌⌢◌ : {xs ys : List ℕ} → IsHarmless xs → IsHarmless ys → IsHarmless (xs ++ ys)
+◌⌢◌ {xs} {ys} front behind = harmless_append xs ys front behind
+
+-- Characters, each of which is replaced by one that is shown.
+
+all_shown : (f : ℕ → ℕ) → ((c : ℕ) → is_shown (f c) ≡ true) → (cs : List ℕ) → list_all is_shown (map f cs) ≡ true
+all_shown f each [] = refl
+all_shown f each (c ∷ cs) = and_from _ _ (each c) (all_shown f each cs)
+
+pub harmless_mapped : (f : ℕ → ℕ) → ((c : ℕ) → is_shown (f c) ≡ true) → (cs : List ℕ) → IsHarmless (flat_map (λ c. character (f c)) cs)
+harmless_mapped f each cs = record { characters = map f cs; spelled = sym (flat_map-map character f cs); shown = all_shown f each cs }
+
+pub harmless_is_shown : (c : ℕ) → is_shown (harmless c) ≡ true
+harmless_is_shown c = by (is_order c) refl
+  where
+    by : (b : Bool) → is_order c ≡ b → is_shown (if b then 65533 else c) ≡ true
+    by true is = refl
+    by false is = ap (λ (b : Bool). (c == 10) || not b) is ∙ or_true (c == 10)
+
+pub harmless_plain : (bs : List ℕ) → IsHarmless (plain bs)
+harmless_plain bs = harmless_mapped harmless harmless_is_shown (lossy_chars bs)
+
+-- Bytes that stand for themselves.
+
+-- a line feed, or a character of ASCII that is seen or is a space
+abbrev pub is_printable : ℕ → Bool
+is_printable b = b == 10 || nat_le 32 b && nat_lt b 127
+
+printable_low : (b : ℕ) → is_printable b ≡ true → b < 128
+printable_low b is = grind (arith, nat_tests)
+
+printable_is_shown : (b : ℕ) → is_printable b ≡ true → is_shown b ≡ true
+printable_is_shown b is = grind (arith, nat_tests)
+
+byte_spelled : (b : ℕ) → b < 128 → character b ≡ b ∷ []
+byte_spelled b low = rw (lt-ltb b 55296 (omega arith)) (encode_ascii b low)
+
+spelled : (bs : List ℕ) → list_all is_printable bs ≡ true → bs ≡ flat_map character bs
+spelled [] all = refl
+spelled (b ∷ bs) all =
+    let parts = and_parts (is_printable b) (list_all is_printable bs) all in
+    ap (λ (xs : List ℕ). b ∷ xs) (spelled bs parts.1) ∙ ap (λ (xs : List ℕ). xs ++ flat_map character bs) (sym (byte_spelled b (printable_low b parts.0)))
+
+printable_are_shown : (bs : List ℕ) → list_all is_printable bs ≡ true → list_all is_shown bs ≡ true
+printable_are_shown [] all = refl
+printable_are_shown (b ∷ bs) all =
+    let parts = and_parts (is_printable b) (list_all is_printable bs) all in
+    and_from _ _ (printable_is_shown b parts.0) (printable_are_shown bs parts.1)
+
+-- words that are fixed: `harmless_codes (codes "..") refl`
+pub harmless_codes : (bs : List ℕ) → list_all is_printable bs ≡ true → IsHarmless bs
+harmless_codes bs all = record { characters = bs; spelled = spelled bs all; shown = printable_are_shown bs all }
+
+all_repeated : (n b : ℕ) → is_printable b ≡ true → list_all is_printable (replicate n b) ≡ true
+all_repeated zero b is = refl
+all_repeated (suc n) b is = and_from _ _ is (all_repeated n b is)
+
+pub harmless_repeated : (n b : ℕ) → is_printable b ≡ true → IsHarmless (replicate n b)
+harmless_repeated n b is = harmless_codes (replicate n b) (all_repeated n b is)
+
+-- Numbers.
+
+digit_is_printable : (d : ℕ) → d < 10 → is_printable (digit_glyph false d) ≡ true
+digit_is_printable d low =
+    rw (lt-ltb d 10 low) (ap (λ (b : Bool). (48 + d == 10) || b) (and_from _ _ (le-leb 32 (48 + d) (omega arith)) (lt-ltb (48 + d) 127 (omega arith))) ∙ or_true (48 + d == 10))
+
+digits_are_printable : (k n : ℕ) (behind : List ℕ) → list_all is_printable behind ≡ true → list_all is_printable (digits_onto k 10 false n behind) ≡ true
+digits_are_printable zero n behind all = all
+digits_are_printable (suc k) n behind all = by (n / 10 == 0) more (digits_are_printable k (n / 10) (digit_glyph false (n % 10) ∷ behind) more)
+  where
+    more : list_all is_printable (digit_glyph false (n % 10) ∷ behind) ≡ true
+    more = and_from _ _ (digit_is_printable (n % 10) (omega arith)) all
+
+    by : (b : Bool) → list_all is_printable (digit_glyph false (n % 10) ∷ behind) ≡ true
+        → list_all is_printable (digits_onto k 10 false (n / 10) (digit_glyph false (n % 10) ∷ behind)) ≡ true
+        → list_all is_printable (if b then digit_glyph false (n % 10) ∷ behind else digits_onto k 10 false (n / 10) (digit_glyph false (n % 10) ∷ behind)) ≡ true
+    by true here there = here
+    by false here there = there
+
+decimal_is_printable : (n : ℕ) → list_all is_printable (decimal n) ≡ true
+unfolding digits
+decimal_is_printable n = digits_are_printable 64 n [] refl
+
+pub harmless_decimal : (n : ℕ) → IsHarmless (decimal n)
+harmless_decimal n = harmless_codes (decimal n) (decimal_is_printable n)
+
+-- Places.
+
+spaced_is_shown : (c : ℕ) → is_shown (spaced c) ≡ true
+spaced_is_shown c = by (c == 9)
+  where
+    by : (b : Bool) → is_shown (if b then 32 else harmless c) ≡ true
+    by true = refl
+    by false = harmless_is_shown c
+
+feed : IsHarmless (10 ∷ [])
+feed = harmless_codes (10 ∷ []) refl
+
+indent : IsHarmless (codes "      ")
+indent = harmless_codes (codes "      ") refl
+
+harmless_words : (name : List ℕ) (number at : ℕ) → IsHarmless (place_words name number at)
+unfolding place_words
+harmless_words name number at =
+    harmless_codes (codes "  ") refl ⌢ harmless_plain name ⌢ harmless_codes (codes ", line ") refl ⌢ harmless_decimal number ⌢ harmless_codes (codes ", column ") refl
+    ⌢ harmless_decimal (suc at) ⌢ feed
+
+harmless_from_column : (bs : List ℕ) (first : ℕ) → IsHarmless (shown_from_column bs first)
+unfolding shown_from_column
+harmless_from_column bs first = harmless_mapped spaced spaced_is_shown (take 70 (drop first (lossy_chars (without_terminator bs))))
+
+harmless_line : (bs : List ℕ) (first : ℕ) → IsHarmless (shown_line bs first)
+unfolding shown_line
+harmless_line bs first = indent ⌢ harmless_from_column bs first ⌢ feed
+
+harmless_carets : (spaces count : ℕ) → IsHarmless (caret_line spaces count)
+unfolding caret_line
+harmless_carets spaces count = indent ⌢ harmless_repeated spaces 32 refl ⌢ harmless_repeated count 94 refl ⌢ feed
+
+harmless_at : (name : List ℕ) (l : Line) (size : ℕ) → IsHarmless (shown_at name l size)
+unfolding shown_at
+harmless_at name l size =
+    harmless_words name l.number (column l) ⌢ harmless_line l.bytes (first_shown l) ⌢ harmless_carets (shift l) (caret_count l size)
+
+pub harmless_place : PlacesAreHarmless
+unfolding shown_place
+harmless_place name text offset size = harmless_at name (line_at text offset) size

@@ -1,0 +1,48 @@
+-- What is told of a number or a kind: the cause and the mend, as the tables of the code have them.
+use Rattle.std.specs.Prelude.{ℕ, zero, suc, Bool, List, [], ◌∷◌, ◌++◌, map, codes, Option}
+use Rattle.std.specs.Borrow.{Bor}
+use Rattle.std.specs.List.{find}
+use Rattle.std.specs.Option.{option_map_or}
+use Rattle.std.specs.Str.{bytes_eq}
+use Rattle.mh_look.specs.declared.advice.TheConstants as table
+
+-- the word that stands in a line, the cause, and the mend
+abbrev pub Row : Type 0
+Row = List (List ℕ)
+
+-- the cells of a row, as the code lends them
+abbrev pub cells : List (Bor (List ℕ)) → Row
+cells row = map (λ (x : Bor (List ℕ)). x.now) row
+
+unfoldable pub refusals : List Row
+refusals = map (λ row. map (λ x. x.now) row) table.REFUSALS
+
+unfoldable pub files : List Row
+files = map (λ row. map (λ x. x.now) row) table.FILES
+
+unfoldable pub services : List Row
+services = map (λ row. map (λ x. x.now) row) table.SERVICES
+
+unfoldable pub faults : List Row
+faults = map (λ row. map (λ x. x.now) row) table.FAULTS
+
+unfoldable pub readings : List Row
+readings = map (λ row. map (λ x. x.now) row) table.READINGS
+
+abbrev pub cell : Row → ℕ → List ℕ
+cell [] n = []
+cell (x ∷ xs) zero = x
+cell (x ∷ xs) (suc n) = cell xs n
+
+abbrev pub has_word : List ℕ → Row → Bool
+has_word word row = bytes_eq (cell row 0) word
+
+abbrev pub row_with : List Row → List ℕ → Option Row
+row_with rows word = find (has_word word) rows
+
+unfoldable pub row_text : Row → List ℕ
+row_text row = codes "  Cause: " ++ cell row 1 ++ codes ".\n  Mend: " ++ cell row 2 ++ codes ".\n"
+
+-- what is told of the word, if something is
+abbrev pub advice : List Row → List ℕ → List ℕ
+advice rows word = option_map_or row_text (row_with rows word) []

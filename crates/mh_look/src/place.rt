@@ -1,0 +1,205 @@
+//! What an author is shown of a place in a file: the file, the line and the column, the line itself,
+//! and carets under what is meant.
+//!
+//! What stands in the file never tells the terminal what to do: each character that would is shown
+//! as U+FFFD.
+ghost use Rattle.std.specs.Prelude.{◌≡◌, ◌≤◌, ◌<◌, ◌^◌, ◌++◌, OnOk, IfOk, length, take, replicate};
+ghost use Rattle.bstr.specs.Text.{without_terminator};
+ghost use Rattle.bstr.specs.Utf8.{lossy_chars};
+ghost use Rattle.mh_look.specs.Places.{plain, PlacesAreHarmless, line_at, spaced, shown_from_column, place_words, shown_line, caret_line, shown_at, shown_place};
+
+use crate::show::{harmless, put_character};
+use bstr::ByteSlice;
+use mh_told::text::Text;
+use std::alloc::{AllocError, Global};
+
+/// How many characters of a line are shown.
+const WIDTH: usize = 70;
+
+/// How many characters of a line are shown before what is meant.
+const MARGIN: usize = 40;
+
+/// What is shown of so many bytes behind so many others of a file of this name.
+pub fn place_text(
+    alloc: Global,
+    name: &[u8],
+    bytes: &[u8],
+    offset: usize,
+    size: usize,
+) -> Result<Text, AllocError>
+    ensures { IfOk result (λ text. text ≡ shown_place name.now bytes.now offset size) }
+{
+    let mut text = Text::new(alloc);
+    put_place(&mut text, name, bytes, offset, size)?;
+    Ok(text)
+}
+
+/// No place in a file, whatever its bytes and its name are, is shown by a text that gives a terminal
+/// an order.
+pub fn places_are_harmless()
+    ensures { PlacesAreHarmless }
+{}
+
+/// Puts bytes as text that gives a terminal no order: what is of no character is U+FFFD, and so is
+/// an order.
+pub(crate) fn put_plain(text: &mut Text, bytes: &[u8]) -> Result<(), AllocError>
+    ensures { OnOk result (text.new ≡ text.old ++ plain bytes.now) }
+{
+    for character in bytes.chars() {
+        put_character(text, harmless(character as u32))?;
+    }
+    Ok(())
+}
+
+/// Puts where so many bytes stand in a file of this name behind so many others: the line and the
+/// column, from 1 on, the line itself, and carets.
+#[tactic(auto, unfolding(crate::specs::Places::shown_place))]
+pub(crate) fn put_place(
+    text: &mut Text,
+    name: &[u8],
+    bytes: &[u8],
+    offset: usize,
+    size: usize,
+) -> Result<(), AllocError>
+    ensures { OnOk result (text.new ≡ text.old ++ shown_place name.now bytes.now offset size) }
+{
+    let (number, line, before) = line_at(bytes, offset);
+    put_in_line(text, name, number, line, before, size)
+}
+
+/// The line in which so many bytes stand before what is meant: its number, the line, and how many of
+/// those bytes are its own. The end of the bytes belongs to the last line.
+fn line_at(bytes: &[u8], offset: usize) -> (u64, &[u8], usize)
+    ensures exact { record { number = result.0; bytes = result.1.now; before = result.2 } ≡ line_at bytes.now offset }
+    ensures within { result.2 ≤ length result.1.now }
+{
+    let mut number = 0;
+    let mut line: &[u8] = &[];
+    let mut before = offset;
+    for next in bytes.lines_with_terminator() {
+        if before < line.len() {
+            return (number, line, before);
+        }
+        before -= line.len();
+        line = next;
+        number += 1;
+    }
+    (
+        number.max(1),
+        line,
+        before.min(without_terminator(line).len()),
+    )
+}
+
+/// Puts the place of so many bytes of a line.
+#[tactic(auto, unfolding(crate::specs::Places::shown_at))]
+fn put_in_line(
+    text: &mut Text,
+    name: &[u8],
+    number: u64,
+    line: &[u8],
+    before: usize,
+    size: usize,
+) -> Result<(), AllocError>
+    requires { before ≤ length line.now }
+    ensures { OnOk result (text.new ≡ text.old ++ shown_at name.now (record { number = number; bytes = line.now; before = before }) size) }
+{
+    let column = characters_in(&line[..before]);
+    let first = column.saturating_sub(MARGIN);
+    put_words(text, name, number, column)?;
+    put_line(text, line, first)?;
+    let shift = column - first;
+    let count = characters_in_front(&line[before..], size);
+    put_carets(text, shift, count.min(WIDTH - shift).max(1))
+}
+
+/// How many characters there are in so many bytes at the front, or in all where there are fewer.
+fn characters_in_front(bytes: &[u8], size: usize) -> usize
+    ensures { result ≡ length (lossy_chars (take size bytes.now)) }
+{
+    characters_in(bytes.get(..size).unwrap_or(bytes))
+}
+
+fn characters_in(bytes: &[u8]) -> usize
+    ensures exact { result ≡ length (lossy_chars bytes.now) }
+    ensures within { result ≤ length bytes.now }
+{
+    bytes.chars().count()
+}
+
+/// Puts the file, the line and the column.
+#[tactic(auto, unfolding(crate::specs::Places::place_words))]
+fn put_words(text: &mut Text, name: &[u8], number: u64, column: usize) -> Result<(), AllocError>
+    requires { column < 2 ^ 63 }
+    ensures { OnOk result (text.new ≡ text.old ++ place_words name.now number column) }
+{
+    text.put(b"  ")?;
+    put_plain(text, name)?;
+    text.put(b", line ")?;
+    text.put_number(number)?;
+    text.put(b", column ")?;
+    text.put_number(column as u64 + 1)?;
+    text.put(b"\n")
+}
+
+/// Puts a line from so many characters on.
+#[tactic(auto, unfolding(crate::specs::Places::shown_line))]
+fn put_line(text: &mut Text, line: &[u8], first: usize) -> Result<(), AllocError>
+    ensures { OnOk result (text.new ≡ text.old ++ shown_line line.now first) }
+{
+    text.put(b"      ")?;
+    put_from_column(text, line, first)?;
+    text.put(b"\n")
+}
+
+/// Puts the characters of a line that are shown.
+#[tactic(auto, unfolding(crate::specs::Places::shown_from_column))]
+fn put_from_column(text: &mut Text, line: &[u8], first: usize) -> Result<(), AllocError>
+    ensures { OnOk result (text.new ≡ text.old ++ shown_from_column line.now first) }
+{
+    for character in without_terminator(line).chars().skip(first).take(WIDTH) {
+        put_character(text, spaced(character as u32))?;
+    }
+    Ok(())
+}
+
+/// The character that is shown for one of a line: a space for a tab.
+fn spaced(scalar: u32) -> u32
+    ensures { result ≡ spaced scalar }
+{
+    match scalar {
+        9 => 32,
+        _ => harmless(scalar),
+    }
+}
+
+/// A line without its line feed and a carriage return before it.
+fn without_terminator(line: &[u8]) -> &[u8]
+    ensures { result.now ≡ without_terminator line.now }
+{
+    match line {
+        [front @ .., b'\r', b'\n'] | [front @ .., b'\n'] => front,
+        _ => line,
+    }
+}
+
+/// Puts carets, behind so many spaces.
+#[tactic(auto, unfolding(crate::specs::Places::caret_line))]
+fn put_carets(text: &mut Text, shift: usize, count: usize) -> Result<(), AllocError>
+    ensures { OnOk result (text.new ≡ text.old ++ caret_line shift count) }
+{
+    text.put(b"      ")?;
+    put_repeated(text, b' ', shift)?;
+    put_repeated(text, b'^', count)?;
+    text.put(b"\n")
+}
+
+/// Puts a byte so many times.
+fn put_repeated(text: &mut Text, byte: u8, count: usize) -> Result<(), AllocError>
+    ensures { OnOk result (text.new ≡ text.old ++ replicate count byte) }
+{
+    for _ in 0..count {
+        text.put_byte(byte)?;
+    }
+    Ok(())
+}

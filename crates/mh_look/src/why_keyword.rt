@@ -1,0 +1,60 @@
+//! The first words of the lines that are explained.
+ghost use Rattle.std.specs.Prelude.{◌≡◌};
+ghost use Rattle.mh_look.specs.Why.{keyword_word, keyword_of};
+
+/// The first word of a line that is explained.
+#[derive(Clone, Copy)]
+pub(crate) enum Keyword {
+    Accepted,
+    Refused,
+    Config,
+    Object,
+    By,
+    Cause,
+    File,
+    Service,
+    Script,
+    Read,
+    Fault,
+}
+
+static KEYWORDS: [Keyword; 11] = [
+    Keyword::Accepted,
+    Keyword::Refused,
+    Keyword::Config,
+    Keyword::Object,
+    Keyword::By,
+    Keyword::Cause,
+    Keyword::File,
+    Keyword::Service,
+    Keyword::Script,
+    Keyword::Read,
+    Keyword::Fault,
+];
+
+impl Keyword {
+    fn word(self) -> &'static [u8]
+        ensures { result.now ≡ keyword_word self }
+    {
+        match self {
+            Keyword::Accepted => b"accepted",
+            Keyword::Refused => b"refused",
+            Keyword::Config => b"config",
+            Keyword::Object => b"object",
+            Keyword::By => b"by",
+            Keyword::Cause => b"cause",
+            Keyword::File => b"file",
+            Keyword::Service => b"service",
+            Keyword::Script => b"script",
+            Keyword::Read => b"read",
+            Keyword::Fault => b"fault",
+        }
+    }
+
+    /// The keyword that is this word, if it is one.
+    pub(crate) fn of_word(word: &[u8]) -> Option<Keyword>
+        ensures { result ≡ keyword_of word.now }
+    {
+        KEYWORDS.iter().copied().find(|x| x.word() == word)
+    }
+}

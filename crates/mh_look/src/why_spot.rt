@@ -1,0 +1,94 @@
+//! What a line names: an action of an object, or the object alone.
+ghost use Rattle.std.specs.Prelude.{◌≡◌, ◌++◌, OnOk};
+ghost use Rattle.mh_look.specs.Why.{spot, object_words, action_words, shown_spot};
+
+use crate::place::put_plain;
+use crate::why_source::{Source, put_action};
+use crate::why_words::{before_last, last_word};
+use mh_told::text::Text;
+use std::alloc::AllocError;
+use std::marker::Model;
+
+/// What a line names: a group, and two numbers behind it.
+#[derive(Drop)]
+pub(crate) struct Spot<'a> {
+    group: &'a [u8],
+    /// Mostly the number of an object.
+    object: &'a [u8],
+    /// Mostly the number of an action.
+    index: &'a [u8],
+}
+
+impl<'a> Model for Spot<'a> {
+    ghost use Rattle.mh_look.specs.Why.{Spot};
+
+    ghost Value = { Spot };
+
+    ghost view = { λ s. record { group = s.group.now; object = s.object.now; index = s.index.now } };
+}
+
+impl<'a> Spot<'a> {
+    /// What the words name.
+    pub(crate) fn of_words(words: &'a [u8]) -> Spot<'a>
+        ensures { result ≡ spot words.now }
+    {
+        let front = before_last(words);
+        Spot {
+            group: before_last(front),
+            object: last_word(front),
+            index: last_word(words),
+        }
+    }
+
+    pub(crate) fn group(&self) -> &'a [u8]
+        ensures { result.now ≡ self.now.group }
+    {
+        self.group
+    }
+
+    pub(crate) fn object(&self) -> &'a [u8]
+        ensures { result.now ≡ self.now.object }
+    {
+        self.object
+    }
+
+    pub(crate) fn index(&self) -> &'a [u8]
+        ensures { result.now ≡ self.now.index }
+    {
+        self.index
+    }
+
+    pub(crate) fn put_object(&self, text: &mut Text) -> Result<(), AllocError>
+        ensures { OnOk result (text.new ≡ text.old ++ object_words self.now.group self.now.object) }
+    {
+        put_object(text, self.group, self.object)
+    }
+
+    #[tactic(auto, unfolding(crate::specs::Why::action_words))]
+    pub(crate) fn put_action(&self, text: &mut Text) -> Result<(), AllocError>
+        ensures { OnOk result (text.new ≡ text.old ++ action_words self.now) }
+    {
+        text.put(b"action ")?;
+        put_plain(text, self.index)?;
+        text.put(b" of ")?;
+        self.put_object(text)
+    }
+
+    /// Puts where the action or the members stand.
+    pub(crate) fn put_shown(&self, text: &mut Text, sources: &[Source]) -> Result<(), AllocError>
+        ensures { OnOk result (text.new ≡ text.old ++ shown_spot sources.now self.now) }
+    {
+        put_action(text, sources, self.group, self.object, self.index)
+    }
+}
+
+/// Puts an object by its group and its number.
+#[tactic(auto, unfolding(crate::specs::Why::object_words))]
+pub(crate) fn put_object(text: &mut Text, group: &[u8], number: &[u8]) -> Result<(), AllocError>
+    ensures { OnOk result (text.new ≡ text.old ++ object_words group.now number.now) }
+{
+    text.put(b"object ")?;
+    put_plain(text, number)?;
+    text.put(b" of ")?;
+    put_plain(text, group)
+}
