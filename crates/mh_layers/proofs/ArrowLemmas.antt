@@ -47,9 +47,8 @@ use Rattle.mh_layers.specs.Granting.{held_for, with_items}
 use Rattle.mh_layers.specs.Keys.{data_of}
 use Rattle.mh_layers.specs.Listening.{source_of, type_of}
 use Rattle.mh_layers.specs.Reading.{IsReading, Reading, flow_read, heard_read}
-use Rattle.mh_layers.specs.Standings.{cause_named}
-use Rattle.mh_layers.specs.Trails.{IsArrowFor, IsArrowOf, IsStep, LeadsTo, effect_named}
-use Rattle.mh_layers.specs.Web.{effect_number}
+use Rattle.mh_layers.specs.Standings.{effect_named}
+use Rattle.mh_layers.specs.Trails.{IsArrowFor, IsArrowOf, IsStep, LeadsTo}
 use Rattle.mh_layers.proofs.CausingLemmas.{tested}
 use Rattle.mh_layers.proofs.DeedLemmas.{deed_counts}
 use Rattle.mh_layers.proofs.FocusLemmas.{counts_put, focused}
@@ -140,11 +139,7 @@ present_at ps p n j a there active at =
 
 -- An arrow
 
-same_cause : (r : Reading) (k : NodeKey) (x : Effect) → k ≡ effect_number r x → cause_named r k ≡ cause_of r.service (effect_named r k)
-same_cause r (key.Effect c o n) x e = refl
-same_cause r _ x e = absurd cc
-
-number_named : (r : Reading) (k : NodeKey) → (effect_named r k).number ≡ number_in k
+pub number_named : (r : Reading) (k : NodeKey) → (effect_named r k).number ≡ number_in k
 number_named r (key.Effect c o n) = refl
 number_named r _ = refl
 
@@ -224,9 +219,9 @@ is_arrow_for r read x y on_x on_y first leads part aim at aim_at d doing a cause
         (subst (λ (h : List Held). counts y (act r.service (put_flow r.service x.config y.config h d.act) x.config d.act) ≡ true) (sym held) by_all)
 
 pub is_arrow : (r : Reading) → IsReading r → (from first to : NodeKey) → IsStep r from first to → (part aim : Fixed) → part_at (effect_named r from).object (present r.service (effect_named r from).config) ≡ Some part
-    → part_at (effect_named r to).object (present r.service (effect_named r to).config) ≡ Some aim → (d : Doing) → IsDoing r (effect_named r from).config (effect_at part (number_in from)) first d → (a : Arrow) → a.cause ≡ cause_named r from → a.index ≡ a.cause.index + d.offset → a.action ≡ d.act.name
+    → part_at (effect_named r to).object (present r.service (effect_named r to).config) ≡ Some aim → (d : Doing) → IsDoing r (effect_named r from).config (effect_at part (number_in from)) first d → (a : Arrow) → a.cause ≡ cause_of r.service (effect_named r from) → a.index ≡ a.cause.index + d.offset → a.action ≡ d.act.name
     → a.held ≡ held_for r.service (flow_read r) (effect_named r from).config d.act d.at (source_of aim) → number_by a.by ≡ number_in to → is_waited_for a.by aim ≡ true → IsArrowOf r from to a
 is_arrow r read from first to step part aim at aim_at d doing a cause index action held number waits =
     is_arrow_for r read (effect_named r from) (effect_named r to) step.from_on step.to_on first step.onward part aim at aim_at d
     (subst (λ (n : ℕ). IsDoing r (effect_named r from).config (effect_at part n) first d) (sym (number_named r from)) doing) a
-    (cause ∙ same_cause r from (effect_named r from) step.from_number) index action held (number ∙ sym (number_named r to)) waits
+    cause index action held (number ∙ sym (number_named r to)) waits

@@ -146,7 +146,7 @@ price_counts v w h read y n k q a there below =
     counts_so v w h k y found.0 found.1 found.2 (λ other. below found.0 other low found.2)
 
 -- a key counts what it stands for
-stands_counts : (v : Service) (w : Flow) (h : Heard) (read : IsRead v w h) (y : costs.Effect) (b : ℕ) (k : Key) → is_effect k ≡ false → IsKept v w h k → level k < b → StandsFor v w y k → Counts v w h k (key_of y)
+pub stands_counts : (v : Service) (w : Flow) (h : Heard) (read : IsRead v w h) (y : costs.Effect) (b : ℕ) (k : Key) → is_effect k ≡ false → IsKept v w h k → level k < b → StandsFor v w y k → Counts v w h k (key_of y)
 stands_counts v w h read y zero k other kept less there = absurd (omega (arith, less))
 stands_counts v w h read y (suc b) k other kept less there =
     price_counts v w h read y (level k) k (stands_for v w k) (key_agrees (tested v w h read y) k (other_is k other) kept) there

@@ -37,7 +37,7 @@ known_also f g (Most p q) c more e =
     let h = parts_known _ (known_worth f p) (known_worth f q) c e in
     (λ i. larger (known_also f g p h.0 more h.2 i) (known_also f g q h.1 more h.3 i)) ∙ ap Ok h.4
 
-told_some : {K : Type 0} (k : K) (o : Option ℕ) (c : ℕ) → told_of k o ≡ Ok c → o ≡ Some c
+pub told_some : {K : Type 0} (k : K) (o : Option ℕ) (c : ℕ) → told_of k o ≡ Ok c → o ≡ Some c
 told_some k (Some a) c e = let same : a ≡ c = cc in ap Some same
 told_some k None c e = absurd cc
 

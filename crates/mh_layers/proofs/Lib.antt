@@ -51,3 +51,10 @@ pub mod TrailLemmas
 pub mod DeedLemmas
 pub mod GrantLemmas
 pub mod ArrowLemmas
+pub mod CausedLemmas
+pub mod DearestLemmas
+pub mod StageLemmas
+pub mod WayLemmas
+pub mod DoingLemmas
+pub mod NamingLemmas
+pub mod ActiveLemmas

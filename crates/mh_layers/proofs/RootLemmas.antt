@@ -35,16 +35,16 @@ start_reached r read = read.flow.least.solution.start
 
 -- What is among the roots
 
-starts_rooted : (r : Reading) → Among (root_keys r) (number r (Taken (starting r.service) kind.Start))
+pub starts_rooted : (r : Reading) → Among (root_keys r) (number r (Taken (starting r.service) kind.Start))
 starts_rooted r = inl refl
 
-input_rooted : (r : Reading) (c : Config) (k : InputKind) → Among (flow_read r).configs c → Among kinds k → Among (root_keys r) (number r (Taken c k))
+pub input_rooted : (r : Reading) (c : Config) (k : InputKind) → Among (flow_read r).configs c → Among kinds k → Among (root_keys r) (number r (Taken c k))
 input_rooted r c k there one =
     inr (among_left (flat_map (input_keys r) (flow_read r).configs) (active_keys r) (number r (Taken c k))
     (among_joined (input_keys r) (flow_read r).configs c (number r (Taken c k)) there
     (among_mapped (λ (j : InputKind). number r (Taken c j)) kinds k one)))
 
-active_rooted : (r : Reading) (k : NodeKey) → Among (active_keys r) k → Among (root_keys r) k
+pub active_rooted : (r : Reading) (k : NodeKey) → Among (active_keys r) k → Among (root_keys r) k
 active_rooted r k there = inr (among_right (flat_map (input_keys r) (flow_read r).configs) (active_keys r) k there)
 
 -- all of them are kept
@@ -86,7 +86,7 @@ from_nothing : (m : ℕ) → min (max 0 m) top ≡ min m top
 from_nothing m = omega arith
 
 -- what is laid of an input is what it costs, cut
-taken_cut : (r : Reading) → IsReading r → (ts : Places) → AreLayers (price r) (kept r) ts → (cost : costs.Costing) → IsCost r.service (flow_read r) cost → (c : Config) → reached (flow_read r) c ≡ true → (k : InputKind)
+pub taken_cut : (r : Reading) → IsReading r → (ts : Places) → AreLayers (price r) (kept r) ts → (cost : costs.Costing) → IsCost r.service (flow_read r) cost → (c : Config) → reached (flow_read r) c ≡ true → (k : InputKind)
     → is_laid ts (number r (Taken c k)) ≡ true → taken_laid r ts k c ≡ min (worth cost (takes r.service (flow_read r) c k)) top
 unfolding taken_laid
 taken_cut r read ts layers cost is c met k laid = ap or_nothing (taken_exact r read ts layers cost is c met k laid)

@@ -1,6 +1,6 @@
 -- A cycle of the web parted at its effects: its stretches are steps, and arrows of such go round.
 use Rattle.std.specs.Prelude.{◌≡◌, ◌⊎◌, ◌<◌, ◌≤◌, ◌+◌, ℕ, Bool, true, false, ◌&&◌, not, if◌then◌else◌, List, [], ◌∷◌, ◌++◌, flat_map, get_or, length, map, slice_get, take, unwrap_or, Option, Some, None, refl}
-use Rattle.std.specs.List.{Contains, cons_option, list_any}
+use Rattle.std.specs.List.{cons_option, list_any}
 use Rattle.std.specs.Option.{option_map_or}
 use Rattle.std.proofs.Common.{inl, inr, ap, ◌∙◌, sym, subst, true≢false}
 use Rattle.std.proofs.lemmas.List.{length-map, map-append, take_all, take_more}
@@ -17,7 +17,7 @@ use Rattle.mh_laws.specs.Costs as costs
 use Rattle.mh_laws.specs.Costs.{act}
 use Rattle.mh_laws.specs.Each.{Among, Each}
 use Rattle.mh_laws.specs.Flow.{Flow}
-use Rattle.mh_laws.specs.Layers.{IsOn}
+use Rattle.mh_laws.specs.Layers.{Causes, IsOn}
 use Rattle.mh_laws.specs.Price.{counted_in}
 use Rattle.mh_laws.proofs.EachLemmas.{each_among, from_mapped, got_among}
 use Rattle.mh_flow.specs.Sites.{sites_of}
@@ -37,20 +37,20 @@ use Rattle.mh_layers.specs.Keys.{IsMet}
 use Rattle.mh_layers.specs.Layered.{active_keys}
 use Rattle.mh_layers.specs.Layering.{AreLayers, Places, is_laid}
 use Rattle.mh_layers.specs.Reading.{IsReading, Reading, flow_read, heard_read, kept, name, number, price, price_read}
-use Rattle.mh_layers.specs.Standings.{cause_named, label_in, node_in}
+use Rattle.mh_layers.specs.Standings.{cause_named, effect_named, label_in, node_in}
 use Rattle.mh_layers.specs.Stretches.{AreArrowsOf, IsStretch, is_effect_key, keys_along, stretches}
-use Rattle.mh_layers.specs.Trails.{IsArrowFor, IsArrowOf, IsStep, effect_named}
+use Rattle.mh_layers.specs.Trails.{IsActive, IsArrowFor, IsArrowOf, IsStep, LeadsTo}
 use Rattle.mh_layers.specs.Walk.{AreBest, IsBest, IsWebOf, causes_along, unlaid}
 use Rattle.mh_layers.specs.Web.{IsWeb, counted, effect_number, effects_along, if_effect}
 use Rattle.mh_layers.proofs.BridgeLemmas.{met_kept}
-use Rattle.mh_layers.proofs.CausingLemmas.{counted_met}
+use Rattle.mh_layers.proofs.CausingLemmas.{counted_met, keys_cause}
 use Rattle.mh_layers.proofs.ChainLemmas.{counts_more}
 use Rattle.mh_layers.proofs.GraphLemmas.{node_found}
 use Rattle.mh_layers.proofs.LayeredLemmas.{listed_on}
 use Rattle.mh_layers.proofs.ReadingLemmas.{numbers_are_names}
 use Rattle.mh_layers.proofs.ServeLemmas.{read_of}
 use Rattle.mh_layers.proofs.WalkLemmas.{causes_effects, from_filtered, named_back, some_of, take_whole}
-use Rattle.mh_layers.proofs.WebLemmas.{counted_numbered}
+use Rattle.mh_layers.proofs.WebLemmas.{Kept, active_kept, counted_numbered}
 
 -- KEYS ONE BEHIND THE OTHER
 
@@ -112,11 +112,6 @@ same_test r k = refl
 name_of_effect : (r : Reading) (k : NodeKey) → is_effect_key k ≡ true → name r k ≡ key_of (effect_named r k)
 name_of_effect r (key.Effect c o n) e = refl
 name_of_effect r k e = absurd (true≢false (sym e))
-
--- the key is that of an active effect
-pub record IsActive (r : Reading) (k : NodeKey) : Type 0 where
-  pub own : k ≡ effect_number r (effect_named r k)
-  pub on : IsOn r.service (flow_read r) (effect_named r k)
 
 active_next : (r : Reading) (k j : NodeKey) → Follows r k j → is_effect_key j ≡ true → IsActive r j
 active_next r k (key.Effect c o n) next e = record { own = sym next.back; on = next.met.0 }
@@ -210,6 +205,28 @@ ways_round r read ks label g web n k at active p chain =
     let goes = chain_goes r ks label g web n k at p n chain in
     let last : goes.0 ≡ k = some_same (sym goes.1 ∙ at) in
     ways_of r read k active None k (web.kept n k at) refl (keys_along ks p) k (ap is_effect_key active.own) (subst (λ (z : NodeKey). Goes r k (keys_along ks p) z) last goes.2)
+
+-- THE FIRST EFFECT OF A STEP CAUSES THE LAST
+
+pub step_causes : (r : Reading) → IsReading r → (from first to : NodeKey) → IsStep r from first to → Causes r.service (flow_read r) (effect_named r from) (effect_named r to)
+step_causes r read from first to step =
+    (keys_cause r.service (flow_read r) (heard_read r) (read_of r read) (effect_named r from) step.from_on).causes (effect_named r to) (by step.onward)
+  where
+    own : name r from ≡ key_of (effect_named r from)
+    own = name_of_effect r from (ap is_effect_key step.from_number)
+
+    next : Follows r from first
+    next = follows r read from first (subst (Kept r) (sym own) (active_kept r read (effect_named r from) step.from_on)) step.counted
+
+    there : Among (counted_in (price_read r (key_of (effect_named r from)))) (name r first)
+    there = subst (λ (k : Key). Among (counted_in (price_read r k)) (name r first)) own next.counts
+
+    by : LeadsTo r first (effect_named r to) → Counts r.service (flow_read r) (heard_read r) (key_of (effect_named r from)) (key_of (effect_named r to))
+    by (inl same) =
+        causing.once (key_of (effect_named r from)) (key_of (effect_named r to))
+        (subst (λ (k : Key). Among (counted_in (price_read r (key_of (effect_named r from)))) k)
+        (ap (name r) same ∙ (numbers_are_names r read).back (key_of (effect_named r to)) (active_kept r read (effect_named r to) step.to_on)) there)
+    by (inr more) = causing.onward (key_of (effect_named r from)) (name r first) (key_of (effect_named r to)) there more.0 more.1
 
 -- CAUSES
 

@@ -56,10 +56,10 @@ less_of Less e = refl
 less_of Equal e = absurd cc
 less_of Greater e = absurd cc
 
-before_none : (x : Cause) → is_lt (by_standing x x) ≡ true → ⊥
+pub before_none : (x : Cause) → is_lt (by_standing x x) ≡ true → ⊥
 before_none x e = true≢false (sym e ∙ ap is_lt (tied_itself cause_total x))
 
-before_on : (x y z : Cause) → is_lt (by_standing x y) ≡ true → is_lt (by_standing y z) ≡ true → is_lt (by_standing x z) ≡ true
+pub before_on : (x y z : Cause) → is_lt (by_standing x y) ≡ true → is_lt (by_standing y z) ≡ true → is_lt (by_standing x z) ≡ true
 before_on x y z e f = ap is_lt (cause_total.trans x y z (less_of (by_standing x y) e) (less_of (by_standing y z) f))
 
 -- ONE MORE KEY
@@ -67,7 +67,7 @@ before_on x y z e f = ap is_lt (cause_total.trans x y z (less_of (by_standing x 
 abbrev comes_first : Cause → Option Best → Bool
 comes_first x best = option_map_or (λ (b : Best). is_lt (by_standing x b.cause)) best true
 
-behind_one : {P : NodeKey → Type 0} (seen : List NodeKey) (k : NodeKey) → ((j : NodeKey) → Among seen j → P j) → P k → (j : NodeKey) → Among (seen ++ k ∷ []) j → P j
+pub behind_one : {P : NodeKey → Type 0} (seen : List NodeKey) (k : NodeKey) → ((j : NodeKey) → Among seen j → P j) → P k → (j : NodeKey) → Among (seen ++ k ∷ []) j → P j
 behind_one {P} seen k all own j there = by (among_either seen (k ∷ []) j there)
   where
     by : Among seen j ⊎ Among (k ∷ []) j → P j

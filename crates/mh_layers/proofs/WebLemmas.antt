@@ -67,11 +67,11 @@ numbers_counted r read k kept =
     counted_numbered (number r) (price_read r (name r (number r k)))
     ∙ ap (λ (j : Key). map (number r) (counted_in (price_read r j))) ((numbers_are_names r read).back k kept)
 
-counts_number : (r : Reading) → IsReading r → (k : Key) → Kept r k → (j : Key) → Counted r k j → Among (counted r (number r k)) (number r j)
+pub counts_number : (r : Reading) → IsReading r → (k : Key) → Kept r k → (j : Key) → Counted r k j → Among (counted r (number r k)) (number r j)
 counts_number r read k kept j there =
     subst (λ (ns : List NodeKey). Among ns (number r j)) (sym (numbers_counted r read k kept)) (among_mapped (number r) (counted_in (price_read r k)) j there)
 
-number_counts : (r : Reading) → IsReading r → (k : Key) → Kept r k → (n : NodeKey) → Among (counted r (number r k)) n → (j : Key) × Counted r k j × (number r j ≡ n)
+pub number_counts : (r : Reading) → IsReading r → (k : Key) → Kept r k → (n : NodeKey) → Among (counted r (number r k)) n → (j : Key) × Counted r k j × (number r j ≡ n)
 number_counts r read k kept n there =
     from_mapped (number r) (counted_in (price_read r k)) n (subst (λ (ns : List NodeKey). Among ns n) (numbers_counted r read k kept) there)
 

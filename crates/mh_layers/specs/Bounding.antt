@@ -1,5 +1,5 @@
 -- Bounds by kinds of input.
-use Rattle.std.specs.Prelude.{◌≡◌, ◌<◌, ◌≤◌, ℕ, min, Bool, true, false}
+use Rattle.std.specs.Prelude.{◌≡◌, ◌<◌, ◌≤◌, ℕ, min, Bool, true, false, List, codes}
 use Rattle.mh_laws.specs.Budget.{Bounds}
 use Rattle.mh_layers.specs.declared.bounds.InputKind.{InputKind}
 use Rattle.mh_layers.specs.declared.bounds.InputKind.TheVariants as kind
@@ -12,6 +12,15 @@ bound_by b kind.Tick = b.tick
 bound_by b kind.Stream = b.stream
 bound_by b kind.Engine = b.engine
 bound_by b kind.Arrive = b.arrive
+
+-- the words by which kinds are told
+abbrev pub kind_word : InputKind → List ℕ
+kind_word kind.Start = codes "start"
+kind_word kind.Key = codes "key"
+kind_word kind.Tick = codes "tick"
+kind_word kind.Stream = codes "stream"
+kind_word kind.Engine = codes "engine"
+kind_word kind.Arrive = codes "arrive"
 
 -- bounds as 64 bits can tell them
 abbrev pub capped : Bounds → Bounds

@@ -64,3 +64,11 @@ pub record IsDoing (r : Reading) (c : Config) (acts : List Act) (k : NodeKey) (d
   pub place : slice_get acts d.offset ≡ Some d.act
   pub target : Among (targets (flow_read r) c d.act.target) d.at
   pub counts : CountsKey (deed_of r c d.act d.at) k
+
+-- no action does so
+pub record NoDoing (r : Reading) (c : Config) (acts : List Act) (k : NodeKey) : Type 0 where
+  pub none : (d : Doing) → IsDoing r c acts k d → ⊥
+
+-- the action counts the key done to none of these objects
+pub record NoneCounts (r : Reading) (c : Config) (a : Act) (ts : List ObjRef) (k : NodeKey) : Type 0 where
+  pub none : (t : ObjRef) → Among ts t → CountsKey (deed_of r c a t) k → ⊥

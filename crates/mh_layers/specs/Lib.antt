@@ -28,3 +28,7 @@ pub mod Trails
 pub mod Stretches
 pub mod Deeds
 pub mod Granting
+pub mod Dearest
+pub mod Caused
+pub mod Choosing
+pub mod Staging

@@ -80,6 +80,10 @@ ear_with os r kind = option_map (λ n. ear_at n kind) (position (same_key r) os)
 abbrev pub type_of : Fixed → Option EventType
 type_of p = as_event (held attribute.EventType p.properties)
 
+-- a link that names the source and the type of events
+abbrev pub names_event : Fixed → Bool
+names_event p = is_some (source_of p) && is_some (type_of p)
+
 -- the events for which a link waits
 abbrev pub ear_of : List ObjRef → Fixed → Option Ear
 ear_of os p = option_and_then (λ r. option_and_then (λ kind. ear_with os r kind) (type_of p)) (source_of p)

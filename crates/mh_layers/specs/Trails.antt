@@ -1,9 +1,8 @@
 -- Trails: the keys by way of which one effect puts another to work, and the arrow that tells of it.
-use Rattle.std.specs.Prelude.{◌≡◌, ◌⊎◌, true, false, ◌&&◌, []}
+use Rattle.std.specs.Prelude.{◌≡◌, ◌⊎◌, true, false, ◌&&◌}
 use Rattle.std.specs.List.{list_any}
 use Rattle.std.specs.Option.{option_map_or}
 use Rattle.mh_model.specs.Configuration.{present}
-use Rattle.mh_model.specs.Reference.{group_ref}
 use Rattle.mh_model.specs.Service.{Service, part_at}
 use Rattle.mh_laws.specs.Costs.{Effect, act}
 use Rattle.mh_laws.specs.Each.{Among}
@@ -12,18 +11,18 @@ use Rattle.mh_laws.specs.Layers.{IsOn}
 use Rattle.mh_flow.specs.Sites.{sites_of}
 use Rattle.mh_layers.specs.declared.arrow.Arrow.{Arrow}
 use Rattle.mh_layers.specs.declared.node_key.NodeKey.{NodeKey}
-use Rattle.mh_layers.specs.declared.node_key.NodeKey.TheVariants as key
 use Rattle.mh_layers.specs.Arrows.{AreGrantedBy, counts, granted, is_action_in, is_action_of, is_waited_for, number_by}
 use Rattle.mh_layers.specs.Bridge.{key_of}
 use Rattle.mh_layers.specs.Causing.{Counts, is_effect}
 use Rattle.mh_layers.specs.Cycle.{cause_of}
-use Rattle.mh_layers.specs.Reading.{Reading, config_named, flow_read, heard_read, name, object_named}
+use Rattle.mh_layers.specs.Reading.{Reading, flow_read, heard_read, name}
+use Rattle.mh_layers.specs.Standings.{effect_named}
 use Rattle.mh_layers.specs.Web.{counted, effect_number}
 
--- the effect with a number; of a key that is no effect, any
-abbrev pub effect_named : Reading → NodeKey → Effect
-effect_named r (key.Effect c o n) = record { config = config_named r c; object = object_named r o; number = n }
-effect_named r _ = record { config = config_named r 0; object = group_ref []; number = 0 }
+-- the key is that of an active effect
+pub record IsActive (r : Reading) (k : NodeKey) : Type 0 where
+  pub own : k ≡ effect_number r (effect_named r k)
+  pub on : IsOn r.service (flow_read r) (effect_named r k)
 
 -- the key is the effect's, or one that is no effect and counts it
 abbrev pub LeadsTo : Reading → NodeKey → Effect → Type 0

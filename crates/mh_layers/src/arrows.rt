@@ -1,6 +1,7 @@
 //! Arrows between effects.
 //!
-//! Promise: the arrow is one of an action of the first effect that puts the other to work, as the flow allows.
+//! Promise: the arrow is one of an action of the first effect that puts the other to work, as the flow allows; there is one for
+//! each step.
 ghost use Rattle.std.specs.Prelude.{◌≡◌, ◌+◌, Some, IfOk};
 ghost use Rattle.mh_model.specs.Configuration.{present};
 ghost use Rattle.mh_model.specs.Service.{part_at};
@@ -8,7 +9,8 @@ ghost use Rattle.mh_layers.specs.Deeds.{number_in};
 ghost use Rattle.mh_layers.specs.Granting.{held_for};
 ghost use Rattle.mh_layers.specs.Listening.{source_of as source_of_lem};
 ghost use Rattle.mh_layers.specs.Reading.{IsReading, flow_read, spot_in};
-ghost use Rattle.mh_layers.specs.Trails.{IsArrowOf, IsStep, effect_named};
+ghost use Rattle.mh_layers.specs.Standings.{effect_named};
+ghost use Rattle.mh_layers.specs.Trails.{IsActive, IsArrowOf, IsStep};
 
 use crate::arrow::{Arrow, By};
 use crate::at::At;
@@ -20,40 +22,49 @@ use crate::granting::held_for;
 use crate::listening::source_of;
 use crate::net::Net;
 use crate::node_key::NodeKey;
-use crate::price::{object, standing};
 use crate::putting::by_of;
-use crate::standing::cause_of;
+use crate::standing::cause_at;
 use mh_base::Seq;
 use mh_model::Fixed;
 use std::alloc::{AllocError, Global};
 
 /// The configuration of the effect.
-fn config_of<'a>(net: &'a Net<'_>, costs: &'a Costs, key: &NodeKey) -> Result<At<'a>, AllocError>
-    ensures { IfOk result (λ here. here ≡ spot_in net.now costs.now (effect_named net.now key.now).config) }
+fn config_of<'a>(net: &'a Net<'_>, costs: &'a Costs, key: &NodeKey) -> At<'a>
+    requires reading { IsReading net.now }
+    requires active { IsActive net.now key.now }
+    ensures { result ≡ spot_in net.now costs.now (effect_named net.now key.now).config }
 {
-    match key {
-        NodeKey::Effect(config, _, _) => standing(net, costs, *config),
-        _ => Err(AllocError),
+    let NodeKey::Effect(config, _, _) = key else {
+        unreachable!();
+    };
+    match At::of(net, costs, *config) {
+        None => unreachable!(),
+        Some(here) => here,
     }
 }
 
 /// What is said of the object of the effect.
-fn part_of<'a>(here: &'a At<'_>, key: &NodeKey) -> Result<&'a Fixed, AllocError>
+fn part_of<'a>(here: &'a At<'_>, key: &NodeKey) -> &'a Fixed
+    requires reading { IsReading here.now.reading }
+    requires active { IsActive here.now.reading key.now }
+    requires config { here.now.config ≡ (effect_named here.now.reading key.now).config }
     ensures { let s = here.now in let ps = present s.reading.service s.config in
-        IfOk result (λ part. part_at (effect_named s.reading key.now).object ps ≡ Some part.now) }
+        part_at (effect_named s.reading key.now).object ps ≡ Some result.now }
 {
     let NodeKey::Effect(_, number, _) = key else {
-        return Err(AllocError);
+        unreachable!();
     };
-    let at = object(here.net(), *number)?;
+    let Some(at) = here.net().object_at(*number) else {
+        unreachable!();
+    };
     match here.find(at) {
-        None => Err(AllocError),
-        Some(part) => Ok(part),
+        None => unreachable!(),
+        Some(part) => part,
     }
 }
 
 /// The number of the effect through those of its object.
-fn number_of(key: &NodeKey) -> usize
+pub(crate) fn number_of(key: &NodeKey) -> usize
     ensures { result ≡ number_in key.now }
 {
     match key {
@@ -106,12 +117,13 @@ fn arrow_between(
     requires there { there.now ≡ spot_in here.now.reading there.now.places (effect_named here.now.reading to.now).config }
     ensures { IfOk result (IsArrowOf here.now.reading from.now to.now) }
 {
-    let aim = part_of(there, to)?;
+    let aim = part_of(there, to);
     let by = by_of(aim, number_of(to))?;
-    let cause = cause_of(here.net(), from)?;
-    let acts = effect_acts(part_of(here, from)?, number_of(from));
+    let part = part_of(here, from);
+    let cause = cause_at(here.net(), here.config(), &part.key, number_of(from))?;
+    let acts = effect_acts(part, number_of(from));
     match doing_of(alloc, here, acts, first)? {
-        None => Err(AllocError),
+        None => unreachable!(),
         Some(doing) => {
             let arrow = arrow_by(alloc, here, cause, &doing, aim, by)?;
             Ok(arrow)
@@ -132,7 +144,7 @@ pub(crate) fn arrow_for(
     ensures { IfOk result (IsArrowOf net.now from.now to.now) }
 {
     let costs = Costs::new(alloc)?;
-    let here = config_of(net, &costs, from)?;
-    let there = config_of(net, &costs, to)?;
+    let here = config_of(net, &costs, from);
+    let there = config_of(net, &costs, to);
     arrow_between(alloc, &here, &there, from, first, to)
 }

@@ -94,7 +94,7 @@ pub(crate) fn put_all(keys: &mut IndexSet<NodeKey>, row: &[NodeKey]) -> Result<(
 }
 
 /// The key at this place.
-fn key_at(keys: &IndexSet<NodeKey>, place: usize) -> Option<NodeKey>
+pub(crate) fn key_at(keys: &IndexSet<NodeKey>, place: usize) -> Option<NodeKey>
     ensures { result ≡ slice_get keys.now.keys place }
 {
     match keys.get_index(place) {

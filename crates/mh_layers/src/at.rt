@@ -1,7 +1,7 @@
 //! `At`: a configuration of a net, where some costs are known.
 //!
 //! Promise: each answer is what its price comes to, over what is told of keys by their numbers.
-ghost use Rattle.std.specs.Prelude.{◌≡◌, ◌+◌, ◌++◌, ◌<◌, ℕ, None, Some, if◌then◌else◌, position, slice_get, IfSome};
+ghost use Rattle.std.specs.Prelude.{◌≡◌, ◌+◌, ◌++◌, ◌<◌, ℕ, None, Some, if◌then◌else◌, position, slice_get, IfNone, IfSome};
 ghost use Rattle.std.specs.Option.{option_copied};
 ghost use Rattle.mh_base.specs.Event.{is_sync};
 ghost use Rattle.mh_model.specs.Configuration.{present as present_there};
@@ -17,7 +17,7 @@ ghost use Rattle.mh_layers.specs.Around as around_lem;
 ghost use Rattle.mh_layers.specs.Around.{Any, Enter, Plain, With};
 ghost use Rattle.mh_layers.specs.Keys.{fired_if_there, hearing};
 ghost use Rattle.mh_layers.specs.Known.{known_worth};
-ghost use Rattle.mh_layers.specs.Reading.{IsReading, around_at as around_spot, config_number, dealt_at, entry_key, fired_key, known_at, link_worth, lists_read, place_among, same_setting, settings, spot_at, still_at, told_in, value_worth, values_read};
+ghost use Rattle.mh_layers.specs.Reading.{IsReading, around_at as around_spot, config_number, dealt_at, entry_key, fired_key, known_at, link_worth, lists_read, place_among, same_setting, settings, spot_at, spot_in, still_at, told_in, value_worth, values_read};
 
 use crate::around::Around;
 use crate::costs::Costs;
@@ -62,7 +62,8 @@ impl<'a> Model for At<'a> {
 impl<'a> At<'a> {
     /// The configuration with this number.
     pub fn of(net: &'a Net<'a>, costs: &'a Costs, number: usize) -> Option<At<'a>>
-        ensures { IfSome result (λ at. at ≡ spot_at net.now costs.now number) }
+        ensures some { IfSome result (λ at. at ≡ spot_at net.now costs.now number) }
+        ensures none { IfNone result (slice_get (settings net.now) number ≡ None) }
     {
         match net.config_at(number) {
             None => None,
@@ -93,6 +94,20 @@ impl<'a> At<'a> {
             config,
             present,
             held,
+        }
+    }
+
+    /// The same configuration, where other costs are known.
+    pub fn with_costs<'b>(&'b self, costs: &'b Costs) -> At<'b>
+        ensures { result ≡ spot_in self.now.reading costs.now self.now.config }
+    {
+        At {
+            net: self.net,
+            costs,
+            number: self.number,
+            config: self.config,
+            present: self.net.present(self.config),
+            held: self.held,
         }
     }
 

@@ -3,7 +3,7 @@
 //! Promise: each kind of input has the bound that the definitions give it.
 ghost use Rattle.std.specs.Prelude.{◌≡◌, ◌<◌, ◌≤◌, IfSome, IfNone};
 ghost use Rattle.mh_laws.specs.Budget.{AreSmall, bound_of};
-ghost use Rattle.mh_layers.specs.Bounding.{IsFirstAbove, bound_by};
+ghost use Rattle.mh_layers.specs.Bounding.{IsFirstAbove, bound_by, kind_word};
 
 use mh_model::Input;
 use std::marker::Model;
@@ -17,6 +17,22 @@ pub enum InputKind {
     Stream,
     Engine,
     Arrive,
+}
+
+impl InputKind {
+    /// The word by which the kind is told.
+    pub fn word(self) -> &'static [u8]
+        ensures { result.now ≡ kind_word self }
+    {
+        match self {
+            InputKind::Start => b"start",
+            InputKind::Key => b"key",
+            InputKind::Tick => b"tick",
+            InputKind::Stream => b"stream",
+            InputKind::Engine => b"engine",
+            InputKind::Arrive => b"arrive",
+        }
+    }
 }
 
 /// The most steps to which the start and an input of each kind can lead. A number that 64 bits cannot tell is the

@@ -1,12 +1,12 @@
 //! Actions done to single objects, and the first action of an effect that counts a key so.
 //!
-//! Promise: what is found counts the key, by an object to which its target may come.
-ghost use Rattle.std.specs.Prelude.{◌≡◌, true, IfOk, IfSome, OnOk};
+//! Promise: what is found counts the key, by an object to which its target may come; and where an action does, one is found.
+ghost use Rattle.std.specs.Prelude.{◌≡◌, true, IfNone, IfOk, IfSome, OnOk};
 ghost use Rattle.std.specs.List.{list_any};
 ghost use Rattle.mh_laws.specs.Costs.{targets};
 ghost use Rattle.mh_laws.specs.Each.{Among};
 ghost use Rattle.mh_layers.specs.Asked.{NoneKnown};
-ghost use Rattle.mh_layers.specs.Deeds.{CountsKey, IsDoing, deed_of, deed_puts};
+ghost use Rattle.mh_layers.specs.Deeds.{CountsKey, IsDoing, NoDoing, NoneCounts, deed_of, deed_puts};
 ghost use Rattle.mh_layers.specs.Known.{known_worth};
 ghost use Rattle.mh_layers.specs.NodeKeys.{same_key};
 ghost use Rattle.mh_layers.specs.Reading.{flow_read, known_by};
@@ -18,7 +18,6 @@ use crate::at::At;
 use crate::costs::Costs;
 use crate::laying::Prices;
 use crate::node_key::NodeKey;
-use crate::price::reached;
 use crate::sums::Worth;
 use mh_base::ObjRef;
 use mh_group::ActionName;
@@ -51,12 +50,11 @@ impl<'a> Model for Deed<'a> {
 }
 
 /// What the deed comes to, where some costs are known.
-fn deed_worth(deed: &Deed<'_>, costs: &Costs) -> Result<Worth, AllocError>
-    ensures { let d = deed.now in
-        IfOk result (λ worth. worth ≡ known_worth (known_by d.reading costs.now) (deed_puts d)) }
+fn deed_worth(deed: &Deed<'_>, costs: &Costs) -> Worth
+    ensures { let d = deed.now in result ≡ known_worth (known_by d.reading costs.now) (deed_puts d) }
 {
-    let here = reached(deed.here.net(), costs, deed.here.config())?;
-    Ok(done_to(&here, deed.name, deed.arguments, deed.at))
+    let here = deed.here.with_costs(costs);
+    done_to(&here, deed.name, deed.arguments, deed.at)
 }
 
 impl<'a> Prices for Deed<'a> {
@@ -67,7 +65,7 @@ impl<'a> Prices for Deed<'a> {
     ghost kept = { deed_kept };
 
     fn worth(&self, costs: &Costs, _key: &NodeKey) -> Result<Worth, AllocError> {
-        deed_worth(self, costs)
+        Ok(deed_worth(self, costs))
     }
 }
 
@@ -102,6 +100,7 @@ fn counts(
 ) -> Result<bool, AllocError>
     requires { NoneKnown costs.old }
     ensures counts { IfOk result (λ counts. counts ≡ true → CountsKey deed.now key.now) }
+    ensures all { IfOk result (λ counts. CountsKey deed.now key.now → counts ≡ true) }
     ensures none { OnOk result (NoneKnown costs.new) }
 {
     let keys = counted_keys(alloc, deed, costs, key)?;
@@ -121,6 +120,8 @@ fn counts_at(
     ensures none { OnOk result (NoneKnown costs.new) }
     ensures counts { let s = here.now in
         IfOk result (λ counts. counts ≡ true → CountsKey (deed_of s.reading s.config act.now at.now) key.now) }
+    ensures all { let s = here.now in
+        IfOk result (λ counts. CountsKey (deed_of s.reading s.config act.now at.now) key.now → counts ≡ true) }
 {
     let deed = Deed {
         here,
@@ -141,7 +142,7 @@ fn targets<'a>(here: &'a At<'_>, target: &'a Target) -> &'a [ObjRef]
     }
 }
 
-/// The first of these objects to which the action is done so that it counts the key.
+/// The first of these objects to which the action is done so that it counts the key; none only where it is so for none.
 fn first_of<'a>(
     alloc: Global,
     here: &At<'_>,
@@ -155,6 +156,8 @@ fn first_of<'a>(
     ensures among { IfOk result (λ found. IfSome found (λ at. Among objects.now at.now)) }
     ensures counts { let s = here.now in
         IfOk result (λ found. IfSome found (λ at. CountsKey (deed_of s.reading s.config act.now at.now) key.now)) }
+    ensures all { let s = here.now in
+        IfOk result (λ found. IfNone found (NoneCounts s.reading s.config act.now objects.now key.now)) }
 {
     for at in objects {
         if counts_at(alloc, here, costs, act, at, key)? {
@@ -164,7 +167,7 @@ fn first_of<'a>(
     Ok(None)
 }
 
-/// The first of these actions that counts the key.
+/// The first of these actions that counts the key; none only where no action does.
 #[tactic(auto, using(crate::proofs::AskedLemmas::nothing_known))]
 pub(crate) fn doing_of<'a>(
     alloc: Global,
@@ -172,7 +175,8 @@ pub(crate) fn doing_of<'a>(
     acts: &'a [Act],
     key: &NodeKey,
 ) -> Result<Option<Doing<'a>>, AllocError>
-    ensures { let s = here.now in IfOk result (λ found. IfSome found (IsDoing s.reading s.config acts.now key.now)) }
+    ensures some { let s = here.now in IfOk result (λ found. IfSome found (IsDoing s.reading s.config acts.now key.now)) }
+    ensures none { let s = here.now in IfOk result (λ found. IfNone found (NoDoing s.reading s.config acts.now key.now)) }
 {
     let mut costs = Costs::new(alloc)?;
     for offset in 0..acts.len() {

@@ -14,7 +14,6 @@ ghost use Rattle.mh_layers.specs.Reading.{flow_read, spot_in};
 use crate::around::Around;
 use crate::arrow::Held;
 use crate::at::At;
-use crate::price::standing;
 use crate::standing::copied_reference;
 use mh_base::{GroupName, ObjRef};
 use mh_group::Class;
@@ -119,18 +118,18 @@ fn hold_lists(held: &mut Vec<Held>, here: &At<'_>, at: &ObjRef) -> Result<(), Al
 
 /// The configuration to which it goes on from here to the group, if that is reached.
 #[tactic(auto, using(crate::proofs::SpotLemmas::named_in, crate::proofs::SpotLemmas::reached_numbered))]
-fn beyond<'a>(here: &'a At<'_>, group: &GroupName) -> Result<Option<At<'a>>, AllocError>
+fn beyond<'a>(here: &'a At<'_>, group: &GroupName) -> Option<At<'a>>
     ensures some { let s = here.now in let d = exchanged s.reading.service s.config group.now in
-        IfOk result (λ found. IfSome found (λ there. there ≡ spot_in s.reading s.places d)) }
+        IfSome result (λ there. there ≡ spot_in s.reading s.places d) }
     ensures reached { let s = here.now in let d = exchanged s.reading.service s.config group.now in
-        IfOk result (λ found. is_some found ≡ reached (flow_read s.reading) d) }
+        is_some result ≡ reached (flow_read s.reading) d }
 {
     match here.exchanged(group) {
-        None => Ok(None),
-        Some(number) => {
-            let there = standing(here.net(), here.costs(), number)?;
-            Ok(Some(there))
-        }
+        None => None,
+        Some(number) => match At::of(here.net(), here.costs(), number) {
+            None => unreachable!(),
+            Some(there) => Some(there),
+        },
     }
 }
 
@@ -144,7 +143,7 @@ fn hold_next(
     ensures { let s = here.now in let v = s.reading.service in let w = flow_read s.reading in
         OnOk result (held.new.items ≡ with_next v w (exchanged v s.config group.now) held.old.items at.now) }
 {
-    match beyond(here, group)? {
+    match beyond(here, group) {
         None => Ok(()),
         Some(there) => {
             hold_lists(held, &there, at)?;

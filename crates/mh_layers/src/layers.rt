@@ -98,7 +98,12 @@ fn taken_cost(laying: &Laying, config: usize, kind: InputKind) -> u64
 
 /// What it costs in the configuration.
 #[tactic(auto, unfolding(crate::specs::Taking::taken_laid))]
-fn cost_in_config(net: &Net<'_>, laying: &Laying, config: &Config, kind: InputKind) -> u64
+pub(crate) fn cost_in_config(
+    net: &Net<'_>,
+    laying: &Laying,
+    config: &Config,
+    kind: InputKind,
+) -> u64
     ensures { result ≡ taken_laid net.now laying.now kind config.now }
 {
     taken_cost(laying, net.config_number(config), kind)

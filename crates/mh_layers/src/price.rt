@@ -356,11 +356,7 @@ fn taken_key(
 
 /// The configuration in the net, if it is reached.
 #[tactic(auto, using(crate::proofs::SpotLemmas::named_in))]
-pub(crate) fn reached<'a>(
-    net: &'a Net<'a>,
-    costs: &'a Costs,
-    config: &Config,
-) -> Result<At<'a>, AllocError>
+fn reached<'a>(net: &'a Net<'a>, costs: &'a Costs, config: &Config) -> Result<At<'a>, AllocError>
     ensures { IfOk result (λ here. here ≡ spot_in net.now costs.now config.now) }
 {
     match net.number_of(config) {

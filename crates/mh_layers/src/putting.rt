@@ -4,7 +4,9 @@
 ghost use Rattle.std.specs.Prelude.{◌≡◌, true, IfOk};
 ghost use Rattle.std.specs.Option.{option_copied};
 ghost use Rattle.mh_layers.specs.declared.arrow.By.TheVariants as by_lem;
+ghost use Rattle.mh_laws.specs.Costs.{link_effect};
 ghost use Rattle.mh_layers.specs.Arrows.{is_waited_for, number_by};
+ghost use Rattle.mh_layers.specs.Listening.{names_event};
 
 use crate::arrow::By;
 use crate::listening::{data_of, source_of};
@@ -36,19 +38,21 @@ fn event_from(source: &ObjRef, kind: EventType, value: Option<&Value>) -> Result
 /// The event for which the link waits.
 #[tactic(auto, using(crate::proofs::ArrowLemmas::waited))]
 fn event_of(part: &Fixed) -> Result<Event, AllocError>
+    requires { names_event part.now ≡ true }
     ensures { IfOk result (λ event. is_waited_for (by_lem.Event event) part.now ≡ true) }
 {
     let (Some(source), Some(kind)) = (
         source_of(part),
         as_event(part.properties.get(Attribute::EventType)),
     ) else {
-        return Err(AllocError);
+        unreachable!();
     };
     event_from(source, kind, data_of(part))
 }
 
 /// What puts the effect with this number to work.
 pub(crate) fn by_of(part: &Fixed, number: usize) -> Result<By, AllocError>
+    requires { number ≡ link_effect → names_event part.now ≡ true }
     ensures number { IfOk result (λ by. number_by by ≡ number) }
     ensures waited { IfOk result (λ by. is_waited_for by part.now ≡ true) }
 {

@@ -125,7 +125,7 @@ fn push_inputs(keys: &mut Vec<NodeKey>, net: &Net<'_>) -> Result<(), AllocError>
 }
 
 /// The start application with no scene.
-fn starting(service: &Equipped<'_>) -> Result<Config, AllocError>
+pub(crate) fn starting(service: &Equipped<'_>) -> Result<Config, AllocError>
     ensures { IfOk result (λ start. start ≡ starting_lem service.now) }
 {
     Ok(Config {

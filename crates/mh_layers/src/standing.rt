@@ -75,7 +75,7 @@ fn action_in(part: Option<&Fixed>, number: usize) -> Option<ActionName>
     }
 }
 
-fn copied_config(config: &Config) -> Result<Config, AllocError>
+pub(crate) fn copied_config(config: &Config) -> Result<Config, AllocError>
     ensures { IfOk result (λ copy. copy ≡ config.now) }
 {
     config.clone()
@@ -88,7 +88,12 @@ pub(crate) fn copied_reference(at: &ObjRef) -> Result<ObjRef, AllocError>
 }
 
 /// The effect as a cause.
-fn cause_at(net: &Net<'_>, config: &Config, at: &ObjRef, number: usize) -> Result<Cause, AllocError>
+pub(crate) fn cause_at(
+    net: &Net<'_>,
+    config: &Config,
+    at: &ObjRef,
+    number: usize,
+) -> Result<Cause, AllocError>
     ensures { IfOk result (λ cause. cause ≡ spec.cause_of net.now.service (record { config = config.now; object = at.now; number = number })) }
 {
     let present = net.present(config);

@@ -1,14 +1,15 @@
 -- What was found for an argument, and the number that a text writes.
-use Rattle.std.specs.Prelude.{◌≡◌, ℕ, ◌≤◌, Bool, true, false, if◌then◌else◌, List, Option, Some, None, unwrap_or, Result, Ok, Err, option_map, refl}
+use Rattle.std.specs.Prelude.{◌≡◌, ℕ, ◌≤◌, Bool, true, false, if◌then◌else◌, List, Option, Some, None, unwrap_or, Result, Ok, Err, IfOk, option_map, refl}
 use Rattle.std.specs.Borrow.{Bor}
 use Rattle.std.specs.Str.Parse.{ParsesUnsigned, digits_value, without_leading_plus}
 use Rattle.std.proofs.Common.{ap, arith, sym, subst, ◌∙◌}
-use Rattle.clap.specs.Words.{Text, first_of, first_value, kind_of, rows_of}
+use Rattle.clap.specs.Words.{App, HasMatchesOf, Text, first_of, first_value, is_simple, kind_of, rows_of, subcommand_of, subcommand_rows_of}
 use Rattle.clap.specs.Values.{IsUnsignedIn}
 use Rattle.clap.specs.ValueTests.{is_unsigned_in}
 use Rattle.clap.specs.declared.builder.value_parser.ValueParser.TheVariants as parser
 use Rattle.clap.specs.declared.error.Error.{Error}
 use Rattle.clap.specs.declared.error.kind.ErrorKind.TheVariants as kind
+use Rattle.clap.specs.declared.parser.matches.ArgMatches.{ArgMatches}
 use Rattle.clap.specs.declared.parser.matches.Found.{Found}
 use Rattle.clap.proofs.WalkLemmas.{first_value-rows}
 use Rattle.clap.proofs.ValueTestLemmas.{accepts-Accepts, Accepts-accepts}
@@ -55,3 +56,9 @@ or_nothing (Some s) d r is = ap (λ (s : Bor (List ℕ)). s.now) is
 pub passes_as : (e : Error) (told : CommandLineError) → IsToldAs e told → kind_of e ≡ kind.OutOfMemory → told ≡ error.NoMemory
 passes_as e error.NoMemory is memory = refl
 passes_as e (error.Refused f) is memory = absurd (is.1 memory)
+
+-- the subcommand that a simple command's matches name
+pub subcommand_found : {E : Type 0} (a : App) (words : List Text) (r : Result ArgMatches E) → is_simple a ≡ true → IfOk r (HasMatchesOf a words)
+    → IfOk r (λ m. subcommand_rows_of m ≡ subcommand_of a words)
+subcommand_found a words (Ok m) simple has = (has simple).1
+subcommand_found a words (Err e) simple has = has

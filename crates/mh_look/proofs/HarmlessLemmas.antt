@@ -1,9 +1,8 @@
 -- What is put of words, numbers, names and lines of files gives a terminal no order.
-use Rattle.std.specs.Prelude.{◌≡◌, ℕ, zero, suc, ◌+◌, ◌/◌, ◌%◌, ◌<◌, ◌==◌, Bool, true, false, ◌&&◌, ◌||◌, not, nat_le, nat_lt, if◌then◌else◌, List, [], ◌∷◌, ◌++◌, map, take, drop, replicate, codes, refl}
-use Rattle.std.specs.List.{flat_map, list_all}
-use Rattle.std.specs.Fmt.{digit_glyph, digits_onto, digits, decimal}
+use Rattle.std.specs.Prelude.{◌≡◌, ℕ, zero, suc, ◌+◌, ◌<◌, ◌==◌, Bool, true, false, ◌&&◌, ◌||◌, not, nat_le, nat_lt, if◌then◌else◌, List, [], ◌∷◌, ◌++◌, map, take, drop, replicate, codes, refl}
+use Rattle.std.specs.List.{flat_map, list_all, prefix_len}
 use Rattle.std.proofs.Common.{ap, ◌∙◌, sym, arith}
-use Rattle.std.proofs.lemmas.Bool.{and_parts, and_from, lt-ltb, le-leb}
+use Rattle.std.proofs.lemmas.Bool.{and_parts, and_from, lt-ltb}
 use Rattle.std.proofs.lemmas.Bool.Decides.{nat_tests}
 use Rattle.std.proofs.lemmas.Grind.{flat_map-append}
 use Rattle.std.proofs.lemmas.List.Folds.{flat_map-map, list_all-append}
@@ -11,7 +10,9 @@ use Rattle.std.proofs.lemmas.Str.{encode_ascii}
 use Rattle.bstr.specs.Text.{without_terminator}
 use Rattle.bstr.specs.Utf8.{lossy_chars}
 use Rattle.mh_told.specs.Printing.{character}
+use Rattle.mh_look.specs.LineWords.{is_in_word}
 use Rattle.mh_look.specs.Shown.{is_order, harmless}
+use Rattle.mh_look.specs.Wrapping.{columns, wrapped, paragraph}
 use Rattle.mh_look.specs.Places.{plain, is_shown, IsHarmless, Line, spaced, column, first_shown, shift, caret_count, line_at, shown_from_column, place_words, shown_line, caret_line, shown_at, shown_place, PlacesAreHarmless}
 
 or_true : (b : Bool) → (b || true) ≡ true
@@ -90,31 +91,32 @@ all_repeated (suc n) b is = and_from _ _ is (all_repeated n b is)
 pub harmless_repeated : (n b : ℕ) → is_printable b ≡ true → IsHarmless (replicate n b)
 harmless_repeated n b is = harmless_codes (replicate n b) (all_repeated n b is)
 
--- Numbers.
+-- Paragraphs, whatever their words are.
 
-digit_is_printable : (d : ℕ) → d < 10 → is_printable (digit_glyph false d) ≡ true
-digit_is_printable d low =
-    rw (lt-ltb d 10 low) (ap (λ (b : Bool). (48 + d == 10) || b) (and_from _ _ (le-leb 32 (48 + d) (omega arith)) (lt-ltb (48 + d) 127 (omega arith))) ∙ or_true (48 + d == 10))
+feed : IsHarmless (10 ∷ [])
+feed = harmless_codes (10 ∷ []) refl
 
-digits_are_printable : (k n : ℕ) (behind : List ℕ) → list_all is_printable behind ≡ true → list_all is_printable (digits_onto k 10 false n behind) ≡ true
-digits_are_printable zero n behind all = all
-digits_are_printable (suc k) n behind all = by (n / 10 == 0) more (digits_are_printable k (n / 10) (digit_glyph false (n % 10) ∷ behind) more)
+wrapped_are_shown : (n : ℕ) (cs : List ℕ) → list_all is_shown cs ≡ true → list_all is_shown (wrapped n cs) ≡ true
+wrapped_are_shown n [] all = refl
+wrapped_are_shown n (c ∷ cs) all =
+    let parts = and_parts (is_shown c) (list_all is_shown cs) all in
+    by (c == 32 && nat_lt columns (n + suc (prefix_len is_in_word cs))) (wrapped_are_shown 4 cs parts.1)
+    (and_from _ _ parts.0 (wrapped_are_shown (suc n) cs parts.1))
   where
-    more : list_all is_printable (digit_glyph false (n % 10) ∷ behind) ≡ true
-    more = and_from _ _ (digit_is_printable (n % 10) (omega arith)) all
+    by : (b : Bool) → list_all is_shown (wrapped 4 cs) ≡ true → list_all is_shown (c ∷ wrapped (suc n) cs) ≡ true
+        → list_all is_shown (if b then 10 ∷ 32 ∷ 32 ∷ 32 ∷ 32 ∷ wrapped 4 cs else c ∷ wrapped (suc n) cs) ≡ true
+    by true next same = next
+    by false next same = same
 
-    by : (b : Bool) → list_all is_printable (digit_glyph false (n % 10) ∷ behind) ≡ true
-        → list_all is_printable (digits_onto k 10 false (n / 10) (digit_glyph false (n % 10) ∷ behind)) ≡ true
-        → list_all is_printable (if b then digit_glyph false (n % 10) ∷ behind else digits_onto k 10 false (n / 10) (digit_glyph false (n % 10) ∷ behind)) ≡ true
-    by true here there = here
-    by false here there = there
-
-decimal_is_printable : (n : ℕ) → list_all is_printable (decimal n) ≡ true
-unfolding digits
-decimal_is_printable n = digits_are_printable 64 n [] refl
-
-pub harmless_decimal : (n : ℕ) → IsHarmless (decimal n)
-harmless_decimal n = harmless_codes (decimal n) (decimal_is_printable n)
+pub harmless_paragraph : (bs : List ℕ) → IsHarmless (paragraph bs)
+unfolding paragraph
+harmless_paragraph bs =
+    harmless_append (flat_map character (wrapped 0 (map harmless (lossy_chars bs)))) (10 ∷ [])
+    (record {
+      characters = wrapped 0 (map harmless (lossy_chars bs));
+      spelled = refl;
+      shown = wrapped_are_shown 0 (map harmless (lossy_chars bs)) (all_shown harmless harmless_is_shown (lossy_chars bs));
+    }) feed
 
 -- Places.
 
@@ -125,17 +127,12 @@ spaced_is_shown c = by (c == 9)
     by true = refl
     by false = harmless_is_shown c
 
-feed : IsHarmless (10 ∷ [])
-feed = harmless_codes (10 ∷ []) refl
-
 indent : IsHarmless (codes "      ")
 indent = harmless_codes (codes "      ") refl
 
 harmless_words : (name : List ℕ) (number at : ℕ) → IsHarmless (place_words name number at)
 unfolding place_words
-harmless_words name number at =
-    harmless_codes (codes "  ") refl ⌢ harmless_plain name ⌢ harmless_codes (codes ", line ") refl ⌢ harmless_decimal number ⌢ harmless_codes (codes ", column ") refl
-    ⌢ harmless_decimal (suc at) ⌢ feed
+harmless_words name number at = harmless_paragraph _
 
 harmless_from_column : (bs : List ℕ) (first : ℕ) → IsHarmless (shown_from_column bs first)
 unfolding shown_from_column

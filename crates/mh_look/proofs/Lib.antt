@@ -30,3 +30,7 @@ pub mod StepLemmas
 pub mod TailLemmas
 pub mod AdviceLemmas
 pub mod WhyLemmas
+pub mod PaintLemmas
+pub mod ScriptLemmas
+pub mod VariableLemmas
+pub mod CaretLemmas

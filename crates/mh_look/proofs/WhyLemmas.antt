@@ -1,20 +1,30 @@
--- What is explained gives a terminal no order: what comes from the output and the files is put plainly, and all other words are printable.
-use Rattle.std.specs.Prelude.{◌≡◌, ℕ, zero, suc, Bool, true, false, cond, if◌then◌else◌, List, [], ◌∷◌, map, codes, Option, Some, None, refl}
-use Rattle.std.specs.List.{flat_map, list_all}
+-- What is explained gives a terminal no order: all that is put are paragraphs, places, and lines of the output, which are put plainly.
+use Rattle.std.specs.Prelude.{ℕ, zero, suc, ◌+◌, nat_le, Bool, true, false, if◌then◌else◌, List, [], ◌∷◌, map, length, codes, Option, Some, None, refl}
+use Rattle.std.specs.Fmt.{decimal}
+use Rattle.std.specs.List.{flat_map}
 use Rattle.std.specs.Option.{option_map_or}
 use Rattle.std.specs.Str.{bytes_eq}
-use Rattle.std.proofs.lemmas.Bool.{and_parts}
 use Rattle.bstr.specs.Text.{lines_of, without_terminator}
-use Rattle.mh_look.specs.Advice.{Row, cell, has_word, row_with, row_text, advice, refusals, files, services, faults, readings}
+use Rattle.mh_model.specs.declared.config.Config.{Config}
+use Rattle.mh_layers.specs.declared.bounds.InputKind.{InputKind}
+use Rattle.mh_layers.specs.declared.bounds.InputKind.TheVariants as kind
+use Rattle.mh_layers.specs.declared.way.Stage.{Stage}
+use Rattle.mh_layers.specs.declared.way.Way.{Way}
+use Rattle.mh_text.specs.Landmarks.{Landmark, Through, landmarks, variables_at}
+use Rattle.mh_text.specs.declared.mark.Mark.{Mark}
+use Rattle.mh_text.specs.Marks.{mark_of}
+use Rattle.mh_look.specs.Advice.{Row, row_with, row_text, advice, refusals, files, services, faults, readings}
 use Rattle.mh_look.specs.LineWords.{first_word, behind_first, last_word, before_last, number_in}
-use Rattle.mh_look.specs.Places.{IsHarmless, shown_place}
-use Rattle.mh_look.specs.Sources.{Source, source_of, source_named, mark_by, shown_mark, shown_in, shown_action, shown_byte, shown_offset}
+use Rattle.mh_look.specs.Places.{IsHarmless}
+use Rattle.mh_look.specs.Services.{landmark_for, shown_for, shown_service}
+use Rattle.mh_look.specs.Sources.{Script, Source, by_number, by_numbers, count_named, in_source, marks_named, named_words, object_in, shown_action, shown_actions, shown_byte, shown_landmark, shown_line, shown_line_from, shown_mark, shown_named, shown_numbered, shown_object, shown_object_in, shown_offset, shown_refused, shown_through, shown_with_variables, source_named, through_words}
 use Rattle.mh_look.specs.declared.why_keyword.Keyword.{Keyword}
 use Rattle.mh_look.specs.declared.why_keyword.Keyword.TheVariants as keyword
-use Rattle.mh_look.specs.declared.why_line.TheConstants.{STANDS_IN, MEMBERS_OF, SO_IT_IS, SHOWS_NONE, SHOWS_SCENE, THE_ACTION, WAS_STUCK, LEADS_TO, CIRCLE_THROUGH, COMES_BY, IS_BYTE, OF_FILE}
+use Rattle.mh_look.specs.declared.why_way.TheConstants.{PUTS_FIRST, PUTS_NEXT}
+use Rattle.mh_look.specs.WayWords.{other_words, place_words, stage_words, stage_text, stages_text, way_text, way_of, bound_text}
 use Rattle.mh_look.specs.Why as spec
-use Rattle.mh_look.specs.Why.{Spot, spot, object_words, action_words, shown_spot, refused_words, refused_spot, refused_at, scene_words, by_words, byte_words, stuck, told, with_line, explained, why, ExplanationsAreHarmless}
-use Rattle.mh_look.proofs.HarmlessLemmas.{◌⌢◌, is_printable, harmless_codes, harmless_plain, harmless_place}
+use Rattle.mh_look.specs.Why.{Ground, Spot, spot, shown_spot, shown_from, or_else, refused_spot, refused_at, shown_script, stuck, told, with_line, explained, explained_all, number_behind, keyword_of, why, ExplanationsAreHarmless}
+use Rattle.mh_look.proofs.HarmlessLemmas.{◌⌢◌, harmless_codes, harmless_plain, harmless_paragraph, harmless_place}
 
 none : IsHarmless []
 none = harmless_codes [] refl
@@ -33,169 +43,225 @@ joined f each (x ∷ xs) = each x ⌢ joined f each xs
 
 -- Causes and mends
 
-abbrev is_row : Row → Bool
-is_row row = list_all (list_all is_printable) row
-
-cell_put : (row : Row) (n : ℕ) → is_row row ≡ true → IsHarmless (cell row n)
-cell_put [] n all = none
-cell_put (x ∷ xs) zero all = harmless_codes x (and_parts (list_all is_printable x) (is_row xs) all).0
-cell_put (x ∷ xs) (suc n) all = cell_put xs n (and_parts (list_all is_printable x) (is_row xs) all).1
-
-row_put : (row : Row) → is_row row ≡ true → IsHarmless (row_text row)
+row_put : (row : Row) → IsHarmless (row_text row)
 unfolding row_text
-row_put row all =
-    harmless_codes (codes "  Cause: ") refl ⌢ cell_put row 1 all ⌢ harmless_codes (codes ".\n  Mend: ") refl ⌢ cell_put row 2 all
-    ⌢ harmless_codes (codes ".\n") refl
+row_put row = harmless_paragraph _ ⌢ harmless_paragraph _
 
-advice_put : (rows : List Row) (word : List ℕ) → list_all is_row rows ≡ true → IsHarmless (advice rows word)
-advice_put [] word all = none
-advice_put (r ∷ rs) word all =
-    let parts = and_parts (is_row r) (list_all is_row rs) all in
-    by (has_word word r) (row_put r parts.0) (advice_put rs word parts.1)
-  where
-    by : (b : Bool) → IsHarmless (row_text r) → IsHarmless (advice rs word) → IsHarmless (option_map_or row_text (cond b (Some r) (row_with rs word)) [])
-    by true here there = here
-    by false here there = there
-
-refusals_are : list_all is_row refusals ≡ true
-unfolding refusals
-refusals_are = refl
-
-files_are : list_all is_row files ≡ true
-unfolding files
-files_are = refl
-
-services_are : list_all is_row services ≡ true
-unfolding services
-services_are = refl
-
-faults_are : list_all is_row faults ≡ true
-unfolding faults
-faults_are = refl
-
-readings_are : list_all is_row readings ≡ true
-unfolding readings
-readings_are = refl
+advice_put : (rows : List Row) (word : List ℕ) → IsHarmless (advice rows word)
+advice_put rows word = optional row_text row_put (row_with rows word)
 
 -- Places
 
-action_put : (ss : List Source) (group object index : List ℕ) → IsHarmless (shown_action ss group object index)
+by_number_put : (shown : ℕ → List ℕ) → ((n : ℕ) → IsHarmless (shown n)) → (word : List ℕ) → IsHarmless (by_number shown word)
+by_number_put shown each word = optional shown each (number_in word)
+
+by_numbers_put : (shown : ℕ → ℕ → List ℕ) → ((m n : ℕ) → IsHarmless (shown m n)) → (first second : List ℕ) → IsHarmless (by_numbers shown first second)
+by_numbers_put shown each first second =
+    by_number_put (λ m. by_number (λ n. shown m n) second) (λ m. by_number_put (λ n. shown m n) (each m) second) first
+
+in_source_put : (shown : Source → List ℕ) → ((s : Source) → IsHarmless (shown s)) → (ss : List Source) (name : List ℕ) → IsHarmless (in_source shown ss name)
+in_source_put shown each ss name = optional shown each (source_named ss name)
+
+mark_put : (s : Source) (m : Mark) → IsHarmless (shown_mark s m)
+mark_put s m = harmless_place s.name s.text m.start m.length
+
+landmark_put : (s : Source) (m : Landmark) → IsHarmless (shown_landmark s m)
+landmark_put s m = harmless_place s.name s.text m.start m.length
+
+action_put : (ss : List Source) (group : List ℕ) (object index : ℕ) → IsHarmless (shown_action ss group object index)
 unfolding shown_action
 action_put ss group object index =
-    optional (shown_in object index)
-    (λ s. optional (shown_mark s) (λ m. harmless_place s.name s.text m.start m.length) (mark_by s.marks (number_in object) (number_in index)))
-    (source_named ss group)
+    in_source_put (shown_numbered object index) (λ s. optional (shown_mark s) (mark_put s) (mark_of s.marks object index)) ss group
 
-offset_put : (ss : List Source) (name offset : List ℕ) → IsHarmless (shown_offset ss name offset)
+through_put : (from : List ℕ) (ts : List Through) → IsHarmless (through_words from ts)
+through_put from [] = none
+through_put from (t ∷ ts) = harmless_paragraph _
+
+refused_put : (ss : List Source) (group : List ℕ) (object index : ℕ) → IsHarmless (shown_refused ss group object index)
+unfolding shown_refused
+refused_put ss group object index =
+    in_source_put (shown_with_variables object index)
+    (λ s. optional (shown_through s) (λ m. mark_put s m ⌢ through_put s.name (variables_at s.text m.start)) (mark_of s.marks object index)) ss group
+
+named_put : (word : List ℕ) (ss : List Source) → IsHarmless (shown_named word ss)
+named_put word ss =
+    joined (λ (s : Source). flat_map (shown_mark s) (marks_named word s)) (λ s. joined (shown_mark s) (mark_put s) (marks_named word s)) ss
+
+count_put : (word : List ℕ) (ss : List Source) (n : ℕ) → IsHarmless (named_words word ss n)
+count_put word ss zero = none
+count_put word ss (suc n) = either (nat_le (suc n) 3) _ _ (harmless_paragraph _ ⌢ named_put word ss) (harmless_paragraph _)
+
+actions_put : (ss : List Source) (word : List ℕ) → IsHarmless (shown_actions ss word)
+unfolding shown_actions
+actions_put ss word = count_put word ss (count_named word ss)
+
+object_put : (ss : List Source) (group : List ℕ) (number : ℕ) → IsHarmless (shown_object ss group number)
+unfolding shown_object
+object_put ss group number =
+    in_source_put (shown_object_in number) (λ s. optional (shown_landmark s) (landmark_put s) (object_in number (landmarks s.text))) ss group
+
+offset_put : (ss : List Source) (name : List ℕ) (n : ℕ) → IsHarmless (shown_offset ss name n)
 unfolding shown_offset
-offset_put ss name offset =
-    optional (shown_byte offset)
-    (λ s. either s.is_written _ _ (optional (λ n. shown_place s.name s.text n 1) (λ n. harmless_place s.name s.text n 1) (number_in offset)) none)
-    (source_named ss name)
+offset_put ss name n = in_source_put (shown_byte n) (λ s. either s.is_written _ _ (harmless_place s.name s.text n 1) none) ss name
 
--- Words
+service_put : (ss : List Source) (number group : List ℕ) → IsHarmless (shown_service ss number group)
+unfolding shown_service
+service_put ss number group =
+    in_source_put (shown_for number) (λ s. optional (shown_landmark s) (landmark_put s) (landmark_for number s.name (landmarks s.text))) ss group
 
-end : IsHarmless (codes ".\n")
-end = harmless_codes (codes ".\n") refl
+line_from_put : (s : Script) (start : ℕ) (ls : List (List ℕ)) (n : ℕ) → IsHarmless (shown_line_from s start ls n)
+line_from_put s start [] n = none
+line_from_put s start (l ∷ ls) zero = harmless_place s.name s.bytes start (length (without_terminator l))
+line_from_put s start (l ∷ ls) (suc n) = line_from_put s (start + length l) ls n
 
-object_put : (group number : List ℕ) → IsHarmless (object_words group number)
-unfolding object_words
-object_put group number = harmless_codes (codes "object ") refl ⌢ harmless_plain number ⌢ harmless_codes (codes " of ") refl ⌢ harmless_plain group
+script_line_put : (s : Script) (n : ℕ) → IsHarmless (shown_line s n)
+script_line_put s zero = none
+script_line_put s (suc n) = line_from_put s 0 (lines_of s.bytes) n
 
-spot_put : (s : Spot) → IsHarmless (action_words s)
-unfolding action_words
-spot_put s = harmless_codes (codes "action ") refl ⌢ harmless_plain s.index ⌢ harmless_codes (codes " of ") refl ⌢ object_put s.group s.object
+script_put : (script : Option Script) (word : List ℕ) → IsHarmless (shown_script script word)
+script_put script word = optional (λ (s : Script). by_number (shown_line s) word) (λ s. by_number_put (shown_line s) (script_line_put s) word) script
 
-shown_put : (ss : List Source) (s : Spot) → IsHarmless (shown_spot ss s)
-shown_put ss s = action_put ss s.group s.object s.index
+spot_put : (ss : List Source) (s : Spot) → IsHarmless (shown_spot ss s)
+spot_put ss s = by_numbers_put (shown_action ss s.group) (action_put ss s.group) s.object s.index
+
+-- Bounds
+
+stage_words_put : (front : List ℕ) (s : Stage) → IsHarmless (stage_words front s)
+unfolding stage_words
+stage_words_put front s = harmless_paragraph _
+
+stage_put : (ss : List Source) (front : List ℕ) (s : Stage) → IsHarmless (stage_text ss front s)
+unfolding stage_text
+stage_put ss front s = stage_words_put front s ⌢ action_put ss s.cause.at.group s.cause.at.number s.index
+
+stages_put : (ss : List Source) (stages : List Stage) → IsHarmless (stages_text ss stages)
+stages_put ss [] = harmless_paragraph _
+stages_put ss (s ∷ more) = stage_put ss PUTS_FIRST.now s ⌢ joined (stage_text ss PUTS_NEXT.now) (stage_put ss PUTS_NEXT.now) more
+
+other_put : (printed : List ℕ) (cost : ℕ) → IsHarmless (other_words printed cost)
+other_put printed cost = either (bytes_eq (decimal cost) printed) _ _ none (harmless_paragraph _)
+
+where_put : (k : InputKind) (c : Config) → IsHarmless (place_words k c)
+where_put kind.Start c = harmless_paragraph _
+where_put kind.Key c = harmless_paragraph _
+where_put kind.Tick c = harmless_paragraph _
+where_put kind.Stream c = harmless_paragraph _
+where_put kind.Engine c = harmless_paragraph _
+where_put kind.Arrive c = harmless_paragraph _
+
+way_put : (ss : List Source) (printed : List ℕ) (w : Way) → IsHarmless (way_text ss printed w)
+unfolding way_text
+way_put ss printed w = other_put printed w.cost ⌢ where_put w.kind w.config ⌢ stages_put ss w.stages.items
+
+bound_put : (ss : List Source) (ways : List Way) (word printed : List ℕ) → IsHarmless (bound_text ss ways word printed)
+unfolding bound_text
+bound_put ss ways word printed = optional (way_text ss printed) (way_put ss printed) (way_of ways word)
 
 -- Lines
 
-refused_words_put : (action : List ℕ) (s : Spot) → IsHarmless (refused_words action s)
-refused_words_put action s =
-    either (bytes_eq action (codes "-")) _ _ (harmless_codes MEMBERS_OF.now refl ⌢ object_put s.group s.object)
-    (harmless_plain action ⌢ harmless_codes (codes ", ") refl ⌢ spot_put s)
-
 refused_spot_put : (ss : List Source) (action : List ℕ) (s : Spot) → IsHarmless (refused_spot ss action s)
 unfolding refused_spot
-refused_spot_put ss action s = harmless_codes STANDS_IN.now refl ⌢ refused_words_put action s ⌢ end ⌢ shown_put ss s
+refused_spot_put ss action s = harmless_paragraph _ ⌢ by_numbers_put (shown_refused ss s.group) (refused_put ss s.group) s.object s.index
 
 refused_at_put : (ss : List Source) (action group object index : List ℕ)
     → IsHarmless (refused_at ss action (record { group = group; object = object; index = index }))
 refused_at_put ss action [] object index = none
 refused_at_put ss action (b ∷ bs) object index = refused_spot_put ss action (record { group = b ∷ bs; object = object; index = index })
 
-refused_put : (ss : List Source) (ws : List ℕ) → IsHarmless (spec.refused ss ws)
+refusal_put : (g : Ground) (ws : List ℕ) → IsHarmless (spec.refused g ws)
 unfolding spec.refused
-refused_put ss ws =
-    refused_at_put ss _ _ _ _ ⌢ advice_put refusals (first_word ws) refusals_are
+refusal_put g ws =
+    refused_at_put g.sources _ _ _ _ ⌢ advice_put refusals (first_word ws) ⌢ bound_put g.sources g.ways (behind_first ws) []
 
 config_put : (ws : List ℕ) → IsHarmless (spec.config ws)
 unfolding spec.config
-config_put ws =
-    harmless_codes SO_IT_IS.now refl ⌢ harmless_plain (before_last ws)
-    ⌢ either (bytes_eq (last_word ws) (codes "-")) _ _ (harmless_codes SHOWS_NONE.now refl) (harmless_codes SHOWS_SCENE.now refl ⌢ harmless_plain (last_word ws))
-    ⌢ end
+config_put ws = harmless_paragraph _
 
-wrong_put : (ws : List ℕ) → IsHarmless (spec.object ws)
+named_object_put : (ss : List Source) (number ws : List ℕ) → IsHarmless (spec.object ss number ws)
 unfolding spec.object
-wrong_put ws = harmless_codes LEADS_TO.now refl ⌢ object_put (before_last ws) (last_word ws) ⌢ end
+named_object_put ss number ws =
+    harmless_paragraph _ ⌢ by_number_put (shown_object ss (before_last ws)) (object_put ss (before_last ws)) (last_word ws)
 
-by_words_put : (s : Spot) → IsHarmless (by_words s)
-by_words_put s =
-    either (bytes_eq s.index (codes "0")) _ _ (object_put s.group s.object ⌢ harmless_codes (codes ", which has it from the start") refl)
-    (spot_put s ⌢ harmless_codes (codes ", which writes it or hands it on") refl)
+or_else_put : (xs ys : List ℕ) → IsHarmless xs → IsHarmless ys → IsHarmless (or_else xs ys)
+or_else_put [] ys front behind = behind
+or_else_put (x ∷ xs) ys front behind = front
+
+from_put : (ss : List Source) (s : Spot) → IsHarmless (shown_from ss s)
+from_put ss s =
+    either (bytes_eq s.index (codes "0")) _ _
+    (or_else_put (shown_spot ss s) _ (spot_put ss s) (by_number_put (shown_object ss s.group) (object_put ss s.group) s.object)) (spot_put ss s)
 
 by_put : (ss : List Source) (s : Spot) → IsHarmless (spec.by ss s)
 unfolding spec.by
-by_put ss s = harmless_codes COMES_BY.now refl ⌢ by_words_put s ⌢ end ⌢ shown_put ss s
+by_put ss s = harmless_paragraph _ ⌢ from_put ss s
 
 cause_put : (ss : List Source) (s : Spot) → IsHarmless (spec.cause ss s)
 unfolding spec.cause
-cause_put ss s = harmless_codes CIRCLE_THROUGH.now refl ⌢ spot_put s ⌢ end ⌢ shown_put ss s
-
-byte_put : (name offset : List ℕ) → IsHarmless (byte_words name offset)
-unfolding byte_words
-byte_put name offset = harmless_codes IS_BYTE.now refl ⌢ harmless_plain offset ⌢ harmless_codes OF_FILE.now refl ⌢ harmless_plain name ⌢ end
+cause_put ss s = harmless_paragraph _ ⌢ spot_put ss s
 
 file_put : (ss : List Source) (s : Spot) → IsHarmless (spec.file ss s)
 unfolding spec.file
-file_put ss s = byte_put s.group s.index ⌢ offset_put ss s.group s.index ⌢ advice_put files s.object files_are
+file_put ss s = harmless_paragraph _ ⌢ by_number_put (shown_offset ss s.group) (offset_put ss s.group) s.index ⌢ advice_put files s.object
+
+group_put : (ss : List Source) (ws : List ℕ) → IsHarmless (spec.service ss ws)
+unfolding spec.service
+group_put ss ws = harmless_paragraph _ ⌢ service_put ss (first_word ws) (behind_first ws) ⌢ advice_put services (first_word ws)
+
+line_of_script_put : (script : Option Script) (ws : List ℕ) → IsHarmless (spec.script script ws)
+unfolding spec.script
+line_of_script_put script ws = harmless_paragraph _ ⌢ script_put script ws ⌢ advice_put readings (codes "script")
+
+unread_put : (ws : List ℕ) → IsHarmless (spec.unread ws)
+unfolding spec.unread
+unread_put ws = harmless_paragraph _ ⌢ advice_put readings (codes "read")
 
 stuck_put : (action at : List ℕ) → IsHarmless (stuck action at)
 unfolding stuck
-stuck_put action at =
-    harmless_codes THE_ACTION.now refl ⌢ harmless_plain action ⌢ harmless_codes WAS_STUCK.now refl ⌢ object_put (before_last at) (last_word at) ⌢ end
+stuck_put action at = harmless_paragraph _
 
-fault_put : (ws : List ℕ) → IsHarmless (spec.fault ws)
+fault_put : (ss : List Source) (ws : List ℕ) → IsHarmless (spec.fault ss ws)
 unfolding spec.fault
-fault_put ws = stuck_put (first_word (behind_first ws)) (behind_first (behind_first ws)) ⌢ advice_put faults (first_word ws) faults_are
+fault_put ss ws =
+    stuck_put (first_word (behind_first ws)) (behind_first (behind_first ws)) ⌢ actions_put ss (first_word (behind_first ws))
+    ⌢ advice_put faults (first_word ws)
 
 accepted_put : IsHarmless spec.accepted
 unfolding spec.accepted
-accepted_put = harmless_codes _ refl
+accepted_put = harmless_paragraph _
 
-told_put : (ss : List Source) (k : Keyword) (ws : List ℕ) → IsHarmless (told ss k ws)
-told_put ss keyword.Accepted ws = accepted_put
-told_put ss keyword.Refused ws = refused_put ss ws
-told_put ss keyword.Config ws = config_put ws
-told_put ss keyword.Object ws = wrong_put ws
-told_put ss keyword.By ws = by_put ss (spot ws)
-told_put ss keyword.Cause ws = cause_put ss (spot ws)
-told_put ss keyword.File ws = file_put ss (spot ws)
-told_put ss keyword.Service ws = advice_put services (first_word ws) services_are
-told_put ss keyword.Script ws = advice_put readings (codes "script") readings_are
-told_put ss keyword.Read ws = advice_put readings (codes "read") readings_are
-told_put ss keyword.Fault ws = fault_put ws
+-- All lines
 
-line_put : (ss : List Source) (line : List ℕ) (k : Keyword) → IsHarmless (with_line ss line k)
+told_put : (g : Ground) (number : List ℕ) (k : Keyword) (ws : List ℕ) → IsHarmless (told g number k ws)
+told_put g number keyword.Accepted ws = accepted_put
+told_put g number keyword.Start ws = bound_put g.sources g.ways (codes "start") ws
+told_put g number keyword.Key ws = bound_put g.sources g.ways (codes "key") ws
+told_put g number keyword.Tick ws = bound_put g.sources g.ways (codes "tick") ws
+told_put g number keyword.Stream ws = bound_put g.sources g.ways (codes "stream") ws
+told_put g number keyword.Engine ws = bound_put g.sources g.ways (codes "engine") ws
+told_put g number keyword.Arrive ws = bound_put g.sources g.ways (codes "arrive") ws
+told_put g number keyword.Refused ws = refusal_put g ws
+told_put g number keyword.Config ws = config_put ws
+told_put g number keyword.Object ws = named_object_put g.sources number ws
+told_put g number keyword.By ws = by_put g.sources (spot ws)
+told_put g number keyword.Cause ws = cause_put g.sources (spot ws)
+told_put g number keyword.File ws = file_put g.sources (spot ws)
+told_put g number keyword.Service ws = group_put g.sources ws
+told_put g number keyword.Script ws = line_of_script_put g.script ws
+told_put g number keyword.Read ws = unread_put ws
+told_put g number keyword.Fault ws = fault_put g.sources ws
+
+line_put : (g : Ground) (number line : List ℕ) (k : Keyword) → IsHarmless (with_line g number line k)
 unfolding with_line
-line_put ss line k = harmless_plain line ⌢ harmless_codes (10 ∷ []) refl ⌢ told_put ss k (behind_first line)
+line_put g number line k = harmless_plain line ⌢ harmless_codes (10 ∷ []) refl ⌢ told_put g number k (behind_first line)
 
-explained_put : (ss : List Source) (line : List ℕ) → IsHarmless (explained ss line)
+explained_put : (g : Ground) (number line : List ℕ) → IsHarmless (explained g number line)
 unfolding explained
-explained_put ss line = optional (with_line ss line) (line_put ss line) (spec.keyword_of (first_word line))
+explained_put g number line = optional (with_line g number line) (line_put g number line) (keyword_of (first_word line))
+
+all_put : (g : Ground) (number : List ℕ) (lines : List (List ℕ)) → IsHarmless (explained_all g number lines)
+all_put g number [] = none
+all_put g number (line ∷ lines) = explained_put g number line ⌢ all_put g (number_behind number line) lines
 
 pub harmless_why : ExplanationsAreHarmless
 unfolding why
-harmless_why fs output = joined (explained (map source_of fs)) (explained_put (map source_of fs)) (map without_terminator (lines_of output))
+harmless_why k output = all_put (spec.ground k) [] (map without_terminator (lines_of output))

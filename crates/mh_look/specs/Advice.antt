@@ -5,6 +5,8 @@ use Rattle.std.specs.List.{find}
 use Rattle.std.specs.Option.{option_map_or}
 use Rattle.std.specs.Str.{bytes_eq}
 use Rattle.mh_look.specs.declared.advice.TheConstants as table
+use Rattle.mh_look.specs.declared.why_object.TheConstants as table_of_objects
+use Rattle.mh_look.specs.Wrapping.{paragraph}
 
 -- the word that stands in a line, the cause, and the mend
 abbrev pub Row : Type 0
@@ -29,6 +31,10 @@ faults = map (λ row. map (λ x. x.now) row) table.FAULTS
 unfoldable pub readings : List Row
 readings = map (λ row. map (λ x. x.now) row) table.READINGS
 
+-- what stands in front of the object that a refusal names and behind it, by the number of the refusal
+unfoldable pub objects : List Row
+objects = map (λ row. map (λ x. x.now) row) table_of_objects.OBJECTS
+
 abbrev pub cell : Row → ℕ → List ℕ
 cell [] n = []
 cell (x ∷ xs) zero = x
@@ -41,7 +47,7 @@ abbrev pub row_with : List Row → List ℕ → Option Row
 row_with rows word = find (has_word word) rows
 
 unfoldable pub row_text : Row → List ℕ
-row_text row = codes "  Cause: " ++ cell row 1 ++ codes ".\n  Mend: " ++ cell row 2 ++ codes ".\n"
+row_text row = paragraph (codes "  Cause: " ++ cell row 1 ++ codes ".") ++ paragraph (codes "  Mend: " ++ cell row 2 ++ codes ".")
 
 -- what is told of the word, if something is
 abbrev pub advice : List Row → List ℕ → List ℕ

@@ -1,6 +1,6 @@
 -- The command line: the subcommands and options that there are, and what the words ask for. How words are read
 -- against them, what is refused and under which kind, are the definitions of `clap`.
-use Rattle.std.specs.Prelude.{◌≡◌, ◌≢◌, ℕ, Bool, true, false, if◌then◌else◌, List, [], Option, Some, None, Result, MatchResult, codes, unwrap_or, option_map}
+use Rattle.std.specs.Prelude.{◌≡◌, ◌≢◌, ℕ, Bool, true, false, if◌then◌else◌, List, [], ◌∷◌, Option, Some, None, Result, MatchResult, codes, unwrap_or, option_map}
 use Rattle.std.specs.Option.{option_map_or}
 use Rattle.std.specs.Str.{bytes_eq}
 use Rattle.std.specs.Str.Parse.{digits_value, without_leading_plus}
@@ -34,19 +34,38 @@ output = file (codes "OUTPUT")
 abbrev pub folder : Rule
 folder = file (codes "DIR")
 
+-- an option with a value
+abbrev pub named : Text → Rule
+named id = record (new_rule id) { long = Some id; action = Some Set; value_names = 1 }
+
+-- an option without a value
+abbrev pub flag : Text → Rule
+flag id = record (new_rule id) { long = Some id; action = Some SetTrue }
+
 -- the largest number that a frame can be asked for under
 abbrev pub last_frame : ℕ
 last_frame = 1000000000
 
 -- the number of a frame
 abbrev pub frame : Rule
-frame = record (new_rule (codes "frame")) { long = Some (codes "frame"); action = Some Set; value_names = 1; parser = Some (parser.Unsigned 0 last_frame) }
+frame = record (named (codes "frame")) { parser = Some (parser.Unsigned 0 last_frame) }
 
 abbrev pub frame_required : Rule
 frame_required = record frame { required = true }
 
 abbrev pub plain : Rule
-plain = record (new_rule (codes "plain")) { long = Some (codes "plain"); action = Some SetTrue }
+plain = flag (codes "plain")
+
+-- the application to start with
+abbrev pub start : Rule
+start = record (named (codes "start")) { defaults = codes "a" ∷ [] }
+
+-- the script that was played
+abbrev pub script : Rule
+script = named (codes "script")
+
+abbrev pub color : Rule
+color = flag (codes "color")
 
 -- The subcommands.
 
@@ -62,8 +81,13 @@ image = with_rule (with_rule (new_app (codes "image")) report) frame_required
 abbrev pub diff : App
 diff = with_rule (with_rule (new_app (codes "diff")) report) other
 
+-- what has to be given, and then what may be
+
+abbrev pub why_required : App
+why_required = with_rule (with_rule (new_app (codes "why")) output) folder
+
 abbrev pub why : App
-why = with_rule (with_rule (new_app (codes "why")) output) folder
+why = with_rule (with_rule (with_rule why_required start) script) color
 
 -- the program without them: it has a version, and one of them has to be given
 abbrev pub bare : App
@@ -82,9 +106,9 @@ pub data Asked : Type 0 where
   paged : (report : Text) → Asked
   drawn : (report : Text) (frame : Option ℕ) → Asked
   compared : (first second : Text) → Asked
-  explained : (output folder : Text) → Asked
+  explained : (output folder start : Text) (script : Option Text) (color : Bool) → Asked
 
--- the value of an argument; each that is read here is required
+-- the value of an argument; each that is read here is required or has a default
 abbrev pub text_of : Text → List Row → Text
 text_of id rows = unwrap_or (first_of id rows) []
 
@@ -110,7 +134,9 @@ abbrev pub comparing : List Row → Asked
 comparing rows = compared (text_of (codes "REPORT") rows) (text_of (codes "OTHER") rows)
 
 abbrev pub explaining : List Row → Asked
-explaining rows = explained (text_of (codes "OUTPUT") rows) (text_of (codes "DIR") rows)
+explaining rows =
+    explained (text_of (codes "OUTPUT") rows) (text_of (codes "DIR") rows) (text_of (codes "start") rows) (first_of (codes "script") rows)
+    (is_set (codes "color") rows)
 
 -- the subcommand of this name
 abbrev pub asked_under : Text → List Row → Asked
@@ -131,7 +157,7 @@ said (task.Show report frame plain) = shown report.now frame plain
 said (task.Page report) = paged report.now
 said (task.Image report frame) = drawn report.now frame
 said (task.Diff first second) = compared first.now second.now
-said (task.Why output folder) = explained output.now folder.now
+said (task.Why output folder start script color) = explained output.now folder.now start.now (option_map (λ s. s.now) script) color
 
 -- Why words ask for nothing that can be done.
 

@@ -13,6 +13,11 @@ pub mod Changes
 pub mod Parts
 pub mod LineWords
 pub mod Advice
+pub mod Wrapping
 pub mod Sources
+pub mod Services
+pub mod WayWords
+pub mod Ways
+pub mod Painting
 pub mod Why
 pub mod Places

@@ -7,6 +7,7 @@ use Rattle.bstr.specs.Text.{lines_of, without_terminator}
 use Rattle.bstr.specs.Utf8.{lossy_chars}
 use Rattle.mh_told.specs.Printing.{character}
 use Rattle.mh_look.specs.Shown.{is_order, harmless}
+use Rattle.mh_look.specs.Wrapping.{paragraph}
 
 -- the bytes as text without orders; a byte that is of no character is U+FFFD
 abbrev pub plain : List ℕ → List ℕ
@@ -62,14 +63,15 @@ shown_from_column bs first = flat_map (λ c. character (spaced c)) (take width (
 abbrev pub shift : Line → ℕ
 shift l = column l - first_shown l
 
--- carets under so many bytes: one at least, and none past what is shown
+-- carets under so many bytes of the line: one at least, and none past what is shown
 abbrev pub caret_count : Line → ℕ → ℕ
-caret_count l size = max 1 (min (length (lossy_chars (take size (drop l.before l.bytes)))) (width - shift l))
+caret_count l size = max 1 (min (length (lossy_chars (take size (drop l.before (without_terminator l.bytes))))) (width - shift l))
 
 -- What is shown of a place: a line of words, the line, and one of carets.
 
 unfoldable pub place_words : List ℕ → ℕ → ℕ → List ℕ
-place_words name number column = codes "  " ++ plain name ++ codes ", line " ++ decimal number ++ codes ", column " ++ decimal (suc column) ++ 10 ∷ []
+place_words name number column =
+    paragraph (codes "  " ++ name ++ codes ", line " ++ decimal number ++ codes ", column " ++ decimal (suc column))
 
 unfoldable pub shown_line : List ℕ → ℕ → List ℕ
 shown_line bs first = codes "      " ++ shown_from_column bs first ++ 10 ∷ []

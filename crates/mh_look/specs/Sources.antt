@@ -1,24 +1,28 @@
 -- The files of a service, as places in them are shown.
-use Rattle.std.specs.Prelude.{ℕ, Bool, if◌then◌else◌, List, [], Option, Some, None, Result, Ok, Err}
-use Rattle.std.specs.List.{find}
+use Rattle.std.specs.Prelude.{ℕ, zero, suc, ◌+◌, ◌==◌, Bool, false, nat_le, if◌then◌else◌, List, [], ◌∷◌, ◌++◌, length, codes, Option, Some, None, Result, Ok, Err}
+use Rattle.std.specs.Fmt.{decimal}
+use Rattle.std.specs.List.{filter, find, flat_map}
 use Rattle.std.specs.Option.{option_map_or}
 use Rattle.std.specs.Str.{bytes_eq}
+use Rattle.bstr.specs.Text.{lines_of, without_terminator}
+use Rattle.mh_base.specs.Path.{is_path, led_to}
+use Rattle.mh_group.specs.declared.action_name.ActionName.{ActionName}
 use Rattle.mh_group.specs.declared.written.Written.{Written}
+use Rattle.mh_group.specs.Words.{action_word}
 use Rattle.mh_codec.specs.Gives.{Refusal}
 use Rattle.mh_codec.specs.Reading as octets
+use Rattle.mh_text.specs.Landmarks.{Landmark, Sight, Class, Number, Name, Through, landmarks, variables_at}
 use Rattle.mh_text.specs.Lexing as words
 use Rattle.mh_text.specs.Printed.{printed, passes_limit}
 use Rattle.mh_text.specs.declared.mark.Mark.{Mark}
 use Rattle.mh_text.specs.Marks.{marks, mark_of}
+use Rattle.mh_told.specs.Reading.{Source as File}
+use Rattle.mh_look.specs.declared.why_place.TheConstants.{GOES_THROUGH, STANDS_HERE, STAND_IN}
 use Rattle.mh_look.specs.LineWords.{number_in}
 use Rattle.mh_look.specs.Places.{shown_place}
+use Rattle.mh_look.specs.Wrapping.{paragraph}
 
--- a file of the service: its path and its bytes
-pub record File : Type 0 where
-  pub name : List ℕ
-  pub bytes : List ℕ
-
--- its path, the text that is shown of it, the marks of that, and whether the file begins as a group in the textual notation
+-- a file's path, the text that is shown of it, the marks of that, and whether the file begins as a group in the textual notation
 pub record Source : Type 0 where
   pub name : List ℕ
   pub text : List ℕ
@@ -39,33 +43,134 @@ unfoldable pub text_of : List ℕ → List ℕ
 text_of bs = if octets.begins_group bs then shown_as bs (octets.read bs) else bs
 
 abbrev pub source_of : File → Source
-source_of f = record { name = f.name; text = text_of f.bytes; marks = marks (text_of f.bytes); is_written = words.begins_group f.bytes }
+source_of f = record { name = f.0; text = text_of f.1.items; marks = marks (text_of f.1.items); is_written = words.begins_group f.1.items }
 
 abbrev pub source_named : List Source → List ℕ → Option Source
 source_named ss name = find (λ (s : Source). bytes_eq s.name name) ss
 
--- Places in them.
+-- what is shown of the file with this name, if it is there
+abbrev pub in_source : (Source → List ℕ) → List Source → List ℕ → List ℕ
+in_source shown ss name = option_map_or shown (source_named ss name) []
 
--- the mark of an action of an object, or with the number 0 of its list of members, as words give the numbers
-abbrev pub mark_by : List Mark → Option ℕ → Option ℕ → Option Mark
-mark_by ms (Some object) (Some index) = mark_of ms object index
-mark_by ms (Some object) None = None
-mark_by ms None index = None
+-- ACTIONS
 
 abbrev pub shown_mark : Source → Mark → List ℕ
 shown_mark s m = shown_place s.name s.text m.start m.length
 
--- what is shown of an action, or of members, in a file
-abbrev pub shown_in : List ℕ → List ℕ → Source → List ℕ
-shown_in object index s = option_map_or (shown_mark s) (mark_by s.marks (number_in object) (number_in index)) []
+-- the mark of the action with this number of an object, or with the number 0 of its list of members
+abbrev pub shown_numbered : ℕ → ℕ → Source → List ℕ
+shown_numbered object index s = option_map_or (shown_mark s) (mark_of s.marks object index) []
 
--- what is shown of them in the group of this name, if its file is there
-unfoldable pub shown_action : List Source → List ℕ → List ℕ → List ℕ → List ℕ
-shown_action ss group object index = option_map_or (shown_in object index) (source_named ss group) []
+-- the same of the group with this name, if its file is there
+unfoldable pub shown_action : List Source → List ℕ → ℕ → ℕ → List ℕ
+shown_action ss group object index = in_source (shown_numbered object index) ss group
+
+-- a name that leads to no path stands for itself
+abbrev pub path_from : List ℕ → List ℕ → List ℕ
+path_from from name = if is_path (led_to from name) then led_to from name else name
+
+abbrev pub through_path : List ℕ → Option (List ℕ) → List ℕ
+through_path from None = from
+through_path from (Some name) = path_from from name
+
+abbrev pub variable_words : List ℕ → Through → List ℕ
+variable_words from t = codes "variable " ++ decimal t.number ++ codes " of " ++ through_path from t.name
+
+-- one behind the other
+abbrev pub more_variables : List ℕ → List Through → List ℕ
+more_variables from ts = flat_map (λ t. codes ", " ++ variable_words from t) ts
+
+-- the variables through which an action goes, if there are some
+abbrev pub through_words : List ℕ → List Through → List ℕ
+through_words from [] = []
+through_words from (t ∷ ts) = paragraph (GOES_THROUGH.now ++ variable_words from t ++ more_variables from ts ++ codes ".")
+
+abbrev pub shown_through : Source → Mark → List ℕ
+shown_through s m = shown_mark s m ++ through_words s.name (variables_at s.text m.start)
+
+abbrev pub shown_with_variables : ℕ → ℕ → Source → List ℕ
+shown_with_variables object index s = option_map_or (shown_through s) (mark_of s.marks object index) []
+
+-- an action with the variables through which it goes
+unfoldable pub shown_refused : List Source → List ℕ → ℕ → ℕ → List ℕ
+shown_refused ss group object index = in_source (shown_with_variables object index) ss group
+
+-- where all actions of a name stand
+
+abbrev pub is_named : List ℕ → Option ActionName → Bool
+is_named word None = false
+is_named word (Some name) = bytes_eq (action_word name) word
+
+abbrev pub marks_named : List ℕ → Source → List Mark
+marks_named word s = filter (λ (m : Mark). is_named word m.action) s.marks
+
+abbrev pub count_named : List ℕ → List Source → ℕ
+count_named word [] = 0
+count_named word (s ∷ ss) = length (marks_named word s) + count_named word ss
+
+abbrev pub shown_named : List ℕ → List Source → List ℕ
+shown_named word ss = flat_map (λ s. flat_map (shown_mark s) (marks_named word s)) ss
+
+-- so many places are shown; of more their number is told
+abbrev pub named_words : List ℕ → List Source → ℕ → List ℕ
+named_words word ss zero = []
+named_words word ss (suc n) =
+    if nat_le (suc n) 3 then paragraph STANDS_HERE.now ++ shown_named word ss
+    else paragraph (STAND_IN.now ++ decimal (suc n) ++ codes " places.")
+
+unfoldable pub shown_actions : List Source → List ℕ → List ℕ
+shown_actions ss word = named_words word ss (count_named word ss)
+
+-- OBJECTS AND NAMES
+
+abbrev pub shown_landmark : Source → Landmark → List ℕ
+shown_landmark s m = shown_place s.name s.text m.start m.length
+
+-- the number of an ingredient, or the class of the group itself, whose number is 0
+abbrev pub is_object : ℕ → Sight → Bool
+is_object n Class = n == 0
+is_object n (Number k) = n == k
+is_object n (Name x) = false
+
+abbrev pub object_in : ℕ → List Landmark → Option Landmark
+object_in n ms = find (λ (m : Landmark). is_object n m.sight) ms
+
+abbrev pub shown_object_in : ℕ → Source → List ℕ
+shown_object_in n s = option_map_or (shown_landmark s) (object_in n (landmarks s.text)) []
+
+-- where an object stands, if it is found
+unfoldable pub shown_object : List Source → List ℕ → ℕ → List ℕ
+shown_object ss group number = in_source (shown_object_in number) ss group
+
+-- BYTES AND LINES
 
 -- what is shown of a byte of a file, if it is one of a text
-abbrev pub shown_byte : List ℕ → Source → List ℕ
-shown_byte offset s = if s.is_written then option_map_or (λ n. shown_place s.name s.text n 1) (number_in offset) [] else []
+abbrev pub shown_byte : ℕ → Source → List ℕ
+shown_byte n s = if s.is_written then shown_place s.name s.text n 1 else []
 
-unfoldable pub shown_offset : List Source → List ℕ → List ℕ → List ℕ
-shown_offset ss name offset = option_map_or (shown_byte offset) (source_named ss name) []
+unfoldable pub shown_offset : List Source → List ℕ → ℕ → List ℕ
+shown_offset ss name n = in_source (shown_byte n) ss name
+
+-- a script, by its name and its bytes
+pub record Script : Type 0 where
+  pub name : List ℕ
+  pub bytes : List ℕ
+
+-- the line of these before which so many stand, where the first of them begins behind so many bytes
+abbrev pub shown_line_from : Script → ℕ → List (List ℕ) → ℕ → List ℕ
+shown_line_from s start [] n = []
+shown_line_from s start (l ∷ ls) zero = shown_place s.name s.bytes start (length (without_terminator l))
+shown_line_from s start (l ∷ ls) (suc n) = shown_line_from s (start + length l) ls n
+
+-- the line with this number, from 1 on
+abbrev pub shown_line : Script → ℕ → List ℕ
+shown_line s zero = []
+shown_line s (suc n) = shown_line_from s 0 (lines_of s.bytes) n
+
+-- WORDS FOR NUMBERS. What a word leads to that writes no number of 32 bits is not shown.
+
+abbrev pub by_number : (ℕ → List ℕ) → List ℕ → List ℕ
+by_number shown word = option_map_or shown (number_in word) []
+
+abbrev pub by_numbers : (ℕ → ℕ → List ℕ) → List ℕ → List ℕ → List ℕ
+by_numbers shown first second = by_number (λ m. by_number (λ n. shown m n) second) first

@@ -1,10 +1,12 @@
 //! What is told of each number and kind that `redplay` prints: the cause and the mend, in the words of
 //! `docs/PROFILE.md`. A row of a table has the word that stands in the line, the cause and the mend.
 ghost use Rattle.std.specs.Prelude.{◌≡◌, ◌++◌, ◌<◌, OnOk, map};
-ghost use Rattle.mh_look.specs.Advice.{cells, cell, row_text, advice, refusals, files, services, faults, readings};
+ghost use Rattle.std.specs.Option.{option_map};
+ghost use Rattle.mh_look.specs.Advice.{cells, cell, row_text, row_with, advice, refusals, files, services, faults, readings};
 
+use crate::wrap::put_sentence;
 use mh_told::text::Text;
-use std::alloc::AllocError;
+use std::alloc::{AllocError, Global};
 
 /// What `refused` tells: of a service that is not accepted, and of an input that is not taken.
 pub static REFUSALS: [[&[u8]; 3]; 15] = [
@@ -241,23 +243,35 @@ pub static READINGS: [[&[u8]; 3]; 2] = [
 
 /// Puts what is told of this word, if something is.
 pub(crate) fn put_advice(
+    alloc: Global,
     text: &mut Text,
     rows: &[[&[u8]; 3]],
     word: &[u8],
 ) -> Result<(), AllocError>
     ensures { OnOk result (text.new ≡ text.old ++ advice (map cells rows.now) word.now) }
 {
+    match row_with(rows, word) {
+        Some(row) => put_row(alloc, text, row),
+        None => Ok(()),
+    }
+}
+
+/// The first row for this word, if there is one.
+pub(crate) fn row_with<'a>(rows: &'a [[&'a [u8]; 3]], word: &[u8]) -> Option<&'a [&'a [u8]; 3]>
+    ensures { option_map (λ row. cells row.now) result ≡ row_with (map cells rows.now) word.now }
+{
     let mut left = rows;
     while let [row, behind @ ..] = left {
         if cell(row, 0) == word {
-            return put_row(text, row);
+            return Some(row);
         }
         left = behind;
     }
-    Ok(())
+    None
 }
 
-fn cell<'a>(row: &[&'a [u8]; 3], at: usize) -> &'a [u8]
+/// A cell of a row.
+pub(crate) fn cell<'a>(row: &[&'a [u8]; 3], at: usize) -> &'a [u8]
     requires { at < 3 }
     ensures { result.now ≡ cell (cells row.now) at }
 {
@@ -265,14 +279,11 @@ fn cell<'a>(row: &[&'a [u8]; 3], at: usize) -> &'a [u8]
 }
 
 #[tactic(auto, unfolding(crate::specs::Advice::row_text))]
-fn put_row(text: &mut Text, row: &[&[u8]; 3]) -> Result<(), AllocError>
+fn put_row(alloc: Global, text: &mut Text, row: &[&[u8]; 3]) -> Result<(), AllocError>
     ensures { OnOk result (text.new ≡ text.old ++ row_text (cells row.now)) }
 {
-    text.put(b"  Cause: ")?;
-    text.put(cell(row, 1))?;
-    text.put(b".\n  Mend: ")?;
-    text.put(cell(row, 2))?;
-    text.put(b".\n")
+    put_sentence(alloc, text, b"  Cause: ", cell(row, 1), b".")?;
+    put_sentence(alloc, text, b"  Mend: ", cell(row, 2), b".")
 }
 
 #[tactic(auto, unfolding(crate::specs::Advice::refusals))]

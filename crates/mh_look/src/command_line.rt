@@ -2,8 +2,8 @@
 //!
 //! What the words mean, which are refused and why are `clap`'s rules over `program`; the texts on a
 //! wrong command line are left to it too. Where memory was refused there is no text.
-ghost use Rattle.std.specs.Prelude.{◌≡◌, map, codes, true, IfOk, IfErr};
-ghost use Rattle.clap.specs.Words.{FailsBy, fault_of, found_of, kind_of, rows_of, subcommand_of, subcommand_rows_of, takes};
+ghost use Rattle.std.specs.Prelude.{◌≡◌, map, codes, true, option_map, IfOk, IfErr};
+ghost use Rattle.clap.specs.Words.{FailsBy, fault_of, first_of, found_of, kind_of, rows_of, subcommand_of, subcommand_rows_of, takes};
 ghost use Rattle.clap.specs.declared.error.kind.ErrorKind.TheVariants.{OutOfMemory};
 ghost use Rattle.mh_look.specs.CommandLine.{IsApart, IsRefusedBy, asked_by, asked_under, number_in, frame_of, is_set, said, text_of};
 ghost use Rattle.mh_look.specs.CommandLine as spec;
@@ -42,6 +42,11 @@ pub enum Task<'a> {
     Why {
         output: &'a str,
         folder: &'a str,
+        /// The path of the application that the service starts with.
+        start: &'a str,
+        /// The file with the script that was played, if one is named.
+        script: Option<&'a str>,
+        color: bool,
     },
 }
 
@@ -97,7 +102,7 @@ fn showing<'a>(given: &ArgMatches<'a>) -> Task<'a>
     Task::Show {
         report: text_of(given, "REPORT"),
         frame: frame_of(given),
-        plain: is_plain(given),
+        plain: is_set(given, "plain"),
     }
 }
 
@@ -125,21 +130,31 @@ fn explaining<'a>(given: &ArgMatches<'a>) -> Task<'a>
     Task::Why {
         output: text_of(given, "OUTPUT"),
         folder: text_of(given, "DIR"),
+        start: text_of(given, "start"),
+        script: script_of(given),
+        color: is_set(given, "color"),
     }
 }
 
-/// The value of an argument that is required. Were there none, it would be the empty text.
+/// The value of an argument that is required or has a default. Were there none, it would be the empty text.
 fn text_of<'a>(given: &ArgMatches<'a>, name: &str) -> &'a str
     ensures { result.now ≡ text_of name.now (rows_of (found_of given.now)) }
 {
     given.get_str(name).unwrap_or("")
 }
 
-/// Whether colours are left out.
-fn is_plain<'a>(given: &ArgMatches<'a>) -> bool
-    ensures { result ≡ is_set (codes "plain") (rows_of (found_of given.now)) }
+/// The script that is named, if one is.
+fn script_of<'a>(given: &ArgMatches<'a>) -> Option<&'a str>
+    ensures { option_map (λ s. s.now) result ≡ first_of (codes "script") (rows_of (found_of given.now)) }
 {
-    match given.get_str("plain") {
+    given.get_str("script")
+}
+
+/// Whether an option without a value is given.
+fn is_set<'a>(given: &ArgMatches<'a>, name: &str) -> bool
+    ensures { result ≡ is_set name.now (rows_of (found_of given.now)) }
+{
+    match given.get_str(name) {
         Some(text) => text == "true",
         None => false,
     }

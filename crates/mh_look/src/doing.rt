@@ -4,13 +4,15 @@ use crate::difference::{Difference, compare};
 use crate::frames::frame_at;
 use crate::image::image_of;
 use crate::page::page_of;
+use crate::paint::painted;
 use crate::report::Report;
-use crate::service::files_of;
+use crate::service::files_in;
 use crate::show::{put_frame, put_report};
 use crate::source::{Failure, output_of, report_of};
 use crate::telling::told;
-use crate::why_names::named;
-use crate::why_output::why;
+use crate::ways::ways_of;
+use crate::why_output::{Known, why};
+use crate::why_script::Script;
 use mh_model::Picture;
 use mh_told::text::Text;
 use std::io;
@@ -37,7 +39,16 @@ pub fn done<R: Runtime + AllocGlobal>(rt: &R, task: &Task) -> Result<Outcome, Fa
         Task::Page { report } => paged(rt, report),
         Task::Image { report, frame } => drawn(rt, report, frame.unwrap_or(0)),
         Task::Diff { first, second } => compared(rt, first, second),
-        Task::Why { output, folder } => explained(rt, output, folder),
+        Task::Why {
+            output,
+            folder,
+            start,
+            script,
+            color,
+        } => {
+            let text = explanation(rt, output, folder, start, *script)?;
+            explained(rt, &text, *color)
+        }
     }
 }
 
@@ -87,16 +98,47 @@ fn compared<R: Runtime + AllocGlobal>(
     written(rt, &text, outcome)
 }
 
-fn explained<R: Runtime + AllocGlobal>(
+/// What is explained of an output.
+fn explanation<R: Runtime + AllocGlobal>(
     rt: &R,
     output: &str,
     folder: &str,
-) -> Result<Outcome, Failure> {
+    start: &str,
+    script: Option<&str>,
+) -> Result<Text, Failure> {
     let output = output_of(rt, output)?;
-    let names = named(rt.alloc(), output.as_slice())?;
-    let files = files_of(rt, folder, names.as_slice())?;
-    let text = why(rt.alloc(), files.as_slice(), output.as_slice())?;
-    written(rt, &text, Outcome::Written)
+    let lines = match script {
+        Some(name) => Some((name, output_of(rt, name)?)),
+        None => None,
+    };
+    let files = files_in(rt, folder)?;
+    let ways = ways_of(rt.alloc(), files.as_slice(), start.as_bytes())?;
+    let known = Known {
+        files: files.as_slice(),
+        ways: match &ways {
+            Some(ways) => ways.as_slice(),
+            None => &[],
+        },
+        script: lines.as_ref().map(|(name, bytes)| Script {
+            name: name.as_bytes(),
+            bytes: bytes.as_slice(),
+        }),
+    };
+    let text = why(rt.alloc(), &known, output.as_slice())?;
+    Ok(text)
+}
+
+/// Writes an explanation, in colours if they are asked for.
+fn explained<R: Runtime + AllocGlobal>(
+    rt: &R,
+    text: &Text,
+    color: bool,
+) -> Result<Outcome, Failure> {
+    if color {
+        let text = painted(rt.alloc(), text.as_slice())?;
+        return written(rt, &text, Outcome::Written);
+    }
+    written(rt, text, Outcome::Written)
 }
 
 /// The picture of the frame with this number.

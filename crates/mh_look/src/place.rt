@@ -3,12 +3,13 @@
 //!
 //! What stands in the file never tells the terminal what to do: each character that would is shown
 //! as U+FFFD.
-ghost use Rattle.std.specs.Prelude.{◌≡◌, ◌≤◌, ◌<◌, ◌^◌, ◌++◌, OnOk, IfOk, length, take, replicate};
+ghost use Rattle.std.specs.Prelude.{◌≡◌, ◌≤◌, ◌<◌, ◌^◌, ◌++◌, OnOk, IfOk, length, take, drop, replicate};
 ghost use Rattle.bstr.specs.Text.{without_terminator};
 ghost use Rattle.bstr.specs.Utf8.{lossy_chars};
 ghost use Rattle.mh_look.specs.Places.{plain, PlacesAreHarmless, line_at, spaced, shown_from_column, place_words, shown_line, caret_line, shown_at, shown_place};
 
 use crate::show::{harmless, put_character};
+use crate::wrap::put_paragraph;
 use bstr::ByteSlice;
 use mh_told::text::Text;
 use std::alloc::{AllocError, Global};
@@ -30,7 +31,7 @@ pub fn place_text(
     ensures { IfOk result (λ text. text ≡ shown_place name.now bytes.now offset size) }
 {
     let mut text = Text::new(alloc);
-    put_place(&mut text, name, bytes, offset, size)?;
+    put_place(alloc, &mut text, name, bytes, offset, size)?;
     Ok(text)
 }
 
@@ -55,6 +56,7 @@ pub(crate) fn put_plain(text: &mut Text, bytes: &[u8]) -> Result<(), AllocError>
 /// column, from 1 on, the line itself, and carets.
 #[tactic(auto, unfolding(crate::specs::Places::shown_place))]
 pub(crate) fn put_place(
+    alloc: Global,
     text: &mut Text,
     name: &[u8],
     bytes: &[u8],
@@ -64,7 +66,7 @@ pub(crate) fn put_place(
     ensures { OnOk result (text.new ≡ text.old ++ shown_place name.now bytes.now offset size) }
 {
     let (number, line, before) = line_at(bytes, offset);
-    put_in_line(text, name, number, line, before, size)
+    put_in_line(alloc, text, name, number, line, before, size)
 }
 
 /// The line in which so many bytes stand before what is meant: its number, the line, and how many of
@@ -94,6 +96,7 @@ fn line_at(bytes: &[u8], offset: usize) -> (u64, &[u8], usize)
 /// Puts the place of so many bytes of a line.
 #[tactic(auto, unfolding(crate::specs::Places::shown_at))]
 fn put_in_line(
+    alloc: Global,
     text: &mut Text,
     name: &[u8],
     number: u64,
@@ -106,18 +109,26 @@ fn put_in_line(
 {
     let column = characters_in(&line[..before]);
     let first = column.saturating_sub(MARGIN);
-    put_words(text, name, number, column)?;
+    put_words(alloc, text, name, number, column)?;
     put_line(text, line, first)?;
     let shift = column - first;
-    let count = characters_in_front(&line[before..], size);
+    let count = characters_behind(line, before, size);
     put_carets(text, shift, count.min(WIDTH - shift).max(1))
 }
 
-/// How many characters there are in so many bytes at the front, or in all where there are fewer.
-fn characters_in_front(bytes: &[u8], size: usize) -> usize
-    ensures { result ≡ length (lossy_chars (take size bytes.now)) }
+/// How many characters of a line there are in so many bytes behind so many others, or up to its end
+/// where there are fewer.
+fn characters_behind(line: &[u8], before: usize, size: usize) -> usize
+    ensures { result ≡ length (lossy_chars (take size (drop before (without_terminator line.now)))) }
 {
-    characters_in(bytes.get(..size).unwrap_or(bytes))
+    characters_from(without_terminator(line), before, size)
+}
+
+fn characters_from(bytes: &[u8], before: usize, size: usize) -> usize
+    ensures { result ≡ length (lossy_chars (take size (drop before bytes.now))) }
+{
+    let behind = bytes.get(before..).unwrap_or(&[]);
+    characters_in(behind.get(..size).unwrap_or(behind))
 }
 
 fn characters_in(bytes: &[u8]) -> usize
@@ -129,17 +140,24 @@ fn characters_in(bytes: &[u8]) -> usize
 
 /// Puts the file, the line and the column.
 #[tactic(auto, unfolding(crate::specs::Places::place_words))]
-fn put_words(text: &mut Text, name: &[u8], number: u64, column: usize) -> Result<(), AllocError>
+fn put_words(
+    alloc: Global,
+    text: &mut Text,
+    name: &[u8],
+    number: u64,
+    column: usize,
+) -> Result<(), AllocError>
     requires { column < 2 ^ 63 }
     ensures { OnOk result (text.new ≡ text.old ++ place_words name.now number column) }
 {
-    text.put(b"  ")?;
-    put_plain(text, name)?;
-    text.put(b", line ")?;
-    text.put_number(number)?;
-    text.put(b", column ")?;
-    text.put_number(column as u64 + 1)?;
-    text.put(b"\n")
+    let mut words = Text::new(alloc);
+    words.put(b"  ")?;
+    words.put(name)?;
+    words.put(b", line ")?;
+    words.put_number(number)?;
+    words.put(b", column ")?;
+    words.put_number(column as u64 + 1)?;
+    put_paragraph(alloc, text, words.as_slice())
 }
 
 /// Puts a line from so many characters on.
@@ -174,7 +192,7 @@ fn spaced(scalar: u32) -> u32
 }
 
 /// A line without its line feed and a carriage return before it.
-fn without_terminator(line: &[u8]) -> &[u8]
+pub(crate) fn without_terminator(line: &[u8]) -> &[u8]
     ensures { result.now ≡ without_terminator line.now }
 {
     match line {

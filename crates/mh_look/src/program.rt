@@ -13,6 +13,9 @@ use std::alloc::{AllocError, Global};
 /// The version that `--version` prints.
 const VERSION: &str = "0.1.0";
 
+/// The application that a service starts with where none is named.
+const START: &str = "a";
+
 /// The largest number that a frame can be asked for under.
 pub const LAST_FRAME: u64 = 1_000_000_000;
 
@@ -105,6 +108,17 @@ fn why<'a>(alloc: Global) -> Result<Command<'a>, AllocError>
     ensures app { IfOk result (λ c. app_of c ≡ spec.why) }
     ensures local { IfOk result (λ c. (fields_of c).has_globals ≡ false) }
 {
+    why_required(alloc)?
+        .arg(start(alloc))?
+        .arg(script(alloc))?
+        .arg(color(alloc))
+}
+
+/// The subcommand with what has to be given.
+fn why_required<'a>(alloc: Global) -> Result<Command<'a>, AllocError>
+    ensures app { IfOk result (λ c. app_of c ≡ spec.why_required) }
+    ensures local { IfOk result (λ c. (fields_of c).has_globals ≡ false) }
+{
     described(
         alloc,
         "why",
@@ -170,10 +184,7 @@ fn frame<'a>(alloc: Global) -> Arg<'a>
     ensures rule { rule_of result ≡ spec.frame }
     ensures local { result.global ≡ false }
 {
-    Arg::new(alloc, "frame")
-        .long("frame")
-        .action(ArgAction::Set)
-        .value_name("K")
+    named(alloc, "frame", "K")
         .value_parser(ValueParser::unsigned(0, LAST_FRAME))
         .help("The number of a frame, from 1")
 }
@@ -189,8 +200,50 @@ fn plain<'a>(alloc: Global) -> Arg<'a>
     ensures rule { rule_of result ≡ spec.plain }
     ensures local { result.global ≡ false }
 {
-    Arg::new(alloc, "plain")
-        .long("plain")
+    flag(alloc, "plain", "Show characters without colours")
+}
+
+fn start<'a>(alloc: Global) -> Arg<'a>
+    ensures rule { rule_of result ≡ spec.start }
+    ensures local { result.global ≡ false }
+{
+    named(alloc, "start", "NAME")
+        .default_value(START)
+        .help("The path of the application to start with")
+}
+
+fn script<'a>(alloc: Global) -> Arg<'a>
+    ensures rule { rule_of result ≡ spec.script }
+    ensures local { result.global ≡ false }
+{
+    named(alloc, "script", "FILE").help("The script that was played")
+}
+
+fn color<'a>(alloc: Global) -> Arg<'a>
+    ensures rule { rule_of result ≡ spec.color }
+    ensures local { result.global ≡ false }
+{
+    flag(alloc, "color", "Write in colours")
+}
+
+/// An option with a value.
+fn named<'a>(alloc: Global, name: &'a str, value: &'a str) -> Arg<'a>
+    ensures rule { rule_of result ≡ spec.named name.entry.now }
+    ensures local { result.global ≡ false }
+{
+    Arg::new(alloc, name)
+        .long(name)
+        .action(ArgAction::Set)
+        .value_name(value)
+}
+
+/// An option without a value.
+fn flag<'a>(alloc: Global, name: &'a str, help: &'a str) -> Arg<'a>
+    ensures rule { rule_of result ≡ spec.flag name.entry.now }
+    ensures local { result.global ≡ false }
+{
+    Arg::new(alloc, name)
+        .long(name)
         .action(ArgAction::SetTrue)
-        .help("Show characters without colours")
+        .help(help)
 }

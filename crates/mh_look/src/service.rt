@@ -1,47 +1,156 @@
-//! Files of a service that are named in what was printed of it.
+//! The files of a service, as they lie in a folder and in the folders in it.
+//!
+//! What is no file, as a pipe, is not opened, since that might wait. What cannot be read is left out, and
+//! so is a path that no group can have. Each folder is listed once, so that links which lead round come to
+//! an end.
 use crate::source::Failure;
-use crate::why_source::File;
-use mh_base::GroupName;
+use mh_base::{GroupName, LARGEST_FILE, NameError};
+use std::alloc::{AllocError, Global};
+use std::collections::BTreeSet;
+use std::io::Read;
+use std::os::unix::fs::MetadataExt;
 use std::rt::Runtime;
 use std::{fs, io};
 
-/// The files with these paths in the folder. One that cannot be read is left out.
-pub(crate) fn files_of<R: Runtime + AllocGlobal>(
+/// The most bytes that are read of a file: one more than a file may have, by which a longer one is known.
+const MOST_READ: u64 = LARGEST_FILE as u64 + 1;
+
+/// The files of the folder, each under its path inside it, in bytewise order of these paths.
+pub(crate) fn files_in<R: Runtime + AllocGlobal>(
     rt: &R,
     folder: &str,
-    names: &[GroupName],
-) -> Result<Vec<File>, Failure> {
-    let mut files = Vec::new(rt.alloc());
-    for name in names {
-        if let Some(bytes) = bytes_of(rt, folder, name)? {
-            let name = Vec::from_slice(rt.alloc(), name.as_bytes())?;
-            files.push(File { name, bytes })?;
+) -> Result<Vec<(GroupName, Vec<u8>)>, Failure> {
+    let alloc = rt.alloc();
+    let mut files = Vec::new(alloc);
+    for path in &paths_in(rt, folder)? {
+        let place = joined(alloc, folder, path.as_str())?;
+        if let Some(name) = name_of(alloc, path.as_bytes())? {
+            if let Some(bytes) = got(bytes_of(rt, place.as_str()))? {
+                files.push((name, bytes))?;
+            }
         }
     }
     Ok(files)
 }
 
-/// The bytes of the file with this path in the folder, if it can be read.
-fn bytes_of<R: Runtime + AllocGlobal>(
-    rt: &R,
-    folder: &str,
-    name: &GroupName,
-) -> Result<Option<Vec<u8>>, Failure> {
-    let Ok(path) = str::from_utf8(name.as_bytes()) else {
-        return Ok(None);
+/// The paths of what may be a file of a service, in order.
+fn paths_in<R: Runtime + AllocGlobal>(rt: &R, top: &str) -> Result<Vec<String>, Failure> {
+    let alloc = rt.alloc();
+    let mut found = Found {
+        files: Vec::new(alloc),
+        folders: BTreeSet::new(alloc),
+        listed: BTreeSet::new(alloc),
     };
-    let place = format!(in rt.alloc(); "{folder}/{path}")?;
-    match read(rt, place.as_str()) {
-        Ok(bytes) => Ok(bytes),
+    found.folders.insert(String::new(alloc))?;
+    for _ in 0..u64::MAX {
+        let Some(folder) = found.folders.pop_first() else {
+            break;
+        };
+        found.list(rt, top, folder.as_str())?;
+    }
+    let Found { mut files, .. } = found;
+    files.sort()?;
+    Ok(files)
+}
+
+/// What was found so far.
+#[derive(Drop)]
+struct Found {
+    /// The paths of files.
+    files: Vec<String>,
+    /// The paths of folders that are not listed yet.
+    folders: BTreeSet<String>,
+    /// The folders that were listed, each by its device and its number there.
+    listed: BTreeSet<(u64, u64)>,
+}
+
+impl Found {
+    /// Adds what lies in the folder with this path, unless it was listed before.
+    fn list<R: Runtime + AllocGlobal>(
+        &mut self,
+        rt: &R,
+        top: &str,
+        folder: &str,
+    ) -> Result<(), Failure> {
+        let alloc = rt.alloc();
+        let place = joined(alloc, top, folder)?;
+        if !self.is_new(rt, place.as_str())? {
+            return Ok(());
+        }
+        let Some(entries) = got(fs::read_dir(rt, place.as_str()))? else {
+            return Ok(());
+        };
+        for entry in entries {
+            if let Some(entry) = got(entry)? {
+                self.add(rt, top, joined(alloc, folder, entry.file_name())?)?;
+            }
+        }
+        Ok(())
+    }
+
+    /// Whether there is a folder that was not listed. From then on it was.
+    fn is_new<R: Runtime + AllocGlobal>(&mut self, rt: &R, place: &str) -> Result<bool, Failure> {
+        match got(fs::metadata(rt, place))? {
+            Some(about) => Ok(self.listed.insert((about.dev(), about.ino()))?),
+            None => Ok(false),
+        }
+    }
+
+    /// Adds what has this path to the files or to the folders, if a group can have the path.
+    fn add<R: Runtime + AllocGlobal>(
+        &mut self,
+        rt: &R,
+        top: &str,
+        path: String,
+    ) -> Result<(), Failure> {
+        if name_of(rt.alloc(), path.as_bytes())?.is_none() {
+            return Ok(());
+        }
+        let place = joined(rt.alloc(), top, path.as_str())?;
+        match got(fs::metadata(rt, place.as_str()))? {
+            Some(about) if about.is_file() => self.files.push(path)?,
+            Some(about) if about.is_dir() => {
+                self.folders.insert(path)?;
+            }
+            _ => {}
+        }
+        Ok(())
+    }
+}
+
+/// The bytes of a file: all of it, or its first ones where it is longer than a file may be.
+fn bytes_of<R: Runtime + AllocGlobal>(rt: &R, place: &str) -> io::Result<Vec<u8>> {
+    let mut bytes = Vec::new(rt.alloc());
+    fs::open(rt, place)?
+        .take(MOST_READ)
+        .read_to_end(&mut bytes)?;
+    Ok(bytes)
+}
+
+/// What could be read, if it could.
+fn got<T>(read: io::Result<T>) -> Result<Option<T>, Failure> {
+    match read {
+        Ok(value) => Ok(Some(value)),
         Err(error) if error.kind() == io::ErrorKind::OutOfMemory => Err(Failure::Failed),
         Err(_) => Ok(None),
     }
 }
 
-/// The bytes of what is a file. Anything else, as a pipe, is not opened, since that might wait.
-fn read<R: Runtime + AllocGlobal>(rt: &R, place: &str) -> io::Result<Option<Vec<u8>>> {
-    if !fs::metadata(rt, place)?.is_file() {
-        return Ok(None);
+/// The name with this path, if a group can have it.
+fn name_of(alloc: Global, path: &[u8]) -> Result<Option<GroupName>, AllocError> {
+    match GroupName::of_path(alloc, path) {
+        Ok(name) => Ok(Some(name)),
+        Err(NameError::BadName) => Ok(None),
+        Err(NameError::NoMemory) => Err(AllocError),
     }
-    Ok(Some(fs::read(rt, place)?))
+}
+
+/// A path below a folder; an empty folder's path is none.
+fn joined(alloc: Global, folder: &str, path: &str) -> Result<String, AllocError> {
+    let mut place = String::from_str(alloc, folder)?;
+    if !folder.is_empty() && !path.is_empty() && !folder.ends_with('/') {
+        place.push('/')?;
+    }
+    place.push_str(path)?;
+    Ok(place)
 }

@@ -6,6 +6,12 @@ ghost use Rattle.mh_look.specs.Why.{keyword_word, keyword_of};
 #[derive(Clone, Copy)]
 pub(crate) enum Keyword {
     Accepted,
+    Start,
+    Key,
+    Tick,
+    Stream,
+    Engine,
+    Arrive,
     Refused,
     Config,
     Object,
@@ -18,8 +24,14 @@ pub(crate) enum Keyword {
     Fault,
 }
 
-static KEYWORDS: [Keyword; 11] = [
+static KEYWORDS: [Keyword; 17] = [
     Keyword::Accepted,
+    Keyword::Start,
+    Keyword::Key,
+    Keyword::Tick,
+    Keyword::Stream,
+    Keyword::Engine,
+    Keyword::Arrive,
     Keyword::Refused,
     Keyword::Config,
     Keyword::Object,
@@ -38,6 +50,12 @@ impl Keyword {
     {
         match self {
             Keyword::Accepted => b"accepted",
+            Keyword::Start => b"start",
+            Keyword::Key => b"key",
+            Keyword::Tick => b"tick",
+            Keyword::Stream => b"stream",
+            Keyword::Engine => b"engine",
+            Keyword::Arrive => b"arrive",
             Keyword::Refused => b"refused",
             Keyword::Config => b"config",
             Keyword::Object => b"object",

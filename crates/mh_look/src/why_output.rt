@@ -1,25 +1,56 @@
-//! Why `redplay` refuses a service: what it prints, line by line, with the places in the files, the
-//! causes and the mends.
+//! Why `redplay` refuses a service, and what makes an accepted one dear: what it prints, line by line,
+//! with the places in the files, the causes and the mends.
 //!
 //! Promise: what is explained is exactly what `specs/Why` says.
-ghost use Rattle.std.specs.Prelude.{◌≡◌, ◌++◌, map, OnOk, IfOk};
+ghost use Rattle.std.specs.Prelude.{◌≡◌, ◌++◌, [], map, OnOk, IfOk};
+ghost use Rattle.bstr.specs.Text.{lines_of, without_terminator};
 ghost use Rattle.mh_look.specs.Sources.{source_of};
-ghost use Rattle.mh_look.specs.Why.{explained_all, why, ExplanationsAreHarmless};
+ghost use Rattle.mh_look.specs.Why.{explained_all, number_behind, why, ExplanationsAreHarmless};
 
+use crate::why_ground::Ground;
 use crate::why_line::put_explained;
-use crate::why_source::{File, Source};
+use crate::why_script::Script;
+use crate::why_source::Source;
+use crate::why_words::{behind_first, first_word};
 use bstr::ByteSlice;
+use mh_base::GroupName;
+use mh_layers::Way;
 use mh_told::text::Text;
 use std::alloc::{AllocError, Global};
+use std::marker::Model;
 
-/// What is explained of the output of `check` or `play`, of a service with these files.
+/// What is known beside an output.
+#[derive(Drop)]
+pub struct Known<'a> {
+    /// The files of the service, each under its path in the folder.
+    pub files: &'a [(GroupName, Vec<u8>)],
+    /// The dearest ways of its inputs; where they are not known, none.
+    pub ways: &'a [Way],
+    /// The script that was played, if it is known.
+    pub script: Option<Script<'a>>,
+}
+
+impl<'a> Model for Known<'a> {
+    ghost use Rattle.mh_look.specs.Why.{Known};
+
+    ghost Value = { Known };
+
+    ghost view = { λ k. record { files = k.files.now; ways = k.ways.now; script = k.script } };
+}
+
+/// What is explained of the output of `check` or `play`.
 #[tactic(auto, unfolding(crate::specs::Why::why))]
-pub fn why(alloc: Global, files: &[File], output: &[u8]) -> Result<Text, AllocError>
-    ensures { IfOk result (λ text. text ≡ why files.now output.now) }
+pub fn why(alloc: Global, known: &Known<'_>, output: &[u8]) -> Result<Text, AllocError>
+    ensures { IfOk result (λ text. text ≡ why known.now output.now) }
 {
-    let sources = sources_of(alloc, files)?;
+    let sources = sources_of(alloc, known.files)?;
+    let ground = Ground {
+        sources: sources.as_slice(),
+        ways: known.ways,
+        script: known.script.as_ref(),
+    };
     let mut text = Text::new(alloc);
-    put_all(&mut text, sources.as_slice(), output)?;
+    put_all(alloc, &mut text, &ground, output)?;
     Ok(text)
 }
 
@@ -28,7 +59,7 @@ pub fn explanations_are_harmless()
     ensures { ExplanationsAreHarmless }
 {}
 
-fn sources_of(alloc: Global, files: &[File]) -> Result<Vec<Source>, AllocError>
+fn sources_of(alloc: Global, files: &[(GroupName, Vec<u8>)]) -> Result<Vec<Source<'_>>, AllocError>
     ensures { IfOk result (λ sources. sources.items ≡ map source_of files.now) }
 {
     let mut sources = Vec::new(alloc);
@@ -38,11 +69,30 @@ fn sources_of(alloc: Global, files: &[File]) -> Result<Vec<Source>, AllocError>
     Ok(sources)
 }
 
-fn put_all(text: &mut Text, sources: &[Source], output: &[u8]) -> Result<(), AllocError>
-    ensures { OnOk result (text.new ≡ text.old ++ explained_all sources.now output.now) }
+/// Puts what is explained of each line. What a refusal names is told by its number, which stands in a
+/// line before.
+fn put_all(
+    alloc: Global,
+    text: &mut Text,
+    ground: &Ground<'_>,
+    output: &[u8],
+) -> Result<(), AllocError>
+    ensures { OnOk result (text.new ≡ text.old ++ explained_all ground.now [] (map without_terminator (lines_of output.now))) }
 {
+    let mut number: &[u8] = &[];
     for line in output.lines() {
-        put_explained(text, sources, line)?;
+        put_explained(alloc, text, ground, number, line)?;
+        number = number_behind(number, line);
     }
     Ok(())
+}
+
+/// The number of the last refusal, behind one more line.
+fn number_behind<'a>(number: &'a [u8], line: &'a [u8]) -> &'a [u8]
+    ensures { result.now ≡ number_behind number.now line.now }
+{
+    if first_word(line) == b"refused".as_slice() {
+        return first_word(behind_first(line));
+    }
+    number
 }

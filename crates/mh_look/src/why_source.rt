@@ -1,110 +1,75 @@
 //! The files of a service, as places in them are shown: a group in the binary notation as it is
 //! printed.
-ghost use Rattle.std.specs.Prelude.{◌≡◌, ◌++◌, Some, None, IfOk, OnOk};
+ghost use Rattle.std.specs.Prelude.{◌≡◌, IfOk};
 ghost use Rattle.std.specs.Option.{option_copied};
-ghost use Rattle.mh_look.specs.Sources.{text_of, printed_as, source_of, source_named, mark_by, shown_mark, shown_in, shown_action, shown_byte, shown_offset};
+ghost use Rattle.mh_look.specs.Sources.{text_of, printed_as, source_of, source_named};
 
-use crate::place::put_place;
-use crate::why_words::number_in;
+use mh_base::GroupName;
 use mh_codec::{CodecError, decode_group};
 use mh_group::Group;
-use mh_text::{Mark, TextError, mark_of, marks, print_group};
-use mh_told::text::Text;
+use mh_text::{Mark, TextError, marks, print_group};
 use std::alloc::{AllocError, Global};
 use std::marker::Model;
 
-/// A file of a service.
-#[derive(Drop)]
-pub struct File {
-    /// Its path in the folder of the service.
-    pub name: Vec<u8>,
-    pub bytes: Vec<u8>,
-}
-
-impl Model for File {
-    ghost use Rattle.mh_look.specs.Sources.{File};
-
-    ghost Value = { File };
-
-    ghost view = { λ f. record { name = f.name.items; bytes = f.bytes.items } };
-}
-
 /// A file with what is shown of it.
 #[derive(Drop)]
-pub(crate) struct Source {
-    name: Vec<u8>,
+pub(crate) struct Source<'a> {
+    name: &'a GroupName,
     text: Vec<u8>,
     marks: Vec<Mark>,
     /// Whether the file begins as a group in the textual notation.
     is_written: bool,
 }
 
-impl Model for Source {
+impl<'a> Model for Source<'a> {
     ghost use Rattle.mh_look.specs.Sources.{Source};
 
     ghost Value = { Source };
 
     ghost view = { λ s.
-        record { name = s.name.items; text = s.text.items; marks = s.marks.items; is_written = s.is_written } };
+        record { name = s.name.now; text = s.text.items; marks = s.marks.items; is_written = s.is_written } };
 }
 
-impl Source {
-    pub(crate) fn of_file(alloc: Global, file: &File) -> Result<Source, AllocError>
+impl<'a> Source<'a> {
+    pub(crate) fn of_file(
+        alloc: Global,
+        file: &'a (GroupName, Vec<u8>),
+    ) -> Result<Source<'a>, AllocError>
         ensures { IfOk result (λ source. source ≡ source_of file.now) }
     {
-        let name = Vec::from_slice(alloc, file.name.as_slice())?;
-        let text = text_of(alloc, file.bytes.as_slice())?;
+        let text = text_of(alloc, file.1.as_slice())?;
         let marks = marks(alloc, text.as_slice())?;
         Ok(Source {
-            name,
+            name: &file.0,
             text,
             marks,
-            is_written: mh_text::begins_group(file.bytes.as_slice()),
+            is_written: mh_text::begins_group(file.1.as_slice()),
         })
     }
 
-    fn name(&self) -> &[u8]
+    pub(crate) fn name(&self) -> &'a GroupName
         ensures { result.now ≡ self.now.name }
     {
-        self.name.as_slice()
+        self.name
     }
 
-    /// Puts where the action, or the members, of this object stand, if they are found.
-    fn put_action(&self, text: &mut Text, object: &[u8], index: &[u8]) -> Result<(), AllocError>
-        ensures { OnOk result (text.new ≡ text.old ++ shown_in object.now index.now self.now) }
+    pub(crate) fn text(&self) -> &[u8]
+        ensures { result.now ≡ self.now.text }
     {
-        match mark_by(self.marks.as_slice(), number_in(object), number_in(index)) {
-            Some(mark) => self.put_mark(text, mark),
-            None => Ok(()),
-        }
+        self.text.as_slice()
     }
 
-    fn put_mark(&self, text: &mut Text, mark: Mark) -> Result<(), AllocError>
-        ensures { OnOk result (text.new ≡ text.old ++ shown_mark self.now mark) }
+    pub(crate) fn marks(&self) -> &[Mark]
+        ensures { result.now ≡ self.now.marks }
     {
-        let name = self.name.as_slice();
-        put_place(text, name, self.text.as_slice(), mark.start, mark.length)
+        self.marks.as_slice()
     }
 
-    /// Puts where the byte with this offset stands, if the file is a text.
-    fn put_byte(&self, text: &mut Text, offset: &[u8]) -> Result<(), AllocError>
-        ensures { OnOk result (text.new ≡ text.old ++ shown_byte offset.now self.now) }
+    pub(crate) fn is_written(&self) -> bool
+        ensures { result ≡ self.now.is_written }
     {
-        if !self.is_written {
-            return Ok(());
-        }
-        match number_in(offset) {
-            Some(at) => put_place(text, self.name(), self.text.as_slice(), at as usize, 1),
-            None => Ok(()),
-        }
+        self.is_written
     }
-}
-
-/// The mark of an action of an object, or with the number 0 of its list of members.
-fn mark_by(marks: &[Mark], object: Option<u32>, index: Option<u32>) -> Option<Mark>
-    ensures { result ≡ mark_by marks.now object index }
-{
-    mark_of(marks, object?, index? as usize)
 }
 
 /// What is shown of a file.
@@ -134,41 +99,10 @@ fn printed_as(alloc: Global, bytes: &[u8], group: &Group) -> Result<Vec<u8>, All
 }
 
 /// The file of this name, if it is there.
-fn source_named<'a>(sources: &'a [Source], name: &[u8]) -> Option<&'a Source>
+pub(crate) fn source_named<'a, 's>(sources: &'a [Source<'s>], name: &[u8]) -> Option<&'a Source<'s>>
     ensures { option_copied result ≡ source_named sources.now name.now }
 {
-    sources.iter().find(|source| source.name() == name)
-}
-
-/// Puts where an action, or the members, of an object of this group stand, if they are found.
-#[tactic(auto, unfolding(crate::specs::Sources::shown_action))]
-pub(crate) fn put_action(
-    text: &mut Text,
-    sources: &[Source],
-    group: &[u8],
-    object: &[u8],
-    index: &[u8],
-) -> Result<(), AllocError>
-    ensures { OnOk result (text.new ≡ text.old ++ shown_action sources.now group.now object.now index.now) }
-{
-    match source_named(sources, group) {
-        Some(source) => source.put_action(text, object, index),
-        None => Ok(()),
-    }
-}
-
-/// Puts where a byte of this file stands, if the file is there and a text.
-#[tactic(auto, unfolding(crate::specs::Sources::shown_offset))]
-pub(crate) fn put_offset(
-    text: &mut Text,
-    sources: &[Source],
-    name: &[u8],
-    offset: &[u8],
-) -> Result<(), AllocError>
-    ensures { OnOk result (text.new ≡ text.old ++ shown_offset sources.now name.now offset.now) }
-{
-    match source_named(sources, name) {
-        Some(source) => source.put_byte(text, offset),
-        None => Ok(()),
-    }
+    sources
+        .iter()
+        .find(|source| source.name().as_bytes() == name)
 }

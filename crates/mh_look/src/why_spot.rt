@@ -1,12 +1,13 @@
 //! What a line names: an action of an object, or the object alone.
 ghost use Rattle.std.specs.Prelude.{◌≡◌, ◌++◌, OnOk};
+ghost use Rattle.mh_look.specs.Sources.{by_numbers, shown_refused};
 ghost use Rattle.mh_look.specs.Why.{spot, object_words, action_words, shown_spot};
 
-use crate::place::put_plain;
-use crate::why_source::{Source, put_action};
-use crate::why_words::{before_last, last_word};
+use crate::why_place::{put_action, put_refused};
+use crate::why_source::Source;
+use crate::why_words::{before_last, last_word, number_in};
 use mh_told::text::Text;
-use std::alloc::AllocError;
+use std::alloc::{AllocError, Global};
 use std::marker::Model;
 
 /// What a line names: a group, and two numbers behind it.
@@ -58,27 +59,58 @@ impl<'a> Spot<'a> {
         self.index
     }
 
+    /// Puts the object by its group and its number.
     pub(crate) fn put_object(&self, text: &mut Text) -> Result<(), AllocError>
         ensures { OnOk result (text.new ≡ text.old ++ object_words self.now.group self.now.object) }
     {
         put_object(text, self.group, self.object)
     }
 
+    /// Puts the action by its object and its number.
     #[tactic(auto, unfolding(crate::specs::Why::action_words))]
     pub(crate) fn put_action(&self, text: &mut Text) -> Result<(), AllocError>
         ensures { OnOk result (text.new ≡ text.old ++ action_words self.now) }
     {
         text.put(b"action ")?;
-        put_plain(text, self.index)?;
+        text.put(self.index)?;
         text.put(b" of ")?;
         self.put_object(text)
     }
 
     /// Puts where the action or the members stand.
-    pub(crate) fn put_shown(&self, text: &mut Text, sources: &[Source]) -> Result<(), AllocError>
+    pub(crate) fn put_shown(
+        &self,
+        alloc: Global,
+        text: &mut Text,
+        sources: &[Source<'_>],
+    ) -> Result<(), AllocError>
         ensures { OnOk result (text.new ≡ text.old ++ shown_spot sources.now self.now) }
     {
-        put_action(text, sources, self.group, self.object, self.index)
+        let Some(object) = number_in(self.object) else {
+            return Ok(());
+        };
+        match number_in(self.index) {
+            Some(index) => put_action(alloc, text, sources, self.group, object, index as usize),
+            None => Ok(()),
+        }
+    }
+
+    /// The same, with the variables through which the action goes.
+    pub(crate) fn put_refused(
+        &self,
+        alloc: Global,
+        text: &mut Text,
+        sources: &[Source<'_>],
+    ) -> Result<(), AllocError>
+        ensures { OnOk result (text.new ≡ text.old ++ by_numbers (shown_refused sources.now self.now.group) self.now.object self.now.index) }
+    {
+        let Some(object) = number_in(self.object) else {
+            return Ok(());
+        };
+        match number_in(self.index) {
+            Some(index) => put_refused(alloc, text, sources, self.group, object, index as usize),
+            None => Ok(()),
+        }
     }
 }
 
@@ -88,7 +120,7 @@ pub(crate) fn put_object(text: &mut Text, group: &[u8], number: &[u8]) -> Result
     ensures { OnOk result (text.new ≡ text.old ++ object_words group.now number.now) }
 {
     text.put(b"object ")?;
-    put_plain(text, number)?;
+    text.put(number)?;
     text.put(b" of ")?;
-    put_plain(text, group)
+    text.put(group)
 }

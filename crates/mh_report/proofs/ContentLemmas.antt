@@ -3,7 +3,8 @@ use Rattle.std.specs.Prelude.{◌≡◌, ℕ, ◌+◌, ◌<◌, List, [], ◌∷
 use Rattle.std.proofs.Common.{ap, ◌∙◌, sym, append_assoc, append-nil, add-one, get_or, drop-cons}
 use Rattle.mh_model.specs.declared.file.File.{File}
 use Rattle.mh_model.specs.Service.{Service}
-use Rattle.mh_report.specs.Reading.{Source, contents, content_in}
+use Rattle.mh_told.specs.Reading.{Source}
+use Rattle.mh_report.specs.Reading.{contents, content_in}
 
 -- the list of what may be there
 abbrev one : Option File → List File

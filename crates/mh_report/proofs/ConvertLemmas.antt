@@ -15,8 +15,8 @@ use Rattle.mh_report.specs.declared.status.Status.{Status}
 use Rattle.mh_report.specs.declared.status.Status.TheVariants as status
 use Rattle.mh_report.specs.declared.play_error.PlayError.{PlayError}
 use Rattle.mh_report.proofs.WrittenLemmas.{whole, cut}
-use Rattle.mh_report.specs.declared.unplayable.Unplayable.{Unplayable}
-use Rattle.mh_report.specs.declared.unplayable.Unplayable.TheVariants as unplayable
+use Rattle.mh_told.specs.declared.unplayable.Unplayable.{Unplayable}
+use Rattle.mh_told.specs.declared.unplayable.Unplayable.TheVariants as unplayable
 use Rattle.std.specs.Prelude.{Option, Result, Ok, Err, OnOk, OnErr, IfOk, if◌then◌else◌}
 
 is_within : (n : ℕ) → n ≤ 1048576 → nat_le n 1048576 ≡ true

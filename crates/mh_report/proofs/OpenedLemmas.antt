@@ -6,12 +6,12 @@ use Rattle.mh_report.specs.declared.play_error.PlayError.{PlayError}
 use Rattle.mh_report.specs.declared.script.Command.{Command}
 use Rattle.mh_report.specs.declared.status.Status.{Status}
 use Rattle.mh_report.specs.declared.status.Status.TheVariants as status
-use Rattle.mh_report.specs.declared.unplayable.Unplayable.{Unplayable}
-use Rattle.mh_report.specs.declared.unplayable.Unplayable.TheVariants as unplayable
+use Rattle.mh_told.specs.declared.unplayable.Unplayable.{Unplayable}
+use Rattle.mh_told.specs.declared.unplayable.Unplayable.TheVariants as unplayable
 use Rattle.mh_report.specs.Sink.{IsBeginning}
 use Rattle.mh_model.specs.State.{State}
 use Rattle.mh_report.specs.Report.{Session, opening, script_lines, ended, status_of}
-use Rattle.mh_report.specs.Reading.{Fails, Gives}
+use Rattle.mh_told.specs.Reading.{Fails, Gives}
 use Rattle.mh_report.specs.Presets.{begins}
 use Rattle.mh_report.specs.Played.{complaint, play_lines, play_status}
 use Rattle.mh_report.proofs.WrittenLemmas.{failed}

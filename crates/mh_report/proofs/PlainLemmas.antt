@@ -11,8 +11,9 @@ use Rattle.mh_flow.specs.Equipment.{equipped}
 use Rattle.mh_verify.specs.Free.{IsVerified, Verified, most_cost}
 use Rattle.mh_report.specs.declared.material.Material.{Material}
 use Rattle.mh_report.specs.declared.script.Command.{Command}
-use Rattle.mh_report.specs.declared.unplayable.Unplayable.{Unplayable}
-use Rattle.mh_report.specs.Reading.{◌>>=◌, Source, contents, commands_of, read_files, readied, refusal_for, service_of, service_read, unless_refused}
+use Rattle.mh_told.specs.declared.unplayable.Unplayable.{Unplayable}
+use Rattle.mh_told.specs.Reading.{◌>>=◌, Source, read_files, refusal_for, service_of, service_read, unless_refused}
+use Rattle.mh_report.specs.Reading.{contents, commands_of, readied}
 
 made : (o : Option ServiceRefusal) (x s : Service) → x.programs ≡ [] → unless_refused o x ≡ Ok s → s.programs ≡ []
 made None x s none e =

@@ -11,9 +11,9 @@ use Rattle.mh_engine.specs.Play.{Play}
 use Rattle.mh_engine.specs.declared.refusal.RefusedFile.{RefusedFile}
 use Rattle.mh_engine.specs.declared.refusal.RefusedWhy.{RefusedWhy}
 use Rattle.mh_engine.specs.declared.refusal.RefusedWhy.TheVariants as refused
-use Rattle.mh_report.specs.declared.unplayable.Unplayable.{Unplayable}
-use Rattle.mh_report.specs.declared.unplayable.Unplayable.TheVariants as unplayable
-use Rattle.mh_report.specs.Reading.{Fails}
+use Rattle.mh_told.specs.declared.unplayable.Unplayable.{Unplayable}
+use Rattle.mh_told.specs.declared.unplayable.Unplayable.TheVariants as unplayable
+use Rattle.mh_told.specs.Reading.{Fails}
 use Rattle.mh_report.specs.Presets.{tried, tried_by, unset}
 
 -- what an engine answers to a file, in the words of its contract

@@ -10,13 +10,13 @@ use Rattle.mh_verify.specs.declared.refusal.RefusalKind.TheVariants as kind
 use Rattle.mh_laws.specs.Budget.{Bounds}
 use Rattle.mh_verify.specs.Free.{IsVerified, Verified}
 use Rattle.mh_verify.specs.Order.{Names, IsTold}
-use Rattle.mh_report.specs.declared.unplayable.Unplayable.{Unplayable}
-use Rattle.mh_report.specs.declared.unplayable.Unplayable.TheVariants as unplayable
+use Rattle.mh_told.specs.declared.unplayable.Unplayable.{Unplayable}
+use Rattle.mh_told.specs.declared.unplayable.Unplayable.TheVariants as unplayable
 use Rattle.std.specs.Io.KnownBytes.{Appends}
 use Rattle.mh_report.specs.Sink.{IsBeginning}
 use Rattle.mh_report.specs.Played.{Checks, check_accepted, complaint, HasWritten, HasBegun, begun_some}
 use Rattle.mh_report.specs.Verdict.{accepted_lines}
-use Rattle.mh_report.specs.Reading.{Fails}
+use Rattle.mh_told.specs.Reading.{Fails}
 
 -- a whole report that is meant
 pub whole : (Means : List ℕ → Status → Type 0) (before after : Option (List ℕ)) (r : Result Status PlayError) (report : List ℕ) (how : Status) → Means report how →

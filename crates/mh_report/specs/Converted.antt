@@ -13,10 +13,10 @@ use Rattle.mh_report.specs.declared.convert.Notation.{Notation}
 use Rattle.mh_report.specs.declared.convert.Notation.TheVariants as notation
 use Rattle.mh_report.specs.declared.status.Status.{Status}
 use Rattle.mh_report.specs.declared.status.Status.TheVariants as status
-use Rattle.mh_report.specs.declared.unplayable.Unplayable.{Unplayable}
-use Rattle.mh_report.specs.declared.unplayable.Unplayable.TheVariants as unplayable
+use Rattle.mh_told.specs.declared.unplayable.Unplayable.{Unplayable}
+use Rattle.mh_told.specs.declared.unplayable.Unplayable.TheVariants as unplayable
 use Rattle.mh_report.specs.Played.{complaint}
-use Rattle.mh_report.specs.Reading.{◌>>=◌, group_in}
+use Rattle.mh_told.specs.Reading.{◌>>=◌, group_in}
 
 -- the binary notation can spell the group in a file
 unfoldable pub has_spelling : Written → Bool

@@ -12,8 +12,8 @@ use Rattle.mh_report.specs.declared.material.Material.{Material}
 use Rattle.mh_report.specs.declared.script.Command.{Command}
 use Rattle.mh_report.specs.declared.status.Status.{Status}
 use Rattle.mh_report.specs.declared.status.Status.TheVariants as status
-use Rattle.mh_report.specs.declared.unplayable.Unplayable.{Unplayable}
-use Rattle.mh_report.specs.declared.unplayable.Unplayable.TheVariants as unplayable
+use Rattle.mh_told.specs.declared.unplayable.Unplayable.{Unplayable}
+use Rattle.mh_told.specs.declared.unplayable.Unplayable.TheVariants as unplayable
 use Rattle.std.specs.Io.KnownBytes.{Appends}
 use Rattle.mh_report.specs.Sink.{IsBeginning}
 use Rattle.mh_report.specs.Verdict.{accepted_lines, refusal_lines}

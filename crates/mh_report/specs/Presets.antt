@@ -7,9 +7,9 @@ use Rattle.mh_model.specs.State.{State, begun}
 use Rattle.mh_model.specs.Step.{preset, preset_obstacle}
 use Rattle.mh_engine.specs.Answer.{refusal_for, refusal_number}
 use Rattle.mh_engine.specs.declared.refusal.RefusedWhy.{RefusedWhy}
-use Rattle.mh_report.specs.declared.unplayable.Unplayable.{Unplayable}
-use Rattle.mh_report.specs.declared.unplayable.Unplayable.TheVariants as unplayable
-use Rattle.mh_report.specs.Reading.{◌>>=◌}
+use Rattle.mh_told.specs.declared.unplayable.Unplayable.{Unplayable}
+use Rattle.mh_told.specs.declared.unplayable.Unplayable.TheVariants as unplayable
+use Rattle.mh_told.specs.Reading.{◌>>=◌}
 use Rattle.mh_report.specs.Report.{Session, opening}
 
 -- what is said of a file that is refused, by the number of why; want of memory has none

@@ -1,86 +1,16 @@
 -- What files and a script are read as: a service, content files and commands, or the first of them that cannot be
 -- read.
-use Rattle.std.specs.Prelude.{◌≡◌, ℕ, Bool, ◌&&◌, ◌||◌, not, if◌then◌else◌, List, [], ◌∷◌, ◌++◌, Option, Some, None, Result, Ok, Err, Vec, map, unwrap_or}
+use Rattle.std.specs.Prelude.{ℕ, Bool, ◌&&◌, not, if◌then◌else◌, List, Option, Some, None, Result, Ok, Err}
 use Rattle.std.specs.List.{filter_map}
-use Rattle.std.specs.declared.alloc.Global.{Global}
-use Rattle.mh_base.specs.Path.{is_path}
-use Rattle.mh_group.specs.declared.written.Written.{Written}
 use Rattle.mh_model.specs.declared.file.File.{File as Content}
 use Rattle.mh_model.specs.Service.{Service}
 use Rattle.mh_service.specs.Contents.{names_file}
-use Rattle.mh_service.specs.Refusals.{File, Refusal as ServiceRefusal, refusal_of, for_reason, double_name}
-use Rattle.mh_service.specs.Resolved.{resolved}
-use Rattle.mh_service.specs.Numbers.{why_number}
-use Rattle.mh_service.specs.declared.service_error.Why.TheVariants as why
-use Rattle.mh_text.specs.Lexing.{begins_group}
-use Rattle.mh_text.specs.Reading.{read}
-use Rattle.mh_text.specs.Numbers.{number_of}
-use Rattle.mh_text.specs.Gives.{Refusal as TextRefusal}
-use Rattle.mh_codec.specs.Reading.{read as read_octets, begins_group as begins_octets}
-use Rattle.mh_codec.specs.Numbers.{number_of as octets_number_of}
-use Rattle.mh_codec.specs.Gives.{Refusal as OctetsRefusal}
+use Rattle.mh_told.specs.declared.unplayable.Unplayable.{Unplayable}
+use Rattle.mh_told.specs.declared.unplayable.Unplayable.TheVariants as unplayable
+use Rattle.mh_told.specs.Reading.{◌>>=◌, Source, is_group_file, service_read}
 use Rattle.mh_report.specs.declared.material.Material.{Material}
 use Rattle.mh_report.specs.declared.script.Command.{Command}
-use Rattle.mh_report.specs.declared.unplayable.Unplayable.{Unplayable}
-use Rattle.mh_report.specs.declared.unplayable.Unplayable.TheVariants as unplayable
 use Rattle.mh_report.specs.Script.{lines, first_wrong, commands}
-
-infixl 10 ◌>>=◌
-abbrev pub ◌>>=◌ : {A B : Type 0} → Result A Unplayable → (A → Result B Unplayable) → Result B Unplayable
-(Ok x) >>= f = f x
-(Err e) >>= f = Err e
-
--- Reading.
-
--- a file as it was handed in: its path and its bytes
-abbrev pub Source : Type 0
-Source = List ℕ × Vec ℕ Global
-
--- a file that writes no group is what cannot be read
-abbrev pub named : List ℕ → Result Written TextRefusal → Result Written Unplayable
-named name (Ok group) = Ok group
-named name (Err e) = Err (unplayable.File name (number_of e.why) e.offset)
-
--- the same, of a file in the binary notation
-abbrev pub spelled : List ℕ → Result Written OctetsRefusal → Result Written Unplayable
-spelled name (Ok group) = Ok group
-spelled name (Err e) = Err (unplayable.File name (octets_number_of e.why) e.offset)
-
--- the bytes begin as a group does, in either notation
-abbrev pub is_group_file : List ℕ → Bool
-is_group_file bytes = begins_group bytes || begins_octets bytes
-
--- the group that the bytes of this file write, in the notation in which they begin
-unfoldable pub group_in : List ℕ → List ℕ → Result Written Unplayable
-group_in name bytes = if begins_octets bytes then spelled name (read_octets bytes) else named name (read bytes)
-
--- the groups with that of a file behind them; a file that does not begin as a group does is passed over
-unfoldable pub with_file : List File → Source → Result (List File) Unplayable
-with_file done f =
-    if is_group_file f.1.items then group_in f.0 f.1.items >>= (λ (group : Written). Ok (done ++ (f.0, group) ∷ []))
-    else Ok done
-
--- the groups of the files in order behind these, or the first file that cannot be read
-abbrev pub read_files : List File → List Source → Result (List File) Unplayable
-read_files done [] = Ok done
-read_files done (f ∷ fs) = with_file done f >>= (λ (more : List File). read_files more fs)
-
--- why the groups make no service with this start; a text that is no path is the name of no group
-abbrev pub unstartable_for : List ℕ → List File → ServiceRefusal
-unstartable_for start groups = unwrap_or (for_reason why.DoubleName (double_name [] groups)) (why.NoStart, start)
-
-unfoldable pub refusal_for : List ℕ → List File → Option ServiceRefusal
-refusal_for start groups = if is_path start then refusal_of start groups else Some (unstartable_for start groups)
-
-abbrev pub unserviceable : ServiceRefusal → Unplayable
-unserviceable r = unplayable.Service (why_number r.0) r.1
-
-abbrev pub unless_refused : {A : Type 0} → Option ServiceRefusal → A → Result A Unplayable
-unless_refused None x = Ok x
-unless_refused (Some r) x = Err (unserviceable r)
-
-unfoldable pub service_of : List ℕ → List File → Result Service Unplayable
-service_of start groups = unless_refused (refusal_for start groups) (record { groups = map resolved groups; start = start; programs = [] })
 
 abbrev pub unless_wrong : {A : Type 0} → Option ℕ → A → Result A Unplayable
 unless_wrong None x = Ok x
@@ -88,9 +18,6 @@ unless_wrong (Some line) x = Err (unplayable.Script line)
 
 unfoldable pub commands_of : List ℕ → Result (List Command) Unplayable
 commands_of script = unless_wrong (first_wrong 1 (lines script)) (commands (lines script))
-
-unfoldable pub service_read : List ℕ → List Source → Result Service Unplayable
-service_read start files = read_files [] files >>= service_of start
 
 -- a file that is no group, and that a group of the service names
 abbrev pub is_content : Service → Source → Bool
@@ -114,17 +41,3 @@ readied start files script = do
   service ← service_read start files
   found ← commands_of script
   Ok (record { service = service; files = contents service files; commands = found })
-
--- Answers of functions.
-
--- the error is what the reading says, or memory was refused
-abbrev pub Fails : {Y : Type 0} → Unplayable → Result Y Unplayable → Type 0
-Fails (unplayable.File name number offset) r = r ≡ Err (unplayable.File name number offset)
-Fails (unplayable.Service number group) r = r ≡ Err (unplayable.Service number group)
-Fails (unplayable.Script number) r = r ≡ Err (unplayable.Script number)
-Fails unplayable.NoMemory r = Unit {0}
-
--- what a function answered, seen by view, is what the reading says, unless memory was refused
-abbrev pub Gives : {X Y : Type 0} → (X → Y) → Result X Unplayable → Result Y Unplayable → Type 0
-Gives view (Ok x) r = r ≡ Ok (view x)
-Gives view (Err e) r = Fails e r

@@ -12,6 +12,7 @@ use Rattle.mh_laws.specs.Budget.{Bounds}
 use Rattle.mh_flow.specs.declared.link.Link.{Link}
 use Rattle.mh_layers.specs.declared.bounds.InputKind.{InputKind}
 use Rattle.mh_layers.specs.declared.bounds.InputKind.TheVariants as input
+use Rattle.mh_layers.specs.Bounding.{kind_word}
 use Rattle.mh_layers.specs.declared.arrow.Arrow.{Arrow}
 use Rattle.mh_layers.specs.declared.cause.Cause.{Cause}
 use Rattle.mh_verify.specs.declared.refusal.Place.{Place}
@@ -51,14 +52,6 @@ cause_line x = codes "cause " ++ x.at.group ++ codes " " ++ decimal x.at.number 
 
 abbrev pub cycle_lines : List Arrow → List ℕ
 cycle_lines xs = flat_map (λ (a : Arrow). cause_line a.cause) xs
-
-abbrev pub kind_word : InputKind → List ℕ
-kind_word input.Start = codes "start"
-kind_word input.Key = codes "key"
-kind_word input.Tick = codes "tick"
-kind_word input.Stream = codes "stream"
-kind_word input.Engine = codes "engine"
-kind_word input.Arrive = codes "arrive"
 
 -- the place and its action, or the kind of what leads to too many steps
 abbrev pub where_words : RefusalKind → Option Place → Option ActionName → List ℕ

@@ -4,20 +4,20 @@ ghost use Rattle.std.specs.Io.KnownBytes.{Appends};
 ghost use Rattle.mh_report.specs.Sink.{IsBeginning};
 ghost use Rattle.mh_report.specs.Played.{Checks, HasWritten, HasBegun};
 ghost use Rattle.mh_report.specs.Verdict.{accepted_lines};
-ghost use Rattle.mh_report.specs.Reading.{service_read};
+ghost use Rattle.mh_told.specs.Reading.{service_read};
 
 use crate::options::Options;
 use crate::play::{complain, refuse};
 use crate::play_error::PlayError;
-use crate::reading::read_service;
 use crate::saying::accepted_text;
 use crate::sink::{Sink, write_all};
 use crate::status::Status;
-use crate::unplayable::Unplayable;
 use crate::verdict::verified;
 use mh_base::GroupName;
 use mh_layers::Bounds;
 use mh_service::Service;
+use mh_told::reading::read_service;
+use mh_told::unplayable::Unplayable;
 use mh_verify::RefusalKind;
 use std::alloc::Global;
 

@@ -4,12 +4,13 @@ ghost use Rattle.std.specs.List.{list_any};
 ghost use Rattle.std.specs.Str.{bytes_eq};
 ghost use Rattle.mh_model.specs.Service.{Service};
 ghost use Rattle.mh_service.specs.Contents.{AreFilesOf};
-ghost use Rattle.mh_report.specs.Reading.{contents, content_of, content_in, is_group_file};
+ghost use Rattle.mh_told.specs.Reading.{is_group_file};
+ghost use Rattle.mh_report.specs.Reading.{contents, content_of, content_in};
 
-use crate::reading::is_group_file;
 use mh_base::{GroupName, Octets, Seq};
 use mh_model::File;
 use mh_service::{ContentNames, Service};
+use mh_told::reading::is_group_file;
 use std::alloc::{AllocError, Global};
 
 /// The content files that the service names, in order.

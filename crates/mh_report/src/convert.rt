@@ -6,19 +6,19 @@ ghost use Rattle.std.specs.Prelude.{◌≡◌, ◌-◌, ◌<◌, ◌^◌, Ok, If
 ghost use Rattle.std.specs.Io.KnownBytes.{Appends};
 ghost use Rattle.mh_report.specs.Sink.{IsBeginning};
 ghost use Rattle.mh_report.specs.Played.{HasWritten, HasBegun};
-ghost use Rattle.mh_report.specs.Reading.{Gives};
+ghost use Rattle.mh_told.specs.Reading.{Gives};
 ghost use Rattle.mh_report.specs.Converted.{converted, written_in, in_octets, in_text, Converts};
 
 use crate::play::complain;
 use crate::play_error::PlayError;
-use crate::reading::read_file;
 use crate::sink::{Sink, write_all};
 use crate::status::Status;
-use crate::unplayable::Unplayable;
 use mh_base::Octets;
 use mh_codec::{CodecError, encode_group};
 use mh_group::Group;
 use mh_text::{TextError, print_group};
+use mh_told::reading::read_file;
+use mh_told::unplayable::Unplayable;
 use std::alloc::Global;
 
 /// The two notations of groups.

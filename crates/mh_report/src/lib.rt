@@ -1,9 +1,9 @@
-//! Services and groups as bytes, and what is written of them: the verdict of a check, the report of a
+//! What is written of services and groups that are had as bytes: the verdict of a check, the report of a
 //! play, a group in the other notation.
 //!
 //! Promise: where a call answers a status, the sink has taken exactly what is meant for these bytes and
-//! choices; after an error it has taken nothing, or a beginning of that. Where the bytes come from and go
-//! to is left to the program.
+//! choices; after an error it has taken nothing, or a beginning of that. How files are read as a service is
+//! left to `mh_told`, and to the program where the bytes come from and go to.
 #![tactic(auto)]
 
 mod check;
@@ -24,7 +24,6 @@ pub mod source;
 mod status;
 mod tally;
 mod telling;
-mod unplayable;
 mod unread;
 mod verdict;
 mod words;

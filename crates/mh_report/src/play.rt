@@ -5,11 +5,12 @@
 //! `player` plays the script. Where the bytes come from and go to is left to the caller.
 ghost use Rattle.std.specs.Prelude.{◌≡◌, ◌-◌, ◌<◌, ◌^◌, [], false, Ok, Result, IfOk, OnOk, OnErr, IsErrOf};
 ghost use Rattle.std.specs.Io.KnownBytes.{Appends};
-ghost use Rattle.mh_report.specs.declared.unplayable.Unplayable.{Unplayable as Unreadable};
+ghost use Rattle.mh_told.specs.declared.unplayable.Unplayable.{Unplayable as Unreadable};
 ghost use Rattle.mh_report.specs.Sink.{IsBeginning};
 ghost use Rattle.mh_report.specs.Report.{Session};
 ghost use Rattle.mh_report.specs.Verdict.{refusal_lines};
-ghost use Rattle.mh_report.specs.Reading.{Gives, readied};
+ghost use Rattle.mh_told.specs.Reading.{Gives};
+ghost use Rattle.mh_report.specs.Reading.{readied};
 ghost use Rattle.mh_report.specs.Presets.{opened};
 ghost use Rattle.mh_report.specs.Played.{complaint, play_lines, play_status, Plays, HasWritten, HasBegun};
 
@@ -22,11 +23,11 @@ use crate::saying::{complaint_text, refusal_text};
 use crate::script::Command;
 use crate::sink::{Sink, write_all};
 use crate::status::Status;
-use crate::unplayable::Unplayable;
 use crate::verdict::verified;
 use mh_base::GroupName;
 use mh_model::File;
 use mh_service::Service;
+use mh_told::unplayable::Unplayable;
 use mh_verify::{Accepted, Refusal, RefusalKind};
 use std::alloc::Global;
 

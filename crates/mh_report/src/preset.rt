@@ -1,12 +1,12 @@
 //! Content files that are put there before the first move.
 ghost use Rattle.std.specs.Prelude.{◌≡◌, Ok, IfOk, IfErr, OnOk};
-ghost use Rattle.mh_report.specs.Reading.{Fails};
+ghost use Rattle.mh_told.specs.Reading.{Fails};
 ghost use Rattle.mh_report.specs.Presets.{presets, tried, unset};
 
-use crate::unplayable::Unplayable;
 use mh_base::Octets;
 use mh_engine::{Engine, RefusedWhy};
 use mh_model::File;
+use mh_told::unplayable::Unplayable;
 use std::alloc::{AllocError, Global};
 
 /// Puts the files there, in order, up to the first that is refused.

@@ -3,15 +3,15 @@ ghost use Rattle.std.specs.Prelude.{◌≡◌, ◌++◌, OnOk, IfOk, codes};
 ghost use Rattle.std.specs.Fmt.{decimal};
 ghost use Rattle.mh_report.specs.Played.{complaint};
 ghost use Rattle.mh_report.specs.Verdict.{refusal_lines, place_words, action_words, scene_word, config_line, object_line};
-ghost use Rattle.mh_report.specs.Verdict.{accepted_lines, bound_line, cause_line, chain_lines, cycle_lines, kind_word as kind_word_lem, link_line, where_words};
+ghost use Rattle.mh_report.specs.Verdict.{accepted_lines, bound_line, cause_line, chain_lines, cycle_lines, link_line, where_words};
 
-use crate::unplayable::Unplayable;
 use mh_base::{GroupName, ObjRef};
 use mh_flow::Link;
 use mh_group::ActionName;
 use mh_layers::{Arrow, Bounds, Cause, InputKind};
 use mh_model::Config;
 use mh_told::text::Text;
+use mh_told::unplayable::Unplayable;
 use mh_verify::{Place, Refusal, RefusalKind};
 use std::alloc::{AllocError, Global};
 
@@ -84,7 +84,7 @@ fn put_where(
 {
     if let RefusalKind::TooManySteps(input) = kind {
         text.put(b" ")?;
-        return text.put(kind_word(input));
+        return text.put(input.word());
     }
     put_place(text, place)?;
     put_action(text, action)
@@ -188,24 +188,10 @@ fn put_cause(text: &mut Text, cause: &Cause) -> Result<(), AllocError>
 
 // Of a service that is accepted
 
-/// The word for the start and for each kind of input.
-fn kind_word(kind: InputKind) -> &'static [u8]
-    ensures { result.now ≡ kind_word_lem kind }
-{
-    match kind {
-        InputKind::Start => b"start",
-        InputKind::Key => b"key",
-        InputKind::Tick => b"tick",
-        InputKind::Stream => b"stream",
-        InputKind::Engine => b"engine",
-        InputKind::Arrive => b"arrive",
-    }
-}
-
 fn put_bound(text: &mut Text, kind: InputKind, bound: u64) -> Result<(), AllocError>
     ensures { OnOk result (text.new ≡ text.old ++ bound_line kind bound) }
 {
-    text.put(kind_word(kind))?;
+    text.put(kind.word())?;
     put_spaced(text, bound)?;
     text.put(b"\n")
 }

@@ -5,7 +5,13 @@ use mh_base::GroupName;
 use std::alloc::Global;
 
 /// Puts what stands in front of a number, the number, and what stands behind it.
-fn put(alloc: Global, text: &mut Vec<u8>, front: &str, number: u64, behind: &str) -> Option<()> {
+pub fn put(
+    alloc: Global,
+    text: &mut Vec<u8>,
+    front: &str,
+    number: u64,
+    behind: &str,
+) -> Option<()> {
     let put = format!(in alloc; "{front}{number}{behind}").ok()?;
     text.extend_from_slice(put.as_bytes()).ok()
 }

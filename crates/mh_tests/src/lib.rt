@@ -80,6 +80,8 @@ mod octets;
 #[cfg(test)]
 mod page;
 #[cfg(test)]
+mod painting;
+#[cfg(test)]
 mod places;
 #[cfg(test)]
 mod plain;
@@ -125,6 +127,8 @@ mod vote;
 mod whole;
 #[cfg(test)]
 mod why;
+#[cfg(test)]
+mod why_large;
 #[cfg(test)]
 mod widgets;
 #[cfg(test)]

@@ -25,3 +25,6 @@ pub mod TableWords
 pub mod PrintedLemmas
 pub mod PrintedLaw
 pub mod MarksLemmas
+pub mod LandmarkLemmas
+pub mod CountLemmas
+pub mod VariableLemmas

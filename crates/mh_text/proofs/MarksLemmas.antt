@@ -1,4 +1,4 @@
--- Each mark lies within its text.
+-- Each token of a text lies within it, and so does each mark.
 use Rattle.std.proofs.Common.{◌≡◌, ℕ, zero, suc, ◌+◌, ◌<◌, ◌≤◌, Bool, true, false, ◌&&◌, ◌==◌, nat_le, if◌then◌else◌, List, [], ◌∷◌, length, take, drop, Option, Some, None, option_to_list, Result, Ok, Err, refl, ◌∙◌, arith, length-drop, length-take}
 use Rattle.std.specs.List.{list_all}
 use Rattle.std.proofs.lemmas.Bool.{and_parts}
@@ -19,7 +19,7 @@ use Rattle.mh_text.specs.Left.{cut, lexed_at, lexed, meant, left_in, left_of, le
 use Rattle.mh_text.specs.Marks.{in_group, behind, mark_at, marks_from, marks, is_within}
 
 -- the token lies within so many bytes
-abbrev lies : ℕ → Piece → Bool
+abbrev pub lies : ℕ → Piece → Bool
 lies n p = nat_le (p.start + length p.text) n
 
 -- so do all tokens that are left
@@ -30,7 +30,7 @@ All n l = list_all (lies n) l.pieces ≡ true
 abbrev Ends : ℕ → Rest → Type 0
 Ends n r = 0 < length r.bytes → r.offset + length r.bytes ≤ n
 
-both : (a b : Bool) → a ≡ true → b ≡ true → (a && b) ≡ true
+pub both : (a b : Bool) → a ≡ true → b ≡ true → (a && b) ≡ true
 both true true h g = refl
 both true false h g = g
 both false b h g = h
@@ -81,8 +81,10 @@ from_within n s (p ∷ ps) h =
     list_all-append (is_within n) (option_to_list (mark_at here p)) (marks_from here ps)
     ∙ both _ _ (mark_within n here p.sign p.start p.text parts.0) (from_within n here ps parts.1)
 
+pub all_lie : (bytes : List ℕ) → list_all (lies (length bytes)) (left false (whole bytes)).pieces ≡ true
+unfolding left
+all_lie bytes = all_left (length bytes) (suc (length bytes)) false (whole bytes) (λ _. omega arith)
+
 pub marks_within : (bytes : List ℕ) → list_all (is_within (length bytes)) (marks bytes) ≡ true
-unfolding marks left
-marks_within bytes =
-    from_within (length bytes) in_group (left false (whole bytes)).pieces
-    (all_left (length bytes) (suc (length bytes)) false (whole bytes) (λ _. omega arith))
+unfolding marks
+marks_within bytes = from_within (length bytes) in_group (left false (whole bytes)).pieces (all_lie bytes)

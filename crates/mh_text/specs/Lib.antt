@@ -11,4 +11,5 @@ pub mod Escapes
 pub mod Reading
 pub mod Printed
 pub mod Marks
+pub mod Landmarks
 pub mod Laws

@@ -1,5 +1,6 @@
 //! The textual notation: tokens over the bytes of a file, the group that the tokens write, the printed
-//! form of a group, and where the actions of a group stand.
+//! form of a group, and where things stand in a text: actions, lists of members, classes, numbers and
+//! names; and through which variables an action goes.
 //!
 //! Promise: reading returns on every input, with a group that the tables allow, or with the first
 //! place from the left at which the text goes wrong; and what is printed of a group is read as that
@@ -10,6 +11,8 @@ mod effect;
 mod field;
 mod form;
 mod keyword;
+pub mod landmark;
+mod landmarking;
 pub mod laws;
 mod lexing;
 mod mark;
@@ -25,16 +28,23 @@ mod setting;
 mod several;
 mod sign;
 pub mod text_error;
+pub mod through;
 pub mod token;
 pub mod token_kind;
 mod value;
 mod value_form;
+mod variables;
+mod walk;
 
+pub use landmark::{Landmark, Sight};
+pub use landmarking::landmarks;
 pub use mark::{Mark, mark_of};
 pub use marking::marks;
 pub use mh_base::LARGEST_FILE;
 pub use object::{begins_group, read_group};
 pub use printing::print_group;
 pub use text_error::{TextError, Why};
+pub use through::Through;
 pub use token::{Token, Tokens};
 pub use token_kind::TokenKind;
+pub use variables::variables_at;

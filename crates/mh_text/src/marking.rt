@@ -2,11 +2,12 @@
 //! in. Whether the text is right is left to the readers.
 ghost use Rattle.std.specs.Prelude.{◌≡◌, ◌+◌, nat_le, true, length, IfOk};
 ghost use Rattle.std.specs.List.{list_all};
-ghost use Rattle.mh_text.specs.Marks.{in_group, behind, mark, mark_at, pieces_of, marks, is_within};
+ghost use Rattle.mh_text.specs.Marks.{in_group, behind, mark, mark_at, marks, is_within};
 
+use crate::Mark;
 use crate::place::{Piece, Place};
 use crate::sign::Sign;
-use crate::{Mark, TextError};
+use crate::walk::next_good;
 use mh_group::{ActionName, Attribute};
 use std::alloc::{AllocError, Global};
 
@@ -36,17 +37,6 @@ pub fn marks(alloc: Global, bytes: &[u8]) -> Result<Vec<Mark>, AllocError>
         place = rest;
     }
     Ok(found)
-}
-
-/// The next token and the place behind it; none where the text ends or goes wrong.
-fn next_good<'a>(place: Place<'a>) -> Result<Option<(Piece<'a>, Place<'a>)>, AllocError>
-    ensures { IfOk result (λ next. pieces_of next ≡ place.entry.pieces) }
-{
-    match place.taken() {
-        Ok(next) => Ok(next),
-        Err(TextError::At { .. }) => Ok(None),
-        Err(TextError::NoMemory) => Err(AllocError),
-    }
 }
 
 /// The beginning of a text, and where an ingredient has ended.

@@ -2,3 +2,4 @@ pub mod Printing
 pub mod Frame
 pub mod Stretch
 pub mod Told
+pub mod Reading

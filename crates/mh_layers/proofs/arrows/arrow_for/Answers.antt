@@ -5,4 +5,4 @@ use Rattle.mh_layers.proofs.arrows.arrow_for.Goals as goal
 
 pub arrow_between-requires-clause-step : goal.arrow_between-requires-clause-step
 arrow_between-requires-clause-step c =
-    subst (λ (r : Reading). IsStep r c.args.from.now c.args.first.now c.args.to.now) (sym (ap (λ (s : Spot). s.reading) c.in_ok-here.ensures)) c.requires.step
+    subst (λ (r : Reading). IsStep r c.args.from.now c.args.first.now c.args.to.now) (sym (ap (λ (s : Spot). s.reading) c.config_of-here.ensures)) c.requires.step

@@ -4,8 +4,8 @@ use Rattle.mh_layers.specs.Reading.{spot_at}
 use Rattle.mh_layers.proofs.SpotLemmas.{named_in}
 use Rattle.mh_layers.proofs.granting.beyond.Goals as goal
 
-pub returns-in_ok-there-in-Some-clause-some : goal.returns-in_ok-there-in-Some-clause-some
-returns-in_ok-there-in-Some-clause-some c =
+pub returns-in-Some-of-clause-some : goal.returns-in-Some-of-clause-some
+returns-in-Some-of-clause-some c =
     let s = c.args.here.now in
-    c.in_ok-there-in-Some.ensures ∙ (λ i. spot_at (c.net.ensures i) (c.costs.ensures i) c.in-Some.number)
+    c.in-Some-of.ensures.some ∙ (λ i. spot_at (c.net.ensures i) (c.costs.ensures i) c.in-Some.number)
     ∙ named_in s.reading s.places (exchanged s.reading.service s.config c.args.group.now) c.in-Some.number (search rules)

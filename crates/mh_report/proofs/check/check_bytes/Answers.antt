@@ -1,6 +1,6 @@
 use Rattle.std.specs.Prelude.{List, ℕ}
 use Rattle.std.proofs.Common.{ap, sym, ◌∙◌}
-use Rattle.mh_report.specs.Reading.{service_read}
+use Rattle.mh_told.specs.Reading.{service_read}
 use Rattle.mh_report.specs.Played.{Checks, check_unreadable}
 use Rattle.mh_report.proofs.WrittenLemmas.{unreadable_whole, unreadable_cut, failed}
 use Rattle.mh_report.proofs.PlainLemmas.{plain_service}

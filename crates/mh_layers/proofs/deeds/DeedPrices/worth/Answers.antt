@@ -1,4 +1,4 @@
-use Rattle.std.specs.Prelude.{IfOk, Result, ℕ}
+use Rattle.std.specs.Prelude.{Result, ℕ}
 use Rattle.std.proofs.Common.{◌≡◌, sym, subst}
 use Rattle.mh_layers.specs.declared.node_key.NodeKey.{NodeKey}
 use Rattle.mh_layers.specs.Deeds.{deed_puts}
@@ -11,5 +11,5 @@ use Rattle.mh_layers.proofs.deeds.DeedPrices.worth.Goals as goal
 pub returns : goal.returns
 unfolding told_in
 returns c kept =
-    subst (λ (w : Result ℕ NodeKey). IfOk c.deed_worth.result (λ worth. worth ≡ w))
+    subst (λ (w : Result ℕ NodeKey). c.deed_worth.result ≡ w)
     (sym (known_numbered (number c.args.self.now.reading) (told (cost_in c.args.costs.now)) (deed_puts c.args.self.now))) c.deed_worth.ensures

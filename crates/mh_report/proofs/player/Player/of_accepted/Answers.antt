@@ -1,9 +1,9 @@
 use Rattle.std.specs.Prelude.{◌≡◌, Result, Ok, Err}
 use Rattle.std.specs.Result.{IsErr, IsErrAnd}
 use Rattle.std.proofs.Common.{subst, sym}
-use Rattle.mh_report.specs.declared.unplayable.Unplayable.{Unplayable}
-use Rattle.mh_report.specs.declared.unplayable.Unplayable.TheVariants as unplayable
-use Rattle.mh_report.specs.Reading.{Fails, Gives}
+use Rattle.mh_told.specs.declared.unplayable.Unplayable.{Unplayable}
+use Rattle.mh_told.specs.declared.unplayable.Unplayable.TheVariants as unplayable
+use Rattle.mh_told.specs.Reading.{Fails, Gives}
 use Rattle.mh_report.specs.Presets.{opened}
 use Rattle.mh_report.proofs.player.Player.of_accepted.Goals as goal
 

@@ -1,0 +1,10 @@
+use Rattle.std.proofs.Common.{rules, refl}
+use Rattle.mh_layers.specs.declared.dearest.Dearest.{Dearest}
+use Rattle.mh_layers.proofs.DearestLemmas.{seen_best}
+use Rattle.mh_layers.proofs.dearest.see.Goals as goal
+
+pub returns : goal.returns
+returns c =
+    let b : Dearest = record { key = c.args.key.now; cause = c.in_ok-cause.cause; cost = c.effect_cost-cost.result } in
+    seen_best c.args.net.now c.args.laying.now c.args.key.now b c.args.best.now c.set.new.best
+    refl c.in_ok-cause.ensures c.effect_cost-cost.ensures (search rules) (search rules) c.set.ensures

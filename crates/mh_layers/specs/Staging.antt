@@ -1,0 +1,93 @@
+-- The stages of a way, by numbers: what the actions of an effect cost, and the effect that comes next.
+use Rattle.std.specs.Prelude.{◌≡◌, ◌+◌, ℕ, false, true, List, [], ◌∷◌, ◌++◌, map, slice_get, Option, Some, None, Result, Ok}
+use Rattle.mh_model.specs.declared.act.Act.{Act}
+use Rattle.mh_model.specs.declared.config.Config.{Config}
+use Rattle.mh_laws.specs.Costs.{Costing, Effect}
+use Rattle.mh_laws.specs.Layers.{IsCost}
+use Rattle.mh_layers.specs.declared.bounds.InputKind.{InputKind}
+use Rattle.mh_layers.specs.declared.dearest.Dearest.{Dearest}
+use Rattle.mh_layers.specs.declared.node_key.NodeKey.{NodeKey}
+use Rattle.mh_layers.specs.declared.stages.Next.{Next}
+use Rattle.mh_layers.specs.declared.stages.Part.{Part}
+use Rattle.mh_layers.specs.declared.way.Stage.{Stage}
+use Rattle.mh_layers.specs.declared.way.Way.{Way}
+use Rattle.mh_layers.specs.Around as around
+use Rattle.mh_layers.specs.Around.{Taken}
+use Rattle.mh_layers.specs.Bridge.{key_of}
+use Rattle.mh_layers.specs.Caused.{CountsFrom, IsNamed}
+use Rattle.mh_layers.specs.Dearest.{AreStages, IsFirstLargest, IsWay, acts_of}
+use Rattle.mh_layers.specs.Known.{known_worth}
+use Rattle.mh_layers.specs.Layering.{Places}
+use Rattle.mh_layers.specs.Reading.{Reading, Spot, around_at, flow_read, known_at, number, spot_in}
+use Rattle.mh_layers.specs.Standings.{effect_named}
+
+-- what is told of the cost of an action
+abbrev pub act_worth : Spot → Act → Result ℕ NodeKey
+act_worth s a = known_worth (known_at s) (around.act (around_at s) a)
+
+abbrev pub all_known : List ℕ → List (Result ℕ NodeKey)
+all_known ns = map (λ (n : ℕ). Ok n) ns
+
+-- the action with this place
+pub record IsPartAt (acts : List Act) (n m : ℕ) (p : Part) : Type 0 where
+  pub offset : p.offset ≡ n
+  pub cost : p.cost ≡ m
+  pub act : Act
+  pub there : slice_get acts n ≡ Some act
+  pub name : p.action ≡ act.name
+
+-- this is the first of the actions that cost most, with its place among them and its cost
+pub record IsPart (s : Spot) (acts : List Act) (p : Part) : Type 0 where
+  pub costs : List ℕ
+  pub known : map (act_worth s) acts ≡ all_known costs
+  pub first : IsFirstLargest (λ (n : ℕ). n) costs p.offset p.cost
+  pub act : Act
+  pub there : slice_get acts p.offset ≡ Some act
+  pub name : p.action ≡ act.name
+
+-- the stage tells of the effect that was chosen, and of an action of it
+pub record IsStageBy (r : Reading) (ts : Places) (d : Dearest) (n : Next) : Type 0 where
+  pub part : Part
+  pub is : IsPart (spot_in r ts (effect_named r d.key).config) (acts_of r.service (effect_named r d.key)) part
+  pub key : n.key ≡ d.key
+  pub cause : n.stage.cause ≡ d.cause
+  pub cost : n.stage.cost ≡ d.cost
+  pub index : n.stage.index ≡ d.cause.index + part.offset
+  pub action : n.stage.action ≡ part.action
+  pub part_cost : n.stage.part ≡ part.cost
+
+-- the stages tell of what the key with this number puts to work, by whatever exact costs
+abbrev pub PutsFrom : Reading → NodeKey → Effect → Type 0
+PutsFrom r k y = CountsFrom r k (key_of y)
+
+pub record AreStagesFrom (r : Reading) (k : NodeKey) (ss : List Stage) : Type 0 where
+  pub by : (f : Costing) → IsCost r.service (flow_read r) f → AreStages r.service (flow_read r) f (PutsFrom r k) ss
+
+-- the stages so far, and behind them those from this key on, are the stages from the root on
+pub record AreStagesTo (r : Reading) (root : NodeKey) (so_far : List Stage) (k : NodeKey) : Type 0 where
+  pub named : IsNamed r k
+  pub rest : (ss : List Stage) → AreStagesFrom r k ss → AreStagesFrom r root (so_far ++ ss)
+
+-- one stage, and those from its effect on
+abbrev pub IsNext : Reading → NodeKey → Option Next → Type 0
+IsNext r k None = AreStagesFrom r k []
+IsNext r k (Some n) = AreStagesTo r k (n.stage ∷ []) n.key
+
+-- a way that begins in this configuration
+pub record IsWayIn (r : Reading) (c : Config) (k : InputKind) (n : ℕ) (y : Way) : Type 0 where
+  pub kind : y.kind ≡ k
+  pub config : y.config ≡ c
+  pub cost : y.cost ≡ n
+  pub stages : AreStagesFrom r (number r (Taken c k)) y.stages.items
+
+-- a way by whatever exact costs
+pub record IsWayOf (r : Reading) (k : InputKind) (y : Way) : Type 0 where
+  pub kind : y.kind ≡ k
+  pub by : (f : Costing) → IsCost r.service (flow_read r) f → IsWay r.service (flow_read r) f y
+
+-- one for each of these kinds
+abbrev pub AreWays : Reading → List InputKind → List Way → Type 0
+AreWays r [] [] = Unit {0}
+AreWays r [] (y ∷ ys) = false ≡ true
+AreWays r (k ∷ ks) [] = false ≡ true
+AreWays r (k ∷ ks) (y ∷ ys) = IsWayOf r k y × AreWays r ks ys

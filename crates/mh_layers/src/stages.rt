@@ -1,0 +1,225 @@
+//! The stages of a way: the dearest effect that a key puts to work, the dearest that this one does, and so on.
+//!
+//! Promise: each tells of its effect, what that costs, and the first of its actions that cost most.
+ghost use Rattle.std.specs.Prelude.{◌≡◌, ◌+◌, true, map, Ok, Some, IfOk};
+ghost use Rattle.std.specs.List.{list_all};
+ghost use Rattle.mh_model.specs.Configuration.{present};
+ghost use Rattle.mh_model.specs.Service.{part_at};
+ghost use Rattle.mh_layers.specs.Caused.{IsNamed};
+ghost use Rattle.mh_layers.specs.Dearest.{acts_of};
+ghost use Rattle.mh_layers.specs.Layered.{root_keys};
+ghost use Rattle.mh_layers.specs.Layering.{AreLayers, is_laid};
+ghost use Rattle.mh_layers.specs.Reading.{IsReading, kept, price, spot_in};
+ghost use Rattle.mh_layers.specs.Staging.{AreStagesFrom, IsNext, IsPart, IsPartAt, IsStageBy, act_worth, all_known};
+ghost use Rattle.mh_layers.specs.Standings.{effect_named};
+
+use crate::actions::act;
+use crate::arrows::number_of;
+use crate::at::At;
+use crate::caused::reached_from;
+use crate::costs::Costs;
+use crate::dearest::{Dearest, dearest_of, first_largest, number_at};
+use crate::effects::effect_acts;
+use crate::laying::Laying;
+use crate::net::Net;
+use crate::node_key::NodeKey;
+use crate::price::{object, standing};
+use crate::way::Stage;
+use mh_group::ActionName;
+use mh_model::{Act, Fixed};
+use std::alloc::{AllocError, Global};
+
+/// An action of an effect: its place there, and what it costs.
+#[derive(Clone, Copy)]
+pub(crate) struct Part {
+    pub offset: usize,
+    pub action: ActionName,
+    pub cost: u64,
+}
+
+/// A stage, and the key of its effect.
+#[derive(Drop)]
+pub(crate) struct Next {
+    pub key: NodeKey,
+    pub stage: Stage,
+}
+
+// Actions
+
+/// What an action costs.
+fn act_cost(here: &At<'_>, each: &Act) -> Result<u64, AllocError>
+    ensures { IfOk result (λ cost. act_worth here.now each.now ≡ Ok cost) }
+{
+    match act(here, each) {
+        Ok(cost) => Ok(cost),
+        Err(_) => Err(AllocError),
+    }
+}
+
+/// What each of these costs.
+fn act_costs(alloc: Global, here: &At<'_>, acts: &[Act]) -> Result<Vec<u64>, AllocError>
+    ensures { IfOk result (λ costs. map (act_worth here.now) acts.now ≡ all_known costs.items) }
+{
+    let mut costs = Vec::new(alloc);
+    for each in acts {
+        costs.push(act_cost(here, each)?)?;
+    }
+    Ok(costs)
+}
+
+/// The action at this place, which costs so much.
+fn part_at(acts: &[Act], offset: usize, cost: u64) -> Result<Part, AllocError>
+    ensures { IfOk result (λ part. IsPartAt acts.now offset cost part) }
+{
+    match acts.get(offset) {
+        None => Err(AllocError),
+        Some(act) => Ok(Part {
+            offset,
+            action: act.name,
+            cost,
+        }),
+    }
+}
+
+/// The first of these actions that cost most.
+fn dearest_act(alloc: Global, here: &At<'_>, acts: &[Act]) -> Result<Part, AllocError>
+    ensures { IfOk result (λ part. IsPart here.now acts.now part) }
+{
+    let costs = act_costs(alloc, here, acts)?;
+    let numbers = costs.as_slice();
+    let offset = first_largest(numbers)?;
+    let cost = number_at(numbers, offset);
+    let part = part_at(acts, offset, cost)?;
+    Ok(part)
+}
+
+/// The configuration of the effect.
+fn config_of<'a>(net: &'a Net<'_>, costs: &'a Costs, key: &NodeKey) -> Result<At<'a>, AllocError>
+    ensures { IfOk result (λ here. here ≡ spot_in net.now costs.now (effect_named net.now key.now).config) }
+{
+    match key {
+        NodeKey::Effect(config, _, _) => standing(net, costs, *config),
+        _ => Err(AllocError),
+    }
+}
+
+/// What is said of the object of the effect.
+fn fixed_of<'a>(here: &'a At<'_>, key: &NodeKey) -> Result<&'a Fixed, AllocError>
+    ensures { let s = here.now in let ps = present s.reading.service s.config in
+        IfOk result (λ part. part_at (effect_named s.reading key.now).object ps ≡ Some part.now) }
+{
+    let NodeKey::Effect(_, number, _) = key else {
+        return Err(AllocError);
+    };
+    let at = object(here.net(), *number)?;
+    match here.find(at) {
+        None => Err(AllocError),
+        Some(part) => Ok(part),
+    }
+}
+
+/// The first action of the effect that costs most.
+fn dearest_part(
+    alloc: Global,
+    net: &Net<'_>,
+    laying: &Laying,
+    key: &NodeKey,
+) -> Result<Part, AllocError>
+    ensures { let x = effect_named net.now key.now in
+        IfOk result (λ part. IsPart (spot_in net.now laying.now x.config) (acts_of net.now.service x) part) }
+{
+    let costs = laying.costs();
+    let here = config_of(net, costs, key)?;
+    let fixed = fixed_of(&here, key)?;
+    let number = number_of(key);
+    let acts = effect_acts(fixed, number);
+    let part = dearest_act(alloc, &here, acts)?;
+    Ok(part)
+}
+
+// Stages
+
+/// The number of an action so far behind the first.
+fn index_at(first: usize, offset: usize) -> Result<usize, AllocError>
+    ensures { IfOk result (λ index. index ≡ first + offset) }
+{
+    match first.checked_add(offset) {
+        None => Err(AllocError),
+        Some(index) => Ok(index),
+    }
+}
+
+/// The stage of this effect.
+fn stage_of(
+    alloc: Global,
+    net: &Net<'_>,
+    laying: &Laying,
+    dearest: Dearest,
+) -> Result<Next, AllocError>
+    ensures { IfOk result (λ next. IsStageBy net.now laying.now dearest next) }
+{
+    let part = dearest_part(alloc, net, laying, &dearest.key)?;
+    let index = index_at(dearest.cause.index, part.offset)?;
+    Ok(Next {
+        key: dearest.key,
+        stage: Stage {
+            cause: dearest.cause,
+            cost: dearest.cost,
+            index,
+            action: part.action,
+            part: part.cost,
+        },
+    })
+}
+
+/// The stage of the dearest effect that the key puts to work, if one costs anything.
+fn next_stage(
+    alloc: Global,
+    net: &Net<'_>,
+    laying: &Laying,
+    key: &NodeKey,
+) -> Result<Option<Next>, AllocError>
+    requires reading { IsReading net.now }
+    requires layers { AreLayers (price net.now) (kept net.now) laying.now }
+    requires laid { list_all (is_laid laying.now) (root_keys net.now) ≡ true }
+    requires named { IsNamed net.now key.now }
+    ensures { IfOk result (λ next. IsNext net.now key.now next) }
+{
+    let found = reached_from(alloc, net, key)?;
+    let keys = found.as_slice();
+    match dearest_of(net, laying, keys)? {
+        None => Ok(None),
+        Some(dearest) => {
+            let next = stage_of(alloc, net, laying, dearest)?;
+            Ok(Some(next))
+        }
+    }
+}
+
+/// The stages from this key on.
+#[tactic(auto, using(crate::proofs::StageLemmas::stages_begin, crate::proofs::StageLemmas::stages_more, crate::proofs::StageLemmas::stages_end))]
+pub(crate) fn stages_from(
+    alloc: Global,
+    net: &Net<'_>,
+    laying: &Laying,
+    root: NodeKey,
+) -> Result<Vec<Stage>, AllocError>
+    requires reading { IsReading net.now }
+    requires layers { AreLayers (price net.now) (kept net.now) laying.now }
+    requires laid { list_all (is_laid laying.now) (root_keys net.now) ≡ true }
+    requires named { IsNamed net.now root }
+    ensures { IfOk result (λ stages. AreStagesFrom net.now root stages.items) }
+{
+    let mut stages = Vec::new(alloc);
+    let mut key = root;
+    for _ in 0..u64::MAX {
+        match next_stage(alloc, net, laying, &key)? {
+            None => return Ok(stages),
+            Some(next) => {
+                stages.push(next.stage)?;
+                key = next.key;
+            }
+        }
+    }
+    Err(AllocError)
+}

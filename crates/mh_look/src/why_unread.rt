@@ -1,0 +1,115 @@
+//! What is told of the lines on files, groups and scripts that are not taken.
+ghost use Rattle.std.specs.Prelude.{◌≡◌, ◌++◌, OnOk, codes};
+ghost use Rattle.std.specs.Option.{option_copied};
+ghost use Rattle.mh_look.specs.Sources.{shown_offset, by_number};
+ghost use Rattle.mh_look.specs.Why as spec;
+ghost use Rattle.mh_look.specs.Why.{shown_script};
+
+use crate::advice::{files, put_advice, readings, services};
+use crate::why_line::{IS_BYTE, IS_LINE, OF_FILE, TOLD_OF};
+use crate::why_place::put_offset;
+use crate::why_script::{Script, put_script_line};
+use crate::why_service::put_service as put_group;
+use crate::why_source::Source;
+use crate::why_spot::Spot;
+use crate::why_words::{behind_first, first_word, number_in};
+use crate::wrap::{put_paragraph, put_sentence};
+use mh_told::text::Text;
+use std::alloc::{AllocError, Global};
+
+/// Puts which byte of a file is wrong: the file stands as the group, its number as the object, and
+/// the offset as the index.
+#[tactic(auto, unfolding(crate::specs::Why::file))]
+pub(crate) fn put_file(
+    alloc: Global,
+    text: &mut Text,
+    sources: &[Source<'_>],
+    spot: &Spot<'_>,
+) -> Result<(), AllocError>
+    ensures { OnOk result (text.new ≡ text.old ++ spec.file sources.now spot.now) }
+{
+    let mut sentence = Text::new(alloc);
+    sentence.put(IS_BYTE)?;
+    sentence.put(spot.index())?;
+    sentence.put(OF_FILE)?;
+    sentence.put(spot.group())?;
+    sentence.put(b".")?;
+    put_paragraph(alloc, text, sentence.as_slice())?;
+    put_byte_shown(alloc, text, sources, spot.group(), spot.index())?;
+    put_advice(alloc, text, files(), spot.object())
+}
+
+/// Puts where the byte stands, if the word is a number and it is found.
+fn put_byte_shown(
+    alloc: Global,
+    text: &mut Text,
+    sources: &[Source<'_>],
+    name: &[u8],
+    offset: &[u8],
+) -> Result<(), AllocError>
+    ensures { OnOk result (text.new ≡ text.old ++ by_number (shown_offset sources.now name.now) offset.now) }
+{
+    match number_in(offset) {
+        Some(number) => put_offset(alloc, text, sources, name, number as usize),
+        None => Ok(()),
+    }
+}
+
+/// Puts of which group it is told, by the number in front of its name, and where that stands.
+#[tactic(auto, unfolding(crate::specs::Why::service))]
+pub(crate) fn put_service(
+    alloc: Global,
+    text: &mut Text,
+    sources: &[Source<'_>],
+    words: &[u8],
+) -> Result<(), AllocError>
+    ensures { OnOk result (text.new ≡ text.old ++ spec.service sources.now words.now) }
+{
+    let number = first_word(words);
+    let group = behind_first(words);
+    put_sentence(alloc, text, TOLD_OF, group, b".")?;
+    put_group(alloc, text, sources, number, group)?;
+    put_advice(alloc, text, services(), number)
+}
+
+/// Puts which line of the script is wrong.
+#[tactic(auto, unfolding(crate::specs::Why::script))]
+pub(crate) fn put_script(
+    alloc: Global,
+    text: &mut Text,
+    script: Option<&Script<'_>>,
+    words: &[u8],
+) -> Result<(), AllocError>
+    ensures { OnOk result (text.new ≡ text.old ++ spec.script (option_copied script.entry) words.now) }
+{
+    put_sentence(alloc, text, IS_LINE, words, b" of the script.")?;
+    put_script_shown(alloc, text, script, words)?;
+    put_advice(alloc, text, readings(), b"script")
+}
+
+/// Puts the line of the script, if that is known, the word is a number and the line is found.
+fn put_script_shown(
+    alloc: Global,
+    text: &mut Text,
+    script: Option<&Script<'_>>,
+    word: &[u8],
+) -> Result<(), AllocError>
+    ensures { OnOk result (text.new ≡ text.old ++ shown_script (option_copied script.entry) word.now) }
+{
+    let Some(script) = script else {
+        return Ok(());
+    };
+    match number_in(word) {
+        Some(number) => put_script_line(alloc, text, script, number),
+        None => Ok(()),
+    }
+}
+
+/// Puts what cannot be read.
+#[tactic(auto, unfolding(crate::specs::Why::unread))]
+pub(crate) fn put_unread(alloc: Global, text: &mut Text, words: &[u8]) -> Result<(), AllocError>
+    ensures { OnOk result (text.new ≡ text.old ++ spec.unread words.now) }
+{
+    put_sentence(alloc, text, TOLD_OF, words, b".")?;
+    put_advice(alloc, text, readings(), b"read")
+}

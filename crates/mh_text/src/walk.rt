@@ -1,0 +1,19 @@
+//! A walk along the tokens of a text, for whoever asks where something stands: it goes up to the first
+//! token that is wrong, and says nothing of what is wrong there.
+ghost use Rattle.std.specs.Prelude.{◌≡◌, IfOk};
+ghost use Rattle.mh_text.specs.Marks.{pieces_of};
+
+use crate::TextError;
+use crate::place::{Piece, Place};
+use std::alloc::AllocError;
+
+/// The next token and the place behind it; none where the text ends or goes wrong.
+pub(crate) fn next_good<'a>(place: Place<'a>) -> Result<Option<(Piece<'a>, Place<'a>)>, AllocError>
+    ensures { IfOk result (λ next. pieces_of next ≡ place.entry.pieces) }
+{
+    match place.taken() {
+        Ok(next) => Ok(next),
+        Err(TextError::At { .. }) => Ok(None),
+        Err(TextError::NoMemory) => Err(AllocError),
+    }
+}
