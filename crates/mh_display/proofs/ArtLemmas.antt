@@ -1,10 +1,11 @@
 -- Drawings, painted one below another.
-use Rattle.std.specs.Prelude.{◌≡◌, ℕ, ◌+◌, ◌<◌, ◌≤◌, ◌==◌, Bool, true, false, if◌then◌else◌, List, [], ◌∷◌, drop, length, Option, Some, None, slice_index_or, refl}
+use Rattle.std.specs.Prelude.{◌≡◌, ℕ, ◌+◌, ◌<◌, ◌≤◌, Bool, true, false, if◌then◌else◌, List, [], ◌∷◌, drop, length, Option, Some, None, slice_index_or, refl}
 use Rattle.std.specs.Option.{option_or}
 use Rattle.std.proofs.Common.{ap, ◌∙◌, sym, arith, subst}
 use Rattle.std.proofs.Math.ListN.{drop_of_length-le}
 use Rattle.std.proofs.lemmas.List.{at_drop_more}
 use Rattle.mh_base.specs.declared.area.Area.{Area}
+use Rattle.mh_model.specs.declared.cell.Cell.{Cell}
 use Rattle.mh_model.specs.declared.drawing.Drawing.{Drawing}
 use Rattle.mh_model.specs.Boxes.{box_back, x_of, y_of}
 use Rattle.mh_model.specs.Drawn.{box_of, drawing_back, drawn_over, figure_back}
@@ -23,15 +24,14 @@ use Rattle.mh_display.proofs.CellLemmas.{put_nothing}
 use Rattle.mh_display.proofs.PaintLemmas.{whole_of}
 
 -- colours alone, one below the other
+below_cases : (n : ℕ) (y : Option ℕ) (a b : Bool) (x : Cell) → put (record { back = y; mark = None }) (put (record { back = Some n; mark = None }) (record { stale = a; bare = b; cell = x })) ≡ put (record { back = Some n; mark = None }) (record { stale = a; bare = b; cell = x })
+below_cases n y false b x = refl
+below_cases n y true false x = refl
+below_cases n y true true x = refl
+
 one_below : (x y : Option ℕ) (k : Marked) → put (record { back = y; mark = None }) (put (record { back = x; mark = None }) k) ≡ put (record { back = option_or x y; mark = None }) k
 one_below None y k = ap (put (record { back = y; mark = None })) (put_nothing k)
-one_below (Some n) y k = by (k.mark == 0) refl (k.mark == 1) refl
-  where
-    by : (a : Bool) → (k.mark == 0) ≡ a → (b : Bool) → (k.mark == 1) ≡ b
-        → put (record { back = y; mark = None }) (put (record { back = Some n; mark = None }) k) ≡ put (record { back = Some n; mark = None }) k
-    by true e b f = rw (e, e) refl
-    by false e true f = rw (e, f) refl
-    by false e false f = rw (e, f) refl
+one_below (Some n) y k = below_cases n y k.stale k.bare k.cell
 
 or_none : {X : Type 0} (x : Option X) → option_or x None ≡ x
 or_none None = refl

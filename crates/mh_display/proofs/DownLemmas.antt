@@ -1,16 +1,17 @@
 -- Looking down the display stack, visible by visible.
-use Rattle.std.specs.Prelude.{◌≡◌, ℕ, ◌+◌, ◌<◌, ◌≤◌, ◌==◌, Bool, true, false, not, List, [], ◌∷◌, ◌++◌, length, map, reverse, take, Option, slice_index_or, if◌then◌else◌, refl}
+use Rattle.std.specs.Prelude.{◌≡◌, ℕ, ◌+◌, ◌<◌, ◌≤◌, Bool, true, false, List, [], ◌∷◌, ◌++◌, length, map, reverse, take, Option, slice_index_or, refl}
 use Rattle.std.proofs.Common.{ap, ◌∙◌, sym, arith, subst}
 use Rattle.std.proofs.lemmas.List.{take_all, take_more, reverse-append}
 use Rattle.mh_base.specs.declared.obj_ref.ObjRef.{ObjRef}
+use Rattle.mh_model.specs.declared.cell.Cell.{Cell}
 use Rattle.mh_model.specs.declared.object.Object.{Object}
 use Rattle.mh_model.specs.Looks.{Paint}
-use Rattle.mh_model.specs.Picture.{cell_at, paint_at, painted, picture}
+use Rattle.mh_model.specs.Picture.{cell_at, cell_under, paint_at, painted, picture}
 use Rattle.mh_model.specs.Service.{object_at}
 use Rattle.mh_model.proofs.PlanesLemmas.{is_picture}
 use Rattle.mh_display.specs.declared.marked.Marked.{Marked}
 use Rattle.mh_display.specs.Painting.{IsAll, IsComplete, IsDown, IsPainted, marked_at, put, renewed, seen, settled}
-use Rattle.mh_display.specs.Surface.{Surface, IsClean, IsRight, is_stale}
+use Rattle.mh_display.specs.Surface.{Surface, IsClean, IsRight}
 use Rattle.mh_display.proofs.CellLemmas.{seen_below}
 
 -- all are left
@@ -43,35 +44,24 @@ none_left os rs stack left old new most done =
     let none : left ≡ 0 = omega (arith, most) in
     subst (λ (k : ℕ). IsDown os rs (reverse (take k stack)) old new) none done
 
-not_not : (b : Bool) → not b ≡ false → b ≡ true
-not_not true e = refl
-not_not false e = sym e
-
 -- a cell that is right is what it is, whatever is below
-seen_right : (k : Marked) (ps : List Paint) → (k.mark == 0) ≡ true → seen k ps ≡ k.cell
+seen_right : (k : Marked) (ps : List Paint) → k.stale ≡ false → seen k ps ≡ k.cell
 seen_right k ps e = rw e refl
-
-right_at : (s : Surface) (c : ℕ) → is_stale s.marks c ≡ false → ((marked_at s c).mark == 0) ≡ true
-right_at s c e = not_not ((marked_at s c).mark == 0) e
 
 -- no cell is left
 pub nothing_left : (os : List Object) (rs left : List ObjRef) (old new : Surface) → IsClean new.marks → IsDown os rs left old new → IsDown os rs [] old new
 nothing_left os rs left old new clean done = record {
   each = λ c inside.
-      let right : ((marked_at new c).mark == 0) ≡ true = right_at new c (clean c inside) in
-      seen_right (marked_at new c) [] right ∙ sym (seen_right (marked_at new c) (map (paint_at os c) left) right) ∙ done.each c inside;
+      seen_right (marked_at new c) [] (clean c inside) ∙ sym (seen_right (marked_at new c) (map (paint_at os c) left) (clean c inside)) ∙ done.each c inside;
 }
 
 -- what is found by looking down the whole stack is the picture
+renewed_cases : (a b : Bool) (x : Cell) (ps : List Paint) → (a ≡ false → x ≡ cell_under ps) → seen (renewed (record { stale = a; bare = b; cell = x })) ps ≡ cell_under ps
+renewed_cases true b x ps right = refl
+renewed_cases false b x ps right = right refl
+
 sought : (os : List Object) (stack : List ObjRef) (old : Surface) (c : ℕ) → c < 2160 → IsRight os stack old → seen (renewed (marked_at old c)) (map (paint_at os c) (reverse stack)) ≡ cell_at os stack c
-sought os stack old c inside right = by ((marked_at old c).mark == 0) refl
-  where
-    by : (b : Bool) → ((marked_at old c).mark == 0) ≡ b → seen (renewed (marked_at old c)) (map (paint_at os c) (reverse stack)) ≡ cell_at os stack c
-    by true e =
-        let fine : is_stale old.marks c ≡ false = ap not e in
-        ap (λ (b : Bool). seen (if b then marked_at old c else record { mark = 2; cell = (marked_at old c).cell }) (map (paint_at os c) (reverse stack))) e
-        ∙ seen_right (marked_at old c) (map (paint_at os c) (reverse stack)) e ∙ right c inside fine
-    by false e = ap (λ (b : Bool). seen (if b then marked_at old c else record { mark = 2; cell = (marked_at old c).cell }) (map (paint_at os c) (reverse stack))) e
+sought os stack old c inside right = renewed_cases (marked_at old c).stale (marked_at old c).bare (marked_at old c).cell (map (paint_at os c) (reverse stack)) (right c inside)
 
 pub repainted : (os : List Object) (stack : List ObjRef) (old mid down new : Surface) → IsRight os stack old → IsAll (λ c. renewed) (marked_at old) (marked_at mid)
     → IsDown os (reverse stack) [] mid down → IsAll (λ c. settled) (marked_at down) (marked_at new) → IsComplete new → new.planes ≡ picture os stack
@@ -83,7 +73,7 @@ repainted os stack old mid down new right first walk last whole =
     ∙ sought os stack old c inside right)
 
 pub clean_after : (down new : Surface) → IsAll (λ c. settled) (marked_at down) (marked_at new) → IsClean new.marks
-clean_after down new last c inside = ap (λ (k : Marked). not (k.mark == 0)) (last.each c inside)
+clean_after down new last c inside = ap (λ (k : Marked). k.stale) (last.each c inside)
 
 pub right_already : (os : List Object) (stack : List ObjRef) (s : Surface) → IsRight os stack s → IsClean s.marks → IsComplete s → s.planes ≡ picture os stack
 right_already os stack s right clean whole = is_picture (cell_at os stack) s.planes whole.planes (λ c inside. right c inside (clean c inside))

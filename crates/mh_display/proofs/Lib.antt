@@ -1,7 +1,9 @@
+mod BitLemmas
 mod ArtLemmas
 mod CellLemmas
 mod DownLemmas
 mod DrawnLemmas
+mod LaneLemmas
 mod NearLemmas
 mod PaintLemmas
 mod RowLemmas

@@ -1,69 +1,49 @@
 -- What is painted into cells, and into those of windows.
-use Rattle.std.specs.Prelude.{◌≡◌, ℕ, ◌+◌, ◌*◌, ◌<◌, ◌≤◌, ◌==◌, Bool, true, false, not, List, [], replicate, ◌&&◌, if◌then◌else◌, Option, None, slice_index, slice_set, ℤ, pos, ◌-ℤ◌, refl}
+use Rattle.std.specs.Prelude.{◌≡◌, ◌≢◌, ℕ, ◌+◌, ◌*◌, ◌<◌, ◌≤◌, ◌==◌, Bool, true, false, not, List, [], replicate, ◌&&◌, if◌then◌else◌, Option, None, slice_index, slice_set, ℤ, pos, ◌-ℤ◌, refl}
 use Rattle.std.proofs.Common.{ap, ◌∙◌, sym, arith, subst}
-use Rattle.std.proofs.lemmas.List.{get_or-set_same, get_or-set_other, get_or-replicate}
-use Rattle.std.proofs.lemmas.Bool.{eqb-true}
+use Rattle.std.proofs.lemmas.List.{get_or-set_same, get_or-set_other}
 use Rattle.mh_base.specs.declared.area.Area.{Area}
 use Rattle.mh_model.specs.declared.drawing.Stroke.{Stroke}
 use Rattle.mh_model.specs.declared.line.Line.{Line}
 use Rattle.mh_model.specs.Boxes.{column_of, row_of, covers, first_column, first_row, is_edge, x_of, y_of}
 use Rattle.mh_model.specs.Drawn.{goes_through}
 use Rattle.mh_model.specs.Layout.{character_at, character_in, member_at}
+use Rattle.mh_model.specs.Picture.{cell_of}
+use Rattle.mh_model.specs.Planes.{Planes, with_cell}
 use Rattle.mh_model.specs.Looks.{Paint, marked, nothing, text_paint}
 use Rattle.mh_display.specs.declared.marked.Marked.{Marked}
 use Rattle.mh_display.specs.declared.panel.Panel.{Panel}
 use Rattle.mh_display.specs.declared.texts.Ink.{Ink}
 use Rattle.mh_display.specs.declared.window.Window.{Window}
-use Rattle.mh_display.specs.Painting.{IsBetween, IsComplete, IsSet, IsPainted, IsPaintedIn, marked_at, with_marked, put, renewed, seen, settled}
+use Rattle.mh_display.specs.Painting.{IsComplete, IsSet, IsPainted, IsPaintedIn, marked_at, put, seen, settled}
 use Rattle.mh_display.specs.Panels.{area_of_frame, inner_paint, panel_paint}
 use Rattle.mh_display.specs.Strokes.{stroke_paint}
-use Rattle.mh_display.specs.Surface.{Surface, IsClean}
+use Rattle.mh_display.specs.Surface.{Surface, is_in}
 use Rattle.mh_display.specs.Texts.{letter_paint}
 use Rattle.mh_display.specs.Windows.{has, IsOf, IsMeet}
 use Rattle.mh_display.proofs.CellLemmas.{put_nothing, row_of_cell, column_of_cell}
 
 -- a cell that is put is there, and the others stay
-pub is_set : (s : Surface) (at : ℕ) (k : Marked) (after : Surface) → IsComplete s → at < 2160 → after ≡ with_marked s at k → IsSet (marked_at s) (marked_at after) at k
-is_set s at k after whole inside is = subst (λ (t : Surface). IsSet (marked_at s) (marked_at t) at k) (sym is) (record {
-  here = rw (get_or-set_same s.marks at k.mark 0 (omega (arith, inside, whole.marks)), get_or-set_same s.planes.scalars at k.cell.scalar 0 (omega (arith, inside, whole.planes.scalars)), get_or-set_same s.planes.fores at k.cell.fore 0 (omega (arith, inside, whole.planes.fores)), get_or-set_same s.planes.backs at k.cell.back 0 (omega (arith, inside, whole.planes.backs))) refl;
-  others = λ c apart. rw (get_or-set_other s.marks at c k.mark 0 apart, get_or-set_other s.planes.scalars at c k.cell.scalar 0 apart, get_or-set_other s.planes.fores at c k.cell.fore 0 apart, get_or-set_other s.planes.backs at c k.cell.back 0 apart) refl;
-})
-
--- only the mark is changed
-pub is_marked : (s after : Surface) (at n : ℕ) → IsComplete s → at < 2160 → after ≡ record s { marks = slice_set s.marks at n } → IsSet (marked_at s) (marked_at after) at (record { mark = n; cell = (marked_at s at).cell })
-is_marked s after at n whole inside is = subst (λ (t : Surface). IsSet (marked_at s) (marked_at t) at (record { mark = n; cell = (marked_at s at).cell })) (sym is) (record {
-  here = rw (get_or-set_same s.marks at n 0 (omega (arith, inside, whole.marks))) refl;
-  others = λ c apart. rw (get_or-set_other s.marks at c n 0 apart) refl;
-})
-
--- a cell that is not settled
-pub renewed_now : (old new : ℕ → Marked) (at : ℕ) → ((old at).mark == 0) ≡ false → IsSet old new at (record { mark = 2; cell = (old at).cell }) → IsSet old new at (renewed (old at))
-renewed_now old new at e set = record {
-  here = set.here ∙ ap (λ (b : Bool). if b then old at else record { mark = 2; cell = (old at).cell }) (sym e);
-  others = set.others;
+pub is_set : (s : Surface) (p : Planes) (m n : List ℕ) (at : ℕ) (k : Marked) → IsComplete s → at < 2160 → p ≡ with_cell s.planes at k.cell
+    → IsSet (is_in s.marks) (is_in m) at k.stale → IsSet (is_in s.bare) (is_in n) at k.bare → IsSet (marked_at s) (marked_at (record { planes = p; marks = m; bare = n })) at k
+is_set s p m n at k whole inside is stale bare = record {
+  here = λ i. record { stale = stale.here i; bare = bare.here i; cell = there i };
+  others = λ c apart. λ i. record { stale = stale.others c apart i; bare = bare.others c apart i; cell = beside c apart i };
 }
+  where
+    there : cell_of p at ≡ k.cell
+    there = ap (λ (q : Planes). cell_of q at) is ∙ rw (get_or-set_same s.planes.scalars at k.cell.scalar 0 (omega (arith, inside, whole.planes.scalars)), get_or-set_same s.planes.fores at k.cell.fore 0 (omega (arith, inside, whole.planes.fores)), get_or-set_same s.planes.backs at k.cell.back 0 (omega (arith, inside, whole.planes.backs))) refl
 
-pub settled_stays : (p : Paint) (k : Marked) → (k.mark == 0) ≡ true → k ≡ put p k
+    beside : (c : ℕ) → c ≢ at → cell_of p c ≡ cell_of s.planes c
+    beside c apart = ap (λ (q : Planes). cell_of q c) is ∙ rw (get_or-set_other s.planes.scalars at c k.cell.scalar 0 apart, get_or-set_other s.planes.fores at c k.cell.fore 0 apart, get_or-set_other s.planes.backs at c k.cell.back 0 apart) refl
+
+pub settled_stays : (p : Paint) (k : Marked) → k.stale ≡ false → k ≡ put p k
 settled_stays p k e = rw e refl
 
--- a row with nothing to be painted stays
-pub settled_row : (g : ℕ → Paint) (s : Surface) (first last : ℕ) → ((c : ℕ) → first ≤ c → c < last → (marked_at s c).mark ≡ 0) → IsBetween (λ c. put (g c)) (marked_at s) (marked_at s) first last
-settled_row g s first last none = record {
-  inside = λ c low high. settled_stays (g c) (marked_at s c) (ap (λ (n : ℕ). n == 0) (none c low high));
-  before = λ c less. refl;
-  behind = λ c most. refl;
-}
-
-pub renewed_stays : (k : Marked) → (k.mark == 0) ≡ true → k ≡ renewed k
-renewed_stays k e = ap (λ (b : Bool). if b then k else record { mark = 2; cell = k.cell }) (sym e)
-
-pub settled_already : (k : Marked) → (k.mark == 0) ≡ true → k ≡ settled k
+pub settled_already : (k : Marked) → k.stale ≡ false → k ≡ settled k
 settled_already k e =
     let right : seen k [] ≡ k.cell = rw e refl in
-    λ i. record { mark = eqb-true k.mark 0 e i; cell = sym right i }
-
-pub is_set_already : {X : Type 0} (old : ℕ → X) (at : ℕ) (x : X) → old at ≡ x → IsSet old old at x
-is_set_already old at x is = record { here = is; others = λ c apart. refl }
+    λ i. record { stale = e i; bare = k.bare; cell = sym right i }
 
 -- what a panel paints into a cell that it covers, and beside
 panel_inside : (p : Panel) (c : ℕ) → covers (area_of_frame p.frame) (x_of c) (y_of c) ≡ true → inner_paint p c ≡ panel_paint p c
@@ -87,9 +67,6 @@ shared p own w meet old new is_own is_meet done = record {
     by c inside true e false = refl
     by c inside false e true = sym (put_nothing (marked_at old c)) ∙ ap (λ (q : Paint). put q (marked_at old c)) (panel_beside p c (sym (is_own.covered c inside) ∙ e))
     by c inside false e false = refl
-
-pub clean_at_first : (marks : List ℕ) → marks ≡ replicate 2160 0 → IsClean marks
-clean_at_first marks is c inside = ap (λ (n : ℕ). not (n == 0)) (ap (λ (ns : List ℕ). slice_index ns c) is ∙ get_or-replicate {A = ℕ} 2160 c 0 0 inside)
 
 -- what a window of its own leaves out of something is nothing
 pub whole_of : (g inner : ℕ → Paint) (a : Area) (own : Window) (old new : Surface) → IsOf a own

@@ -119,3 +119,22 @@ last_row h w old new row bottom done = record {
 -- all cells
 pub every_cell : {X : Type 0} (h : ℕ → X → X) (old new : ℕ → X) (at : ℕ) → 2160 ≤ at → IsBetween h old new 0 at → IsAll h old new
 every_cell h old new at most done = record { each = λ c inside. done.inside c (omega arith) (omega (arith, inside, most)) }
+
+-- one row more of all cells
+pub next_stretch : {X : Type 0} (h : ℕ → X → X) (old mid new : ℕ → X) (row : ℕ) → IsBetween h old mid 0 (60 * row) → IsBetween h mid new (60 * row + 0) (60 * row + 60) → IsBetween h old new 0 (60 * (row + 1))
+next_stretch {X} h old mid new row first last = record {
+  inside = λ c low high. by c high (nat_lt c (60 * row)) refl;
+  before = λ c less. absurd (omega (arith, less));
+  behind = λ c most. last.behind c (omega (arith, most)) ∙ first.behind c (omega (arith, most));
+}
+  where
+    by : (c : ℕ) → c < 60 * (row + 1) → (b : Bool) → nat_lt c (60 * row) ≡ b → new c ≡ h c (old c)
+    by c high true e =
+        let above : c < 60 * row = grind (arith, nat_tests, e) in
+        last.before c (omega (arith, above)) ∙ first.inside c (omega arith) above
+    by c high false e =
+        let most : 60 * row ≤ c = grind (arith, nat_tests, e) in
+        last.inside c (omega (arith, most)) (omega (arith, high)) ∙ ap (h c) (first.behind c most)
+
+pub every_row : {X : Type 0} (h : ℕ → X → X) (old new : ℕ → X) (row : ℕ) → 36 ≤ row → IsBetween h old new 0 (60 * row) → IsAll h old new
+every_row h old new row most done = record { each = λ c inside. done.inside c (omega arith) (omega (arith, inside, most)) }

@@ -6,3 +6,4 @@ pub mod Strokes
 pub mod Surface
 pub mod Texts
 pub mod Windows
+pub mod Bits

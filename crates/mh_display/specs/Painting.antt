@@ -1,55 +1,51 @@
 -- Painting from the top of the display stack down, cell by cell: what is settled of a cell, and what is still
 -- sought.
-use Rattle.std.specs.Prelude.{◌≡◌, ◌≢◌, ℕ, Bool, true, ◌/◌, ◌<◌, ◌≤◌, ◌==◌, nat_lt, ◌&&◌, if◌then◌else◌, List, [], map, Option, Some, None, length, slice_index, slice_set}
+use Rattle.std.specs.Prelude.{◌≡◌, ◌≢◌, ℕ, Bool, true, false, ◌/◌, ◌<◌, ◌≤◌, ◌==◌, nat_lt, ◌&&◌, if◌then◌else◌, List, [], map, Option, Some, None, length, slice_index, slice_set}
 use Rattle.mh_base.specs.declared.obj_ref.ObjRef.{ObjRef}
 use Rattle.mh_model.specs.declared.cell.Cell.{Cell}
 use Rattle.mh_model.specs.declared.object.Object.{Object}
 use Rattle.mh_model.specs.Looks.{Paint}
 use Rattle.mh_model.specs.Picture.{cell_of, back_under, cell_under, paint_at}
-use Rattle.mh_model.specs.Planes.{IsWhole, with_cell}
+use Rattle.mh_model.specs.Planes.{IsWhole}
 use Rattle.mh_display.specs.declared.marked.Marked.{Marked}
 use Rattle.mh_display.specs.declared.window.Window.{Window}
-use Rattle.mh_display.specs.Surface.{IsStale, Surface}
+use Rattle.mh_display.specs.Surface.{IsStale, Surface, is_in}
 use Rattle.mh_display.specs.Windows.{has}
 
--- a cell with its number: 0 where it is right, 1 where the colour behind it is still sought, and any other one
--- where its character is sought, too
+-- a cell, whether something of it is still sought, and whether its character is, too
 abbrev pub marked_at : Surface → ℕ → Marked
-marked_at s c = record { mark = slice_index s.marks c; cell = cell_of s.planes c }
-
-abbrev pub with_marked : Surface → ℕ → Marked → Surface
-with_marked s c k = record { planes = with_cell s.planes c k.cell; marks = slice_set s.marks c k.mark }
+marked_at s c = record { stale = is_in s.marks c; bare = is_in s.bare c; cell = cell_of s.planes c }
 
 -- Painting under what is settled already.
 
 -- a colour settles what is behind a cell
 abbrev pub put_back : Option ℕ → Marked → Marked
 put_back None k = k
-put_back (Some b) k = record { mark = 0; cell = record { scalar = k.cell.scalar; fore = k.cell.fore; back = b } }
+put_back (Some b) k = record { stale = false; bare = false; cell = record { scalar = k.cell.scalar; fore = k.cell.fore; back = b } }
 
 -- a character settles it for itself, and a colour alone is behind a black space
 abbrev pub put_mark : Option (ℕ × ℕ) → Option ℕ → Marked → Marked
-put_mark (Some m) back k = put_back back (record { mark = 1; cell = record { scalar = m.0; fore = m.1; back = k.cell.back } })
-put_mark None (Some b) k = record { mark = 0; cell = record { scalar = 32; fore = 0; back = b } }
+put_mark (Some m) back k = put_back back (record { stale = true; bare = false; cell = record { scalar = m.0; fore = m.1; back = k.cell.back } })
+put_mark None (Some b) k = record { stale = false; bare = false; cell = record { scalar = 32; fore = 0; back = b } }
 put_mark None None k = k
 
 abbrev pub put : Paint → Marked → Marked
-put p k = if k.mark == 0 then k else if k.mark == 1 then put_back p.back k else put_mark p.mark p.back k
+put p k = if k.stale then (if k.bare then put_mark p.mark p.back k else put_back p.back k) else k
 
 -- how a cell looks when these are still to be painted, the topmost first
 abbrev pub seen : Marked → List Paint → Cell
 seen k ps =
-    if k.mark == 0 then k.cell
-    else if k.mark == 1 then record { scalar = k.cell.scalar; fore = k.cell.fore; back = back_under ps }
-    else cell_under ps
+    if k.stale
+    then (if k.bare then cell_under ps else record { scalar = k.cell.scalar; fore = k.cell.fore; back = back_under ps })
+    else k.cell
 
 -- there is nothing below
 abbrev pub settled : Marked → Marked
-settled k = record { mark = 0; cell = seen k [] }
+settled k = record { stale = false; bare = k.bare; cell = seen k [] }
 
--- its cell is to be painted anew
+-- all of what is stale is sought anew
 abbrev pub renewed : Marked → Marked
-renewed k = if k.mark == 0 then k else record { mark = 2; cell = k.cell }
+renewed k = record { stale = k.stale; bare = k.stale; cell = k.cell }
 
 -- Changing cells. What is known of a cell is a function of its number.
 
@@ -87,7 +83,8 @@ IsPainted g old new = IsAll (λ c. put (g c)) (marked_at old) (marked_at new)
 -- a screen has all its cells
 pub record IsComplete (s : Surface) : Type 0 where
   pub planes : IsWhole s.planes
-  pub marks : length s.marks ≡ 2160
+  pub marks : length s.marks ≡ 36
+  pub bare : length s.bare ≡ 36
 
 -- it is complete, and where it is said so every cell is stale
 pub record IsMarked (spoilt : Bool) (s : Surface) : Type 0 where

@@ -1,18 +1,25 @@
 -- A picture that is kept, and which of its cells are still to be painted.
-use Rattle.std.specs.Prelude.{◌≡◌, ℕ, ◌<◌, ◌==◌, Bool, true, false, not, List, Option, slice_index}
+use Rattle.std.specs.Prelude.{◌≡◌, ℕ, ◌<◌, ◌==◌, ◌/◌, ◌%◌, Bool, true, false, List, Option, slice_index}
+use Rattle.std.specs.Int.{bit_at}
 use Rattle.mh_base.specs.declared.obj_ref.ObjRef.{ObjRef}
 use Rattle.mh_model.specs.declared.object.Object.{Object}
 use Rattle.mh_model.specs.Looks.{nothing}
 use Rattle.mh_model.specs.Picture.{cell_of, cell_at, painted}
 use Rattle.mh_model.specs.Planes.{Planes}
 
--- a number for each cell: 0 where it is right
+-- a bit for each cell, a number for each row: of those that are to be painted, and of those whose character is
+-- still sought while they are
 pub record Surface : Type 0 where
   pub planes : Planes
   pub marks : List ℕ
+  pub bare : List ℕ
+
+-- the rows have the bit of the cell
+unfoldable pub is_in : List ℕ → ℕ → Bool
+is_in rows c = bit_at (slice_index rows (c / 60)) (c % 60) == 1
 
 abbrev pub is_stale : List ℕ → ℕ → Bool
-is_stale marks c = not (slice_index marks c == 0)
+is_stale marks c = is_in marks c
 
 -- no cell is left to be painted
 abbrev pub IsClean : List ℕ → Type 0

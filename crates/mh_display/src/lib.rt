@@ -5,6 +5,7 @@
 #![tactic(auto)]
 
 mod art;
+mod cells;
 mod characters;
 mod frame;
 mod looks;

@@ -40,8 +40,21 @@ fn paint_seen(screen: &mut Screen, object: &Object, lines: &[Line])
     ensures { IsPainted (λ c. painted c (Some object.now)) screen.old screen.new }
 {
     if is_seen(object) {
-        paint_object(screen, object, lines);
+        paint_stale(screen, object, lines);
     }
+}
+
+/// Paints an object in whose box a cell is stale.
+fn paint_stale(screen: &mut Screen, object: &Object, lines: &[Line])
+    requires { lines.now ≡ spec.lines_of object.now }
+    ensures { IsPainted (paint_in object.now) screen.old screen.new }
+{
+    let area = area_of(object);
+    let own = Window::of(&Frame::of(&area));
+    if screen.is_settled_in(&own) {
+        return;
+    }
+    paint_object(screen, object, lines);
 }
 
 /// Paints an object, of whose text these are the lines.

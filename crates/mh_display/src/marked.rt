@@ -1,24 +1,29 @@
 //! `Marked`: a cell that is painted from the top down.
-ghost use Rattle.std.specs.Prelude.{◌≡◌, Some, None};
+ghost use Rattle.std.specs.Prelude.{◌≡◌, Some, None, true, false};
 ghost use Rattle.mh_display.specs.Painting.{put, put_back, put_mark, settled};
 
 use mh_model::Cell;
 
-/// A cell, and what of it is still sought: at mark 0 nothing, at 1 the colour behind it, else its character, too.
+/// A cell, whether something of it is still sought, and whether its character is, too.
 #[derive(Clone, Copy)]
 pub struct Marked {
-    pub mark: u8,
+    pub stale: bool,
+    pub bare: bool,
     pub cell: Cell,
 }
 
 /// The cell with this painted under what is settled of it: a colour behind it, and a character with its colour.
+#[inline(always)]
 pub(crate) fn put(old: Marked, back: Option<u32>, mark: Option<(u32, u32)>) -> Marked
     ensures { result ≡ put (record { back = back; mark = mark }) old }
 {
-    match old.mark {
-        0 => old,
-        1 => put_back(old, back),
-        _ => put_mark(old, back, mark),
+    if !old.stale {
+        return old;
+    }
+    if old.bare {
+        put_mark(old, back, mark)
+    } else {
+        put_back(old, back)
     }
 }
 
@@ -28,7 +33,8 @@ fn put_back(old: Marked, back: Option<u32>) -> Marked
     match back {
         None => old,
         Some(back) => Marked {
-            mark: 0,
+            stale: false,
+            bare: false,
             cell: Cell { back, ..old.cell },
         },
     }
@@ -43,7 +49,8 @@ fn put_mark(old: Marked, back: Option<u32>, mark: Option<(u32, u32)>) -> Marked
     match back {
         None => old,
         Some(back) => Marked {
-            mark: 0,
+            stale: false,
+            bare: false,
             cell: Cell {
                 scalar: SPACE,
                 fore: 0,
@@ -55,10 +62,11 @@ fn put_mark(old: Marked, back: Option<u32>, mark: Option<(u32, u32)>) -> Marked
 
 /// The cell with its character settled.
 fn with_character(old: Marked, scalar: u32, fore: u32) -> Marked
-    ensures { result ≡ record { mark = 1; cell = record { scalar = scalar; fore = fore; back = old.cell.back } } }
+    ensures { result ≡ record { stale = true; bare = false; cell = record { scalar = scalar; fore = fore; back = old.cell.back } } }
 {
     Marked {
-        mark: 1,
+        stale: true,
+        bare: false,
         cell: Cell {
             scalar,
             fore,
@@ -71,19 +79,26 @@ fn with_character(old: Marked, scalar: u32, fore: u32) -> Marked
 pub(crate) fn settled(old: Marked) -> Marked
     ensures { result ≡ settled old }
 {
-    match old.mark {
-        0 => old,
-        1 => Marked {
-            mark: 0,
-            cell: Cell {
-                back: 0,
-                ..old.cell
-            },
-        },
-        _ => Marked {
-            mark: 0,
-            cell: BLACK,
-        },
+    Marked {
+        stale: false,
+        bare: old.bare,
+        cell: left_cell(old),
+    }
+}
+
+fn left_cell(old: Marked) -> Cell
+    ensures { result ≡ (settled old).cell }
+{
+    if !old.stale {
+        return old.cell;
+    }
+    if old.bare {
+        BLACK
+    } else {
+        Cell {
+            back: 0,
+            ..old.cell
+        }
     }
 }
 

@@ -2,12 +2,13 @@
 //!
 //! The visibles are painted from the top down, each into the cells alone of which something is still sought; so
 //! the walk ends where all cells are settled, and no cell is painted twice.
-ghost use Rattle.std.specs.Prelude.{◌≡◌, ◌<◌, [], reverse};
+ghost use Rattle.std.specs.Prelude.{◌≡◌, ◌<◌, ◌+◌, ◌*◌, [], reverse};
 ghost use Rattle.mh_model.specs.Picture.{picture};
 ghost use Rattle.mh_model.specs.State.{all};
-ghost use Rattle.mh_display.specs.Painting.{IsAll, IsComplete, IsDown, IsSet, marked_at, renewed, settled};
+ghost use Rattle.mh_display.specs.Painting.{IsAll, IsBetween, IsComplete, IsDown, IsSet, marked_at, settled};
 ghost use Rattle.mh_display.specs.Surface.{IsClean, IsRight};
 
+use crate::cells::{lowest, without};
 use crate::looks::paint_found;
 use crate::marked::settled;
 use crate::screen::Screen;
@@ -21,33 +22,14 @@ impl Screen {
         ensures right { self.new.planes ≡ picture (all objects.now) stack.now }
         ensures clean { IsClean self.new.marks }
     {
-        let _ = self.cells();
+        let _ = self.is_whole();
         if self.is_clean() {
             return;
         }
-        renew(self);
+        self.renew();
         paint_down(self, objects, stack);
         settle(self);
     }
-}
-
-/// Of the stale cells nothing is settled.
-fn renew(screen: &mut Screen)
-    ensures { IsAll (λ c. renewed) (marked_at screen.old) (marked_at screen.new) }
-{
-    for at in 0..screen.cells() {
-        renew_cell(screen, at);
-    }
-}
-
-fn renew_cell(screen: &mut Screen, at: usize)
-    requires { at < 2160 }
-    ensures { IsSet (marked_at screen.old) (marked_at screen.new) at (renewed (marked_at screen.old at)) }
-{
-    if screen.is_settled(at) {
-        return;
-    }
-    screen.unsettle(at);
 }
 
 /// Paints one visible below another, as long as a cell is stale. That is tested once for every eight visibles.
@@ -69,18 +51,28 @@ fn settle(screen: &mut Screen)
     ensures settled { IsAll (λ c. settled) (marked_at screen.old) (marked_at screen.new) }
     ensures whole { IsComplete screen.new }
 {
-    for at in 0..screen.cells() {
-        settle_cell(screen, at);
+    for row in 0..36 {
+        settle_row(screen, row);
     }
-    let _ = screen.cells();
+    let _ = screen.is_whole();
 }
 
-fn settle_cell(screen: &mut Screen, at: usize)
-    requires { at < 2160 }
-    ensures { IsSet (marked_at screen.old) (marked_at screen.new) at (settled (marked_at screen.old at)) }
+fn settle_row(screen: &mut Screen, row: usize)
+    requires { row < 36 }
+    ensures { IsBetween (λ c. settled) (marked_at screen.old) (marked_at screen.new) (60 * row + 0) (60 * row + 60) }
 {
-    if screen.is_settled(at) {
-        return;
+    let mut left = screen.stale_in(row, 0, 60);
+    while left != 0 {
+        let column = lowest(left);
+        settle_cell(screen, row, column);
+        left = without(left, column);
     }
-    screen.set(at, settled(screen.at(at)));
+}
+
+fn settle_cell(screen: &mut Screen, row: usize, column: usize)
+    requires low { row < 36 }
+    requires wide { column < 60 }
+    ensures { IsSet (marked_at screen.old) (marked_at screen.new) (60 * row + column) (settled (marked_at screen.old (60 * row + column))) }
+{
+    screen.set(row, column, settled(screen.at(row, column)));
 }

@@ -3,6 +3,7 @@ ghost use Rattle.std.specs.Prelude.{◌≡◌, ◌<◌, ◌≤◌, ◌+◌, ◌*
 ghost use Rattle.mh_display.specs.Painting.{IsSet, IsBetween, IsPaintedIn, marked_at, put};
 ghost use Rattle.mh_display.specs.Panels.{IsFrame, inner_paint, panel_paint};
 
+use crate::cells::{lowest, without};
 use crate::panel::{Panel, colour_of};
 use crate::screen::Screen;
 use crate::window::Window;
@@ -34,11 +35,11 @@ fn paint_row(screen: &mut Screen, panel: &Panel, row: usize, window: &Window)
     requires wide { window.now.right ≤ 60 }
     ensures { IsBetween (λ c. put (inner_paint panel.now c)) (marked_at screen.old) (marked_at screen.new) (60 * row + window.now.left) (60 * row + window.now.right) }
 {
-    if screen.is_row_settled(row, window) {
-        return;
-    }
-    for column in window.left..window.right {
+    let mut left = screen.stale_in(row, window.left, window.right);
+    while left != 0 {
+        let column = lowest(left);
         paint_cell(screen, panel, row, column);
+        left = without(left, column);
     }
 }
 
@@ -48,9 +49,6 @@ fn paint_cell(screen: &mut Screen, panel: &Panel, row: usize, column: usize)
     requires wide { column < 60 }
     ensures { IsSet (marked_at screen.old) (marked_at screen.new) (60 * row + column) (put (inner_paint panel.now (60 * row + column)) (marked_at screen.old (60 * row + column))) }
 {
-    let at = 60 * row + column;
-    if screen.is_settled(at) {
-        return;
-    }
-    screen.put(at, colour_of(panel, row, column), None);
+    let back = colour_of(panel, row, column);
+    screen.put(row, column, back, None);
 }

@@ -1,9 +1,15 @@
 //! Which rows of two pictures differ.
 ghost use Rattle.std.specs.Prelude.{◌≡◌, ◌+◌, ◌<◌, ◌≤◌, ℕ, false, length, not, slice_index_or};
+ghost use Rattle.std.specs.Simd.Lanes.{chunk};
+ghost use Rattle.std.specs.Str.{bytes_eq};
 ghost use Rattle.mh_display.specs.Rows.{same_row, same_stretch};
 
 use mh_model::Picture;
 use mh_model::picture::{COLUMNS, ROWS};
+use std::simd::prelude::*;
+
+/// How many numbers are compared at once.
+const LANES: usize = 8;
 
 /// Which rows of the picture (from the top, 36 rows of 60 cells) differ in a cell: in its character, in its
 /// colour, or in the colour behind it.
@@ -39,5 +45,35 @@ fn same_stretch(before: &[u32], after: &[u32], start: usize) -> bool
     requires same { start + 60 ≤ length after.now }
     ensures { result ≡ same_stretch before.now after.now start }
 {
-    before[start..start + COLUMNS] == after[start..start + COLUMNS]
+    same_numbers(
+        &before[start..start + COLUMNS],
+        &after[start..start + COLUMNS],
+    )
+}
+
+/// Whether both lists, which are of one length, have the same numbers: by lanes, and what is left one by one.
+fn same_numbers(before: &[u32], after: &[u32]) -> bool
+    requires { length before.now ≡ length after.now }
+    ensures { result ≡ bytes_eq before.now after.now }
+{
+    let mut at = 0;
+    while at + LANES <= before.len() {
+        if !same_lanes(before, after, at) {
+            return false;
+        }
+        at += LANES;
+    }
+    before[at..] == after[at..]
+}
+
+/// Whether eight numbers, from this place on, are the same.
+#[inline(always)]
+fn same_lanes(before: &[u32], after: &[u32], at: usize) -> bool
+    requires long { at + 8 ≤ length before.now }
+    requires same { at + 8 ≤ length after.now }
+    ensures { result ≡ bytes_eq (chunk at 8 before.now) (chunk at 8 after.now) }
+{
+    let before = u32x8::from_slice(&before[at..]);
+    let after = u32x8::from_slice(&after[at..]);
+    before.simd_ne(after).to_bitmask() == 0
 }

@@ -1,24 +1,31 @@
 //! `Screen`: the picture that is kept, and which of its cells are still to be painted.
-ghost use Rattle.std.specs.Prelude.{◌≡◌, ◌==◌, ◌<◌, ◌≤◌, ◌+◌, ◌*◌, IfOk, ℕ, true, not, slice_index, slice_set, vec_len};
+ghost use Rattle.std.specs.Prelude.{◌≡◌, ◌<◌, ◌≤◌, ◌+◌, ◌*◌, IfOk, ℕ, true, false, IsTrue};
 ghost use Rattle.std.specs.Option.{option_copied};
 ghost use Rattle.mh_model.specs.Planes.{blank};
-ghost use Rattle.mh_display.specs.Painting.{IsComplete, IsSet, marked_at, put, with_marked};
+ghost use Rattle.mh_display.specs.Bits.{AreStale};
+ghost use Rattle.mh_display.specs.Painting.{IsAll, IsComplete, IsSet, marked_at, put, renewed};
 ghost use Rattle.mh_display.specs.Surface.{IsClean, IsStale, Spoils};
+ghost use Rattle.mh_display.specs.Windows.{has as has_lem};
 
+use crate::cells::{has, has_none, set, stretch};
 use crate::marked::{Marked, put};
 use crate::spoiling::spoil_found;
 use crate::window::Window;
-use mh_model::picture::CELLS;
 use mh_model::{Object, Picture};
 use std::alloc::{AllocError, Global};
 use std::marker::Model;
+
+/// All cells of a row.
+const ALL: u64 = 0x0FFF_FFFF_FFFF_FFFF;
 
 /// The picture that is kept, and the cells of it that are still to be painted.
 #[derive(Drop)]
 pub struct Screen {
     picture: Picture,
-    /// A number for each cell: 0 where it is right.
-    marks: Vec<u8>,
+    /// A bit for each cell, a number for each row: of those that are to be painted.
+    stale: [u64; 36],
+    /// Of those whose character is sought, too, while the picture is painted.
+    bare: [u64; 36],
     /// Whether nothing has been painted since all cells were to be painted anew.
     spoilt: bool,
 }
@@ -29,9 +36,9 @@ impl Model for Screen {
 
     ghost Value = { Surface };
 
-    ghost view = { λ s. record { planes = s.picture; marks = s.marks.items } };
+    ghost view = { λ s. record { planes = s.picture; marks = s.stale; bare = s.bare } };
 
-    ghost invariant = { λ s. IsMarked s.spoilt (record { planes = s.picture; marks = s.marks.items }) };
+    ghost invariant = { λ s. IsMarked s.spoilt (record { planes = s.picture; marks = s.stale; bare = s.bare }) };
 }
 
 impl Screen {
@@ -41,11 +48,11 @@ impl Screen {
         ensures clean { IfOk result (λ s. IsClean s.marks) }
     {
         let picture = Picture::black(alloc)?;
-        let marks = vec![in alloc; 0; CELLS]?;
         let _ = picture.cells();
         Ok(Screen {
             picture,
-            marks,
+            stale: [0; 36],
+            bare: [0; 36],
             spoilt: false,
         })
     }
@@ -62,10 +69,8 @@ impl Screen {
         ensures same { self.new.planes ≡ self.old.planes }
         ensures all { IsStale self.new.marks }
     {
-        if !self.spoilt {
-            fill(&mut self.marks);
-            self.spoilt = true;
-        }
+        self.stale = [ALL; 36];
+        self.spoilt = true;
     }
 
     /// Whether it is known that all cells are to be painted anew, so that no more can be spoilt.
@@ -80,107 +85,95 @@ impl Screen {
         ensures same { self.new.planes ≡ self.old.planes }
         ensures spoilt { Spoils (option_copied found.entry) self.old.marks self.new.marks }
     {
-        spoil_found(self.marks.as_mut_slice(), found);
+        spoil_found(&mut self.stale, found);
     }
 
-    /// How many cells there are.
-    pub(crate) fn cells(&self) -> usize
-        ensures number { result ≡ 2160 }
-        ensures whole { IsComplete self.now }
+    /// That the screen is complete.
+    pub(crate) fn is_whole(&self) -> bool
+        ensures { IsComplete self.now }
     {
-        self.marks.len()
+        self.spoilt
     }
 
-    /// Whether the cell is right.
-    pub(crate) fn is_settled(&self, at: usize) -> bool
-        requires { at < 2160 }
-        ensures { result ≡ ((marked_at self.now at).mark == 0) }
-    {
-        self.marks[at] == 0
-    }
-
-    /// Whether no cell of the window in this row is to be painted.
-    pub(crate) fn is_row_settled(&self, row: usize, window: &Window) -> bool
+    /// The stale cells of a row, from the first up to the last, as bits.
+    pub(crate) fn stale_in(&self, row: usize, first: usize, last: usize) -> u64
         requires low { row < 36 }
-        requires wide { window.now.right ≤ 60 }
-        ensures { result ≡ true → (c : ℕ) → 60 * row + window.now.left ≤ c → c < 60 * row + window.now.right → (marked_at self.now c).mark ≡ 0 }
+        requires wide { last ≤ 60 }
+        ensures { AreStale self.now row first last result }
     {
-        let start = 60 * row;
-        if window.right <= window.left {
-            return true;
+        self.stale[row] & stretch(first, last)
+    }
+
+    /// Whether no cell of the window is to be painted.
+    pub(crate) fn is_settled_in(&self, window: &Window) -> bool
+        requires low { window.now.bottom ≤ 36 }
+        requires wide { window.now.right ≤ 60 }
+        ensures { result ≡ true → (c : ℕ) → c < 2160 → has_lem window.now c ≡ true → (marked_at self.now c).stale ≡ false }
+    {
+        for row in window.top..window.bottom {
+            if self.stale_in(row, window.left, window.right) != 0 {
+                return false;
+            }
         }
-        has_none(&self.marks[start + window.left..start + window.right])
+        true
     }
 
     /// Whether no cell is to be painted.
     pub(crate) fn is_clean(&self) -> bool
         ensures { result ≡ true → IsClean self.now.marks }
     {
-        has_none(self.marks.as_slice())
+        has_none(&self.stale)
+    }
+
+    /// Of the stale cells nothing is settled.
+    pub(crate) fn renew(&mut self)
+        ensures { IsAll (λ c. renewed) (marked_at self.old) (marked_at self.new) }
+    {
+        self.bare = self.stale;
     }
 
     /// Paints this under what is settled of a cell: a colour behind it, and a character with its colour.
-    pub(crate) fn put(&mut self, at: usize, back: Option<u32>, mark: Option<(u32, u32)>)
-        requires { at < 2160 }
-        ensures { IsSet (marked_at self.old) (marked_at self.new) at (put (record { back = back; mark = mark }) (marked_at self.old at)) }
+    #[inline(always)]
+    pub(crate) fn put(
+        &mut self,
+        row: usize,
+        column: usize,
+        back: Option<u32>,
+        mark: Option<(u32, u32)>,
+    )
+        requires low { row < 36 }
+        requires wide { column < 60 }
+        ensures { IsSet (marked_at self.old) (marked_at self.new) (60 * row + column) (put (record { back = back; mark = mark }) (marked_at self.old (60 * row + column))) }
     {
-        self.set(at, put(self.at(at), back, mark));
+        self.set(row, column, put(self.at(row, column), back, mark));
     }
 
-    /// The cell with its mark.
-    pub(crate) fn at(&self, at: usize) -> Marked
-        requires { at < 2160 }
-        ensures { result ≡ marked_at self.now at }
+    /// The cell with its marks.
+    #[inline(always)]
+    pub(crate) fn at(&self, row: usize, column: usize) -> Marked
+        requires low { row < 36 }
+        requires wide { column < 60 }
+        ensures { result ≡ marked_at self.now (60 * row + column) }
     {
         Marked {
-            mark: self.marks[at],
-            cell: self.picture.cell(at),
+            stale: has(&self.stale, row, column),
+            bare: has(&self.bare, row, column),
+            cell: self.picture.cell(60 * row + column),
         }
     }
 
-    /// Of the cell nothing is settled.
-    pub(crate) fn unsettle(&mut self, at: usize)
-        requires { at < 2160 }
-        ensures { IsSet (marked_at self.old) (marked_at self.new) at (record { mark = 2; cell = (marked_at self.old at).cell }) }
+    /// Puts a cell with its marks.
+    #[inline(always)]
+    pub(crate) fn set(&mut self, row: usize, column: usize, new: Marked)
+        requires low { row < 36 }
+        requires wide { column < 60 }
+        ensures { IsSet (marked_at self.old) (marked_at self.new) (60 * row + column) new }
     {
-        self.marks[at] = 2;
-        self.spoilt = false;
-    }
-
-    /// Puts a cell with its mark.
-    pub(crate) fn set(&mut self, at: usize, new: Marked)
-        requires { at < 2160 }
-        ensures whole { self.new ≡ with_marked self.old at new }
-        ensures set { IsSet (marked_at self.old) (marked_at self.new) at new }
-    {
+        let at = 60 * row + column;
         self.picture.set_mark(at, new.cell.scalar, new.cell.fore);
         self.picture.set_back(at, new.cell.back);
-        self.marks[at] = new.mark;
+        set(&mut self.stale, row, column, new.stale);
+        set(&mut self.bare, row, column, new.bare);
         self.spoilt = false;
     }
-}
-
-fn fill(marks: &mut Vec<u8>)
-    requires { vec_len marks.old ≡ 2160 }
-    ensures len { vec_len marks.new ≡ 2160 }
-    ensures all { IsStale marks.new.items }
-{
-    marks.as_mut_slice().fill(2);
-}
-
-fn has_none(marks: &[u8]) -> bool
-    ensures { result ≡ true → (c : ℕ) → slice_index marks.now c ≡ 0 }
-{
-    most_of(marks) == 0
-}
-
-/// The highest mark, or 0. All are looked at, which many lanes do at once.
-fn most_of(marks: &[u8]) -> u8
-    ensures { result ≡ 0 → (c : ℕ) → slice_index marks.now c ≡ 0 }
-{
-    let mut most = 0;
-    for mark in marks {
-        most = most.max(*mark);
-    }
-    most
 }

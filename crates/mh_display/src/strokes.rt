@@ -3,6 +3,7 @@ ghost use Rattle.std.specs.Prelude.{◌≡◌, ◌<◌, ◌≤◌, ◌+◌, ◌*
 ghost use Rattle.mh_display.specs.Painting.{IsBetween, IsPaintedIn, IsSet, marked_at, put};
 ghost use Rattle.mh_display.specs.Strokes.{IsShort, stroke_paint};
 
+use crate::cells::{lowest, without};
 use crate::screen::Screen;
 use crate::stroke::goes_through;
 use crate::window::Window;
@@ -26,11 +27,11 @@ fn paint_row(screen: &mut Screen, stroke: &Stroke, line: Option<u32>, row: usize
     requires wide { window.now.right ≤ 60 }
     ensures { IsBetween (λ c. put (stroke_paint stroke.now line c)) (marked_at screen.old) (marked_at screen.new) (60 * row + window.now.left) (60 * row + window.now.right) }
 {
-    if screen.is_row_settled(row, window) {
-        return;
-    }
-    for column in window.left..window.right {
+    let mut left = screen.stale_in(row, window.left, window.right);
+    while left != 0 {
+        let column = lowest(left);
         paint_cell(screen, stroke, line, row, column);
+        left = without(left, column);
     }
 }
 
@@ -40,11 +41,8 @@ fn paint_cell(screen: &mut Screen, stroke: &Stroke, line: Option<u32>, row: usiz
     requires wide { column < 60 }
     ensures { IsSet (marked_at screen.old) (marked_at screen.new) (60 * row + column) (put (stroke_paint stroke.now line (60 * row + column)) (marked_at screen.old (60 * row + column))) }
 {
-    let at = 60 * row + column;
-    if screen.is_settled(at) {
-        return;
-    }
-    screen.put(at, colour_in(stroke, line, row, column), None);
+    let back = colour_in(stroke, line, row, column);
+    screen.put(row, column, back, None);
 }
 
 /// The colour of the line where it goes through the cell in this row and column.

@@ -7,6 +7,7 @@ ghost use Rattle.mh_model.specs.Looks.{marked, text_paint};
 ghost use Rattle.mh_display.specs.Painting.{IsBetween, IsPainted, IsPaintedIn, IsSet, marked_at, put};
 ghost use Rattle.mh_display.specs.Texts.{letter_paint};
 
+use crate::cells::{lowest, without};
 use crate::characters::{character_in, line_at};
 use crate::frame::Frame;
 use crate::screen::Screen;
@@ -57,25 +58,31 @@ fn paint_row(
     ensures { IsBetween (λ c. put (letter_paint ink area.now lines.now c)) (marked_at screen.old) (marked_at screen.new) (60 * row + window.now.left) (60 * row + window.now.right) }
 {
     let _ = lines.len();
-    if screen.is_row_settled(row, window) {
-        return;
-    }
     let first = first_column(area);
-    for column in window.left..window.right {
-        paint_cell(screen, ink, line, 60 * row + column, beside(column, first));
+    let mut left = screen.stale_in(row, window.left, window.right);
+    while left != 0 {
+        let column = lowest(left);
+        paint_cell(screen, ink, line, row, column, beside(column, first));
+        left = without(left, column);
     }
 }
 
 /// Paints a cell with the character of the line in this column of the box.
-fn paint_cell(screen: &mut Screen, ink: Ink, line: Option<&Line>, at: usize, column: i64)
-    requires inside { at < 2160 }
-    requires near { IsNear (2 ^ 33) column }
-    ensures { IsSet (marked_at screen.old) (marked_at screen.new) at (put (record { back = ink.background; mark = marked ink.colour (character_in (option_copied line.entry) column) }) (marked_at screen.old at)) }
+fn paint_cell(
+    screen: &mut Screen,
+    ink: Ink,
+    line: Option<&Line>,
+    row: usize,
+    column: usize,
+    place: i64,
+)
+    requires low { row < 36 }
+    requires wide { column < 60 }
+    requires near { IsNear (2 ^ 33) place }
+    ensures { IsSet (marked_at screen.old) (marked_at screen.new) (60 * row + column) (put (record { back = ink.background; mark = marked ink.colour (character_in (option_copied line.entry) place) }) (marked_at screen.old (60 * row + column))) }
 {
-    if screen.is_settled(at) {
-        return;
-    }
-    screen.put(at, ink.background, mark_in(ink, line, column));
+    let mark = mark_in(ink, line, place);
+    screen.put(row, column, ink.background, mark);
 }
 
 /// The character of a line in this column of the box, with its colour.

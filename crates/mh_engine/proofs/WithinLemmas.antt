@@ -122,6 +122,8 @@ within_preset f b n s k = record {
     service = k.goes.service;
     timers = k.goes.timers;
     readers = k.goes.readers;
+    late = k.goes.late;
+    awaited = k.goes.awaited;
     within = k.goes.within;
   };
   capped = k.capped;
@@ -139,6 +141,8 @@ within_told o b n s k = record {
     service = k.goes.service;
     timers = k.goes.timers;
     readers = k.goes.readers;
+    late = k.goes.late;
+    awaited = k.goes.awaited;
     within = k.goes.within;
   };
   capped = k.capped;

@@ -34,6 +34,8 @@ abbrev pub refusal_for : Obstacle → RefusedWhy
 refusal_for obstacle.Ended = refused.Ended
 refusal_for obstacle.TickRange = refused.TickRange
 refusal_for obstacle.Begun = refused.Begun
+refusal_for obstacle.NotLate = refused.NotLate
+refusal_for obstacle.Differs = refused.Differs
 refusal_for obstacle.TooLarge = refused.TooLarge
 refusal_for obstacle.TooMany = refused.TooMany
 refusal_for obstacle.ClockFull = refused.ClockFull
@@ -73,6 +75,8 @@ refusal_number refused.NoMemory = None
 refusal_number refused.Ended = Some 52
 refusal_number refused.TickRange = Some 54
 refusal_number refused.Begun = Some 59
+refusal_number refused.NotLate = Some 57
+refusal_number refused.Differs = Some 58
 refusal_number refused.TooLarge = Some 40
 refusal_number refused.TooMany = Some 41
 refusal_number refused.ClockFull = Some 53

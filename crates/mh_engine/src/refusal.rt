@@ -61,6 +61,12 @@ pub enum RefusedWhy {
     /// Number 59: a post was accepted or a step taken, so that no file can be preset.
     #[error("59: the engine has begun")]
     Begun,
+    /// Number 57: no scene of this name is late, or its file waits already.
+    #[error("57: no file of this scene is awaited")]
+    NotLate,
+    /// Number 58: the group is not that of the service.
+    #[error("58: the group differs from that of the service")]
+    Differs,
     /// Number 40: a file has more than 65,535 octets.
     #[error("40: the file is too large")]
     TooLarge,
@@ -85,6 +91,8 @@ impl RefusedWhy {
             RefusedWhy::Ended => Some(52),
             RefusedWhy::TickRange => Some(54),
             RefusedWhy::Begun => Some(59),
+            RefusedWhy::NotLate => Some(57),
+            RefusedWhy::Differs => Some(58),
             RefusedWhy::TooLarge => Some(40),
             RefusedWhy::TooMany => Some(41),
             RefusedWhy::ClockFull => Some(53),
@@ -100,6 +108,8 @@ impl RefusedWhy {
             Obstacle::Ended => RefusedWhy::Ended,
             Obstacle::TickRange => RefusedWhy::TickRange,
             Obstacle::Begun => RefusedWhy::Begun,
+            Obstacle::NotLate => RefusedWhy::NotLate,
+            Obstacle::Differs => RefusedWhy::Differs,
             Obstacle::TooLarge => RefusedWhy::TooLarge,
             Obstacle::TooMany => RefusedWhy::TooMany,
             Obstacle::ClockFull => RefusedWhy::ClockFull,

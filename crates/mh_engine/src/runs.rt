@@ -70,6 +70,8 @@ fn post_or_pass(engine: &mut Engine, input: Input) -> Result<(), StepError>
             RefusedWhy::Ended
             | RefusedWhy::TickRange
             | RefusedWhy::Begun
+            | RefusedWhy::NotLate
+            | RefusedWhy::Differs
             | RefusedWhy::TooLarge
             | RefusedWhy::TooMany
             | RefusedWhy::ClockFull

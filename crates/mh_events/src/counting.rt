@@ -2,7 +2,7 @@
 ghost use Rattle.std.specs.Prelude.{◌≡◌};
 ghost use Rattle.std.specs.Str.{bytes_eq};
 ghost use Rattle.mh_model.specs.Rules.{stays, is_input};
-ghost use Rattle.mh_model.specs.Step.{time_of};
+ghost use Rattle.mh_model.specs.Step.{is_file_of, time_of};
 
 use mh_base::GroupName;
 use mh_model::{Input, Waiting};
@@ -24,6 +24,16 @@ pub(crate) fn is_input(waiting: &Waiting) -> bool
     ensures { result ≡ is_input waiting.now }
 {
     matches!(waiting, Waiting::Input(_))
+}
+
+/// Whether it is the file of this scene.
+pub(crate) fn is_file_of(waiting: &Waiting, scene: &GroupName) -> bool
+    ensures { result ≡ is_file_of scene.now waiting.now }
+{
+    match waiting {
+        Waiting::Input(Input::Scene(name, _)) => *scene == *name,
+        _ => false,
+    }
 }
 
 /// Whether it waits on when the scene is left: an input, or an event of the application.

@@ -8,9 +8,10 @@ ghost use Rattle.std.specs.VecDeque.{deque_len, deque_capacity};
 ghost use Rattle.mh_model.specs.Rules.{is_input, stays};
 ghost use Rattle.mh_model.specs.Step.{inputs as inputs_lem, is_empty};
 ghost use Rattle.mh_model.specs.Limits.{most_inputs};
-ghost use Rattle.mh_model.specs.Step.{time_ahead, time_of};
+ghost use Rattle.mh_model.specs.Step.{is_file_of, time_ahead, time_of};
+ghost use Rattle.std.specs.List.{list_any};
 
-use crate::counting::{MOST_INPUTS, is_input, stays, time_of};
+use crate::counting::{MOST_INPUTS, is_file_of, is_input, stays, time_of};
 use mh_base::GroupName;
 use mh_model::{Event, Input, Waiting};
 use std::alloc::{AllocError, Global};
@@ -88,6 +89,15 @@ impl Queue {
         ensures { result ≡ not (nat_lt (inputs_lem self.now.items) most_inputs) }
     {
         self.inputs >= MOST_INPUTS
+    }
+
+    /// Whether the file of this scene waits.
+    pub fn has_file_of(&self, scene: &GroupName) -> bool
+        ensures { result ≡ list_any (is_file_of scene.now) self.now.items }
+    {
+        self.entries
+            .iter()
+            .any(|waiting| is_file_of(waiting, scene))
     }
 
     /// How much time will have passed when all that waits is taken, in milliseconds.

@@ -52,3 +52,7 @@ token_group_halts a r p k ms is are =
     ap (λ (xs : List Member). list_any (λ (m : Member). asks a (λ v w c. halt_alone v w c m.object)) xs) are
     ∙ sym (members_halt a (members p))
     ∙ ap (λ (x : Class). asks a (λ v w c. group_halt v w c r p x)) (sym is)
+
+pub list_group_halts : (a : Asked) (r : ObjRef) (p : Fixed) (k : Class) → k ≡ class.ListGroup → list_any (λ h. same_key r h.by && asks a (λ v w c. halt_alone v w c h.at)) a.arrow.held ≡ asks a (λ v w c. group_halt v w c r p k)
+list_group_halts a r p k is =
+    sym (items_halt a r) ∙ ap (λ (x : Class). asks a (λ v w c. group_halt v w c r p x)) (sym is)

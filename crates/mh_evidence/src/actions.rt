@@ -214,7 +214,6 @@ impl<'a> Asked<'a> {
 }
 
 /// Whether the action, where the arrow has it, puts the effect of the next arrow to work.
-#[tactic(auto, using(crate::proofs::ActLemmas::act_asked))]
 pub(crate) fn puts(service: &Service, arrow: &Arrow, next: &Arrow, act: &Act) -> bool
     ensures { let a = arrow.now in let d = next.now.cause in
         result ≡ counts (put_by a.by d) (costs.act service.now (granted service.now a d.config act.now) a.cause.config act.now) }

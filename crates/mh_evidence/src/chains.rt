@@ -7,7 +7,6 @@ ghost use Rattle.std.specs.Option.{option_copied, option_map_or, option_to_list}
 ghost use Rattle.mh_laws.specs.Flow as flow;
 ghost use Rattle.mh_flow.specs.Chart.{firsts};
 ghost use Rattle.mh_model.specs.Arguments.{receiver_of};
-ghost use Rattle.mh_model.specs.Known.{class_at};
 ghost use Rattle.mh_model.specs.Property.{as_reference, value_held};
 ghost use Rattle.mh_model.specs.Reference.{same_key};
 ghost use Rattle.mh_model.specs.Service.{fresh, group_parts};
@@ -15,10 +14,10 @@ ghost use Rattle.mh_verify.specs.Evidence as spec;
 ghost use Rattle.mh_evidence.specs.Spots as spots;
 
 use crate::sites::{at_link, handed};
-use crate::there::{is_list_group, members, refers};
+use crate::there::{class_in, is_holder, is_list_group, members, refers};
 use mh_base::{ObjRef, Value};
 use mh_flow::{Link, Site};
-use mh_group::{ActionName, Attribute, Class};
+use mh_group::{ActionName, Attribute};
 use mh_model::held::as_value;
 use mh_model::{Argument, Fixed, Member, Target};
 use mh_service::Service;
@@ -192,20 +191,6 @@ fn is_given(service: &Service, action: ActionName, at: &ObjRef) -> bool
     ensures { result ≡ flow.is_given (group_parts service.now at.now.group) action at.now }
 {
     class_in(service, at).is_some_and(|class| class.admits(action) && is_holder(class))
-}
-
-/// The class of the object in its group, if it is there.
-fn class_in(service: &Service, at: &ObjRef) -> Option<Class>
-    ensures { result ≡ class_at at.now (group_parts service.now at.now.group) }
-{
-    service.find(at).map(|part| part.class)
-}
-
-/// Whether objects of the class have a set: variables of references, and lists.
-fn is_holder(class: Class) -> bool
-    ensures { result ≡ flow.is_holder class }
-{
-    refers(class) || is_list_group(class)
 }
 
 fn is_written(at: &ObjRef, argument: Option<&Argument>) -> bool

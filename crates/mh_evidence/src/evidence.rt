@@ -8,8 +8,8 @@ ghost use Rattle.mh_verify.specs.Evidence as spec;
 use crate::chains::{brings, last_written};
 use crate::claims::Claim;
 use crate::questions::Question;
-use crate::rounds::goes_round;
-use crate::there::There;
+use crate::rounds::{are_arrows_of, goes_round};
+use crate::there::{There, is_configuration};
 use mh_base::ObjRef;
 use mh_group::ActionName;
 use mh_model::Config;
@@ -26,7 +26,7 @@ pub fn evidence_holds(refusal: &Refusal) -> bool
         | RefusalKind::WrongKind
         | RefusalKind::TimerThroughVariable => shows_wrong(refusal, None),
         RefusalKind::HeldAbsent | RefusalKind::HeldWrongClass => shows_held(refusal),
-        RefusalKind::Cycle => goes_round(&refusal.service, refusal.cycle.as_slice()),
+        RefusalKind::Cycle => shows_cycle(refusal),
         RefusalKind::TooManySteps(_) | RefusalKind::WrongCall => true,
         RefusalKind::NoMemory => false,
     }
@@ -65,7 +65,16 @@ fn shows_wrong(refusal: &Refusal, holder: Option<&ObjRef>) -> bool
         at: object,
         holder,
     };
-    is_wrong(&refusal.service, config, place, refusal.action, &claim)
+    is_configuration(&refusal.service, config)
+        && is_wrong(&refusal.service, config, place, refusal.action, &claim)
+}
+
+/// Whether its arrows are of the service, each leads to the next, and the last to the first.
+fn shows_cycle(refusal: &Refusal) -> bool
+    ensures { result ≡ spec.shows_cycle refusal.now }
+{
+    let arrows = refusal.cycle.as_slice();
+    are_arrows_of(&refusal.service, arrows) && goes_round(&refusal.service, arrows)
 }
 
 /// Whether what is claimed is wrong at the place, whatever of what is granted it is to which variables refer.

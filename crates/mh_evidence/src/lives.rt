@@ -141,7 +141,6 @@ impl<'a> Asked<'a> {
     }
 
     /// What it halts as a group of objects.
-    #[tactic(auto, using(crate::proofs::LifeLemmas::items_halt))]
     fn group_halts(&self, at: &ObjRef, part: &Fixed) -> bool
         ensures { result ≡ asks self.now (λ v w c. costs.group_halt v w c at.now part.now part.now.class) }
     {

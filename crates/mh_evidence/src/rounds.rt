@@ -1,12 +1,13 @@
-//! Rounds: arrows of which each leads to the next, and the last to the first.
+//! Rounds: arrows of a service, of which each leads to the next, and the last to the first.
 //!
 //! Promise: each function answers what the definition of the same name says.
 ghost use Rattle.std.specs.Prelude.{◌≡◌, ◌&&◌};
-ghost use Rattle.std.specs.List.{list_any};
+ghost use Rattle.std.specs.List.{list_all, list_any};
 ghost use Rattle.mh_model.specs.Configuration.{present};
 ghost use Rattle.mh_laws.specs.Active.{is_active};
 ghost use Rattle.mh_flow.specs.Sites.{Site as SiteLem};
 ghost use Rattle.mh_layers.specs.Arrows.{ArrowsAreCauses, goes_round, leads, meets};
+ghost use Rattle.mh_verify.specs.Evidence.{is_arrow_of, is_by_holder};
 ghost use Rattle.mh_evidence.specs.Spots.{with_number};
 ghost use Rattle.mh_evidence.specs.Putting.{is_putting, lead_on, next_of, puts_in};
 
@@ -14,10 +15,36 @@ use crate::actions::puts;
 use crate::effects::is_action_in;
 use crate::links::is_waited_for;
 use crate::sites::with_number;
-use crate::there::There;
-use mh_layers::{Arrow, By};
+use crate::there::{There, class_in, is_configuration, is_holder};
+use mh_layers::{Arrow, By, Held};
 use mh_model::{Act, Fixed, FixedPart};
 use mh_service::Service;
+
+/// Whether what is granted is held by a variable of references, or by a list.
+fn is_by_holder(service: &Service, held: &Held) -> bool
+    ensures { result ≡ is_by_holder service.now held.now }
+{
+    class_in(service, &held.by).is_some_and(|class| is_holder(class))
+}
+
+fn are_by_holders(service: &Service, held: &[Held]) -> bool
+    ensures { result ≡ list_all (is_by_holder service.now) held.now }
+{
+    held.iter().all(|held| is_by_holder(service, held))
+}
+
+/// Whether the cause is of a configuration, and all that is granted is of variables of references and of lists.
+fn is_arrow_of(service: &Service, arrow: &Arrow) -> bool
+    ensures { result ≡ is_arrow_of service.now arrow.now }
+{
+    is_configuration(service, &arrow.cause.config) && are_by_holders(service, arrow.held.as_slice())
+}
+
+pub(crate) fn are_arrows_of(service: &Service, arrows: &[Arrow]) -> bool
+    ensures { result ≡ list_all (is_arrow_of service.now) arrows.now }
+{
+    arrows.iter().all(|arrow| is_arrow_of(service, arrow))
+}
 
 /// Whether what is put to work is the effect of the next arrow.
 fn meets(service: &Service, by: &By, next: &Arrow) -> bool

@@ -8,8 +8,11 @@ ghost use Rattle.mh_laws.specs.Costs.{effects};
 ghost use Rattle.mh_flow.specs.Chart as chart;
 ghost use Rattle.mh_evidence.specs.Counting.{counted, all_counted};
 ghost use Rattle.mh_evidence.specs.Spots.{with_number, at_place, at_link};
+ghost use Rattle.mh_laws.specs.Flow.{reads_reference};
+ghost use Rattle.mh_model.specs.Variables.{same_kind};
 
 use crate::there::members;
+use mh_base::Kind;
 use mh_flow::{Link, Site};
 use mh_group::{ActionName, Attribute};
 use mh_model::parts::effect_of;
@@ -116,13 +119,39 @@ pub(crate) fn at_link<'a>(link: &Link, part: &'a Fixed) -> Option<Site<'a>>
     }
 }
 
-/// The argument that the action hands on, if it hands one on.
+/// The argument that the action hands on as a reference, if it hands one on.
 pub(crate) fn handed(act: &Act) -> Option<&Argument>
     ensures { option_copied result ≡ chart.handed_argument act.now }
 {
     match act.name {
-        ActionName::SetVariable => act.arguments.as_slice().get(0),
+        ActionName::SetVariable => read(act.arguments.as_slice().get(0)),
         ActionName::AddItem => act.arguments.as_slice().get(1),
         _ => None,
     }
+}
+
+/// The value to which a variable is set, unless it is that of another variable and not written as an object's.
+fn read(value: Option<&Argument>) -> Option<&Argument>
+    ensures { option_copied result ≡ chart.read_by ActionName.SetVariable (option_copied value.entry) }
+{
+    match value {
+        Some(argument) if !is_reference(argument) => None,
+        _ => value,
+    }
+}
+
+fn is_reference(value: &Argument) -> bool
+    ensures { result ≡ reads_reference value.now ActionName.SetVariable }
+{
+    match value {
+        Argument::Through(_, Some(kind)) => is_object(*kind),
+        Argument::Through(_, None) => false,
+        _ => true,
+    }
+}
+
+fn is_object(kind: Kind) -> bool
+    ensures { result ≡ same_kind Kind.Object kind }
+{
+    matches!(kind, Kind::Object)
 }

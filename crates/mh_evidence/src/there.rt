@@ -1,8 +1,8 @@
 //! What is present in a configuration, as the files say it.
 //!
 //! Promise: each function answers what the definition of the same name says.
-ghost use Rattle.std.specs.Prelude.{◌≡◌, ◌++◌};
-ghost use Rattle.std.specs.Option.{option_copied};
+ghost use Rattle.std.specs.Prelude.{◌≡◌, ◌++◌, true};
+ghost use Rattle.std.specs.Option.{option_copied, option_map_or};
 ghost use Rattle.mh_group.specs.Table as table;
 ghost use Rattle.mh_laws.specs.Active as active;
 ghost use Rattle.mh_laws.specs.Flow as flow;
@@ -10,8 +10,9 @@ ghost use Rattle.mh_model.specs.Configuration as configuration;
 ghost use Rattle.mh_model.specs.Known.{class_at};
 ghost use Rattle.mh_model.specs.Property.{held, as_value};
 ghost use Rattle.mh_model.specs.Reference.{same_ref};
-ghost use Rattle.mh_model.specs.Service.{part_at, is_there};
+ghost use Rattle.mh_model.specs.Service.{group_parts, part_at, is_there};
 ghost use Rattle.mh_model.specs.Tokens as tokens;
+ghost use Rattle.mh_verify.specs.Evidence.{is_configuration};
 ghost use Rattle.mh_evidence.specs.Putting.{ref_of};
 
 use mh_base::{GroupName, ObjRef, Value};
@@ -119,6 +120,22 @@ impl<'a> There<'a> {
     }
 }
 
+/// Whether it is a configuration of the service: an application with one of the scenes, or with none.
+pub(crate) fn is_configuration(service: &Service, config: &Config) -> bool
+    ensures { result ≡ is_configuration service.now config.now }
+{
+    service.has_application(&config.app) && is_scene_or_none(service, &config.scene)
+}
+
+fn is_scene_or_none(service: &Service, scene: &Option<GroupName>) -> bool
+    ensures { result ≡ option_map_or (configuration.is_group_of table.is_scene service.now) scene.now true }
+{
+    match scene {
+        None => true,
+        Some(scene) => service.has_scene(scene),
+    }
+}
+
 /// The parts of a scene, if there is one.
 pub(crate) fn scene_parts<'a>(service: &'a Service, scene: Option<&GroupName>) -> &'a [FixedPart]
     ensures { result.now ≡ configuration.scene_parts service.now (option_copied scene.entry) }
@@ -175,4 +192,18 @@ pub(crate) fn is_list_group(class: Class) -> bool
     ensures { result ≡ table.is_list_group class }
 {
     matches!(class, Class::ListGroup)
+}
+
+/// Whether objects of the class have a set: variables of references, and lists.
+pub(crate) fn is_holder(class: Class) -> bool
+    ensures { result ≡ flow.is_holder class }
+{
+    refers(class) || is_list_group(class)
+}
+
+/// The class of the object in its group, if it is there.
+pub(crate) fn class_in(service: &Service, at: &ObjRef) -> Option<Class>
+    ensures { result ≡ class_at at.now (group_parts service.now at.now.group) }
+{
+    service.find(at).map(|part| part.class)
 }

@@ -2,7 +2,7 @@
 use Rattle.std.specs.Prelude.{◌≡◌, ◌&&◌, ◌++◌, ℕ, Bool, true, false, if◌then◌else◌, List, [], ◌∷◌, map, slice_get, Option, Some, None, option_and_then, refl}
 use Rattle.std.specs.List.{Contains, flat_map, list_any}
 use Rattle.std.specs.Map.{lookup}
-use Rattle.std.specs.Option.{option_map_or}
+use Rattle.std.specs.Option.{option_map_or, option_to_list}
 use Rattle.std.proofs.Common.{ap, ◌∙◌, sym, subst}
 use Rattle.mh_base.specs.declared.obj_ref.ObjRef.{ObjRef}
 use Rattle.mh_base.specs.declared.value.Value.{Value}
@@ -21,7 +21,7 @@ use Rattle.mh_model.specs.Service.{Service, fresh}
 use Rattle.mh_model.proofs.ListLemmas.{both_empty, some_same}
 use Rattle.mh_model.proofs.ServiceLemmas.{same_ref-same}
 use Rattle.mh_laws.specs.Active.{active_actions, leads_to}
-use Rattle.mh_laws.specs.Describing.{says}
+use Rattle.mh_laws.specs.Describing.{says, Says}
 use Rattle.mh_laws.specs.Each.{Each}
 use Rattle.mh_laws.specs.Flow.{Flow, IsHeld, IsLed, IsOpenIf, IsSolution, Keeps, MayBe, MayHand, Passes, fills, is_given, is_list_in, is_reference_in, reached}
 use Rattle.mh_laws.specs.Flow.{has as is_held}
@@ -35,7 +35,7 @@ use Rattle.mh_flow.specs.declared.chart.Bases.{Bases}
 use Rattle.mh_flow.specs.declared.chart.Set.{Set}
 use Rattle.mh_flow.specs.declared.chart.Set.TheVariants as set
 use Rattle.mh_flow.specs.Bridge.{DerivedIsHeld, DerivedIsInFlow, DerivedIsReached, HeldExactly, HeldIsDerived, HoldersHold, IsHeldAt, is_held_at, NumbersFit, RowsAreLeast, UntargetedOpensNothing}
-use Rattle.mh_flow.specs.Chart.{Chart, IsChart, config_number, goes_on, member_of, node_from, node_of}
+use Rattle.mh_flow.specs.Chart.{Chart, IsChart, config_number, goes_on, member_of, node_from, node_of, argument_of, handed_argument, read_by}
 use Rattle.mh_flow.specs.Opening as opening
 use Rattle.mh_flow.specs.Opening.{member, net_of}
 use Rattle.mh_flow.specs.Solved.{flow_of, is_holder_in, is_reached, reached_configs, set_of}
@@ -167,7 +167,7 @@ hands_of v w c (argument.Receiver y) q k may = absurd cc
 
 keeps_of : (v : Service) (w : Flow) (c : Config) (a : Act) → IsExact v w → Derived v (Reached c) → Contains (active_actions (present v c)) a → Keeps (w.sets c) (present v c) a
 keeps_of v w c a k d active = record {
-  given = λ n x r q says_it stands may takes hands. k.keeps c r q (given c a n x r q d active says_it stands (comes_of v w c a.target r k may) takes (hands_of v w c x q k hands));
+  given = λ n x r q says_it stands may takes reads hands. k.keeps c r q (given c a n x r q d active says_it stands (comes_of v w c a.target r k may) takes reads (hands_of v w c x q k hands));
   filled = λ r x q fill may list receives refers held. k.keeps c x q (filled c a r x q d active fill (comes_of v w c a.target r k may) list receives refers (k.kept c r q held));
 }
 
@@ -247,8 +247,8 @@ does_nothing v ch k c b a r e =
     (ap (λ (z : Bool). if z && is_list_in (present v c) r then flat_map (opening.filled_in v ch c b r) (receivers a.arguments) else []) (fills_nothing a.name e)))
     (ap (opening.led_on ch k) (leads_nowhere v c a.name r e))
   where
-    hand : (z : Bool) → (if z then flat_map (opening.given_by v ch c b r a.arguments) (says a.name) else []) ≡ []
-    hand true = ap (flat_map (opening.given_by v ch c b r a.arguments)) (says_nothing a.name e)
+    hand : (z : Bool) → (if z then flat_map (opening.handed_on v ch c b r) (option_to_list (handed_argument a)) else []) ≡ []
+    hand true = ap (λ (ss : List Says). flat_map (opening.handed_on v ch c b r) (option_to_list (read_by a.name (argument_of ss a.arguments)))) (says_nothing a.name e)
     hand false = refl
 
 pub untargeted_opens_nothing : UntargetedOpensNothing

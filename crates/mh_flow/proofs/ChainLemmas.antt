@@ -16,7 +16,7 @@ use Rattle.mh_laws.specs.Active.{active_actions, leads_to}
 use Rattle.mh_laws.specs.Describing as saying
 use Rattle.mh_laws.specs.Describing.{says}
 use Rattle.mh_model.specs.Arguments.{receivers}
-use Rattle.mh_laws.specs.Flow.{fills, is_given, is_list_in, is_reference_in}
+use Rattle.mh_laws.specs.Flow.{fills, is_given, is_list_in, is_reference_in, reads_reference}
 use Rattle.mh_laws.specs.Least.{Fact, Derived, Reached, Held, Comes, Hands}
 use Rattle.mh_laws.specs.Least as least
 use Rattle.mh_flow.specs.declared.link.Link.{Link}
@@ -62,9 +62,9 @@ brought_is_held v q ls0 c0 r0 (original c p at among first) = by (is_first p q f
     by (inl k) = least.original_value c p q at among k.0 k.1
     by (inr k) = least.original_item c p q at among k.0 k.1
 brought_is_held v q ls0 c0 r0 (written c x r n done hands stands takes) =
-    least.given c x.act n (argument.Direct (value.Object q)) r q done.reached (act_at (present v c) x done.site) hands stands done.comes takes (least.written c q)
-brought_is_held v q ls0 c0 r0 (read ls c x r y n k done hands stands takes is brings) =
-    least.given c x.act n (argument.Through y k) r q done.reached (act_at (present v c) x done.site) hands stands done.comes takes
+    least.given c x.act n (argument.Direct (value.Object q)) r q done.reached (act_at (present v c) x done.site) hands stands done.comes takes refl (least.written c q)
+brought_is_held v q ls0 c0 r0 (read ls c x r y n k done hands stands takes reads is brings) =
+    least.given c x.act n (argument.Through y k) r q done.reached (act_at (present v c) x done.site) hands stands done.comes takes reads
     (least.read c y q k is (brought_is_held v q ls c y brings))
 brought_is_held v q ls0 c0 r0 (filled ls c x r y done fill list receives is brings) =
     least.filled c x.act r y q done.reached (act_at (present v c) x done.site) fill done.comes list receives is (brought_is_held v q ls c r brings)
@@ -91,20 +91,21 @@ done_at v c a r at among comes =
     let found = site_at (present v c) a among in
     (found.0, found.2, record { reached = at; site = found.1; comes = subst (λ (b : Act). Derived v (Comes c b.target r)) (sym found.2) comes })
 
-by_given : (v : Service) (c : Config) (a : Act) (n : ℕ) (x : Argument) (r q : ObjRef) → (s : Site) × (s.act ≡ a) × IsDone v c s r → Contains (says a.name) (saying.Hands n) → slice_get a.arguments n ≡ Some x → is_given (present v c) a.name r ≡ true → IsBroughtBy v c x q → (ls : List Link) × Brings v q ls c r
-by_given v c a n x r q (s, same, done) hands stands takes (inl e) = (
+by_given : (v : Service) (c : Config) (a : Act) (n : ℕ) (x : Argument) (r q : ObjRef) → (s : Site) × (s.act ≡ a) × IsDone v c s r → Contains (says a.name) (saying.Hands n) → slice_get a.arguments n ≡ Some x → is_given (present v c) a.name r ≡ true → reads_reference x a.name ≡ true → IsBroughtBy v c x q → (ls : List Link) × Brings v q ls c r
+by_given v c a n x r q (s, same, done) hands stands takes reads (inl e) = (
   site_link s r ∷ [],
   written c s r n done
       (subst (λ (b : Act). Contains (says b.name) (saying.Hands n)) (sym same) hands)
       (subst (λ (b : Act). slice_get b.arguments n ≡ Some (argument.Direct (value.Object q))) (sym same) (subst (λ (z : Argument). slice_get a.arguments n ≡ Some z) e stands))
       (subst (λ (b : Act). is_given (present v c) b.name r ≡ true) (sym same) takes),
 )
-by_given v c a n x r q (s, same, done) hands stands takes (inr (y, k, ls, e, is, brings)) = (
+by_given v c a n x r q (s, same, done) hands stands takes reads (inr (y, k, ls, e, is, brings)) = (
   ls ++ site_link s r ∷ [],
   read ls c s r y n k done
       (subst (λ (b : Act). Contains (says b.name) (saying.Hands n)) (sym same) hands)
       (subst (λ (b : Act). slice_get b.arguments n ≡ Some (argument.Through y k)) (sym same) (subst (λ (z : Argument). slice_get a.arguments n ≡ Some z) e stands))
-      (subst (λ (b : Act). is_given (present v c) b.name r ≡ true) (sym same) takes) is brings,
+      (subst (λ (b : Act). is_given (present v c) b.name r ≡ true) (sym same) takes)
+      (subst (λ (b : Act). reads_reference (argument.Through y k) b.name ≡ true) (sym same) (subst (λ (z : Argument). reads_reference z a.name ≡ true) e reads)) is brings,
 )
 
 by_filled : (v : Service) (c : Config) (a : Act) (r y q : ObjRef) → (s : Site) × (s.act ≡ a) × IsDone v c s r → fills a.name ≡ true → is_list_in (present v c) r ≡ true → Contains (receivers a.arguments) y → is_reference_in (present v c) y ≡ true → IsBrought v (Held c r q) → IsBrought v (Held c y q)
@@ -127,8 +128,8 @@ brought v f (least.written c q) = inl refl
 brought v f (least.read c w q k is h) = let found = brought v (Held c w q) h in inr (w, k, found.0, refl, is, found.1)
 brought v f (least.original_value c p q at among is e) = (first_link p ∷ [], original c p at among (value_at_first p q is e))
 brought v f (least.original_item c p q at among is h) = (first_link p ∷ [], original c p at among (item_at_first p q is h))
-brought v f (least.given c a n x r q at among hands stands comes takes h) =
-    by_given v c a n x r q (done_at v c a r at among comes) hands stands takes (brought v (Hands c x q) h)
+brought v f (least.given c a n x r q at among hands stands comes takes reads h) =
+    by_given v c a n x r q (done_at v c a r at among comes) hands stands takes reads (brought v (Hands c x q) h)
 brought v f (least.filled c a r y q at among fill comes list receives is h) =
     by_filled v c a r y q (done_at v c a r at among comes) fill list receives is (brought v (Held c r q) h)
 brought v f (least.led c a r d at among comes leads) = tt

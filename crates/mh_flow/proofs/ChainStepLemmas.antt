@@ -2,7 +2,7 @@
 use Rattle.std.proofs.Common.{◌≡◌, ◌⊎◌, inl, inr, ℕ, Bool, true, false, ◌&&◌, ◌||◌, List, [], ◌∷◌, ◌++◌, Option, Some, None, refl, sym, subst, ap, ◌∙◌, append-nil}
 use Rattle.std.specs.Prelude.{if◌then◌else◌, slice_get}
 use Rattle.std.specs.List.{Contains, flat_map, list_any}
-use Rattle.std.specs.Option.{option_to_list}
+use Rattle.std.specs.Option.{option_to_list, option_map_or}
 use Rattle.std.proofs.lemmas.List.Elements.{Contains-append_left, Contains-append_right, Contains-append_cases}
 use Rattle.mh_base.specs.declared.obj_ref.ObjRef.{ObjRef}
 use Rattle.mh_base.specs.declared.value.Value.TheVariants as value
@@ -21,7 +21,7 @@ use Rattle.mh_model.proofs.ServiceLemmas.{same_ref-same}
 use Rattle.mh_laws.specs.Active.{leads_to}
 use Rattle.mh_laws.specs.Describing.{Says, says}
 use Rattle.mh_laws.specs.Describing as saying
-use Rattle.mh_laws.specs.Flow.{Flow, fills, has, is_given, is_list_in, is_reference_in}
+use Rattle.mh_laws.specs.Flow.{Flow, fills, has, is_given, is_list_in, is_reference_in, reads_reference}
 use Rattle.mh_laws.specs.Least.{Fact, Derived, Reached, Held, Comes, Hands}
 use Rattle.mh_laws.specs.Least as least
 use Rattle.mh_flow.specs.declared.link.Link.{Link}
@@ -29,7 +29,7 @@ use Rattle.mh_flow.specs.declared.moves.Place.{Place}
 use Rattle.mh_flow.specs.declared.moves.Spot.{Spot}
 use Rattle.mh_flow.specs.declared.moves.Move.{Move}
 use Rattle.mh_flow.specs.Chains.{Brings, IsDone, original, written, read, filled, passed, link}
-use Rattle.mh_flow.specs.Chart.{firsts, argument_of, handed_argument}
+use Rattle.mh_flow.specs.Chart.{firsts, argument_of, handed_argument, read_by}
 use Rattle.mh_group.specs.declared.action_name.ActionName.{ActionName}
 use Rattle.mh_group.specs.declared.action_name.ActionName.TheVariants as action
 use Rattle.mh_flow.specs.Moves.{links_by, Follows, begin, onward}
@@ -38,6 +38,7 @@ use Rattle.mh_flow.specs.Steps.{place, ground, first_spot, site_spot, comes, goe
 use Rattle.mh_flow.proofs.ContainsLemmas.{both, halves, no_member, here, behind, first_or_behind, in_joined, joined_from}
 use Rattle.mh_flow.proofs.ChainFirstLemmas.{ref_itself}
 use Rattle.mh_flow.proofs.ChainLemmas.{brought_is_held}
+use Rattle.mh_model.specs.declared.act.Act.{Act}
 
 -- References among others.
 
@@ -96,9 +97,24 @@ tells {X} m x e = subst (λ (o : Option X). Contains (option_to_list o) x) (sym 
 
 -- What an action hands on.
 
-handed_says : (ss : List Says) (xs : List Argument) (y : Argument) → argument_of ss xs ≡ Some y → (n : ℕ) × Contains ss (saying.Hands n) × (slice_get xs n ≡ Some y)
-handed_says [] xs y e = absurd cc
-handed_says (saying.Hands n ∷ ss) xs y e = (n, here (saying.Hands n) ss, e)
+said_of : (ss : List Says) (xs : List Argument) (y : Argument) → argument_of ss xs ≡ Some y → (n : ℕ) × Contains ss (saying.Hands n) × (slice_get xs n ≡ Some y)
+said_of [] xs y e = absurd cc
+said_of (saying.Hands n ∷ ss) xs y e = (n, here (saying.Hands n) ss, e)
+
+-- what is read is the argument that is there, and the action reads it
+read_says : (n : ActionName) (m : Option Argument) (y : Argument) → read_by n m ≡ Some y → (m ≡ Some y) × (reads_reference y n ≡ true)
+read_says n None y e = absurd cc
+read_says n (Some x) y e = by (reads_reference x n) refl e
+  where
+    by : (b : Bool) → reads_reference x n ≡ b → (if b then Some x else None) ≡ Some y → (Some x ≡ Some y) × (reads_reference y n ≡ true)
+    by true reads same = (same, subst (λ (m : Option Argument). option_map_or (λ z. reads_reference z n) m true ≡ true) same reads)
+    by false reads same = absurd cc
+
+pub handed_says : (a : Act) (y : Argument) → handed_argument a ≡ Some y → (n : ℕ) × Contains (says a.name) (saying.Hands n) × (slice_get a.arguments n ≡ Some y) × (reads_reference y a.name ≡ true)
+handed_says a y e =
+    let read = read_says a.name (argument_of (says a.name) a.arguments) y e in
+    let said = said_of (says a.name) a.arguments y read.0 in
+    (said.0, said.1, said.2, read.1)
 
 hands_one : (a b : ℕ) → Contains (saying.Hands a ∷ []) (saying.Hands b) → a ≡ b
 hands_one a b m = by (first_or_behind (saying.Hands a) [] (saying.Hands b) m)
@@ -110,10 +126,14 @@ hands_one a b m = by (first_or_behind (saying.Hands a) [] (saying.Hands b) m)
     by (inl e) = ap number e
     by (inr none) = absurd (no_member (saying.Hands b) none)
 
-says_handed : (a : ActionName) (xs : List Argument) (n : ℕ) (y : Argument) → Contains (says a) (saying.Hands n) → slice_get xs n ≡ Some y → argument_of (says a) xs ≡ Some y
-says_handed action.SetVariable xs n y m e = ap (slice_get xs) (hands_one 0 n m) ∙ e
-says_handed action.AddItem xs n y m e = ap (slice_get xs) (hands_one 1 n m) ∙ e
-says_handed _ xs n y m e = absurd (no_member (saying.Hands n) m)
+said_is : (a : ActionName) (xs : List Argument) (n : ℕ) (y : Argument) → Contains (says a) (saying.Hands n) → slice_get xs n ≡ Some y → argument_of (says a) xs ≡ Some y
+said_is action.SetVariable xs n y m e = ap (slice_get xs) (hands_one 0 n m) ∙ e
+said_is action.AddItem xs n y m e = ap (slice_get xs) (hands_one 1 n m) ∙ e
+said_is _ xs n y m e = absurd (no_member (saying.Hands n) m)
+
+pub says_handed : (a : Act) (n : ℕ) (y : Argument) → Contains (says a.name) (saying.Hands n) → slice_get a.arguments n ≡ Some y → reads_reference y a.name ≡ true → handed_argument a ≡ Some y
+says_handed a n y m e reads =
+    ap (read_by a.name) (said_is a.name a.arguments n y m e) ∙ ap (λ (b : Bool). if b then Some y else None) reads
 
 -- To what a target comes.
 
@@ -132,7 +152,7 @@ module _ (v : Service) (w : Flow) (e : IsExact v w) where
   is_target f (least.read c y q k is h) = tt
   is_target f (least.original_value c p q at m is h) = tt
   is_target f (least.original_item c p q at m is h) = tt
-  is_target f (least.given c a n x r q at m hands stands comes takes h) = tt
+  is_target f (least.given c a n x r q at m hands stands comes takes reads h) = tt
   is_target f (least.filled c a r y q at m fill comes list receives is h) = tt
   is_target f (least.led c a r d at m comes leads) = tt
   is_target f (least.passed c a r d g p q at m comes leads scene part h) = tt
@@ -170,19 +190,19 @@ module _ (v : Service) (w : Flow) (e : IsExact v w) (q : ObjRef) where
       are_one (Serves v q) (comes (first_spot p) (place c p.key)) (serves_comes v q (first_spot p) (place c p.key) (original c p (e.only_reached c reached) among_parts (among q (firsts p) h))))
 
   module _ (c : Config) (x : Site) (r : ObjRef) (done : IsDone v c x r) where
-    argument_serves : (n : ℕ) (y : Argument) → Contains (says x.act.name) (saying.Hands n) → slice_get x.act.arguments n ≡ Some y → is_given (present v c) x.act.name r ≡ true → AreServing (handed_moves (ground v w q c) x r y)
-    argument_serves n (argument.Direct (value.Object y)) hands stands takes = are_if (Serves v q) (same_ref q y) (comes (site_spot x) (place c r) ∷ []) (λ h.
+    argument_serves : (n : ℕ) (y : Argument) → Contains (says x.act.name) (saying.Hands n) → slice_get x.act.arguments n ≡ Some y → reads_reference y x.act.name ≡ true → is_given (present v c) x.act.name r ≡ true → AreServing (handed_moves (ground v w q c) x r y)
+    argument_serves n (argument.Direct (value.Object y)) hands stands reads takes = are_if (Serves v q) (same_ref q y) (comes (site_spot x) (place c r) ∷ []) (λ h.
         are_one (Serves v q) (comes (site_spot x) (place c r)) (serves_comes v q (site_spot x) (place c r) (written c x r n done hands (subst (λ (z : ObjRef). slice_get x.act.arguments n ≡ Some (argument.Direct (value.Object z))) (sym (same_ref-same q y h)) stands) takes)))
-    argument_serves n (argument.Through y k) hands stands takes = are_if (Serves v q) (is_reference_in (present v c) y && has (w.sets c) y q) (goes (place c y) (site_spot x) (place c r) ∷ []) (λ h.
-        are_one (Serves v q) (goes (place c y) (site_spot x) (place c r)) (serves_goes v q (place c y) (site_spot x) (place c r) (λ ls b. read ls c x r y n k done hands stands takes (halves _ _ h).0 b)))
-    argument_serves n (argument.Receiver y) hands stands takes = are_none (Serves v q)
-    argument_serves n (argument.Direct y) hands stands takes = are_none (Serves v q)
+    argument_serves n (argument.Through y k) hands stands reads takes = are_if (Serves v q) (is_reference_in (present v c) y && has (w.sets c) y q) (goes (place c y) (site_spot x) (place c r) ∷ []) (λ h.
+        are_one (Serves v q) (goes (place c y) (site_spot x) (place c r)) (serves_goes v q (place c y) (site_spot x) (place c r) (λ ls b. read ls c x r y n k done hands stands takes reads (halves _ _ h).0 b)))
+    argument_serves n (argument.Receiver y) hands stands reads takes = are_none (Serves v q)
+    argument_serves n (argument.Direct y) hands stands reads takes = are_none (Serves v q)
 
     given_serves : AreServing (given_moves (ground v w q c) x r)
     given_serves = are_if (Serves v q) (is_given (present v c) x.act.name r) (flat_map (handed_moves (ground v w q c) x r) (option_to_list (handed_argument x.act))) (λ takes.
         are_joined (Serves v q) (handed_moves (ground v w q c) x r) (option_to_list (handed_argument x.act)) (λ y k.
-        let said = handed_says (says x.act.name) x.act.arguments y (told (handed_argument x.act) y k) in
-        argument_serves said.0 y said.1 said.2 takes))
+        let said = handed_says x.act y (told (handed_argument x.act) y k) in
+        argument_serves said.0 y said.1 said.2 said.3 takes))
 
     filled_serves : AreServing (filled_moves (ground v w q c) x r)
     filled_serves = are_if (Serves v q) (fills x.act.name && is_list_in (present v c) r && has (w.sets c) r q) (flat_map (received_moves (ground v w q c) x r) (receivers x.act.arguments)) (λ h.
@@ -237,12 +257,12 @@ module _ (v : Service) (w : Flow) (e : IsExact v w) (q : ObjRef) where
         (in_joined (site_moves (ground v w q c)) (sites_of (present v c)) x m done.site
         (in_joined (done_moves (ground v w q c) x) (targets (present v c) (w.sets c) x.act.target) r m (is_target v w e (Comes c x.act.target r) done.comes) k)))
 
-    given_is_in : (m : Move) (n : ℕ) (y : Argument) → Contains (says x.act.name) (saying.Hands n) → slice_get x.act.arguments n ≡ Some y → is_given (present v c) x.act.name r ≡ true → Contains (handed_moves (ground v w q c) x r y) m → Contains (moves_of v w q) m
-    given_is_in m n y hands stands takes k = done_is_in m
+    given_is_in : (m : Move) (n : ℕ) (y : Argument) → Contains (says x.act.name) (saying.Hands n) → slice_get x.act.arguments n ≡ Some y → reads_reference y x.act.name ≡ true → is_given (present v c) x.act.name r ≡ true → Contains (handed_moves (ground v w q c) x r y) m → Contains (moves_of v w q) m
+    given_is_in m n y hands stands reads takes k = done_is_in m
         (Contains-append_left (given_moves (ground v w q c) x r ++ filled_moves (ground v w q c) x r) (led_moves (ground v w q c) (leads_to v c x.act.name r)) m
         (Contains-append_left (given_moves (ground v w q c) x r) (filled_moves (ground v w q c) x r) m
         (where_true (is_given (present v c) x.act.name r) (flat_map (handed_moves (ground v w q c) x r) (option_to_list (handed_argument x.act))) m takes
-        (in_joined (handed_moves (ground v w q c) x r) (option_to_list (handed_argument x.act)) y m (tells (handed_argument x.act) y (says_handed x.act.name x.act.arguments n y hands stands)) k))))
+        (in_joined (handed_moves (ground v w q c) x r) (option_to_list (handed_argument x.act)) y m (tells (handed_argument x.act) y (says_handed x.act n y hands stands reads)) k))))
 
     filled_is_in : (y : ObjRef) → fills x.act.name ≡ true → is_list_in (present v c) r ≡ true → has (w.sets c) r q ≡ true → Contains (receivers x.act.arguments) y → is_reference_in (present v c) y ≡ true → Contains (moves_of v w q) (goes (place c r) (site_spot x) (place c y))
     filled_is_in y fill list holds receives is = done_is_in (goes (place c r) (site_spot x) (place c y))
@@ -266,10 +286,10 @@ module _ (v : Service) (w : Flow) (e : IsExact v w) (q : ObjRef) where
   pub brings_follows : (ls : List Link) (c : Config) (r : ObjRef) → Brings v q ls c r → Follows (moves_of v w q) ls (place c r)
   brings_follows ls0 c0 r0 (original c p at k first) = begin (comes (first_spot p) (place c p.key)) (first_is_in c p at k first) refl
   brings_follows ls0 c0 r0 (written c x r n done hands stands takes) =
-      begin (comes (site_spot x) (place c r)) (given_is_in c x r done (comes (site_spot x) (place c r)) n (argument.Direct (value.Object q)) hands stands takes
+      begin (comes (site_spot x) (place c r)) (given_is_in c x r done (comes (site_spot x) (place c r)) n (argument.Direct (value.Object q)) hands stands refl takes
       (where_true (same_ref q q) (comes (site_spot x) (place c r) ∷ []) (comes (site_spot x) (place c r)) (ref_itself q) (here (comes (site_spot x) (place c r)) []))) refl
-  brings_follows ls0 c0 r0 (read ls c x r y n k done hands stands takes is b) =
-      onward ls (place c y) (goes (place c y) (site_spot x) (place c r)) (brings_follows ls c y b) (given_is_in c x r done (goes (place c y) (site_spot x) (place c r)) n (argument.Through y k) hands stands takes
+  brings_follows ls0 c0 r0 (read ls c x r y n k done hands stands takes reads is b) =
+      onward ls (place c y) (goes (place c y) (site_spot x) (place c r)) (brings_follows ls c y b) (given_is_in c x r done (goes (place c y) (site_spot x) (place c r)) n (argument.Through y k) hands stands reads takes
       (where_true (is_reference_in (present v c) y && has (w.sets c) y q) (goes (place c y) (site_spot x) (place c r) ∷ []) (goes (place c y) (site_spot x) (place c r)) (both _ _ is (holds_it ls c y b)) (here (goes (place c y) (site_spot x) (place c r)) []))) refl
   brings_follows ls0 c0 r0 (filled ls c x r y done fill list receives is b) =
       onward ls (place c r) (goes (place c r) (site_spot x) (place c y)) (brings_follows ls c r b) (filled_is_in c x r done y fill list (holds_it ls c r b) receives is) refl

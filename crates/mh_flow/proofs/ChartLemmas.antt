@@ -3,7 +3,7 @@ use Rattle.std.proofs.Common.{◌≡◌, ℕ, suc, zero, ◌+◌, ◌-◌, ◌^�
 use Rattle.std.specs.List.{AllByRecursion, IsDistinct, flat_map, list_any, position}
 use Rattle.std.specs.Map.{lookup}
 use Rattle.std.specs.Option.{option_eq, option_map, option_or, option_to_list}
-use Rattle.std.specs.Prelude.{option_and_then}
+use Rattle.std.specs.Prelude.{option_and_then, if◌then◌else◌}
 use Rattle.std.specs.Cmp.Lexicographic.{nat_list_eq_equiv}
 use Rattle.std.proofs.lemmas.List.{map-append}
 use Rattle.std.proofs.lemmas.List.Concat.{flat_map-append}
@@ -16,6 +16,7 @@ use Rattle.mh_group.specs.declared.action_name.ActionName.{ActionName}
 use Rattle.mh_group.specs.declared.action_name.ActionName.TheVariants as action
 use Rattle.mh_model.specs.declared.act.Act.{Act}
 use Rattle.mh_model.specs.declared.act.Argument.{Argument}
+use Rattle.mh_model.specs.declared.act.Argument.TheVariants as argument
 use Rattle.mh_model.specs.declared.config.Config.{Config}
 use Rattle.mh_model.specs.declared.object.Fixed.{Fixed}
 use Rattle.mh_model.specs.Configuration.{configurations, present, same_config, same_scene, scene_parts}
@@ -23,7 +24,7 @@ use Rattle.mh_model.specs.Effects.{actions}
 use Rattle.mh_model.specs.Reference.{same_key, same_ref}
 use Rattle.mh_model.specs.Service.{Service, group_parts}
 use Rattle.mh_laws.specs.Describing.{says}
-use Rattle.mh_laws.specs.Flow.{refers}
+use Rattle.mh_laws.specs.Flow.{refers, reads_reference}
 use Rattle.mh_group.specs.Table.{is_list_group}
 use Rattle.mh_model.specs.Property.{as_reference, value_held}
 use Rattle.mh_model.specs.Service.{fresh}
@@ -35,7 +36,7 @@ use Rattle.mh_flow.specs.declared.chart.Bases.{Bases}
 use Rattle.mh_flow.specs.declared.chart.Set.{Set}
 use Rattle.mh_flow.specs.declared.chart.Set.TheVariants as set
 use Rattle.mh_flow.specs.Index.{AreNamed, Home, indexed}
-use Rattle.mh_flow.specs.Chart.{Chart, IsChart, argument_of, based, bases_of, first_items, first_sets, first_value, firsts, handed, handed_argument, handed_by, held_of, led_from, node_at, node_from, place_in, sets_from, sets_in, sum_of, with_reference, with_references, written_reference}
+use Rattle.mh_flow.specs.Chart.{Chart, IsChart, argument_of, based, bases_of, first_items, first_sets, first_value, firsts, handed, handed_argument, handed_by, held_of, led_from, node_at, node_from, place_in, read_by, sets_from, sets_in, sum_of, with_reference, with_references, written_reference}
 
 -- References as keys.
 
@@ -76,9 +77,26 @@ firsts_put qs p = with_more qs (option_to_list (first_value p)) (map (λ m. m.ob
 pub handed_once : (a : Act) → flat_map written_reference (option_to_list (handed_argument a)) ≡ handed a
 handed_once a = by a.name a.arguments
   where
-    by : (n : ActionName) (xs : List Argument) → flat_map written_reference (option_to_list (argument_of (says n) xs)) ≡ handed_by (says n) xs
-    by action.SetVariable xs = sym (append-nil (flat_map written_reference (option_to_list (slice_get xs 0))))
-    by action.AddItem xs = sym (append-nil (flat_map written_reference (option_to_list (slice_get xs 1))))
+    -- what is read is written as before, and what is not is no written reference
+    set : (m : Option Argument) → flat_map written_reference (option_to_list (read_by action.SetVariable m)) ≡ flat_map written_reference (option_to_list m)
+    set None = refl
+    set (Some (argument.Direct x)) = refl
+    set (Some (argument.Receiver v)) = refl
+    set (Some (argument.Through v k)) = unless_read (reads_reference (argument.Through v k) action.SetVariable)
+      where
+        unless_read : (b : Bool) → flat_map written_reference (option_to_list (if b then Some (argument.Through v k) else None)) ≡ []
+        unless_read true = refl
+        unless_read false = refl
+
+    added : (m : Option Argument) → flat_map written_reference (option_to_list (read_by action.AddItem m)) ≡ flat_map written_reference (option_to_list m)
+    added None = refl
+    added (Some (argument.Direct x)) = refl
+    added (Some (argument.Receiver v)) = refl
+    added (Some (argument.Through v k)) = refl
+
+    by : (n : ActionName) (xs : List Argument) → flat_map written_reference (option_to_list (read_by n (argument_of (says n) xs))) ≡ handed_by (says n) xs
+    by action.SetVariable xs = set (slice_get xs 0) ∙ sym (append-nil (flat_map written_reference (option_to_list (slice_get xs 0))))
+    by action.AddItem xs = added (slice_get xs 1) ∙ sym (append-nil (flat_map written_reference (option_to_list (slice_get xs 1))))
     by _ xs = refl
 
 pub held_put : (qs : List ObjRef) (p : Fixed) → with_references (with_references qs (firsts p)) (flat_map handed (actions p)) ≡ with_references qs (held_of p)

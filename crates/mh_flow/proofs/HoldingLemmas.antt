@@ -26,7 +26,7 @@ use Rattle.mh_model.proofs.ListLemmas.{some_same}
 use Rattle.mh_laws.specs.Active.{active_actions, leads_to}
 use Rattle.mh_laws.specs.Describing as saying
 use Rattle.mh_laws.specs.Describing.{Says, says}
-use Rattle.mh_laws.specs.Flow.{fills, is_given, is_holder, is_list_in, is_reference_in, refers}
+use Rattle.mh_laws.specs.Flow.{fills, is_given, is_holder, is_list_in, is_reference_in, refers, reads_reference}
 use Rattle.mh_laws.specs.Least.{Derived, Reached, Held, Comes, Hands, start, named, referred, written, read, original_value, original_item, given, filled, led, passed}
 use Rattle.mh_laws.specs.Least as least
 use Rattle.mh_flow.specs.declared.net.Fact.{Fact}
@@ -36,7 +36,7 @@ use Rattle.mh_flow.specs.Rows.{has}
 use Rattle.mh_flow.specs.Sets.{IsLeast, IsThere}
 use Rattle.mh_flow.specs.declared.chart.Bases.{Bases}
 use Rattle.mh_flow.specs.declared.chart.Set.{Set}
-use Rattle.mh_flow.specs.Chart.{Chart, IsChart, config_number, firsts, member_of, node_from}
+use Rattle.mh_flow.specs.Chart.{Chart, IsChart, config_number, firsts, member_of, node_from, handed_argument}
 use Rattle.mh_flow.specs.Opening as opening
 use Rattle.mh_flow.specs.Opening.{member, member_at, edge_at, net_of, opens}
 use Rattle.mh_flow.specs.Solved.{is_holder_in}
@@ -45,6 +45,7 @@ use Rattle.mh_flow.proofs.ListedLemmas.{is_listed, same_application}
 use Rattle.mh_flow.proofs.MentionLemmas.{HoldsFirst, first_number, first_of, written_number}
 use Rattle.mh_flow.proofs.NumberLemmas.{IsAt, has_node, has_number, is_node, is_numbered, led_set_at, member_at_number, reached_set}
 use Rattle.mh_flow.proofs.PresentLemmas.{own_found, passing, present_found, same_itself}
+use Rattle.mh_flow.proofs.ChainStepLemmas.{says_handed}
 
 -- What is present and has a set
 
@@ -97,7 +98,7 @@ where_holder v _ is keys (original_value c p q d among kind e) =
     holder_found (present v c) p.key p (present_found v c p is keys among) (left_holds (refers p.class) (is_list_group p.class) kind)
 where_holder v _ is keys (original_item c p q d among list e) =
     holder_found (present v c) p.key p (present_found v c p is keys among) (right_holds (refers p.class) (is_list_group p.class) list)
-where_holder v _ is keys (given c a n x r q d active says_it e comes takes hands) =
+where_holder v _ is keys (given c a n x r q d active says_it e comes takes reads hands) =
     let part = given_part (present v c) a.name r takes in
     holder_found (present v c) r part.0 part.1 part.2
 where_holder v _ is keys (filled c a r x q d active fill comes list receives kind held) =
@@ -205,13 +206,12 @@ does_there v ch rows k c b a r x is s number reached active comes m = by a.targe
 
 -- The items of an action
 
-handed_does : (v : Service) (ch : Chart) (k : ℕ) (c : Config) (b : Bases) (a : Act) (r : ObjRef) (n : ℕ) (y : Argument) (x : Item) → is_given (present v c) a.name r ≡ true → Contains (says a.name) (saying.Hands n) → slice_get a.arguments n ≡ Some y → Contains (opening.handed_on v ch c b r y) x → Contains (opening.does v ch k c b a r) x
-handed_does v ch k c b a r n y x takes says_it e m =
-    let of_argument : Contains (opening.given_by v ch c b r a.arguments (saying.Hands n)) x = subst (λ (o : Option Argument). Contains (flat_map (opening.handed_on v ch c b r) (option_to_list o)) x) (sym e) (in_joined (opening.handed_on v ch c b r) (y ∷ []) y x (here y []) m) in
-    let all : Contains (flat_map (opening.given_by v ch c b r a.arguments) (says a.name)) x = in_joined (opening.given_by v ch c b r a.arguments) (says a.name) (saying.Hands n) x says_it of_argument in
+handed_does : (v : Service) (ch : Chart) (k : ℕ) (c : Config) (b : Bases) (a : Act) (r : ObjRef) (n : ℕ) (y : Argument) (x : Item) → is_given (present v c) a.name r ≡ true → Contains (says a.name) (saying.Hands n) → slice_get a.arguments n ≡ Some y → reads_reference y a.name ≡ true → Contains (opening.handed_on v ch c b r y) x → Contains (opening.does v ch k c b a r) x
+handed_does v ch k c b a r n y x takes says_it e reads m =
+    let all : Contains (flat_map (opening.handed_on v ch c b r) (option_to_list (handed_argument a))) x = subst (λ (o : Option Argument). Contains (flat_map (opening.handed_on v ch c b r) (option_to_list o)) x) (sym (says_handed a n y says_it e reads)) (in_joined (opening.handed_on v ch c b r) (y ∷ []) y x (here y []) m) in
     Contains-append_left (opening.given v ch c b a r ++ opening.filled v ch c b a r) (opening.led_on ch k (leads_to v c a.name r)) x
     (Contains-append_left (opening.given v ch c b a r) (opening.filled v ch c b a r) x
-    (subst (λ (z : Bool). Contains (if z then flat_map (opening.given_by v ch c b r a.arguments) (says a.name) else []) x) (sym takes) all))
+    (subst (λ (z : Bool). Contains (if z then flat_map (opening.handed_on v ch c b r) (option_to_list (handed_argument a)) else []) x) (sym takes) all))
 
 filled_does : (v : Service) (ch : Chart) (k : ℕ) (c : Config) (b : Bases) (a : Act) (r w : ObjRef) (x : Item) → fills a.name ≡ true → is_list_in (present v c) r ≡ true → Contains (receivers a.arguments) w → is_reference_in (present v c) w ≡ true → Contains (edge_at (node_from v c r b) (node_from v c w b)) x → Contains (opening.does v ch k c b a r) x
 filled_does v ch k c b a r w x fill list receives refers m =
@@ -267,8 +267,8 @@ first_known v ch rows c p q is s reached among holds k b number =
       has = s.opened (fact 0 k) (reached_at ch rows c k b reached number) (member node.0 name.0) (config_opens v ch k c b (member node.0 name.0) is number.at of_config);
     }
 
-given_known : (v : Service) (ch : Chart) (rows : List (List Bool)) (c : Config) (a : Act) (n : ℕ) (y : Argument) (r q : ObjRef) → IsChart v ch → AreLeast v ch rows → IsReachedIn ch rows c → Contains (active_actions (present v c)) a → Contains (says a.name) (saying.Hands n) → slice_get a.arguments n ≡ Some y → ComesWhere v ch rows c a.target r → is_given (present v c) a.name r ≡ true → HandsWhere v ch rows c y q → HeldWhere v ch rows c r q
-given_known v ch rows c a n y r q is s reached active says_it e comes takes hands k b number = by y e hands
+given_known : (v : Service) (ch : Chart) (rows : List (List Bool)) (c : Config) (a : Act) (n : ℕ) (y : Argument) (r q : ObjRef) → IsChart v ch → AreLeast v ch rows → IsReachedIn ch rows c → Contains (active_actions (present v c)) a → Contains (says a.name) (saying.Hands n) → slice_get a.arguments n ≡ Some y → ComesWhere v ch rows c a.target r → is_given (present v c) a.name r ≡ true → reads_reference y a.name ≡ true → HandsWhere v ch rows c y q → HeldWhere v ch rows c r q
+given_known v ch rows c a n y r q is s reached active says_it e comes takes reads_it hands k b number = by y e reads_it hands
   where
     part : (p : Fixed) × (part_at r (present v c) ≡ Some p) × (is_holder p.class ≡ true)
     part = given_part (present v c) a.name r takes
@@ -276,11 +276,11 @@ given_known v ch rows c a n y r q is s reached active says_it e comes takes hand
     node : (u : ℕ) × (node_from v c r b ≡ Some u)
     node = has_node v ch k c b r part.0 is number.at part.1
 
-    there : (z : Argument) (x : Item) → slice_get a.arguments n ≡ Some z → Contains (opening.handed_on v ch c b r z) x → IsThere rows s.edges x
-    there z x at m = does_there v ch rows k c b a r x is s number (reached_at ch rows c k b reached number) active comes (handed_does v ch k c b a r n z x takes says_it at m)
+    there : (z : Argument) (x : Item) → slice_get a.arguments n ≡ Some z → reads_reference z a.name ≡ true → Contains (opening.handed_on v ch c b r z) x → IsThere rows s.edges x
+    there z x at reads m = does_there v ch rows k c b a r x is s number (reached_at ch rows c k b reached number) active comes (handed_does v ch k c b a r n z x takes says_it at reads m)
 
-    by : (z : Argument) → slice_get a.arguments n ≡ Some z → HandsWhere v ch rows c z q → IsHeldIn v ch rows c b r q
-    by (argument.Direct w) at same =
+    by : (z : Argument) → slice_get a.arguments n ≡ Some z → reads_reference z a.name ≡ true → HandsWhere v ch rows c z q → IsHeldIn v ch rows c b r q
+    by (argument.Direct w) at reads same =
         let it : slice_get a.arguments n ≡ Some (argument.Direct (value.Object q)) = at ∙ ap (λ (x : Value). Some (argument.Direct x)) same in
         let name = written_number v ch c a n q is active says_it it in
         record {
@@ -288,9 +288,9 @@ given_known v ch rows c a n y r q is s reached active says_it e comes takes hand
           is_node = node.1;
           member = name.0;
           is_member = name.1;
-          has = there (argument.Direct (value.Object q)) (member node.0 name.0) it (in_member_at (node_from v c r b) (member_of ch q) node.0 name.0 node.1 name.1);
+          has = there (argument.Direct (value.Object q)) (member node.0 name.0) it refl (in_member_at (node_from v c r b) (member_of ch q) node.0 name.0 node.1 name.1);
         }
-    by (argument.Through w t) at two =
+    by (argument.Through w t) at reads two =
         let held = two.1 k b number in
         let edge : Contains (opening.handed_on v ch c b r (argument.Through w t)) (item.Edge held.node node.0) = subst (λ (z : Bool). Contains (if z then edge_at (node_from v c w b) (node_from v c r b) else []) (item.Edge held.node node.0)) (sym two.0) (in_edge_at (node_from v c w b) (node_from v c r b) held.node node.0 held.is_node node.1) in
         record {
@@ -298,9 +298,9 @@ given_known v ch rows c a n y r q is s reached active says_it e comes takes hand
           is_node = node.1;
           member = held.member;
           is_member = held.is_member;
-          has = s.along held.node node.0 held.member (there (argument.Through w t) (item.Edge held.node node.0) at edge) held.has;
+          has = s.along held.node node.0 held.member (there (argument.Through w t) (item.Edge held.node node.0) at reads edge) held.has;
         }
-    by (argument.Receiver w) at never = absurd cc
+    by (argument.Receiver w) at reads never = absurd cc
 
 filled_known : (v : Service) (ch : Chart) (rows : List (List Bool)) (c : Config) (a : Act) (r w q : ObjRef) → IsChart v ch → AreLeast v ch rows → IsReachedIn ch rows c → Contains (active_actions (present v c)) a → fills a.name ≡ true → ComesWhere v ch rows c a.target r → is_list_in (present v c) r ≡ true → Contains (receivers a.arguments) w → is_reference_in (present v c) w ≡ true → HeldWhere v ch rows c r q → HeldWhere v ch rows c w q
 filled_known v ch rows c a r w q is s reached active fill comes list receives refers holds k b number =
@@ -359,8 +359,8 @@ derived_known v ch rows is s _ (original_value c p q d among kind e) =
     first_known v ch rows c p q is s (derived_known v ch rows is s (Reached c) d) among (inl (kind, e))
 derived_known v ch rows is s _ (original_item c p q d among list e) =
     first_known v ch rows c p q is s (derived_known v ch rows is s (Reached c) d) among (inr (list, e))
-derived_known v ch rows is s _ (given c a n x r q d active says_it e comes takes hands) =
-    given_known v ch rows c a n x r q is s (derived_known v ch rows is s (Reached c) d) active says_it e (derived_known v ch rows is s (Comes c a.target r) comes) takes (derived_known v ch rows is s (Hands c x q) hands)
+derived_known v ch rows is s _ (given c a n x r q d active says_it e comes takes reads hands) =
+    given_known v ch rows c a n x r q is s (derived_known v ch rows is s (Reached c) d) active says_it e (derived_known v ch rows is s (Comes c a.target r) comes) takes reads (derived_known v ch rows is s (Hands c x q) hands)
 derived_known v ch rows is s _ (filled c a r x q d active fill comes list receives refers held) =
     filled_known v ch rows c a r x q is s (derived_known v ch rows is s (Reached c) d) active fill (derived_known v ch rows is s (Comes c a.target r) comes) list receives refers (derived_known v ch rows is s (Held c r q) held)
 derived_known v ch rows is s _ (led c a r d h active comes e) =

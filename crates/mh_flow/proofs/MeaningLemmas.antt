@@ -24,7 +24,7 @@ use Rattle.mh_model.proofs.ServiceLemmas.{same_ref-same}
 use Rattle.mh_laws.specs.Active.{active_actions, leads_to}
 use Rattle.mh_laws.specs.Describing as saying
 use Rattle.mh_laws.specs.Describing.{Says, says}
-use Rattle.mh_laws.specs.Flow.{fills, is_given, is_holder, is_list_in, is_reference_in}
+use Rattle.mh_laws.specs.Flow.{fills, is_given, is_holder, is_list_in, is_reference_in, reads_reference}
 use Rattle.mh_laws.specs.Least as least
 use Rattle.mh_laws.specs.Least.{Derived, Reached, Held, Comes, Hands, start, named, referred, written, read, original_value, original_item, given, filled, led, passed}
 use Rattle.mh_flow.specs.declared.net.Fact.{Fact}
@@ -35,7 +35,7 @@ use Rattle.mh_flow.specs.Net.{Net, IsFit}
 use Rattle.mh_flow.specs.declared.chart.Bases.{Bases}
 use Rattle.mh_flow.specs.declared.chart.Set.{Set}
 use Rattle.mh_flow.specs.declared.chart.Set.TheVariants as set
-use Rattle.mh_flow.specs.Chart.{Chart, IsChart, config_number, firsts, member_of, node_from}
+use Rattle.mh_flow.specs.Chart.{Chart, IsChart, config_number, firsts, member_of, node_from, handed_argument}
 use Rattle.mh_flow.specs.Opening as opening
 use Rattle.mh_flow.specs.Opening.{member, member_at, edge_at, net_of, opens, wider}
 use Rattle.mh_flow.proofs.ContainsLemmas.{halves, first_or_behind, joined_from, no_member}
@@ -43,6 +43,7 @@ use Rattle.mh_flow.proofs.MentionLemmas.{HoldsFirst, holds_first}
 use Rattle.mh_flow.proofs.NumberLemmas.{IsAt, is_node, is_numbered, led_set_at, member_at_number, reached_set}
 use Rattle.mh_flow.proofs.PlaceLemmas.{lone}
 use Rattle.mh_flow.proofs.PresentLemmas.{passing_from}
+use Rattle.mh_flow.proofs.ChainStepLemmas.{handed_says}
 
 -- the one configuration leads to the other, as far as is derived
 pub record IsLedTo (v : Service) (c d : Config) : Type 0 where
@@ -148,28 +149,26 @@ record IsDoing (v : Service) (ch : Chart) (P : Type 0) (k : ℕ) (c : Config) (b
   reached : P → Derived v (Reached c)
   comes : P → Derived v (Comes c a.target r)
 
-handed_good : (v : Service) (ch : Chart) (P : Type 0) (k : ℕ) (c : Config) (b : Bases) (a : Act) (r : ObjRef) (n : ℕ) (y : Argument) (x : Item) → IsDoing v ch P k c b a r → is_given (present v c) a.name r ≡ true → Contains (says a.name) (saying.Hands n) → slice_get a.arguments n ≡ Some y → Contains (opening.handed_on v ch c b r y) x → IsGood v ch P x
-handed_good v ch P k c b a r n (argument.Direct (value.Object q)) x h takes says_it e m =
-    member_good v ch P k c b r q x h.chart h.at (λ p. given c a n (argument.Direct (value.Object q)) r q (h.reached p) h.active says_it e (h.comes p) takes (written c q)) m
-handed_good v ch P k c b a r n (argument.Direct _) x h takes says_it e m = absurd (no_member x m)
-handed_good v ch P k c b a r n (argument.Through w t) x h takes says_it e m = by (is_reference_in (present v c) w) refl m
+handed_good : (v : Service) (ch : Chart) (P : Type 0) (k : ℕ) (c : Config) (b : Bases) (a : Act) (r : ObjRef) (n : ℕ) (y : Argument) (x : Item) → IsDoing v ch P k c b a r → is_given (present v c) a.name r ≡ true → Contains (says a.name) (saying.Hands n) → slice_get a.arguments n ≡ Some y → reads_reference y a.name ≡ true → Contains (opening.handed_on v ch c b r y) x → IsGood v ch P x
+handed_good v ch P k c b a r n (argument.Direct (value.Object q)) x h takes says_it e reads m =
+    member_good v ch P k c b r q x h.chart h.at (λ p. given c a n (argument.Direct (value.Object q)) r q (h.reached p) h.active says_it e (h.comes p) takes refl (written c q)) m
+handed_good v ch P k c b a r n (argument.Direct _) x h takes says_it e reads m = absurd (no_member x m)
+handed_good v ch P k c b a r n (argument.Through w t) x h takes says_it e reads m = by (is_reference_in (present v c) w) refl m
   where
     by : (z : Bool) → is_reference_in (present v c) w ≡ z → Contains (if z then edge_at (node_from v c w b) (node_from v c r b) else []) x → IsGood v ch P x
     by true is l =
-        edge_good v ch P k c b w k c b r x h.chart h.at h.at (λ p q held. given c a n (argument.Through w t) r q (h.reached p) h.active says_it e (h.comes p) takes (read c w q t is held)) l
+        edge_good v ch P k c b w k c b r x h.chart h.at h.at (λ p q held. given c a n (argument.Through w t) r q (h.reached p) h.active says_it e (h.comes p) takes reads (read c w q t is held)) l
     by false is l = absurd (no_member x l)
-handed_good v ch P k c b a r n (argument.Receiver w) x h takes says_it e m = absurd (no_member x m)
+handed_good v ch P k c b a r n (argument.Receiver w) x h takes says_it e reads m = absurd (no_member x m)
 
 given_good : (v : Service) (ch : Chart) (P : Type 0) (k : ℕ) (c : Config) (b : Bases) (a : Act) (r : ObjRef) (x : Item) → IsDoing v ch P k c b a r → Contains (opening.given v ch c b a r) x → IsGood v ch P x
 given_good v ch P k c b a r x h m = by (is_given (present v c) a.name r) refl m
   where
-    each : (s : Says) → is_given (present v c) a.name r ≡ true → Contains (says a.name) s → Contains (opening.given_by v ch c b r a.arguments s) x → IsGood v ch P x
-    each (saying.Hands n) takes says_it l =
-        let from = joined_from (opening.handed_on v ch c b r) (option_to_list (slice_get a.arguments n)) x l in
-        handed_good v ch P k c b a r n from.0 x h takes says_it (in_option (slice_get a.arguments n) from.0 from.1) from.2
-
-    by : (z : Bool) → is_given (present v c) a.name r ≡ z → Contains (if z then flat_map (opening.given_by v ch c b r a.arguments) (says a.name) else []) x → IsGood v ch P x
-    by true is l = let from = joined_from (opening.given_by v ch c b r a.arguments) (says a.name) x l in each from.0 is from.1 from.2
+    by : (z : Bool) → is_given (present v c) a.name r ≡ z → Contains (if z then flat_map (opening.handed_on v ch c b r) (option_to_list (handed_argument a)) else []) x → IsGood v ch P x
+    by true is l =
+        let from = joined_from (opening.handed_on v ch c b r) (option_to_list (handed_argument a)) x l in
+        let said = handed_says a from.0 (in_option (handed_argument a) from.0 from.1) in
+        handed_good v ch P k c b a r said.0 from.0 x h is said.1 said.2 said.3 from.2
     by false is l = absurd (no_member x l)
 
 filled_good : (v : Service) (ch : Chart) (P : Type 0) (k : ℕ) (c : Config) (b : Bases) (a : Act) (r : ObjRef) (x : Item) → IsDoing v ch P k c b a r → Contains (opening.filled v ch c b a r) x → IsGood v ch P x
@@ -284,7 +283,7 @@ where_reached v _ (written c q) = tt
 where_reached v _ (read c w q k is d) = tt
 where_reached v _ (original_value c p q d among is e) = d
 where_reached v _ (original_item c p q d among is e) = d
-where_reached v _ (given c a n x r q d active says_it e comes takes hands) = d
+where_reached v _ (given c a n x r q d active says_it e comes takes reads hands) = d
 where_reached v _ (filled c a r x q d active fill comes list receives is held) = d
 where_reached v _ (led c a r d h active comes e) = tt
 where_reached v _ (passed c a r d g p q h active comes e scene among held) = led c a r d h active comes e

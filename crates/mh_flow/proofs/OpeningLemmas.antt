@@ -18,7 +18,7 @@ use Rattle.mh_laws.specs.Describing.{says}
 use Rattle.mh_laws.specs.Flow.{is_reference_in}
 use Rattle.mh_flow.specs.declared.chart.Bases.{Bases}
 use Rattle.mh_flow.specs.Chart.{Chart, IsChart, argument_of, handed_argument}
-use Rattle.mh_flow.specs.Opening.{by_variable, does_through, given_by, handed_on}
+use Rattle.mh_flow.specs.Opening.{by_variable, does_through}
 use Rattle.mh_flow.specs.Sites.{Site, sites_of}
 use Rattle.mh_flow.proofs.BridgeLemmas.{untargeted_opens_nothing}
 use Rattle.mh_flow.proofs.SiteLemmas.{behind, through_active}
@@ -30,15 +30,6 @@ some_next {X} {Y} {Z} g f x xs = by (g x)
     by : (o : Option Y) → flat_map f (option_to_list o) ++ flat_map f (filter_map g xs) ≡ flat_map f (cons_option o (filter_map g xs))
     by None = refl
     by (Some y) = ap (λ (t : List Z). t ++ flat_map f (filter_map g xs)) (append-nil (f y))
-
--- an action hands on one argument at most
-pub given_once : (v : Service) (ch : Chart) (c : Config) (b : Bases) (r : ObjRef) (a : Act) → flat_map (handed_on v ch c b r) (option_to_list (handed_argument a)) ≡ flat_map (given_by v ch c b r a.arguments) (says a.name)
-given_once v ch c b r a = by a.name a.arguments
-  where
-    by : (n : ActionName) (xs : List Argument) → flat_map (handed_on v ch c b r) (option_to_list (argument_of (says n) xs)) ≡ flat_map (given_by v ch c b r xs) (says n)
-    by action.SetVariable xs = sym (append-nil _)
-    by action.AddItem xs = sym (append-nil _)
-    by _ xs = refl
 
 -- what the objects of a configuration hold at first, and what its actions do
 pub reached_put : {X : Type 0} (f : Fixed → List X) (g : Act → List X) (old one two three : List X) (ps qs all : List Fixed) (xs : List Site) → one ≡ old ++ flat_map f ps → two ≡ one ++ flat_map f qs → three ≡ two ++ flat_map (λ x. g x.act) xs → ps ++ qs ≡ all → xs ≡ sites_of all → three ≡ old ++ (flat_map f all ++ flat_map g (active_actions all))

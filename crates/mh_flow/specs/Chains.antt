@@ -18,7 +18,7 @@ use Rattle.mh_model.specs.Service.{Service, group_parts}
 use Rattle.mh_laws.specs.Active.{leads_to}
 use Rattle.mh_laws.specs.Describing as saying
 use Rattle.mh_laws.specs.Describing.{says}
-use Rattle.mh_laws.specs.Flow.{fills, is_given, is_list_in, is_reference_in}
+use Rattle.mh_laws.specs.Flow.{fills, is_given, is_list_in, is_reference_in, reads_reference}
 use Rattle.mh_laws.specs.Least.{Derived, Reached, Comes, by_reference}
 use Rattle.mh_flow.specs.declared.link.Link.{Link}
 use Rattle.mh_flow.specs.Chart.{firsts}
@@ -52,7 +52,7 @@ pub data Brings (v : Service) (q : ObjRef) : List Link → Config → ObjRef →
       → Brings v q (site_link x r ∷ []) c r
   read : (ls : List Link) (c : Config) (x : Site) (r y : ObjRef) (n : ℕ) (k : Option Kind) → IsDone v c x r
       → Contains (says x.act.name) (saying.Hands n) → slice_get x.act.arguments n ≡ Some (argument.Through y k)
-      → is_given (present v c) x.act.name r ≡ true → is_reference_in (present v c) y ≡ true → Brings v q ls c y
+      → is_given (present v c) x.act.name r ≡ true → reads_reference (argument.Through y k) x.act.name ≡ true → is_reference_in (present v c) y ≡ true → Brings v q ls c y
       → Brings v q (ls ++ site_link x r ∷ []) c r
   filled : (ls : List Link) (c : Config) (x : Site) (r y : ObjRef) → IsDone v c x r → fills x.act.name ≡ true
       → is_list_in (present v c) r ≡ true → Contains (receivers x.act.arguments) y → is_reference_in (present v c) y ≡ true

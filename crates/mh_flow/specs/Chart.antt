@@ -25,7 +25,7 @@ use Rattle.mh_model.specs.Reference.{same_ref}
 use Rattle.mh_model.specs.Service.{Service, fresh, group_parts}
 use Rattle.mh_model.specs.Tokens.{members}
 use Rattle.mh_laws.specs.Describing.{Hands, Says, says}
-use Rattle.mh_laws.specs.Flow.{refers}
+use Rattle.mh_laws.specs.Flow.{refers, reads_reference}
 use Rattle.mh_laws.specs.Least.{are_ascending}
 use Rattle.mh_flow.specs.Index.{AreNamed, Home, indexed}
 use Rattle.mh_flow.specs.declared.chart.Bases.{Bases}
@@ -71,13 +71,19 @@ abbrev pub written_reference : Argument → List ObjRef
 written_reference (argument.Direct (value.Object q)) = q ∷ []
 written_reference _ = []
 
--- the argument that an action hands on, if it hands one on
+-- the argument with which an action can hand a reference on, if there is one
 abbrev pub argument_of : List Says → List Argument → Option Argument
 argument_of [] xs = None
 argument_of (Hands n ∷ ss) xs = slice_get xs n
 
+-- such an argument, where the action reads it as a reference
+abbrev pub read_by : ActionName → Option Argument → Option Argument
+read_by n None = None
+read_by n (Some x) = if reads_reference x n then Some x else None
+
+-- the argument that an action hands on as a reference, if it hands one on
 abbrev pub handed_argument : Act → Option Argument
-handed_argument a = argument_of (says a.name) a.arguments
+handed_argument a = read_by a.name (argument_of (says a.name) a.arguments)
 
 -- the references that are written where an action hands one on
 abbrev pub handed_by : List Says → List Argument → List ObjRef

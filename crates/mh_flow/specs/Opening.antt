@@ -26,7 +26,7 @@ use Rattle.mh_flow.specs.declared.net.Fact.{Fact}
 use Rattle.mh_flow.specs.declared.net.Item.{Item}
 use Rattle.mh_flow.specs.declared.net.Item.TheVariants as item
 use Rattle.mh_flow.specs.declared.chart.Bases.{Bases}
-use Rattle.mh_flow.specs.Chart.{Chart, config_number, firsts, member_of, node_from}
+use Rattle.mh_flow.specs.Chart.{Chart, config_number, firsts, member_of, node_from, handed_argument}
 use Rattle.mh_flow.specs.Net.{Net}
 
 -- a service with its numbers
@@ -75,12 +75,9 @@ handed_on v ch c b r (argument.Direct x) = []
 handed_on v ch c b r (argument.Through x k) = read_from v c b r x
 handed_on v ch c b r (argument.Receiver x) = []
 
-abbrev pub given_by : Service → Chart → Config → Bases → ObjRef → List Argument → Says → List Item
-given_by v ch c b r xs (Hands n) = flat_map (handed_on v ch c b r) (option_to_list (slice_get xs n))
-
 abbrev pub given : Service → Chart → Config → Bases → Act → ObjRef → List Item
 given v ch c b a r =
-    if is_given (present v c) a.name r then flat_map (given_by v ch c b r a.arguments) (says a.name) else []
+    if is_given (present v c) a.name r then flat_map (handed_on v ch c b r) (option_to_list (handed_argument a)) else []
 
 -- the variable receives what the object has
 abbrev pub filled_in : Service → Chart → Config → Bases → ObjRef → ObjRef → List Item

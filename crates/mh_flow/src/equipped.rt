@@ -77,6 +77,13 @@ impl<'a> Equipped<'a> {
         groups
     }
 
+    /// The scenes whose files come late.
+    pub fn late(&self) -> &'a [GroupName]
+        ensures { result.now ≡ self.now.late }
+    {
+        self.service.late()
+    }
+
     /// The name of the application that is started first.
     pub fn start(&self) -> &'a GroupName
         ensures { result.now ≡ self.now.start }

@@ -288,7 +288,6 @@ impl<'a> Place<'a> {
     }
 
     /// What the action hands on goes to the object.
-    #[tactic(auto, using(crate::proofs::OpeningLemmas::given_once))]
     fn push_given(&self, items: &mut Vec<Item>, act: &Act, at: &ObjRef) -> Result<(), AllocError>
         ensures { let p = self.now in OnOk result (items.new.items ≡ items.old.items
             ++ spec.given p.service p.chart p.config p.bases act.now at.now) }

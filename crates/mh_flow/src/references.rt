@@ -8,27 +8,55 @@ ghost use Rattle.mh_model.specs.Property.{as_reference};
 ghost use Rattle.mh_model.specs.Reference.{same_ref};
 ghost use Rattle.mh_laws.specs.Least as order;
 ghost use Rattle.mh_flow.specs.Chart as spec;
+ghost use Rattle.mh_laws.specs.Flow.{reads_reference};
+ghost use Rattle.mh_model.specs.Variables.{same_kind};
 
 use crate::equipped::Equipped;
 use crate::present::{is_list, refers};
 use crate::sites::{Site, members, sites};
 use indexmap::IndexSet;
-use mh_base::{ObjRef, Value};
+use mh_base::{Kind, ObjRef, Value};
 use mh_group::{ActionName, Attribute};
 use mh_model::held::as_value;
 use mh_model::{Act, Argument, Fixed, FixedPart, Member, Target};
 use std::alloc::{AllocError, Global};
 use std::cmp::Ordering;
 
-/// The argument that the action hands on, if it hands one on.
+/// The argument that the action hands on as a reference, if it hands one on.
 pub(crate) fn handed(act: &Act) -> Option<&Argument>
     ensures { option_copied result ≡ spec.handed_argument act.now }
 {
     match act.name {
-        ActionName::SetVariable => act.arguments.as_slice().get(0),
+        ActionName::SetVariable => read(act.arguments.as_slice().get(0)),
         ActionName::AddItem => act.arguments.as_slice().get(1),
         _ => None,
     }
+}
+
+/// The value to which a variable is set, unless it is that of another variable and not written as an object's.
+fn read(value: Option<&Argument>) -> Option<&Argument>
+    ensures { option_copied result ≡ spec.read_by ActionName.SetVariable (option_copied value.entry) }
+{
+    match value {
+        Some(argument) if !is_reference(argument) => None,
+        _ => value,
+    }
+}
+
+fn is_reference(value: &Argument) -> bool
+    ensures { result ≡ reads_reference value.now ActionName.SetVariable }
+{
+    match value {
+        Argument::Through(_, Some(kind)) => is_object(*kind),
+        Argument::Through(_, None) => false,
+        _ => true,
+    }
+}
+
+fn is_object(kind: Kind) -> bool
+    ensures { result ≡ same_kind Kind.Object kind }
+{
+    matches!(kind, Kind::Object)
 }
 
 /// Puts a reference among these, if it is not there.

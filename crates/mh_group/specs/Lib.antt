@@ -2,3 +2,4 @@ pub mod Words
 pub mod Table
 pub mod Fit
 pub mod Holdable
+pub mod Same

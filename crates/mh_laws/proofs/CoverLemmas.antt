@@ -7,40 +7,39 @@ use Rattle.mh_model.specs.declared.object.Fixed.{Fixed}
 use Rattle.mh_model.specs.Configuration.{present}
 use Rattle.mh_model.specs.Reference.{same_ref}
 use Rattle.mh_model.specs.Service.{Service}
-use Rattle.mh_laws.specs.Active.{is_active}
-use Rattle.mh_laws.specs.Costs.{Costing, acts_price, effect, effect_at, effects, first_slot, slot_numbers}
-use Rattle.mh_laws.specs.Each.{Among, Each}
+use Rattle.mh_laws.specs.Costs.{Costing, acts_price, effect_at, effects, first_slot, slot_numbers}
+use Rattle.mh_laws.specs.Each.{Among}
 use Rattle.mh_laws.specs.Flow.{Flow, reached}
 use Rattle.mh_laws.specs.Layers.{Covers}
-use Rattle.mh_laws.specs.Price.{worth}
 use Rattle.mh_laws.specs.Ways.{slots_of}
 use Rattle.mh_laws.proofs.EachLemmas.{among_each, among_filtered, among_range}
 use Rattle.mh_laws.proofs.NodeLemmas.{is_on}
 use Rattle.mh_laws.proofs.PriceLemmas.{among_most, le_trans}
 use Rattle.mh_laws.proofs.SetLemmas.{same_itself}
+use Rattle.mh_laws.specs.Price as priced
+use Rattle.mh_laws.specs.Weighing.{AreCovered, CoversAll, IsActiveCovered, Weights, acts_cost}
 
 -- What is covered
 
--- the effects of an object
-abbrev pub IsPartCovered : Service → Flow → Costing → Config → Fixed → Type 0
-IsPartCovered v w f c p = (n : ℕ) → n < length (effects p) → worth f (acts_price v w c (effect_at p n)) ≤ worth f (effect c n p)
+pub covered_here : (v : Service) (w : Flow) (f : Weights) (c : Config) → CoversAll v w f → reached w c ≡ true → AreCovered v w f c (present v c) (present v c)
+covered_here v w f c covers reached_it = covers c reached_it
 
--- and where they are active
-abbrev pub IsActiveCovered : Service → Flow → Costing → Config → List Fixed → Fixed → Type 0
-IsActiveCovered v w f c all p = is_active all p ≡ true → IsPartCovered v w f c p
+-- where nothing is marked
+abbrev pub unmarked : Costing → Weights
+unmarked f = record { cost = f; mark = λ c a. 0; wakes = λ r. true; may = λ e. true }
 
--- those of the active among these
-abbrev pub AreCovered : Service → Flow → Costing → Config → List Fixed → List Fixed → Type 0
-AreCovered v w f c all ps = Each (IsActiveCovered v w f c all) ps
+unmarked_acts : (v : Service) (w : Flow) (f : Costing) (c : Config) (e : List Act) → acts_cost v w (unmarked f) c e ≤ priced.worth f (acts_price v w c e)
+unmarked_acts v w f c [] = omega arith
+unmarked_acts v w f c (a ∷ e) = let h = unmarked_acts v w f c e in omega (arith, h)
 
-pub covered_here : (v : Service) (w : Flow) (f : Costing) (c : Config) → Covers v w f → reached w c ≡ true → AreCovered v w f c (present v c) (present v c)
-covered_here v w f c covers reached_it = among_each (IsActiveCovered v w f c (present v c)) (present v c) one
+pub unmarked_covers : (v : Service) (w : Flow) (f : Costing) → Covers v w f → CoversAll v w (unmarked f)
+unmarked_covers v w f covers c reached_it = among_each (IsActiveCovered v w (unmarked f) c (present v c)) (present v c) one
   where
-    one : (p : Fixed) → Among (present v c) p → IsActiveCovered v w f c (present v c) p
-    one p there active n less =
+    one : (p : Fixed) → Among (present v c) p → IsActiveCovered v w (unmarked f) c (present v c) p
+    one p there active awake n less =
         let whole = covers (record { config = c; object = p.key; number = n }) (is_on v w c p n reached_it there active less) in
         let own = among_most f (λ (q : Fixed). acts_price v w c (effect_at q n)) (filter (λ (q : Fixed). same_ref p.key q.key) (present v c)) p (among_filtered (λ (q : Fixed). same_ref p.key q.key) (present v c) p (same_itself p.key) there) in
-        le_trans _ _ _ own whole
+        le_trans _ _ _ (le_trans _ _ _ (unmarked_acts v w f c (effect_at p n)) own) whole
 
 -- Slots
 

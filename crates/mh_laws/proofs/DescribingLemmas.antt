@@ -26,7 +26,8 @@ use Rattle.mh_model.specs.Variables.{operator_of}
 use Rattle.mh_model.specs.EntryFields.{button_worked}
 use Rattle.mh_model.specs.Items.{acts, plain_event}
 use Rattle.mh_model.specs.Listed.{Listed}
-use Rattle.mh_model.specs.Lists.{Shown, shows, is_shown, halted_members, run_members, are_same, truth_told, count_told, list_events, list_items, relisted, list_changed, list_worked, other_marked, item_event, unmark_items, selection_wanted, selection_by, selection_at, selection_worked}
+use Rattle.mh_group.specs.Same.{are_same}
+use Rattle.mh_model.specs.Lists.{Shown, shows, is_shown, halted_members, run_members, truth_told, count_told, list_events, list_items, relisted, list_changed, list_worked, other_marked, item_event, unmark_items, selection_wanted, selection_by, selection_at, selection_worked}
 use Rattle.mh_model.specs.Programs.{counted}
 use Rattle.mh_model.specs.Saying.{event_numbered, sent, tested, put_items, load_items, interaction_items}
 use Rattle.mh_model.specs.Tokens.{token_wanted, can_turn, turned, slot_actions, slot_of, slot_items}

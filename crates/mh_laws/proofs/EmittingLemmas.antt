@@ -26,7 +26,8 @@ use Rattle.mh_model.specs.declared.operator.Operator.{Operator}
 use Rattle.mh_model.specs.declared.file.File.{File}
 use Rattle.mh_model.specs.Items.{plain_event}
 use Rattle.mh_model.specs.Lifecycle.{is_available_at, emit_if, members_run, members_halted, group_runs, group_halts, token_told, running_items, stopping_items, started_items, halt_items, prepare_items, run_items}
-use Rattle.mh_model.specs.Lists.{Shown, nothing_shown, shows, is_shown, are_same, truth_told, count_told, halted_members, run_members, list_items}
+use Rattle.mh_group.specs.Same.{are_same}
+use Rattle.mh_model.specs.Lists.{Shown, nothing_shown, shows, is_shown, truth_told, count_told, halted_members, run_members, list_items}
 use Rattle.mh_model.specs.Programs.{counted}
 use Rattle.mh_model.specs.Property.{read_of, value_held}
 use Rattle.mh_model.specs.Tokens.{members}

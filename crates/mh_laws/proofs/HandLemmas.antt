@@ -34,7 +34,7 @@ use Rattle.mh_model.specs.Service.{part_at, object_at}
 use Rattle.mh_model.specs.State.{State, all}
 use Rattle.mh_model.specs.Variables.{variable_kind, same_kind, converts}
 use Rattle.mh_laws.specs.Describing.{Says, Hands, says, IsSaid}
-use Rattle.mh_laws.specs.Flow.{has, Flow, refers, is_holder, MayHand, is_given}
+use Rattle.mh_laws.specs.Flow.{has, Flow, refers, is_holder, MayHand, is_given, reads_reference}
 use Rattle.mh_laws.specs.Safe.{config_of, IsSafeBy}
 use Rattle.mh_model.proofs.ListLemmas.{empty_left, empty_right, some_same, found}
 use Rattle.mh_model.proofs.PartLemmas.{part_at-parts}
@@ -73,15 +73,23 @@ is_kind kind.Int e = absurd cc
 is_kind kind.Octets e = absurd cc
 is_kind kind.Content e = absurd cc
 
+-- what is set is written as an object's value
+set_as_object : (k : Known) (t : Target) (xs : List Argument) (r v : ObjRef) (c : Class) (u : Option Kind) → targets k t ≡ r ∷ [] → k.class_of r ≡ Some c → refers c ≡ true → argument_wrongs k (record { name = action.SetVariable; target = t; arguments = xs }) need.Typed (argument.Through v u) ≡ [] → option_map_or (same_kind kind.Object) u false ≡ true
+set_as_object k t xs r v c None at of_class is e = absurd cc
+set_as_object k t xs r v c (Some u) at of_class is e =
+    let first = variable_wrongs (same_kind u) v (k.class_of v) in
+    let takes_it = λ (x : Kind). goes_with action.SetVariable x u in
+    let there = subst (λ (rs : List ObjRef). flat_map (untaken_through k takes_it v) rs ≡ []) at (empty_right first (flat_map (untaken_through k takes_it v) (targets k t)) e) in
+    let takes = holds_unless (target_takes takes_it (k.class_of r)) reason.WrongKind None v (empty_left (untaken_through k takes_it v r) [] there) in
+    kind_converts (variable_kind c) u is (sym (ap (target_takes takes_it) of_class) ∙ takes)
+
 -- a variable through which a reference is set is one of references
 set_variable : (k : Known) (t : Target) (xs : List Argument) (r v : ObjRef) (c : Class) (u : Option Kind) → targets k t ≡ r ∷ [] → k.class_of r ≡ Some c → refers c ≡ true → argument_wrongs k (record { name = action.SetVariable; target = t; arguments = xs }) need.Typed (argument.Through v u) ≡ [] → option_map_or refers (k.class_of v) false ≡ true
 set_variable k t xs r v c None at of_class is e = absurd cc
 set_variable k t xs r v c (Some u) at of_class is e =
     let first = variable_wrongs (same_kind u) v (k.class_of v) in
     let takes_it = λ (x : Kind). goes_with action.SetVariable x u in
-    let there = subst (λ (rs : List ObjRef). flat_map (untaken_through k takes_it v) rs ≡ []) at (empty_right first (flat_map (untaken_through k takes_it v) (targets k t)) e) in
-    let takes = holds_unless (target_takes takes_it (k.class_of r)) reason.WrongKind None v (empty_left (untaken_through k takes_it v r) [] there) in
-    let same = is_kind u (kind_converts (variable_kind c) u is (sym (ap (target_takes takes_it) of_class) ∙ takes)) in
+    let same = is_kind u (set_as_object k t xs r v c (Some u) at of_class is e) in
     subst (λ (x : Kind). option_map_or (λ (y : Class). option_map_or (same_kind x) (variable_kind y) false) (k.class_of v) false ≡ true) (sym same)
     (fit_variable (same_kind u) v (k.class_of v) (empty_left first (flat_map (untaken_through k takes_it v) (targets k t)) e))
 
@@ -119,6 +127,19 @@ hand_variable k action.AddItem t xs r v c u i at of_class is ad good says_it e =
         named_variable k a v u
         (subst (λ (z : Argument). argument_wrongs k a need.Ref z ≡ []) (some_same e) (empty_left (argument_wrongs k a need.Ref y) _ (empty_right (argument_wrongs k a need.Int x) (arguments_wrongs k a (need.Ref ∷ []) (y ∷ ys)) good)))
 hand_variable k _ t xs r v c u i at of_class is ad good says_it e = let never = none_contained (Hands i) says_it in absurd cc
+
+-- what is handed on through a variable is read as a reference
+hand_reads : (k : Known) (n : ActionName) (t : Target) (xs : List Argument) (r v : ObjRef) (c : Class) (u : Option Kind) (i : ℕ) → targets k t ≡ r ∷ [] → k.class_of r ≡ Some c → is_holder c ≡ true → admits c n ≡ true → arguments_wrongs k (record { name = n; target = t; arguments = xs }) (needs_of n) xs ≡ [] → Contains (says n) (Hands i) → slice_get xs i ≡ Some (argument.Through v u) → reads_reference (argument.Through v u) n ≡ true
+hand_reads k action.SetVariable t xs r v c u i at of_class is ad good says_it e =
+    by xs (subst (λ (j : ℕ). slice_get xs j ≡ Some (argument.Through v u)) (sym (the_one 0 i says_it)) e) good
+  where
+    by : (ys : List Argument) → slice_get ys 0 ≡ Some (argument.Through v u) → arguments_wrongs k (record { name = action.SetVariable; target = t; arguments = xs }) (need.Typed ∷ []) ys ≡ [] → option_map_or (same_kind kind.Object) u false ≡ true
+    by [] e good = absurd cc
+    by (y ∷ ys) e good =
+        set_as_object k t xs r v c u at of_class (variable_refers c is ad)
+        (subst (λ (z : Argument). argument_wrongs k (record { name = action.SetVariable; target = t; arguments = xs }) need.Typed z ≡ []) (some_same e) (empty_left (argument_wrongs k (record { name = action.SetVariable; target = t; arguments = xs }) need.Typed y) _ good))
+hand_reads k action.AddItem t xs r v c u i at of_class is ad good says_it e = refl
+hand_reads k _ t xs r v c u i at of_class is ad good says_it e = let never = none_contained (Hands i) says_it in absurd cc
 
 plain_says : (n : ActionName) (i : ℕ) → Contains (says n) (Hands i) → is_transition n ≡ false
 plain_says action.TransitionTo i h = let never = none_contained (Hands i) h in absurd cc
@@ -251,12 +272,13 @@ given_held {fw} s k a r o q so e is said = subst (λ (x : ObjRef). has (sets_of 
     takes_it : is_given (parts_of s) a.name r ≡ true
     takes_it = ap (λ (m : Option Class). option_map_or (λ (c : Class). admits c a.name && is_holder c) m false) (class_now s k r o e) ∙ both_true ad is
 
-    given : (y : Argument) → slice_get a.arguments saying.0 ≡ Some y → MayHand (sets_of s k) (parts_of s) y q → has (sets_of s k) r q ≡ true
-    given y stands hands = so.fine.keeps.given saying.0 y r q saying.1 stands so.may takes_it hands
+    given : (y : Argument) → slice_get a.arguments saying.0 ≡ Some y → reads_reference y a.name ≡ true → MayHand (sets_of s k) (parts_of s) y q → has (sets_of s k) r q ≡ true
+    given y stands reads hands = so.fine.keeps.given saying.0 y r q saying.1 stands so.may takes_it reads hands
 
     by : (y : Argument) → slice_get a.arguments saying.0 ≡ Some y → value_in (all s.objects) y ≡ Some (value.Object q) → has (sets_of s k) r q ≡ true
-    by (argument.Direct v) stands is_it = given (argument.Direct v) stands (some_same is_it)
+    by (argument.Direct v) stands is_it = given (argument.Direct v) stands refl (some_same is_it)
     by (argument.Through v u) stands is_it =
         let refers_it = hand_variable (known_now s) a.name a.target a.arguments r v o.fixed.class u saying.0 so.at (class_now s k r o e) is ad so.good saying.1 stands in
-        given (argument.Through v u) stands (refers_it, possible_now s k v q refers_it (ap as_reference is_it))
+        let reads_it = hand_reads (known_now s) a.name a.target a.arguments r v o.fixed.class u saying.0 so.at (class_now s k r o e) is ad so.good saying.1 stands in
+        given (argument.Through v u) stands reads_it (refers_it, possible_now s k v q refers_it (ap as_reference is_it))
     by (argument.Receiver v) stands is_it = absurd cc

@@ -51,7 +51,7 @@ found_key r (x ∷ os) o e = by (is_at r x) refl (λ rest. found_key r os o rest
 pub class_found : (r : ObjRef) (os : List Object) (o : Object) → object_at r os ≡ Some o → class_at r (parts os) ≡ Some o.fixed.class
 class_found r os o e = ap (option_map (λ (p : Fixed). p.class)) (part_at-parts r os ∙ ap (option_map (λ (x : Object). x.fixed)) e)
 
-none_found : (r : ObjRef) (os : List Object) → list_any (is_at r) os ≡ false → object_at r os ≡ None
+pub none_found : (r : ObjRef) (os : List Object) → list_any (is_at r) os ≡ false → object_at r os ≡ None
 none_found r [] e = refl
 none_found r (o ∷ os) e = by (is_at r o) e (none_found r os)
   where

@@ -16,7 +16,8 @@ use Rattle.mh_model.specs.EntryFields.{highlit, button_set, button_worked}
 use Rattle.mh_model.specs.Items.{plain_event}
 use Rattle.mh_model.specs.ListItems.{has_item}
 use Rattle.mh_model.specs.Listed.{Listed}
-use Rattle.mh_model.specs.Lists.{are_same, relisted, list_changed, list_worked, marked_at, other_marked, unmarked, selection_wanted, selection_by, selection_at, selection_worked}
+use Rattle.mh_group.specs.Same.{are_same}
+use Rattle.mh_model.specs.Lists.{relisted, list_changed, list_worked, marked_at, other_marked, unmarked, selection_wanted, selection_by, selection_at, selection_worked}
 use Rattle.mh_model.specs.Programs.{counted}
 use Rattle.mh_model.specs.Reference.{same_ref}
 use Rattle.mh_model.specs.Tokens.{token_wanted, can_turn, turned}

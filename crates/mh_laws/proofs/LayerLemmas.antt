@@ -16,7 +16,7 @@ use Rattle.mh_laws.proofs.NodeLemmas.{effect_nodes}
 use Rattle.mh_laws.proofs.PriceLemmas.{le_trans, nodes_both, nodes_map, nodes_of, worth_same}
 
 -- what an active effect counts is active, and is of a lower layer
-lower_nodes : (v : Service) (w : Flow) (rank : Effect → ℕ) (x : Effect) → is_service v ≡ true → IsLayering v w rank → IsOn v w x → Nodes (λ y. IsOn v w y × (rank y < rank x)) (effect_price v w x)
+pub lower_nodes : (v : Service) (w : Flow) (rank : Effect → ℕ) (x : Effect) → is_service v ≡ true → IsLayering v w rank → IsOn v w x → Nodes (λ y. IsOn v w y × (rank y < rank x)) (effect_price v w x)
 lower_nodes v w rank x good layering on =
     nodes_both (IsOn v w) (λ y. rank y < rank x) (effect_price v w x) (effect_nodes v w x good on)
     (nodes_of (λ y. rank y < rank x) (effect_price v w x) (λ y counted. layering x y on counted))

@@ -26,7 +26,7 @@ use Rattle.mh_model.specs.Items.{acts, plain_event}
 use Rattle.mh_model.specs.Lifecycle.{is_available_at, emit_if}
 use Rattle.mh_model.specs.Property.{as_effect, held}
 use Rattle.mh_model.specs.Reference.{group_ref}
-use Rattle.mh_model.specs.Rules.{rule_by, load_rule, loaded_with, widget_at, quit_before, way_out, transition_rule}
+use Rattle.mh_model.specs.Rules.{rule_by, load_rule, loaded_with, widget_at, quit_before, way_out, transition_rule, is_begun, leads_to_late, begins_or_waits}
 use Rattle.mh_model.specs.Saying.{put_items_at, load_items}
 use Rattle.mh_model.specs.Service.{object_at, part_at, group_parts, with_parts}
 use Rattle.mh_model.specs.Sort.{sort_of}
@@ -172,24 +172,40 @@ sort_stays sort.Whole n xs r o s found h = whole_stays n xs r o s h
 abbrev Begun : ActionName → List Argument → ObjRef → State → Type 0
 Begun n xs r s = (rule_by (sort_of n) n xs r s).work ≡ s.work
 
-begun_keeps : (n : ActionName) (xs : List Argument) (r : ObjRef) (s : State) → is_transition n ≡ true → s.transition ≡ true → Begun n xs r s
-begun_keeps action.TransitionTo xs r s h b = ap (λ (t : Bool). if t then s.work else way_out action.TransitionTo r s) b
-begun_keeps action.Launch xs r s h b = ap (λ (t : Bool). if t then s.work else way_out action.Launch r s) b
-begun_keeps action.Quit xs r s h b = ap (λ (t : Bool). if t then s.work else way_out action.Quit r s) b
+work_of : (n : ActionName) (r : ObjRef) (s : State) → is_begun s.transition ≡ true → (transition_rule n r s).work ≡ s.work
+work_of n r s b = ap (λ (t : Bool). (if t then s else begins_or_waits (leads_to_late n r s) n r s).work) b
+
+-- one that waits
+waiting_keeps : (n : ActionName) (xs : List Argument) (r : ObjRef) (s : State) → leads_to_late n r s ≡ true → Begun n xs r s
+waiting_keeps action.TransitionTo xs r s late = by (is_begun s.transition) ∙ ap (λ (t : Bool). (begins_or_waits t action.TransitionTo r s).work) late
+  where
+    -- whether one has begun or not
+    by : (t : Bool) → (if t then s else begins_or_waits (leads_to_late action.TransitionTo r s) action.TransitionTo r s).work ≡ (begins_or_waits (leads_to_late action.TransitionTo r s) action.TransitionTo r s).work
+    by true = sym (ap (λ (t : Bool). (begins_or_waits t action.TransitionTo r s).work) late)
+    by false = refl
+waiting_keeps _ xs r s late = absurd cc
+
+begun_keeps : (n : ActionName) (xs : List Argument) (r : ObjRef) (s : State) → is_transition n ≡ true → is_begun s.transition ≡ true → Begun n xs r s
+begun_keeps action.TransitionTo xs r s h b = work_of action.TransitionTo r s b
+begun_keeps action.Launch xs r s h b = work_of action.Launch r s b
+begun_keeps action.Quit xs r s h b = work_of action.Quit r s b
 begun_keeps _ xs r s h b = absurd cc
 
-leads_by : (n : ActionName) (r : ObjRef) (s : State) → is_transition n ≡ true → s.transition ≡ false → Leads (way_in n r) (transition_rule n r s).work
-leads_by n r s h b = subst (λ (t : Bool). Leads (way_in n r) (if t then s.work else way_out n r s)) (sym b) (way_leads n r s h)
+leads_by : (n : ActionName) (r : ObjRef) (s : State) → is_transition n ≡ true → is_begun s.transition ≡ false → leads_to_late n r s ≡ false → Leads (way_in n r) (transition_rule n r s).work
+leads_by n r s h b late =
+    subst (λ (t : Bool). Leads (way_in n r) (if t then s else begins_or_waits (leads_to_late n r s) n r s).work) (sym b)
+    (subst (λ (t : Bool). Leads (way_in n r) (begins_or_waits t n r s).work) (sym late) (way_leads n r s h))
 
-leads_to : (n : ActionName) (xs : List Argument) (r : ObjRef) (o : Object) (s : State) → is_transition n ≡ true → s.transition ≡ false → Leads (items_by (sort_of n) s.files (is_interacting r s.interaction) n (values (all s.objects) xs) r o) (rule_by (sort_of n) n xs r s).work
-leads_to action.TransitionTo xs r o s h b = leads_by action.TransitionTo r s refl b
-leads_to action.Launch xs r o s h b = leads_by action.Launch r s refl b
-leads_to action.Quit xs r o s h b = leads_by action.Quit r s refl b
-leads_to _ xs r o s h b = absurd cc
+leads_to : (n : ActionName) (xs : List Argument) (r : ObjRef) (o : Object) (s : State) → is_transition n ≡ true → is_begun s.transition ≡ false → leads_to_late n r s ≡ false → Leads (items_by (sort_of n) s.files (is_interacting r s.interaction) n (values (all s.objects) xs) r o) (rule_by (sort_of n) n xs r s).work
+leads_to action.TransitionTo xs r o s h b late = leads_by action.TransitionTo r s refl b late
+leads_to action.Launch xs r o s h b late = leads_by action.Launch r s refl b late
+leads_to action.Quit xs r o s h b late = leads_by action.Quit r s refl b late
+leads_to _ xs r o s h b late = absurd cc
 
 pub rules_put : PutsByItsRule
 rules_put n xs r o s found = record {
   stays = sort_stays (sort_of n) n xs r o s found;
   begun = begun_keeps n xs r s;
+  waits = waiting_keeps n xs r s;
   leads = leads_to n xs r o s;
 }

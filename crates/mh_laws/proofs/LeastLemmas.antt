@@ -27,9 +27,9 @@ derived_in_each v w k x (original_value c p q at among is e) =
     (each_contained (λ p. IsHeld (w.sets c) (fresh p)) (present v c) p (k.original c (derived_in_each v w k (Reached c) at)) among).value is q e
 derived_in_each v w k x (original_item c p q at among is e) =
     (each_contained (λ p. IsHeld (w.sets c) (fresh p)) (present v c) p (k.original c (derived_in_each v w k (Reached c) at)) among).items is q e
-derived_in_each v w k x (given c a n y r q at among says_it stands comes takes hands) =
+derived_in_each v w k x (given c a n y r q at among says_it stands comes takes reads hands) =
     (each_contained (Keeps (w.sets c) (present v c)) (active_actions (present v c)) a (k.keeps c (derived_in_each v w k (Reached c) at)) among).given n y r q says_it stands
-    (derived_in_each v w k (Comes c a.target r) comes) takes (derived_in_each v w k (Hands c y q) hands)
+    (derived_in_each v w k (Comes c a.target r) comes) takes reads (derived_in_each v w k (Hands c y q) hands)
 derived_in_each v w k x (filled c a r y q at among fill comes list receives is h) =
     (each_contained (Keeps (w.sets c) (present v c)) (active_actions (present v c)) a (k.keeps c (derived_in_each v w k (Reached c) at)) among).filled r y q fill
     (derived_in_each v w k (Comes c a.target r) comes) list receives is (derived_in_each v w k (Held c r q) h)

@@ -34,6 +34,7 @@ pub mod SafeLemmas
 pub mod RefusedLemmas
 pub mod ReceiverLemmas
 pub mod PriceLemmas
+pub mod WeighLemmas
 pub mod WayLemmas
 pub mod FitLemmas
 pub mod SumLemmas
@@ -51,3 +52,6 @@ pub mod BudgetLemmas
 pub mod SettleLemmas
 pub mod NodeLemmas
 pub mod LayerLemmas
+pub mod RunningLemmas
+pub mod SayingLemmas
+pub mod NeverLemmas

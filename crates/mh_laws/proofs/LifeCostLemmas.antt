@@ -30,9 +30,9 @@ use Rattle.mh_model.specs.Property.{read_of}
 use Rattle.mh_model.specs.Service.{Service}
 use Rattle.mh_model.specs.Tokens.{members}
 use Rattle.mh_model.specs.Widget.{event_with}
-use Rattle.mh_laws.specs.Costs.{Costing, change, emit, group_halt, group_run, halt_alone, item_price, plain_emit, rise_of, run_alone, work_cost}
+use Rattle.mh_laws.specs.Costs.{change, emit, group_halt, group_run, halt_alone, item_price, plain_emit, rise_of, run_alone}
 use Rattle.mh_laws.specs.Flow.{Flow}
-use Rattle.mh_laws.specs.Price.{if_price, sum_price, worth}
+use Rattle.mh_laws.specs.Price.{if_price, sum_price}
 use Rattle.mh_laws.specs.Ways.{AreListTold, IsChange, IsNoMore, Sure, Unsure, count_of}
 use Rattle.mh_laws.proofs.CountLemmas.{count_filter, count_shown}
 use Rattle.mh_laws.proofs.FiredLemmas.{told_fits}
@@ -40,13 +40,14 @@ use Rattle.mh_laws.proofs.FitLemmas.{Fits, fits_as, fits_both, fits_less, fits_n
 use Rattle.mh_laws.proofs.PriceLemmas.{le_trans}
 use Rattle.mh_laws.proofs.SumLemmas.{sum_within}
 use Rattle.mh_laws.proofs.WayLemmas.{events_told}
+use Rattle.mh_laws.specs.Weighing.{Weights, work_cost, worth}
 
 -- an item alone, of which the configuration stays
-pub one_item : (v : Service) (w : Flow) (f : Costing) (c : Config) (i : Item) → ((rest : List Item) → work_cost v w f c (i ∷ rest) ≡ worth f (item_price v w c i) + work_cost v w f c rest) → Fits v w f c (i ∷ []) (worth f (item_price v w c i))
+pub one_item : (v : Service) (w : Flow) (f : Weights) (c : Config) (i : Item) → ((rest : List Item) → work_cost v w f c (i ∷ rest) ≡ worth f (item_price v w c i) + work_cost v w f c rest) → Fits v w f c (i ∷ []) (worth f (item_price v w c i))
 one_item v w f c i is rest = let same = is rest in omega (arith, same)
 
 -- an event without data, if it comes
-pub emit_if_fits : (v : Service) (w : Flow) (f : Costing) (c : Config) (b : Bool) (r : ObjRef) (kind : EventType) → Fits v w f c (emit_if b r kind) (worth f (plain_emit v w c r kind))
+pub emit_if_fits : (v : Service) (w : Flow) (f : Weights) (c : Config) (b : Bool) (r : ObjRef) (kind : EventType) → Fits v w f c (emit_if b r kind) (worth f (plain_emit v w c r kind))
 emit_if_fits v w f c true r kind = told_fits v w f c r kind (Sure None) (plain_event r kind ∷ []) (refl, refl, refl)
 emit_if_fits v w f c false r kind = told_fits v w f c r kind (Sure None) [] tt
 
@@ -65,7 +66,7 @@ and_false : (a b : Bool) → b ≡ false → (a && b) ≡ false
 and_false true b e = e
 and_false false b e = refl
 
-pub rise_fits : (v : Service) (w : Flow) (f : Costing) (c : Config) (fs : List File) (becomes : Option Object → Bool) (r : ObjRef) (o : Object) → Fits v w f c (rise_items fs becomes r (Some o)) (worth f (rise_of v w c r o.fixed.class))
+pub rise_fits : (v : Service) (w : Flow) (f : Weights) (c : Config) (fs : List File) (becomes : Option Object → Bool) (r : ObjRef) (o : Object) → Fits v w f c (rise_items fs becomes r (Some o)) (worth f (rise_of v w c r o.fixed.class))
 rise_fits v w f c fs becomes r o =
     fits_both v w f c (emit_if (becomes (Some o)) r event.IsAvailable) (emit_if (loads_if fs becomes (Some o)) r event.ContentAvailable)
     (worth f (plain_emit v w c r event.IsAvailable)) (worth f (if_price (has_content o.fixed.class) (plain_emit v w c r event.ContentAvailable)))
@@ -80,19 +81,19 @@ rise_fits v w f c fs becomes r o =
 
 -- Members
 
-alone_run_fits : (v : Service) (w : Flow) (f : Costing) (c : Config) (xs : List ObjRef) → Fits v w f c (map item.RunMember xs) (worth f (sum_price (run_alone v w c) xs))
+alone_run_fits : (v : Service) (w : Flow) (f : Weights) (c : Config) (xs : List ObjRef) → Fits v w f c (map item.RunMember xs) (worth f (sum_price (run_alone v w c) xs))
 alone_run_fits v w f c [] = fits_none v w f c 0
 alone_run_fits v w f c (x ∷ xs) = λ rest. next (worth f (run_alone v w c x)) _ _ _ (alone_run_fits v w f c xs rest)
 
-alone_halt_fits : (v : Service) (w : Flow) (f : Costing) (c : Config) (xs : List ObjRef) → Fits v w f c (map item.HaltMember xs) (worth f (sum_price (halt_alone v w c) xs))
+alone_halt_fits : (v : Service) (w : Flow) (f : Weights) (c : Config) (xs : List ObjRef) → Fits v w f c (map item.HaltMember xs) (worth f (sum_price (halt_alone v w c) xs))
 alone_halt_fits v w f c [] = fits_none v w f c 0
 alone_halt_fits v w f c (x ∷ xs) = λ rest. next (worth f (halt_alone v w c x)) _ _ _ (alone_halt_fits v w f c xs rest)
 
-members_run_fit : (v : Service) (w : Flow) (f : Costing) (c : Config) (ms : List Member) → Fits v w f c (members_run ms) (worth f (sum_price (λ (m : Member). run_alone v w c m.object) ms))
+members_run_fit : (v : Service) (w : Flow) (f : Weights) (c : Config) (ms : List Member) → Fits v w f c (members_run ms) (worth f (sum_price (λ (m : Member). run_alone v w c m.object) ms))
 members_run_fit v w f c [] = fits_none v w f c 0
 members_run_fit v w f c (m ∷ ms) = λ rest. next (worth f (run_alone v w c m.object)) _ _ _ (members_run_fit v w f c ms rest)
 
-members_halt_fit : (v : Service) (w : Flow) (f : Costing) (c : Config) (ms : List Member) → Fits v w f c (members_halted ms) (worth f (sum_price (λ (m : Member). halt_alone v w c m.object) ms))
+members_halt_fit : (v : Service) (w : Flow) (f : Weights) (c : Config) (ms : List Member) → Fits v w f c (members_halted ms) (worth f (sum_price (λ (m : Member). halt_alone v w c m.object) ms))
 members_halt_fit v w f c [] = fits_none v w f c 0
 members_halt_fit v w f c (m ∷ ms) = λ rest. next (worth f (halt_alone v w c m.object)) _ _ _ (members_halt_fit v w f c ms rest)
 
@@ -101,7 +102,7 @@ members_halt_fit v w f c (m ∷ ms) = λ rest. next (worth f (halt_alone v w c m
 added_up : (a b c d h r : ℕ) → h + r + (a + b + c + d) ≤ h + (r + (a + (b + (c + d))))
 added_up a b c d h r = omega arith
 
-events_fit : (v : Service) (w : Flow) (f : Costing) (c : Config) (r : ObjRef) (is : List Item) → AreListTold r is → Fits v w f c is (worth f (emit v w c r event.FirstItemPresented Unsure) + worth f (emit v w c r event.LastItemPresented Unsure) + worth f (emit v w c r event.HeadItems Unsure) + worth f (emit v w c r event.TailItems Unsure))
+events_fit : (v : Service) (w : Flow) (f : Weights) (c : Config) (r : ObjRef) (is : List Item) → AreListTold r is → Fits v w f c is (worth f (emit v w c r event.FirstItemPresented Unsure) + worth f (emit v w c r event.LastItemPresented Unsure) + worth f (emit v w c r event.HeadItems Unsure) + worth f (emit v w c r event.TailItems Unsure))
 events_fit v w f c r is t =
     let first = told_fits v w f c r event.FirstItemPresented Unsure t.first t.first_told in
     let last = told_fits v w f c r event.LastItemPresented Unsure t.last t.last_told in
@@ -120,11 +121,11 @@ in_set : (w : Flow) (c : Config) (vs : List Value) (r : ObjRef) (o : Object) (q 
 in_set w c vs r o q n k (inl h) = let own = k.own q in omega (arith, own, h)
 in_set w c vs r o q n k (inr h) = let added = k.added q h.0 in let few = h.1 in omega (arith, added, few)
 
-pub change_fits : (v : Service) (w : Flow) (f : Costing) (c : Config) (vs : List Value) (r : ObjRef) (o : Object) (is : List Item) → IsChange r vs o is → IsListedIn w c vs r o → Fits v w f c is (worth f (change v w c r))
+pub change_fits : (v : Service) (w : Flow) (f : Weights) (c : Config) (vs : List Value) (r : ObjRef) (o : Object) (is : List Item) → IsChange r vs o is → IsListedIn w c vs r o → Fits v w f c is (worth f (change v w c r))
 change_fits v w f c vs r o is t k =
     let set : List ObjRef = w.sets c r in
-    let halts = fits_less v w f c (map item.HaltMember t.halted) _ (worth f (sum_price (halt_alone v w c) set)) (sum_within f (halt_alone v w c) t.halted set (λ q. le_trans _ _ _ (t.halted_listed q) (k.own q))) (alone_halt_fits v w f c t.halted) in
-    let runs = fits_less v w f c (map item.RunMember t.run) _ (worth f (sum_price (run_alone v w c) set)) (sum_within f (run_alone v w c) t.run set (λ q. in_set w c vs r o q (count_of q t.run) k (t.run_listed q))) (alone_run_fits v w f c t.run) in
+    let halts = fits_less v w f c (map item.HaltMember t.halted) _ (worth f (sum_price (halt_alone v w c) set)) (sum_within f.cost (halt_alone v w c) t.halted set (λ q. le_trans _ _ _ (t.halted_listed q) (k.own q))) (alone_halt_fits v w f c t.halted) in
+    let runs = fits_less v w f c (map item.RunMember t.run) _ (worth f (sum_price (run_alone v w c) set)) (sum_within f.cost (run_alone v w c) t.run set (λ q. in_set w c vs r o q (count_of q t.run) k (t.run_listed q))) (alone_run_fits v w f c t.run) in
     let both = fits_both v w f c (map item.HaltMember t.halted) (map item.RunMember t.run) _ _ halts runs in
     let all = fits_both v w f c (map item.HaltMember t.halted ++ map item.RunMember t.run) t.events _ _ both (events_fit v w f c r t.events t.told) in
     subst (λ (x : List Item). Fits v w f c x (worth f (change v w c r))) (sym t.all)
@@ -156,7 +157,7 @@ abbrev pub AreInSet : Flow → Config → ObjRef → Object → Type 0
 AreInSet w c r o = (q : ObjRef) → count_of q (objects_of o.body.list.entries) ≤ count_of q (w.sets c r)
 
 -- the group's members, and that its token is at the first, in the order in which they are put
-pub running_fits : (v : Service) (w : Flow) (f : Costing) (c : Config) (r : ObjRef) (o : Object) (k : Class) → (is_list_group k ≡ true → AreInSet w c r o) → Fits v w f c (group_runs k r o ++ plain_event r event.IsRunning ∷ token_told k r) (worth f (plain_emit v w c r event.IsRunning) + worth f (group_run v w c r o.fixed k))
+pub running_fits : (v : Service) (w : Flow) (f : Weights) (c : Config) (r : ObjRef) (o : Object) (k : Class) → (is_list_group k ≡ true → AreInSet w c r o) → Fits v w f c (group_runs k r o ++ plain_event r event.IsRunning ∷ token_told k r) (worth f (plain_emit v w c r event.IsRunning) + worth f (group_run v w c r o.fixed k))
 running_fits v w f c r o class.TokenGroup h =
     let runs = members_run_fit v w f c (members o.fixed) in
     let is = told_fits v w f c r event.IsRunning (Sure None) (plain_event r event.IsRunning ∷ []) (refl, refl, refl) in
@@ -181,7 +182,7 @@ running_fits v w f c r o _ h =
     with_none a = omega arith
 
 -- what a group halts, and that it stopped
-pub stopping_fits : (v : Service) (w : Flow) (f : Costing) (c : Config) (r : ObjRef) (o : Object) (k : Class) → (is_list_group k ≡ true → AreInSet w c r o) → Fits v w f c (group_halts k o ++ plain_event r event.IsStopped ∷ []) (worth f (plain_emit v w c r event.IsStopped) + worth f (group_halt v w c r o.fixed k))
+pub stopping_fits : (v : Service) (w : Flow) (f : Weights) (c : Config) (r : ObjRef) (o : Object) (k : Class) → (is_list_group k ≡ true → AreInSet w c r o) → Fits v w f c (group_halts k o ++ plain_event r event.IsStopped ∷ []) (worth f (plain_emit v w c r event.IsStopped) + worth f (group_halt v w c r o.fixed k))
 stopping_fits v w f c r o class.TokenGroup h =
     let halts = members_halt_fit v w f c (members o.fixed) in
     let is = told_fits v w f c r event.IsStopped (Sure None) (plain_event r event.IsStopped ∷ []) (refl, refl, refl) in
@@ -192,7 +193,7 @@ stopping_fits v w f c r o class.TokenGroup h =
 stopping_fits v w f c r o class.ListGroup h =
     let set : List ObjRef = w.sets c r in
     let shown : List ObjRef = filter (λ x. not (is_shown x [])) (shows o.body.running o.fixed o.body.list).items in
-    let halts = fits_less v w f c (map item.HaltMember shown) _ (worth f (sum_price (halt_alone v w c) set)) (sum_within f (halt_alone v w c) shown set (λ q. le_trans _ _ _ (le_trans _ _ _ (count_filter q (λ x. not (is_shown x [])) (shows o.body.running o.fixed o.body.list).items) (count_shown q o.body.running o.fixed o.body.list)) (h refl q))) (alone_halt_fits v w f c shown) in
+    let halts = fits_less v w f c (map item.HaltMember shown) _ (worth f (sum_price (halt_alone v w c) set)) (sum_within f.cost (halt_alone v w c) shown set (λ q. le_trans _ _ _ (le_trans _ _ _ (count_filter q (λ x. not (is_shown x [])) (shows o.body.running o.fixed o.body.list).items) (count_shown q o.body.running o.fixed o.body.list)) (h refl q))) (alone_halt_fits v w f c shown) in
     let is = told_fits v w f c r event.IsStopped (Sure None) (plain_event r event.IsStopped ∷ []) (refl, refl, refl) in
     fits_less v w f c _ _ _ (swapped _ _) (fits_both v w f c (map item.HaltMember shown) (plain_event r event.IsStopped ∷ []) _ _ halts is)
   where
@@ -206,12 +207,12 @@ stopping_fits v w f c r o _ h =
 
 -- a visible runs and halts no others
 
-pub alone_runs : (v : Service) (w : Flow) (f : Costing) (c : Config) (r : ObjRef) (o : Object) (k : Class) → is_visible k ≡ true → Fits v w f c (group_runs k r o ++ plain_event r event.IsRunning ∷ token_told k r) (worth f (plain_emit v w c r event.IsRunning))
+pub alone_runs : (v : Service) (w : Flow) (f : Weights) (c : Config) (r : ObjRef) (o : Object) (k : Class) → is_visible k ≡ true → Fits v w f c (group_runs k r o ++ plain_event r event.IsRunning ∷ token_told k r) (worth f (plain_emit v w c r event.IsRunning))
 alone_runs v w f c r o class.TokenGroup h = absurd cc
 alone_runs v w f c r o class.ListGroup h = absurd cc
 alone_runs v w f c r o _ h = told_fits v w f c r event.IsRunning (Sure None) (plain_event r event.IsRunning ∷ []) (refl, refl, refl)
 
-pub alone_halts : (v : Service) (w : Flow) (f : Costing) (c : Config) (r : ObjRef) (o : Object) (k : Class) → is_visible k ≡ true → Fits v w f c (group_halts k o ++ plain_event r event.IsStopped ∷ []) (worth f (plain_emit v w c r event.IsStopped))
+pub alone_halts : (v : Service) (w : Flow) (f : Weights) (c : Config) (r : ObjRef) (o : Object) (k : Class) → is_visible k ≡ true → Fits v w f c (group_halts k o ++ plain_event r event.IsStopped ∷ []) (worth f (plain_emit v w c r event.IsStopped))
 alone_halts v w f c r o class.TokenGroup h = absurd cc
 alone_halts v w f c r o class.ListGroup h = absurd cc
 alone_halts v w f c r o _ h = told_fits v w f c r event.IsStopped (Sure None) (plain_event r event.IsStopped ∷ []) (refl, refl, refl)

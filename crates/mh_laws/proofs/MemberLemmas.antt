@@ -75,7 +75,7 @@ good_items {fw} s k r o e list x h = good_in_set s k r o e list x ((held_at s k 
 
 -- the classes of what changes lists, and of what has slots
 
-listing_class : (n : ActionName) (c : Class) → list_any is_list_piece (can_put n) ≡ true → admits c n ≡ true → is_list_group c ≡ true
+pub listing_class : (n : ActionName) (c : Class) → list_any is_list_piece (can_put n) ≡ true → admits c n ≡ true → is_list_group c ≡ true
 listing_class action.AddItem class.ListGroup some h = refl
 listing_class action.AddItem _ some h = absurd cc
 listing_class action.DelItem class.ListGroup some h = refl
@@ -93,7 +93,7 @@ slot_class _ c some h = absurd cc
 
 -- neither leads elsewhere
 
-plain_listing : (n : ActionName) → list_any is_list_piece (can_put n) ≡ true → is_transition n ≡ false
+pub plain_listing : (n : ActionName) → list_any is_list_piece (can_put n) ≡ true → is_transition n ≡ false
 plain_listing action.TransitionTo some = absurd cc
 plain_listing action.Launch some = absurd cc
 plain_listing _ some = refl

@@ -2,7 +2,7 @@
 use Rattle.std.specs.Cmp.Derive.{both_true}
 use Rattle.std.specs.List.{flat_map, list_all, list_any}
 use Rattle.std.specs.Option.{is_some, option_map, option_map_or, option_or}
-use Rattle.std.specs.Prelude.{◌&&◌, ◌++◌, ◌+◌, ◌||◌, ◌∷◌, ◌≡◌, ◌≤◌, Bool, List, None, Option, Some, [], cond, drop, false, filter, if◌then◌else◌, map, nat_lt, negsuc, not, pos, slice_get, true, ℕ, ℤ}
+use Rattle.std.specs.Prelude.{◌&&◌, ◌++◌, ◌+◌, ◌==◌, ◌||◌, ◌∷◌, ◌≡◌, ◌≤◌, Bool, List, None, Option, Some, [], cond, drop, false, filter, if◌then◌else◌, map, nat_lt, negsuc, not, pos, slice_get, true, ℕ, ℤ}
 use Rattle.std.specs.Str.{bytes_eq}
 use Rattle.std.proofs.Common.{◌∙◌, ap, arith, inl, inr, refl, subst, sym}
 use Rattle.std.proofs.lemmas.Bool.Decides.{Decides-int_eq}
@@ -45,24 +45,25 @@ use Rattle.mh_model.specs.declared.time.Timer.{Timer}
 use Rattle.mh_model.specs.Arguments.{receivers, referred, values}
 use Rattle.mh_model.specs.Bodies.{lacking}
 use Rattle.mh_model.specs.Configuration.{is_group_of, is_service, present, scene_parts}
-use Rattle.mh_model.specs.Faults.{arguments_wrongs, called_wrongs, is_transition, target_wrongs, timer_wrongs}
+use Rattle.mh_model.specs.Faults.{admitted_wrongs, arguments_wrongs, called_wrongs, is_transition, target_wrongs, timer_wrongs}
 use Rattle.mh_model.specs.Files.{awaited, by_content, forgotten, is_loadable, missing, waits_for}
 use Rattle.mh_model.specs.Items.{heard}
-use Rattle.mh_model.specs.Known.{Known, as_integer, class_at}
+use Rattle.mh_model.specs.Known.{Known, as_integer, class_at, known_before}
 use Rattle.mh_model.specs.Lifecycle.{is_available_at, is_unavailable_at, is_unprepared_at, lacking_at, waits_if}
 use Rattle.mh_model.specs.Property.{read_of}
 use Rattle.mh_model.specs.Reference.{group_ref, same_ref}
-use Rattle.mh_model.specs.Rules.{act_on, application_exchanged, emitted, exchange_rule, interact_rule, load_rule, loaded_with, rule, rule_by, scene_exchanged, whole_rule, widget_at}
+use Rattle.mh_model.specs.Late.{is_late_scene, late_without}
+use Rattle.mh_model.specs.Rules.{act_on, application_exchanged, begins, begins_or_waits, emitted, exchange_rule, is_begun, interact_rule, load_rule, loaded_with, rule, rule_by, scene_exchanged, whole_rule, widget_at}
 use Rattle.mh_model.specs.Service.{Service, group_parts, is_in, is_there, object_at, part_at}
 use Rattle.mh_model.specs.Sort.{sort_of}
 use Rattle.mh_model.specs.State.{State, all}
-use Rattle.mh_model.specs.Step.{did, is_waiting, key_taken, obstacle, posted, posted_by, pressed_at, step, step_by, taking}
+use Rattle.mh_model.specs.Step.{awaits, scene_arrived, did, is_waiting, key_taken, obstacle, posted, posted_by, pressed_at, scene_taken, step, step_by, taking}
 use Rattle.mh_model.specs.Time.{cancelled, entered_at, is_due, is_timer, set_timers, timed, timed_from}
 use Rattle.mh_model.proofs.ListLemmas.{all_follow, all_joined, and_left, and_right, empty_left, empty_right, found}
 use Rattle.mh_model.proofs.PartLemmas.{part_at-parts}
-use Rattle.mh_model.proofs.ServiceLemmas.{group_parts_in, same_ref-same}
+use Rattle.mh_model.proofs.ServiceLemmas.{group_parts_in, present_whole, same_ref-same}
 use Rattle.mh_laws.specs.Active.{active_actions}
-use Rattle.mh_laws.specs.Budget.{AreSettable, can_read, count_timer, timer_key}
+use Rattle.mh_laws.specs.Budget.{AreLate, AreSettable, IsAwaited, can_read, count_timer, timer_key}
 use Rattle.mh_laws.specs.Costs.{TimerKey, each_once, is_group_in, is_reader, same_timer, set_by, set_with, targets, timers}
 use Rattle.mh_laws.specs.Costs as cost
 use Rattle.mh_laws.specs.Each.{Among, Each}
@@ -70,17 +71,20 @@ use Rattle.mh_laws.specs.Flow.{Flow, reached}
 use Rattle.mh_laws.specs.Safe.{IsFine, IsSafeBy, IsSafeItem, config_of, exchanged, has_group}
 use Rattle.mh_laws.specs.Ways.{once}
 use Rattle.mh_laws.proofs.ActLemmas.{IsSound, known_now, none_wrong}
-use Rattle.mh_laws.proofs.EachLemmas.{among_joined, among_mapped}
+use Rattle.mh_laws.proofs.EachLemmas.{among_filtered, among_joined, among_mapped}
 use Rattle.mh_laws.proofs.LifeCostLemmas.{no_content}
 use Rattle.mh_laws.proofs.NodeLemmas.{config_among}
 use Rattle.mh_laws.proofs.ReadyLemmas.{first_item, found_object, free_first, sound_now, target_among}
 use Rattle.mh_laws.proofs.StateLemmas.{group_there, parts_present}
 use Rattle.mh_laws.proofs.TakenCostLemmas.{Attends, key_itself, key_same}
 use Rattle.mh_laws.proofs.TimeLemmas.{all_filtered, all_kept}
+use Rattle.mh_laws.proofs.TransitionLemmas.{leads_zeroth}
 
 pub record Minds (w : Flow) (s : State) : Type 0 where
   pub timers : AreSettable s.service w s.timers
   pub readers : list_all (can_read (present s.service (config_of s))) s.waits ≡ true
+  pub late : AreLate s.service s.late
+  pub awaited : IsAwaited s.service w (config_of s) s.transition
 
 -- Timers
 
@@ -204,8 +208,8 @@ load_loads action.SetData c is h = h
 load_loads _ c is h = absurd cc
 
 load_minds : (w : Flow) (s : State) (k : IsSafeBy w s) (vs : List Value) (r : ObjRef) (rest : List Item) (n : ℕ) → Minds w s → is_reader (class_at r (present s.service (config_of s))) ≡ true → Minds w (load_rule vs r (record s { work = rest; taken = n }))
-load_minds w s k [] r rest n m reads_it = record { timers = m.timers; readers = m.readers }
-load_minds w s k (v ∷ x ∷ vs) r rest n m reads_it = record { timers = m.timers; readers = m.readers }
+load_minds w s k [] r rest n m reads_it = record { timers = m.timers; readers = m.readers; late = m.late; awaited = m.awaited }
+load_minds w s k (v ∷ x ∷ vs) r rest n m reads_it = record { timers = m.timers; readers = m.readers; late = m.late; awaited = m.awaited }
 load_minds w s k (v ∷ []) r rest n m reads_it = by (is_loadable v) (is_available_at (object_at r (all s.objects))) refl
   where
     ps : List Fixed
@@ -216,16 +220,16 @@ load_minds w s k (v ∷ []) r rest n m reads_it = by (is_loadable v) (is_availab
     waits_now false = m.readers
 
     by : (t u : Bool) → is_available_at (object_at r (all s.objects)) ≡ u → Minds w (if t then loaded_with v r (record s { work = rest; taken = n }) else record s { work = rest; taken = n })
-    by true u e = record { timers = m.timers; readers = waits_now (is_available_at (object_at r (all s.objects))) }
-    by false u e = record { timers = m.timers; readers = m.readers }
+    by true u e = record { timers = m.timers; readers = waits_now (is_available_at (object_at r (all s.objects))); late = m.late; awaited = m.awaited }
+    by false u e = record { timers = m.timers; readers = m.readers; late = m.late; awaited = m.awaited }
 
 widget_minds : (w : Flow) (s : State) (n : ActionName) (vs : List Value) (r : ObjRef) (o : Option Object) → Minds w s → Minds w (widget_at n vs r o s)
 widget_minds w s n vs r None m = m
-widget_minds w s n vs r (Some o) m = record { timers = m.timers; readers = m.readers }
+widget_minds w s n vs r (Some o) m = record { timers = m.timers; readers = m.readers; late = m.late; awaited = m.awaited }
 
 interact_minds : (w : Flow) (s : State) (n : ActionName) (vs : List Value) (rs : List ObjRef) (r : ObjRef) → Minds w s → Minds w (interact_rule n vs rs r s)
-interact_minds w s action.SetInteractionStatus vs rs r m = record { timers = m.timers; readers = m.readers }
-interact_minds w s action.GetInteractionStatus vs rs r m = record { timers = m.timers; readers = m.readers }
+interact_minds w s action.SetInteractionStatus vs rs r m = record { timers = m.timers; readers = m.readers; late = m.late; awaited = m.awaited }
+interact_minds w s action.GetInteractionStatus vs rs r m = record { timers = m.timers; readers = m.readers; late = m.late; awaited = m.awaited }
 interact_minds w s _ vs rs r m = m
 
 -- a timer that is set is one that can be
@@ -284,19 +288,55 @@ timer_settable {w} s k a r is named id x more e = one (list_any (same_timer (r.g
         among_joined (λ (d : Config). flat_map (set_by w d) (active_actions (present v d))) w.configs c (r.group, id) (config_among w.configs c k.among)
         (among_joined (set_by w c) (active_actions (present v c)) a (r.group, id) (is.fine).active own)
 
+-- a late scene to which an action leads is one of those to which active actions can
+late_awaited : {w : Flow} (s : State) (k : IsSafeBy w s) (a : Act) (r : ObjRef) → IsSound w s k a r → a.name ≡ action.TransitionTo → is_late_scene r.group s.service.late ≡ true → Among (cost.late_scenes s.service w (config_of s)) r.group
+late_awaited {w} s k a r is named late = among_joined (cost.late_by v w c) (active_actions (present v c)) a r.group (is.fine).active own
+  where
+    c : Config
+    c = config_of s
+
+    v : Service
+    v = s.service
+
+    zeroth : (r.number == 0) ≡ true
+    zeroth = leads_zeroth v c r (present_whole v c k.accepted.service) (subst (λ (n : ActionName). admitted_wrongs (known_before v (present v c)) n None r ≡ []) named is.fit)
+
+    leads : cost.can_lead_to_late v a.name r ≡ true
+    leads = ap (λ (n : ActionName). cost.can_lead_to_late v n r) named ∙ ap (λ (t : Bool). t && is_late_scene r.group v.late) zeroth ∙ late
+
+    own : Among (cost.late_by v w c a) r.group
+    own =
+        among_mapped (λ (q : ObjRef). q.group) (filter (cost.can_lead_to_late v a.name) (targets w c a.target)) r
+        (among_filtered (cost.can_lead_to_late v a.name) (targets w c a.target) r leads (target_among w c (present v c) a.target r is.may))
+
 whole_minds : (w : Flow) (s : State) (k : IsSafeBy w s) → (a : Act) → IsFine s.service w (config_of s) a → (r : ObjRef) → IsSound w s k a r → (rest : List Item) (n : ℕ) (m : ActionName) → a.name ≡ m → Minds w s → Minds w (whole_rule m (values (all s.objects) a.arguments) r (record s { work = rest; taken = n }))
 whole_minds w s k a fine r is rest n action.SetTimer same h =
     record {
       timers = within_set (often s.service w) (values (all s.objects) a.arguments) s.application r.group s.moments s.timers (timer_settable s k a r is same)
           h.timers;
       readers = h.readers;
+      late = h.late;
+      awaited = h.awaited;
     }
-whole_minds w s k a fine r is rest n action.TransitionTo same h = record { timers = h.timers; readers = h.readers }
-whole_minds w s k a fine r is rest n action.Launch same h = record { timers = h.timers; readers = h.readers }
-whole_minds w s k a fine r is rest n action.Quit same h = record { timers = h.timers; readers = h.readers }
-whole_minds w s k a fine r is rest n action.LockScreen same h = record { timers = h.timers; readers = h.readers }
-whole_minds w s k a fine r is rest n action.UnlockScreen same h = record { timers = h.timers; readers = h.readers }
-whole_minds w s k a fine r is rest n _ same h = record { timers = h.timers; readers = h.readers }
+whole_minds w s k a fine r is rest n action.TransitionTo same h = by (is_begun s.transition) (is_late_scene r.group s.late) refl
+  where
+    by : (b late : Bool) → is_late_scene r.group s.late ≡ late → Minds w (if b then record s { work = rest; taken = n } else begins_or_waits late action.TransitionTo r (record s { work = rest; taken = n }))
+    by true late e = record { timers = h.timers; readers = h.readers; late = h.late; awaited = h.awaited }
+    by false true e = record { timers = h.timers; readers = h.readers; late = h.late; awaited = late_awaited s k a r is same (h.late r.group e) }
+    by false false e = record { timers = h.timers; readers = h.readers; late = h.late; awaited = tt }
+whole_minds w s k a fine r is rest n action.Launch same h = by (is_begun s.transition)
+  where
+    by : (b : Bool) → Minds w (if b then record s { work = rest; taken = n } else begins action.Launch r (record s { work = rest; taken = n }))
+    by true = record { timers = h.timers; readers = h.readers; late = h.late; awaited = h.awaited }
+    by false = record { timers = h.timers; readers = h.readers; late = h.late; awaited = tt }
+whole_minds w s k a fine r is rest n action.Quit same h = by (is_begun s.transition)
+  where
+    by : (b : Bool) → Minds w (if b then record s { work = rest; taken = n } else begins action.Quit r (record s { work = rest; taken = n }))
+    by true = record { timers = h.timers; readers = h.readers; late = h.late; awaited = h.awaited }
+    by false = record { timers = h.timers; readers = h.readers; late = h.late; awaited = tt }
+whole_minds w s k a fine r is rest n action.LockScreen same h = record { timers = h.timers; readers = h.readers; late = h.late; awaited = h.awaited }
+whole_minds w s k a fine r is rest n action.UnlockScreen same h = record { timers = h.timers; readers = h.readers; late = h.late; awaited = h.awaited }
+whole_minds w s k a fine r is rest n _ same h = record { timers = h.timers; readers = h.readers; late = h.late; awaited = h.awaited }
 
 -- an action that loads is done to what has content
 loading_class : {w : Flow} (s : State) (k : IsSafeBy w s) (a : Act) (r : ObjRef) → IsSound w s k a r → sort_of a.name ≡ sort.Load → is_reader (class_at r (present s.service (config_of s))) ≡ true
@@ -312,29 +352,29 @@ loading_class {w} s k a r is load =
     plain _ h = refl
 
 sort_minds : (w : Flow) (s : State) (k : IsSafeBy w s) → (a : Act) → IsFine s.service w (config_of s) a → (r : ObjRef) → IsSound w s k a r → (rest : List Item) (n : ℕ) → Minds w s → (o : Sort) → sort_of a.name ≡ o → Minds w (rule_by o a.name a.arguments r (record s { work = rest; taken = n }))
-sort_minds w s k a fine r is rest n h sort.Change e = record { timers = h.timers; readers = h.readers }
-sort_minds w s k a fine r is rest n h sort.Ask e = record { timers = h.timers; readers = h.readers }
-sort_minds w s k a fine r is rest n h sort.Put e = record { timers = h.timers; readers = h.readers }
+sort_minds w s k a fine r is rest n h sort.Change e = record { timers = h.timers; readers = h.readers; late = h.late; awaited = h.awaited }
+sort_minds w s k a fine r is rest n h sort.Ask e = record { timers = h.timers; readers = h.readers; late = h.late; awaited = h.awaited }
+sort_minds w s k a fine r is rest n h sort.Put e = record { timers = h.timers; readers = h.readers; late = h.late; awaited = h.awaited }
 sort_minds w s k a fine r is rest n h sort.Load e = load_minds w s k (values (all s.objects) a.arguments) r rest n h (loading_class s k a r is e)
-sort_minds w s k a fine r is rest n h sort.Call e = record { timers = h.timers; readers = h.readers }
-sort_minds w s k a fine r is rest n h sort.Order e = record { timers = h.timers; readers = h.readers }
-sort_minds w s k a fine r is rest n h sort.Widget e = widget_minds w (record s { work = rest; taken = n }) a.name (values (all s.objects) a.arguments) r (object_at r (all s.objects)) (record { timers = h.timers; readers = h.readers })
-sort_minds w s k a fine r is rest n h sort.Interact e = interact_minds w (record s { work = rest; taken = n }) a.name (values (all s.objects) a.arguments) (receivers a.arguments) r (record { timers = h.timers; readers = h.readers })
+sort_minds w s k a fine r is rest n h sort.Call e = record { timers = h.timers; readers = h.readers; late = h.late; awaited = h.awaited }
+sort_minds w s k a fine r is rest n h sort.Order e = record { timers = h.timers; readers = h.readers; late = h.late; awaited = h.awaited }
+sort_minds w s k a fine r is rest n h sort.Widget e = widget_minds w (record s { work = rest; taken = n }) a.name (values (all s.objects) a.arguments) r (object_at r (all s.objects)) (record { timers = h.timers; readers = h.readers; late = h.late; awaited = h.awaited })
+sort_minds w s k a fine r is rest n h sort.Interact e = interact_minds w (record s { work = rest; taken = n }) a.name (values (all s.objects) a.arguments) (receivers a.arguments) r (record { timers = h.timers; readers = h.readers; late = h.late; awaited = h.awaited })
 sort_minds w s k a fine r is rest n h sort.Whole e = whole_minds w s k a fine r is rest n a.name refl h
 
 act_minds : (w : Flow) (s : State) (k : IsSafeBy w s) → (a : Act) → IsFine s.service w (config_of s) a → (rest : List Item) (n : ℕ) → Minds w s → Minds w (rule (item.Act a) (record s { work = rest; taken = n }))
 act_minds w s k a fine rest n h = by (referred a.target (all s.objects)) refl
   where
     by : (m : Option ObjRef) → referred a.target (all s.objects) ≡ m → Minds w (act_on m a.name a.arguments (record s { work = rest; taken = n }))
-    by None e = record { timers = h.timers; readers = h.readers }
+    by None e = record { timers = h.timers; readers = h.readers; late = h.late; awaited = h.awaited }
     by (Some r) e = sort_minds w s k a fine r (sound_now s k a fine r e) rest n h (sort_of a.name) refl
 
 emit_minds : (w : Flow) (s : State) (e : Event) → Minds w s → Minds w (emitted e s)
 emit_minds w s e h = by (is_sync e.kind)
   where
     by : (t : Bool) → Minds w (if t then record s { work = heard e (all s.objects) ++ s.work } else record s { queue = s.queue ++ waiting.Event e ∷ [] })
-    by true = record { timers = h.timers; readers = h.readers }
-    by false = record { timers = h.timers; readers = h.readers }
+    by true = record { timers = h.timers; readers = h.readers; late = h.late; awaited = h.awaited }
+    by false = record { timers = h.timers; readers = h.readers; late = h.late; awaited = h.awaited }
 
 -- An exchange: what stays is of the application.
 
@@ -379,42 +419,72 @@ exchange_minds : (w : Flow) (s : State) (k : IsSafeBy w s) (g : List ℕ) → re
 exchange_minds w s k g safe rest n h = by (is_group_of is_application s.service g) safe
   where
     by : (t : Bool) → reached w (if t then record { app = g; scene = None } else record { app = s.application; scene = Some g }) ≡ true → Minds w (if t then application_exchanged g (record s { work = rest; taken = n }) else scene_exchanged g (record s { work = rest; taken = n }))
-    by true into = record { timers = λ x. omega arith; readers = refl }
+    by true into = record { timers = λ x. omega arith; readers = refl; late = h.late; awaited = tt }
     by false into = record {
       timers = within_filtered (often s.service w) (λ (t : Timer). bytes_eq t.group s.application) s.timers h.timers;
       readers = all_kept (λ (x : Wait). bytes_eq x.object.group s.application) (can_read (present s.service (config_of s))) (can_read (group_parts s.service s.application ++ group_parts s.service g)) (reads_stay s.service s.application s.scene (group_parts s.service g) k.accepted.service) s.waits h.readers;
+      late = h.late;
+      awaited = tt;
     }
 
 rule_minds : (w : Flow) (s : State) (k : IsSafeBy w s) → (i : Item) → IsSafeItem s.service w (config_of s) i → (rest : List Item) (n : ℕ) → Minds w s → Minds w (rule i (record s { work = rest; taken = n }))
 rule_minds w s k (item.Act a) safe rest n h = act_minds w s k a safe rest n h
-rule_minds w s k (item.Prepare r) safe rest n h = record { timers = h.timers; readers = waits_if_reads s k s.files (is_unavailable_at (object_at r (all s.objects))) r h.readers }
-rule_minds w s k (item.Run r) safe rest n h = record { timers = h.timers; readers = waits_if_reads s k s.files (is_unprepared_at (object_at r (all s.objects))) r h.readers }
-rule_minds w s k (item.RunMember r) safe rest n h = record { timers = h.timers; readers = waits_if_reads s k s.files (is_unprepared_at (object_at r (all s.objects))) r h.readers }
-rule_minds w s k (item.Halt r) safe rest n h = record { timers = h.timers; readers = h.readers }
-rule_minds w s k (item.HaltMember r) safe rest n h = record { timers = h.timers; readers = h.readers }
-rule_minds w s k (item.Drop r) safe rest n h = record { timers = h.timers; readers = all_filtered (λ (x : Wait). not (same_ref r x.object)) (can_read (present s.service (config_of s))) s.waits h.readers }
-rule_minds w s k (item.Emit e) safe rest n h = emit_minds w (record s { work = rest; taken = n }) e (record { timers = h.timers; readers = h.readers })
-rule_minds w s k (item.Enter g) safe rest n h = record { timers = h.timers; readers = h.readers }
+rule_minds w s k (item.Prepare r) safe rest n h = record { timers = h.timers; readers = waits_if_reads s k s.files (is_unavailable_at (object_at r (all s.objects))) r h.readers; late = h.late; awaited = h.awaited }
+rule_minds w s k (item.Run r) safe rest n h = record { timers = h.timers; readers = waits_if_reads s k s.files (is_unprepared_at (object_at r (all s.objects))) r h.readers; late = h.late; awaited = h.awaited }
+rule_minds w s k (item.RunMember r) safe rest n h = record { timers = h.timers; readers = waits_if_reads s k s.files (is_unprepared_at (object_at r (all s.objects))) r h.readers; late = h.late; awaited = h.awaited }
+rule_minds w s k (item.Halt r) safe rest n h = record { timers = h.timers; readers = h.readers; late = h.late; awaited = h.awaited }
+rule_minds w s k (item.HaltMember r) safe rest n h = record { timers = h.timers; readers = h.readers; late = h.late; awaited = h.awaited }
+rule_minds w s k (item.Drop r) safe rest n h = record { timers = h.timers; readers = all_filtered (λ (x : Wait). not (same_ref r x.object)) (can_read (present s.service (config_of s))) s.waits h.readers; late = h.late; awaited = h.awaited }
+rule_minds w s k (item.Emit e) safe rest n h = emit_minds w (record s { work = rest; taken = n }) e (record { timers = h.timers; readers = h.readers; late = h.late; awaited = h.awaited })
+rule_minds w s k (item.Enter g) safe rest n h = record { timers = h.timers; readers = h.readers; late = h.late; awaited = h.awaited }
 rule_minds w s k (item.Exchange g) safe rest n h = exchange_minds w s k g safe.1.0 rest n h
-rule_minds w s k item.End safe rest n h = record { timers = h.timers; readers = h.readers }
+rule_minds w s k item.End safe rest n h = record { timers = h.timers; readers = h.readers; late = h.late; awaited = h.awaited }
 
 -- Taking
 
+-- fewer scenes are late
+late_fewer : (v : Service) (h : List ℕ) (gs : List (List ℕ)) → AreLate v gs → AreLate v (late_without h gs)
+late_fewer v h gs are g e = are g (some_filtered (λ (x : List ℕ). not (bytes_eq h x)) (bytes_eq g) gs e)
+  where
+    some_filtered : (p q : List ℕ → Bool) (xs : List (List ℕ)) → list_any q (filter p xs) ≡ true → list_any q xs ≡ true
+    some_filtered p q [] e = e
+    some_filtered p q (x ∷ xs) e = by (p x) (some_filtered p q xs) e
+      where
+        first : (b y z : Bool) → (y ≡ true → z ≡ true) → (b || y) ≡ true → (b || z) ≡ true
+        first true y z further e = refl
+        first false y z further e = further e
+
+        second : (b z : Bool) → z ≡ true → (b || z) ≡ true
+        second true z e = refl
+        second false z e = e
+
+        by : (a : Bool) → (list_any q (filter p xs) ≡ true → list_any q xs ≡ true) → list_any q (cond a (x ∷ filter p xs) (filter p xs)) ≡ true → (q x || list_any q xs) ≡ true
+        by true further e = first (q x) (list_any q (filter p xs)) (list_any q xs) further e
+        by false further e = second (q x) (list_any q xs) (further e)
+
+scene_minds : (w : Flow) (s : State) (g : List ℕ) → Minds w s → Minds w (scene_taken g s)
+scene_minds w s g h = by (awaits g s.transition)
+  where
+    by : (b : Bool) → Minds w (if b then begins action.TransitionTo (group_ref g) (scene_arrived g s) else scene_arrived g s)
+    by true = record { timers = h.timers; readers = h.readers; late = late_fewer s.service g s.late h.late; awaited = tt }
+    by false = record { timers = h.timers; readers = h.readers; late = late_fewer s.service g s.late h.late; awaited = h.awaited }
+
 key_minds : (w : Flow) (s : State) (x : Key) (m : Option Interaction) → Minds w s → Minds w (key_taken x m s)
-key_minds w s x None h = record { timers = h.timers; readers = h.readers }
+key_minds w s x None h = record { timers = h.timers; readers = h.readers; late = h.late; awaited = h.awaited }
 key_minds w s x (Some i) h = by (object_at i.object (all s.objects))
   where
     by : (m : Option Object) → Minds w (pressed_at x i m s)
     by None = h
-    by (Some o) = record { timers = h.timers; readers = h.readers }
+    by (Some o) = record { timers = h.timers; readers = h.readers; late = h.late; awaited = h.awaited }
 
 taking_minds : (w : Flow) (s : State) (x : Waiting) → Minds w s → Minds w (taking x s)
-taking_minds w s (waiting.Event e) h = record { timers = h.timers; readers = h.readers }
+taking_minds w s (waiting.Event e) h = record { timers = h.timers; readers = h.readers; late = h.late; awaited = h.awaited }
 taking_minds w s (waiting.Input (input.Key x)) h = key_minds w s x s.interaction h
-taking_minds w s (waiting.Input (input.Tick n)) h = record { timers = within_filtered (often s.service w) (λ t. not (is_due (s.moments.present + n) t)) s.timers h.timers; readers = h.readers }
-taking_minds w s (waiting.Input (input.Stream n)) h = record { timers = h.timers; readers = h.readers }
-taking_minds w s (waiting.Input (input.Engine n)) h = record { timers = h.timers; readers = h.readers }
-taking_minds w s (waiting.Input (input.Arrive x)) h = record { timers = h.timers; readers = all_filtered (λ (z : Wait). not (bytes_eq z.name x.name)) (can_read (present s.service (config_of s))) s.waits h.readers }
+taking_minds w s (waiting.Input (input.Tick n)) h = record { timers = within_filtered (often s.service w) (λ t. not (is_due (s.moments.present + n) t)) s.timers h.timers; readers = h.readers; late = h.late; awaited = h.awaited }
+taking_minds w s (waiting.Input (input.Stream n)) h = record { timers = h.timers; readers = h.readers; late = h.late; awaited = h.awaited }
+taking_minds w s (waiting.Input (input.Engine n)) h = record { timers = h.timers; readers = h.readers; late = h.late; awaited = h.awaited }
+taking_minds w s (waiting.Input (input.Arrive x)) h = record { timers = h.timers; readers = all_filtered (λ (z : Wait). not (bytes_eq z.name x.name)) (can_read (present s.service (config_of s))) s.waits h.readers; late = h.late; awaited = h.awaited }
+taking_minds w s (waiting.Input (input.Scene g x)) h = scene_minds w s g h
 
 -- Steps
 
@@ -423,7 +493,7 @@ step_minds w s k h = unless_ended s.ended
   where
     by : (m : Option Item) (x : Option Waiting) → slice_get s.work 0 ≡ m → Minds w (step_by m x s)
     by None None e = h
-    by None (Some x) e = taking_minds w (record s { queue = drop 1 s.queue; taken = s.taken + 1 }) x (record { timers = h.timers; readers = h.readers })
+    by None (Some x) e = taking_minds w (record s { queue = drop 1 s.queue; taken = s.taken + 1 }) x (record { timers = h.timers; readers = h.readers; late = h.late; awaited = h.awaited })
     by (Some i) x e = subst (λ (m : Option Fault). Minds w (did m i s)) (sym (free_first s k i e)) (rule_minds w s k i (first_item s k i e) (drop 1 s.work) (s.taken + 1) h)
 
     unless_ended : (t : Bool) → Minds w (if t then s else step_by (slice_get s.work 0) (slice_get s.queue 0) s)
@@ -434,7 +504,7 @@ pub posted_minds : (w : Flow) (s : State) (i : Input) → Minds w s → Minds w 
 posted_minds w s i h = by (obstacle i s)
   where
     by : (m : Option Obstacle) → Minds w (posted_by m i s)
-    by None = record { timers = h.timers; readers = h.readers }
+    by None = record { timers = h.timers; readers = h.readers; late = h.late; awaited = h.awaited }
     by (Some o) = h
 
 -- the timers that are there are those of the configuration, each at most as often
@@ -525,6 +595,7 @@ attends_of w s k h = record {
   groups = λ g is. group_there s k g is;
   timers = timers_there s.service w (config_of s) s.timers k.accepted.service h.timers k.timers;
   waits = λ name. each (all s.objects) name;
+  awaited = h.awaited;
 }
   where
     ps : List Fixed

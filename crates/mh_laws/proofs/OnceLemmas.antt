@@ -21,7 +21,8 @@ use Rattle.mh_model.specs.EntryFields.{button_set, highlit}
 use Rattle.mh_model.specs.Items.{plain_event}
 use Rattle.mh_model.specs.ListItems.{entries_once, has_item, listed_once, no_list, with_item}
 use Rattle.mh_model.specs.Listed.{Listed}
-use Rattle.mh_model.specs.Lists.{are_same, list_changed, list_worked, marked_at, objects_of, other_marked, relisted, selection_at, selection_by, selection_wanted, selection_worked, unmarked}
+use Rattle.mh_group.specs.Same.{are_same}
+use Rattle.mh_model.specs.Lists.{list_changed, list_worked, marked_at, objects_of, other_marked, relisted, selection_at, selection_by, selection_wanted, selection_worked, unmarked}
 use Rattle.mh_model.specs.Programs.{counted}
 use Rattle.mh_model.specs.Property.{as_members, held}
 use Rattle.mh_model.specs.Reference.{same_ref}

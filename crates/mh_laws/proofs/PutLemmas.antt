@@ -32,7 +32,8 @@ use Rattle.mh_model.specs.Faults.{variable_wrongs, argument_wrongs, named_wrongs
 use Rattle.mh_model.specs.Known.{Known, class_at}
 use Rattle.mh_model.specs.Lifecycle.{members_run, members_halted, group_runs, group_halts, token_told}
 use Rattle.mh_model.specs.ListItems.{has_item}
-use Rattle.mh_model.specs.Lists.{Shown, nothing_shown, shows, is_shown, halted_members, run_members, are_same, truth_told, count_told, list_events, list_items}
+use Rattle.mh_group.specs.Same.{are_same}
+use Rattle.mh_model.specs.Lists.{Shown, nothing_shown, shows, is_shown, halted_members, run_members, truth_told, count_told, list_events, list_items}
 use Rattle.mh_model.specs.Programs.{counted}
 use Rattle.mh_model.specs.Property.{as_reference}
 use Rattle.mh_model.specs.Rules.{changed, filled}

@@ -1,7 +1,7 @@
 -- What a safe state gives: all that a step needs to be counted.
 use Rattle.std.specs.List.{list_all, list_any}
 use Rattle.std.specs.Option.{option_map, option_map_or}
-use Rattle.std.specs.Prelude.{◌∷◌, ◌≡◌, ◌≤◌, ◌⊎◌, Bool, List, None, Option, Some, [], false, filter, if◌then◌else◌, slice_get, true}
+use Rattle.std.specs.Prelude.{◌∷◌, ◌≡◌, ◌≤◌, ◌⊎◌, Bool, List, None, Option, Some, [], false, filter, if◌then◌else◌, not, ◌||◌, slice_get, true}
 use Rattle.std.proofs.Common.{◌∙◌, ap, inl, inr, refl, subst, sym}
 use Rattle.mh_base.specs.declared.obj_ref.ObjRef.{ObjRef}
 use Rattle.mh_base.specs.declared.value.Kind.TheVariants as kind
@@ -42,16 +42,14 @@ use Rattle.mh_model.proofs.ListLemmas.{empty_left, empty_right}
 use Rattle.mh_model.proofs.PartLemmas.{part_at-parts}
 use Rattle.mh_model.proofs.ServiceLemmas.{present_sent}
 use Rattle.mh_laws.specs.Active.{has_source, is_active}
-use Rattle.mh_laws.specs.Costs.{Costing, named, targets}
+use Rattle.mh_laws.specs.Costs.{named, targets}
 use Rattle.mh_laws.specs.Describing.{can_put, is_list_piece, is_sent, is_slot_piece, items_put}
 use Rattle.mh_laws.specs.Describing as saying
 use Rattle.mh_laws.specs.Each.{Among, Each}
 use Rattle.mh_laws.specs.Flow.{Flow, MayBe, has, is_reference_in}
-use Rattle.mh_laws.specs.Layers.{Covers}
 use Rattle.mh_laws.specs.Safe.{IsFine, IsSafeBy, IsSafeItem, config_of}
 use Rattle.mh_laws.specs.Ways.{count_of, highlight_ways, interaction_ways, ways}
 use Rattle.mh_laws.proofs.ActLemmas.{IsSound, fit_here, held_at, known_now, parts_of, possible_now, sound}
-use Rattle.mh_laws.proofs.CoverLemmas.{IsActiveCovered, IsPartCovered}
 use Rattle.mh_laws.proofs.EachLemmas.{among_all, each_found, from_joined}
 use Rattle.mh_laws.proofs.FaultLemmas.{fit_object, fit_variable}
 use Rattle.mh_laws.proofs.GivenLemmas.{holder_of_list}
@@ -66,19 +64,20 @@ use Rattle.mh_laws.proofs.StateLemmas.{parts_present}
 use Rattle.mh_laws.proofs.StepLemmas.{first_safe, safe_by_front}
 use Rattle.mh_laws.proofs.TimeLemmas.{all_filtered}
 use Rattle.mh_laws.proofs.WidgetLemmas.{IsTight, none_listed, tight_or_none}
+use Rattle.mh_laws.specs.Weighing.{IsAwake, CoversAll, IsActiveCovered, IsPartCovered, Weights}
 
 -- What an action needs, by its shares
 
-light_needs : (v : Service) (w : Flow) (f : Costing) (c : Config) (xs ys : List Argument) (vs : List Value) (r : ObjRef) (o : Object) → Each (Each (Needs v w f c xs vs r o)) (highlight_ways ys)
+light_needs : (v : Service) (w : Flow) (f : Weights) (c : Config) (xs ys : List Argument) (vs : List Value) (r : ObjRef) (o : Object) → Each (Each (Needs v w f c xs vs r o)) (highlight_ways ys)
 light_needs v w f c xs (argument.Direct (value.Bool true) ∷ []) vs r o = ((tt, tt), tt)
 light_needs v w f c xs (argument.Direct (value.Bool false) ∷ []) vs r o = ((tt, tt), tt)
 light_needs v w f c xs _ vs r o = ((tt, tt), ((tt, tt), tt))
 
-interaction_needs : (v : Service) (w : Flow) (f : Costing) (c : Config) (xs ys : List Argument) (vs : List Value) (r : ObjRef) (o : Object) → Each (Each (Needs v w f c xs vs r o)) (interaction_ways ys)
+interaction_needs : (v : Service) (w : Flow) (f : Weights) (c : Config) (xs ys : List Argument) (vs : List Value) (r : ObjRef) (o : Object) → Each (Each (Needs v w f c xs vs r o)) (interaction_ways ys)
 interaction_needs v w f c xs (argument.Direct (value.Bool true) ∷ []) vs r o = tt
 interaction_needs v w f c xs _ vs r o = ((tt, tt), tt)
 
-needs_by : (v : Service) (w : Flow) (f : Costing) (c : Config) (n : ActionName) (xs : List Argument) (vs : List Value) (r : ObjRef) (o : Object) → (list_any is_sent (can_put n) ≡ true → IsWord xs × ((q : ObjRef) → slice_get vs 0 ≡ Some (value.Object q) → Among (first_named w c xs) q)) → (list_any is_list_piece (can_put n) ≡ true → IsListedIn w c vs r o) → (list_any is_slot_piece (can_put n) ≡ true → (is_link o.fixed.class ≡ false) × IsPartCovered v w f c o.fixed) → Each (Each (Needs v w f c xs vs r o)) (ways n xs)
+needs_by : (v : Service) (w : Flow) (f : Weights) (c : Config) (n : ActionName) (xs : List Argument) (vs : List Value) (r : ObjRef) (o : Object) → (list_any is_sent (can_put n) ≡ true → IsWord xs × ((q : ObjRef) → slice_get vs 0 ≡ Some (value.Object q) → Among (first_named w c xs) q)) → (list_any is_list_piece (can_put n) ≡ true → IsListedIn w c vs r o) → (list_any is_slot_piece (can_put n) ≡ true → (is_link o.fixed.class ≡ false) × IsPartCovered v w f c o.fixed) → Each (Each (Needs v w f c xs vs r o)) (ways n xs)
 needs_by v w f c action.Run xs vs r o s l t = ((tt, tt), tt)
 needs_by v w f c action.Stop xs vs r o s l t = ((tt, tt), tt)
 needs_by v w f c action.Preload xs vs r o s l t = ((tt, tt), tt)
@@ -113,8 +112,9 @@ lists_within {fw} s k r o e is q =
     let h = held_at s k r o e in
     within_set (fw.sets (config_of s) r) o.body.list.entries q (h.once q) (λ is_one. subst (λ (x : ObjRef). has (fw.sets (config_of s)) x q ≡ true) (sym (found_key r (all s.objects) o e)) (h.items is q is_one))
 
-pub ready_state : {fw : Flow} (f : Costing) (s : State) (k : IsSafeBy fw s) → Covers s.service fw f → Ready fw f s
-ready_state {fw} f s k covers = record {
+pub ready_state : {fw : Flow} (f : Weights) (s : State) (k : IsSafeBy fw s) → CoversAll s.service fw f → IsAwake f s → Ready fw f s
+ready_state {fw} f s k covers woken = record {
+  woken = woken;
   service = k.accepted.service;
   covers = covers;
   objects = parts_present s k;
@@ -158,17 +158,17 @@ slots_only action.CallActionSlot _ some h = absurd cc
 slots_only _ c some h = absurd cc
 
 -- the slots of an object that is no link are covered
-slots_covered : (w : Flow) (f : Costing) (s : State) → Ready w f s → (r : ObjRef) (o : Object) → object_at r (all s.objects) ≡ Some o → is_link o.fixed.class ≡ false → IsPartCovered s.service w f (config_of s) o.fixed
+slots_covered : (w : Flow) (f : Weights) (s : State) → Ready w f s → (r : ObjRef) (o : Object) → object_at r (all s.objects) ≡ Some o → is_link o.fixed.class ≡ false → IsPartCovered s.service w f (config_of s) o.fixed
 slots_covered w f s k r o e no_link =
     let ps : List Fixed = present s.service (config_of s) in
     let part : part_at r ps ≡ Some o.fixed = found_part w f s k r ∙ ap (option_map (λ (x : Object). x.fixed)) e in
     let active : is_active ps o.fixed ≡ true = ap (λ (t : Bool). if t then has_source ps (as_value (held attribute.EventSource o.fixed.properties)) else true) no_link in
-    each_found (IsActiveCovered s.service w f (config_of s) ps) (λ (x : Fixed). same_ref r x.key) ps o.fixed (covered_now w f s k) part active
+    each_found (IsActiveCovered s.service w f (config_of s) ps) (λ (x : Fixed). same_ref r x.key) ps o.fixed (covered_now w f s k) part active (ap (λ (t : Bool). not t || f.wakes o.fixed.key) no_link)
 
 -- what is named first is what can be
 
 -- an event that is sent is written itself
-direct_now : {fw : Flow} (s : State) (k : IsSafeBy fw s) (a : Act) → IsFine s.service fw (config_of s) a → sends_direct a ≡ true
+pub direct_now : {fw : Flow} (s : State) (k : IsSafeBy fw s) (a : Act) → IsFine s.service fw (config_of s) a → sends_direct a ≡ true
 direct_now {fw} s k a fine =
     let ps : List Fixed = parts_of s in
     let part = from_joined actions (filter (is_active ps) ps) a fine.active in
@@ -183,7 +183,7 @@ numbered_word k a (value.Octets b) e x more = absurd cc
 numbered_word k a (value.Object b) e x more = absurd cc
 numbered_word k a (value.Content b) e x more = absurd cc
 
-word_of : (k : Known) (a : Act) (xs : List Argument) → has_direct_event (need.Ref ∷ need.Event ∷ need.Data ∷ []) xs ≡ true → arguments_wrongs k a (need.Ref ∷ need.Event ∷ need.Data ∷ []) xs ≡ [] → IsWord xs
+pub word_of : (k : Known) (a : Act) (xs : List Argument) → has_direct_event (need.Ref ∷ need.Event ∷ need.Data ∷ []) xs ≡ true → arguments_wrongs k a (need.Ref ∷ need.Event ∷ need.Data ∷ []) xs ≡ [] → IsWord xs
 word_of k a [] direct good = tt
 word_of k a (x ∷ []) direct good = tt
 word_of k a (x ∷ argument.Direct v ∷ more) direct good =
@@ -238,8 +238,8 @@ nothing_put action.ScrollItems vs r o some h fs t = h
 nothing_put action.SetFirstItem vs r o some h fs t = h
 nothing_put _ vs r o some h fs t = absurd cc
 
-ready_act : {fw : Flow} (f : Costing) (s : State) (k : IsSafeBy fw s) → Covers s.service fw f → (a : Act) → IsFine s.service fw (config_of s) a → IsReadyAct fw f s a
-ready_act {fw} f s k covers a fine r e = (target_among fw (config_of s) (present s.service (config_of s)) a.target r is.may, λ plain. given (found_object s k a.name r (no_transition a.name plain) is.fit))
+ready_act : {fw : Flow} (f : Weights) (s : State) (k : IsSafeBy fw s) → CoversAll s.service fw f → IsAwake f s → (a : Act) → IsFine s.service fw (config_of s) a → IsReadyAct fw f s a
+ready_act {fw} f s k covers woken a fine r e = (target_among fw (config_of s) (present s.service (config_of s)) a.target r is.may, λ plain. given (found_object s k a.name r (no_transition a.name plain) is.fit))
   where
     is : IsSound fw s k a r
     is = sound_now s k a fine r e
@@ -248,7 +248,7 @@ ready_act {fw} f s k covers a fine r e = (target_among fw (config_of s) (present
     vs = values (all s.objects) a.arguments
 
     ready : Ready fw f s
-    ready = ready_state f s k covers
+    ready = ready_state f s k covers woken
 
     sent : list_any is_sent (can_put a.name) ≡ true → IsWord a.arguments × ((q : ObjRef) → slice_get vs 0 ≡ Some (value.Object q) → Among (first_named fw (config_of s) a.arguments) q)
     sent sends =
@@ -287,18 +287,23 @@ visible_member {fw} s k r fit o e =
     let same : hit.0 ≡ o.fixed.class = ap (λ (t : Option Class). option_map_or (λ (x : Class). x) t hit.0) (sym hit.1 ∙ now) in
     subst (λ (c : Class). is_visible c ≡ true) same hit.2
 
-pub ready_item : {fw : Flow} (f : Costing) (s : State) (k : IsSafeBy fw s) → Covers s.service fw f → (i : Item) → IsSafeItem s.service fw (config_of s) i → IsReadyItem fw f s i
-ready_item {fw} f s k covers (item.Act a) h = ready_act f s k covers a h
-ready_item {fw} f s k covers (item.RunMember r) h = visible_member s k r h
-ready_item {fw} f s k covers (item.HaltMember r) h = visible_member s k r h
-ready_item {fw} f s k covers (item.Emit e) h = h
-ready_item {fw} f s k covers (item.Enter g) h = h
-ready_item {fw} f s k covers (item.Prepare r) h = tt
-ready_item {fw} f s k covers (item.Run r) h = tt
-ready_item {fw} f s k covers (item.Halt r) h = tt
-ready_item {fw} f s k covers (item.Drop r) h = tt
-ready_item {fw} f s k covers (item.Exchange g) h = h.1.0
-ready_item {fw} f s k covers item.End h = tt
+-- an event that is told may come
+abbrev pub IsMayItem : Weights → Item → Type 0
+IsMayItem f (item.Emit e) = f.may e ≡ true
+IsMayItem f i = Unit {0}
+
+pub ready_item : {fw : Flow} (f : Weights) (s : State) (k : IsSafeBy fw s) → CoversAll s.service fw f → IsAwake f s → (i : Item) → IsMayItem f i → IsSafeItem s.service fw (config_of s) i → IsReadyItem fw f s i
+ready_item {fw} f s k covers woken (item.Act a) m h = ready_act f s k covers woken a h
+ready_item {fw} f s k covers woken (item.RunMember r) m h = visible_member s k r h
+ready_item {fw} f s k covers woken (item.HaltMember r) m h = visible_member s k r h
+ready_item {fw} f s k covers woken (item.Emit e) m h = (h, m)
+ready_item {fw} f s k covers woken (item.Enter g) m h = h
+ready_item {fw} f s k covers woken (item.Prepare r) m h = tt
+ready_item {fw} f s k covers woken (item.Run r) m h = tt
+ready_item {fw} f s k covers woken (item.Halt r) m h = tt
+ready_item {fw} f s k covers woken (item.Drop r) m h = tt
+ready_item {fw} f s k covers woken (item.Exchange g) m h = h.1.0
+ready_item {fw} f s k covers woken item.End m h = tt
 
 -- the first item of a safe state is safe, and not stuck
 

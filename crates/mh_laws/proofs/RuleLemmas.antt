@@ -64,7 +64,7 @@ never_both true c = refl
 never_both false c = refl
 
 safe_load : {fw : Flow} (s : State) (k : IsSafeBy fw s) (vs : List Value) (r : ObjRef) (rest : List Item) (n : ℕ) → IsSafeWork s.service fw (config_of s) rest → IsSafeBy fw (load_rule vs r (record s { work = rest; taken = n }))
-safe_load {fw} s k [] r rest n behind_it = kept_work s k rest s.transition n behind_it
+safe_load {fw} s k [] r rest n behind_it = kept_work s k rest n behind_it
 safe_load {fw} s k (v ∷ []) r rest n behind_it = by (is_loadable v)
   where
     brings : Option Object → Bool
@@ -76,8 +76,8 @@ safe_load {fw} s k (v ∷ []) r rest n behind_it = by (is_loadable v)
         (changed-others (λ p b. replaced v (comes_to s.files v) b) r s.objects)
         (leaves_changed (sets_of s k) (λ p b. replaced v (comes_to s.files v) b) r s.objects (λ p b. (refl, refl)) (held_now s k))
         (safe_emit s k r event.ContentAvailable rest brings (never_both (is_loadable v) (is_some (comes_to s.files v))) behind_it)
-    by false = kept_work s k rest s.transition n behind_it
-safe_load {fw} s k (v ∷ w ∷ vs) r rest n behind_it = kept_work s k rest s.transition n behind_it
+    by false = kept_work s k rest n behind_it
+safe_load {fw} s k (v ∷ w ∷ vs) r rest n behind_it = kept_work s k rest n behind_it
 
 -- an object that interacts, or no longer does
 
@@ -95,13 +95,13 @@ safe_interact {fw} s k action.SetInteractionStatus vs rs r rest n fit behind_it 
     let here_it = fit_there (λ x. admits x action.SetInteractionStatus) None r (present s.service (config_of s)) fit in
     let work : List Item = interaction_items vs (is_interacting r s.interaction) r ++ rest in
     unasked (record s { work = work; taken = n })
-    (kept_work s k work s.transition n (safe_interaction_items s.service fw (config_of s) vs (is_interacting r s.interaction) r rest here_it behind_it))
+    (kept_work s k work n (safe_interaction_items s.service fw (config_of s) vs (is_interacting r s.interaction) r rest here_it behind_it))
     (interaction_set vs r (object_at r (all s.objects)) s.interaction)
 safe_interact {fw} s k action.GetInteractionStatus vs rs r rest n fit behind_it =
     let told : List Value = value.Bool (is_interacting r s.interaction) ∷ [] in
     kept_bodies s k _ s.stack rest n (filled-own rs told s.objects) (filled-others rs told s.objects)
     (held_filled (sets_of s k) (parts_of s) rs told s.objects (parts_present s k) (truth_fillable (sets_of s k) (parts_of s) rs (is_interacting r s.interaction)) (held_now s k)) behind_it
-safe_interact {fw} s k _ vs rs r rest n fit behind_it = kept_work s k rest s.transition n behind_it
+safe_interact {fw} s k _ vs rs r rest n fit behind_it = kept_work s k rest n behind_it
 
 -- an action with which nothing is wrong, by what kind of thing it does
 safe_by_sort : {fw : Flow} (s : State) (k : IsSafeBy fw s) (o : Sort) (a : Act) (r : ObjRef) (rest : List Item) (n : ℕ) → sort_of a.name ≡ o → IsSound fw s k a r → IsSafeWork s.service fw (config_of s) rest → IsSafeBy fw (rule_by o a.name a.arguments r (record s { work = rest; taken = n }))
@@ -114,7 +114,7 @@ safe_by_sort {fw} s k sort.Ask a r rest n same so behind_it =
     kept_bodies s k _ s.stack rest n (filled-own (receivers a.arguments) told s.objects) (filled-others (receivers a.arguments) told s.objects)
     (held_filled (sets_of s k) (parts_of s) (receivers a.arguments) told s.objects (parts_present s k) (answers_held s k a r so same) (held_now s k)) behind_it
 safe_by_sort {fw} s k sort.Put a r rest n same so behind_it =
-    kept_work s k _ s.transition n (by (object_at r (all s.objects)) refl)
+    kept_work s k _ n (by (object_at r (all s.objects)) refl)
   where
     by : (m : Option Object) → object_at r (all s.objects) ≡ m → IsSafeWork s.service fw (config_of s) (put_items_at a.name (values (all s.objects) a.arguments) r m ++ rest)
     by None e = behind_it
@@ -131,7 +131,7 @@ safe_by_sort {fw} s k sort.Widget a r rest n same so behind_it = by (object_at r
     vs = values (all s.objects) a.arguments
 
     by : (m : Option Object) → object_at r (all s.objects) ≡ m → IsSafeBy fw (widget_at a.name vs r m (record s { work = rest; taken = n }))
-    by None e = kept_work s k rest s.transition n behind_it
+    by None e = kept_work s k rest n behind_it
     by (Some o) e =
         let w : Worked = worked a.name vs r o.fixed o.body in
         let os : Objects = changed (λ p b. w.body) r s.objects in
@@ -151,7 +151,7 @@ safe_action : {fw : Flow} (s : State) (k : IsSafeBy fw s) (a : Act) (rest : List
 safe_action {fw} s k a rest n fine behind_it = by (referred a.target (all s.objects)) refl
   where
     by : (m : Option ObjRef) → referred a.target (all s.objects) ≡ m → IsSafeBy fw (act_on m a.name a.arguments (record s { work = rest; taken = n }))
-    by None e = kept_work s k rest s.transition n behind_it
+    by None e = kept_work s k rest n behind_it
     by (Some r) e = safe_by_sort s k (sort_of a.name) a r rest n refl (sound s k a r fine e) behind_it
 
 -- an object that becomes available or runs, that stops, and that is dropped
@@ -191,8 +191,8 @@ safe_emitted : {fw : Flow} (s : State) (k : IsSafeBy fw s) (e : Event) (rest : L
 safe_emitted {fw} s k e rest n here_it behind_it = by (is_sync e.kind)
   where
     by : (b : Bool) → IsSafeBy fw (if b then record s { work = heard e (all s.objects) ++ rest; taken = n } else record s { queue = s.queue ++ waiting.Event e ∷ []; work = rest; taken = n })
-    by true = kept_work s k _ s.transition n (safe_heard s.service fw (config_of s) e (present s.service (config_of s)) (all s.objects) rest here_it (fine_objects s k) behind_it)
-    by false = kept s k s.objects s.stack s.timers _ rest s.transition n refl refl (held_now s k) behind_it k.timers (all_joined (has_origin (present s.service (config_of s))) s.queue (waiting.Event e ∷ []) k.queue (both_true here_it refl))
+    by true = kept_work s k _ n (safe_heard s.service fw (config_of s) e (present s.service (config_of s)) (all s.objects) rest here_it (fine_objects s k) behind_it)
+    by false = kept s k s.objects s.stack s.timers _ rest n refl refl (held_now s k) behind_it k.timers (all_joined (has_origin (present s.service (config_of s))) s.queue (waiting.Event e ∷ []) k.queue (both_true here_it refl))
 
 -- doing an item, where the work behind it is safe
 pub safe_rule : {fw : Flow} (s : State) (k : IsSafeBy fw s) (i : Item) (rest : List Item) (n : ℕ) → IsSafeItem s.service fw (config_of s) i → IsSafeWork s.service fw (behind s.service (config_of s) i) rest → IsSafeBy fw (rule i (record s { work = rest; taken = n }))
@@ -206,7 +206,7 @@ safe_rule {fw} s k (item.Drop r) rest n here_it behind_it = safe_drop_item s k r
 safe_rule {fw} s k (item.Emit e) rest n here_it behind_it = safe_emitted s k e rest n here_it behind_it
 safe_rule {fw} s k (item.Enter g) rest n here_it behind_it =
     let put = safe_entering s.service fw (config_of s) g rest (fine_group s k g here_it) (group_there s k g here_it) behind_it in
-    unseen (record s { work = entering g (group_parts s.service g) ++ rest; taken = n }) (kept_work s k (entering g (group_parts s.service g) ++ rest) s.transition n put) (noted g s) s.ended s.locks s.frozen
+    unseen (record s { work = entering g (group_parts s.service g) ++ rest; taken = n }) (kept_work s k (entering g (group_parts s.service g) ++ rest) n put) (noted g s) s.ended s.locks s.frozen
 safe_rule {fw} s k (item.Exchange g) rest n here_it behind_it = safe_exchange s k g rest n here_it behind_it
 safe_rule {fw} s k item.End rest n here_it behind_it =
-    unseen (record s { queue = []; work = rest; taken = n }) (kept s k s.objects s.stack s.timers [] rest s.transition n refl refl (held_now s k) behind_it k.timers refl) s.moments true s.locks s.frozen
+    unseen (record s { queue = []; work = rest; taken = n }) (kept s k s.objects s.stack s.timers [] rest n refl refl (held_now s k) behind_it k.timers refl) s.moments true s.locks s.frozen

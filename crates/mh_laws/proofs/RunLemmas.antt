@@ -29,31 +29,32 @@ use Rattle.mh_model.specs.Configuration.{is_group_of}
 use Rattle.mh_model.specs.Files.{is_loadable}
 use Rattle.mh_model.specs.Items.{heard}
 use Rattle.mh_model.specs.Receiver.{told}
-use Rattle.mh_model.specs.Rules.{act_on, application_exchanged, emitted, exchange_rule, interact_rule, load_rule, loaded_with, rule, rule_by, scene_exchanged, whole_rule, widget_at}
+use Rattle.mh_model.specs.Reference.{group_ref}
+use Rattle.mh_model.specs.Rules.{act_on, application_exchanged, begins, begins_or_waits, emitted, exchange_rule, is_begun, interact_rule, leads_to_late, load_rule, loaded_with, rule, rule_by, scene_exchanged, transition_rule, whole_rule, widget_at}
 use Rattle.mh_model.specs.Service.{object_at}
 use Rattle.mh_model.specs.Sort.{sort_of}
 use Rattle.mh_model.specs.State.{State, all}
-use Rattle.mh_model.specs.Step.{did, done, key_taken, posted, posted_by, pressed_at, step, step_by, taking, took}
+use Rattle.mh_model.specs.Step.{awaits, scene_arrived, did, done, key_taken, posted, posted_by, pressed_at, step, step_by, taking, took}
 use Rattle.mh_model.specs.Stuck.{stuck}
-use Rattle.mh_laws.specs.Budget.{AreBounds, Bounds, bound_of, left, paid_unless, queue_cost}
-use Rattle.mh_laws.specs.Costs.{Costing}
+use Rattle.mh_laws.specs.Budget.{AreBounds, Bounds, bound_of, paid_unless, queue_cost}
 use Rattle.mh_laws.specs.Flow.{Flow}
 use Rattle.mh_laws.proofs.ActCostLemmas.{done_falls}
 use Rattle.mh_laws.proofs.ItemCostLemmas.{IsReadyItem, Ready, queue_append}
 use Rattle.mh_laws.proofs.TakenCostLemmas.{Attends, IsFromHere, took_falls}
+use Rattle.mh_laws.specs.Weighing.{left, Weights}
 
 -- the steps taken, and those that are still to be paid for
-abbrev pub spent : Flow → Costing → Bounds → State → ℕ
+abbrev pub spent : Flow → Weights → Bounds → State → ℕ
 spent w f b s = s.taken + left w f b s
 
 -- What the law of safety gives: something that holds of each state of a run, from which all that a step needs is known.
-pub record IsKept (w : Flow) (f : Costing) (b : Bounds) (Safe : State → Type 0) : Type 0 where
+pub record IsKept (w : Flow) (f : Weights) (b : Bounds) (Safe : State → Type 0) : Type 0 where
   pub ready : (s : State) → Safe s → Ready w f s
   pub attends : (s : State) → Safe s → Attends w s
-  pub bounds : (s : State) → Safe s → AreBounds s.service w f b
+  pub bounds : (s : State) → Safe s → AreBounds s.service w f.cost b
   pub item : (s : State) → Safe s → (i : Item) → slice_get s.work 0 ≡ Some i → IsReadyItem w f s i
   pub free : (s : State) → Safe s → (i : Item) → slice_get s.work 0 ≡ Some i → stuck i s ≡ None
-  pub waits : (s : State) → Safe s → (x : Waiting) → slice_get s.queue 0 ≡ Some x → IsFromHere s x
+  pub waits : (s : State) → Safe s → (x : Waiting) → slice_get s.queue 0 ≡ Some x → IsFromHere f s x
   pub told : (s : State) → Safe s → (o : Outcome) → Safe (told o s)
   pub stepped : (s : State) → Safe s → Safe (step s)
   pub posted : (s : State) → Safe s → (i : Input) → Safe (posted i s)
@@ -71,10 +72,10 @@ counted : (t a b : ℕ) → 1 + a ≤ b → t + 1 + a ≤ t + b
 counted t a b h = omega (arith, h)
 
 -- the step counts one
-done_spent : (w : Flow) (f : Costing) (b : Bounds) (s : State) (i : Item) → (done i s).taken ≡ s.taken + 1 → 1 + left w f b (done i s) ≤ left w f b s → spent w f b (done i s) ≤ spent w f b s
+done_spent : (w : Flow) (f : Weights) (b : Bounds) (s : State) (i : Item) → (done i s).taken ≡ s.taken + 1 → 1 + left w f b (done i s) ≤ left w f b s → spent w f b (done i s) ≤ spent w f b s
 done_spent w f b s i e h = omega (arith, e, h)
 
-took_spent : (w : Flow) (f : Costing) (b : Bounds) (s : State) (x : Waiting) → (took x s).taken ≡ s.taken + 1 → 1 + left w f b (took x s) ≤ left w f b s → spent w f b (took x s) ≤ spent w f b s
+took_spent : (w : Flow) (f : Weights) (b : Bounds) (s : State) (x : Waiting) → (took x s).taken ≡ s.taken + 1 → 1 + left w f b (took x s) ≤ left w f b s → spent w f b (took x s) ≤ spent w f b s
 took_spent w f b s x e h = omega (arith, e, h)
 
 -- A rule counts no step of its own, and leaves the service as it is.
@@ -101,10 +102,18 @@ interact_leaves action.SetInteractionStatus vs rs r s = (refl, refl)
 interact_leaves action.GetInteractionStatus vs rs r s = (refl, refl)
 interact_leaves _ vs rs r s = (refl, refl)
 
+transition_leaves : (n : ActionName) (r : ObjRef) (s : State) → Leaves s (transition_rule n r s)
+transition_leaves n r s = by (is_begun s.transition) (leads_to_late n r s)
+  where
+    by : (b late : Bool) → Leaves s (if b then s else begins_or_waits late n r s)
+    by true late = (refl, refl)
+    by false true = (refl, refl)
+    by false false = (refl, refl)
+
 whole_leaves : (n : ActionName) (vs : List Value) (r : ObjRef) (s : State) → Leaves s (whole_rule n vs r s)
-whole_leaves action.TransitionTo vs r s = (refl, refl)
-whole_leaves action.Launch vs r s = (refl, refl)
-whole_leaves action.Quit vs r s = (refl, refl)
+whole_leaves action.TransitionTo vs r s = transition_leaves action.TransitionTo r s
+whole_leaves action.Launch vs r s = transition_leaves action.Launch r s
+whole_leaves action.Quit vs r s = transition_leaves action.Quit r s
 whole_leaves action.LockScreen vs r s = (refl, refl)
 whole_leaves action.UnlockScreen vs r s = (refl, refl)
 whole_leaves action.SetTimer vs r s = (refl, refl)
@@ -166,6 +175,11 @@ taking_leaves (waiting.Input (input.Tick n)) s = (refl, refl)
 taking_leaves (waiting.Input (input.Stream n)) s = (refl, refl)
 taking_leaves (waiting.Input (input.Engine n)) s = (refl, refl)
 taking_leaves (waiting.Input (input.Arrive f)) s = (refl, refl)
+taking_leaves (waiting.Input (input.Scene g x)) s = by (awaits g s.transition)
+  where
+    by : (b : Bool) → Leaves s (if b then begins action.TransitionTo (group_ref g) (scene_arrived g s) else scene_arrived g s)
+    by true = (refl, refl)
+    by false = (refl, refl)
 
 pub took_counts : (x : Waiting) (s : State) → (took x s).taken ≡ s.taken + 1
 took_counts x s = (taking_leaves x (record s { queue = drop 1 s.queue; taken = s.taken + 1 })).0
@@ -173,7 +187,7 @@ took_counts x s = (taking_leaves x (record s { queue = drop 1 s.queue; taken = s
 pub took_serves : (x : Waiting) (s : State) → (took x s).service ≡ s.service
 took_serves x s = (taking_leaves x (record s { queue = drop 1 s.queue; taken = s.taken + 1 })).1
 
-pub step_spent : (w : Flow) (f : Costing) (b : Bounds) (Safe : State → Type 0) → IsKept w f b Safe → (s : State) → Safe s → spent w f b (step s) ≤ spent w f b s
+pub step_spent : (w : Flow) (f : Weights) (b : Bounds) (Safe : State → Type 0) → IsKept w f b Safe → (s : State) → Safe s → spent w f b (step s) ≤ spent w f b s
 step_spent w f b Safe k s safe = unless_ended s.ended
   where
     same : (n : ℕ) → n ≤ n
@@ -185,7 +199,7 @@ step_spent w f b Safe k s safe = unless_ended s.ended
         let queue : s.queue ≡ x ∷ drop 1 s.queue = in_front s.queue x h in
         let work : s.work ≡ [] = none_there s.work e in
         let falls = took_falls w f b s (k.ready s safe) (k.attends s safe) (k.bounds s safe) x (drop 1 s.queue) work queue (k.waits s safe x h) in
-        let now : queue_cost s.service w f b s.queue ≡ queue_cost s.service w f b (x ∷ drop 1 s.queue) = ap (queue_cost s.service w f b) queue in
+        let now : queue_cost s.service w f.cost b s.queue ≡ queue_cost s.service w f.cost b (x ∷ drop 1 s.queue) = ap (queue_cost s.service w f.cost b) queue in
         took_spent w f b s x (took_counts x s) (omega (arith, falls, now))
     by (Some i) x e h =
         let falls = done_falls w f b s (k.ready s safe) i (drop 1 s.work) (in_front s.work i e) (k.item s safe i e) in
@@ -195,6 +209,6 @@ step_spent w f b Safe k s safe = unless_ended s.ended
     unless_ended true = same _
     unless_ended false = by (slice_get s.work 0) (slice_get s.queue 0) refl refl
 
-pub posted_spent : (w : Flow) (f : Costing) (b : Bounds) (s : State) (i : Input) (m : Option Obstacle) → spent w f b (posted_by m i s) ≤ spent w f b s + paid_unless m (bound_of b i)
+pub posted_spent : (w : Flow) (f : Weights) (b : Bounds) (s : State) (i : Input) (m : Option Obstacle) → spent w f b (posted_by m i s) ≤ spent w f b s + paid_unless m (bound_of b i)
 posted_spent w f b s i None = let joined = queue_append s.service w f b s.queue (waiting.Input i ∷ []) in omega (arith, joined)
 posted_spent w f b s i (Some o) = omega arith

@@ -1,5 +1,5 @@
 -- A step does something where something is left to do, so that an accepted service settles.
-use Rattle.std.specs.Prelude.{◌&&◌, ◌++◌, ◌+◌, ◌==◌, ◌||◌, ◌∷◌, ◌≡◌, ◌⊎◌, Bool, List, None, Option, Some, [], false, if◌then◌else◌, replicate, slice_get, suc, true, zero, ℕ}
+use Rattle.std.specs.Prelude.{◌&&◌, ◌++◌, ◌+◌, ◌==◌, ◌||◌, ◌∷◌, ◌≡◌, ◌≤◌, ◌⊎◌, Bool, List, None, Option, Some, [], false, if◌then◌else◌, replicate, slice_get, suc, true, zero, ℕ}
 use Rattle.std.proofs.Common.{◌∙◌, ap, arith, inl, inr, refl, subst, sym}
 use Rattle.std.proofs.lemmas.Bool.Decides.{Decides-eqb}
 use Rattle.mh_model.specs.declared.fault.Fault.{Fault}
@@ -8,6 +8,7 @@ use Rattle.mh_model.specs.declared.input.Move.TheVariants as move
 use Rattle.mh_model.specs.declared.input.Waiting.{Waiting}
 use Rattle.mh_model.specs.declared.item.Item.{Item}
 use Rattle.mh_model.specs.declared.program.Call.{Call}
+use Rattle.mh_model.specs.declared.program.Outcome.TheVariants as outcome
 use Rattle.mh_model.specs.declared.program.Signature.{Signature}
 use Rattle.mh_model.specs.Limits.{most_steps}
 use Rattle.mh_model.specs.Receiver.{IsAdvanced, IsCountedStep, IsStepWith, IsStepped, anything, call_next, told}
@@ -125,12 +126,42 @@ more_paid : (b : Bounds) (ss : List Signature) (ms : List Move) (k : ℕ) (n m :
 more_paid b ss [] k n m s u t so on = steps_paid b ss k n m s t so.1 (subst (λ (x : State). IsAdvanced ss anything k x t) so.0 on)
 more_paid b ss (x ∷ ms) k n m s u t so on = (so.0, so.1, more_paid b ss ms k (n + paid b x s) m so.0 u t so.2 on)
 
+-- there is a next state, whatever a program may answer
+next_stepped : (ss : List Signature) (s : State) → (t : State) × IsStepped ss anything s t
+next_stepped ss s = by (s.taken == most_steps)
+  where
+    with : (c : Option Call) → (t : State) × IsStepWith anything c s t
+    with None = (step s, refl)
+    with (Some c) = (step (told outcome.Failed s), (outcome.Failed, tt, refl))
+
+    by : (b : Bool) → (t : State) × IsCountedStep b ss anything s t
+    by true = (s, refl)
+    by false = with (call_next ss s)
+
 pub settles : Settles
 settles most v k mjd fs ss ms budget s so n t on more =
     by (goes_on ss n s t (goes_run v k.flow (costs v k.flow k.rank) (bounds k) (accepted_costed most v k) ss ms (bounds k).start budget (begun_with v mjd fs) s (goes_begun v k.flow (costs v k.flow k.rank) (bounds k) (accepted_costed most v k) mjd fs) so).safe on)
   where
+    paid_on : IsPaidRun (bounds k) ss anything (ms ++ replicate n move.Step) (bounds k).start (begun_with v mjd fs) budget t
+    paid_on = more_paid (bounds k) ss ms n (bounds k).start budget (begun_with v mjd fs) s t so on
+
+    safe : IsSafeBy k.flow t
+    safe = (goes_run v k.flow (costs v k.flow k.rank) (bounds k) (accepted_costed most v k) ss (ms ++ replicate n move.Step) (bounds k).start budget (begun_with v mjd fs) t (goes_begun v k.flow (costs v k.flow k.rank) (bounds k) (accepted_costed most v k) mjd fs) paid_on).safe
+
+    next : (u : State) × IsStepped ss anything t u
+    next = next_stepped ss t
+
+    within : (next.0).taken ≤ budget
+    within = (never_wrong most v k mjd fs ss ((ms ++ replicate n move.Step) ++ replicate 1 move.Step) budget next.0 (more_paid (bounds k) ss (ms ++ replicate n move.Step) 1 (bounds k).start budget (begun_with v mjd fs) t next.0 paid_on (next.0, next.1, refl))).steps
+
+    -- one step more would be one too many
+    unless_left : (a : Bool) → is_settled t ≡ a → (b : Bool) → (t.taken == most_steps) ≡ b → t.taken ≡ s.taken + n → IsDone t
+    unless_left true e b f counted = inl e
+    unless_left false e true f counted = inr ((Decides-eqb t.taken most_steps).0 f)
+    unless_left false e false f counted =
+        let one = stepped_counts ss t next.0 safe e f next.1 in
+        absurd (omega (arith, counted, within, more, one))
+
     by : (t.taken ≡ s.taken + n) ⊎ IsDone t → IsDone t
-    by (inl counted) =
-        let within = (never_wrong most v k mjd fs ss (ms ++ replicate n move.Step) budget t (more_paid (bounds k) ss ms n (bounds k).start budget (begun_with v mjd fs) s t so on)).steps in
-        absurd (omega (arith, counted, within, more))
+    by (inl counted) = unless_left (is_settled t) refl (t.taken == most_steps) refl counted
     by (inr done) = done

@@ -14,6 +14,7 @@ use Rattle.mh_model.specs.declared.item.Item.{Item}
 use Rattle.mh_model.specs.declared.object.Fixed.{Fixed}
 use Rattle.mh_model.specs.declared.time.Moments.{Moments}
 use Rattle.mh_model.specs.declared.time.Timer.{Timer}
+use Rattle.mh_model.specs.declared.transition.Transition.{Transition}
 use Rattle.mh_model.specs.Configuration.{is_group_of, scene_parts, present}
 use Rattle.mh_model.specs.Planes.{Planes}
 use Rattle.mh_model.specs.Reference.{group_ref}
@@ -23,7 +24,7 @@ use Rattle.mh_laws.specs.Acceptable.{is_right, IsAcceptableBy}
 use Rattle.mh_laws.specs.Active.{active_actions}
 use Rattle.mh_laws.specs.Each.{Among, Each}
 use Rattle.mh_laws.specs.Flow.{reached, Flow, Keeps, IsLed}
-use Rattle.mh_laws.specs.Safe.{config_of, IsPartOf, is_scene_if_any, has_origin, has_group, IsFine, IsSafeWork, IsSafeBy}
+use Rattle.mh_laws.specs.Safe.{config_of, IsPartOf, is_scene_if_any, has_origin, has_group, IsFine, IsSafeTransition, IsSafeWork, IsSafeBy}
 use Rattle.mh_model.proofs.ListLemmas.{and_left, and_right}
 use Rattle.mh_model.proofs.PartLemmas.{parts-all}
 use Rattle.mh_model.proofs.ServiceLemmas.{is_there_left, is_there_right, group_is_there, group_parts_whole}
@@ -99,8 +100,8 @@ held_now {fw} s k = (k.own_held, k.others_held)
 
 -- a state stays safe where its work is safe, its timers and what waits are of what is present, and of its objects
 -- only bodies change
-pub kept : {fw : Flow} (s : State) (k : IsSafeBy fw s) (os : Objects) (stack : List ObjRef) (timers : List Timer) (queue : List Waiting) (work : List Item) (transition : Bool) (n : ℕ) → parts os.application ≡ parts s.objects.application → parts os.scene ≡ parts s.objects.scene → Holds s k os → IsSafeWork s.service fw (config_of s) work → list_all (has_group (present s.service (config_of s))) timers ≡ true → list_all (has_origin (present s.service (config_of s))) queue ≡ true → IsSafeBy fw (record s { objects = os; stack = stack; timers = timers; queue = queue; work = work; transition = transition; taken = n })
-kept {fw} s k os stack timers queue work transition n own others holds safe of_present from_present = record {
+pub kept : {fw : Flow} (s : State) (k : IsSafeBy fw s) (os : Objects) (stack : List ObjRef) (timers : List Timer) (queue : List Waiting) (work : List Item) (n : ℕ) → parts os.application ≡ parts s.objects.application → parts os.scene ≡ parts s.objects.scene → Holds s k os → IsSafeWork s.service fw (config_of s) work → list_all (has_group (present s.service (config_of s))) timers ≡ true → list_all (has_origin (present s.service (config_of s))) queue ≡ true → IsSafeBy fw (record s { objects = os; stack = stack; timers = timers; queue = queue; work = work; taken = n })
+kept {fw} s k os stack timers queue work n own others holds safe of_present from_present = record {
   accepted = k.accepted;
   application = k.application;
   scene = k.scene;
@@ -110,18 +111,19 @@ kept {fw} s k os stack timers queue work transition n own others holds safe of_p
   own_held = holds.0;
   others_held = holds.1;
   work = safe;
+  transition = k.transition;
   timers = of_present;
   queue = from_present;
   faultless = k.faultless;
 }
 
 -- a state stays safe where only its work changes
-pub kept_work : {fw : Flow} (s : State) (k : IsSafeBy fw s) (work : List Item) (transition : Bool) (n : ℕ) → IsSafeWork s.service fw (config_of s) work → IsSafeBy fw (record s { work = work; transition = transition; taken = n })
-kept_work {fw} s k work transition n safe = kept s k s.objects s.stack s.timers s.queue work transition n refl refl (held_now s k) safe k.timers k.queue
+pub kept_work : {fw : Flow} (s : State) (k : IsSafeBy fw s) (work : List Item) (n : ℕ) → IsSafeWork s.service fw (config_of s) work → IsSafeBy fw (record s { work = work; taken = n })
+kept_work {fw} s k work n safe = kept s k s.objects s.stack s.timers s.queue work n refl refl (held_now s k) safe k.timers k.queue
 
 -- where only objects and work do
 pub kept_bodies : {fw : Flow} (s : State) (k : IsSafeBy fw s) (os : Objects) (stack : List ObjRef) (work : List Item) (n : ℕ) → parts os.application ≡ parts s.objects.application → parts os.scene ≡ parts s.objects.scene → Holds s k os → IsSafeWork s.service fw (config_of s) work → IsSafeBy fw (record s { objects = os; stack = stack; work = work; taken = n })
-kept_bodies {fw} s k os stack work n own others holds safe = kept s k os stack s.timers s.queue work s.transition n own others holds safe k.timers k.queue
+kept_bodies {fw} s k os stack work n own others holds safe = kept s k os stack s.timers s.queue work n own others holds safe k.timers k.queue
 
 -- the moments, the lock, the picture that it keeps, and the end are no matter
 pub unseen : {fw : Flow} (s : State) → IsSafeBy fw s → (m : Moments) (ended : Bool) (locks : ℕ) (p : Planes) → IsSafeBy fw (record s { moments = m; ended = ended; locks = locks; frozen = p })
@@ -135,6 +137,7 @@ unseen {fw} s k m ended locks p = record {
   own_held = k.own_held;
   others_held = k.others_held;
   work = k.work;
+  transition = k.transition;
   timers = k.timers;
   queue = k.queue;
   faultless = k.faultless;
@@ -152,6 +155,7 @@ unasked {fw} s k i = record {
   own_held = k.own_held;
   others_held = k.others_held;
   work = k.work;
+  transition = k.transition;
   timers = k.timers;
   queue = k.queue;
   faultless = k.faultless;
@@ -169,6 +173,25 @@ unwaited {fw} s k files waits = record {
   own_held = k.own_held;
   others_held = k.others_held;
   work = k.work;
+  transition = k.transition;
+  timers = k.timers;
+  queue = k.queue;
+  faultless = k.faultless;
+}
+
+-- nor are a transition that begins or waits for a scene that is safe, and the scenes that are still late
+pub turned : {fw : Flow} (s : State) (k : IsSafeBy fw s) (t : Transition) (late : List (List ℕ)) → IsSafeTransition s.service fw (config_of s) t → IsSafeBy fw (record s { transition = t; late = late })
+turned {fw} s k t late safe = record {
+  accepted = k.accepted;
+  application = k.application;
+  scene = k.scene;
+  among = k.among;
+  own = k.own;
+  others = k.others;
+  own_held = k.own_held;
+  others_held = k.others_held;
+  work = k.work;
+  transition = safe;
   timers = k.timers;
   queue = k.queue;
   faultless = k.faultless;

@@ -54,6 +54,7 @@ safe_by_begun {fw} v k mjd = record {
   own_held = held_fresh (fw.sets (starting v)) (group_parts v v.start) (each_left (λ p. IsHeld (fw.sets (starting v)) (fresh p)) (group_parts v v.start) [] (k.solution.original (starting v) k.solution.start));
   others_held = tt;
   work = (inl refl, tt);
+  transition = tt;
   timers = refl;
   queue = refl;
   faultless = refl;
@@ -130,7 +131,7 @@ safe_by_posted {fw} s k i = by (obstacle i s)
   where
     by : (m : Option Obstacle) → IsSafeBy fw (posted_by m i s)
     by None =
-        kept s k s.objects s.stack s.timers (s.queue ++ waiting.Input i ∷ []) s.work s.transition s.taken refl refl (held_now s k) k.work k.timers
+        kept s k s.objects s.stack s.timers (s.queue ++ waiting.Input i ∷ []) s.work s.taken refl refl (held_now s k) k.work k.timers
         (all_joined (has_origin (present s.service (config_of s))) s.queue (waiting.Input i ∷ []) k.queue refl)
     by (Some o) = k
 
@@ -145,6 +146,7 @@ safe_by_told {fw} s k o = record {
   own_held = k.own_held;
   others_held = k.others_held;
   work = k.work;
+  transition = k.transition;
   timers = k.timers;
   queue = k.queue;
   faultless = k.faultless;

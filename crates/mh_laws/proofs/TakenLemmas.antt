@@ -3,9 +3,11 @@ use Rattle.std.specs.Prelude.{◌≡◌, ◌≤◌, ℕ, ◌+◌, Bool, true, fa
 use Rattle.std.specs.List.{list_all}
 use Rattle.std.specs.Option.{option_map_or}
 use Rattle.std.specs.Ordering.{int_eq}
+use Rattle.std.proofs.lemmas.Slice.Eq.{bytes_eq-Decides}
 use Rattle.std.proofs.Common.{inl, inr, ap, ◌∙◌, sym, subst, append-nil}
 use Rattle.mh_base.specs.declared.event.EventType.TheVariants as event
 use Rattle.mh_base.specs.declared.obj_ref.ObjRef.{ObjRef}
+use Rattle.mh_group.specs.declared.action_name.ActionName.TheVariants as action
 use Rattle.mh_group.specs.declared.class.Class.TheVariants as class
 use Rattle.mh_group.specs.declared.class.Class.{Class}
 use Rattle.mh_model.specs.declared.config.Config.{Config}
@@ -15,12 +17,15 @@ use Rattle.mh_model.specs.declared.input.Waiting.TheVariants as waiting
 use Rattle.mh_model.specs.declared.input.Waiting.{Waiting}
 use Rattle.mh_model.specs.declared.interaction.Interaction.{Interaction}
 use Rattle.mh_model.specs.declared.item.Item.{Item}
+use Rattle.mh_model.specs.declared.item.Item.TheVariants as item
 use Rattle.mh_model.specs.declared.key.Key.TheVariants as key
 use Rattle.mh_model.specs.declared.key.Key.{Key}
 use Rattle.mh_model.specs.declared.object.Body.{Body}
 use Rattle.mh_model.specs.declared.object.Fixed.{Fixed}
 use Rattle.mh_model.specs.declared.object.Object.{Object}
 use Rattle.mh_model.specs.declared.time.Timer.{Timer}
+use Rattle.mh_model.specs.declared.transition.Transition.{Transition}
+use Rattle.mh_model.specs.declared.transition.Transition.TheVariants as transition
 use Rattle.mh_model.specs.Bodies.{text_of}
 use Rattle.mh_model.specs.Configuration.{present}
 use Rattle.mh_model.specs.EntryFields.{Pressed, not_pressed, pressed_by, most_typed, overtyped, put_in, typed, field_pressed, button_pressed, pressed_of}
@@ -29,24 +34,26 @@ use Rattle.mh_model.specs.Items.{heard, plain_event}
 use Rattle.mh_model.specs.Key.{passes}
 use Rattle.mh_model.specs.ListItems.{has_item}
 use Rattle.mh_model.specs.Listed.{Listed}
-use Rattle.mh_model.specs.Lists.{are_same, objects_of}
+use Rattle.mh_group.specs.Same.{are_same}
+use Rattle.mh_model.specs.Lists.{objects_of}
 use Rattle.mh_model.specs.Reference.{group_ref}
-use Rattle.mh_model.specs.Rules.{changed, text_brought}
+use Rattle.mh_model.specs.Rules.{begins, changed, text_brought, way_out}
 use Rattle.mh_model.specs.Service.{Service, object_at, is_there}
 use Rattle.mh_model.specs.State.{State, Objects, all}
-use Rattle.mh_model.specs.Step.{register_of, key_event, key_items, key_taken, pressed_at, took, engine_event, streams_told, timers_fired, contents_told}
+use Rattle.mh_model.specs.Late.{late_without}
+use Rattle.mh_model.specs.Step.{awaits, scene_arrived, register_of, key_event, key_items, key_taken, pressed_at, took, engine_event, streams_told, timers_fired, contents_told}
 use Rattle.mh_model.specs.Time.{is_due}
 use Rattle.mh_model.specs.Widget.{no_work}
 use Rattle.mh_laws.specs.Flow.{Flow, Sets}
-use Rattle.mh_laws.specs.Safe.{config_of, has_origin, has_group, IsSafeWork, IsSafeBy}
+use Rattle.mh_laws.specs.Safe.{config_of, has_origin, has_group, IsSafeItem, IsSafeTransition, IsSafeWork, IsSafeBy}
 use Rattle.mh_model.proofs.ListLemmas.{some_same, and_left, and_right, all_joined}
 use Rattle.mh_model.proofs.PartLemmas.{found_there, changed-own, changed-others, with_text-parts}
 use Rattle.mh_laws.specs.Ways.{count_of}
 use Rattle.mh_laws.proofs.ActLemmas.{sets_of}
 use Rattle.mh_laws.proofs.HeldLemmas.{KeepsHeld, held_changed, held_brought, same_value_held}
-use Rattle.mh_laws.proofs.StateLemmas.{held_now, parts_present, fine_objects, group_there, there, kept, unseen, unasked, unwaited}
+use Rattle.mh_laws.proofs.StateLemmas.{held_now, parts_present, fine_objects, fine_scene, group_there, there, kept, turned, unseen, unasked, unwaited}
 use Rattle.mh_laws.proofs.TimeLemmas.{all_filtered, fired_safe, streams_safe, contents_safe}
-use Rattle.mh_laws.proofs.WorkLemmas.{safe_heard}
+use Rattle.mh_laws.proofs.WorkLemmas.{safe_heard, safe_leaving}
 
 -- the first that waits comes from something present, and so does the rest
 pub first_waits : (ps : List Fixed) (ws : List Waiting) (w : Waiting) → slice_get ws 0 ≡ Some w → list_all (has_origin ps) ws ≡ true → (has_origin ps w ≡ true) × (list_all (has_origin ps) (drop 1 ws) ≡ true)
@@ -164,6 +171,12 @@ told_safe {fw} s k n = subst (λ (ps : List Fixed). list_all (has_origin ps) (st
 contents_told_safe : {fw : Flow} (s : State) → IsSafeBy fw s → (name : List ℕ) → list_all (has_origin (present s.service (config_of s))) (contents_told name s) ≡ true
 contents_told_safe {fw} s k name = subst (λ (ps : List Fixed). list_all (has_origin ps) (contents_told name s) ≡ true) (parts_present s k) (contents_safe name s.waits (all s.objects))
 
+-- a scene that is waited for may be exchanged for the one that is there
+awaited_safe : (v : Service) (fw : Flow) (c : Config) (g : List ℕ) (t : Transition) → awaits g t ≡ true → IsSafeTransition v fw c t → IsSafeItem v fw c (item.Exchange g)
+awaited_safe v fw c g transition.Rests e is = absurd cc
+awaited_safe v fw c g transition.Begun e is = absurd cc
+awaited_safe v fw c g (transition.Awaits h) e is = subst (λ (x : List ℕ). IsSafeItem v fw c (item.Exchange x)) (sym ((bytes_eq-Decides g h).0 e)) is
+
 -- a state stays safe where what waits first is taken
 pub safe_took : {fw : Flow} (s : State) (k : IsSafeBy fw s) (w : Waiting) → has_origin (present s.service (config_of s)) w ≡ true → list_all (has_origin (present s.service (config_of s))) (drop 1 s.queue) ≡ true → IsSafeBy fw (took w s)
 safe_took {fw} s k w here_it left = by w here_it
@@ -172,7 +185,7 @@ safe_took {fw} s k w here_it left = by w here_it
     n = s.taken + 1
 
     put : (work : List Item) → IsSafeWork s.service fw (config_of s) work → IsSafeBy fw (record s { queue = drop 1 s.queue; work = work; taken = n })
-    put work safe = kept s k s.objects s.stack s.timers (drop 1 s.queue) work s.transition n refl refl (held_now s k) safe k.timers left
+    put work safe = kept s k s.objects s.stack s.timers (drop 1 s.queue) work n refl refl (held_now s k) safe k.timers left
 
     by : (w : Waiting) → has_origin (present s.service (config_of s)) w ≡ true → IsSafeBy fw (took w s)
     by (waiting.Event e) here_it = put _ (heard_alone s k e here_it)
@@ -188,7 +201,7 @@ safe_took {fw} s k w here_it left = by w here_it
                 let w : Pressed = pressed_of o.fixed.class key i.before i.object o.fixed o.body in
                 let os : Objects = changed (λ p b. w.body) i.object s.objects in
                 unasked (record s { objects = os; queue = drop 1 s.queue; work = w.items; taken = n })
-                (kept s k os s.stack s.timers (drop 1 s.queue) w.items s.transition n (changed-own (λ p b. w.body) i.object s.objects) (changed-others (λ p b. w.body) i.object s.objects)
+                (kept s k os s.stack s.timers (drop 1 s.queue) w.items n (changed-own (λ p b. w.body) i.object s.objects) (changed-others (λ p b. w.body) i.object s.objects)
                 (held_changed (sets_of s k) (λ p b. w.body) i.object s.objects (λ x found. subst (λ (y : Object). KeepsHeld (sets_of s k) (λ p b. w.body) y) (some_same (sym e ∙ found)) (pressed_held (sets_of s k) key i.before i.object o)) (held_now s k))
                 (safe_pressed s.service fw (config_of s) o.fixed.class key i.before i.object o.fixed o.body (there s k i.object (found_there i.object (all s.objects) o e))) k.timers left)
                 (if w.ends then None else s.interaction)
@@ -198,17 +211,26 @@ safe_took {fw} s k w here_it left = by w here_it
         let fired = all_joined (has_origin ps) (drop 1 s.queue) (timers_fired now s) left (fired_safe ps now s.application s.timers k.timers) in
         let other : List Timer = filter (λ t. not (is_due now t)) s.timers in
         unseen (record s { timers = other; queue = drop 1 s.queue ++ timers_fired now s; taken = n })
-        (kept s k s.objects s.stack other (drop 1 s.queue ++ timers_fired now s) s.work s.transition n refl refl (held_now s k) k.work (all_filtered (λ t. not (is_due now t)) (has_group ps) s.timers k.timers) fired)
+        (kept s k s.objects s.stack other (drop 1 s.queue ++ timers_fired now s) s.work n refl refl (held_now s k) k.work (all_filtered (λ t. not (is_due now t)) (has_group ps) s.timers k.timers) fired)
         (record s.moments { present = now }) s.ended s.locks s.frozen
     by (waiting.Input (input.Stream m)) here_it =
-        kept s k s.objects s.stack s.timers (drop 1 s.queue ++ streams_told m s) s.work s.transition n refl refl (held_now s k) k.work k.timers
+        kept s k s.objects s.stack s.timers (drop 1 s.queue ++ streams_told m s) s.work n refl refl (held_now s k) k.work k.timers
         (all_joined (has_origin (present s.service (config_of s))) (drop 1 s.queue) (streams_told m s) left (told_safe s k m))
     by (waiting.Input (input.Arrive f)) here_it =
         let told : List Waiting = contents_told f.name s in
         let queue : List Waiting = drop 1 s.queue ++ told in
         unwaited (record s { objects = text_brought _ f.content s.objects; queue = queue; taken = n })
-        (kept s k (text_brought _ f.content s.objects) s.stack s.timers queue s.work s.transition n
+        (kept s k (text_brought _ f.content s.objects) s.stack s.timers queue s.work n
         (with_text-parts _ f.content s.objects.application) (with_text-parts _ f.content s.objects.scene) (held_brought (sets_of s k) _ f.content s.objects (held_now s k)) k.work k.timers
         (all_joined (has_origin (present s.service (config_of s))) (drop 1 s.queue) told left (contents_told_safe s k f.name)))
         (with_file f s.files) (arrived f.name s.waits)
+    by (waiting.Input (input.Scene g x)) here_it = by_course (awaits g s.transition) refl
+      where
+        by_course : (t : Bool) → awaits g s.transition ≡ t → IsSafeBy fw (if t then begins action.TransitionTo (group_ref g) (scene_arrived g (record s { queue = drop 1 s.queue; taken = n })) else scene_arrived g (record s { queue = drop 1 s.queue; taken = n }))
+        by_course true e =
+            let work : List Item = way_out action.TransitionTo (group_ref g) s in
+            turned (record s { queue = drop 1 s.queue; work = work; taken = n })
+            (put work (safe_leaving s.service fw (config_of s) s.application s.scene g (fine_scene s k) (awaited_safe s.service fw (config_of s) g s.transition e k.transition)))
+            transition.Begun (late_without g s.late) tt
+        by_course false e = turned (record s { queue = drop 1 s.queue; taken = n }) (put s.work k.work) s.transition (late_without g s.late) k.transition
     by (waiting.Input (input.Engine m)) here_it = put _ (heard_alone s k (engine_event m s.application) (group_there s k s.application (inl refl)))

@@ -71,6 +71,10 @@ transition_target v c n r whole is h = by_number (r.number == 0) refl
         let wrong : true ≡ false = sym numbered ∙ e in
         absurd cc
 
+-- and to its number 0
+pub leads_zeroth : (v : Service) (c : Config) (r : ObjRef) → list_all is_whole (present v c) ≡ true → admitted_wrongs (known_before v (present v c)) action.TransitionTo None r ≡ [] → (r.number == 0) ≡ true
+leads_zeroth v c r whole free = (transition_target v c action.TransitionTo r whole refl free).0
+
 -- a scene is no application
 no_application : (v : Service) (g : List ℕ) → is_group_of is_scene v g ≡ true → is_group_of is_application v g ≡ false
 no_application v g h = by (part_at (group_ref g) (group_parts v g)) h

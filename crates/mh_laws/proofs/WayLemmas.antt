@@ -28,7 +28,8 @@ use Rattle.mh_model.specs.Files.{comes_to, is_loadable}
 use Rattle.mh_model.specs.Items.{acts, plain_event}
 use Rattle.mh_model.specs.Lifecycle.{is_available_at, emit_if}
 use Rattle.mh_model.specs.Listed.{Listed}
-use Rattle.mh_model.specs.Lists.{Shown, shows, is_shown, are_same, truth_told, count_told, list_events, relisted, list_changed, list_worked, other_marked, item_event, unmark_items, selection_wanted, selection_by, selection_at, selection_worked}
+use Rattle.mh_group.specs.Same.{are_same}
+use Rattle.mh_model.specs.Lists.{Shown, shows, is_shown, truth_told, count_told, list_events, relisted, list_changed, list_worked, other_marked, item_event, unmark_items, selection_wanted, selection_by, selection_at, selection_worked}
 use Rattle.mh_model.specs.Programs.{counted}
 use Rattle.mh_model.specs.Property.{value_held}
 use Rattle.mh_model.specs.Saying.{event_numbered, sent, tested, put_items, load_items, interaction_items}

@@ -1,7 +1,8 @@
 -- The law of steps: from an accepted service nothing ever goes wrong, and it settles. No state of any run is stuck, and the
 -- steps that were taken are at most what the start costs and what each input is bound to that was accepted.
-use Rattle.std.specs.Prelude.{◌≡◌, ◌⊎◌, ◌≤◌, ◌<◌, ℕ, ◌+◌, Bool, true, List, [], ◌∷◌, map, Option, Some, None, pos}
+use Rattle.std.specs.Prelude.{◌≡◌, ◌⊎◌, ◌≤◌, ℕ, ◌+◌, Bool, true, List, [], ◌∷◌, map, Option, Some, None, pos}
 use Rattle.std.specs.List.{list_all, list_any}
+use Rattle.mh_model.specs.declared.config.Config.{Config}
 use Rattle.mh_model.specs.declared.file.File.{File}
 use Rattle.mh_model.specs.declared.file.Wait.{Wait}
 use Rattle.mh_model.specs.declared.input.Input.{Input}
@@ -17,15 +18,19 @@ use Rattle.mh_model.specs.declared.program.Call.{Call}
 use Rattle.mh_model.specs.declared.program.Outcome.{Outcome}
 use Rattle.mh_model.specs.declared.program.Signature.{Signature}
 use Rattle.mh_model.specs.declared.time.Timer.{Timer}
+use Rattle.mh_model.specs.declared.transition.Transition.{Transition}
+use Rattle.mh_model.specs.declared.transition.Transition.TheVariants as transition
 use Rattle.mh_model.specs.Configuration.{present, starting}
 use Rattle.mh_model.specs.Known.{class_at}
+use Rattle.mh_model.specs.Late.{is_late_scene}
 use Rattle.mh_model.specs.Limits.{most_steps}
 use Rattle.mh_model.specs.Receiver.{IsMoved, IsRun, IsAdvanced, anything}
 use Rattle.mh_model.specs.Service.{Service}
 use Rattle.mh_model.specs.State.{State}
 use Rattle.mh_model.specs.Step.{obstacle, is_settled}
 use Rattle.mh_laws.specs.Acceptable.{IsAcceptableBy}
-use Rattle.mh_laws.specs.Costs.{Costing, Effect, TimerKey, enter, entry, input_price, is_reader, same_timer, set_timers, work_cost}
+use Rattle.mh_laws.specs.Costs.{Costing, Effect, TimerKey, enter, entry, input_price, is_reader, late_scenes, same_timer, set_timers, work_cost}
+use Rattle.mh_laws.specs.Each.{Among}
 use Rattle.mh_laws.specs.Flow.{Flow}
 use Rattle.mh_laws.specs.Headline.{IsFaultless, begun_with}
 use Rattle.mh_laws.specs.Layers.{Covers, IsLayering, costs}
@@ -50,6 +55,7 @@ bound_of b (input.Tick n) = b.tick
 bound_of b (input.Stream n) = b.stream
 bound_of b (input.Engine n) = b.engine
 bound_of b (input.Arrive f) = b.arrive
+bound_of b (input.Scene g x) = b.arrive
 
 -- what the start costs
 abbrev pub start_cost : Service → Flow → Costing → ℕ
@@ -133,13 +139,13 @@ NeverWrong =
 abbrev pub IsDone : State → Type 0
 IsDone s = (is_settled s ≡ true) ⊎ (s.taken ≡ most_steps)
 
--- AND IT SETTLES. After more steps than are left of the budget, with nothing posted, nothing is left to do.
+-- AND IT SETTLES. After as many steps as are left of the budget, with nothing posted, nothing is left to do.
 abbrev pub Settles : Type 0
 Settles =
     (most : ℕ) (v : Service) (k : IsAccepted most v) (mjd : ℕ) (fs : List File) (ss : List Signature) (ms : List Move)
     (budget : ℕ) (s : State) →
     IsPaidRun (bounds k) ss anything ms (bounds k).start (begun_with v mjd fs) budget s →
-    (n : ℕ) (t : State) → IsAdvanced ss anything n s t → budget < s.taken + n → IsDone t
+    (n : ℕ) (t : State) → IsAdvanced ss anything n s t → budget ≤ s.taken + n → IsDone t
 
 -- The same for any costs that cover and any bounds that are large enough, as code may have them
 
@@ -189,13 +195,25 @@ AreSettable v w ts = (x : TimerKey) → count_timer x (map timer_key ts) ≤ onc
 abbrev pub can_read : List Fixed → Wait → Bool
 can_read ps x = is_reader (class_at x.object ps)
 
--- The state is a safe one of the service, its timers can be set, only what has content waits for a file, and what was taken
--- and is left is within the budget.
+-- what is still late is late at first
+abbrev pub AreLate : Service → List (List ℕ) → Type 0
+AreLate v gs = (g : List ℕ) → is_late_scene g gs ≡ true → is_late_scene g v.late ≡ true
+
+-- a scene that is waited for is a late one to which an active action can lead
+abbrev pub IsAwaited : Service → Flow → Config → Transition → Type 0
+IsAwaited v w c transition.Rests = Unit {0}
+IsAwaited v w c (transition.Awaits g) = Among (late_scenes v w c) g
+IsAwaited v w c transition.Begun = Unit {0}
+
+-- The state is a safe one of the service, its timers can be set, only what has content waits for a file, a scene that is
+-- waited for is one to which an active action can lead, and what was taken and is left is within the budget.
 pub record Goes (v : Service) (w : Flow) (f : Costing) (b : Bounds) (budget : ℕ) (s : State) : Type 0 where
   pub safe : IsSafeBy w s
   pub service : s.service ≡ v
   pub timers : AreSettable s.service w s.timers
   pub readers : list_all (can_read (present s.service (config_of s))) s.waits ≡ true
+  pub late : AreLate s.service s.late
+  pub awaited : IsAwaited s.service w (config_of s) s.transition
   pub within : s.taken + left w f b s ≤ budget
 
 -- it holds at the start, each move keeps it, with the bound of its input where that is accepted, and where it holds all is

@@ -1,6 +1,6 @@
 -- What items, entries and inputs cost in a configuration: prices, in which only the costs of effects are open. Of references,
 -- events and lists the dearest that the flow has counts; whether an object is running or available is not asked.
-use Rattle.std.specs.Prelude.{ℕ, ◌+◌, Bool, false, ◌&&◌, ◌||◌, not, if◌then◌else◌, List, [], ◌∷◌, map, filter, reverse, length, get_or, Option, Some, None, ℤ, pos}
+use Rattle.std.specs.Prelude.{ℕ, ◌+◌, ◌==◌, Bool, true, false, ◌&&◌, ◌||◌, not, if◌then◌else◌, List, [], ◌∷◌, map, filter, length, get_or, Option, Some, None, ℤ}
 use Rattle.std.specs.List.{flat_map, list_any, range_with_len}
 use Rattle.std.specs.Option.{option_map_or}
 use Rattle.std.specs.Ordering.{int_eq}
@@ -28,22 +28,22 @@ use Rattle.mh_model.specs.declared.input.Input.{Input}
 use Rattle.mh_model.specs.declared.input.Input.TheVariants as input
 use Rattle.mh_model.specs.declared.item.Item.{Item}
 use Rattle.mh_model.specs.declared.item.Item.TheVariants as item
-use Rattle.mh_model.specs.declared.member.Member.{Member}
 use Rattle.mh_model.specs.declared.object.Fixed.{Fixed}
 use Rattle.mh_model.specs.Configuration.{present, scene_parts}
-use Rattle.mh_model.specs.Groups.{is_initially_active, is_shared}
+use Rattle.mh_model.specs.Groups.{is_shared}
 use Rattle.mh_model.specs.Items.{hears_source, hears_type, hears_data}
 use Rattle.mh_model.specs.Known.{class_at}
+use Rattle.mh_model.specs.Late.{is_late_scene}
 use Rattle.mh_model.specs.Property.{held, as_effect, as_event, as_value}
 use Rattle.mh_model.specs.Reference.{group_ref, same_ref}
-use Rattle.mh_model.specs.Saying.{event_numbered}
 use Rattle.mh_model.specs.Service.{Service, part_at, group_parts, is_there}
-use Rattle.mh_model.specs.Tokens.{members}
 use Rattle.mh_laws.specs.Active.{active_actions}
 use Rattle.mh_laws.specs.Flow.{Flow, reached}
 use Rattle.mh_laws.specs.Price.{Price, Nothing, One, Node, Plus, Most, sum_price, most_price, if_price, worth}
 use Rattle.mh_laws.specs.Safe.{behind, exchanged}
-use Rattle.mh_laws.specs.Ways.{Told, Sure, Unsure, Share, Prepares, Runs, Halts, Drops, Tells, Sends, Changes, Slots, slots_of, ways}
+use Rattle.mh_laws.specs.View as view
+use Rattle.mh_laws.specs.View.{Around, Lists, View}
+use Rattle.mh_laws.specs.Ways.{Told, Sure, Unsure, Share, slots_of}
 
 -- Effects
 
@@ -114,66 +114,58 @@ fired_if_there v c r kind d = if_price (is_there r (present v c)) (fired v c r k
 abbrev pub entry : Service → Flow → ObjRef → EventType → Told → Price Effect
 entry v w r kind d = Plus One (most_price (λ c. fired_if_there v c r kind d) w.configs)
 
+-- A configuration where effects are counted
+
 -- an event is dealt with at once, or waits
+abbrev pub objects : Service → Flow → Config → View Effect
+objects v w c = record {
+  part = λ r. part_at r (present v c);
+  set = w.sets c;
+  dealt_with = λ r kind d. if is_sync kind then fired_if_there v c r kind d else entry v w r kind d;
+  slots = λ p. most_price (λ n. effect c n p) (range_with_len first_slot (length (slots_of p)));
+}
+
+abbrev pub lists : Service → Flow → Config → Lists Effect
+lists v w c = record { view = objects v w c; change = view.change (objects v w c) }
+
 abbrev pub emit : Service → Flow → Config → ObjRef → EventType → Told → Price Effect
-emit v w c r kind d = Plus One (if is_sync kind then fired_if_there v c r kind d else entry v w r kind d)
+emit v w c r kind d = view.emit (objects v w c) r kind d
 
 abbrev pub plain_emit : Service → Flow → Config → ObjRef → EventType → Price Effect
-plain_emit v w c r kind = emit v w c r kind (Sure None)
+plain_emit v w c r kind = view.plain_emit (objects v w c) r kind
 
--- Life
-
--- an object of this class becomes available, and its content is there
 abbrev pub rise_of : Service → Flow → Config → ObjRef → Class → Price Effect
-rise_of v w c r k =
-    Plus (plain_emit v w c r event.IsAvailable) (if_price (has_content k) (plain_emit v w c r event.ContentAvailable))
+rise_of v w c r k = view.rise_of (objects v w c) r k
 
 abbrev pub rise : Service → Flow → Config → ObjRef → Price Effect
-rise v w c r = option_map_or (rise_of v w c r) (class_at r (present v c)) Nothing
+rise v w c r = view.rise (objects v w c) r
 
 abbrev pub prepare : Service → Flow → Config → ObjRef → Price Effect
-prepare v w c r = Plus One (rise v w c r)
-
--- without what a group of objects runs and halts
+prepare v w c r = view.prepare (objects v w c) r
 
 abbrev pub run_alone : Service → Flow → Config → ObjRef → Price Effect
-run_alone v w c r = Plus One (Plus (rise v w c r) (plain_emit v w c r event.IsRunning))
+run_alone v w c r = view.run_alone (objects v w c) r
 
 abbrev pub halt_alone : Service → Flow → Config → ObjRef → Price Effect
-halt_alone v w c r = Plus One (plain_emit v w c r event.IsStopped)
+halt_alone v w c r = view.halt_alone (objects v w c) r
 
--- a list changes: each item that it may have halts and runs, and its four events are told
 abbrev pub change : Service → Flow → Config → ObjRef → Price Effect
-change v w c r =
-    Plus (sum_price (halt_alone v w c) (w.sets c r))
-    (Plus (sum_price (run_alone v w c) (w.sets c r))
-    (Plus (emit v w c r event.FirstItemPresented Unsure) (Plus (emit v w c r event.LastItemPresented Unsure)
-    (Plus (emit v w c r event.HeadItems Unsure) (emit v w c r event.TailItems Unsure)))))
-
--- what a group of objects runs and halts, by its class
+change v w c r = view.change (objects v w c) r
 
 abbrev pub group_run : Service → Flow → Config → ObjRef → Fixed → Class → Price Effect
-group_run v w c r p class.TokenGroup =
-    Plus (sum_price (λ (m : Member). run_alone v w c m.object) (members p))
-    (emit v w c r event.TokenMovedTo (Sure (Some (value.Int (pos 1)))))
-group_run v w c r p class.ListGroup = change v w c r
-group_run v w c r p _ = Nothing
+group_run v w c r p k = view.group_run (lists v w c) r p k
 
 abbrev pub group_halt : Service → Flow → Config → ObjRef → Fixed → Class → Price Effect
-group_halt v w c r p class.TokenGroup = sum_price (λ (m : Member). halt_alone v w c m.object) (members p)
-group_halt v w c r p class.ListGroup = sum_price (halt_alone v w c) (w.sets c r)
-group_halt v w c r p _ = Nothing
+group_halt v w c r p k = view.group_halt (lists v w c) r p k
 
 abbrev pub run : Service → Flow → Config → ObjRef → Price Effect
-run v w c r =
-    Plus (run_alone v w c r) (option_map_or (λ (p : Fixed). group_run v w c r p p.class) (part_at r (present v c)) Nothing)
+run v w c r = view.run (lists v w c) r
 
 abbrev pub halt : Service → Flow → Config → ObjRef → Price Effect
-halt v w c r =
-    Plus (halt_alone v w c r) (option_map_or (λ (p : Fixed). group_halt v w c r p p.class) (part_at r (present v c)) Nothing)
+halt v w c r = view.halt (lists v w c) r
 
 abbrev pub dropped : Service → Flow → Config → ObjRef → Price Effect
-dropped v w c r = Plus One (plain_emit v w c r event.IsDeleted)
+dropped v w c r = view.dropped (objects v w c) r
 
 -- Groups
 
@@ -181,12 +173,8 @@ dropped v w c r = Plus One (plain_emit v w c r event.IsDeleted)
 abbrev pub group_effect : Service → Config → List ℕ → ℕ → Price Effect
 group_effect v c g n = option_map_or (effect c n) (part_at (group_ref g) (group_parts v g)) Nothing
 
--- a group is entered: its start-up, all of it that is active at first runs, and it runs itself
 abbrev pub enter : Service → Flow → Config → List ℕ → Price Effect
-enter v w c g =
-    Plus One (Plus (group_effect v c g on_start_up)
-    (Plus (sum_price (λ (p : Fixed). run v w c p.key) (filter is_initially_active (group_parts v g)))
-    (plain_emit v w c (group_ref g) event.IsRunning)))
+enter v w c g = view.enter (lists v w c) (group_effect v c g on_start_up) (group_ref g) (group_parts v g)
 
 abbrev pub exchange : Service → Flow → Config → List ℕ → Price Effect
 exchange v w c g = Plus One (if_price (reached w (exchanged v c g)) (enter v w (exchanged v c g) g))
@@ -197,7 +185,7 @@ abbrev pub scene_closes : Service → Config → Price Effect
 scene_closes v c = option_map_or (λ g. group_effect v c g on_close_down) c.scene Nothing
 
 abbrev pub halts : Service → Flow → Config → (Fixed → Bool) → List Fixed → Price Effect
-halts v w c is ps = sum_price (λ (p : Fixed). halt v w c p.key) (filter is (reverse ps))
+halts v w c is ps = view.halts (lists v w c) is ps
 
 abbrev pub all_halt : Service → Flow → Config → List Fixed → Price Effect
 all_halt v w c ps = halts v w c (λ p. is_runnable p.class) ps
@@ -206,13 +194,18 @@ abbrev pub unshared_halt : Service → Flow → Config → List Fixed → Price 
 unshared_halt v w c ps = halts v w c (λ p. is_runnable p.class && not (is_shared p)) ps
 
 abbrev pub leave_scene : Service → Flow → Config → Price Effect
-leave_scene v w c =
-    Plus (scene_closes v c) (Plus (all_halt v w c (scene_parts v c.scene)) (unshared_halt v w c (group_parts v c.app)))
+leave_scene v w c = view.leave_scene (lists v w c) (scene_closes v c) (scene_parts v c.scene) (group_parts v c.app)
 
 abbrev pub leave_all : Service → Flow → Config → Price Effect
 leave_all v w c =
-    Plus (scene_closes v c) (Plus (group_effect v c c.app on_close_down)
-    (Plus (all_halt v w c (scene_parts v c.scene)) (all_halt v w c (group_parts v c.app))))
+    view.leave_all (lists v w c) (scene_closes v c) (group_effect v c c.app on_close_down) (scene_parts v c.scene) (group_parts v c.app)
+
+abbrev pub leaves : Service → Flow → Config → Bool → Price Effect
+leaves v w c false = leave_scene v w c
+leaves v w c true = leave_all v w c
+
+abbrev pub around : Service → Flow → Config → Around Effect
+around v w c = record { lists = lists v w c; leave = leaves v w c; exchange = exchange v w c }
 
 -- Actions
 
@@ -227,17 +220,11 @@ named w c (argument.Direct (value.Object q)) = q ∷ []
 named w c (argument.Through x k) = w.sets c x
 named w c _ = []
 
--- what is known of the data of an event that is sent
 abbrev pub data_sent : List Argument → Told
-data_sent [] = Sure None
-data_sent (argument.Direct x ∷ xs) = Sure (Some x)
-data_sent (_ ∷ xs) = Unsure
+data_sent xs = view.data_sent xs
 
--- an event is sent: the arguments name its source, its type and perhaps data
 abbrev pub sends : Service → Flow → Config → List Argument → Price Effect
-sends v w c (x ∷ argument.Direct (value.Int n) ∷ more) =
-    option_map_or (λ kind. most_price (λ q. emit v w c q kind (data_sent more)) (named w c x)) (event_numbered n) Nothing
-sends v w c _ = Nothing
+sends v w c xs = view.sends (objects v w c) xs
 
 abbrev pub slot_numbers : Fixed → List ℕ
 slot_numbers p = range_with_len first_slot (length (slots_of p))
@@ -246,26 +233,14 @@ slot_numbers p = range_with_len first_slot (length (slots_of p))
 abbrev pub slots : Config → Fixed → Price Effect
 slots c p = if_price (not (is_link p.class)) (most_price (λ n. effect c n p) (slot_numbers p))
 
--- a share of what an action puts that is done to the reference with these arguments
 abbrev pub share : Service → Flow → Config → List Argument → ObjRef → Share → Price Effect
-share v w c xs r Prepares = prepare v w c r
-share v w c xs r Runs = run v w c r
-share v w c xs r Halts = halt v w c r
-share v w c xs r Drops = dropped v w c r
-share v w c xs r (Tells kind d) = emit v w c r kind d
-share v w c xs r Sends = sends v w c xs
-share v w c xs r Changes = change v w c r
-share v w c xs r Slots = option_map_or (slots c) (part_at r (present v c)) Nothing
+share v w c xs r x = view.share (lists v w c) xs r x
 
--- a transition leads on; every other action is put in one of its ways
 abbrev pub done_to : Service → Flow → Config → ActionName → List Argument → ObjRef → Price Effect
-done_to v w c action.TransitionTo xs r = Plus (leave_scene v w c) (exchange v w c r.group)
-done_to v w c action.Launch xs r = Plus (leave_all v w c) (exchange v w c r.group)
-done_to v w c action.Quit xs r = Plus (leave_all v w c) One
-done_to v w c n xs r = most_price (sum_price (share v w c xs r)) (ways n xs)
+done_to v w c n xs r = view.done_to (around v w c) n xs r
 
 abbrev pub act : Service → Flow → Config → Act → Price Effect
-act v w c a = Plus One (most_price (done_to v w c a.name a.arguments) (targets w c a.target))
+act v w c a = view.act (around v w c) a
 
 -- Items
 
@@ -332,6 +307,24 @@ timers v w c = each_once (filter (λ x. is_group_in c x.0) (set_timers v w))
 abbrev pub timer_entry : Service → Flow → TimerKey → Price Effect
 timer_entry v w t = entry v w (group_ref t.0) event.TimerFired (Sure (Some (value.Int t.1)))
 
+-- Late scenes
+
+-- the transition leads to one
+abbrev pub can_lead_to_late : Service → ActionName → ObjRef → Bool
+can_lead_to_late v action.TransitionTo r = r.number == 0 && is_late_scene r.group v.late
+can_lead_to_late v _ r = false
+
+abbrev pub late_by : Service → Flow → Config → Act → List (List ℕ)
+late_by v w c a = map (λ r. r.group) (filter (can_lead_to_late v a.name) (targets w c a.target))
+
+-- those to which active actions of the configuration can lead
+abbrev pub late_scenes : Service → Flow → Config → List (List ℕ)
+late_scenes v w c = flat_map (late_by v w c) (active_actions (present v c))
+
+-- what a transition to a scene puts
+abbrev pub scene_change : Service → Flow → Config → List ℕ → Price Effect
+scene_change v w c g = Plus (leave_scene v w c) (exchange v w c g)
+
 -- Inputs
 
 -- what a key makes an object of this class put that interacts
@@ -348,6 +341,16 @@ heard_key v c = option_map_or (λ g. fired v c (group_ref g) event.UserInput Uns
 abbrev pub is_reader : Option Class → Bool
 is_reader k = option_map_or has_content k false
 
+-- what is told of a content file by all that is there and can wait for one
+abbrev pub content_entries : Service → Flow → Config → Price Effect
+content_entries v w c =
+    sum_price (λ (p : Fixed). if_price (is_reader (class_at p.key (present v c)))
+    (entry v w p.key event.ContentAvailable (Sure None))) (present v c)
+
+-- what a file costs that comes: a content file, or that of a scene, to which a transition may wait
+abbrev pub arrival : Service → Flow → Config → Price Effect
+arrival v w c = Plus One (Most (content_entries v w c) (most_price (scene_change v w c) (late_scenes v w c)))
+
 -- what an input costs that is taken in the configuration, as far as its kind tells
 abbrev pub input_price : Service → Flow → Config → Input → Price Effect
 input_price v w c (input.Key k) =
@@ -356,6 +359,5 @@ input_price v w c (input.Tick n) = Plus One (sum_price (timer_entry v w) (timers
 input_price v w c (input.Stream n) =
     Plus One (sum_price (λ (p : Fixed). if_price (is_stream p.class) (entry v w p.key event.StreamEvent Unsure)) (present v c))
 input_price v w c (input.Engine n) = Plus One (fired v c (group_ref c.app) event.EngineEvent Unsure)
-input_price v w c (input.Arrive x) =
-    Plus One (sum_price (λ (p : Fixed). if_price (is_reader (class_at p.key (present v c)))
-    (entry v w p.key event.ContentAvailable (Sure None))) (present v c))
+input_price v w c (input.Arrive x) = arrival v w c
+input_price v w c (input.Scene g x) = arrival v w c

@@ -28,7 +28,7 @@ use Rattle.mh_model.specs.Property.{value_held, as_reference}
 use Rattle.mh_model.specs.Bodies.{changed_by}
 use Rattle.mh_model.specs.Saying.{answers, put_items, load_items, call_items, interaction_items}
 use Rattle.mh_model.specs.ListItems.{has_item}
-use Rattle.mh_model.specs.Rules.{rule_by}
+use Rattle.mh_model.specs.Rules.{rule_by, is_begun, leads_to_late}
 use Rattle.mh_model.specs.Sort.{sort_of}
 use Rattle.mh_model.specs.Service.{object_at}
 use Rattle.mh_model.specs.State.{State, all}
@@ -185,17 +185,18 @@ is_transition action.Quit = true
 is_transition _ = false
 
 -- From the first of two states to the other an action puts these items: in front of what is to be done, or, where it leads elsewhere, last of what is done in place of all that, and then what comes before it
--- emits nothing itself. Where another transition has begun it puts nothing.
-pub record ArePut (n : ActionName) (s t : State) (is : List Item) : Type 0 where
+-- emits nothing itself. Where another transition has begun it puts nothing, nor where it waits for a scene that is late.
+pub record ArePut (n : ActionName) (r : ObjRef) (s t : State) (is : List Item) : Type 0 where
   pub stays : is_transition n ≡ false → t.work ≡ is ++ s.work
-  pub begun : is_transition n ≡ true → s.transition ≡ true → t.work ≡ s.work
-  pub leads : is_transition n ≡ true → s.transition ≡ false → (left : List Item) × (kinds left ≡ []) × (t.work ≡ left ++ is)
+  pub begun : is_transition n ≡ true → is_begun s.transition ≡ true → t.work ≡ s.work
+  pub waits : leads_to_late n r s ≡ true → t.work ≡ s.work
+  pub leads : is_transition n ≡ true → is_begun s.transition ≡ false → leads_to_late n r s ≡ false → (left : List Item) × (kinds left ≡ []) × (t.work ≡ left ++ is)
 
 -- what is described of an action is what its rule puts, in each state in which the object stands at the reference
 abbrev pub PutsByItsRule : Type 0
 PutsByItsRule =
     (n : ActionName) (xs : List Argument) (r : ObjRef) (o : Object) (s : State) → object_at r (all s.objects) ≡ Some o →
-    ArePut n s (rule_by (sort_of n) n xs r s)
+    ArePut n r s (rule_by (sort_of n) n xs r s)
     (items_put s.files (is_interacting r s.interaction) n (values (all s.objects) xs) r o)
 
 -- What an action says

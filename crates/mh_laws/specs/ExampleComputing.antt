@@ -77,7 +77,7 @@ abbrev pub on_test : ℕ → Bool → Act → Fixed
 on_test n truth a = link_on n (here 1) event.TestEvent (value.Bool truth) (a ∷ [])
 
 abbrev pub service_of : List Fixed → Service
-service_of items = record { groups = (a, application ∷ []) ∷ (s, scene ∷ items) ∷ []; start = a; programs = [] }
+service_of items = record { groups = (a, application ∷ []) ∷ (s, scene ∷ items) ∷ []; start = a; programs = []; files = []; late = [] }
 
 abbrev pub computing : Service
 computing =

@@ -1,6 +1,6 @@
 -- Examples, counted by the definitions alone: the six costs of small services, with the flow and the layers of each written
 -- by hand.
-use Rattle.std.specs.Prelude.{◌≡◌, ℕ, ◌+◌, ◌-◌, ◌==◌, ◌||◌, Bool, true, if◌then◌else◌, List, [], ◌∷◌, Option, Some, None, pos}
+use Rattle.std.specs.Prelude.{◌≡◌, ℕ, ◌+◌, ◌-◌, ◌==◌, ◌||◌, true, if◌then◌else◌, List, [], ◌∷◌, Option, Some, None, pos}
 use Rattle.std.specs.Str.{bytes_eq}
 use Rattle.mh_base.specs.declared.obj_ref.ObjRef.{ObjRef}
 use Rattle.mh_base.specs.declared.value.Kind.TheVariants as kind
@@ -107,6 +107,8 @@ chain = record {
       ∷ [];
   start = a;
   programs = [];
+  files = [];
+  late = [];
 }
 
 -- a later link of the chain is lower
@@ -163,6 +165,8 @@ handing = record {
       ∷ [];
   start = a;
   programs = [];
+  files = [];
+  late = [];
 }
 
 -- either variable may refer to either text

@@ -74,7 +74,7 @@ link n = record {
 
 -- the link moves the object with this number
 abbrev pub service_moving : ℕ → Service
-service_moving n = record { groups = (a, application ∷ []) ∷ (s, scene ∷ rectangle ∷ link n ∷ []) ∷ []; start = a; programs = [] }
+service_moving n = record { groups = (a, application ∷ []) ∷ (s, scene ∷ rectangle ∷ link n ∷ []) ∷ []; start = a; programs = []; files = []; late = [] }
 
 abbrev pub service : Service
 service = service_moving 10
@@ -117,7 +117,7 @@ pub record PlaysFirst : Type 0 where
 -- An application that does nothing: 2 steps.
 
 abbrev pub empty_service : Service
-empty_service = record { groups = (a, record application { properties = [] } ∷ []) ∷ []; start = a; programs = [] }
+empty_service = record { groups = (a, record application { properties = [] } ∷ []) ∷ []; start = a; programs = []; files = []; late = [] }
 
 unfoldable pub rested : State
 rested = run (steps 2) (begun empty_service 60000)

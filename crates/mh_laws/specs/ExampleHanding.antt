@@ -47,6 +47,8 @@ reading = record {
   groups = (a, record application { properties = [] } ∷ reader ∷ []) ∷ [];
   start = a;
   programs = [];
+  files = [];
+  late = [];
 }
 
 abbrev pub file_named : List ℕ → List ℕ → File

@@ -69,6 +69,8 @@ with_timers = record {
       ∷ [];
   start = a;
   programs = [];
+  files = [];
+  late = [];
 }
 
 -- the number that the variable of the scene holds
@@ -118,6 +120,8 @@ two_scenes = record {
   groups = (a, first_application ∷ []) ∷ (p, first_scene ∷ on_key ∷ []) ∷ (s, scene ∷ rectangle ∷ link 10 ∷ []) ∷ [];
   start = a;
   programs = [];
+  files = [];
+  late = [];
 }
 
 unfoldable pub in_first : State
@@ -140,7 +144,7 @@ quits = record {
 }
 
 abbrev pub quitting : Service
-quitting = record { groups = (a, record application { properties = [] } ∷ quits ∷ []) ∷ []; start = a; programs = [] }
+quitting = record { groups = (a, record application { properties = [] } ∷ quits ∷ []) ∷ []; start = a; programs = []; files = []; late = [] }
 
 unfoldable pub near_the_end : State
 near_the_end = run (steps 8) (begun quitting 60000)

@@ -67,7 +67,7 @@ drawing_link = record {
 unfoldable pub drew : State
 drew =
     run (steps 9)
-    (begun (record { groups = (a, record application { properties = [] } ∷ art ∷ drawing_link ∷ []) ∷ []; start = a; programs = [] }) 60000)
+    (begun (record { groups = (a, record application { properties = [] } ∷ art ∷ drawing_link ∷ []) ∷ []; start = a; programs = []; files = []; late = [] }) 60000)
 
 -- The first example, whose link locks the screen before it moves the rectangle.
 
@@ -90,7 +90,7 @@ unfoldable pub locked_still : State
 locked_still =
     run (move.Post (input.Key key.Red) ∷ steps 3)
     (run (steps 11)
-    (begun (record { groups = (a, application ∷ []) ∷ (s, scene ∷ rectangle ∷ locking_link ∷ []) ∷ []; start = a; programs = [] }) 60000))
+    (begun (record { groups = (a, application ∷ []) ∷ (s, scene ∷ rectangle ∷ locking_link ∷ []) ∷ []; start = a; programs = []; files = []; late = [] }) 60000))
 
 unfoldable pub back_shown : State → ℕ → ℕ
 back_shown x c = (cell_of (shown x) c).back

@@ -71,6 +71,12 @@ MayHand h ps (argument.Direct v) q = v ≡ value.Object q
 MayHand h ps (argument.Through v k) q = (is_reference_in ps v ≡ true) × (has h v q ≡ true)
 MayHand h ps (argument.Receiver v) q = false ≡ true
 
+-- the action reads the argument as a reference: what a variable is set to through another is one only where it is
+-- written as an object's value
+abbrev pub reads_reference : Argument → ActionName → Bool
+reads_reference (argument.Through v k) action.SetVariable = option_map_or (same_kind kind.Object) k false
+reads_reference _ _ = true
+
 -- what the action answers are items of the list that is asked
 abbrev pub fills : ActionName → Bool
 fills action.GetListItem = true
@@ -83,7 +89,7 @@ is_given ps n r = option_map_or (λ c. admits c n && is_holder c) (class_at r ps
 
 -- the sets have what the action hands on: what a variable is set to, what is put into a list, and what is read out of one
 pub record Keeps (h : Sets) (ps : List Fixed) (a : Act) : Type 0 where
-  pub given : (n : ℕ) (x : Argument) (r q : ObjRef) → Contains (says a.name) (Hands n) → slice_get a.arguments n ≡ Some x → MayBe h ps a.target r → is_given ps a.name r ≡ true → MayHand h ps x q → has h r q ≡ true
+  pub given : (n : ℕ) (x : Argument) (r q : ObjRef) → Contains (says a.name) (Hands n) → slice_get a.arguments n ≡ Some x → MayBe h ps a.target r → is_given ps a.name r ≡ true → reads_reference x a.name ≡ true → MayHand h ps x q → has h r q ≡ true
   pub filled : (r v q : ObjRef) → fills a.name ≡ true → MayBe h ps a.target r → is_list_in ps r ≡ true → Contains (receivers a.arguments) v → is_reference_in ps v ≡ true → has h r q ≡ true → has h v q ≡ true
 
 -- Flows

@@ -24,7 +24,7 @@ use Rattle.mh_model.specs.Service.{Service, group_parts, fresh}
 use Rattle.mh_laws.specs.Active.{active_actions, leads_to}
 use Rattle.mh_laws.specs.Describing as saying
 use Rattle.mh_laws.specs.Describing.{says}
-use Rattle.mh_laws.specs.Flow.{Flow, IsSolution, MayBe, MayHand, fills, has, is_given, is_list_in, is_reference_in, reached, refers}
+use Rattle.mh_laws.specs.Flow.{Flow, IsSolution, MayBe, MayHand, fills, has, is_given, is_list_in, is_reference_in, reached, reads_reference, refers}
 
 -- a configuration is reached; a variable or list holds a reference there; a target comes to one; an argument does
 pub data Fact : Type 0 where
@@ -41,7 +41,7 @@ pub data Derived (v : Service) : Fact → Type 0 where
   read : (c : Config) (w q : ObjRef) (k : Option Kind) → is_reference_in (present v c) w ≡ true → Derived v (Held c w q) → Derived v (Hands c (argument.Through w k) q)
   original_value : (c : Config) (p : Fixed) (q : ObjRef) → Derived v (Reached c) → Contains (present v c) p → refers p.class ≡ true → as_reference (value_held p (fresh p).body) ≡ Some q → Derived v (Held c p.key q)
   original_item : (c : Config) (p : Fixed) (q : ObjRef) → Derived v (Reached c) → Contains (present v c) p → is_list_group p.class ≡ true → has_item q (fresh p).body.list.entries ≡ true → Derived v (Held c p.key q)
-  given : (c : Config) (a : Act) (n : ℕ) (x : Argument) (r q : ObjRef) → Derived v (Reached c) → Contains (active_actions (present v c)) a → Contains (says a.name) (saying.Hands n) → slice_get a.arguments n ≡ Some x → Derived v (Comes c a.target r) → is_given (present v c) a.name r ≡ true → Derived v (Hands c x q) → Derived v (Held c r q)
+  given : (c : Config) (a : Act) (n : ℕ) (x : Argument) (r q : ObjRef) → Derived v (Reached c) → Contains (active_actions (present v c)) a → Contains (says a.name) (saying.Hands n) → slice_get a.arguments n ≡ Some x → Derived v (Comes c a.target r) → is_given (present v c) a.name r ≡ true → reads_reference x a.name ≡ true → Derived v (Hands c x q) → Derived v (Held c r q)
   filled : (c : Config) (a : Act) (r x q : ObjRef) → Derived v (Reached c) → Contains (active_actions (present v c)) a → fills a.name ≡ true → Derived v (Comes c a.target r) → is_list_in (present v c) r ≡ true → Contains (receivers a.arguments) x → is_reference_in (present v c) x ≡ true → Derived v (Held c r q) → Derived v (Held c x q)
   led : (c : Config) (a : Act) (r : ObjRef) (d : Config) → Derived v (Reached c) → Contains (active_actions (present v c)) a → Derived v (Comes c a.target r) → leads_to v c a.name r ≡ Some d → Derived v (Reached d)
   passed : (c : Config) (a : Act) (r : ObjRef) (d : Config) (g : List ℕ) (p : Fixed) (q : ObjRef) → Derived v (Reached c) → Contains (active_actions (present v c)) a → Derived v (Comes c a.target r) → leads_to v c a.name r ≡ Some d → d.scene ≡ Some g → Contains (group_parts v c.app) p → Derived v (Held c p.key q) → Derived v (Held d p.key q)

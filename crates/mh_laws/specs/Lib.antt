@@ -14,7 +14,13 @@ pub mod ExampleHanding
 pub mod ExampleWidgets
 pub mod Price
 pub mod Ways
+pub mod View
 pub mod Costs
 pub mod Layers
 pub mod Budget
+pub mod Weighing
+pub mod Running
+pub mod Saying
+pub mod Never
 pub mod ExampleCounting
+pub mod ExampleLate

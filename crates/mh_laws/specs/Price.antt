@@ -21,26 +21,29 @@ abbrev pub if_price : {K : Type 0} → Bool → Price K → Price K
 if_price true p = p
 if_price false p = Nothing
 
+-- what is made of prices
+pub record Algebra {ℓ} (K : Type 0) (X : Type ℓ) : Type ℓ where
+  pub nothing : X
+  pub one : X
+  pub node : K → X
+  pub plus : X → X → X
+  pub most : X → X → X
+
+abbrev pub fold {ℓ} : {K : Type 0} {X : Type ℓ} → Algebra K X → Price K → X
+fold a Nothing = a.nothing
+fold a One = a.one
+fold a (Node k) = a.node k
+fold a (Plus p q) = a.plus (fold a p) (fold a q)
+fold a (Most p q) = a.most (fold a p) (fold a q)
+
 -- what a price comes to, where nodes cost so much
 abbrev pub worth : {K : Type 0} → (K → ℕ) → Price K → ℕ
-worth f Nothing = 0
-worth f One = 1
-worth f (Node k) = f k
-worth f (Plus p q) = worth f p + worth f q
-worth f (Most p q) = max (worth f p) (worth f q)
+worth f p = fold (record { nothing = 0; one = 1; node = f; plus = λ a b. a + b; most = max }) p
 
 -- the nodes that a price counts
 abbrev pub counted_in : {K : Type 0} → Price K → List K
-counted_in Nothing = []
-counted_in One = []
-counted_in (Node k) = k ∷ []
-counted_in (Plus p q) = counted_in p ++ counted_in q
-counted_in (Most p q) = counted_in p ++ counted_in q
+counted_in p = fold (record { nothing = []; one = []; node = λ k. k ∷ []; plus = λ a b. a ++ b; most = λ a b. a ++ b }) p
 
 -- this holds of each node that a price counts
 abbrev pub Nodes : {K : Type 0} → (K → Type 0) → Price K → Type 0
-Nodes P Nothing = Unit {0}
-Nodes P One = Unit {0}
-Nodes P (Node k) = P k
-Nodes P (Plus p q) = Nodes P p × Nodes P q
-Nodes P (Most p q) = Nodes P p × Nodes P q
+Nodes P p = fold (record { nothing = Unit {0}; one = Unit {0}; node = P; plus = λ a b. a × b; most = λ a b. a × b }) p

@@ -12,6 +12,8 @@ use Rattle.mh_model.specs.declared.item.Item.TheVariants as item
 use Rattle.mh_model.specs.declared.object.Fixed.{Fixed}
 use Rattle.mh_model.specs.declared.object.Object.{Object}
 use Rattle.mh_model.specs.declared.time.Timer.{Timer}
+use Rattle.mh_model.specs.declared.transition.Transition.{Transition}
+use Rattle.mh_model.specs.declared.transition.Transition.TheVariants as transition
 use Rattle.mh_model.specs.Service.{Service, parts, group_parts, is_there}
 use Rattle.mh_model.specs.Reference.{group_ref}
 use Rattle.mh_model.specs.Faults.{object_wrongs}
@@ -88,6 +90,12 @@ abbrev pub IsSafeWork : Service → Flow → Config → List Item → Type 0
 IsSafeWork v w c [] = Unit {0}
 IsSafeWork v w c (i ∷ is) = IsSafeItem v w c i × IsSafeWork v w (behind v c i) is
 
+-- a scene that is waited for may be exchanged for the one that is there
+abbrev pub IsSafeTransition : Service → Flow → Config → Transition → Type 0
+IsSafeTransition v w c transition.Rests = Unit {0}
+IsSafeTransition v w c (transition.Awaits g) = IsSafeItem v w c (item.Exchange g)
+IsSafeTransition v w c transition.Begun = Unit {0}
+
 -- a timer is one of a group that is present
 abbrev pub has_group : List Fixed → Timer → Bool
 has_group ps t = is_there (group_ref t.group) ps
@@ -102,8 +110,8 @@ is_scene_if_any v None = true
 is_scene_if_any v (Some g) = is_group_of is_scene v g
 
 -- A safe state plays an acceptable service in a configuration that may be reached, its objects are those that
--- are present there and hold what the flow has for them, its work is safe, its timers are those of groups that are
--- present, what waits comes from objects that are, and no fault was met.
+-- are present there and hold what the flow has for them, its work is safe, and so is a transition that waits, its
+-- timers are those of groups that are present, what waits comes from objects that are, and no fault was met.
 pub record IsSafeBy (w : Flow) (s : State) : Type 0 where
   pub accepted : IsAcceptableBy s.service w
   pub application : is_group_of is_application s.service s.application ≡ true
@@ -114,6 +122,7 @@ pub record IsSafeBy (w : Flow) (s : State) : Type 0 where
   pub own_held : Each (IsHeldOnce (w.sets (config_of s))) s.objects.application
   pub others_held : Each (IsHeldOnce (w.sets (config_of s))) s.objects.scene
   pub work : IsSafeWork s.service w (config_of s) s.work
+  pub transition : IsSafeTransition s.service w (config_of s) s.transition
   pub timers : list_all (has_group (present s.service (config_of s))) s.timers ≡ true
   pub queue : list_all (has_origin (present s.service (config_of s))) s.queue ≡ true
   pub faultless : s.faults ≡ []

@@ -3,6 +3,7 @@ ghost use Rattle.mh_laws.specs.ExampleComputing.{Computes};
 ghost use Rattle.mh_laws.specs.ExampleCounting.{CountsExamples};
 ghost use Rattle.mh_laws.specs.ExampleFirst.{PlaysFirst, PlaysOthers};
 ghost use Rattle.mh_laws.specs.ExampleHanding.{Hands};
+ghost use Rattle.mh_laws.specs.ExampleLate.{ComesLate};
 ghost use Rattle.mh_laws.specs.ExamplePassing.{Passes};
 ghost use Rattle.mh_laws.specs.ExampleShowing.{Shows};
 ghost use Rattle.mh_laws.specs.ExampleWidgets.{WorksWidgets};
@@ -57,4 +58,10 @@ pub fn works_widgets()
 /// the one before, of references that are handed on, and of timers, one of which is set again when it fires.
 pub fn counts_examples()
     ensures { CountsExamples }
+{}
+
+/// The law that the definitions play and count a scene whose file comes late as they should: a transition to it
+/// waits, one to another scene takes its place, and no file comes but its own, and once.
+pub fn comes_late()
+    ensures { ComesLate }
 {}

@@ -179,7 +179,7 @@ selected_agrees s c here r = told_both s c here r event.ItemDeselected event.Ite
 
 -- What an action puts
 
-leaving : {A : Type 0} (s : Setting A) (c : Config) → reached s.flow c ≡ true → (all : Bool) (p : Price Key) (q : Price costs.Effect) → Agrees s 6 p q → Agrees s 6 (Plus ((net s c).leave all) p) (Plus (leaves s.service s.flow c all) q)
+pub leaving : {A : Type 0} (s : Setting A) (c : Config) → reached s.flow c ≡ true → (all : Bool) (p : Price Key) (q : Price costs.Effect) → Agrees s 6 p q → Agrees s 6 (Plus ((net s c).leave all) p) (Plus (leaves s.service s.flow c all) q)
 leaving s c here all p q a =
     agrees_plus s 6 (Node (Leave c all)) p (leaves s.service s.flow c all) q (agrees_node s 6 (Leave c all) here (omega arith)) a
 

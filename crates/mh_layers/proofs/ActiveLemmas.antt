@@ -1,9 +1,8 @@
 -- What an active effect has: its configuration and its object stand at their numbers, and of the object something is said.
-use Rattle.std.specs.Prelude.{◌≡◌, ℕ, true, [], length, position, slice_get, unwrap_or, Option, Some, None, refl}
-use Rattle.std.proofs.Common.{inl, ap, ◌∙◌, sym, subst}
+use Rattle.std.specs.Prelude.{◌≡◌, ℕ, true, [], length, slice_get, unwrap_or, Option, Some, None}
+use Rattle.std.proofs.Common.{inl, ap, ◌∙◌, sym}
 use Rattle.mh_base.specs.declared.obj_ref.ObjRef.{ObjRef}
 use Rattle.mh_model.specs.declared.config.Config.{Config}
-use Rattle.mh_model.specs.declared.object.Fixed.{Fixed}
 use Rattle.mh_model.specs.Configuration.{present}
 use Rattle.mh_model.specs.Reference.{same_key}
 use Rattle.mh_model.specs.Service.{is_there, part_at}
@@ -11,10 +10,9 @@ use Rattle.mh_laws.specs.Flow.{reached}
 use Rattle.mh_laws.proofs.NodeLemmas.{config_among}
 use Rattle.mh_layers.specs.declared.node_key.NodeKey.{NodeKey}
 use Rattle.mh_layers.specs.declared.node_key.NodeKey.TheVariants as key
-use Rattle.mh_layers.specs.Reading.{IsReading, Reading, config_named, config_number, flow_read, object_named, object_number, same_setting, settings}
+use Rattle.mh_layers.specs.Reading.{IsReading, Reading, config_number, flow_read, object_number, same_setting, settings}
 use Rattle.mh_layers.specs.Standings.{effect_named}
 use Rattle.mh_layers.specs.Trails.{IsActive, IsStep}
-use Rattle.mh_layers.specs.Web.{effect_number}
 use Rattle.mh_layers.proofs.ListeningLemmas.{objects_numbered, present_among, tells_objects}
 use Rattle.mh_layers.proofs.MetLemmas.{found_among, there_found}
 use Rattle.mh_layers.proofs.PositionLemmas.{position_is, position_there, put_all}

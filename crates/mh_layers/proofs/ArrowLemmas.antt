@@ -21,6 +21,7 @@ use Rattle.mh_model.specs.declared.act.Target.TheVariants as target
 use Rattle.mh_model.specs.declared.config.Config.{Config}
 use Rattle.mh_model.specs.declared.object.Fixed.{Fixed}
 use Rattle.mh_model.specs.Configuration.{present}
+use Rattle.mh_model.specs.Faults.{is_transition}
 use Rattle.mh_model.specs.Items.{hears_source, hears_type}
 use Rattle.mh_model.specs.Property.{as_event, as_reference, as_value, held}
 use Rattle.mh_model.specs.Reference.{same_key, same_ref}
@@ -30,9 +31,10 @@ use Rattle.mh_model.proofs.ListLemmas.{some_same}
 use Rattle.mh_laws.specs.Active.{is_active}
 use Rattle.mh_laws.specs.Costs.{Effect, act, effect_at, effects, targets}
 use Rattle.mh_laws.specs.Each.{Among, Each}
-use Rattle.mh_laws.specs.Flow.{Sets}
+use Rattle.mh_laws.specs.Flow.{Sets, reached}
 use Rattle.mh_laws.specs.Layers.{IsOn}
-use Rattle.mh_laws.proofs.EachLemmas.{among_filtered, among_joined, among_left, among_right}
+use Rattle.mh_laws.specs.Safe.{exchanged}
+use Rattle.mh_laws.proofs.EachLemmas.{among_each, among_filtered, among_joined, among_left, among_right, each_among}
 use Rattle.mh_flow.specs.Sites.{Site, numbered, sites, sites_of, through_effects}
 use Rattle.mh_layers.specs.declared.arrow.Arrow.{Arrow}
 use Rattle.mh_layers.specs.declared.arrow.By.TheVariants as by
@@ -40,7 +42,7 @@ use Rattle.mh_layers.specs.declared.arrow.Held.{Held}
 use Rattle.mh_layers.specs.declared.cause.Cause.{Cause}
 use Rattle.mh_layers.specs.declared.node_key.NodeKey.{NodeKey}
 use Rattle.mh_layers.specs.declared.node_key.NodeKey.TheVariants as key
-use Rattle.mh_layers.specs.Arrows.{IsGrantedBy, comes_to, counts, granted, is_action_in, is_action_of, is_waited_for, number_by}
+use Rattle.mh_layers.specs.Arrows.{IsGrantedBy, IsWhere, comes_to, counts, granted, is_action_in, is_action_of, is_waited_for, number_by}
 use Rattle.mh_layers.specs.Cycle.{cause_of, first_number}
 use Rattle.mh_layers.specs.Deeds.{Doing, IsDoing, number_in}
 use Rattle.mh_layers.specs.Granting.{held_for, with_items}
@@ -53,7 +55,7 @@ use Rattle.mh_layers.proofs.CausingLemmas.{tested}
 use Rattle.mh_layers.proofs.DeedLemmas.{deed_counts}
 use Rattle.mh_layers.proofs.FocusLemmas.{counts_put, focused}
 use Rattle.mh_layers.proofs.FoundLemmas.{present_found}
-use Rattle.mh_layers.proofs.GrantLemmas.{all_focused, all_granted, comes_there, put_flow, source_named}
+use Rattle.mh_layers.proofs.GrantLemmas.{IsAt, IsHeldAt, all_focused, all_granted, comes_there, put_flow, source_named}
 use Rattle.mh_layers.proofs.HeardLemmas.{among_any}
 use Rattle.mh_layers.proofs.KeyAgreeLemmas.{IsActiveEffect, on_is}
 use Rattle.mh_layers.proofs.ListeningLemmas.{tells_objects, tells_values}
@@ -178,7 +180,13 @@ is_arrow_for r read x y on_x on_y first leads part aim at aim_at d doing a cause
       (site part.key (first_number x.number part) (first_number x.number part + d.offset) d.act) own_site (both_true here counted);
   by = number;
   waited = ap (λ (o : Option Fixed). option_map_or (is_waited_for a.by) o false) aim_at ∙ waits;
-  granted = subst (λ (hs : List Held). Each (IsGrantedBy (flow_read r)) hs) (sym held) (all_granted r.service (flow_read r) x.config d.act d.at (source_of aim) own.here doing.target);
+  granted = record {
+    from = ap (λ (c : Cause). reached (flow_read r) c.config) cause ∙ own.here;
+    held =
+        subst (λ (xs : List Held). Each (IsGrantedBy r.service (flow_read r) a) xs) (sym held)
+        (among_each (IsGrantedBy r.service (flow_read r) a) hs
+        (λ h there. so h (each_among (IsHeldAt r.service (flow_read r) x.config d.act d.at) hs h (all_granted r.service (flow_read r) x.config d.act d.at (source_of aim) own.here doing.target) there)));
+  };
 }
   where
     own : IsActiveEffect (tested r.service (flow_read r) (heard_read r) (read_of r read) x) x
@@ -204,6 +212,26 @@ is_arrow_for r read x y on_x on_y first leads part aim at aim_at d doing a cause
 
     hs : List Held
     hs = held_for r.service (flow_read r) x.config d.act d.at (source_of aim)
+
+    -- what is granted holds where the arrow's action is done, or where that leads
+    place : (e : Config) → IsAt r.service x.config d.act d.at e → IsWhere r.service a e
+    place e (inl same) = inl (same ∙ ap (λ (c : Cause). c.config) (sym cause))
+    place e (inr (leads, same)) = inr (record {
+      site = site part.key (first_number x.number part) (first_number x.number part + d.offset) d.act;
+      there =
+          subst (λ (c : Cause). Among (sites_of (present r.service c.config)) (site part.key (first_number x.number part) (first_number x.number part + d.offset) d.act)) (sym cause)
+          own_site;
+      own = here;
+      transition = ap is_transition action ∙ leads;
+      at = d.at;
+      comes =
+          subst (λ (xs : List Held). Among (comes_to xs d.act.target) d.at) (sym held)
+          (comes_there r.service (flow_read r) x.config d.act d.at (source_of aim) own.here doing.target);
+      entered = same ∙ ap (λ (c : Cause). exchanged r.service c.config d.at.group) (sym cause);
+    })
+
+    so : (h : Held) → IsHeldAt r.service (flow_read r) x.config d.act d.at h → IsGrantedBy r.service (flow_read r) a h
+    so h is = (is.0, place is.0 is.1, is.2, is.3)
 
     by_all : counts y (act r.service (put_flow r.service x.config y.config (held_for r.service (flow_read r) x.config d.act d.at (source_of aim)) d.act) x.config d.act) ≡ true
     by_all =

@@ -114,14 +114,14 @@ enter_below v least w k c g =
     (below_plus (below_sum (λ (p : Fixed). run v least c p.key) (λ (p : Fixed). run v w c p.key) (λ p. run_below v least w k c p.key) (filter is_initially_active (group_parts v g)))
     (emit_below v least w k c (group_ref g) event.IsRunning (Sure None))))
 
-exchange_below : (v : Service) (least w : Flow) → IsWithin least w → (c : Config) (g : List ℕ) → IsBelow (exchange v least c g) (exchange v w c g)
+pub exchange_below : (v : Service) (least w : Flow) → IsWithin least w → (c : Config) (g : List ℕ) → IsBelow (exchange v least c g) (exchange v w c g)
 exchange_below v least w k c g =
     below_step (below_if (reached least (exchanged v c g)) (reached w (exchanged v c g)) (k.configs (exchanged v c g)) (enter_below v least w k (exchanged v c g) g))
 
 halts_below : (v : Service) (least w : Flow) → IsWithin least w → (c : Config) (ps : List Fixed) → IsBelow (sum_price (λ (p : Fixed). halt v least c p.key) ps) (sum_price (λ (p : Fixed). halt v w c p.key) ps)
 halts_below v least w k c ps = below_sum (λ (p : Fixed). halt v least c p.key) (λ (p : Fixed). halt v w c p.key) (λ p. halt_below v least w k c p.key) ps
 
-leave_scene_below : (v : Service) (least w : Flow) → IsWithin least w → (c : Config) → IsBelow (leave_scene v least c) (leave_scene v w c)
+pub leave_scene_below : (v : Service) (least w : Flow) → IsWithin least w → (c : Config) → IsBelow (leave_scene v least c) (leave_scene v w c)
 leave_scene_below v least w k c =
     below_plus (below_itself (scene_closes v c))
     (below_plus (halts_below v least w k c (filter (λ (p : Fixed). is_runnable p.class) (reverse (scene_parts v c.scene))))

@@ -23,17 +23,17 @@ use Rattle.mh_model.specs.Reference.{group_ref}
 use Rattle.mh_model.specs.Service.{Service}
 use Rattle.mh_laws.specs.Active.{active_actions}
 use Rattle.mh_laws.specs.Budget.{count_timer}
-use Rattle.mh_laws.specs.Costs.{TimerKey, each_once, entry, heard_key, input_price, is_group_in, is_reader, pressed, same_timer, set_by, set_timers, set_with, targets, timer_entry, timers}
+use Rattle.mh_laws.specs.Costs.{TimerKey, arrival, can_lead_to_late, each_once, entry, heard_key, input_price, is_group_in, is_reader, late_by, late_scenes, pressed, same_timer, scene_change, set_by, set_timers, set_with, targets, timer_entry, timers}
 use Rattle.mh_laws.specs.Each.{Among}
 use Rattle.mh_laws.specs.Flow.{Flow}
 use Rattle.mh_laws.specs.Price.{Nothing, if_price, sum_price}
 use Rattle.mh_laws.specs.Ways.{Sure, Unsure, once}
 use Rattle.mh_laws.proofs.SumLemmas.{IsCount}
 use Rattle.mh_laws.proofs.TakenCostLemmas.{key_itself, key_same}
-use Rattle.mh_layers.proofs.CheapCostLemmas.{emit_below, entry_below, targets_within}
+use Rattle.mh_layers.proofs.CheapCostLemmas.{emit_below, entry_below, exchange_below, leave_scene_below, targets_within}
 use Rattle.mh_layers.proofs.CheapFlowLemmas.{IsWithin, configs_within}
 use Rattle.mh_layers.proofs.CheapListLemmas.{Within, filtered_within, joined_within, mapped_within, once_less}
-use Rattle.mh_layers.proofs.CheapPriceLemmas.{IsBelow, below_counted, below_if, below_itself, below_larger, below_most, below_step, below_sum}
+use Rattle.mh_layers.proofs.CheapPriceLemmas.{IsBelow, below_counted, below_dearest, below_if, below_itself, below_larger, below_most, below_plus, below_step, below_sum}
 
 -- The timers that can be set
 
@@ -127,6 +127,23 @@ pressed_below v least w k c r class.EntryField = below_larger (emit_below v leas
 pressed_below v least w k c r class.PushButton = below_larger (emit_below v least w k c r event.IsSelected (Sure None)) (emit_below v least w k c r event.InteractionCompleted (Sure None))
 pressed_below v least w k c r _ = below_itself Nothing
 
+-- fewer late scenes are led to, and none is dearer
+
+late_within : (v : Service) (least w : Flow) → IsWithin least w → (c : Config) → Within (late_scenes v least c) (late_scenes v w c)
+late_within v least w k c =
+    joined_within (late_by v least c) (late_by v w c) (active_actions (present v c)) (active_actions (present v c)) (λ a there. there)
+    (λ a. mapped_within (λ (r : ObjRef). r.group) (filter (can_lead_to_late v a.name) (targets least c a.target)) (filter (can_lead_to_late v a.name) (targets w c a.target))
+    (filtered_within (can_lead_to_late v a.name) (targets least c a.target) (targets w c a.target) (targets_within least w k c a.target)))
+
+arrival_below : (v : Service) (least w : Flow) → IsWithin least w → (c : Config) → IsBelow (arrival v least c) (arrival v w c)
+arrival_below v least w k c =
+    below_step
+    (below_larger
+    (below_sum (λ (p : Fixed). if_price (is_reader (class_at p.key (present v c))) (entry v least p.key event.ContentAvailable (Sure None))) (λ (p : Fixed). if_price (is_reader (class_at p.key (present v c))) (entry v w p.key event.ContentAvailable (Sure None)))
+    (λ p. below_if (is_reader (class_at p.key (present v c))) (is_reader (class_at p.key (present v c))) (λ e. e) (entry_below v least w k p.key event.ContentAvailable (Sure None))) (present v c))
+    (below_dearest (scene_change v least c) (scene_change v w c) (λ g. below_plus (leave_scene_below v least w k c) (exchange_below v least w k c g))
+    (late_scenes v least c) (late_scenes v w c) (late_within v least w k c)))
+
 pub input_below : (v : Service) (least w : Flow) → IsWithin least w → (c : Config) (i : Input) → IsBelow (input_price v least c i) (input_price v w c i)
 input_below v least w k c (input.Key x) =
     below_step
@@ -137,7 +154,5 @@ input_below v least w k c (input.Stream n) =
     (below_sum (λ (p : Fixed). if_price (is_stream p.class) (entry v least p.key event.StreamEvent Unsure)) (λ (p : Fixed). if_price (is_stream p.class) (entry v w p.key event.StreamEvent Unsure))
     (λ p. below_if (is_stream p.class) (is_stream p.class) (λ e. e) (entry_below v least w k p.key event.StreamEvent Unsure)) (present v c))
 input_below v least w k c (input.Engine n) = below_itself (input_price v w c (input.Engine n))
-input_below v least w k c (input.Arrive x) =
-    below_step
-    (below_sum (λ (p : Fixed). if_price (is_reader (class_at p.key (present v c))) (entry v least p.key event.ContentAvailable (Sure None))) (λ (p : Fixed). if_price (is_reader (class_at p.key (present v c))) (entry v w p.key event.ContentAvailable (Sure None)))
-    (λ p. below_if (is_reader (class_at p.key (present v c))) (is_reader (class_at p.key (present v c))) (λ e. e) (entry_below v least w k p.key event.ContentAvailable (Sure None))) (present v c))
+input_below v least w k c (input.Arrive x) = arrival_below v least w k c
+input_below v least w k c (input.Scene g x) = arrival_below v least w k c

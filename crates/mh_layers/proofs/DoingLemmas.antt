@@ -1,7 +1,7 @@
 -- Of an effect that counts a key an action does, done to an object to which its target may come.
 use Rattle.std.specs.Prelude.{◌≡◌, ◌⊎◌, ◌<◌, ◌+◌, ℕ, List, [], ◌∷◌, ◌++◌, get_or, length, map, slice_get, take, Option, Some, refl}
 use Rattle.std.specs.Option.{option_map_or}
-use Rattle.std.proofs.Common.{inl, inr, ap, ◌∙◌, sym, subst}
+use Rattle.std.proofs.Common.{inl, inr, sym, subst}
 use Rattle.std.proofs.lemmas.List.{take_more}
 use Rattle.mh_base.specs.declared.obj_ref.ObjRef.{ObjRef}
 use Rattle.mh_model.specs.declared.act.Act.{Act}
@@ -15,7 +15,7 @@ use Rattle.mh_laws.specs.Active.{is_active}
 use Rattle.mh_laws.specs.Costs.{effect_at, targets}
 use Rattle.mh_laws.specs.Each.{Among}
 use Rattle.mh_laws.specs.Price.{Price, Nothing, Nodes, Plus, Most, counted_in}
-use Rattle.mh_laws.proofs.EachLemmas.{among_either, among_mapped, from_mapped, got_among}
+use Rattle.mh_laws.proofs.EachLemmas.{among_either, among_mapped, from_mapped}
 use Rattle.mh_laws.proofs.PriceLemmas.{nodes_if, nodes_of, of_nodes}
 use Rattle.mh_layers.specs.declared.node_key.NodeKey.{NodeKey}
 use Rattle.mh_layers.specs.declared.node_key.NodeKey.TheVariants as key

@@ -29,7 +29,7 @@ use Rattle.mh_laws.specs.Flow.{Flow, Sets, has, is_list_in, reached}
 use Rattle.mh_laws.specs.Safe.{exchanged}
 use Rattle.mh_laws.proofs.EachLemmas.{among_filtered, among_left, among_mapped, among_right, each_joined}
 use Rattle.mh_layers.specs.declared.arrow.Held.{Held}
-use Rattle.mh_layers.specs.Arrows.{IsGrantedBy, comes_to, held_by}
+use Rattle.mh_layers.specs.Arrows.{comes_to, held_by}
 use Rattle.mh_layers.specs.Granting.{held_for, held_so, is_held_so, with_had, with_held, with_items, with_led, with_next, with_sent, with_source, with_target}
 use Rattle.mh_layers.specs.Listening.{source_of}
 use Rattle.mh_layers.proofs.FocusLemmas.{Focuses, HasSources, hears_from, is_source}
@@ -91,23 +91,27 @@ sent_adds : (P : Held → Type 0) (h : Sets) (xs : List Argument) (hs : List Hel
 sent_adds P h (argument.Through x k ∷ more) hs q own = had_adds P (h x) hs x q (own x)
 sent_adds P h _ hs q own = same_adds P hs
 
--- what holds of what the sets have in a configuration that is reached
-abbrev Allows : Flow → (Held → Type 0) → ObjRef → Type 0
-Allows w P q = (d : Config) → reached w d ≡ true → (r : ObjRef) → has (w.sets d) r q ≡ true → P (held_so r q)
+-- the configuration in which the action is done, or the one that it enters, done to this object
+abbrev pub IsAt : Service → Config → Act → ObjRef → Config → Type 0
+IsAt v c a t d = (d ≡ c) ⊎ ((is_transition a.name ≡ true) × (d ≡ exchanged v c t.group))
 
-next_adds : (P : Held → Type 0) (v : Service) (w : Flow) (d : Config) (hs : List Held) (q : ObjRef) → Allows w P q → Adds P hs (with_next v w d hs q)
+-- what holds of what the sets have there, where that is reached
+abbrev Allows : Service → Flow → Config → Act → ObjRef → (Held → Type 0) → ObjRef → Type 0
+Allows v w c a t P q = (d : Config) → IsAt v c a t d → reached w d ≡ true → (r : ObjRef) → has (w.sets d) r q ≡ true → P (held_so r q)
+
+next_adds : (P : Held → Type 0) (v : Service) (w : Flow) (d : Config) (hs : List Held) (q : ObjRef) → (reached w d ≡ true → (r : ObjRef) → has (w.sets d) r q ≡ true → P (held_so r q)) → Adds P hs (with_next v w d hs q)
 next_adds P v w d hs q own = by (reached w d) refl
   where
     by : (b : Bool) → reached w d ≡ b → Adds P hs (if b then with_items (w.sets d) (present v d) hs q else hs)
-    by true e = items_adds P (w.sets d) (present v d) hs q (own d e)
+    by true e = items_adds P (w.sets d) (present v d) hs q (own e)
     by false e = same_adds P hs
 
-led_adds : (P : Held → Type 0) (v : Service) (w : Flow) (c : Config) (a : Act) (t : ObjRef) (hs : List Held) (q : ObjRef) → Allows w P q → Adds P hs (with_led v w c a t hs q)
-led_adds P v w c a t hs q own = by (is_transition a.name)
+led_adds : (P : Held → Type 0) (v : Service) (w : Flow) (c : Config) (a : Act) (t : ObjRef) (hs : List Held) (q : ObjRef) → Allows v w c a t P q → Adds P hs (with_led v w c a t hs q)
+led_adds P v w c a t hs q own = by (is_transition a.name) refl
   where
-    by : (b : Bool) → Adds P hs (if b then with_next v w (exchanged v c t.group) hs q else hs)
-    by true = next_adds P v w (exchanged v c t.group) hs q own
-    by false = same_adds P hs
+    by : (b : Bool) → is_transition a.name ≡ b → Adds P hs (if b then with_next v w (exchanged v c t.group) hs q else hs)
+    by true e = next_adds P v w (exchanged v c t.group) hs q (own (exchanged v c t.group) (inr (e, refl)))
+    by false e = same_adds P hs
 
 -- The steps of what is put
 
@@ -123,48 +127,51 @@ lists_put v w c a t hs q = with_items (w.sets c) (present v c) (own_put w c a t 
 abbrev all_put : Service → Flow → Config → Act → ObjRef → List Held → ObjRef → List Held
 all_put v w c a t hs q = with_led v w c a t (lists_put v w c a t hs q) q
 
-own_adds : (P : Held → Type 0) (w : Flow) (c : Config) (a : Act) (t : ObjRef) (hs : List Held) (q : ObjRef) → reached w c ≡ true → Allows w P q → Adds P (sent_put w c a hs q) (own_put w c a t hs q)
-own_adds P w c a t hs q here own = had_adds P (w.sets c t) (sent_put w c a hs q) t q (own c here t)
+own_adds : (P : Held → Type 0) (v : Service) (w : Flow) (c : Config) (a : Act) (t : ObjRef) (hs : List Held) (q : ObjRef) → reached w c ≡ true → Allows v w c a t P q → Adds P (sent_put w c a hs q) (own_put w c a t hs q)
+own_adds P v w c a t hs q here own = had_adds P (w.sets c t) (sent_put w c a hs q) t q (own c (inl refl) here t)
 
-lists_adds : (P : Held → Type 0) (v : Service) (w : Flow) (c : Config) (a : Act) (t : ObjRef) (hs : List Held) (q : ObjRef) → reached w c ≡ true → Allows w P q → Adds P (own_put w c a t hs q) (lists_put v w c a t hs q)
-lists_adds P v w c a t hs q here own = items_adds P (w.sets c) (present v c) (own_put w c a t hs q) q (own c here)
+lists_adds : (P : Held → Type 0) (v : Service) (w : Flow) (c : Config) (a : Act) (t : ObjRef) (hs : List Held) (q : ObjRef) → reached w c ≡ true → Allows v w c a t P q → Adds P (own_put w c a t hs q) (lists_put v w c a t hs q)
+lists_adds P v w c a t hs q here own = items_adds P (w.sets c) (present v c) (own_put w c a t hs q) q (own c (inl refl) here)
 
-last_adds : (P : Held → Type 0) (v : Service) (w : Flow) (c : Config) (a : Act) (t : ObjRef) (hs : List Held) (q : ObjRef) → Allows w P q → Adds P (lists_put v w c a t hs q) (all_put v w c a t hs q)
+last_adds : (P : Held → Type 0) (v : Service) (w : Flow) (c : Config) (a : Act) (t : ObjRef) (hs : List Held) (q : ObjRef) → Allows v w c a t P q → Adds P (lists_put v w c a t hs q) (all_put v w c a t hs q)
 last_adds P v w c a t hs q own = led_adds P v w c a t (lists_put v w c a t hs q) q own
 
-behind_own : (P : Held → Type 0) (v : Service) (w : Flow) (c : Config) (a : Act) (t : ObjRef) (hs : List Held) (q : ObjRef) → reached w c ≡ true → Allows w P q → Adds P (own_put w c a t hs q) (all_put v w c a t hs q)
+behind_own : (P : Held → Type 0) (v : Service) (w : Flow) (c : Config) (a : Act) (t : ObjRef) (hs : List Held) (q : ObjRef) → reached w c ≡ true → Allows v w c a t P q → Adds P (own_put w c a t hs q) (all_put v w c a t hs q)
 behind_own P v w c a t hs q here own =
     on_adds P (own_put w c a t hs q) (lists_put v w c a t hs q) (all_put v w c a t hs q) (lists_adds P v w c a t hs q here own) (last_adds P v w c a t hs q own)
 
-behind_sent : (P : Held → Type 0) (v : Service) (w : Flow) (c : Config) (a : Act) (t : ObjRef) (hs : List Held) (q : ObjRef) → reached w c ≡ true → Allows w P q → Adds P (sent_put w c a hs q) (all_put v w c a t hs q)
+behind_sent : (P : Held → Type 0) (v : Service) (w : Flow) (c : Config) (a : Act) (t : ObjRef) (hs : List Held) (q : ObjRef) → reached w c ≡ true → Allows v w c a t P q → Adds P (sent_put w c a hs q) (all_put v w c a t hs q)
 behind_sent P v w c a t hs q here own =
-    on_adds P (sent_put w c a hs q) (own_put w c a t hs q) (all_put v w c a t hs q) (own_adds P w c a t hs q here own) (behind_own P v w c a t hs q here own)
+    on_adds P (sent_put w c a hs q) (own_put w c a t hs q) (all_put v w c a t hs q) (own_adds P v w c a t hs q here own) (behind_own P v w c a t hs q here own)
 
-all_adds : (P : Held → Type 0) (v : Service) (w : Flow) (c : Config) (a : Act) (t : ObjRef) (hs : List Held) (q : ObjRef) → reached w c ≡ true → Allows w P q → Adds P hs (all_put v w c a t hs q)
+all_adds : (P : Held → Type 0) (v : Service) (w : Flow) (c : Config) (a : Act) (t : ObjRef) (hs : List Held) (q : ObjRef) → reached w c ≡ true → Allows v w c a t P q → Adds P hs (all_put v w c a t hs q)
 all_adds P v w c a t hs q here own =
-    on_adds P hs (sent_put w c a hs q) (all_put v w c a t hs q) (sent_adds P (w.sets c) a.arguments hs q (own c here)) (behind_sent P v w c a t hs q here own)
+    on_adds P hs (sent_put w c a hs q) (all_put v w c a t hs q) (sent_adds P (w.sets c) a.arguments hs q (own c (inl refl) here)) (behind_sent P v w c a t hs q here own)
 
 -- nothing is asked of what is put
 abbrev Any : Held → Type 0
 Any h = Unit {0}
 
-any_allowed : (w : Flow) (q : ObjRef) → Allows w Any q
-any_allowed w q d here r e = tt
+any_allowed : (v : Service) (w : Flow) (c : Config) (a : Act) (t : ObjRef) (q : ObjRef) → Allows v w c a t Any q
+any_allowed v w c a t q d at here r e = tt
 
 source_keeps : (v : Service) (w : Flow) (c : Config) (a : Act) (t : ObjRef) (o : Option ObjRef) (hs : List Held) → reached w c ≡ true → (h : Held) → Among hs h → Among (with_source v w c a t o hs) h
 source_keeps v w c a t None hs here h there = there
-source_keeps v w c a t (Some q) hs here h there = (all_adds Any v w c a t hs q here (any_allowed w q)).keeps h there
+source_keeps v w c a t (Some q) hs here h there = (all_adds Any v w c a t hs q here (any_allowed v w c a t q)).keeps h there
 
 -- IT IS SO BY THE FLOW
 
-target_granted : (w : Flow) (c : Config) → reached w c ≡ true → (x : Target) (t : ObjRef) → Among (targets w c x) t → Each (IsGrantedBy w) (with_target x t)
-target_granted w c here (target.Direct r) t there = tt
-target_granted w c here (target.Through x) t there = ((c, here, among_any (same_ref t) (w.sets c x) t there (same_itself t)), tt)
+abbrev pub IsHeldAt : Service → Flow → Config → Act → ObjRef → Held → Type 0
+IsHeldAt v w c a t h = (d : Config) × IsAt v c a t d × (reached w d ≡ true) × (has (w.sets d) h.by h.at ≡ true)
 
-pub all_granted : (v : Service) (w : Flow) (c : Config) (a : Act) (t : ObjRef) (o : Option ObjRef) → reached w c ≡ true → Among (targets w c a.target) t → Each (IsGrantedBy w) (held_for v w c a t o)
-all_granted v w c a t None here there = target_granted w c here a.target t there
+target_granted : (v : Service) (w : Flow) (c : Config) (a : Act) → reached w c ≡ true → (x : Target) (t : ObjRef) → Among (targets w c x) t → Each (IsHeldAt v w c a t) (with_target x t)
+target_granted v w c a here (target.Direct r) t there = tt
+target_granted v w c a here (target.Through x) t there = ((c, inl refl, here, among_any (same_ref t) (w.sets c x) t there (same_itself t)), tt)
+
+pub all_granted : (v : Service) (w : Flow) (c : Config) (a : Act) (t : ObjRef) (o : Option ObjRef) → reached w c ≡ true → Among (targets w c a.target) t → Each (IsHeldAt v w c a t) (held_for v w c a t o)
+all_granted v w c a t None here there = target_granted v w c a here a.target t there
 all_granted v w c a t (Some q) here there =
-    (all_adds (IsGrantedBy w) v w c a t (with_target a.target t) q here (λ d may r e. (d, may, e))).each (target_granted w c here a.target t there)
+    (all_adds (IsHeldAt v w c a t) v w c a t (with_target a.target t) q here (λ d at may r e. (d, at, may, e))).each (target_granted v w c a here a.target t there)
 
 -- IT IS ALL THAT IS NEEDED
 
@@ -274,10 +281,10 @@ all_focused v w c a t o y here there sources = record {
       (inr (inr (among_mapped (λ (r : ObjRef). exchanged v c r.group) (comes_to (held_for v w c a t o) a.target) t (comes_there v w c a t o here there))));
   items = listed;
   own = λ q source e.
-      put q source t ((behind_own Any v w c a t hs q here (any_allowed w q)).keeps (held_so t q) (had_there (w.sets c t) (sent_put w c a hs q) t q e));
+      put q source t ((behind_own Any v w c a t hs q here (any_allowed v w c a t q)).keeps (held_so t q) (had_there (w.sets c t) (sent_put w c a hs q) t q e));
   sent = λ x k more is q source e.
       put q source x
-      ((behind_sent Any v w c a t hs q here (any_allowed w q)).keeps (held_so x q)
+      ((behind_sent Any v w c a t hs q here (any_allowed v w c a t q)).keeps (held_so x q)
       (subst (λ (xs : List Argument). Among (with_sent (w.sets c) xs hs q) (held_so x q)) (sym is) (had_there (w.sets c x) hs x q e)));
 }
   where
@@ -292,7 +299,7 @@ all_focused v w c a t o y here there sources = record {
     listed : (d : Config) → (d ≡ c) ⊎ ((is_transition a.name ≡ true) × (reached w d ≡ true) × (d ≡ exchanged v c t.group)) → (r : ObjRef) → is_list_in (present v d) r ≡ true → HasSources v w (put_flow v c y.config (held_for v w c a t o) a) y d r
     listed d (inl same) r is q source e =
         put q source r
-        ((last_adds Any v w c a t hs q (any_allowed w q)).keeps (held_so r q)
+        ((last_adds Any v w c a t hs q (any_allowed v w c a t q)).keeps (held_so r q)
         (lists_there (w.sets c) (present v c) (own_put w c a t hs q) q r (subst (λ (x : Config). is_list_in (present v x) r ≡ true) same is)
         (subst (λ (x : Config). has (w.sets x) r q ≡ true) same e)))
     listed d (inr (leads, may, same)) r is q source e =

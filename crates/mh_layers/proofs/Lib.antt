@@ -37,6 +37,7 @@ pub mod StandingLemmas
 pub mod GraphLemmas
 pub mod WalkLemmas
 pub mod TakenReadLemmas
+pub mod LateLemmas
 pub mod SetTimerLemmas
 pub mod RootLemmas
 pub mod CheapListLemmas

@@ -18,14 +18,13 @@ use Rattle.mh_group.specs.declared.attribute.Attribute.TheVariants as attribute
 use Rattle.mh_group.specs.declared.class.Class.{Class}
 use Rattle.mh_group.specs.declared.class.Class.TheVariants as class
 use Rattle.mh_group.specs.Table.{has_content, is_link}
-use Rattle.mh_model.specs.declared.act.Act.{Act}
 use Rattle.mh_model.specs.declared.act.Argument.{Argument}
 use Rattle.mh_model.specs.declared.act.Argument.TheVariants as argument
 use Rattle.mh_model.specs.declared.config.Config.{Config}
 use Rattle.mh_model.specs.declared.event.Event.{Event}
 use Rattle.mh_model.specs.declared.member.Member.{Member}
 use Rattle.mh_model.specs.declared.object.Fixed.{Fixed}
-use Rattle.mh_model.specs.Configuration.{present, scene_parts}
+use Rattle.mh_model.specs.Configuration.{present}
 use Rattle.mh_model.specs.Groups.{is_initially_active}
 use Rattle.mh_model.specs.Items.{hears_data, hears_source, hears_type}
 use Rattle.mh_model.specs.Known.{class_at}
@@ -46,7 +45,7 @@ use Rattle.mh_laws.proofs.PriceLemmas.{nodes_if, nodes_most, nodes_sum, of_nodes
 use Rattle.mh_layers.specs.declared.node_key.NodeKey.{NodeKey}
 use Rattle.mh_layers.specs.declared.node_key.NodeKey.TheVariants as key
 use Rattle.mh_layers.specs.Deeds.{number_in}
-use Rattle.mh_layers.specs.Listening.{names_event, source_of, type_of}
+use Rattle.mh_layers.specs.Listening.{names_event}
 use Rattle.mh_layers.specs.Reading.{IsReading, Reading, flow_read}
 use Rattle.mh_layers.specs.Standings.{effect_named}
 use Rattle.mh_layers.specs.Trails.{IsStep}

@@ -41,6 +41,7 @@ use Rattle.mh_layers.specs.Layering.{AreLayers, Places, cost_of, is_laid, laid_i
 use Rattle.mh_layers.specs.Reading.{IsReading, Reading, Spot, flow_read, heard_read, kept, known_by, name, number, price, spot_in, told_in}
 use Rattle.mh_layers.specs.Staging.{AreStagesFrom, AreStagesTo, IsNext, IsPart, IsPartAt, IsStageBy, PutsFrom, act_worth, all_known}
 use Rattle.mh_layers.specs.Standings.{cause_named, effect_named}
+use Rattle.mh_layers.specs.Trails.{IsActive}
 use Rattle.mh_layers.specs.Stretches.{is_effect_key}
 use Rattle.mh_layers.specs.Taking.{or_nothing}
 use Rattle.mh_layers.specs.Web.{effect_number}
@@ -60,6 +61,7 @@ use Rattle.mh_layers.proofs.ReadingLemmas.{numbers_are_names}
 use Rattle.mh_layers.proofs.ReckonLemmas.{by_worth}
 use Rattle.mh_layers.proofs.RootLemmas.{active_rooted}
 use Rattle.mh_layers.proofs.ServeLemmas.{read_of, serves}
+use Rattle.mh_layers.proofs.TrailLemmas.{active_named}
 use Rattle.mh_layers.proofs.WalkLemmas.{named_back}
 
 -- COSTS
@@ -275,6 +277,11 @@ stages_same v w f Is So (s ∷ ss) to back are = (
 )
 
 -- ONE MORE STAGE
+
+pub chosen_active : (r : Reading) → IsReading r → (ts : Places) (k : NodeKey) (js seen : List NodeKey) (best : Option Dearest) (d : Dearest) → IsNamed r k → AreReached r k js → seen ≡ js → AreChosen r ts seen best → best ≡ Some d → IsActive r d.key
+chosen_active r read ts k js seen best d named reach same are some =
+    let x = chosen_effect r ts k js d reach (subst (λ (o : Option Dearest). AreChosen r ts js o) some (subst (λ (is : List NodeKey). AreChosen r ts is best) same are)) in
+    subst (IsActive r) x.told (active_named r read x.effect (puts_on r read k named x.effect x.puts))
 
 chosen_next : (r : Reading) → IsReading r → (ts : Places) → AreLayers (price r) (kept r) ts → list_all (is_laid ts) (root_keys r) ≡ true → (k : NodeKey) (js : List NodeKey) (d : Dearest) → IsNamed r k → AreReached r k js → IsChosen r ts js d
     → (n : Next) → IsStageBy r ts d n → AreStagesTo r k (n.stage ∷ []) n.key

@@ -28,9 +28,10 @@ use Rattle.mh_layers.specs.Around as around
 use Rattle.mh_layers.specs.Around.{Key, Fired, Enter, Any}
 use Rattle.mh_layers.specs.Keys.{every_timer, fired_of, has_groups, heard_key, is_named, scene_there, taken_price, takes}
 use Rattle.mh_layers.specs.Sums.{sum_from, most_from}
+use Rattle.mh_layers.proofs.ActAgreeLemmas.{leaving}
 use Rattle.mh_layers.proofs.AgreeLemmas.{Agrees, Setting, agrees_if, agrees_largest, agrees_most, agrees_node, agrees_nothing, agrees_one, agrees_plus, agrees_sum, agrees_then, agrees_wider, effects_come}
 use Rattle.mh_layers.proofs.FiredLemmas.{emit_agrees, heard_agrees, silent_fired}
-use Rattle.mh_layers.proofs.LifeAgreeLemmas.{net, turned}
+use Rattle.mh_layers.proofs.LifeAgreeLemmas.{exchange_agrees, net, turned}
 use Rattle.mh_layers.proofs.ReckonLemmas.{sum_filtered}
 use Rattle.mh_layers.proofs.TimerLemmas.{every_once, once_filtered}
 
@@ -130,6 +131,10 @@ contents_agree s c here =
     agrees_sum s 4 (around.content_told (net s c)) (λ (p : Fixed). content_of s p (part_at p.key (present s.service c))) (present s.service c)
     (λ p there. content_agrees s c here p)
 
+-- a transition that waits for a scene
+scene_change_agrees : {A : Type 0} (s : Setting A) (c : Config) → reached s.flow c ≡ true → (g : List ℕ) → Agrees s 6 (around.scene_change (net s c) g) (costs.scene_change s.service s.flow c g)
+scene_change_agrees s c here g = leaving s c here false ((net s c).exchange g) (costs.exchange s.service s.flow c g) (exchange_agrees s c g)
+
 -- All kinds
 
 -- one step, and what comes of it
@@ -159,6 +164,19 @@ taken_agrees s c here groups kind.Engine =
     (group_fired s c here c.app event.EngineEvent (and_left (is_there (group_ref c.app) (present s.service c)) (scene_there s.service c) groups)
     (s.heard (group_ref c.app) event.EngineEvent) refl)
 taken_agrees s c here groups kind.Arrive =
-    agrees_wider s 4 6 (taken_price s.service s.flow s.heard c kind.Arrive) (takes s.service s.flow c kind.Arrive) (omega arith)
-    (begun s 4 (sum_from (around.content_told (net s c)) Nothing (present s.service c))
-    (sum_price (λ (p : Fixed). content_of s p (part_at p.key (present s.service c))) (present s.service c)) (contents_agree s c here))
+    begun s 6 (Most contents changes) (Most contents_of changes_of)
+    (agrees_most s 6 contents changes contents_of changes_of
+    (agrees_wider s 4 6 contents contents_of (omega arith) (contents_agree s c here))
+    (agrees_largest s 6 (around.scene_change (net s c)) (costs.scene_change s.service s.flow c) (costs.late_scenes s.service s.flow c) (λ g there. scene_change_agrees s c here g)))
+  where
+    contents : Price Key
+    contents = sum_from (around.content_told (net s c)) Nothing (present s.service c)
+
+    contents_of : Price costs.Effect
+    contents_of = sum_price (λ (p : Fixed). content_of s p (part_at p.key (present s.service c))) (present s.service c)
+
+    changes : Price Key
+    changes = most_from (around.scene_change (net s c)) Nothing (costs.late_scenes s.service s.flow c)
+
+    changes_of : Price costs.Effect
+    changes_of = most_price (costs.scene_change s.service s.flow c) (costs.late_scenes s.service s.flow c)

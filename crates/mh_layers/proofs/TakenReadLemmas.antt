@@ -10,7 +10,7 @@ summed_more : {E X : Type 0} (f : X → Result ℕ E) (s : Result ℕ E) (xs ys 
 summed_more f s [] ys = refl
 summed_more f s (x ∷ xs) ys = summed_more f (added s (f x)) xs ys
 
-mosted_more : {E X : Type 0} (f : X → Result ℕ E) (s : Result ℕ E) (xs ys : List X) → mosted f s (xs ++ ys) ≡ mosted f (mosted f s xs) ys
+pub mosted_more : {E X : Type 0} (f : X → Result ℕ E) (s : Result ℕ E) (xs ys : List X) → mosted f s (xs ++ ys) ≡ mosted f (mosted f s xs) ys
 mosted_more f s [] ys = refl
 mosted_more f s (x ∷ xs) ys = mosted_more f (larger s (f x)) xs ys
 

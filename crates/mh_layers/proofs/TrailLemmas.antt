@@ -324,7 +324,7 @@ leads_round r z first second k s (t ∷ ss) a (b ∷ arrows) to ways are =
     (subst (λ (j : NodeKey). IsArrowOf r j t.to b) ways.2.0 are.1.0) in
     λ i. next i && leads_round r z first second s.to t ss b arrows to ways.2 are.1 i
 
-each_granted : (r : Reading) (ss : List Stretch) (arrows : List Arrow) → AreArrowsOf r ss arrows → Each (AreGrantedBy (flow_read r)) arrows
+each_granted : (r : Reading) (ss : List Stretch) (arrows : List Arrow) → AreArrowsOf r ss arrows → Each (AreGrantedBy r.service (flow_read r)) arrows
 each_granted r [] [] are = tt
 each_granted r [] (a ∷ arrows) are = absurd cc
 each_granted r (s ∷ ss) [] are = absurd cc

@@ -177,6 +177,10 @@ reads (Some p) = has_content p.class
 abbrev pub content_told : Around → Fixed → Price Key
 content_told a p = if_price (reads (a.part p.key)) (a.dealt_with p.key event.ContentAvailable (Sure None))
 
+-- what a transition to a scene puts
+abbrev pub scene_change : Around → List ℕ → Price Key
+scene_change a g = Plus (a.leave false) (a.exchange g)
+
 -- a timer of the configuration is due
 abbrev pub timer_due : Around → (List ℕ → Bool) → TimerKey → Price Key
 timer_due a here t = if_price (here t.0) (a.dealt_with (group_ref t.0) event.TimerFired (Sure (Some (value.Int t.1))))

@@ -1,6 +1,6 @@
 -- Arrows: an action of an active effect puts the effect of the next arrow to work. To what its variables refer then, which items
 -- lists have, and which configurations are reached, is granted.
-use Rattle.std.specs.Prelude.{◌≡◌, ℕ, ◌+◌, Bool, true, false, ◌&&◌, ◌==◌, nat_le, nat_lt, List, [], ◌∷◌, map, filter, length}
+use Rattle.std.specs.Prelude.{◌≡◌, ◌⊎◌, ℕ, ◌+◌, Bool, true, false, ◌&&◌, ◌==◌, nat_le, nat_lt, List, [], ◌∷◌, map, filter, length}
 use Rattle.std.specs.List.{list_any}
 use Rattle.std.specs.Option.{option_eq, option_map_or}
 use Rattle.mh_base.specs.declared.obj_ref.ObjRef.{ObjRef}
@@ -12,11 +12,12 @@ use Rattle.mh_model.specs.declared.act.Target.TheVariants as target
 use Rattle.mh_model.specs.declared.config.Config.{Config}
 use Rattle.mh_model.specs.declared.object.Fixed.{Fixed}
 use Rattle.mh_model.specs.Configuration.{has_keys, is_service, present}
+use Rattle.mh_model.specs.Faults.{is_transition}
 use Rattle.mh_model.specs.Reference.{same_key}
 use Rattle.mh_model.specs.Service.{Service, part_at}
 use Rattle.mh_model.specs.Variables.{same_value}
 use Rattle.mh_laws.specs.Costs.{Effect, act, effect_at, first_slot, link_effect, on_close_down, on_start_up}
-use Rattle.mh_laws.specs.Each.{Each}
+use Rattle.mh_laws.specs.Each.{Among, Each}
 use Rattle.mh_laws.specs.Flow.{Flow, has, reached}
 use Rattle.mh_laws.specs.Layers.{Causes}
 use Rattle.mh_laws.specs.Safe.{exchanged}
@@ -113,19 +114,35 @@ goes_round v (a ∷ rest) = leads_back v a (a ∷ rest)
 
 -- The arrows of a cycle
 
--- what is granted holds by the flow, in a configuration that is reached
-abbrev pub IsGrantedBy : Flow → Held → Type 0
-IsGrantedBy w h = (c : Config) × (reached w c ≡ true) × (has (w.sets c) h.by h.at ≡ true)
+-- the arrow's action is a transition, and enters the configuration where its target comes to this object
+pub record Enters (v : Service) (a : Arrow) (c : Config) : Type 0 where
+  pub site : Site
+  pub there : Among (sites_of (present v a.cause.config)) site
+  pub own : is_action_of a site ≡ true
+  pub transition : is_transition a.action ≡ true
+  pub at : ObjRef
+  pub comes : Among (comes_to a.held site.act.target) at
+  pub entered : c ≡ exchanged v a.cause.config at.group
 
-abbrev pub AreGrantedBy : Flow → Arrow → Type 0
-AreGrantedBy w a = Each (IsGrantedBy w) a.held
+-- the configuration in which the arrow's action is done, or one that it enters
+abbrev pub IsWhere : Service → Arrow → Config → Type 0
+IsWhere v a c = (c ≡ a.cause.config) ⊎ Enters v a c
 
--- they are of the effects of the first cycle, from the first on; each leads to the next, and the last to the first; and what they
--- grant is so by the flow
+-- what is granted holds by the flow there
+abbrev pub IsGrantedBy : Service → Flow → Arrow → Held → Type 0
+IsGrantedBy v w a h = (c : Config) × IsWhere v a c × (reached w c ≡ true) × (has (w.sets c) h.by h.at ≡ true)
+
+-- so is all that an arrow grants, whose configuration is reached
+pub record AreGrantedBy (v : Service) (w : Flow) (a : Arrow) : Type 0 where
+  pub from : reached w a.cause.config ≡ true
+  pub held : Each (IsGrantedBy v w a) a.held
+
+-- they are of the effects of the first cycle, from the first on; each leads to the next, and the last to the first; and what each
+-- grants is so by the flow where its action is done, or where that leads
 pub record AreFirstArrows (v : Service) (w : Flow) (arrows : List Arrow) : Type 0 where
   pub cycle : AreFirstCycle v w (map (λ (a : Arrow). a.cause) arrows)
   pub round : goes_round v arrows ≡ true
-  pub granted : Each (AreGrantedBy w) arrows
+  pub granted : Each (AreGrantedBy v w) arrows
 
 -- THE LAW. An arrow's effect, which the arrow before it puts to work, causes the next where what the arrow says is granted.
 abbrev pub ArrowsAreCauses : Type 0

@@ -1,5 +1,5 @@
 -- The dearest ways: of what the start and an input of each kind can put to work what costs most, effect by effect.
-use Rattle.std.specs.Prelude.{◌≡◌, ◌<◌, ◌≤◌, ℕ, ◌+◌, min, Bool, false, List, [], ◌∷◌, map, slice_get, Option, Some}
+use Rattle.std.specs.Prelude.{◌≡◌, ◌<◌, ◌≤◌, ℕ, ◌+◌, min, false, List, [], ◌∷◌, map, slice_get, Some}
 use Rattle.std.specs.Option.{option_map_or}
 use Rattle.std.specs.Ordering.{is_lt}
 use Rattle.mh_model.specs.declared.act.Act.{Act}

@@ -168,7 +168,9 @@ taken_price v w h c kind.Tick =
 taken_price v w h c kind.Stream = Plus One (sum_from (around.stream_told (net_around v w h c)) Nothing (present v c))
 taken_price v w h c kind.Engine =
     Plus One (fired_of c (group_ref c.app) event.EngineEvent (h (group_ref c.app) event.EngineEvent))
-taken_price v w h c kind.Arrive = Plus One (sum_from (around.content_told (net_around v w h c)) Nothing (present v c))
+taken_price v w h c kind.Arrive =
+    Plus One (Most (sum_from (around.content_told (net_around v w h c)) Nothing (present v c))
+    (most_from (around.scene_change (net_around v w h c)) Nothing (costs.late_scenes v w c)))
 
 -- the group that is entered when a configuration is
 abbrev pub entered : Config → Option (List ℕ) → List ℕ

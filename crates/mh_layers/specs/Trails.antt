@@ -48,7 +48,7 @@ pub record IsArrowFor (v : Service) (w : Flow) (x y : Effect) (a : Arrow) : Type
       list_any (λ s. is_action_of a s && counts y (act v (granted v a y.config s.act) x.config s.act)) (sites_of (present v x.config)) ≡ true
   pub by : number_by a.by ≡ y.number
   pub waited : option_map_or (is_waited_for a.by) (part_at y.object (present v y.config)) false ≡ true
-  pub granted : AreGrantedBy w a
+  pub granted : AreGrantedBy v w a
 
 abbrev pub IsArrowOf : Reading → NodeKey → NodeKey → Arrow → Type 0
 IsArrowOf r from to a = IsArrowFor r.service (flow_read r) (effect_named r from) (effect_named r to) a

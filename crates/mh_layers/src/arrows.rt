@@ -29,7 +29,7 @@ use mh_model::Fixed;
 use std::alloc::{AllocError, Global};
 
 /// The configuration of the effect.
-fn config_of<'a>(net: &'a Net<'_>, costs: &'a Costs, key: &NodeKey) -> At<'a>
+pub(crate) fn config_of<'a>(net: &'a Net<'_>, costs: &'a Costs, key: &NodeKey) -> At<'a>
     requires reading { IsReading net.now }
     requires active { IsActive net.now key.now }
     ensures { result ≡ spot_in net.now costs.now (effect_named net.now key.now).config }
@@ -44,7 +44,7 @@ fn config_of<'a>(net: &'a Net<'_>, costs: &'a Costs, key: &NodeKey) -> At<'a>
 }
 
 /// What is said of the object of the effect.
-fn part_of<'a>(here: &'a At<'_>, key: &NodeKey) -> &'a Fixed
+pub(crate) fn part_of<'a>(here: &'a At<'_>, key: &NodeKey) -> &'a Fixed
     requires reading { IsReading here.now.reading }
     requires active { IsActive here.now.reading key.now }
     requires config { here.now.config ≡ (effect_named here.now.reading key.now).config }

@@ -1,7 +1,7 @@
 //! `At`: a configuration of a net, where some costs are known.
 //!
 //! Promise: each answer is what its price comes to, over what is told of keys by their numbers.
-ghost use Rattle.std.specs.Prelude.{◌≡◌, ◌+◌, ◌++◌, ◌<◌, ℕ, None, Some, if◌then◌else◌, position, slice_get, IfNone, IfSome};
+ghost use Rattle.std.specs.Prelude.{◌≡◌, ◌+◌, ◌++◌, ◌<◌, ℕ, None, Some, if◌then◌else◌, position, slice_get, IfNone, IfOk, IfSome};
 ghost use Rattle.std.specs.Option.{option_copied};
 ghost use Rattle.mh_base.specs.Event.{is_sync};
 ghost use Rattle.mh_model.specs.Configuration.{present as present_there};
@@ -13,6 +13,7 @@ ghost use Rattle.mh_laws.specs.Flow.{is_list_in};
 ghost use Rattle.mh_laws.specs.Price.{Nothing, One};
 ghost use Rattle.mh_laws.specs.Safe.{exchanged};
 ghost use Rattle.mh_laws.specs.Ways.{Sure, Unsure};
+ghost use Rattle.mh_flow.specs.Sites.{sites_of as sites_of_lem};
 ghost use Rattle.mh_layers.specs.Around as around_lem;
 ghost use Rattle.mh_layers.specs.Around.{Any, Enter, Plain, With};
 ghost use Rattle.mh_layers.specs.Keys.{fired_if_there, hearing};
@@ -28,9 +29,11 @@ use crate::slots::slot_count;
 use crate::sums::{Worth, plus};
 use crate::values::Values;
 use mh_base::{EventType, GroupName, ObjRef, Value};
-use mh_flow::{Held, Present};
+use mh_flow::sites::sites_of;
+use mh_flow::{Held, Present, Site};
 use mh_group::Class;
 use mh_model::{Config, Fixed, FixedPart};
+use std::alloc::AllocError;
 use std::marker::Model;
 
 /// A configuration of a net, where some costs are known.
@@ -383,6 +386,14 @@ impl<'a> At<'a> {
         ensures { result.0.now ++ result.1.now ≡ present_there self.now.reading.service self.now.config }
     {
         self.present.parts()
+    }
+
+    /// The actions that can come to be done here, each at its place.
+    pub fn sites(&self) -> Result<Vec<Site<'a>>, AllocError>
+        ensures { let s = self.now in
+            IfOk result (λ sites. sites.items ≡ sites_of_lem (present_there s.reading.service s.config)) }
+    {
+        sites_of(self.net.allocator(), &self.present)
     }
 
     /// What it costs to enter it.

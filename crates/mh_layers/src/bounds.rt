@@ -95,7 +95,7 @@ impl Bounds {
             Input::Tick(_) => self.tick,
             Input::Stream(_) => self.stream,
             Input::Engine(_) => self.engine,
-            Input::Arrive(_) => self.arrive,
+            Input::Arrive(_) | Input::Scene(..) => self.arrive,
         }
     }
 

@@ -24,6 +24,7 @@ mod deeds;
 mod effects;
 mod granting;
 pub mod inputs;
+mod late;
 pub mod laws;
 pub mod layers;
 pub mod laying;

@@ -28,6 +28,7 @@ use std::marker::Model;
 /// A service and its flow as they are read for the layers.
 #[derive(Drop)]
 pub(crate) struct Net<'a> {
+    alloc: Global,
     service: &'a Equipped<'a>,
     flow: &'a Flow,
     /// The configurations that are reached, in the order of the flow.
@@ -154,6 +155,7 @@ impl<'a> Net<'a> {
         let held = held_in_each(alloc, service, flow, configs.as_slice())?;
         let timers = Timers::of(alloc, service, flow, &all, &configs, &held)?;
         Ok(Net {
+            alloc,
             service,
             flow,
             all,
@@ -169,6 +171,10 @@ impl<'a> Net<'a> {
         ensures { IsReading self.now }
     {
         let _ = self.configs.len();
+    }
+
+    pub fn allocator(&self) -> Global {
+        self.alloc
     }
 
     /// The service.

@@ -3,8 +3,6 @@
 //! Promise: each tells of its effect, what that costs, and the first of its actions that cost most.
 ghost use Rattle.std.specs.Prelude.{◌≡◌, ◌+◌, true, map, Ok, Some, IfOk};
 ghost use Rattle.std.specs.List.{list_all};
-ghost use Rattle.mh_model.specs.Configuration.{present};
-ghost use Rattle.mh_model.specs.Service.{part_at};
 ghost use Rattle.mh_layers.specs.Caused.{IsNamed};
 ghost use Rattle.mh_layers.specs.Dearest.{acts_of};
 ghost use Rattle.mh_layers.specs.Layered.{root_keys};
@@ -12,21 +10,20 @@ ghost use Rattle.mh_layers.specs.Layering.{AreLayers, is_laid};
 ghost use Rattle.mh_layers.specs.Reading.{IsReading, kept, price, spot_in};
 ghost use Rattle.mh_layers.specs.Staging.{AreStagesFrom, IsNext, IsPart, IsPartAt, IsStageBy, act_worth, all_known};
 ghost use Rattle.mh_layers.specs.Standings.{effect_named};
+ghost use Rattle.mh_layers.specs.Trails.{IsActive};
 
 use crate::actions::act;
-use crate::arrows::number_of;
+use crate::arrows::{config_of, number_of, part_of};
 use crate::at::At;
 use crate::caused::reached_from;
-use crate::costs::Costs;
 use crate::dearest::{Dearest, dearest_of, first_largest, number_at};
 use crate::effects::effect_acts;
 use crate::laying::Laying;
 use crate::net::Net;
 use crate::node_key::NodeKey;
-use crate::price::{object, standing};
 use crate::way::Stage;
 use mh_group::ActionName;
-use mh_model::{Act, Fixed};
+use mh_model::Act;
 use std::alloc::{AllocError, Global};
 
 /// An action of an effect: its place there, and what it costs.
@@ -93,31 +90,6 @@ fn dearest_act(alloc: Global, here: &At<'_>, acts: &[Act]) -> Result<Part, Alloc
     Ok(part)
 }
 
-/// The configuration of the effect.
-fn config_of<'a>(net: &'a Net<'_>, costs: &'a Costs, key: &NodeKey) -> Result<At<'a>, AllocError>
-    ensures { IfOk result (λ here. here ≡ spot_in net.now costs.now (effect_named net.now key.now).config) }
-{
-    match key {
-        NodeKey::Effect(config, _, _) => standing(net, costs, *config),
-        _ => Err(AllocError),
-    }
-}
-
-/// What is said of the object of the effect.
-fn fixed_of<'a>(here: &'a At<'_>, key: &NodeKey) -> Result<&'a Fixed, AllocError>
-    ensures { let s = here.now in let ps = present s.reading.service s.config in
-        IfOk result (λ part. part_at (effect_named s.reading key.now).object ps ≡ Some part.now) }
-{
-    let NodeKey::Effect(_, number, _) = key else {
-        return Err(AllocError);
-    };
-    let at = object(here.net(), *number)?;
-    match here.find(at) {
-        None => Err(AllocError),
-        Some(part) => Ok(part),
-    }
-}
-
 /// The first action of the effect that costs most.
 fn dearest_part(
     alloc: Global,
@@ -125,12 +97,14 @@ fn dearest_part(
     laying: &Laying,
     key: &NodeKey,
 ) -> Result<Part, AllocError>
+    requires reading { IsReading net.now }
+    requires active { IsActive net.now key.now }
     ensures { let x = effect_named net.now key.now in
         IfOk result (λ part. IsPart (spot_in net.now laying.now x.config) (acts_of net.now.service x) part) }
 {
     let costs = laying.costs();
-    let here = config_of(net, costs, key)?;
-    let fixed = fixed_of(&here, key)?;
+    let here = config_of(net, costs, key);
+    let fixed = part_of(&here, key);
     let number = number_of(key);
     let acts = effect_acts(fixed, number);
     let part = dearest_act(alloc, &here, acts)?;
@@ -156,6 +130,8 @@ fn stage_of(
     laying: &Laying,
     dearest: Dearest,
 ) -> Result<Next, AllocError>
+    requires reading { IsReading net.now }
+    requires active { IsActive net.now dearest.key }
     ensures { IfOk result (λ next. IsStageBy net.now laying.now dearest next) }
 {
     let part = dearest_part(alloc, net, laying, &dearest.key)?;

@@ -20,6 +20,7 @@ use crate::around::Around;
 use crate::at::At;
 use crate::bounds::InputKind;
 use crate::inputs::{content_told, pressed, stream_told};
+use crate::late::all_changes;
 use crate::node_key::Hears;
 use crate::sums::{Worth, most, plus};
 use crate::timers::SetTimer;
@@ -205,10 +206,11 @@ fn engine_input(here: &At<'_>) -> Result<Worth, AllocError>
     Ok(plus(Ok(1), fired_of(here, &source, EventType::EngineEvent)))
 }
 
-fn arrive_input(here: &At<'_>) -> Worth
-    ensures { result ≡ known_worth (known_at here.now) (spot_price here.now (Taken here.now.config kind_lem.Arrive)) }
+fn arrive_input(here: &At<'_>) -> Result<Worth, AllocError>
+    ensures { IfOk result (λ worth. worth ≡ known_worth (known_at here.now) (spot_price here.now (Taken here.now.config kind_lem.Arrive))) }
 {
-    plus(Ok(1), all_contents(here))
+    let changes = all_changes(here)?;
+    Ok(plus(Ok(1), most(all_contents(here), changes)))
 }
 
 /// What an input of this kind costs that is taken here.
@@ -221,6 +223,6 @@ pub(crate) fn taken_worth(here: &At<'_>, kind: InputKind) -> Result<Worth, Alloc
         InputKind::Tick => Ok(tick_input(here)),
         InputKind::Stream => Ok(stream_input(here)),
         InputKind::Engine => engine_input(here),
-        InputKind::Arrive => Ok(arrive_input(here)),
+        InputKind::Arrive => arrive_input(here),
     }
 }

@@ -31,6 +31,6 @@ pub mod TailLemmas
 pub mod AdviceLemmas
 pub mod WhyLemmas
 pub mod PaintLemmas
-pub mod ScriptLemmas
+pub mod FileLineLemmas
 pub mod VariableLemmas
 pub mod CaretLemmas

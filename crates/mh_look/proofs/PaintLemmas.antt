@@ -5,7 +5,7 @@ use Rattle.std.proofs.Common.{ap, sym, subst, ◌∙◌, append-nil, append_asso
 use Rattle.std.proofs.lemmas.List.Concat.{flat_map-append}
 use Rattle.bstr.specs.Text.{lines_of, no_cr, without_terminator}
 use Rattle.bstr.proofs.lemmas.RestLemmas.{concat-lines_of}
-use Rattle.mh_look.specs.Painting.{IsPainted, Stroke, Given, Written, stroke_bytes, written_bytes, order_bytes, coloured, coloured_from, is_space, behind_spaces, begins_with, painted_line, painted_whole, painted}
+use Rattle.mh_look.specs.Painting.{IsPainted, Given, Written, stroke_bytes, written_bytes, order_bytes, coloured, coloured_from, is_space, behind_spaces, begins_with, painted_line, painted_whole, painted}
 use Rattle.mh_look.specs.declared.paint.Order.{Order}
 use Rattle.mh_look.specs.declared.paint.Order.TheVariants as order
 

@@ -17,13 +17,13 @@ use Rattle.mh_look.specs.Advice.{Row, row_with, row_text, advice, refusals, file
 use Rattle.mh_look.specs.LineWords.{first_word, behind_first, last_word, before_last, number_in}
 use Rattle.mh_look.specs.Places.{IsHarmless}
 use Rattle.mh_look.specs.Services.{landmark_for, shown_for, shown_service}
-use Rattle.mh_look.specs.Sources.{Script, Source, by_number, by_numbers, count_named, in_source, marks_named, named_words, object_in, shown_action, shown_actions, shown_byte, shown_landmark, shown_line, shown_line_from, shown_mark, shown_named, shown_numbered, shown_object, shown_object_in, shown_offset, shown_refused, shown_through, shown_with_variables, source_named, through_words}
+use Rattle.mh_look.specs.Sources.{NamedFile, Source, by_number, by_numbers, count_named, in_source, marks_named, named_words, object_in, shown_action, shown_actions, shown_byte, shown_landmark, shown_line, shown_line_from, shown_mark, shown_named, shown_numbered, shown_object, shown_object_in, shown_offset, shown_refused, shown_through, shown_with_variables, shown_written_from, source_named, through_words}
 use Rattle.mh_look.specs.declared.why_keyword.Keyword.{Keyword}
 use Rattle.mh_look.specs.declared.why_keyword.Keyword.TheVariants as keyword
 use Rattle.mh_look.specs.declared.why_way.TheConstants.{PUTS_FIRST, PUTS_NEXT}
 use Rattle.mh_look.specs.WayWords.{other_words, place_words, stage_words, stage_text, stages_text, way_text, way_of, bound_text}
 use Rattle.mh_look.specs.Why as spec
-use Rattle.mh_look.specs.Why.{Ground, Spot, spot, shown_spot, shown_from, or_else, refused_spot, refused_at, shown_script, stuck, told, with_line, explained, explained_all, number_behind, keyword_of, why, ExplanationsAreHarmless}
+use Rattle.mh_look.specs.Why.{Ground, Spot, spot, shown_spot, shown_from, or_else, refused_spot, refused_at, shown_late, shown_script, stuck, told, with_line, explained, explained_all, number_behind, keyword_of, why, ExplanationsAreHarmless}
 use Rattle.mh_look.proofs.HarmlessLemmas.{◌⌢◌, harmless_codes, harmless_plain, harmless_paragraph, harmless_place}
 
 none : IsHarmless []
@@ -109,17 +109,26 @@ unfolding shown_service
 service_put ss number group =
     in_source_put (shown_for number) (λ s. optional (shown_landmark s) (landmark_put s) (landmark_for number s.name (landmarks s.text))) ss group
 
-line_from_put : (s : Script) (start : ℕ) (ls : List (List ℕ)) (n : ℕ) → IsHarmless (shown_line_from s start ls n)
+line_from_put : (s : NamedFile) (start : ℕ) (ls : List (List ℕ)) (n : ℕ) → IsHarmless (shown_line_from s start ls n)
 line_from_put s start [] n = none
 line_from_put s start (l ∷ ls) zero = harmless_place s.name s.bytes start (length (without_terminator l))
 line_from_put s start (l ∷ ls) (suc n) = line_from_put s (start + length l) ls n
 
-script_line_put : (s : Script) (n : ℕ) → IsHarmless (shown_line s n)
+script_line_put : (s : NamedFile) (n : ℕ) → IsHarmless (shown_line s n)
 script_line_put s zero = none
 script_line_put s (suc n) = line_from_put s 0 (lines_of s.bytes) n
 
-script_put : (script : Option Script) (word : List ℕ) → IsHarmless (shown_script script word)
-script_put script word = optional (λ (s : Script). by_number (shown_line s) word) (λ s. by_number_put (shown_line s) (script_line_put s) word) script
+written_from_put : (s : NamedFile) (start : ℕ) (ls : List (List ℕ)) (written : List ℕ) → IsHarmless (shown_written_from s start ls written)
+written_from_put s start [] written = none
+written_from_put s start (l ∷ ls) written =
+    either (bytes_eq (without_terminator l) written) _ _ (harmless_place s.name s.bytes start (length (without_terminator l))) (written_from_put s (start + length l) ls written)
+
+late_put : (late : Option NamedFile) (number line : List ℕ) → IsHarmless (shown_late late number line)
+late_put None number line = none
+late_put (Some f) number line = either (bytes_eq number (codes "37")) _ _ (written_from_put f 0 (lines_of f.bytes) line) none
+
+script_put : (script : Option NamedFile) (word : List ℕ) → IsHarmless (shown_script script word)
+script_put script word = optional (λ (s : NamedFile). by_number (shown_line s) word) (λ s. by_number_put (shown_line s) (script_line_put s) word) script
 
 spot_put : (ss : List Source) (s : Spot) → IsHarmless (shown_spot ss s)
 spot_put ss s = by_numbers_put (shown_action ss s.group) (action_put ss s.group) s.object s.index
@@ -203,11 +212,12 @@ file_put : (ss : List Source) (s : Spot) → IsHarmless (spec.file ss s)
 unfolding spec.file
 file_put ss s = harmless_paragraph _ ⌢ by_number_put (shown_offset ss s.group) (offset_put ss s.group) s.index ⌢ advice_put files s.object
 
-group_put : (ss : List Source) (ws : List ℕ) → IsHarmless (spec.service ss ws)
+group_put : (g : Ground) (ws : List ℕ) → IsHarmless (spec.service g ws)
 unfolding spec.service
-group_put ss ws = harmless_paragraph _ ⌢ service_put ss (first_word ws) (behind_first ws) ⌢ advice_put services (first_word ws)
+group_put g ws =
+    harmless_paragraph _ ⌢ service_put g.sources (first_word ws) (behind_first ws) ⌢ late_put g.late (first_word ws) (behind_first ws) ⌢ advice_put services (first_word ws)
 
-line_of_script_put : (script : Option Script) (ws : List ℕ) → IsHarmless (spec.script script ws)
+line_of_script_put : (script : Option NamedFile) (ws : List ℕ) → IsHarmless (spec.script script ws)
 unfolding spec.script
 line_of_script_put script ws = harmless_paragraph _ ⌢ script_put script ws ⌢ advice_put readings (codes "script")
 
@@ -245,7 +255,7 @@ told_put g number keyword.Object ws = named_object_put g.sources number ws
 told_put g number keyword.By ws = by_put g.sources (spot ws)
 told_put g number keyword.Cause ws = cause_put g.sources (spot ws)
 told_put g number keyword.File ws = file_put g.sources (spot ws)
-told_put g number keyword.Service ws = group_put g.sources ws
+told_put g number keyword.Service ws = group_put g ws
 told_put g number keyword.Script ws = line_of_script_put g.script ws
 told_put g number keyword.Read ws = unread_put ws
 told_put g number keyword.Fault ws = fault_put g.sources ws

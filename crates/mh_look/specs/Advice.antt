@@ -4,7 +4,7 @@ use Rattle.std.specs.Borrow.{Bor}
 use Rattle.std.specs.List.{find}
 use Rattle.std.specs.Option.{option_map_or}
 use Rattle.std.specs.Str.{bytes_eq}
-use Rattle.mh_look.specs.declared.advice.TheConstants as table
+use Rattle.mh_look.specs.declared.advice_tables.TheConstants as table
 use Rattle.mh_look.specs.declared.why_object.TheConstants as table_of_objects
 use Rattle.mh_look.specs.Wrapping.{paragraph}
 

@@ -60,6 +60,10 @@ plain = flag (codes "plain")
 abbrev pub start : Rule
 start = record (named (codes "start")) { defaults = codes "a" ∷ [] }
 
+-- the file that names the scenes whose files come late
+abbrev pub late : Rule
+late = named (codes "late")
+
 -- the script that was played
 abbrev pub script : Rule
 script = named (codes "script")
@@ -81,13 +85,16 @@ image = with_rule (with_rule (new_app (codes "image")) report) frame_required
 abbrev pub diff : App
 diff = with_rule (with_rule (new_app (codes "diff")) report) other
 
--- what has to be given, and then what may be
+-- what has to be given, what may be said of the service, and then of the rest
 
 abbrev pub why_required : App
 why_required = with_rule (with_rule (new_app (codes "why")) output) folder
 
+abbrev pub why_service : App
+why_service = with_rule (with_rule why_required start) late
+
 abbrev pub why : App
-why = with_rule (with_rule (with_rule why_required start) script) color
+why = with_rule (with_rule why_service script) color
 
 -- the program without them: it has a version, and one of them has to be given
 abbrev pub bare : App
@@ -106,7 +113,7 @@ pub data Asked : Type 0 where
   paged : (report : Text) → Asked
   drawn : (report : Text) (frame : Option ℕ) → Asked
   compared : (first second : Text) → Asked
-  explained : (output folder start : Text) (script : Option Text) (color : Bool) → Asked
+  explained : (output folder start : Text) (late script : Option Text) (color : Bool) → Asked
 
 -- the value of an argument; each that is read here is required or has a default
 abbrev pub text_of : Text → List Row → Text
@@ -135,8 +142,8 @@ comparing rows = compared (text_of (codes "REPORT") rows) (text_of (codes "OTHER
 
 abbrev pub explaining : List Row → Asked
 explaining rows =
-    explained (text_of (codes "OUTPUT") rows) (text_of (codes "DIR") rows) (text_of (codes "start") rows) (first_of (codes "script") rows)
-    (is_set (codes "color") rows)
+    explained (text_of (codes "OUTPUT") rows) (text_of (codes "DIR") rows) (text_of (codes "start") rows) (first_of (codes "late") rows)
+    (first_of (codes "script") rows) (is_set (codes "color") rows)
 
 -- the subcommand of this name
 abbrev pub asked_under : Text → List Row → Asked
@@ -157,7 +164,8 @@ said (task.Show report frame plain) = shown report.now frame plain
 said (task.Page report) = paged report.now
 said (task.Image report frame) = drawn report.now frame
 said (task.Diff first second) = compared first.now second.now
-said (task.Why output folder start script color) = explained output.now folder.now start.now (option_map (λ s. s.now) script) color
+said (task.Why output folder start late script color) =
+    explained output.now folder.now start.now (option_map (λ s. s.now) late) (option_map (λ s. s.now) script) color
 
 -- Why words ask for nothing that can be done.
 

@@ -37,13 +37,14 @@ leads_astray from _ = false
 abbrev pub astray_in : List ℕ → List Landmark → Option Landmark
 astray_in from ms = find (λ (m : Landmark). leads_astray from m.sight) ms
 
--- what the number leads to: 32 to the number that stands there twice, 33 and 34 to the class, 35 to the name
+-- what the number leads to: 32 to the number that stands there twice, 33, 34 and 37 to the class, 35 to the name
 abbrev pub landmark_for : List ℕ → List ℕ → List Landmark → Option Landmark
 landmark_for number from ms =
     if bytes_eq number (codes "32") then double_from [] ms
     else (if bytes_eq number (codes "33") then class_in ms
     else (if bytes_eq number (codes "34") then class_in ms
-    else (if bytes_eq number (codes "35") then astray_in from ms else None)))
+    else (if bytes_eq number (codes "35") then astray_in from ms
+    else (if bytes_eq number (codes "37") then class_in ms else None))))
 
 abbrev pub shown_for : List ℕ → Source → List ℕ
 shown_for number s = option_map_or (shown_landmark s) (landmark_for number s.name (landmarks s.text)) []

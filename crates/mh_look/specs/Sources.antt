@@ -151,21 +151,32 @@ shown_byte n s = if s.is_written then shown_place s.name s.text n 1 else []
 unfoldable pub shown_offset : List Source → List ℕ → ℕ → List ℕ
 shown_offset ss name n = in_source (shown_byte n) ss name
 
--- a script, by its name and its bytes
-pub record Script : Type 0 where
+-- a file that the command line names, a script or one of late scenes, by its name and its bytes
+pub record NamedFile : Type 0 where
   pub name : List ℕ
   pub bytes : List ℕ
 
 -- the line of these before which so many stand, where the first of them begins behind so many bytes
-abbrev pub shown_line_from : Script → ℕ → List (List ℕ) → ℕ → List ℕ
-shown_line_from s start [] n = []
-shown_line_from s start (l ∷ ls) zero = shown_place s.name s.bytes start (length (without_terminator l))
-shown_line_from s start (l ∷ ls) (suc n) = shown_line_from s (start + length l) ls n
+abbrev pub shown_line_from : NamedFile → ℕ → List (List ℕ) → ℕ → List ℕ
+shown_line_from f start [] n = []
+shown_line_from f start (l ∷ ls) zero = shown_place f.name f.bytes start (length (without_terminator l))
+shown_line_from f start (l ∷ ls) (suc n) = shown_line_from f (start + length l) ls n
 
 -- the line with this number, from 1 on
-abbrev pub shown_line : Script → ℕ → List ℕ
-shown_line s zero = []
-shown_line s (suc n) = shown_line_from s 0 (lines_of s.bytes) n
+abbrev pub shown_line : NamedFile → ℕ → List ℕ
+shown_line f zero = []
+shown_line f (suc n) = shown_line_from f 0 (lines_of f.bytes) n
+
+-- the first of these lines in which just that is written, where the first of them begins behind so many bytes
+abbrev pub shown_written_from : NamedFile → ℕ → List (List ℕ) → List ℕ → List ℕ
+shown_written_from f start [] written = []
+shown_written_from f start (l ∷ ls) written =
+    if bytes_eq (without_terminator l) written then shown_place f.name f.bytes start (length (without_terminator l))
+    else shown_written_from f (start + length l) ls written
+
+-- the first line in which just that is written
+abbrev pub shown_written : NamedFile → List ℕ → List ℕ
+shown_written f written = shown_written_from f 0 (lines_of f.bytes) written
 
 -- WORDS FOR NUMBERS. What a word leads to that writes no number of 32 bits is not shown.
 

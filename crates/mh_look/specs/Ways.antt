@@ -25,6 +25,6 @@ AreWaysIn v None = IsRound v
 
 -- They are those of the service that the files make, with the built-in programs; and there are none only where the files make no
 -- service, or its effects put themselves to work.
-abbrev pub AreWaysOf : List ℕ → List File → Option (Vec Way Global) → Type 0
-AreWaysOf start fs (Some ways) = (v : Service) × (service_read start fs ≡ Ok v) × AreOf (equipped v []) ways.items
-AreWaysOf start fs None = (v : Service) → service_read start fs ≡ Ok v → IsRound (equipped v [])
+abbrev pub AreWaysOf : List ℕ → Option (List ℕ) → List File → Option (Vec Way Global) → Type 0
+AreWaysOf start late fs (Some ways) = (v : Service) × (service_read start late fs ≡ Ok v) × AreOf (equipped v []) ways.items
+AreWaysOf start late fs None = (v : Service) → service_read start late fs ≡ Ok v → IsRound (equipped v [])

@@ -1,6 +1,6 @@
 -- What is explained of the lines that `check` and `play` print: the line itself, what it tells, where what it names stands in the files,
 -- the cause, and the mend. A line that tells of nothing wrong, and of no bound, is passed over.
-use Rattle.std.specs.Prelude.{ℕ, if◌then◌else◌, List, [], ◌∷◌, ◌++◌, map, codes, Option}
+use Rattle.std.specs.Prelude.{ℕ, if◌then◌else◌, List, [], ◌∷◌, ◌++◌, map, codes, Option, Some, None}
 use Rattle.std.specs.List.{find}
 use Rattle.std.specs.Option.{option_map_or}
 use Rattle.std.specs.Str.{bytes_eq}
@@ -14,23 +14,25 @@ use Rattle.mh_look.specs.declared.why_keyword.Keyword.TheVariants as keyword
 use Rattle.mh_look.specs.LineWords.{first_word, behind_first, last_word, before_last}
 use Rattle.mh_look.specs.Places.{plain, IsHarmless}
 use Rattle.mh_look.specs.Services.{shown_service}
-use Rattle.mh_look.specs.Sources.{Script, Source, by_number, by_numbers, shown_action, shown_actions, shown_line, shown_object, shown_offset, shown_refused, source_of}
+use Rattle.mh_look.specs.Sources.{NamedFile, Source, by_number, by_numbers, shown_action, shown_actions, shown_line, shown_object, shown_offset, shown_refused, shown_written, source_of}
 use Rattle.mh_look.specs.WayWords.{bound_text}
 use Rattle.mh_look.specs.Wrapping.{paragraph}
 
--- What is known beside an output: the files of the service, the dearest ways of its inputs, and the script. Where these are not known,
--- there are no ways, and no script.
+-- What is known beside an output: the files of the service, the dearest ways of its inputs, the file that names late scenes, and the
+-- script. Where these are not known, there are no ways, and neither file.
 
 pub record Known : Type 0 where
   pub files : List File
   pub ways : List Way
-  pub script : Option Script
+  pub late : Option NamedFile
+  pub script : Option NamedFile
 
 -- the same, with what is shown of the files
 pub record Ground : Type 0 where
   pub sources : List Source
   pub ways : List Way
-  pub script : Option Script
+  pub late : Option NamedFile
+  pub script : Option NamedFile
 
 -- Words
 
@@ -157,16 +159,21 @@ file ss s =
     paragraph (IS_BYTE.now ++ s.index ++ OF_FILE.now ++ s.group ++ codes ".") ++ by_number (shown_offset ss s.group) s.index
     ++ advice files s.object
 
--- a number and a group
-unfoldable pub service : List Source → List ℕ → List ℕ
-service ss ws =
-    paragraph (TOLD_OF.now ++ behind_first ws ++ codes ".") ++ shown_service ss (first_word ws) (behind_first ws)
-    ++ advice services (first_word ws)
+-- a line of the file that names late scenes, which 37 tells
+abbrev pub shown_late : Option NamedFile → List ℕ → List ℕ → List ℕ
+shown_late None number line = []
+shown_late (Some f) number line = if bytes_eq number (codes "37") then shown_written f line else []
 
-abbrev pub shown_script : Option Script → List ℕ → List ℕ
+-- a number and a group, or such a line
+unfoldable pub service : Ground → List ℕ → List ℕ
+service g ws =
+    paragraph (TOLD_OF.now ++ behind_first ws ++ codes ".") ++ shown_service g.sources (first_word ws) (behind_first ws)
+    ++ shown_late g.late (first_word ws) (behind_first ws) ++ advice services (first_word ws)
+
+abbrev pub shown_script : Option NamedFile → List ℕ → List ℕ
 shown_script script word = option_map_or (λ s. by_number (shown_line s) word) script []
 
-unfoldable pub script : Option Script → List ℕ → List ℕ
+unfoldable pub script : Option NamedFile → List ℕ → List ℕ
 script s ws = paragraph (IS_LINE.now ++ ws ++ codes " of the script.") ++ shown_script s ws ++ advice readings (codes "script")
 
 unfoldable pub unread : List ℕ → List ℕ
@@ -201,7 +208,7 @@ told g number keyword.Object ws = object g.sources number ws
 told g number keyword.By ws = by g.sources (spot ws)
 told g number keyword.Cause ws = cause g.sources (spot ws)
 told g number keyword.File ws = file g.sources (spot ws)
-told g number keyword.Service ws = service g.sources ws
+told g number keyword.Service ws = service g ws
 told g number keyword.Script ws = script g.script ws
 told g number keyword.Read ws = unread ws
 told g number keyword.Fault ws = fault g.sources ws
@@ -221,7 +228,7 @@ explained_all g number [] = []
 explained_all g number (line ∷ lines) = explained g number line ++ explained_all g (number_behind number line) lines
 
 abbrev pub ground : Known → Ground
-ground k = record { sources = map source_of k.files; ways = k.ways; script = k.script }
+ground k = record { sources = map source_of k.files; ways = k.ways; late = k.late; script = k.script }
 
 unfoldable pub why : Known → List ℕ → List ℕ
 why k output = explained_all (ground k) [] (map without_terminator (lines_of output))

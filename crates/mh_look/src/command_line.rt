@@ -2,7 +2,7 @@
 //!
 //! What the words mean, which are refused and why are `clap`'s rules over `program`; the texts on a
 //! wrong command line are left to it too. Where memory was refused there is no text.
-ghost use Rattle.std.specs.Prelude.{◌≡◌, map, codes, true, option_map, IfOk, IfErr};
+ghost use Rattle.std.specs.Prelude.{◌≡◌, map, true, option_map, IfOk, IfErr};
 ghost use Rattle.clap.specs.Words.{FailsBy, fault_of, first_of, found_of, kind_of, rows_of, subcommand_of, subcommand_rows_of, takes};
 ghost use Rattle.clap.specs.declared.error.kind.ErrorKind.TheVariants.{OutOfMemory};
 ghost use Rattle.mh_look.specs.CommandLine.{IsApart, IsRefusedBy, asked_by, asked_under, number_in, frame_of, is_set, said, text_of};
@@ -44,6 +44,8 @@ pub enum Task<'a> {
         folder: &'a str,
         /// The path of the application that the service starts with.
         start: &'a str,
+        /// The file that names the scenes whose files come late, if one is named.
+        late: Option<&'a str>,
         /// The file with the script that was played, if one is named.
         script: Option<&'a str>,
         color: bool,
@@ -131,7 +133,8 @@ fn explaining<'a>(given: &ArgMatches<'a>) -> Task<'a>
         output: text_of(given, "OUTPUT"),
         folder: text_of(given, "DIR"),
         start: text_of(given, "start"),
-        script: script_of(given),
+        late: named(given, "late"),
+        script: named(given, "script"),
         color: is_set(given, "color"),
     }
 }
@@ -143,11 +146,11 @@ fn text_of<'a>(given: &ArgMatches<'a>, name: &str) -> &'a str
     given.get_str(name).unwrap_or("")
 }
 
-/// The script that is named, if one is.
-fn script_of<'a>(given: &ArgMatches<'a>) -> Option<&'a str>
-    ensures { option_map (λ s. s.now) result ≡ first_of (codes "script") (rows_of (found_of given.now)) }
+/// The file that an option names, if one does.
+fn named<'a>(given: &ArgMatches<'a>, name: &str) -> Option<&'a str>
+    ensures { option_map (λ s. s.now) result ≡ first_of name.now (rows_of (found_of given.now)) }
 {
-    given.get_str("script")
+    given.get_str(name)
 }
 
 /// Whether an option without a value is given.

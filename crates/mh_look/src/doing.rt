@@ -3,6 +3,7 @@ use crate::command_line::Task;
 use crate::difference::{Difference, compare};
 use crate::frames::frame_at;
 use crate::image::image_of;
+use crate::named_file::NamedFile;
 use crate::page::page_of;
 use crate::paint::painted;
 use crate::report::Report;
@@ -12,7 +13,6 @@ use crate::source::{Failure, output_of, report_of};
 use crate::telling::told;
 use crate::ways::ways_of;
 use crate::why_output::{Known, why};
-use crate::why_script::Script;
 use mh_model::Picture;
 use mh_told::text::Text;
 use std::io;
@@ -43,10 +43,11 @@ pub fn done<R: Runtime + AllocGlobal>(rt: &R, task: &Task) -> Result<Outcome, Fa
             output,
             folder,
             start,
+            late,
             script,
             color,
         } => {
-            let text = explanation(rt, output, folder, start, *script)?;
+            let text = explanation(rt, output, folder, start, *late, *script)?;
             explained(rt, &text, *color)
         }
     }
@@ -104,28 +105,48 @@ fn explanation<R: Runtime + AllocGlobal>(
     output: &str,
     folder: &str,
     start: &str,
+    late: Option<&str>,
     script: Option<&str>,
 ) -> Result<Text, Failure> {
     let output = output_of(rt, output)?;
-    let lines = match script {
-        Some(name) => Some((name, output_of(rt, name)?)),
-        None => None,
-    };
+    let lines = named_bytes(rt, script)?;
+    let names = named_bytes(rt, late)?;
     let files = files_in(rt, folder)?;
-    let ways = ways_of(rt.alloc(), files.as_slice(), start.as_bytes())?;
+    let late_names = names.as_ref().map(|bytes| bytes.as_slice());
+    let ways = ways_of(rt.alloc(), files.as_slice(), start.as_bytes(), late_names)?;
     let known = Known {
         files: files.as_slice(),
         ways: match &ways {
             Some(ways) => ways.as_slice(),
             None => &[],
         },
-        script: lines.as_ref().map(|(name, bytes)| Script {
-            name: name.as_bytes(),
-            bytes: bytes.as_slice(),
-        }),
+        late: named_file(late, &names),
+        script: named_file(script, &lines),
     };
     let text = why(rt.alloc(), &known, output.as_slice())?;
     Ok(text)
+}
+
+/// The bytes of the file that an option names, if one does.
+fn named_bytes<R: Runtime + AllocGlobal>(
+    rt: &R,
+    name: Option<&str>,
+) -> Result<Option<Vec<u8>>, Failure> {
+    match name {
+        Some(name) => Ok(Some(output_of(rt, name)?)),
+        None => Ok(None),
+    }
+}
+
+/// The file that an option names, with its bytes.
+fn named_file<'a>(name: Option<&'a str>, bytes: &'a Option<Vec<u8>>) -> Option<NamedFile<'a>> {
+    match (name, bytes) {
+        (Some(name), Some(bytes)) => Some(NamedFile {
+            name: name.as_bytes(),
+            bytes: bytes.as_slice(),
+        }),
+        _ => None,
+    }
 }
 
 /// Writes an explanation, in colours if they are asked for.

@@ -6,6 +6,7 @@
 #![tactic(auto)]
 
 mod advice;
+mod advice_tables;
 mod characters;
 mod checksum;
 mod command_line;
@@ -21,6 +22,7 @@ mod front;
 mod image;
 mod last;
 mod line;
+mod named_file;
 mod number;
 mod outline;
 mod page;
@@ -45,7 +47,6 @@ mod why_object;
 mod why_output;
 mod why_place;
 mod why_refused;
-mod why_script;
 mod why_service;
 mod why_source;
 mod why_spot;
@@ -65,6 +66,7 @@ pub use escape::put_escaped;
 pub use font::is_inked;
 pub use frames::frame_at;
 pub use image::image_of;
+pub use named_file::NamedFile;
 pub use number::{read_colour, read_number};
 pub use page::page_of;
 pub use paint::{colours_are_all_that_is_added, painted};
@@ -75,4 +77,3 @@ pub use source::Failure;
 pub use telling::told;
 pub use ways::ways_of;
 pub use why_output::{Known, explanations_are_harmless, why};
-pub use why_script::Script;

@@ -108,10 +108,15 @@ fn why<'a>(alloc: Global) -> Result<Command<'a>, AllocError>
     ensures app { IfOk result (λ c. app_of c ≡ spec.why) }
     ensures local { IfOk result (λ c. (fields_of c).has_globals ≡ false) }
 {
-    why_required(alloc)?
-        .arg(start(alloc))?
-        .arg(script(alloc))?
-        .arg(color(alloc))
+    why_service(alloc)?.arg(script(alloc))?.arg(color(alloc))
+}
+
+/// The subcommand with what has to be given, and what may be said of the service.
+fn why_service<'a>(alloc: Global) -> Result<Command<'a>, AllocError>
+    ensures app { IfOk result (λ c. app_of c ≡ spec.why_service) }
+    ensures local { IfOk result (λ c. (fields_of c).has_globals ≡ false) }
+{
+    why_required(alloc)?.arg(start(alloc))?.arg(late(alloc))
 }
 
 /// The subcommand with what has to be given.
@@ -123,7 +128,7 @@ fn why_required<'a>(alloc: Global) -> Result<Command<'a>, AllocError>
         alloc,
         "why",
         "Explains why a service is refused, with the places in its files, and how to mend it",
-        "Example:\n  redplay check examples/broken/service | redlook why - examples/broken/service",
+        "Examples:\n  redplay check examples/broken/service | redlook why - examples/broken/service\n  redplay check examples/late/service --late examples/late/late | redlook why - examples/late/service --late examples/late/late",
     )
     .arg(output(alloc))?
     .arg(folder(alloc))
@@ -210,6 +215,13 @@ fn start<'a>(alloc: Global) -> Arg<'a>
     named(alloc, "start", "NAME")
         .default_value(START)
         .help("The path of the application to start with")
+}
+
+fn late<'a>(alloc: Global) -> Arg<'a>
+    ensures rule { rule_of result ≡ spec.late }
+    ensures local { result.global ≡ false }
+{
+    named(alloc, "late", "FILE").help("The scenes whose files come late, a name a line")
 }
 
 fn script<'a>(alloc: Global) -> Arg<'a>

@@ -1,5 +1,6 @@
 //! The dearest ways of the service of some files.
 ghost use Rattle.std.specs.Prelude.{[], IfOk};
+ghost use Rattle.std.specs.Option.{option_copied};
 ghost use Rattle.mh_flow.specs.Equipment.{equipped};
 ghost use Rattle.mh_flow.specs.Solved.{IsFlowOf};
 ghost use Rattle.mh_look.specs.Ways.{AreWaysIn, AreWaysOf};
@@ -12,16 +13,18 @@ use mh_told::reading::read_service;
 use mh_told::unplayable::Unplayable;
 use std::alloc::{AllocError, Global};
 
-/// The dearest ways of the service that these files make, which starts with the application of this name. None
-/// where they make no service, or where its effects put themselves to work.
+/// The dearest ways of the service that these files make, which starts with the application of this name, and in
+/// which the scenes come late that `late` names, a name a line. None where they make no service, or where its
+/// effects put themselves to work.
 pub fn ways_of(
     alloc: Global,
     files: &[(GroupName, Vec<u8>)],
     start: &[u8],
+    late: Option<&[u8]>,
 ) -> Result<Option<Vec<Way>>, AllocError>
-    ensures { IfOk result (AreWaysOf start.now files.now) }
+    ensures { IfOk result (AreWaysOf start.now (option_copied late.entry) files.now) }
 {
-    match read_service(alloc, files, start) {
+    match read_service(alloc, files, start, late) {
         Ok(service) => ways_in(alloc, &service),
         Err(Unplayable::NoMemory) => Err(AllocError),
         Err(_) => Ok(None),

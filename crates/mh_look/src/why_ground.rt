@@ -1,5 +1,5 @@
 //! What is known beside an output, with what is shown of the files.
-use crate::why_script::Script;
+use crate::named_file::NamedFile;
 use crate::why_source::Source;
 use mh_layers::Way;
 use std::marker::Model;
@@ -10,8 +10,10 @@ pub(crate) struct Ground<'a> {
     pub(crate) sources: &'a [Source<'a>],
     /// The dearest ways of the inputs; where they are not known, none.
     pub(crate) ways: &'a [Way],
+    /// The file that names late scenes, if it is known.
+    pub(crate) late: Option<&'a NamedFile<'a>>,
     /// The script that was played, if it is known.
-    pub(crate) script: Option<&'a Script<'a>>,
+    pub(crate) script: Option<&'a NamedFile<'a>>,
 }
 
 impl<'a> Model for Ground<'a> {
@@ -20,5 +22,5 @@ impl<'a> Model for Ground<'a> {
 
     ghost Value = { Ground };
 
-    ghost view = { λ g. record { sources = g.sources.now; ways = g.ways.now; script = option_copied g.script } };
+    ghost view = { λ g. record { sources = g.sources.now; ways = g.ways.now; late = option_copied g.late; script = option_copied g.script } };
 }

@@ -105,7 +105,7 @@ fn put_told(
         Keyword::By => put_by(alloc, text, ground.sources, &Spot::of_words(words)),
         Keyword::Cause => put_cause(alloc, text, ground.sources, &Spot::of_words(words)),
         Keyword::File => put_file(alloc, text, ground.sources, &Spot::of_words(words)),
-        Keyword::Service => put_service(alloc, text, ground.sources, words),
+        Keyword::Service => put_service(alloc, text, ground, words),
         Keyword::Script => put_script(alloc, text, ground.script, words),
         Keyword::Read => put_unread(alloc, text, words),
         Keyword::Fault => put_fault(alloc, text, ground.sources, words),

@@ -7,9 +7,9 @@ ghost use Rattle.bstr.specs.Text.{lines_of, without_terminator};
 ghost use Rattle.mh_look.specs.Sources.{source_of};
 ghost use Rattle.mh_look.specs.Why.{explained_all, number_behind, why, ExplanationsAreHarmless};
 
+use crate::named_file::NamedFile;
 use crate::why_ground::Ground;
 use crate::why_line::put_explained;
-use crate::why_script::Script;
 use crate::why_source::Source;
 use crate::why_words::{behind_first, first_word};
 use bstr::ByteSlice;
@@ -26,8 +26,10 @@ pub struct Known<'a> {
     pub files: &'a [(GroupName, Vec<u8>)],
     /// The dearest ways of its inputs; where they are not known, none.
     pub ways: &'a [Way],
+    /// The file that names late scenes, if it is known.
+    pub late: Option<NamedFile<'a>>,
     /// The script that was played, if it is known.
-    pub script: Option<Script<'a>>,
+    pub script: Option<NamedFile<'a>>,
 }
 
 impl<'a> Model for Known<'a> {
@@ -35,7 +37,7 @@ impl<'a> Model for Known<'a> {
 
     ghost Value = { Known };
 
-    ghost view = { λ k. record { files = k.files.now; ways = k.ways.now; script = k.script } };
+    ghost view = { λ k. record { files = k.files.now; ways = k.ways.now; late = k.late; script = k.script } };
 }
 
 /// What is explained of the output of `check` or `play`.
@@ -47,6 +49,7 @@ pub fn why(alloc: Global, known: &Known<'_>, output: &[u8]) -> Result<Text, Allo
     let ground = Ground {
         sources: sources.as_slice(),
         ways: known.ways,
+        late: known.late.as_ref(),
         script: known.script.as_ref(),
     };
     let mut text = Text::new(alloc);

@@ -59,6 +59,8 @@ fn landmark_for<'a, 'b>(
         Ok(class_in(landmarks))
     } else if number == b"35".as_slice() {
         astray_in(alloc, from, landmarks)
+    } else if number == b"37".as_slice() {
+        Ok(class_in(landmarks))
     } else {
         Ok(None)
     }

@@ -3,12 +3,13 @@ ghost use Rattle.std.specs.Prelude.{◌≡◌, ◌++◌, OnOk, codes};
 ghost use Rattle.std.specs.Option.{option_copied};
 ghost use Rattle.mh_look.specs.Sources.{shown_offset, by_number};
 ghost use Rattle.mh_look.specs.Why as spec;
-ghost use Rattle.mh_look.specs.Why.{shown_script};
+ghost use Rattle.mh_look.specs.Why.{shown_late, shown_script};
 
 use crate::advice::{files, put_advice, readings, services};
+use crate::named_file::{NamedFile, put_numbered_line, put_written_line};
+use crate::why_ground::Ground;
 use crate::why_line::{IS_BYTE, IS_LINE, OF_FILE, TOLD_OF};
 use crate::why_place::put_offset;
-use crate::why_script::{Script, put_script_line};
 use crate::why_service::put_service as put_group;
 use crate::why_source::Source;
 use crate::why_spot::Spot;
@@ -55,21 +56,39 @@ fn put_byte_shown(
     }
 }
 
-/// Puts of which group it is told, by the number in front of its name, and where that stands.
+/// Puts of which group, or of which line of the file of late scenes, it is told, by the number in front, and where
+/// that stands.
 #[tactic(auto, unfolding(crate::specs::Why::service))]
 pub(crate) fn put_service(
     alloc: Global,
     text: &mut Text,
-    sources: &[Source<'_>],
+    ground: &Ground<'_>,
     words: &[u8],
 ) -> Result<(), AllocError>
-    ensures { OnOk result (text.new ≡ text.old ++ spec.service sources.now words.now) }
+    ensures { OnOk result (text.new ≡ text.old ++ spec.service ground.now words.now) }
 {
     let number = first_word(words);
     let group = behind_first(words);
     put_sentence(alloc, text, TOLD_OF, group, b".")?;
-    put_group(alloc, text, sources, number, group)?;
+    put_group(alloc, text, ground.sources, number, group)?;
+    put_late_shown(alloc, text, ground.late, number, group)?;
     put_advice(alloc, text, services(), number)
+}
+
+/// Puts the line of the file that names late scenes, if it is told of one and the file is known.
+fn put_late_shown(
+    alloc: Global,
+    text: &mut Text,
+    late: Option<&NamedFile<'_>>,
+    number: &[u8],
+    line: &[u8],
+) -> Result<(), AllocError>
+    ensures { OnOk result (text.new ≡ text.old ++ shown_late (option_copied late.entry) number.now line.now) }
+{
+    match late {
+        Some(file) if number == b"37".as_slice() => put_written_line(alloc, text, file, line),
+        _ => Ok(()),
+    }
 }
 
 /// Puts which line of the script is wrong.
@@ -77,7 +96,7 @@ pub(crate) fn put_service(
 pub(crate) fn put_script(
     alloc: Global,
     text: &mut Text,
-    script: Option<&Script<'_>>,
+    script: Option<&NamedFile<'_>>,
     words: &[u8],
 ) -> Result<(), AllocError>
     ensures { OnOk result (text.new ≡ text.old ++ spec.script (option_copied script.entry) words.now) }
@@ -91,7 +110,7 @@ pub(crate) fn put_script(
 fn put_script_shown(
     alloc: Global,
     text: &mut Text,
-    script: Option<&Script<'_>>,
+    script: Option<&NamedFile<'_>>,
     word: &[u8],
 ) -> Result<(), AllocError>
     ensures { OnOk result (text.new ≡ text.old ++ shown_script (option_copied script.entry) word.now) }
@@ -100,7 +119,7 @@ fn put_script_shown(
         return Ok(());
     };
     match number_in(word) {
-        Some(number) => put_script_line(alloc, text, script, number),
+        Some(number) => put_numbered_line(alloc, text, script, number),
         None => Ok(()),
     }
 }

@@ -9,22 +9,24 @@ use Rattle.mh_model.specs.declared.input.Input.{Input}
 use Rattle.mh_model.specs.declared.input.Obstacle.TheVariants as refused
 use Rattle.mh_model.specs.declared.object.Object.{Object}
 use Rattle.mh_model.specs.State.{State}
-use Rattle.mh_model.specs.Step.{time_ahead, obstacle, is_in_range, is_over_size, is_over_number, is_past_the_last, is_full}
+use Rattle.mh_model.specs.Step.{time_ahead, obstacle, is_in_range, is_not_late, is_another_group, is_over_size, is_over_number, is_past_the_last, is_full}
 use Rattle.mh_model.specs.Limits.{most_moment}
 use Rattle.mh_events.specs.Agenda.{Coming, is_late}
 use Rattle.mh_machine.specs.Taking.{event_by}
 
 -- what nothing stands against is not too late
 unbarred : (i : Input) (s : State) → obstacle i s ≡ None → is_past_the_last i s ≡ false
-unbarred i s none = by s.ended (is_in_range i) (is_over_size i) (is_over_number i s) (is_past_the_last i s) none
+unbarred i s none = by s.ended (is_in_range i) (is_not_late i s) (is_another_group i s) (is_over_size i) (is_over_number i s) (is_past_the_last i s) none
   where
-    by : (a b d e c : Bool) → (if a then Some refused.Ended else (if not b then Some refused.TickRange else (if d then Some refused.TooLarge else (if e then Some refused.TooMany else (if c then Some refused.ClockFull else (if is_full s then Some refused.QueueFull else None)))))) ≡ None → c ≡ false
-    by a b d e false h = refl
-    by true b d e true h = absurd cc
-    by false false d e true h = absurd cc
-    by false true true e true h = absurd cc
-    by false true false true true h = absurd cc
-    by false true false false true h = absurd cc
+    by : (a b f g d e c : Bool) → (if a then Some refused.Ended else (if not b then Some refused.TickRange else (if f then Some refused.NotLate else (if g then Some refused.Differs else (if d then Some refused.TooLarge else (if e then Some refused.TooMany else (if c then Some refused.ClockFull else (if is_full s then Some refused.QueueFull else None)))))))) ≡ None → c ≡ false
+    by a b f g d e false h = refl
+    by true b f g d e true h = absurd cc
+    by false false f g d e true h = absurd cc
+    by false true true g d e true h = absurd cc
+    by false true false true d e true h = absurd cc
+    by false true false false true e true h = absurd cc
+    by false true false false false true true h = absurd cc
+    by false true false false false false true h = absurd cc
 
 pub in_time : (i : Input) (s : State) (a : Coming) → a.moments ≡ s.moments → a.queue ≡ s.queue → obstacle i s ≡ None → is_late i a ≡ false
 in_time (input.Tick n) s a moments queue none =

@@ -35,8 +35,6 @@ use Rattle.mh_machine.specs.declared.plan.Gift.{Gift}
 use Rattle.mh_machine.specs.declared.plan.Interacting.{Interacting}
 use Rattle.mh_machine.specs.declared.plan.Interacting.TheVariants as interacting
 use Rattle.mh_machine.specs.declared.plan.Plan.{Plan}
-use Rattle.mh_machine.specs.declared.plan.Puts.{Puts}
-use Rattle.mh_machine.specs.declared.plan.Puts.TheVariants as puts
 use Rattle.mh_machine.specs.declared.plan.Stacking.{Stacking}
 use Rattle.mh_machine.specs.declared.plan.Stacking.TheVariants as stacking
 use Rattle.mh_machine.specs.declared.plan.Turn.{Turn}
@@ -131,16 +129,6 @@ abbrev pub noted : Option Fault → List Fault → List Fault
 noted None fs = fs
 noted (Some f) fs = fs ++ f ∷ []
 
--- the work list behind what is put
-abbrev pub work_after : Puts → List Item → List Item
-work_after (puts.InFront ps) work = written ps ++ drop 1 work
-work_after (puts.Instead w) work = w.items
-
--- the room that is wanted in the work list
-abbrev pub room_for : Puts → ℕ
-room_for (puts.InFront ps) = length ps
-room_for (puts.Instead w) = 0
-
 -- the state when the plan is carried out
 abbrev pub committed : Plan → State → State
 committed p s = record s {
@@ -149,15 +137,14 @@ committed p s = record s {
   interaction = interacted p.interacting s.interaction;
   waits = rewaited p.awaiting s.waits;
   queue = queued p.waits s.queue;
-  work = work_after p.puts s.work;
-  transition = if p.begins then true else s.transition;
+  work = written p.batches ++ drop 1 s.work;
   taken = s.taken + 1;
   faults = noted p.fault s.faults;
 }
 
 -- a plan that changes objects, and puts batches in the place of the item
 abbrev pub plan_of : Change → Stacking → Awaiting → List Batch → Plan
-plan_of c x a ps = record { change = c; stacking = x; awaiting = a; interacting = interacting.Same; puts = puts.InFront ps; waits = None; begins = false; fault = None }
+plan_of c x a ps = record { change = c; stacking = x; awaiting = a; interacting = interacting.Same; batches = ps; waits = None; fault = None }
 
 -- of the object at the reference, which runs
 abbrev pub turn_plan : ObjRef → Turn → Plan

@@ -6,18 +6,18 @@ ghost use Rattle.mh_model.specs.Bodies.{given};
 ghost use Rattle.mh_model.specs.Edits.{edited};
 ghost use Rattle.mh_model.specs.Rules.{changed};
 ghost use Rattle.mh_work.specs.Batches.{written};
-ghost use Rattle.mh_machine.specs.Plans.{change_at, committed, halt_plan, put_for_first, taken_from, changed_as, rewaited, queued, work_after, noted, room_for};
+ghost use Rattle.mh_machine.specs.Plans.{change_at, committed, halt_plan, put_for_first, taken_from, changed_as, rewaited, queued, noted};
 
 use crate::applying::apply;
 use crate::interacting::{end_of, interact};
-use crate::plan::{Awaiting, Plan, Puts};
+use crate::plan::{Awaiting, Plan};
 use crate::room::make_room;
 use crate::works::Works;
 use mh_base::{ObjRef, Value};
 use mh_carousel::Carousel;
 use mh_events::Agenda;
 use mh_model::{Edit, Event, Fault};
-use mh_work::{Batch, Work};
+use mh_work::Batch;
 use std::alloc::AllocError;
 
 impl Works {
@@ -34,28 +34,26 @@ impl Works {
             &mut self.agenda,
             &mut self.faults,
             &mut self.carousel,
-            &plan.puts,
+            &plan.batches,
         );
         let Plan {
             change,
             stacking,
             awaiting,
             interacting,
-            puts,
+            batches,
             waits,
-            begins,
             fault,
         } = room.and(Ok(plan))?;
         let changed = apply(&mut self.stage, change);
-        let beside = (stacking, awaiting, interacting, puts, waits, fault);
-        let (stacking, awaiting, interacting, puts, waits, fault) = changed.and(Ok(beside))?;
+        let beside = (stacking, awaiting, interacting, batches, waits, fault);
+        let (stacking, awaiting, interacting, batches, waits, fault) = changed.and(Ok(beside))?;
         self.stage.restack(stacking);
         rewait(&mut self.carousel, awaiting);
         interact(&mut self.interaction, interacting);
-        put(&mut self.work, puts);
+        self.work.put_for_first(batches.into_vec());
         wait(&mut self.agenda, waits);
         note(&mut self.faults, fault);
-        self.transition = self.transition || begins;
         self.taken += 1;
         Ok(())
     }
@@ -142,16 +140,6 @@ impl Works {
         self.work.take_first();
         self.taken += 1;
         Ok(())
-    }
-}
-
-fn put(work: &mut Work, puts: Puts)
-    requires { room_for puts ≤ work.old.room }
-    ensures { work.new.items ≡ work_after puts work.old.items }
-{
-    match puts {
-        Puts::InFront(batches) => work.put_for_first(batches.into_vec()),
-        Puts::Instead(other) => *work = other,
     }
 }
 

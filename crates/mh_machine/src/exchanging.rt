@@ -7,9 +7,10 @@ ghost use Rattle.mh_model.specs.Step.{done};
 ghost use Rattle.mh_model.specs.Worked.{interaction_of};
 ghost use Rattle.mh_machine.specs.Plans.{taken_from};
 
+use crate::transitions::set_transition;
 use crate::works::Works;
 use mh_base::{GroupName, both};
-use mh_model::{Interaction, Item};
+use mh_model::{Interaction, Item, Transition};
 use mh_store::Group;
 use mh_work::Links;
 use mh_work::groups::entrance;
@@ -53,7 +54,7 @@ impl Works {
         self.interaction = None;
         self.agenda.leave_application();
         self.carousel.clear_waits();
-        self.transition = false;
+        set_transition(&mut self.transition, Transition::Rests);
         self.taken += 1;
         Ok(())
     }
@@ -80,7 +81,7 @@ impl Works {
         leave_interaction(&mut self.interaction, &self.application);
         self.agenda.leave_scene(&self.application);
         self.carousel.leave_scene(&self.application);
-        self.transition = false;
+        set_transition(&mut self.transition, Transition::Rests);
         self.taken += 1;
         Ok(())
     }

@@ -6,7 +6,7 @@ use mh_actions::ordering::Reorder;
 use mh_base::{ObjRef, Octets, Seq, Value};
 use mh_group::Position;
 use mh_model::{Edit, Event, Fault, Interaction, Wait};
-use mh_work::{Batch, Work};
+use mh_work::Batch;
 use std::alloc::Global;
 
 /// What a variable is given.
@@ -59,15 +59,6 @@ pub enum Awaiting {
     Wait(Wait),
 }
 
-/// What is put.
-#[derive(Drop)]
-pub enum Puts {
-    /// In the place of the item.
-    InFront(Seq<Batch>),
-    /// In the place of the whole work list.
-    Instead(Work),
-}
-
 /// What one item does. All that wants memory is in it already, but for the room in the lists that grow.
 #[derive(Drop)]
 pub struct Plan {
@@ -75,11 +66,10 @@ pub struct Plan {
     pub stacking: Stacking,
     pub awaiting: Awaiting,
     pub interacting: Interacting,
-    pub puts: Puts,
+    /// What is put in the place of the item.
+    pub batches: Seq<Batch>,
     /// The event that waits in the queue.
     pub waits: Option<Event>,
-    /// A transition begins.
-    pub begins: bool,
     pub fault: Option<Fault>,
 }
 
@@ -105,9 +95,8 @@ impl Plan {
             stacking,
             awaiting,
             interacting: Interacting::Same,
-            puts: Puts::InFront(Seq::from_vec(batches)),
+            batches: Seq::from_vec(batches),
             waits: None,
-            begins: false,
             fault: None,
         }
     }
@@ -141,9 +130,8 @@ impl Plan {
             stacking: Stacking::Same,
             awaiting: Awaiting::Same,
             interacting,
-            puts: Puts::InFront(Seq::from_vec(batches)),
+            batches: Seq::from_vec(batches),
             waits: None,
-            begins: false,
             fault: None,
         }
     }
@@ -158,9 +146,8 @@ impl Plan {
             stacking: Stacking::Same,
             awaiting: Awaiting::Same,
             interacting: Interacting::Same,
-            puts: Puts::InFront(Seq::new(alloc)),
+            batches: Seq::new(alloc),
             waits: Some(event),
-            begins: false,
             fault: None,
         }
     }
@@ -175,9 +162,8 @@ impl Plan {
             stacking: Stacking::Same,
             awaiting: Awaiting::Same,
             interacting: Interacting::Same,
-            puts: Puts::InFront(Seq::new(alloc)),
+            batches: Seq::new(alloc),
             waits: None,
-            begins: false,
             fault: Some(fault),
         }
     }

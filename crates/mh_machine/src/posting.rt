@@ -1,10 +1,14 @@
 //! What joins the queue, and what is there before the first move.
 ghost use Rattle.std.specs.Prelude.{◌≡◌, None, OnOk, OnErr};
-ghost use Rattle.mh_model.specs.Step.{posted, obstacle, is_past_the_last, is_in_range, is_over_size, is_over_number, has_begun, preset, preset_obstacle};
+ghost use Rattle.std.specs.Option.{option_copied};
+ghost use Rattle.mh_model.specs.Late.{is_late_scene, is_written_so};
+ghost use Rattle.mh_model.specs.Step.{posted, obstacle, is_not_late, is_another_group, is_past_the_last, is_in_range, is_over_size, is_over_number, has_begun, preset, preset_obstacle};
 
 use crate::works::Works;
+use mh_base::GroupName;
 use mh_carousel::is_large;
-use mh_model::{File, Input, Obstacle};
+use mh_group::same::same_group;
+use mh_model::{File, Input, Obstacle, SharedGroup};
 use std::alloc::AllocError;
 
 /// How long a tick may be, in milliseconds.
@@ -19,6 +23,10 @@ impl Works {
             Some(Obstacle::Ended)
         } else if !is_in_range(input) {
             Some(Obstacle::TickRange)
+        } else if self.is_not_late(input) {
+            Some(Obstacle::NotLate)
+        } else if self.is_another_group(input) {
+            Some(Obstacle::Differs)
         } else if is_over_size(input) {
             Some(Obstacle::TooLarge)
         } else if self.is_over_number(input) {
@@ -29,6 +37,29 @@ impl Works {
             Some(Obstacle::QueueFull)
         } else {
             None
+        }
+    }
+
+    /// Whether the scene of a file is not late, or its file waits already.
+    fn is_not_late(&self, input: &Input) -> bool
+        ensures { result ≡ is_not_late input.now self.now.state }
+    {
+        match input {
+            Input::Scene(scene, _) => {
+                !is_late_scene(scene, self.late.as_slice())
+                    || self.agenda.queue().has_file_of(scene)
+            }
+            _ => false,
+        }
+    }
+
+    /// Whether the file of a scene is not the one that the service has.
+    fn is_another_group(&self, input: &Input) -> bool
+        ensures { result ≡ is_another_group input.now self.now.state }
+    {
+        match input {
+            Input::Scene(scene, group) => !is_written_so(group, self.service.written(scene)),
+            _ => false,
         }
     }
 
@@ -88,6 +119,23 @@ impl Works {
         ensures marks { self.new.marks ≡ self.old.marks }
     {
         self.agenda.post(input)
+    }
+}
+
+/// Whether the scene is among those that are late.
+pub(crate) fn is_late_scene(scene: &GroupName, late: &[GroupName]) -> bool
+    ensures { result ≡ is_late_scene scene.now late.now }
+{
+    late.iter().any(|name| *scene == *name)
+}
+
+/// Whether the group is this one, as its file writes it.
+fn is_written_so(group: &SharedGroup, written: Option<&SharedGroup>) -> bool
+    ensures { result ≡ is_written_so group.now (option_copied written.entry) }
+{
+    match written {
+        Some(own) => same_group(group.written(), own.written()),
+        None => false,
     }
 }
 

@@ -1,14 +1,13 @@
 //! Room for what a plan puts, waits for and notes: all that a commit wants of memory, but for the body that it
 //! changes.
-ghost use Rattle.std.specs.Prelude.{◌≡◌, ◌+◌, ◌≤◌, OnOk, vec_len, vec_capacity};
-ghost use Rattle.mh_machine.specs.Plans.{room_for};
+ghost use Rattle.std.specs.Prelude.{◌≡◌, ◌+◌, ◌≤◌, OnOk, length, vec_len, vec_capacity};
 
-use crate::plan::Puts;
 use crate::stage::Stage;
+use mh_base::Seq;
 use mh_carousel::Carousel;
 use mh_events::Agenda;
 use mh_model::Fault;
-use mh_work::Work;
+use mh_work::{Batch, Work};
 use std::alloc::AllocError;
 
 /// Makes room for all that a plan may put.
@@ -18,7 +17,7 @@ pub(crate) fn make_room(
     agenda: &mut Agenda,
     faults: &mut Vec<Fault>,
     carousel: &mut Carousel,
-    puts: &Puts,
+    batches: &Seq<Batch>,
 ) -> Result<(), AllocError>
     ensures work { work.new.items ≡ work.old.items }
     ensures objects { stage.new.objects ≡ stage.old.objects }
@@ -29,7 +28,7 @@ pub(crate) fn make_room(
     ensures faults { faults.new.items ≡ faults.old.items }
     ensures files { carousel.new.files ≡ carousel.old.files }
     ensures waits { carousel.new.waits ≡ carousel.old.waits }
-    ensures batches { OnOk result (room_for puts.now ≤ work.new.room) }
+    ensures batches { OnOk result (length batches.now ≤ work.new.room) }
     ensures place { OnOk result (1 ≤ stage.new.room) }
     ensures event { OnOk result (1 ≤ agenda.new.room) }
     ensures wait { OnOk result (1 ≤ carousel.new.room) }
@@ -39,15 +38,5 @@ pub(crate) fn make_room(
     agenda.reserve(1)?;
     faults.reserve(1)?;
     carousel.reserve_wait()?;
-    make_work_room(work, puts)
-}
-
-fn make_work_room(work: &mut Work, puts: &Puts) -> Result<(), AllocError>
-    ensures same { work.new.items ≡ work.old.items }
-    ensures room { OnOk result (room_for puts.now ≤ work.new.room) }
-{
-    match puts {
-        Puts::InFront(batches) => work.reserve(batches.len()),
-        Puts::Instead(_) => Ok(()),
-    }
+    work.reserve(batches.len())
 }

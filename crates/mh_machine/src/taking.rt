@@ -53,6 +53,7 @@ impl Works {
             Waiting::Input(Input::Stream(tag)) => self.take_stream(*tag),
             Waiting::Input(Input::Engine(number)) => self.take_engine(*number),
             Waiting::Input(Input::Arrive(file)) => self.take_file(file),
+            Waiting::Input(Input::Scene(scene, _)) => self.take_scene(scene),
         }
     }
 

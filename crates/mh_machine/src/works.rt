@@ -16,7 +16,7 @@ use crate::stage::Stage;
 use mh_base::{GroupName, both};
 use mh_carousel::Carousel;
 use mh_events::Agenda;
-use mh_model::{Fault, Interaction, Item, Outcome, Picture};
+use mh_model::{Fault, Interaction, Item, Outcome, Picture, Transition};
 use mh_service::Service;
 use mh_store::Group;
 use mh_work::groups::entrance;
@@ -36,7 +36,9 @@ pub struct Works {
     pub(crate) links: Links,
     pub(crate) agenda: Agenda,
     pub(crate) work: Work,
-    pub(crate) transition: bool,
+    pub(crate) transition: Transition,
+    /// The scenes that are still late.
+    pub(crate) late: Vec<GroupName>,
     pub(crate) ended: bool,
     pub(crate) locks: u64,
     pub(crate) frozen: Picture,
@@ -69,6 +71,7 @@ impl Model for Works {
         work = w.work.items;
         moments = w.agenda.moments;
         transition = w.transition;
+        late = w.late.items;
         ended = w.ended;
         locks = w.locks;
         frozen = w.frozen;
@@ -108,6 +111,7 @@ impl Works {
         requires links { IsIndex beginning.links (parts (all beginning.stage.objects)) }
         requires work { beginning.work.items ≡ Item.Enter service.start ∷ [] }
         requires frozen { beginning.frozen ≡ blank }
+        requires late { beginning.late.items ≡ service.late }
         ensures begun { result.state ≡ begun service mjd }
         ensures clean { IsClean result.marks }
     {
@@ -117,6 +121,7 @@ impl Works {
             links,
             work,
             frozen,
+            late,
         } = beginning;
         Works {
             service,
@@ -127,7 +132,8 @@ impl Works {
             links,
             agenda: Agenda::new(alloc),
             work,
-            transition: false,
+            transition: Transition::Rests,
+            late,
             ended: false,
             locks: 0,
             frozen,
@@ -183,6 +189,7 @@ struct Beginning {
     links: Links,
     work: Work,
     frozen: Picture,
+    late: Vec<GroupName>,
 }
 
 fn prepare(alloc: Global, service: &Service) -> Result<Beginning, AllocError>
@@ -194,20 +201,33 @@ fn prepare(alloc: Global, service: &Service) -> Result<Beginning, AllocError>
     ensures links { IfOk result (λ found. IsIndex found.links (parts (all found.stage.objects))) }
     ensures work { IfOk result (λ parts. parts.work.items ≡ Item.Enter service.now.start ∷ []) }
     ensures frozen { IfOk result (λ parts. parts.frozen ≡ blank) }
+    ensures late { IfOk result (λ parts. parts.late.items ≡ service.now.late) }
 {
     let application = service.start().clone()?;
     let parts = service.parts(&application);
     let group = Group::fresh(alloc, &application, parts)?;
     let set = both(Links::of(alloc, parts, &[]), Stage::new(alloc, group));
     let first = both(first_work(alloc, &application), Picture::black(alloc));
-    let ((links, stage), (work, frozen)) = both(set, first)?;
+    let late = copied_names(alloc, service.late());
+    let ((links, stage), ((work, frozen), late)) = both(set, both(first, late))?;
     Ok(Beginning {
         application,
         stage,
         links,
         work,
         frozen,
+        late,
     })
+}
+
+fn copied_names(alloc: Global, names: &[GroupName]) -> Result<Vec<GroupName>, AllocError>
+    ensures { IfOk result (λ copies. copies.items ≡ names.now) }
+{
+    let mut copies = Vec::new(alloc);
+    for name in names {
+        copies.push(name.clone()?)?;
+    }
+    Ok(copies)
 }
 
 /// The work at the start: the group is entered.

@@ -17,7 +17,7 @@ use Rattle.mh_model.specs.declared.object.Body.{Body}
 use Rattle.mh_model.specs.declared.object.Fixed.{Fixed}
 use Rattle.mh_model.specs.Bodies.{text_of}
 use Rattle.mh_model.specs.Items.{plain_event}
-use Rattle.mh_model.specs.Lists.{are_same}
+use Rattle.mh_group.specs.Same.{are_same}
 use Rattle.mh_model.specs.Property.{held, as_int}
 use Rattle.mh_model.specs.Widget.{Worked, no_work}
 

@@ -42,6 +42,7 @@ pub mod Layout
 pub mod Drawn
 pub mod Picture
 -- Rules, steps and runs
+pub mod Late
 pub mod Rules
 pub mod Step
 pub mod Receiver

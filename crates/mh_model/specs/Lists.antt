@@ -12,6 +12,7 @@ use Rattle.mh_group.specs.declared.action_name.ActionName.{ActionName}
 use Rattle.mh_group.specs.declared.action_name.ActionName.TheVariants as action
 use Rattle.mh_group.specs.declared.attribute.Attribute.TheVariants as attribute
 use Rattle.mh_group.specs.declared.written.Position.{Position}
+use Rattle.mh_group.specs.Same.{are_same}
 use Rattle.mh_model.specs.declared.item.Item.{Item}
 use Rattle.mh_model.specs.declared.item.Item.TheVariants as item
 use Rattle.mh_model.specs.declared.listing.Entry.{Entry}
@@ -91,10 +92,6 @@ halted_members before after = map item.HaltMember (filter (λ r. not (is_shown r
 
 abbrev pub run_members : List ObjRef → List ObjRef → List Item
 run_members before after = map item.RunMember (filter (λ r. not (is_shown r before)) after)
-
-abbrev pub are_same : Bool → Bool → Bool
-are_same true b = b
-are_same false b = not b
 
 abbrev pub truth_told : EventType → ObjRef → Bool → Bool → List Item
 truth_told kind r before after =

@@ -24,6 +24,8 @@ use Rattle.mh_model.specs.declared.object.Body.{Body}
 use Rattle.mh_model.specs.declared.object.Fixed.{Fixed}
 use Rattle.mh_model.specs.declared.object.Object.{Object}
 use Rattle.mh_model.specs.declared.time.Moments.{Moments}
+use Rattle.mh_model.specs.declared.transition.Transition.{Transition}
+use Rattle.mh_model.specs.declared.transition.Transition.TheVariants as transition
 use Rattle.mh_model.specs.declared.program.Builtin.{Builtin}
 use Rattle.mh_model.specs.declared.program.Now.{Now}
 use Rattle.mh_model.specs.declared.program.Outcome.{Outcome}
@@ -49,6 +51,7 @@ use Rattle.mh_model.specs.Stack.{with_risen, without, reordered}
 use Rattle.mh_model.specs.Picture.{looked}
 use Rattle.mh_model.specs.Time.{set_timers}
 use Rattle.mh_model.specs.Widget.{Worked}
+use Rattle.mh_model.specs.Late.{is_late_scene}
 use Rattle.mh_model.specs.Worked.{worked, is_interacting, ended_of, interaction_of}
 use Rattle.mh_model.specs.Saying.{answers_at, put_items_at, load_items, call_items, interaction_items}
 
@@ -180,7 +183,7 @@ unlocked s = record s { locks = s.locks - 1 }
 abbrev pub timer_rule : List Value → ObjRef → State → State
 timer_rule vs r s = record s { timers = set_timers vs s.application r.group s.moments s.timers }
 
--- Transitions. One replaces the whole work list, unless one has begun.
+-- Transitions. One replaces the whole work list, unless one has begun; to a scene that is still late it waits.
 
 -- all that is done when the current application is left, and then this
 abbrev pub quit_before : Item → State → List Item
@@ -194,11 +197,26 @@ way_out action.TransitionTo r s =
 way_out action.Launch r s = quit_before (item.Exchange r.group) s
 way_out _ r s = quit_before item.End s
 
+abbrev pub is_begun : Transition → Bool
+is_begun transition.Begun = true
+is_begun _ = false
+
+-- one begins; no scene is waited for any more
+abbrev pub begins : ActionName → ObjRef → State → State
+begins n r s = record s { transition = transition.Begun; work = way_out n r s }
+
+-- it leads to a scene that is still late
+abbrev pub leads_to_late : ActionName → ObjRef → State → Bool
+leads_to_late action.TransitionTo r s = is_late_scene r.group s.late
+leads_to_late _ r s = false
+
+-- such a one waits, in the place of an earlier one, and the work goes on
+abbrev pub begins_or_waits : Bool → ActionName → ObjRef → State → State
+begins_or_waits true n r s = record s { transition = transition.Awaits r.group }
+begins_or_waits false n r s = begins n r s
+
 abbrev pub transition_rule : ActionName → ObjRef → State → State
-transition_rule n r s = record s {
-  transition = true;
-  work = if s.transition then s.work else way_out n r s;
-}
+transition_rule n r s = if is_begun s.transition then s else begins_or_waits (leads_to_late n r s) n r s
 
 -- Programs. The variable that is written first is told whether the call went well; what it answers goes into those
 -- that are passed for it.
@@ -296,7 +314,7 @@ scene_exchanged g s = record s {
   timers = filter (λ t. bytes_eq t.group s.application) s.timers;
   waits = filter (λ w. bytes_eq w.object.group s.application) s.waits;
   queue = filter (stays s.application) s.queue;
-  transition = false;
+  transition = transition.Rests;
   work = item.Enter g ∷ s.work;
 }
 
@@ -311,7 +329,7 @@ application_exchanged g s = record s {
   timers = [];
   waits = [];
   queue = filter is_input s.queue;
-  transition = false;
+  transition = transition.Rests;
   work = item.Enter g ∷ s.work;
 }
 

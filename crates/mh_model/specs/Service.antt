@@ -4,6 +4,7 @@ use Rattle.std.specs.List.{find}
 use Rattle.std.specs.Option.{option_map, option_map_or}
 use Rattle.std.specs.Str.{bytes_eq}
 use Rattle.mh_base.specs.declared.obj_ref.ObjRef.{ObjRef}
+use Rattle.mh_group.specs.declared.written.Written.{Written}
 use Rattle.mh_model.specs.declared.object.Fixed.{Fixed}
 use Rattle.mh_model.specs.declared.object.Object.{Object}
 use Rattle.mh_model.specs.declared.program.Signature.{Signature}
@@ -11,11 +12,14 @@ use Rattle.mh_model.specs.Reference.{same_ref}
 use Rattle.mh_model.specs.ListItems.{listed_at_first}
 
 -- a finite map from the names of groups to what they say of their objects, and the application to start with;
--- and the programs that the receiver has for it besides the built-in ones
+-- the programs that the receiver has for it besides the built-in ones; each group as its file writes it; and the
+-- scenes whose files come late
 pub record Service : Type 0 where
   pub groups : List (List ℕ × List Fixed)
   pub start : List ℕ
   pub programs : List Signature
+  pub files : List (List ℕ × Written)
+  pub late : List (List ℕ)
 
 -- the part to which a reference leads, if it is among these
 abbrev pub part_at : ObjRef → List Fixed → Option Fixed

@@ -13,6 +13,8 @@ use Rattle.mh_model.specs.declared.program.Outcome.{Outcome}
 use Rattle.mh_model.specs.declared.program.Outcome.TheVariants as outcome
 use Rattle.mh_model.specs.declared.time.Moments.{Moments}
 use Rattle.mh_model.specs.declared.time.Timer.{Timer}
+use Rattle.mh_model.specs.declared.transition.Transition.{Transition}
+use Rattle.mh_model.specs.declared.transition.Transition.TheVariants as transition
 use Rattle.mh_model.specs.Planes.{Planes, blank}
 use Rattle.mh_model.specs.Service.{Service, group_objects}
 
@@ -45,8 +47,10 @@ pub record State : Type 0 where
   pub work : List Item
   -- the present moment, and those in which the active application and the current scene were entered
   pub moments : Moments
-  -- a transition has begun, and its exchange is still to come
-  pub transition : Bool
+  -- a transition has begun, and its exchange is still to come; or a scene is waited for to which one leads
+  pub transition : Transition
+  -- the scenes that are still late
+  pub late : List (List ℕ)
   -- the application has quit, and nothing is done any more
   pub ended : Bool
   -- how often the screen is locked, and the picture that it shows while it is
@@ -76,7 +80,8 @@ begun s mjd = record {
   queue = [];
   work = item.Enter s.start ∷ [];
   moments = record { present = 0; application = 0; scene = 0 };
-  transition = false;
+  transition = transition.Rests;
+  late = s.late;
   ended = false;
   locks = 0;
   frozen = blank;

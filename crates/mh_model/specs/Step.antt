@@ -1,11 +1,13 @@
 -- Taking, steps, posts and runs.
 use Rattle.std.specs.Prelude.{ℕ, zero, suc, ◌+◌, ◌==◌, ◌&&◌, ◌||◌, Bool, true, false, not, nat_lt, if◌then◌else◌, List, [], ◌∷◌, ◌++◌, length, filter, drop, slice_get, Option, Some, None, ℤ, pos, nat_le, map}
-use Rattle.std.specs.List.{sum_by}
+use Rattle.std.specs.List.{list_any, sum_by}
+use Rattle.std.specs.Str.{bytes_eq}
 use Rattle.mh_base.specs.declared.value.Value.TheVariants as value
 use Rattle.mh_base.specs.declared.event.EventType.TheVariants as event
 use Rattle.mh_group.specs.declared.attribute.Attribute.TheVariants as attribute
 use Rattle.mh_group.specs.Table.{is_stream}
 use Rattle.mh_base.specs.declared.obj_ref.ObjRef.{ObjRef}
+use Rattle.mh_group.specs.declared.action_name.ActionName.TheVariants as action
 use Rattle.mh_model.specs.declared.event.Event.{Event}
 use Rattle.mh_model.specs.declared.fault.Fault.{Fault}
 use Rattle.mh_model.specs.declared.file.File.{File}
@@ -22,6 +24,8 @@ use Rattle.mh_model.specs.declared.interaction.Interaction.{Interaction}
 use Rattle.mh_model.specs.declared.item.Item.{Item}
 use Rattle.mh_model.specs.declared.key.Key.{Key}
 use Rattle.mh_model.specs.declared.object.Object.{Object}
+use Rattle.mh_model.specs.declared.transition.Transition.{Transition}
+use Rattle.mh_model.specs.declared.transition.Transition.TheVariants as transition
 use Rattle.mh_model.specs.EntryFields.{Pressed, pressed_of}
 use Rattle.mh_model.specs.Key.{key_number, passes}
 use Rattle.mh_model.specs.Property.{read, as_int}
@@ -31,7 +35,8 @@ use Rattle.mh_model.specs.State.{State, all}
 use Rattle.mh_model.specs.Items.{heard}
 use Rattle.mh_model.specs.Stuck.{stuck}
 use Rattle.mh_model.specs.Files.{with_file, waits_for, arrived, is_too_large, is_too_many}
-use Rattle.mh_model.specs.Rules.{rule, changed, text_brought, is_input}
+use Rattle.mh_model.specs.Late.{is_late_scene, is_written_so, late_without, written_at}
+use Rattle.mh_model.specs.Rules.{begins, rule, changed, text_brought, is_input}
 use Rattle.mh_model.specs.Time.{is_due, due, timer_event}
 use Rattle.mh_model.specs.Limits.{longest_tick, most_moment, most_inputs, most_steps}
 
@@ -116,6 +121,19 @@ file_taken f s = record s {
   waits = arrived f.name s.waits;
 }
 
+-- the file of a scene is there, which is late no longer; a transition that waits for it begins
+
+abbrev pub awaits : List ℕ → Transition → Bool
+awaits g (transition.Awaits h) = bytes_eq g h
+awaits g _ = false
+
+abbrev pub scene_arrived : List ℕ → State → State
+scene_arrived g s = record s { late = late_without g s.late }
+
+abbrev pub scene_taken : List ℕ → State → State
+scene_taken g s =
+    if awaits g s.transition then begins action.TransitionTo (group_ref g) (scene_arrived g s) else scene_arrived g s
+
 -- what becomes of the state when this is taken
 abbrev pub taking : Waiting → State → State
 taking (waiting.Event e) s = record s { work = heard e (all s.objects) }
@@ -125,6 +143,7 @@ taking (waiting.Input (input.Stream n)) s = record s { queue = s.queue ++ stream
 taking (waiting.Input (input.Engine n)) s =
     record s { work = heard (engine_event n s.application) (all s.objects) }
 taking (waiting.Input (input.Arrive f)) s = file_taken f s
+taking (waiting.Input (input.Scene g w)) s = scene_taken g s
 
 -- taking the first that waits in the queue
 abbrev pub took : Waiting → State → State
@@ -200,6 +219,20 @@ abbrev pub files_ahead : List File → List Waiting → List File
 files_ahead fs [] = fs
 files_ahead fs (w ∷ ws) = files_ahead (stored_by (file_in w) fs) ws
 
+-- a scene of this name is not late any more or never was, or its file waits already; and a file that is not its own
+
+abbrev pub is_file_of : List ℕ → Waiting → Bool
+is_file_of g (waiting.Input (input.Scene h w)) = bytes_eq g h
+is_file_of g _ = false
+
+abbrev pub is_not_late : Input → State → Bool
+is_not_late (input.Scene g w) s = not (is_late_scene g s.late) || list_any (is_file_of g) s.queue
+is_not_late _ s = false
+
+abbrev pub is_another_group : Input → State → Bool
+is_another_group (input.Scene g w) s = not (is_written_so w (written_at g s.service.files))
+is_another_group _ s = false
+
 -- a file that is too large, and one for whose name there is no room
 abbrev pub is_over_size : Input → Bool
 is_over_size (input.Arrive f) = is_too_large f
@@ -219,10 +252,12 @@ abbrev pub obstacle : Input → State → Option Obstacle
 obstacle i s =
     if s.ended then Some refused.Ended
     else (if not (is_in_range i) then Some refused.TickRange
+    else (if is_not_late i s then Some refused.NotLate
+    else (if is_another_group i s then Some refused.Differs
     else (if is_over_size i then Some refused.TooLarge
     else (if is_over_number i s then Some refused.TooMany
     else (if is_past_the_last i s then Some refused.ClockFull
-    else (if is_full s then Some refused.QueueFull else None)))))
+    else (if is_full s then Some refused.QueueFull else None)))))))
 
 abbrev pub posted_by : Option Obstacle → Input → State → State
 posted_by None i s = record s { queue = s.queue ++ waiting.Input i ∷ [] }

@@ -1,5 +1,6 @@
 //! What is posted to the machine, and the moves of a run.
-use crate::{Event, File, Key};
+use crate::{Event, File, Key, SharedGroup};
+use mh_base::GroupName;
 
 /// What comes from outside.
 #[derive(Clone, Drop)]
@@ -13,6 +14,8 @@ pub enum Input {
     Engine(i32),
     /// A content file is there, in the place of an older one of its name.
     Arrive(File),
+    /// The file of a scene that was late is there: its name, and the group.
+    Scene(GroupName, SharedGroup),
 }
 
 /// What waits in the queue until it is taken.
@@ -32,6 +35,10 @@ pub enum Obstacle {
     TickRange,
     /// A post was accepted or a step taken, so that no file can be preset.
     Begun,
+    /// No scene of this name is late, or its file waits already.
+    NotLate,
+    /// The group is not that of the service.
+    Differs,
     /// A file has more than 65,535 octets.
     TooLarge,
     /// With the names that wait, there would be more than 1,024 files.

@@ -1,5 +1,6 @@
 -- A service that is read from files has no programs but the built-in ones.
 use Rattle.std.specs.Prelude.{◌≡◌, ℕ, List, [], map, Option, Some, None, Result, Ok, Err, IfOk, OnOk, refl}
+use Rattle.std.specs.List.{find}
 use Rattle.std.proofs.Common.{ap, sym, subst, ◌∙◌}
 use Rattle.std.proofs.lemmas.Result.{IfOk-weaker}
 use Rattle.mh_laws.specs.Budget.{IsAccepted}
@@ -12,7 +13,7 @@ use Rattle.mh_verify.specs.Free.{IsVerified, Verified, most_cost}
 use Rattle.mh_report.specs.declared.material.Material.{Material}
 use Rattle.mh_report.specs.declared.script.Command.{Command}
 use Rattle.mh_told.specs.declared.unplayable.Unplayable.{Unplayable}
-use Rattle.mh_told.specs.Reading.{◌>>=◌, Source, read_files, refusal_for, service_of, service_read, unless_refused}
+use Rattle.mh_told.specs.Reading.{◌>>=◌, Source, late_lines, names_no_scene, read_files, refusal_for, service_of, service_read, unless_no_scene, unless_refused, with_late, with_names}
 use Rattle.mh_report.specs.Reading.{contents, commands_of, readied}
 
 made : (o : Option ServiceRefusal) (x s : Service) → x.programs ≡ [] → unless_refused o x ≡ Ok s → s.programs ≡ []
@@ -21,28 +22,53 @@ made None x s none e =
     subst (λ (y : Service). y.programs ≡ []) same none
 made (Some r) x s none e = cc
 
-pub plain_service : (start : List ℕ) (files : List Source) (s : Service) → service_read start files ≡ Ok s → s.programs ≡ []
-unfolding service_read service_of
-plain_service start files s e = by (read_files [] files) e
+-- the service of files
+plain_files : (start : List ℕ) (r : Result (List File) Unplayable) (s : Service) → (r >>= service_of start) ≡ Ok s → s.programs ≡ []
+unfolding service_of
+plain_files start (Err x) s e = cc
+plain_files start (Ok groups) s e =
+    made (refusal_for start groups) (record { groups = map resolved groups; start = start; programs = []; files = groups; late = [] }) s refl e
+
+marked : (o : Option (List ℕ)) (x s : Service) → x.programs ≡ [] → unless_no_scene o x ≡ Ok s → s.programs ≡ []
+marked None x s none e =
+    let same : x ≡ s = cc in
+    subst (λ (y : Service). y.programs ≡ []) same none
+marked (Some line) x s none e = cc
+
+-- with its late scenes
+plain_late : (late : Option (List ℕ)) (x s : Service) → x.programs ≡ [] → with_late late x ≡ Ok s → s.programs ≡ []
+unfolding with_names
+plain_late None x s none e =
+    let same : x ≡ s = cc in
+    subst (λ (y : Service). y.programs ≡ []) same none
+plain_late (Some bytes) x s none e = marked (find (names_no_scene x) (late_lines bytes)) (record x { late = late_lines bytes }) s none e
+
+pub plain_service : (start : List ℕ) (late : Option (List ℕ)) (files : List Source) (s : Service) → service_read start late files ≡ Ok s → s.programs ≡ []
+unfolding service_read
+plain_service start late files s e = by (read_files [] files >>= service_of start) refl e
   where
-    by : (r : Result (List File) Unplayable) → (r >>= service_of start) ≡ Ok s → s.programs ≡ []
-    by (Err x) h = cc
-    by (Ok groups) h = made (refusal_for start groups) (record { groups = map resolved groups; start = start; programs = [] }) s refl h
+    by : (r : Result Service Unplayable) → (read_files [] files >>= service_of start) ≡ r → (r >>= with_late late) ≡ Ok s → s.programs ≡ []
+    by (Err x) is h = cc
+    by (Ok v) is h = plain_late late v s (plain_files start (read_files [] files) v is) h
 
 abbrev material : Service → List Source → List Command → Material
 material s files cs = record { service = s; files = contents s files; commands = cs }
 
-pub plain_material : (start : List ℕ) (files : List Source) (script : List ℕ) (m : Material) → readied start files script ≡ Ok m → m.service.programs ≡ []
+pub plain_material : (start : List ℕ) (late : Option (List ℕ)) (files : List Source) (script : List ℕ) (m : Material) → readied start late files script ≡ Ok m → m.service.programs ≡ []
 unfolding readied
-plain_material start files script m e = by (service_read start files) refl (commands_of script) e
+plain_material start late files script m e = by (service_read start late files) refl e
   where
-    by : (r : Result Service Unplayable) → service_read start files ≡ r → (c : Result (List Command) Unplayable)
-        → (r >>= (λ (s : Service). c >>= (λ (cs : List Command). Ok (material s files cs)))) ≡ Ok m → m.service.programs ≡ []
-    by (Err x) is c h = cc
-    by (Ok s) is (Err x) h = cc
-    by (Ok s) is (Ok cs) h =
+    given : (s : Service) → service_read start late files ≡ Ok s → (c : Result (List Command) Unplayable)
+        → (c >>= (λ (cs : List Command). Ok (material s files cs))) ≡ Ok m → m.service.programs ≡ []
+    given s is (Err x) h = cc
+    given s is (Ok cs) h =
         let same : material s files cs ≡ m = cc in
-        subst (λ (x : Material). x.service.programs ≡ []) same (plain_service start files s is)
+        subst (λ (x : Material). x.service.programs ≡ []) same (plain_service start late files s is)
+
+    by : (r : Result Service Unplayable) → service_read start late files ≡ r
+        → (r >>= (λ (s : Service). commands_of s.files script >>= (λ (cs : List Command). Ok (material s files cs)))) ≡ Ok m → m.service.programs ≡ []
+    by (Err x) is h = cc
+    by (Ok s) is h = given s is (commands_of s.files script) h
 
 -- such a service is what is verified
 pub unequipped : (s : Service) → s.programs ≡ [] → equipped s [] ≡ s

@@ -1,4 +1,5 @@
--- What the bytes of a script mean: lines, each of which says one thing to do, or is skipped, or is wrong.
+-- What the bytes of a script mean: lines, each of which says one thing to do, or is skipped, or is wrong. What a line on a scene
+-- means is said beside the files of the service.
 use Rattle.std.specs.Prelude.{◌≡◌, ℕ, ◌+◌, ◌*◌, ◌-◌, ◌==◌, nat_le, Bool, true, false, ◌&&◌, if◌then◌else◌, List, [], ◌∷◌, length, take, drop, Option, Some, None, Result, Ok, Err, ℤ, pos, codes}
 use Rattle.std.specs.List.{find, filter_map, position, slice_split}
 use Rattle.std.specs.Option.{option_and_then}
@@ -7,9 +8,14 @@ use Rattle.std.specs.Char.{is_ascii_digit}
 use Rattle.hex.specs.Hex.{decode_of}
 use Rattle.hex.specs.declared.error.FromHexError.{FromHexError}
 use Rattle.mh_base.specs.Path.{is_path}
+use Rattle.mh_group.specs.declared.written.Written.{Written}
+use Rattle.mh_model.specs.Late.{written_at}
 use Rattle.mh_model.specs.declared.input.Input.TheVariants as input
 use Rattle.mh_model.specs.declared.key.Key.{Key}
 use Rattle.mh_model.specs.declared.key.Key.TheVariants.{Up, Down, Left, Right, Digit0, Digit1, Digit2, Digit3, Digit4, Digit5, Digit6, Digit7, Digit8, Digit9, Select, Cancel, Red, Green, Yellow, Blue, Text}
+use Rattle.mh_service.specs.Refusals.{File}
+use Rattle.mh_told.specs.declared.unplayable.Unplayable.{Unplayable}
+use Rattle.mh_told.specs.Reading.{group_in}
 use Rattle.mh_report.specs.declared.script.Command.{Command}
 use Rattle.mh_report.specs.declared.script.Command.TheVariants as command
 use Rattle.mh_report.specs.declared.script.Line.{Line}
@@ -134,6 +140,38 @@ parted_line None words = line.Wrong
 abbrev pub file_line : List ℕ → Line
 file_line words = parted_line (position (λ b. b == 32) words) words
 
+-- The file of a scene by its name: that of the service, or another, by its octets.
+
+abbrev pub sent_line : List ℕ → Option Written → Line
+sent_line name (Some group) = line.Says (command.Post (input.Scene name group))
+sent_line name None = line.Wrong
+
+-- the name is a path, and a file of the service has it
+abbrev pub own_line : List File → List ℕ → Line
+own_line files name = if is_path name then sent_line name (written_at name files) else line.Wrong
+
+-- a group that was read
+abbrev pub as_group : Result Written Unplayable → Option Written
+as_group (Ok group) = Some group
+as_group (Err e) = None
+
+-- the group that octets write, in either notation
+abbrev pub written_by : List ℕ → Option (List ℕ) → Option Written
+written_by name (Some octets) = as_group (group_in name octets)
+written_by name None = None
+
+-- the name is a path, and the digits write a group
+abbrev pub brought_line : List ℕ → List ℕ → Line
+brought_line name digits = if is_path name then sent_line name (written_by name (octets_of digits)) else line.Wrong
+
+-- a space parts the name from the digits; without one there are none
+abbrev pub parted_scene : List File → Option ℕ → List ℕ → Line
+parted_scene files (Some at) words = brought_line (take at words) (drop (at + 1) words)
+parted_scene files None words = own_line files words
+
+abbrev pub scene_line : List File → List ℕ → Line
+scene_line files words = parted_scene files (position (λ b. b == 32) words) words
+
 -- the bytes begin with these
 abbrev pub begins : List ℕ → List ℕ → Bool
 begins front bytes = bytes_eq (take (length front) bytes) front
@@ -161,9 +199,11 @@ is_comment (b ∷ bs) = b == 35
 unfoldable pub plain_line : List ℕ → Line
 plain_line l = if is_comment l then line.Skipped else command_line l
 
--- one of these, or `file NAME HEX`
-abbrev pub line_of : List ℕ → Line
-line_of l = if begins (codes "file ") l then file_line (drop 5 l) else plain_line l
+-- one of these, or one of `file NAME HEX`, `scene NAME` and `scene NAME HEX`
+abbrev pub line_of : List File → List ℕ → Line
+line_of files l =
+    if begins (codes "file ") l then file_line (drop 5 l)
+    else (if begins (codes "scene ") l then scene_line files (drop 6 l) else plain_line l)
 
 abbrev pub said : Line → Option Command
 said (line.Says c) = Some c
@@ -176,15 +216,15 @@ is_wrong line.Skipped = false
 is_wrong (line.Says c) = false
 
 -- what the lines say, in order
-abbrev pub commands : List (List ℕ) → List Command
-commands ls = filter_map (λ l. said (line_of l)) ls
+abbrev pub commands : List File → List (List ℕ) → List Command
+commands files ls = filter_map (λ l. said (line_of files l)) ls
 
 -- the number of the first wrong line, if there is one, where the first line has number `n`
-abbrev pub first_wrong : ℕ → List (List ℕ) → Option ℕ
-first_wrong n [] = None
-first_wrong n (l ∷ ls) = if is_wrong (line_of l) then Some n else first_wrong (n + 1) ls
+abbrev pub first_wrong : List File → ℕ → List (List ℕ) → Option ℕ
+first_wrong files n [] = None
+first_wrong files n (l ∷ ls) = if is_wrong (line_of files l) then Some n else first_wrong files (n + 1) ls
 
 -- the first wrong line of these bytes is the one that the error names
-abbrev pub IsWrongAt : List ℕ → ScriptError → Type 0
-IsWrongAt bytes (script_error.Wrong n) = first_wrong 1 (lines bytes) ≡ Some n
-IsWrongAt bytes script_error.NoMemory = Unit {0}
+abbrev pub IsWrongAt : List File → List ℕ → ScriptError → Type 0
+IsWrongAt files bytes (script_error.Wrong n) = first_wrong files 1 (lines bytes) ≡ Some n
+IsWrongAt files bytes script_error.NoMemory = Unit {0}

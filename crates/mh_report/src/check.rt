@@ -5,10 +5,12 @@ ghost use Rattle.mh_report.specs.Sink.{IsBeginning};
 ghost use Rattle.mh_report.specs.Played.{Checks, HasWritten, HasBegun};
 ghost use Rattle.mh_report.specs.Verdict.{accepted_lines};
 ghost use Rattle.mh_told.specs.Reading.{service_read};
+ghost use Rattle.mh_report.specs.Reading.{late_of};
 
 use crate::options::Options;
 use crate::play::{complain, refuse};
 use crate::play_error::PlayError;
+use crate::reading::chosen_service;
 use crate::saying::accepted_text;
 use crate::sink::{Sink, write_all};
 use crate::status::Status;
@@ -16,7 +18,6 @@ use crate::verdict::verified;
 use mh_base::GroupName;
 use mh_layers::Bounds;
 use mh_service::Service;
-use mh_told::reading::read_service;
 use mh_told::unplayable::Unplayable;
 use mh_verify::RefusalKind;
 use std::alloc::Global;
@@ -30,11 +31,11 @@ pub fn check_bytes<S: Sink>(
     sink: &mut S,
 ) -> Result<Status, PlayError>
     requires { S.failures sink.old < 2 ^ 64 - 1 }
-    ensures written { IfOk result (HasWritten (Checks (service_read options.now.start.items files.now)) (S.written sink.old) (S.written sink.new)) }
-    ensures begun { OnErr result (HasBegun (Checks (service_read options.now.start.items files.now)) (S.written sink.old) (S.written sink.new)) }
+    ensures written { IfOk result (HasWritten (Checks (service_read options.now.start.items (late_of options.now) files.now)) (S.written sink.old) (S.written sink.new)) }
+    ensures begun { OnErr result (HasBegun (Checks (service_read options.now.start.items (late_of options.now) files.now)) (S.written sink.old) (S.written sink.new)) }
     ensures write { IsErrOf result PlayError.Write → S.failures sink.old < S.failures sink.new }
 {
-    match read_service(alloc, files, options.start.as_slice()) {
+    match chosen_service(alloc, files, options) {
         Ok(service) => judge(alloc, service, sink),
         Err(why) => match why {
             Unplayable::NoMemory => Err(PlayError::NoMemory),

@@ -18,6 +18,7 @@ mod preset;
 mod reading;
 mod report;
 mod saying;
+mod scene_line;
 mod script;
 pub mod sink;
 pub mod source;

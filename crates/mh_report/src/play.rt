@@ -10,7 +10,7 @@ ghost use Rattle.mh_report.specs.Sink.{IsBeginning};
 ghost use Rattle.mh_report.specs.Report.{Session};
 ghost use Rattle.mh_report.specs.Verdict.{refusal_lines};
 ghost use Rattle.mh_told.specs.Reading.{Gives};
-ghost use Rattle.mh_report.specs.Reading.{readied};
+ghost use Rattle.mh_report.specs.Reading.{readied, late_of};
 ghost use Rattle.mh_report.specs.Presets.{opened};
 ghost use Rattle.mh_report.specs.Played.{complaint, play_lines, play_status, Plays, HasWritten, HasBegun};
 
@@ -42,11 +42,11 @@ pub fn play_bytes<S: Sink>(
     sink: &mut S,
 ) -> Result<Status, PlayError>
     requires { S.failures sink.old < 2 ^ 64 - 1 }
-    ensures written { IfOk result (HasWritten (Plays options.now.mjd options.now.lenient (readied options.now.start.items files.now script.now)) (S.written sink.old) (S.written sink.new)) }
-    ensures begun { OnErr result (HasBegun (Plays options.now.mjd options.now.lenient (readied options.now.start.items files.now script.now)) (S.written sink.old) (S.written sink.new)) }
+    ensures written { IfOk result (HasWritten (Plays options.now.mjd options.now.lenient (readied options.now.start.items (late_of options.now) files.now script.now)) (S.written sink.old) (S.written sink.new)) }
+    ensures begun { OnErr result (HasBegun (Plays options.now.mjd options.now.lenient (readied options.now.start.items (late_of options.now) files.now script.now)) (S.written sink.old) (S.written sink.new)) }
     ensures write { IsErrOf result PlayError.Write → S.failures sink.old < S.failures sink.new }
 {
-    match ready(alloc, files, script, options.start.as_slice()) {
+    match ready(alloc, files, script, options) {
         Ok(material) => play_ready(alloc, material, options, sink),
         Err(why) => match why {
             Unplayable::NoMemory => Err(PlayError::NoMemory),

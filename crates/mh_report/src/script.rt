@@ -1,15 +1,17 @@
 //! Scripts: what is played, a command a line.
 //!
-//! `read_script` answers the commands of all lines, or the number of the first line that is none. What
-//! the commands do is left to `player`.
+//! `read_script` answers the commands of all lines, or the number of the first line that is none. Lines on
+//! scenes are left to `scene_line`, and what the commands do to `player`.
 ghost use Rattle.std.specs.Prelude.{◌≡◌, ◌<◌, ◌==◌, ◌∷◌, true, false, drop, IfOk, IfErr, IfSome, OnOk, MatchOption, None, length};
 ghost use Rattle.std.specs.List.{position};
 ghost use Rattle.std.specs.Option.{option_copied};
 ghost use Rattle.mh_report.specs.Script.{begins, lines, line_of, is_comment, plain_line, command_line, input_line, commands, first_wrong, key_named, key_line, step_line, tick_line, stream_line, engine_line, file_line, named_line, content_line, octets_of, integer_of, lines_behind, number_of, IsWrongAt};
 
+use crate::scene_line::scene_line;
 use crate::words::{integer_of, key_named, number_of, octets_of};
 use mh_base::{GroupName, NameError, Seq};
 use mh_model::{File, Input};
+use mh_service::Service;
 use std::alloc::{AllocError, Global};
 use thiserror::Error;
 
@@ -57,11 +59,15 @@ impl From<AllocError> for ScriptError {
     }
 }
 
-/// The commands of a script.
-pub fn read_script(alloc: Global, bytes: &[u8]) -> Result<Seq<Command>, ScriptError>
-    ensures good { OnOk result (first_wrong 1 (lines bytes.now) ≡ None) }
-    ensures found { IfOk result (λ script. script ≡ commands (lines bytes.now)) }
-    ensures wrong { IfErr result (IsWrongAt bytes.now) }
+/// The commands of a script that is played on this service.
+pub fn read_script(
+    alloc: Global,
+    service: &Service,
+    bytes: &[u8],
+) -> Result<Seq<Command>, ScriptError>
+    ensures good { OnOk result (first_wrong service.now.files 1 (lines bytes.now) ≡ None) }
+    ensures found { IfOk result (λ script. script ≡ commands service.now.files (lines bytes.now)) }
+    ensures wrong { IfErr result (IsWrongAt service.now.files bytes.now) }
 {
     let mut commands = Seq::new(alloc);
     let mut rest = Some(bytes);
@@ -69,7 +75,7 @@ pub fn read_script(alloc: Global, bytes: &[u8]) -> Result<Seq<Command>, ScriptEr
     while let Some(text) = rest {
         let (line, behind) = first_line(text);
         number += 1;
-        match line_of(alloc, line)? {
+        match line_of(alloc, service, line)? {
             Line::Skipped => {}
             Line::Says(command) => commands.push(command)?,
             Line::Wrong => return Err(ScriptError::Wrong(number)),
@@ -97,13 +103,16 @@ fn line_end(text: &[u8]) -> Option<usize>
     text.iter().position(|b| *b == b'\n')
 }
 
-/// What a line says.
-pub fn line_of(alloc: Global, line: &[u8]) -> Result<Line, AllocError>
-    ensures { IfOk result (λ said. said ≡ line_of line.now) }
+/// What a line says of a play on this service.
+pub fn line_of(alloc: Global, service: &Service, line: &[u8]) -> Result<Line, AllocError>
+    ensures { IfOk result (λ said. said ≡ line_of service.now.files line.now) }
 {
-    match behind(line, b"file ") {
-        Some(words) => file_line(alloc, words),
-        None => Ok(plain_line(line)),
+    if let Some(words) = behind(line, b"file ") {
+        file_line(alloc, words)
+    } else if let Some(words) = behind(line, b"scene ") {
+        scene_line(alloc, service, words)
+    } else {
+        Ok(plain_line(line))
     }
 }
 
@@ -225,7 +234,7 @@ fn file_line(alloc: Global, words: &[u8]) -> Result<Line, AllocError>
 }
 
 /// Where the first word ends, if a space ends it.
-fn first_space(words: &[u8]) -> Option<usize>
+pub(crate) fn first_space(words: &[u8]) -> Option<usize>
     ensures { result ≡ position (λ b. b == 32) words.now }
 {
     words.iter().position(|b| *b == b' ')

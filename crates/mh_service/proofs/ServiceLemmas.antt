@@ -198,9 +198,9 @@ unrefused_files start files good = unrefused (double_name [] files) (missing_sta
 
 -- The groups of files that are not refused, with their start.
 
-pub is_service_of : (start : List ℕ) (files : List File) (ps : List Signature) → list_all (λ f. is_group f.1) files ≡ true → refusal_before start files ≡ None → is_service (record { groups = map resolved files; start = start; programs = ps }) ≡ true
+pub is_service_of : (start : List ℕ) (files : List File) (ps : List Signature) (fs : List File) (ls : List (List ℕ)) → list_all (λ f. is_group f.1) files ≡ true → refusal_before start files ≡ None → is_service (record { groups = map resolved files; start = start; programs = ps; files = fs; late = ls }) ≡ true
 unfolding is_service
-is_service_of start files ps groups good =
+is_service_of start files ps fs ls groups good =
     let none = unrefused_files start files good in
     let begun = start_is start [] files none.0 (fits (has_application start files) none.2) in
     both_true (both_true (both_true (group_lists files groups) begun) (groups_valued files groups)) (groups_sent files groups)
@@ -209,6 +209,6 @@ is_service_of start files ps groups good =
     fits true h = refl
     fits false h = cc
 
-pub has_keys_of : (start : List ℕ) (files : List File) (ps : List Signature) → list_all (λ f. is_group f.1) files ≡ true → refusal_before start files ≡ None → has_keys (record { groups = map resolved files; start = start; programs = ps }) ≡ true
+pub has_keys_of : (start : List ℕ) (files : List File) (ps : List Signature) (fs : List File) (ls : List (List ℕ)) → list_all (λ f. is_group f.1) files ≡ true → refusal_before start files ≡ None → has_keys (record { groups = map resolved files; start = start; programs = ps; files = fs; late = ls }) ≡ true
 unfolding has_keys
-has_keys_of start files ps groups good = groups_apart files groups (unrefused_files start files good).1
+has_keys_of start files ps fs ls groups good = groups_apart files groups (unrefused_files start files good).1

@@ -8,6 +8,7 @@
 mod acts;
 pub mod configurations;
 pub mod contents;
+pub mod late;
 mod refusing;
 pub mod resolving;
 pub mod room;
@@ -16,6 +17,7 @@ pub mod service_error;
 mod values;
 
 pub use contents::ContentNames;
+pub use late::{Unmarked, UnmarkedWhy};
 pub use refusing::double_name;
 pub use service::Service;
 pub use service_error::{ServiceError, Why};

@@ -3,10 +3,11 @@
 //! Promise: the groups are those of the files in their order, resolved once; the parts of a group are its
 //! own, and no two of them have one key. That the service can be played is left to others.
 ghost use Rattle.std.specs.Prelude.{◌≡◌, IfOk, IfErr, IfSome, OnOk, None, true, false, [], ◌∷◌, ◌++◌, map};
-ghost use Rattle.std.specs.List.{list_any, list_all};
+ghost use Rattle.std.specs.List.{find, list_any, list_all};
 ghost use Rattle.std.specs.Option.{option_copied};
 ghost use Rattle.std.specs.Str.{bytes_eq};
 ghost use Rattle.mh_group.specs.Fit.{is_group};
+ghost use Rattle.mh_model.specs.Late.{written_at};
 ghost use Rattle.mh_model.specs.Service.{part_at, group_parts, is_in};
 ghost use Rattle.mh_model.specs.Configuration.{is_service, has_keys, are_apart};
 ghost use Rattle.mh_service.specs.Resolved.{resolved, group_leads, parts_under};
@@ -16,8 +17,8 @@ use crate::{ServiceError, Why, refusing, resolving};
 use indexmap::IndexMap;
 use mh_base::{GroupName, NameError, ObjRef, Seq};
 use mh_group::Group;
-use mh_model::{Fixed, FixedPart, Signature, parts};
-use std::alloc::Global;
+use mh_model::{Fixed, FixedPart, SharedGroup, Signature, parts};
+use std::alloc::{AllocError, Global};
 use std::marker::Model;
 
 /// The groups of a service (ISO/IEC 13522-5, the object space) in the order of their files, and the
@@ -28,6 +29,10 @@ pub struct Service {
     groups: IndexMap<GroupName, Seq<FixedPart>>,
     start: GroupName,
     programs: Vec<Signature>,
+    /// The groups as their files write them.
+    files: Vec<(GroupName, SharedGroup)>,
+    /// The scenes whose files come late.
+    late: Vec<GroupName>,
 }
 
 impl Model for Service {
@@ -37,11 +42,11 @@ impl Model for Service {
 
     ghost Value = { ServiceValue };
 
-    ghost view = { λ s. record { groups = s.groups.entries; start = s.start; programs = s.programs.items } };
+    ghost view = { λ s. record { groups = s.groups.entries; start = s.start; programs = s.programs.items; files = s.files.items; late = s.late.items } };
 
     ghost invariant = { λ s.
-        (is_service (record { groups = s.groups.entries; start = s.start; programs = s.programs.items }) ≡ true)
-        × (has_keys (record { groups = s.groups.entries; start = s.start; programs = s.programs.items }) ≡ true) };
+        (is_service (record { groups = s.groups.entries; start = s.start; programs = s.programs.items; files = s.files.items; late = s.late.items }) ≡ true)
+        × (has_keys (record { groups = s.groups.entries; start = s.start; programs = s.programs.items; files = s.files.items; late = s.late.items }) ≡ true) };
 }
 
 impl Service {
@@ -55,15 +60,20 @@ impl Service {
         ensures groups { IfOk result (λ service. service.groups ≡ map resolved files.items) }
         ensures start { IfOk result (λ service. service.start ≡ start) }
         ensures programs { IfOk result (λ service. service.programs ≡ []) }
+        ensures files { IfOk result (λ service. service.files ≡ files.items) }
+        ensures late { IfOk result (λ service. service.late ≡ []) }
         ensures good { OnOk result (refusal_of start files.items ≡ None) }
         ensures refused { IfErr result (Refuses (refusal_of start files.items)) }
     {
         refusing::refuse_before(alloc, &start, files.as_slice())?;
         let groups = groups(alloc, files.as_slice())?;
+        let kept = shared(alloc, files)?;
         Ok(Service {
             groups,
             start,
             programs: Vec::new(alloc),
+            files: kept,
+            late: Vec::new(alloc),
         })
     }
 
@@ -122,6 +132,44 @@ impl Service {
         self.programs.as_slice()
     }
 
+    /// The scenes whose files come late.
+    pub fn late(&self) -> &[GroupName]
+        ensures { result.now ≡ self.now.late }
+    {
+        self.late.as_slice()
+    }
+
+    /// The group of this name as its file writes it, if there is one.
+    pub fn written(&self, name: &GroupName) -> Option<&SharedGroup>
+        ensures { option_copied result ≡ written_at name.now self.now.files }
+    {
+        match file_at(self.files.as_slice(), name) {
+            Some(file) => Some(&file.1),
+            None => None,
+        }
+    }
+
+    /// Marks these scenes as those whose files come late, in the place of others.
+    #[tactic(auto, unfolding(mh_model::specs::Configuration::is_service, mh_model::specs::Configuration::has_keys))]
+    pub(crate) fn marked(self, late: Vec<GroupName>) -> Service
+        ensures { result ≡ record self { late = late.items } }
+    {
+        let Service {
+            groups,
+            start,
+            programs,
+            files,
+            late: _,
+        } = self;
+        Service {
+            groups,
+            start,
+            programs,
+            files,
+            late,
+        }
+    }
+
     /// Puts these programs of a receiver in the place of those that it has, and answers these.
     #[tactic(auto, unfolding(mh_model::specs::Configuration::is_service, mh_model::specs::Configuration::has_keys))]
     pub fn exchange_programs(&mut self, programs: Vec<Signature>) -> Vec<Signature>
@@ -140,13 +188,49 @@ impl Service {
             groups,
             start,
             programs: _,
+            files,
+            late,
         } = self;
         Service {
             groups,
             start,
             programs,
+            files,
+            late,
         }
     }
+}
+
+/// The groups, each to be shared.
+fn shared(
+    alloc: Global,
+    files: Vec<(GroupName, Group)>,
+) -> Result<Vec<(GroupName, SharedGroup)>, AllocError>
+    ensures { IfOk result (λ shared. shared.items ≡ files.items) }
+{
+    let mut shared = Vec::new(alloc);
+    for file in files {
+        shared.push(share(alloc, file)?)?;
+    }
+    Ok(shared)
+}
+
+fn share(alloc: Global, file: (GroupName, Group)) -> Result<(GroupName, SharedGroup), AllocError>
+    ensures { IfOk result (λ shared. shared ≡ file) }
+{
+    let (name, group) = file;
+    let group = SharedGroup::new(alloc, group)?;
+    Ok((name, group))
+}
+
+/// The file of this name, if there is one.
+fn file_at<'a>(
+    files: &'a [(GroupName, SharedGroup)],
+    name: &GroupName,
+) -> Option<&'a (GroupName, SharedGroup)>
+    ensures { option_copied result ≡ find (λ f. bytes_eq f.0 name.now) files.now }
+{
+    files.iter().find(|file| file.0 == *name)
 }
 
 /// The groups under their names, each resolved once.

@@ -217,6 +217,12 @@ claimed 1 s 11 1 SetPosition s s 99 @application @scene
 without the scene nothing of it is active
 claimed 1 s 11 1 SetPosition - s 99 @application @absent
 => V1 not shown;;
+in a configuration whose scene the service does not have
+claimed 1 a 0 1 Run x a 99 @a {:Application ("~/a" 0) :OnStartUp (:Run(99)) }
+=> V1 not shown;;
+in one that it has
+claimed 1 a 0 1 Run - a 99 @a {:Application ("~/a" 0) :OnStartUp (:Run(99)) }
+=> V1 shown;;
 another action
 claimed 1 s 11 1 SetBoxSize s s 99 @application @absent
 => V1 not shown;;

@@ -7,7 +7,7 @@ use mh_codec::decode_group;
 use mh_engine::Engine;
 use mh_group::Group;
 use mh_model::picture::CELLS;
-use mh_model::{Cell, File, Input, Key, Picture};
+use mh_model::{Cell, File, Input, Key, Picture, SharedGroup};
 use mh_service::Service;
 use mh_text::read_group;
 use mh_verify::verify;
@@ -100,6 +100,33 @@ fn turn(alloc: Global, engine: &mut Engine, screen: &mut Vec<u8>) -> Option<()> 
     draw(alloc, engine.picture(), screen)
 }
 
+/// An engine of the service of the files, of which these scenes come late.
+fn start_late(alloc: Global, sources: &[Source], late: &[&[u8]]) -> Option<Engine> {
+    let mut names = Vec::new(alloc);
+    for name in late {
+        names.push(GroupName::of_path(alloc, name).ok()?).ok()?;
+    }
+    let service = service(alloc, sources)?.with_late(names).ok()?;
+    let accepted = verify(alloc, service, &[]).ok()?;
+    Engine::start(alloc, accepted, 60_000).ok()
+}
+
+/// Posts the file of a scene, which the carousel has brought.
+fn arrived(alloc: Global, engine: &mut Engine, source: &Source) -> Option<()> {
+    let (name, group) = named(alloc, source)?;
+    let group = SharedGroup::new(alloc, group).ok()?;
+    engine.post(Input::Scene(name, group)).ok()
+}
+
+/// Plays: what is shown while the scene is late, and what is shown once its file has come.
+fn play_late(alloc: Global, engine: &mut Engine, scene: &Source) -> Option<Vec<u8>> {
+    let mut screen = Vec::new(alloc);
+    turn(alloc, engine, &mut screen)?;
+    arrived(alloc, engine, scene)?;
+    turn(alloc, engine, &mut screen)?;
+    Some(screen)
+}
+
 /// Whether a cell is a space before black.
 fn is_black(cell: Cell) -> bool {
     cell.scalar == 32 && cell.back == 0
@@ -128,11 +155,17 @@ fn draw_cell(alloc: Global, at: usize, cell: Cell, screen: &mut Vec<u8>) -> Opti
 /// prove.
 trait Played {
     fn screens(&mut self, alloc: Global, sources: &[Source]) -> Option<Vec<u8>>;
+
+    fn late_screens(&mut self, alloc: Global, scene: &Source) -> Option<Vec<u8>>;
 }
 
 impl Played for Engine {
     fn screens(&mut self, alloc: Global, sources: &[Source]) -> Option<Vec<u8>> {
         play(alloc, self, sources)
+    }
+
+    fn late_screens(&mut self, alloc: Global, scene: &Source) -> Option<Vec<u8>> {
+        play_late(alloc, self, scene)
     }
 }
 
@@ -143,6 +176,11 @@ fn of_played<P: Played + Drop>(
 ) -> Option<Vec<u8>> {
     let mut played = played;
     played.as_mut()?.screens(alloc, sources)
+}
+
+fn of_late<P: Played + Drop>(alloc: Global, played: Option<P>, scene: &Source) -> Option<Vec<u8>> {
+    let mut played = played;
+    played.as_mut()?.late_screens(alloc, scene)
 }
 
 static APPLICATION: &str =
@@ -195,6 +233,15 @@ static SCREENS: &str = r#"11 of 12 steps
 2 3: 32 000000 ff0000
 "#;
 
+/// The steps while the scene is late, and the steps and the cells once its file has come.
+static LATE_SCREENS: &str = r#"3 of 12 steps
+13 of 26 steps
+1 1: 32 000000 ff0000
+1 2: 32 000000 ff0000
+2 1: 32 000000 ff0000
+2 2: 32 000000 ff0000
+"#;
+
 fn first(alloc: Global) -> Option<Vec<Source>> {
     let mut sources = Vec::new(alloc);
     sources.push(file(alloc, "a", APPLICATION)?).ok()?;
@@ -207,6 +254,12 @@ fn screens(alloc: Global) -> Option<Vec<u8>> {
     of_played(alloc, start(alloc, sources.as_slice()), sources.as_slice())
 }
 
+fn late_screens(alloc: Global) -> Option<Vec<u8>> {
+    let sources = first(alloc)?;
+    let engine = start_late(alloc, sources.as_slice(), &[b"s"]);
+    of_late(alloc, engine, sources.get(1)?)
+}
+
 fn told(alloc: Global) -> Option<Vec<u8>> {
     let sources = first(alloc)?;
     longest(alloc, sources.as_slice())
@@ -216,4 +269,9 @@ fn told(alloc: Global) -> Option<Vec<u8>> {
 fn first_is_embedded(rt: HostRuntime) {
     assert!(rt; are(told(rt.alloc()), b"start 12 key 2 tick 1\n"));
     assert!(rt; are(screens(rt.alloc()), SCREENS.as_bytes()));
+}
+
+#[test]
+fn a_late_scene_is_embedded(rt: HostRuntime) {
+    assert!(rt; are(late_screens(rt.alloc()), LATE_SCREENS.as_bytes()));
 }

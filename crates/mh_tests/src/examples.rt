@@ -26,6 +26,9 @@
 /// second or the button is complete (. : ,), that the button is selected (+) and no longer is (-), highlighted
 /// (h) and no longer (l), and a key that comes to the scene (k).
 ///
+/// `first-asks` is an application that goes to the scene `p`: in `asks` red leads to the scene `s` and green to `q`; in
+/// `asks-twice` red leads to `s`, counts, leads to `q` and counts, green launches the application anew, and yellow quits.
+///
 /// The verifier refuses the following. `carrier` is an application whose variable 21 takes a text of the scene
 /// `giver` along to the scene `quiet`; `sets` one whose variable 1 is set to what is not there, and from itself;
 /// `tests` has two links that put each other to work, `quits` closes down by quitting, and `adds` is a scene that
@@ -166,6 +169,18 @@ quits: a {:Application ("~/a" 0) :OnCloseDown ( :Quit (0) ) }
 
 adds: s {:Scene ("~/s" 0) :Items ( {:Rectangle 10 :OrigBoxSize 24 32 } {:ListGroup 3 :Positions ( ( 0 0 ) ) }
 {:Link 4 :EventSource 10 :EventType IsRunning :LinkEffect ( :AddItem (3 1 10) ) } ) }
+
+first-asks: a {:Application ("~/a" 0) :OnStartUp ( :TransitionTo (("~/p" 0)) ) }
+
+asks: p {:Scene ("~/p" 0) :InputEventReg 3 :Items ( {:Link 11 :EventSource 0 :EventType UserInput
+:EventData 100 :LinkEffect ( :TransitionTo (("~/s" 0)) ) } {:Link 12 :EventSource 0 :EventType
+UserInput :EventData 101 :LinkEffect ( :TransitionTo (("~/q" 0)) ) } ) }
+
+asks-twice: p {:Scene ("~/p" 0) :InputEventReg 3 :Items ( {:IntegerVar 1 :OrigValue 0 } {:Link 11
+:EventSource 0 :EventType UserInput :EventData 100 :LinkEffect ( :TransitionTo (("~/s" 0)) :Add (1
+1) :TransitionTo (("~/q" 0)) :Add (1 1) ) } {:Link 12 :EventSource 0 :EventType UserInput :EventData
+101 :LinkEffect ( :Launch (("~/a" 0)) ) } {:Link 13 :EventSource 0 :EventType UserInput :EventData
+102 :LinkEffect ( :Quit (("~/a" 0)) ) } ) }
 
 empty: a {:Application ("~/a" 0) :Items ( ) }
 

@@ -58,6 +58,8 @@ mod handed;
 #[cfg(test)]
 mod hostile;
 #[cfg(test)]
+mod late;
+#[cfg(test)]
 mod lengths;
 #[cfg(test)]
 mod limits;

@@ -214,6 +214,7 @@ pub fn file(alloc: Global, path: &str, text: &str) -> Option<File> {
 pub fn reported(alloc: Global, files: &[File], script: &str) -> Option<Vec<u8>> {
     let options = Options {
         start: Vec::from_slice(alloc, b"a").ok()?,
+        late: None,
         lenient: false,
         mjd: DAY,
     };

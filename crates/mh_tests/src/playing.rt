@@ -41,6 +41,7 @@ fn options(alloc: Global, start: &str, lenient: bool, mjd: u32) -> Option<Option
     let start = Vec::from_slice(alloc, start.as_bytes()).ok()?;
     Some(Options {
         start,
+        late: None,
         lenient,
         mjd,
     })
@@ -63,7 +64,7 @@ pub fn play<S: Sink>(
 }
 
 /// What was written, with a last line that tells the exit status.
-fn ended(alloc: Global, written: Vec<u8>, code: u8) -> Option<Vec<u8>> {
+pub fn ended(alloc: Global, written: Vec<u8>, code: u8) -> Option<Vec<u8>> {
     let ending = format!(in alloc; "exit {code}\n").ok();
     let (mut bytes, ending) = Some(written).zip(ending)?;
     let put = bytes.extend_from_slice(ending.as_bytes()).ok();

@@ -107,6 +107,68 @@ check @a {:Application ("~/a" 0) :Items ( {:ResidentPrg 1 :Name 'XYZ'} {:Link 4 
 IsRunning :LinkEffect (:Call(1 2 ())) } ) }
 => accepted|start 5|key 1|tick 1|stream 1|engine 1|arrive 1|exit 0|"#;
 
+static HANDED: &str = r#"
+a reference that is read as a number is handed on nowhere
+check @application
+@s {:Scene ("~/s" 0) :Items ( {:ObjectRefVar 1 :OrigValue 99 } {:ObjectRefVar 2 :OrigValue 10 }
+{:Rectangle 10 :OrigBoxSize 24 32 } {:Link 5 :EventSource 0 :EventType UserInput :LinkEffect (
+:BringToFront (:IndirectRef 2) ) } {:Link 6 :EventSource 0 :EventType UserInput :LinkEffect (
+:SetVariable (2 :GInteger :IndirectRef 1) ) } ) }
+=> refused V3 s 6 1 SetVariable|config a s|object s 1|exit 1|;;
+nor is one that is read as a truth value
+check @application
+@s {:Scene ("~/s" 0) :Items ( {:ObjectRefVar 1 :OrigValue 99 } {:ObjectRefVar 2 :OrigValue 10 }
+{:Rectangle 10 :OrigBoxSize 24 32 } {:Link 5 :EventSource 0 :EventType UserInput :LinkEffect (
+:BringToFront (:IndirectRef 2) ) } {:Link 6 :EventSource 0 :EventType UserInput :LinkEffect (
+:SetVariable (2 :GBoolean :IndirectRef 1) ) } ) }
+=> refused V3 s 6 1 SetVariable|config a s|object s 1|exit 1|;;
+nor as the name of a file
+check @application
+@s {:Scene ("~/s" 0) :Items ( {:ObjectRefVar 1 :OrigValue 99 } {:ObjectRefVar 2 :OrigValue 10 }
+{:Rectangle 10 :OrigBoxSize 24 32 } {:Link 5 :EventSource 0 :EventType UserInput :LinkEffect (
+:BringToFront (:IndirectRef 2) ) } {:Link 6 :EventSource 0 :EventType UserInput :LinkEffect (
+:SetVariable (2 :GContentRef :IndirectRef 1) ) } ) }
+=> refused V3 s 6 1 SetVariable|config a s|object s 1|exit 1|;;
+one that is read as an object is
+check @application
+@s {:Scene ("~/s" 0) :Items ( {:ObjectRefVar 1 :OrigValue 99 } {:ObjectRefVar 2 :OrigValue 10 }
+{:Rectangle 10 :OrigBoxSize 24 32 } {:Link 5 :EventSource 0 :EventType UserInput :LinkEffect (
+:BringToFront (:IndirectRef 2) ) } {:Link 6 :EventSource 0 :EventType UserInput :LinkEffect (
+:SetVariable (2 :GObjectRef :IndirectRef 1) ) } ) }
+=> refused V4 s 5 1 BringToFront|config a s|object s 99|by s 1 0|by s 6 1|exit 1|;;
+a scene is not reached through what is read as octets
+check @application
+@s {:Scene ("~/s" 0) :Items ( {:ObjectRefVar 1 :OrigValue ("~/t" 0) } {:ObjectRefVar 2 :OrigValue 0 }
+{:Link 5 :EventSource 0 :EventType UserInput :LinkEffect ( :TransitionTo (:IndirectRef 2) ) } {:Link
+6 :EventSource 0 :EventType UserInput :LinkEffect ( :SetVariable (2 :GOctetString :IndirectRef 1) )
+} ) }
+@t {:Scene ("~/t" 0) :OnStartUp ( :Run (77) ) }
+=> refused V3 s 6 1 SetVariable|config a s|object s 1|exit 1|"#;
+
+static MEMBERS: &str = r#"
+of several members that are wrong the first that is written is told
+check @a {:Application ("~/a" 0) :Items ( {:TokenGroup 1 :MovementTable ( (1) ) :TokenGroupItems ( (2) (98)
+(97) (99) ) } {:Rectangle 2 :OrigBoxSize 24 32 } ) }
+=> refused V1 a 1 0 -|config a -|object a 98|exit 1|;;
+absent goes before a wrong class, though it is written behind it
+check @a {:Application ("~/a" 0) :Items ( {:TokenGroup 1 :MovementTable ( (1) ) :TokenGroupItems ( (3) (99)
+(98) ) } {:IntegerVar 3 :OrigValue 0 } ) }
+=> refused V1 a 1 0 -|config a -|object a 99|exit 1|;;
+of two of a wrong class the first is told
+check @a {:Application ("~/a" 0) :Items ( {:TokenGroup 1 :MovementTable ( (1) ) :TokenGroupItems ( (4) (3)
+) } {:IntegerVar 3 :OrigValue 0 } {:IntegerVar 4 :OrigValue 0 } ) }
+=> refused V2 a 1 0 -|config a -|object a 4|exit 1|"#;
+
+#[test]
+fn judges_what_is_handed_on(rt: HostRuntime) {
+    all_hold::<Task>(&rt, rt.alloc(), HANDED);
+}
+
+#[test]
+fn names_the_first_member(rt: HostRuntime) {
+    all_hold::<Task>(&rt, rt.alloc(), MEMBERS);
+}
+
 #[test]
 fn judges(rt: HostRuntime) {
     all_hold::<Task>(&rt, rt.alloc(), SCENES);

@@ -5,7 +5,7 @@
 //! what is explained of what is written.
 use crate::cases::{Question, all_hold, bytes};
 use crate::playing::{File, outcome, sources};
-use mh_look::{Known, Script, ways_of, why};
+use mh_look::{Known, NamedFile, ways_of, why};
 use std::alloc::Global;
 
 /// What is explained of an output, where these are the files, and this script was played.
@@ -13,12 +13,13 @@ pub fn explanation(
     alloc: Global,
     output: &[u8],
     files: &[File],
-    script: Option<Script<'_>>,
+    script: Option<NamedFile<'_>>,
 ) -> Option<Vec<u8>> {
-    let ways = ways_of(alloc, files, b"a").ok()?;
+    let ways = ways_of(alloc, files, b"a", None).ok()?;
     let known = Known {
         files,
         ways: ways.as_ref().map_or(&[], |ways| ways.as_slice()),
+        late: None,
         script,
     };
     let text = why(alloc, &known, output).ok()?;
@@ -35,7 +36,7 @@ fn script(alloc: Global, task: &str) -> Option<Vec<u8>> {
 fn told(alloc: Global, task: &str, files: &str) -> Option<Vec<u8>> {
     let output = outcome(alloc, task, files)?;
     let bytes = script(alloc, task)?;
-    let script = Script {
+    let script = NamedFile {
         name: b"script",
         bytes: bytes.as_slice(),
     };
@@ -354,18 +355,20 @@ play run||key purple|run|
 @s {:Scene ("~/s" 0) :InputEventReg 3|  :Items ( {:Rectangle 10 :OrigBoxSize 24 32 :OrigPosition 12 16
 :OrigLineWidth 0 :OrigRefFillColour '=FF=00=00=00' } ) }|
 => script 3|  It is line 3 of the script.|  script, line 3, column 1|      key
-purple|      ^^^^^^^^^^|  Cause: that line of the script is wrong.|  Mend: write `key NAME`, `tick N`,
-`stream N`, `engine N`, `file NAME HEX`,|    `step N`, `run` or `show`, one space between words; N is
-decimal digits, up|    to 4,294,967,295, behind `stream` and `engine` up to 2,147,483,647.|;;
+purple|      ^^^^^^^^^^|  Cause: that line of the script is wrong.|  Mend: write `key NAME`, `tick N`, `stream N`, `engine N`, `file NAME HEX`,|    `scene NAME`,
+`scene NAME HEX`, `step N`, `run` or `show`, one space between|    words; N is decimal digits, up to
+4,294,967,295, behind `stream` and|    `engine` up to 2,147,483,647; `scene NAME` has the name of a
+group of the|    service, and in `scene NAME HEX` the octets write a group.|;;
 a wrong line at the end
 play run|stop
 @a {:Application ("~/a" 0) :OnStartUp ( :TransitionTo (("~/s" 0)) ) }
 @s {:Scene ("~/s" 0) :InputEventReg 3|  :Items ( {:Rectangle 10 :OrigBoxSize 24 32 :OrigPosition 12 16
 :OrigLineWidth 0 :OrigRefFillColour '=FF=00=00=00' } ) }|
 => script 2|  It is line 2 of the script.|  script, line 2, column 1|      stop|      ^^^^|  Cause: that
-line of the script is wrong.|  Mend: write `key NAME`, `tick N`, `stream N`, `engine N`, `file NAME
-HEX`,|    `step N`, `run` or `show`, one space between words; N is decimal digits, up|    to
-4,294,967,295, behind `stream` and `engine` up to 2,147,483,647.|"#;
+line of the script is wrong.|  Mend: write `key NAME`, `tick N`, `stream N`, `engine N`, `file NAME HEX`,|    `scene NAME`,
+`scene NAME HEX`, `step N`, `run` or `show`, one space between|    words; N is decimal digits, up to
+4,294,967,295, behind `stream` and|    `engine` up to 2,147,483,647; `scene NAME` has the name of a
+group of the|    service, and in `scene NAME HEX` the octets write a group.|"#;
 
 static BOUNDS: &str = r#"
 a red box
@@ -577,16 +580,16 @@ service 36 s|service 34 s|service 30 s
 service, or take some away.|service 30 s|  It is told of s.|  Cause: two files have one name.|  Mend:
 rename one.|;;
 script 0|script 1|script x
-=> script 0|  It is line 0 of the script.|  Cause: that line of the script is wrong.|  Mend: write `key
-NAME`, `tick N`, `stream N`, `engine N`, `file NAME HEX`,|    `step N`, `run` or `show`, one space
-between words; N is decimal digits, up|    to 4,294,967,295, behind `stream` and `engine` up to
-2,147,483,647.|script 1|  It is line 1 of the script.|  Cause: that line of the script is wrong.|  Mend:
-write `key NAME`, `tick N`, `stream N`, `engine N`, `file NAME HEX`,|    `step N`, `run` or `show`, one
-space between words; N is decimal digits, up|    to 4,294,967,295, behind `stream` and `engine` up to
-2,147,483,647.|script x|  It is line x of the script.|  Cause: that line of the script is wrong.|  Mend:
-write `key NAME`, `tick N`, `stream N`, `engine N`, `file NAME HEX`,|    `step N`, `run` or `show`, one
-space between words; N is decimal digits, up|    to 4,294,967,295, behind `stream` and `engine` up to
-2,147,483,647.|;;
+=> script 0|  It is line 0 of the script.|  Cause: that line of the script is wrong.|  Mend: write `key NAME`, `tick N`, `stream N`, `engine N`, `file NAME HEX`,|    `scene NAME`,
+`scene NAME HEX`, `step N`, `run` or `show`, one space between|    words; N is decimal digits, up to
+4,294,967,295, behind `stream` and|    `engine` up to 2,147,483,647; `scene NAME` has the name of a
+group of the|    service, and in `scene NAME HEX` the octets write a group.|script 1|  It is line 1 of the script.|  Cause: that line of the script is wrong.|  Mend: write `key NAME`, `tick N`, `stream N`, `engine N`, `file NAME HEX`,|    `scene NAME`,
+`scene NAME HEX`, `step N`, `run` or `show`, one space between|    words; N is decimal digits, up to
+4,294,967,295, behind `stream` and|    `engine` up to 2,147,483,647; `scene NAME` has the name of a
+group of the|    service, and in `scene NAME HEX` the octets write a group.|script x|  It is line x of the script.|  Cause: that line of the script is wrong.|  Mend: write `key NAME`, `tick N`, `stream N`, `engine N`, `file NAME HEX`,|    `scene NAME`,
+`scene NAME HEX`, `step N`, `run` or `show`, one space between|    words; N is decimal digits, up to
+4,294,967,295, behind `stream` and|    `engine` up to 2,147,483,647; `scene NAME` has the name of a
+group of the|    service, and in `scene NAME HEX` the octets write a group.|;;
 fault absent Run s 9|fault absent Clear s 9
 @s {:Scene ("~/s" 0)|  :Items ({:Link 11 :EventSource 0 :EventType UserInput :LinkEffect (:Run
 (9)|     :Stop (8))} {:TokenGroup 7 :TokenGroupItems ((8))}) }|

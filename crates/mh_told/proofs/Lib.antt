@@ -1,3 +1,4 @@
 pub mod NumberLemmas
 pub mod FrameLemmas
 pub mod StretchLemmas
+pub mod LateLemmas

@@ -1,8 +1,13 @@
 -- What files are read as: a service, or the first of them that cannot be read.
-use Rattle.std.specs.Prelude.{◌≡◌, ℕ, Bool, ◌||◌, if◌then◌else◌, List, [], ◌∷◌, ◌++◌, Option, Some, None, Result, Ok, Err, Vec, map, unwrap_or}
+use Rattle.std.specs.Prelude.{◌≡◌, ℕ, ◌-◌, Bool, ◌&&◌, ◌||◌, not, if◌then◌else◌, List, [], ◌∷◌, ◌++◌, length, take, drop, Option, Some, None, Result, Ok, Err, Vec, map, unwrap_or}
+use Rattle.std.specs.List.{find}
+use Rattle.std.specs.Str.{bytes_eq}
 use Rattle.std.specs.declared.alloc.Global.{Global}
+use Rattle.bstr.specs.Text.{lines_of}
 use Rattle.mh_base.specs.Path.{is_path}
 use Rattle.mh_group.specs.declared.written.Written.{Written}
+use Rattle.mh_group.specs.Table.{is_scene}
+use Rattle.mh_model.specs.Configuration.{is_group_of}
 use Rattle.mh_model.specs.Service.{Service}
 use Rattle.mh_service.specs.Refusals.{File, Refusal as ServiceRefusal, refusal_of, for_reason, double_name}
 use Rattle.mh_service.specs.Resolved.{resolved}
@@ -73,10 +78,39 @@ unless_refused None x = Ok x
 unless_refused (Some r) x = Err (unserviceable r)
 
 unfoldable pub service_of : List ℕ → List File → Result Service Unplayable
-service_of start groups = unless_refused (refusal_for start groups) (record { groups = map resolved groups; start = start; programs = [] })
+service_of start groups = unless_refused (refusal_for start groups) (record { groups = map resolved groups; start = start; programs = []; files = groups; late = [] })
 
-unfoldable pub service_read : List ℕ → List Source → Result Service Unplayable
-service_read start files = read_files [] files >>= service_of start
+-- Late scenes. The file that names them has a name a line.
+
+-- a line without the line feed that ends it
+abbrev pub without_feed : List ℕ → List ℕ
+without_feed line = if bytes_eq (drop (length line - 1) line) (10 ∷ []) then take (length line - 1) line else line
+
+-- its lines, of which the last may lack the line feed; no bytes are no line
+abbrev pub late_lines : List ℕ → List (List ℕ)
+late_lines bytes = map without_feed (lines_of bytes)
+
+-- no scene of the service has this line as its name
+abbrev pub names_no_scene : Service → List ℕ → Bool
+names_no_scene service line = not (is_path line && is_group_of is_scene service line)
+
+-- 37: the line that is told names no scene
+abbrev pub unless_no_scene : {A : Type 0} → Option (List ℕ) → A → Result A Unplayable
+unless_no_scene None x = Ok x
+unless_no_scene (Some line) x = Err (unplayable.Service 37 line)
+
+-- the service in which these scenes come late, unless one of them is none
+unfoldable pub with_names : List (List ℕ) → Service → Result Service Unplayable
+with_names names service = unless_no_scene (find (names_no_scene service) names) (record service { late = names })
+
+-- the service in which the scenes that a file names come late; without a file none does
+abbrev pub with_late : Option (List ℕ) → Service → Result Service Unplayable
+with_late None service = Ok service
+with_late (Some bytes) service = with_names (late_lines bytes) service
+
+-- the service of the groups among the files, with its start and its late scenes, or the first thing that is in the way
+unfoldable pub service_read : List ℕ → Option (List ℕ) → List Source → Result Service Unplayable
+service_read start late files = read_files [] files >>= service_of start >>= with_late late
 
 -- Answers of functions.
 

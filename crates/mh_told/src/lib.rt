@@ -5,6 +5,7 @@
 //! else. What prints a report and what reads and explains one both stand on these, and nothing here plays.
 #![tactic(auto)]
 
+mod late;
 pub mod reading;
 pub mod row;
 pub mod text;

@@ -3,6 +3,7 @@
 //! Promise: each function answers what the definition of its name in `specs/Reading` says. Where the files come
 //! from is left to the caller, and so is what the service is for.
 ghost use Rattle.std.specs.Prelude.{◌≡◌, [], Ok, map, IfOk, IfErr, OnOk};
+ghost use Rattle.std.specs.Option.{option_copied};
 ghost use Rattle.mh_service.specs.Refusals.{refusal_of};
 ghost use Rattle.mh_service.specs.Resolved.{resolved};
 ghost use Rattle.mh_service.specs.Numbers.{why_number};
@@ -10,6 +11,7 @@ ghost use Rattle.mh_text.specs.Reading.{read};
 ghost use Rattle.mh_codec.specs.Reading.{read as read_octets_lem};
 ghost use Rattle.mh_told.specs.Reading.{with_file, is_group_file, group_in, spelled, read_files, service_of, service_read, named, unless_refused, unstartable_for, unserviceable, Gives, Fails};
 
+use crate::late::with_late;
 use crate::unplayable::Unplayable;
 use mh_base::{GroupName, NameError, Octets};
 use mh_codec::{CodecError, decode_group};
@@ -18,18 +20,21 @@ use mh_service::{Service, ServiceError, Why, double_name};
 use mh_text::{TextError, read_group};
 use std::alloc::{AllocError, Global};
 
-/// The service of the groups among the files, which begins with the group that `start` names; or the first
-/// thing that is in the way, memory apart. A file that does not begin as a group does is passed over.
+/// The service of the groups among the files, which begins with the group that `start` names, and in which the
+/// scenes come late that `late` names, a name a line; or the first thing that is in the way, memory apart. A
+/// file that does not begin as a group does is passed over.
 #[tactic(auto, unfolding(crate::specs::Reading::service_read))]
 pub fn read_service(
     alloc: Global,
     files: &[(GroupName, Vec<u8>)],
     start: &[u8],
+    late: Option<&[u8]>,
 ) -> Result<Service, Unplayable>
-    ensures { Gives (λ service. service) result (service_read start.now files.now) }
+    ensures { Gives (λ service. service) result (service_read start.now (option_copied late.entry) files.now) }
 {
     let groups = read_files(alloc, files)?;
-    service_of(alloc, groups, start)
+    let service = service_of(alloc, groups, start)?;
+    with_late(alloc, service, late)
 }
 
 /// The groups of the files that are groups, in order.
@@ -133,7 +138,7 @@ fn started_service(
     groups: Vec<(GroupName, Group)>,
     start: GroupName,
 ) -> Result<Service, Unplayable>
-    ensures { Gives (λ service. service) result (unless_refused (refusal_of start groups.items) (record { groups = map resolved groups.items; start = start; programs = [] })) }
+    ensures { Gives (λ service. service) result (unless_refused (refusal_of start groups.items) (record { groups = map resolved groups.items; start = start; programs = []; files = groups.items; late = [] })) }
 {
     match Service::of_files(alloc, groups, start) {
         Ok(service) => Ok(service),

@@ -12,4 +12,5 @@ pub mod ProgramLemmas
 pub mod ShownPlaceLemmas
 pub mod ShownWrongLemmas
 pub mod ShownChainLemmas
+pub mod ShownArrowLemmas
 pub mod ShownLemmas

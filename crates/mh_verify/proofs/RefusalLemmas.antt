@@ -1,7 +1,9 @@
 -- A configuration has no refusals exactly where it is free and manned; so what is found says what the contract says.
-use Rattle.std.proofs.Common.{◌≡◌, inl, inr, Bool, true, false, ◌&&◌, List, [], ◌∷◌, Some, None, refl, sym, ◌∙◌, subst}
-use Rattle.std.specs.List.{Contains, list_all}
+use Rattle.std.proofs.Common.{◌≡◌, inl, inr, Bool, true, false, ◌&&◌, List, [], ◌∷◌, Option, Some, None, refl, sym, ◌∙◌, subst}
+use Rattle.std.specs.List.{Contains, find, flat_map, list_all}
+use Rattle.std.specs.Option.{option_or}
 use Rattle.std.proofs.lemmas.List.Elements.{Contains-append_cases}
+use Rattle.std.proofs.lemmas.List.Folds.{find-append}
 use Rattle.mh_model.specs.declared.config.Config.{Config}
 use Rattle.mh_model.specs.Service.{Service}
 use Rattle.mh_model.specs.Configuration.{is_service, present}
@@ -13,13 +15,14 @@ use Rattle.mh_laws.proofs.RefusedLemmas.{refused_action, refused_part}
 use Rattle.mh_flow.specs.Sites.{Site, sites_of}
 use Rattle.mh_flow.proofs.ContainsLemmas.{nil_parts, no_member, here, behind, in_joined, joined_from, joined_none, all_where_none, empty_joined}
 use Rattle.mh_flow.proofs.ConfigLemmas.{member_of, among_of}
+use Rattle.mh_flow.proofs.PlaceLemmas.{found_member}
 use Rattle.mh_flow.proofs.SiteLemmas.{all_active}
 use Rattle.mh_model.proofs.ListLemmas.{both_empty}
 use Rattle.mh_verify.specs.declared.refusal.Found.{Found}
 use Rattle.mh_verify.specs.Refusals.{wrong_at, refusals_of_members, refusals_of_effects, refusals_in, all_refusals, RefusedIsNot}
 use Rattle.mh_verify.specs.Order.{IsFirst}
 use Rattle.mh_verify.specs.Least.{least_of}
-use Rattle.mh_verify.proofs.OrderLemmas.{first_of, none_of}
+use Rattle.mh_verify.proofs.OrderLemmas.{first_of, is_tied, none_of}
 use Rattle.mh_verify.proofs.NamedLemmas.{unrefused_where_right, right_where_unrefused, config_of_wrong}
 use Rattle.mh_verify.proofs.MannedLemmas.{none_where_manned, manned_where_none, config_of_members}
 
@@ -75,15 +78,26 @@ acceptable_by s w is k e =
       manned = λ c m. manned_where_none s w c (none c m).members;
     }
 
+-- what is found in lists that are joined is found in one of them
+found_joined : {X Y : Type 0} (f : X → List Y) (p : Y → Bool) (xs : List X) (y : Y) → find p (flat_map f xs) ≡ Some y → (x : X) × Contains xs x × (find p (f x) ≡ Some y)
+found_joined f p [] y e = absurd cc
+found_joined {X} {Y} f p (x ∷ xs) y e = by (find p (f x)) refl (sym (find-append p (f x) (flat_map f xs)) ∙ e) (found_joined f p xs y)
+  where
+    by : (o : Option Y) → find p (f x) ≡ o → option_or o (find p (flat_map f xs)) ≡ Some y → (find p (flat_map f xs) ≡ Some y → (z : X) × Contains xs z × (find p (f z) ≡ Some y)) → (z : X) × Contains (x ∷ xs) z × (find p (f z) ≡ Some y)
+    by (Some z) is e ih = (x, here x xs, is ∙ e)
+    by None is e ih = let found = ih e in (found.0, behind x xs found.0 found.1, found.2)
+
 pub first_found : (s : Service) (w : Flow) (x : Found) → least_of None (all_refusals s w) ≡ Some x → IsFirst s w x
 first_found s w x e =
     let f = first_of (all_refusals s w) x e in
-    let from = joined_from (refusals_in s w) w.configs x f.one_of in
-    let same : x.config ≡ from.0 = config_of s w from.0 x from.2 in
+    let from = found_joined (refusals_in s w) (is_tied x) w.configs x f.written in
+    let there = found_member (is_tied x) (refusals_in s w from.0) x from.2 in
+    let same : x.config ≡ from.0 = config_of s w from.0 x there.1 in
     record {
       among = subst (λ (c : Config). reached w c ≡ true) (sym same) (among_of w.configs from.0 from.1);
-      stands = subst (λ (c : Config). Contains (refusals_in s w c) x) (sym same) from.2;
+      stands = subst (λ (c : Config). Contains (refusals_in s w c) x) (sym same) there.1;
       first = λ c y r m. f.others y (in_joined (refusals_in s w) w.configs c y (member_of w.configs c r) m);
+      written = subst (λ (c : Config). find (is_tied x) (refusals_in s w c) ≡ Some x) (sym same) from.2;
     }
 
 -- What is refused is wrong in each flow.

@@ -7,10 +7,7 @@ use Rattle.std.proofs.lemmas.Bool.Decides.{Decides-eqb}
 use Rattle.mh_base.specs.declared.obj_ref.ObjRef.{ObjRef}
 use Rattle.mh_base.specs.declared.value.Kind.{Kind}
 use Rattle.mh_base.specs.declared.value.Value.TheVariants as value
-use Rattle.mh_group.specs.declared.action_name.ActionName.{ActionName}
-use Rattle.mh_group.specs.declared.action_name.ActionName.TheVariants as action
 use Rattle.mh_group.specs.Table.{admits, is_list_group}
-use Rattle.mh_model.specs.declared.act.Argument.{Argument}
 use Rattle.mh_model.specs.declared.act.Argument.TheVariants as argument
 use Rattle.mh_model.specs.declared.config.Config.{Config}
 use Rattle.mh_model.specs.declared.object.Fixed.{Fixed}
@@ -21,18 +18,19 @@ use Rattle.mh_model.specs.Reference.{same_key}
 use Rattle.mh_model.specs.Service.{Service, group_parts}
 use Rattle.mh_model.proofs.ListLemmas.{some_same}
 use Rattle.mh_laws.specs.Describing as saying
-use Rattle.mh_laws.specs.Describing.{Says, says}
-use Rattle.mh_laws.specs.Flow.{fills, is_given, is_holder, is_list_in, is_reference_in, refers}
+use Rattle.mh_laws.specs.Describing.{says}
+use Rattle.mh_laws.specs.Flow.{fills, is_given, is_holder, is_list_in, is_reference_in, reads_reference, refers}
 use Rattle.mh_laws.specs.Least as least
 use Rattle.mh_laws.specs.Least.{Comes, Derived, Fact}
 use Rattle.mh_flow.specs.declared.link.Link.{Link}
 use Rattle.mh_flow.specs.Chains.{Brings, IsDone, filled, first_link, original, passed, read, site_link, written}
-use Rattle.mh_flow.specs.Chart.{argument_of, firsts, handed_argument}
+use Rattle.mh_flow.specs.Chart.{firsts, handed_argument}
 use Rattle.mh_flow.specs.Equipment.{equipped}
 use Rattle.mh_flow.specs.Sites.{Site, sites, sites_of}
-use Rattle.mh_flow.proofs.ContainsLemmas.{both, halves, in_joined, no_member}
+use Rattle.mh_flow.proofs.ChainStepLemmas.{says_handed}
+use Rattle.mh_flow.proofs.ContainsLemmas.{both, halves, in_joined}
 use Rattle.mh_flow.proofs.EquippedLemmas.{service_itself}
-use Rattle.mh_flow.proofs.PlaceLemmas.{any_member, lone}
+use Rattle.mh_flow.proofs.PlaceLemmas.{any_member}
 use Rattle.mh_flow.proofs.PresentLemmas.{passing}
 use Rattle.mh_verify.specs.Evidence.{answers, begins, brings, can_be, goes_on, is_first_at, is_link_at, is_read, is_written, last_written, leads_on, reads, sites_at, writes}
 use Rattle.mh_verify.proofs.CandidateLemmas.{key_itself}
@@ -92,19 +90,10 @@ can_come v _ (least.written c q) = tt
 can_come v _ (least.read c w q k refers d) = tt
 can_come v _ (least.original_value c p q d among refers e) = tt
 can_come v _ (least.original_item c p q d among list e) = tt
-can_come v _ (least.given c a n x r q d active says_it e comes takes hands) = tt
+can_come v _ (least.given c a n x r q d active says_it e comes takes read_so hands) = tt
 can_come v _ (least.filled c a r x q d active fill comes list receives refers held) = tt
 can_come v _ (least.led c a r d h active comes e) = tt
 can_come v _ (least.passed c a r d g p q h active comes e scene among held) = tt
-
-abbrev number_handed : Says → ℕ
-number_handed (saying.Hands n) = n
-
--- an action hands on one argument
-handed_is : (a : ActionName) (xs : List Argument) (n : ℕ) (x : Argument) → Contains (says a) (saying.Hands n) → slice_get xs n ≡ Some x → argument_of (says a) xs ≡ Some x
-handed_is action.SetVariable xs n x m e = ap (λ (h : Says). slice_get xs (number_handed h)) (lone (saying.Hands 0) (saying.Hands n) m) ∙ e
-handed_is action.AddItem xs n x m e = ap (λ (h : Says). slice_get xs (number_handed h)) (lone (saying.Hands 1) (saying.Hands n) m) ∙ e
-handed_is _ xs n x m e = absurd (no_member (saying.Hands n) m)
 
 later : (n : ℕ) → 1 ≤ n → (n == 0) ≡ false
 later n h = by (n == 0) refl
@@ -154,7 +143,7 @@ module _ (s : Service) (programs : List Signature) (good : is_service s ≡ true
       let first : Bool = list_any (λ (p : Fixed). is_first_at (site_link x r) p && list_any (same_key q) (firsts p)) (group_parts s x.key.group) in
       let test : Site → Bool = λ y. writes s y r && is_written q (handed_argument y.act) in
       let named : is_written q (handed_argument x.act) ≡ true =
-      ap (is_written q) (handed_is x.act.name x.act.arguments n (argument.Direct (value.Object q)) hands stands) ∙ key_itself q in
+      ap (is_written q) (says_handed x.act n (argument.Direct (value.Object q)) hands stands refl) ∙ key_itself q in
       let some : list_any test (sites_at s (site_link x r)) ≡ true =
       any_member test (sites_at s (site_link x r)) x (both (writes s x r) (is_written q (handed_argument x.act)) (writes_it c x r done takes) named) (at_place c x r done.site) in
       record {
@@ -168,10 +157,10 @@ module _ (s : Service) (programs : List Signature) (good : is_service s ≡ true
   goes_by y c x r there so =
       any_member (λ (z : Site). (writes s z r && reads s z y) || answers s z y r) (sites_at s (site_link x r)) x so (at_place c x r there)
 
-  read_goes : (c : Config) (x : Site) (r y : ObjRef) (n : ℕ) (k : Option Kind) → IsDone whole c x r → Contains (says x.act.name) (saying.Hands n) → slice_get x.act.arguments n ≡ Some (argument.Through y k) → is_given (present whole c) x.act.name r ≡ true → is_reference_in (present whole c) y ≡ true → goes_on s y (site_link x r) ≡ true
-  read_goes c x r y n k done hands stands takes is =
+  read_goes : (c : Config) (x : Site) (r y : ObjRef) (n : ℕ) (k : Option Kind) → IsDone whole c x r → Contains (says x.act.name) (saying.Hands n) → slice_get x.act.arguments n ≡ Some (argument.Through y k) → is_given (present whole c) x.act.name r ≡ true → reads_reference (argument.Through y k) x.act.name ≡ true → is_reference_in (present whole c) y ≡ true → goes_on s y (site_link x r) ≡ true
+  read_goes c x r y n k done hands stands takes read_so is =
       let named : is_read y (handed_argument x.act) ≡ true =
-      ap (is_read y) (handed_is x.act.name x.act.arguments n (argument.Through y k) hands stands) ∙ key_itself y in
+      ap (is_read y) (says_handed x.act n (argument.Through y k) hands stands read_so) ∙ key_itself y in
       goes_by y c x r done.site
       (or_left (writes s x r && reads s x y) (answers s x y r)
       (both (writes s x r) (reads s x y) (writes_it c x r done takes)
@@ -191,8 +180,8 @@ module _ (s : Service) (programs : List Signature) (good : is_service s ≡ true
   pub brought : (ls : List Link) (c : Config) (r : ObjRef) → Brings whole q ls c r → IsBrought s q ls r
   brought _ _ _ (original c p reached there first) = original_brought c p there first
   brought _ _ _ (written c x r n done hands stands takes) = written_brought c x r n done hands stands takes
-  brought _ _ _ (read ls c x r y n k done hands stands takes is b) =
-      brought_on s q y ls (site_link x r) (brought ls c y b) (read_goes c x r y n k done hands stands takes is)
+  brought _ _ _ (read ls c x r y n k done hands stands takes read_so is b) =
+      brought_on s q y ls (site_link x r) (brought ls c y b) (read_goes c x r y n k done hands stands takes read_so is)
   brought _ _ _ (filled ls c x r y done fill list receives is b) =
       brought_on s q r ls (site_link x y) (brought ls c r b) (filled_goes c x r y done fill list receives is)
   brought _ _ _ (passed ls c x r d g p done leads scene part b) = brought ls c p.key b

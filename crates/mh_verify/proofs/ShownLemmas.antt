@@ -1,6 +1,6 @@
 -- Whatever a refusal says but that memory was refused, it shows.
 use Rattle.std.proofs.Common.{◌≡◌, ◌⊎◌, inl, inr, ℕ, ◌≤◌, ◌==◌, Bool, true, false, ◌&&◌, List, [], ◌∷◌, filter, Option, Some, None, refl, ap, sym, ◌∙◌, subst, arith}
-use Rattle.std.specs.List.{Contains, flat_map, list_any}
+use Rattle.std.specs.List.{Contains, flat_map, list_all, list_any}
 use Rattle.std.specs.Option.{is_some, option_eq, option_map, option_to_list}
 use Rattle.std.specs.Str.{bytes_eq}
 use Rattle.std.proofs.lemmas.Bool.Decides.{Decides-eqb}
@@ -19,6 +19,7 @@ use Rattle.mh_model.specs.Reference.{same_key}
 use Rattle.mh_model.specs.Service.{Service}
 use Rattle.mh_laws.specs.Active.{known_with}
 use Rattle.mh_laws.specs.Flow.{Flow, Sets}
+use Rattle.mh_laws.specs.Least.{IsLeast}
 use Rattle.mh_flow.specs.Equipment.{equipped}
 use Rattle.mh_flow.specs.Sites.{Site, sites_of}
 use Rattle.mh_flow.proofs.ChainLemmas.{mapped_from}
@@ -26,20 +27,21 @@ use Rattle.mh_flow.proofs.ContainsLemmas.{both, first_or_behind, halves, in_join
 use Rattle.mh_flow.proofs.EquippedLemmas.{keys_itself, service_itself}
 use Rattle.mh_flow.proofs.PlaceLemmas.{any_member}
 use Rattle.mh_flow.proofs.PresentLemmas.{passing, passing_from}
-use Rattle.mh_layers.specs.Arrows.{same_action}
+use Rattle.mh_layers.specs.Arrows.{goes_round, same_action}
 use Rattle.mh_verify.specs.declared.coming.Coming.{Coming}
 use Rattle.mh_verify.specs.declared.refusal.Found.{Found}
 use Rattle.mh_verify.specs.declared.refusal.Place.{Place}
 use Rattle.mh_verify.specs.declared.refusal.Refusal.{Refusal}
 use Rattle.mh_verify.specs.declared.refusal.RefusalKind.{RefusalKind}
 use Rattle.mh_verify.specs.declared.refusal.RefusalKind.TheVariants as kind
-use Rattle.mh_verify.specs.Evidence.{Claim, IsShown, all_have, brings, evidence_of, granted, is_claimed, is_through, is_wrong, last_written, wrongs_named}
+use Rattle.mh_verify.specs.Evidence.{Claim, IsShown, all_have, brings, evidence_of, granted, is_arrow_of, is_claimed, is_configuration, is_through, is_wrong, last_written, shows, wrongs_named}
 use Rattle.mh_verify.specs.Kinds.{kind_number, kind_of, reason_number}
 use Rattle.mh_verify.specs.Naming.{IsNamed, IsNamedAs, IsSoonest, IsWritten, IsWrongToo, is_at, is_part_at, is_site_at, wrongs_at}
 use Rattle.mh_verify.specs.Order.{IsFirst, IsTold, refusal_of}
 use Rattle.mh_verify.specs.Refusals.{found_at, found_of_part, kind_for, part_refused, part_wrongs, refusals_of_effects, refusals_of_members, wrong_at}
 use Rattle.mh_verify.proofs.CandidateLemmas.{at_itself, found_there, key_itself}
 use Rattle.mh_verify.proofs.ProgramLemmas.{present_same, round_same}
+use Rattle.mh_verify.proofs.ShownArrowLemmas.{arrows_are, reached_is}
 use Rattle.mh_verify.proofs.ShownChainLemmas.{brought}
 use Rattle.mh_verify.proofs.ShownPlaceLemmas.{one_site, site_of}
 use Rattle.mh_verify.proofs.ShownWrongLemmas.{IsGranted, action_granted, part_granted}
@@ -237,29 +239,37 @@ no_cycle reason.TimerHeld held e = cc
 
 -- THE FIRST REFUSAL
 
-module _ (s : Service) (programs : List Signature) (good : is_service s ≡ true) (keys : has_keys s ≡ true) (w : Flow) (x : Found) (k : Coming) (first : IsFirst (equipped s programs) w x) where
+module _ (s : Service) (programs : List Signature) (good : is_service s ≡ true) (keys : has_keys s ≡ true) (w : Flow) (least_flow : IsLeast (equipped s programs) w) (x : Found) (k : Coming) (first : IsFirst (equipped s programs) w x) where
   abbrev Whole : Service
   Whole = equipped s programs
 
+  abbrev Said : Refusal
+  Said = refusal_of s x k
+
+  -- what is wrong with the reference that is named is shown in the configuration
+  shown_there : (holder : Option ObjRef) → IsWrongToo Whole w x k.at → (x.kind ≡ kind.WrongCall → ⊥) → is_through holder x.through ≡ true → shows Said holder x.place x.config k.at ≡ true
+  shown_there holder too other through =
+      both (is_configuration s x.config) _ (reached_is s programs good w least_flow x.config first.among)
+      (claim_shown s programs w x k.at holder good keys first too other through)
+
   -- where a reference is written at its place
-  written_shown : IsWritten x k → (x.kind ≡ kind.WrongCall → ⊥) → is_wrong s x.config x.place x.action (record { kind = x.kind; at = k.at; holder = None }) ≡ true
+  written_shown : IsWritten x k → (x.kind ≡ kind.WrongCall → ⊥) → shows Said None x.place x.config k.at ≡ true
   written_shown written other =
-      claim_shown s programs w x k.at None good keys first (subst (IsWrongToo Whole w x) (sym written.at) (found_there Whole w x first)) other refl
+      shown_there None (subst (IsWrongToo Whole w x) (sym written.at) (found_there Whole w x first)) other refl
 
   -- where a variable or a list holds it
-  held_shown : IsSoonest Whole w x k → (x.kind ≡ kind.WrongCall → ⊥) → (brings s k.at k.chain && is_wrong s x.config x.place x.action (record { kind = x.kind; at = k.at; holder = last_written k.chain })) ≡ true
+  held_shown : IsSoonest Whole w x k → (x.kind ≡ kind.WrongCall → ⊥) → (brings s k.at k.chain && shows Said (last_written k.chain) x.place x.config k.at) ≡ true
   held_shown soonest other =
       let chain = brought s programs good k.at k.chain x.config soonest.holder soonest.chain.brings in
       let itself : is_through (Some soonest.holder) x.through ≡ true =
       subst (λ (o : Option ObjRef). is_through (Some soonest.holder) o ≡ true) (sym soonest.through) (key_itself soonest.holder) in
       let through : is_through (last_written k.chain) x.through ≡ true = subst (λ (o : Option ObjRef). is_through o x.through ≡ true) (sym chain.last) itself in
-      both (brings s k.at k.chain) _ chain.brings
-      (claim_shown s programs w x k.at (last_written k.chain) good keys first soonest.wrong other through)
+      both (brings s k.at k.chain) _ chain.brings (shown_there (last_written k.chain) soonest.wrong other through)
 
-  first_shown : IsNamed Whole w x k → IsShown (refusal_of s x k)
+  first_shown : IsNamed Whole w x k → IsShown Said
   first_shown named = by x.kind refl named
     where
-      by : (n : RefusalKind) → x.kind ≡ n → IsNamedAs n Whole w x k → evidence_of n (refusal_of s x k) ≡ is_some (kind_number n)
+      by : (n : RefusalKind) → x.kind ≡ n → IsNamedAs n Whole w x k → evidence_of n Said ≡ is_some (kind_number n)
       by kind.AbsentObject e is = written_shown is (λ c. cc)
       by kind.WrongClass e is = written_shown is (λ c. cc)
       by kind.WrongKind e is = written_shown is (λ c. cc)
@@ -275,8 +285,12 @@ module _ (s : Service) (programs : List Signature) (good : is_service s ≡ true
 
 pub told_is_shown : (s : Service) (programs : List Signature) (r : Refusal) → is_service s ≡ true → has_keys s ≡ true → IsTold s programs r → IsShown r
 told_is_shown s programs r good keys (inl (inl names)) =
-    subst IsShown (sym names.names) (first_shown s programs good keys names.flow names.found names.coming names.first names.named)
+    subst IsShown (sym names.names) (first_shown s programs good keys names.flow names.least names.found names.coming names.first names.named)
 told_is_shown s programs r good keys (inl (inr (inl names))) =
-    subst IsShown (sym names.names) (sym (round_same s programs (names.first ∷ names.behind)) ∙ names.cycle.round)
+    let arrows = names.first ∷ names.behind in
+    subst IsShown (sym names.names)
+    (both (list_all (is_arrow_of s) arrows) (goes_round s arrows)
+    (arrows_are s programs good names.flow names.least keys arrows names.cycle.granted)
+    (sym (round_same s programs arrows) ∙ names.cycle.round))
 told_is_shown s programs r good keys (inl (inr (inr names))) = subst IsShown (sym names.names) refl
 told_is_shown s programs r good keys (inr none) = subst IsShown (sym none) refl

@@ -1,11 +1,12 @@
--- Evidence: what a refusal carries shows it. Nothing is looked at but the refusal, with its service; that configurations are
--- reached, and to what variables refer and which items lists have, is granted.
-use Rattle.std.specs.Prelude.{◌≡◌, ℕ, Bool, true, false, ◌&&◌, ◌||◌, ◌==◌, if◌then◌else◌, List, [], ◌∷◌, map, filter, Option, Some, None}
-use Rattle.std.specs.List.{flat_map, list_any}
+-- Evidence: what a refusal carries shows it. Nothing is looked at but the refusal, with its service; that configurations of the
+-- service are reached, and to what variables refer and which items lists have, is granted.
+use Rattle.std.specs.Prelude.{◌≡◌, Bool, true, false, ◌&&◌, ◌||◌, ◌==◌, if◌then◌else◌, List, [], ◌∷◌, map, filter, Option, Some, None}
+use Rattle.std.specs.List.{flat_map, list_all, list_any}
 use Rattle.std.specs.Option.{is_some, option_eq, option_map_or}
 use Rattle.mh_base.specs.declared.obj_ref.ObjRef.{ObjRef}
 use Rattle.mh_base.specs.declared.value.Value.TheVariants as value
 use Rattle.mh_group.specs.declared.action_name.ActionName.{ActionName}
+use Rattle.mh_group.specs.Table.{is_application, is_scene}
 use Rattle.mh_model.specs.declared.act.Argument.{Argument}
 use Rattle.mh_model.specs.declared.act.Argument.TheVariants as argument
 use Rattle.mh_model.specs.declared.act.Target.{Target}
@@ -13,7 +14,7 @@ use Rattle.mh_model.specs.declared.act.Target.TheVariants as target
 use Rattle.mh_model.specs.declared.config.Config.{Config}
 use Rattle.mh_model.specs.declared.object.Fixed.{Fixed}
 use Rattle.mh_model.specs.Arguments.{receivers}
-use Rattle.mh_model.specs.Configuration.{present}
+use Rattle.mh_model.specs.Configuration.{is_group_of, present}
 use Rattle.mh_model.specs.Faults.{Wrong, wrongs}
 use Rattle.mh_model.specs.Reference.{same_key}
 use Rattle.mh_model.specs.Service.{Service, group_parts}
@@ -22,6 +23,9 @@ use Rattle.mh_laws.specs.Flow.{Sets, fills, is_given, is_list_in, is_reference_i
 use Rattle.mh_flow.specs.declared.link.Link.{Link}
 use Rattle.mh_flow.specs.Chart.{firsts, handed_argument}
 use Rattle.mh_flow.specs.Sites.{Site, sites, sites_of}
+use Rattle.mh_flow.specs.Solved.{is_holder_in}
+use Rattle.mh_layers.specs.declared.arrow.Arrow.{Arrow}
+use Rattle.mh_layers.specs.declared.arrow.Held.{Held}
 use Rattle.mh_layers.specs.Arrows.{goes_round, same_action}
 use Rattle.mh_verify.specs.declared.refusal.Place.{Place}
 use Rattle.mh_verify.specs.declared.refusal.Refusal.{Refusal}
@@ -30,6 +34,10 @@ use Rattle.mh_verify.specs.declared.refusal.RefusalKind.TheVariants as kind
 use Rattle.mh_verify.specs.Kinds.{kind_number}
 use Rattle.mh_verify.specs.Naming.{is_part_at, is_site_at}
 use Rattle.mh_verify.specs.Refusals.{kind_for, part_wrongs}
+
+-- CONFIGURATIONS: an application with one of the scenes, or with none
+abbrev pub is_configuration : Service → Config → Bool
+is_configuration s c = is_group_of is_application s c.app && option_map_or (is_group_of is_scene s) c.scene true
 
 -- WHAT IS SAID TO BE WRONG: V1 to V5 and V7
 
@@ -134,11 +142,22 @@ last_written [] = None
 last_written (l ∷ []) = Some l.written
 last_written (l ∷ m ∷ ls) = last_written (m ∷ ls)
 
+-- ARROWS: V6
+
+-- what is granted is held by a variable of references, or by a list
+abbrev pub is_by_holder : Service → Held → Bool
+is_by_holder s h = is_holder_in (group_parts s h.by.group) h.by
+
+-- the cause is of a configuration, and all that is granted is of variables of references and of lists
+abbrev pub is_arrow_of : Service → Arrow → Bool
+is_arrow_of s a = is_configuration s a.cause.config && list_all (is_by_holder s) a.held
+
 -- EVIDENCE
 
 -- a claim about a place in a configuration
 abbrev pub shows : Refusal → Option ObjRef → Place → Config → ObjRef → Bool
-shows r holder p c q = is_wrong r.service c p r.action (record { kind = r.kind; at = q; holder = holder })
+shows r holder p c q =
+    is_configuration r.service c && is_wrong r.service c p r.action (record { kind = r.kind; at = q; holder = holder })
 
 -- the refusal names all that it takes, and it is so
 abbrev pub shows_wrong : Refusal → Option ObjRef → Bool
@@ -149,6 +168,10 @@ shows_wrong r holder =
 abbrev pub shows_held : Refusal → Bool
 shows_held r = option_map_or (λ q. brings r.service q r.chain) r.object false && shows_wrong r (last_written r.chain)
 
+-- its arrows are of the service, each leads to the next, and the last to the first
+abbrev pub shows_cycle : Refusal → Bool
+shows_cycle r = list_all (is_arrow_of r.service) r.cycle && goes_round r.service r.cycle
+
 -- the evidence that a refusal of this kind carries
 abbrev pub evidence_of : RefusalKind → Refusal → Bool
 evidence_of kind.AbsentObject r = shows_wrong r None
@@ -156,7 +179,7 @@ evidence_of kind.WrongClass r = shows_wrong r None
 evidence_of kind.WrongKind r = shows_wrong r None
 evidence_of kind.HeldAbsent r = shows_held r
 evidence_of kind.HeldWrongClass r = shows_held r
-evidence_of kind.Cycle r = goes_round r.service r.cycle
+evidence_of kind.Cycle r = shows_cycle r
 evidence_of kind.TimerThroughVariable r = shows_wrong r None
 evidence_of (kind.TooManySteps k) r = true
 evidence_of kind.WrongCall r = true

@@ -2,10 +2,10 @@
 -- then the first configuration, by name of the application and of the scene, no scene before any.
 use Rattle.std.specs.Prelude.{◌≡◌, ℕ, Bool, true, false, List, [], ◌∷◌, Some, None, ◌⊎◌}
 use Rattle.std.specs.declared.cmp.Ordering.{Ordering}
-use Rattle.std.specs.Ordering.{is_lt, nat_cmp, on, then_cmp}
+use Rattle.std.specs.Ordering.{is_eq, is_lt, nat_cmp, on, then_cmp}
 use Rattle.std.specs.Option.{option_cmp}
 use Rattle.std.specs.Cmp.Lexicographic.{slice_cmp}
-use Rattle.std.specs.List.{Contains}
+use Rattle.std.specs.List.{Contains, find}
 use Rattle.mh_model.specs.declared.config.Config.{Config}
 use Rattle.mh_model.specs.declared.program.Signature.{Signature}
 use Rattle.mh_model.specs.Service.{Service}
@@ -48,6 +48,8 @@ pub record IsFirst (s : Service) (w : Flow) (x : Found) : Type 0 where
   pub among : reached w x.config ≡ true
   pub stands : Contains (refusals_in s w x.config) x
   pub first : (c : Config) (y : Found) → reached w c ≡ true → Contains (refusals_in s w c) y → is_before y x ≡ false
+  -- and of those that the order does not tell apart, as several members of one group, it is the first that is written
+  pub written : find (λ y. is_eq (order x y)) (refusals_in s w x.config) ≡ Some x
 
 -- the refusal says this of the service, with the reference that came so
 abbrev pub refusal_of : Service → Found → Coming → Refusal

@@ -22,7 +22,10 @@ fn main(rt: HostRuntime) -> ExitCode {
 
 /// Does what the command line asks for, and answers the exit status.
 fn status_of<R: Runtime + AllocGlobal>(rt: &R) -> io::Result<u8> {
-    let words = env::args(rt)?.collect::<Vec<String>>(rt.alloc())?;
+    let Some(words) = words_of(rt)? else {
+        eprintln!(rt; "redlook: a word of the command line is not UTF-8")?;
+        return Ok(REFUSED);
+    };
     let task = match line_of(rt.alloc(), words.as_slice()) {
         Ok(task) => task,
         Err(CommandLineError::NoMemory) => return Ok(FAILED),
@@ -39,5 +42,14 @@ fn status_of<R: Runtime + AllocGlobal>(rt: &R) -> io::Result<u8> {
             eprintln!(rt; "redlook: {failure}")?;
             Ok(REFUSED)
         }
+    }
+}
+
+/// The words of the command line; none where one of them is not UTF-8.
+fn words_of<R: Runtime + AllocGlobal>(rt: &R) -> io::Result<Option<Vec<String>>> {
+    match env::args(rt) {
+        Ok(words) => Ok(Some(words.collect::<Vec<String>>(rt.alloc())?)),
+        Err(error) if error.kind() == io::ErrorKind::InvalidData => Ok(None),
+        Err(error) => Err(error),
     }
 }

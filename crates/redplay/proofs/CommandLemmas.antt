@@ -48,12 +48,16 @@ pub joining : {E : Type 0} (old sub : Command) (app inner : App) (answer : Resul
     → IfOk answer (λ c. app_of c ≡ with_subcommand app inner.top)
 joining {E} old sub app inner answer adds is same local = IfOk-weaker answer _ _ (λ c h. joined old sub c app inner h is same local) adds
 
--- the first value, as the getter answers it
+-- the first value of an argument, as the getter lends it
+pub lent : (f : Found) (id : Text) (answer : Option (Bor Text)) → option_map (λ s. s.now) answer ≡ first_value f id → first_of id (rows_of f) ≡ option_map (λ s. s.now) answer
+lent f id answer told = sym (first_value-rows f id) ∙ sym told
+
+-- where there is one, and where there is none
 pub value_found : (f : Found) (id : Text) (answer : Option (Bor Text)) (value : Bor Text) → option_map (λ s. s.now) answer ≡ first_value f id → answer ≡ Some value → first_of id (rows_of f) ≡ Some value.now
-value_found f id answer value told is = sym (first_value-rows f id) ∙ sym told ∙ ap (option_map (λ (s : Bor Text). s.now)) is
+value_found f id answer value told is = lent f id answer told ∙ ap (option_map (λ (s : Bor Text). s.now)) is
 
 pub none_found : (f : Found) (id : Text) (answer : Option (Bor Text)) → option_map (λ s. s.now) answer ≡ first_value f id → answer ≡ None → first_of id (rows_of f) ≡ None
-none_found f id answer told is = sym (first_value-rows f id) ∙ sym told ∙ ap (option_map (λ (s : Bor Text). s.now)) is
+none_found f id answer told is = lent f id answer told ∙ ap (option_map (λ (s : Bor Text). s.now)) is
 
 -- a number that is a day
 pub is_day : (text : Text) → IsUnsignedIn 0 last_day text → is_unsigned_in 0 last_day text ≡ true

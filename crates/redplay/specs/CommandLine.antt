@@ -1,6 +1,6 @@
 -- The command line: the subcommands and options that there are, and what the words ask for. How words are read
 -- against them, what is refused and under which kind, are the definitions of `clap`.
-use Rattle.std.specs.Prelude.{◌≡◌, ◌≢◌, ℕ, ◌≤◌, Bool, true, false, if◌then◌else◌, List, [], ◌∷◌, Option, Some, None, Result, MatchResult, codes, unwrap_or}
+use Rattle.std.specs.Prelude.{◌≡◌, ◌≢◌, ℕ, ◌≤◌, Bool, true, false, if◌then◌else◌, List, [], ◌∷◌, Option, Some, None, Result, MatchResult, codes, unwrap_or, option_map}
 use Rattle.std.specs.Option.{option_map_or}
 use Rattle.std.specs.Str.{bytes_eq}
 use Rattle.std.specs.Str.Parse.{digits_value, without_leading_plus}
@@ -15,6 +15,7 @@ use Rattle.mh_report.specs.declared.convert.Notation.{Notation}
 use Rattle.mh_report.specs.declared.convert.Notation.TheVariants as notation
 use Rattle.redplay.specs.declared.command_line.NoTask.{NoTask}
 use Rattle.redplay.specs.declared.command_line.NoTask.TheVariants as no_task
+use Rattle.redplay.specs.declared.command_line.Source.{Source}
 use Rattle.redplay.specs.declared.command_line.Task.{Task}
 use Rattle.redplay.specs.declared.command_line.Task.TheVariants as task
 
@@ -41,6 +42,10 @@ start = record (named (codes "start")) { defaults = codes "a" ∷ [] }
 abbrev pub script : Rule
 script = record (named (codes "script")) { required = true }
 
+-- the file that names the scenes whose files come late
+abbrev pub late : Rule
+late = named (codes "late")
+
 -- the last day on which a play can begin, and the one on which it does unless another is asked for
 abbrev pub last_day : ℕ
 last_day = 1000000
@@ -58,15 +63,18 @@ lenient = record (new_rule (codes "lenient")) { long = Some (codes "lenient"); a
 -- The subcommands.
 
 abbrev pub check : App
-check = with_rule (with_rule (new_app (codes "check")) folder) start
+check = with_rule (with_rule (with_rule (new_app (codes "check")) folder) start) late
 
--- what has to be given, and then what may be
+-- what has to be given, what may be said of the service, and then of the play
 
 abbrev pub play_required : App
 play_required = with_rule (with_rule (new_app (codes "play")) folder) script
 
+abbrev pub play_service : App
+play_service = with_rule (with_rule play_required start) late
+
 abbrev pub play : App
-play = with_rule (with_rule (with_rule play_required start) mjd) lenient
+play = with_rule (with_rule play_service mjd) lenient
 
 abbrev pub to_der : App
 to_der = with_rule (new_app (codes "to-der")) file
@@ -87,8 +95,8 @@ program = with_subcommand (with_subcommand with_services to_der.top) to_text.top
 -- What is asked for.
 
 pub data Asked : Type 0 where
-  checked : (folder start : Text) → Asked
-  played : (folder start script : Text) (lenient : Bool) (mjd : ℕ) → Asked
+  checked : (folder start : Text) (late : Option Text) → Asked
+  played : (folder start : Text) (late : Option Text) (script : Text) (lenient : Bool) (mjd : ℕ) → Asked
   converted : (file : Text) (to : Notation) → Asked
 
 -- the value of an argument; each that is read here is required or has a default
@@ -108,11 +116,11 @@ day_of rows = day_in (text_of (codes "mjd") rows)
 -- what was found for the arguments of a subcommand
 
 abbrev pub checking : List Row → Asked
-checking rows = checked (text_of (codes "DIR") rows) (text_of (codes "start") rows)
+checking rows = checked (text_of (codes "DIR") rows) (text_of (codes "start") rows) (first_of (codes "late") rows)
 
 abbrev pub playing : List Row → Asked
 playing rows =
-    played (text_of (codes "DIR") rows) (text_of (codes "start") rows) (text_of (codes "script") rows)
+    played (text_of (codes "DIR") rows) (text_of (codes "start") rows) (first_of (codes "late") rows) (text_of (codes "script") rows)
     (is_set (codes "lenient") rows) (day_of rows)
 
 abbrev pub converting : List Row → Notation → Asked
@@ -128,12 +136,16 @@ asked_under name rows =
 -- one subcommand is required
 abbrev pub asked_by : Option (Text × List Row) → Asked
 asked_by (Some given) = asked_under given.0 given.1
-asked_by None = checked [] []
+asked_by None = checked [] [] None
+
+-- the file of late scenes that is named, if one is
+abbrev pub late_in : Source → Option Text
+late_in source = option_map (λ s. s.now) source.late
 
 -- what a task says
 abbrev pub said : Task → Asked
-said (task.Check source) = checked source.folder.now source.start.now
-said (task.Play source script lenient mjd) = played source.folder.now source.start.now script.now lenient mjd
+said (task.Check source) = checked source.folder.now source.start.now (late_in source)
+said (task.Play source script lenient mjd) = played source.folder.now source.start.now (late_in source) script.now lenient mjd
 said (task.Convert file to) = converted file.now to
 
 -- a play begins on a day on which one can

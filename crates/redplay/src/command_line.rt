@@ -2,10 +2,10 @@
 //!
 //! What the words mean, which are refused and why are `clap`'s rules over `program`; the texts on a wrong
 //! command line are left to it too.
-ghost use Rattle.std.specs.Prelude.{◌≡◌, ◌≤◌, map, codes, true, IfOk, IfErr};
-ghost use Rattle.clap.specs.Words.{FailsBy, fault_of, found_of, kind_of, rows_of, subcommand_of, subcommand_rows_of, takes};
+ghost use Rattle.std.specs.Prelude.{◌≡◌, ◌≤◌, map, codes, true, option_map, IfOk, IfErr};
+ghost use Rattle.clap.specs.Words.{FailsBy, fault_of, first_of, found_of, kind_of, rows_of, subcommand_of, subcommand_rows_of, takes};
 ghost use Rattle.clap.specs.declared.error.kind.ErrorKind.TheVariants.{OutOfMemory};
-ghost use Rattle.redplay.specs.CommandLine.{HasDay, IsRefusedBy, IsToldAs, TellsNoMemory, asked_by, asked_under, day_in, day_of, is_set, last_day, said, text_of};
+ghost use Rattle.redplay.specs.CommandLine.{HasDay, IsRefusedBy, IsToldAs, TellsNoMemory, asked_by, asked_under, day_in, day_of, is_set, last_day, late_in, said, text_of};
 ghost use Rattle.redplay.specs.declared.command_line.NoTask.TheVariants.{NoMemory};
 ghost use Rattle.redplay.specs.CommandLine as spec;
 
@@ -47,6 +47,8 @@ pub struct Source<'a> {
     pub folder: &'a str,
     /// The path of the application to start with.
     pub start: &'a str,
+    /// The file that names the scenes whose files come late, if one is named.
+    pub late: Option<&'a str>,
 }
 
 /// Why the words ask for no task.
@@ -101,6 +103,7 @@ fn task_of<'a>(matches: &ArgMatches<'a>) -> Task<'a>
         None => Task::Check(Source {
             folder: "",
             start: "",
+            late: None,
         }),
     }
 }
@@ -143,11 +146,20 @@ fn converting<'a>(given: &ArgMatches<'a>, to: Notation) -> Task<'a>
 fn source_of<'a>(given: &ArgMatches<'a>) -> Source<'a>
     ensures folder { result.folder.now ≡ text_of (codes "DIR") (rows_of (found_of given.now)) }
     ensures start { result.start.now ≡ text_of (codes "start") (rows_of (found_of given.now)) }
+    ensures late { late_in result ≡ first_of (codes "late") (rows_of (found_of given.now)) }
 {
     Source {
         folder: text_of(given, "DIR"),
         start: text_of(given, "start"),
+        late: late_of(given),
     }
+}
+
+/// The file of late scenes that is named, if one is.
+fn late_of<'a>(given: &ArgMatches<'a>) -> Option<&'a str>
+    ensures { option_map (λ s. s.now) result ≡ first_of (codes "late") (rows_of (found_of given.now)) }
+{
+    given.get_str("late")
 }
 
 /// The value of an argument that is required or has a default. Were there none, it would be the empty

@@ -12,10 +12,12 @@ pub use mh_report::{
     ListSink, Notation, Options, PlayError, Sink, Status, WriterSink, check_bytes, convert_bytes,
     play_bytes,
 };
-use std::alloc::{AllocError, Global};
 use std::process::ExitCode;
 use std::rt::Runtime;
 use std::{env, io};
+
+/// The exit status where the command line is wrong.
+const WRONG: u8 = 2;
 
 /// The exit status where memory or writing failed.
 const FAILED: u8 = 4;
@@ -26,12 +28,15 @@ fn main(rt: HostRuntime) -> ExitCode {
 
 /// Does what the command line asks for, and answers the exit status.
 fn run<R: Runtime + AllocGlobal>(rt: &R) -> io::Result<u8> {
-    let words = env::args(rt)?.collect::<Vec<String>>(rt.alloc())?;
+    let Some(words) = words_of(rt)? else {
+        eprintln!(rt; "redplay: a word of the command line is not UTF-8")?;
+        return Ok(WRONG);
+    };
     let task = match line_of(rt.alloc(), words.as_slice()) {
         Ok(task) => task,
         Err(NoTask::Said(error)) => {
             error.print(rt)?;
-            return Ok(if error.use_stderr() { 2 } else { 0 });
+            return Ok(if error.use_stderr() { WRONG } else { 0 });
         }
         Err(NoTask::NoMemory) => return Ok(FAILED),
     };
@@ -42,6 +47,15 @@ fn run<R: Runtime + AllocGlobal>(rt: &R) -> io::Result<u8> {
             Ok(Status::Unreadable.code())
         }
         Err(Ungathered::NoMemory) => Ok(FAILED),
+    }
+}
+
+/// The words of the command line; none where one of them is not UTF-8.
+fn words_of<R: Runtime + AllocGlobal>(rt: &R) -> io::Result<Option<Vec<String>>> {
+    match env::args(rt) {
+        Ok(words) => Ok(Some(words.collect::<Vec<String>>(rt.alloc())?)),
+        Err(error) if error.kind() == io::ErrorKind::InvalidData => Ok(None),
+        Err(error) => Err(error),
     }
 }
 
@@ -60,7 +74,7 @@ fn done<R: Runtime + AllocGlobal>(rt: &R, task: &Task) -> Result<u8, Ungathered>
 
 fn checked<R: Runtime + AllocGlobal>(rt: &R, source: &Source) -> Result<u8, Ungathered> {
     let files = gather(rt, source.folder)?;
-    let options = chosen(rt.alloc(), source.start, 0, false)?;
+    let options = chosen(rt, source, 0, false)?;
     let mut sink = WriterSink {
         writer: io::writer(rt),
         failures: 0,
@@ -78,7 +92,7 @@ fn played<R: Runtime + AllocGlobal>(
 ) -> Result<u8, Ungathered> {
     let files = gather(rt, source.folder)?;
     let script = read_named(rt, script)?;
-    let options = chosen(rt.alloc(), source.start, mjd, lenient)?;
+    let options = chosen(rt, source, mjd, lenient)?;
     let mut sink = WriterSink {
         writer: io::writer(rt),
         failures: 0,
@@ -98,9 +112,20 @@ fn converted<R: Runtime + AllocGlobal>(rt: &R, file: &str, to: Notation) -> Resu
     Ok(status.map_or(FAILED, |status| status.code()))
 }
 
-fn chosen(alloc: Global, start: &str, mjd: u32, lenient: bool) -> Result<Options, AllocError> {
+/// What is chosen of the service and of a play, the file of late scenes being read.
+fn chosen<R: Runtime + AllocGlobal>(
+    rt: &R,
+    source: &Source,
+    mjd: u32,
+    lenient: bool,
+) -> Result<Options, Ungathered> {
+    let late = match source.late {
+        Some(name) => Some(read_named(rt, name)?),
+        None => None,
+    };
     Ok(Options {
-        start: Vec::from_slice(alloc, start.as_bytes())?,
+        start: Vec::from_slice(rt.alloc(), source.start.as_bytes())?,
+        late,
         mjd,
         lenient,
     })

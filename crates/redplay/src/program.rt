@@ -84,20 +84,26 @@ fn check<'a>(alloc: Global) -> Result<Command<'a>, AllocError>
         alloc,
         "check",
         "Says whether a service is accepted: nothing makes it name what is absent or of a wrong class, and each input settles in so many steps",
-        "Example:\n  redplay check examples/first/service",
+        "Examples:\n  redplay check examples/first/service\n  redplay check examples/late/service --late examples/late/late",
     )
     .arg(folder(alloc))?
-    .arg(start(alloc))
+    .arg(start(alloc))?
+    .arg(late(alloc))
 }
 
 fn play<'a>(alloc: Global) -> Result<Command<'a>, AllocError>
     ensures app { IfOk result (λ c. app_of c ≡ spec.play) }
     ensures local { IfOk result (λ c. (fields_of c).has_globals ≡ false) }
 {
-    play_required(alloc)?
-        .arg(start(alloc))?
-        .arg(mjd(alloc))?
-        .arg(lenient(alloc))
+    play_service(alloc)?.arg(mjd(alloc))?.arg(lenient(alloc))
+}
+
+/// The subcommand with what has to be given, and what may be said of the service.
+fn play_service<'a>(alloc: Global) -> Result<Command<'a>, AllocError>
+    ensures app { IfOk result (λ c. app_of c ≡ spec.play_service) }
+    ensures local { IfOk result (λ c. (fields_of c).has_globals ≡ false) }
+{
+    play_required(alloc)?.arg(start(alloc))?.arg(late(alloc))
 }
 
 /// The subcommand with what has to be given.
@@ -109,7 +115,7 @@ fn play_required<'a>(alloc: Global) -> Result<Command<'a>, AllocError>
         alloc,
         "play",
         "Plays a script on a service and prints what happens and what is shown",
-        "Example:\n  redplay play examples/first/service --script examples/first/script",
+        "Examples:\n  redplay play examples/first/service --script examples/first/script\n  redplay play examples/late/service --script examples/late/script --late examples/late/late",
     )
     .arg(folder(alloc))?
     .arg(script(alloc))
@@ -159,6 +165,15 @@ fn start<'a>(alloc: Global) -> Arg<'a>
     named(alloc, "start", "NAME")
         .default_value(START)
         .help("The application to start with")
+}
+
+fn late<'a>(alloc: Global) -> Arg<'a>
+    ensures rule { rule_of result ≡ spec.late }
+    ensures local { result.global ≡ false }
+{
+    named(alloc, "late", "FILE").help(
+        "The scenes whose files come late, a name a line; a line `scene NAME` of the script brings one",
+    )
 }
 
 fn mjd<'a>(alloc: Global) -> Arg<'a>

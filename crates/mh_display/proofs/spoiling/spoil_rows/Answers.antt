@@ -3,10 +3,10 @@ use Rattle.mh_display.proofs.RowLemmas.{no_row, next_row, last_row}
 use Rattle.mh_display.proofs.spoiling.spoil_rows.Goals as goal
 
 pub loop-row-init : goal.loop-row-init
-loop-row-init c = (search rules, search rules, no_row _ _ _)
+loop-row-init c = (search rules, no_row _ _ _)
 
 pub loop-row-preserved : goal.loop-row-preserved
-loop-row-preserved c = (search rules, search rules, next_row _ _ _ _ _ c.loop-row.row c.loop-row.invariant.1 (search rules) (search rules) c.loop-row.invariant.2 c.spoil_row.ensures.spoilt)
+loop-row-preserved c = (search rules, next_row _ _ _ _ _ c.loop-row.row c.loop-row.invariant.0 (search rules) (search rules) c.loop-row.invariant.1 c.add.ensures)
 
-pub returns-clause-spoilt : goal.returns-clause-spoilt
-returns-clause-spoilt c = last_row _ _ _ _ c.loop-row.row (search rules) c.loop-row.invariant.2
+pub returns : goal.returns
+returns c = last_row _ _ _ _ c.loop-row.row (search rules) c.loop-row.invariant.1

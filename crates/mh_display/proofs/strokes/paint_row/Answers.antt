@@ -1,17 +1,27 @@
-use Rattle.std.proofs.Common.{rules}
+use Rattle.std.proofs.Common.{rules, arith, refl}
+use Rattle.mh_display.proofs.BitLemmas.{all_left, next_left, none_left, fewer, lowest_inside}
+use Rattle.mh_display.specs.Painting.{put}
 use Rattle.mh_display.specs.Strokes.{stroke_paint}
-use Rattle.mh_display.proofs.RowLemmas.{no_cell, next_column, ended}
-use Rattle.mh_display.proofs.PaintLemmas.{settled_row}
+use Rattle.mh_display.proofs.PaintLemmas.{settled_stays}
 use Rattle.mh_display.proofs.strokes.paint_row.Goals as goal
 
-pub returns-then-is_row_settled : goal.returns-then-is_row_settled
-returns-then-is_row_settled c = settled_row (stroke_paint c.args.stroke.now c.args.line) c.args.screen.now _ _ (c.is_row_settled.ensures (search rules))
+pub loop-left-init : goal.loop-left-init
+loop-left-init c = (c.stale_in-left.type_inv, all_left (λ k. put (stroke_paint c.args.stroke.now c.args.line k)) c.args.screen.now c.args.row _ _ _ (λ m k e. settled_stays (stroke_paint c.args.stroke.now c.args.line m) k e) c.stale_in-left.ensures)
 
-pub loop-column-init : goal.loop-column-init
-loop-column-init c = (search rules, search rules, no_cell _ _ _)
+pub paint_cell-requires-clause-wide : goal.paint_cell-requires-clause-wide
+paint_cell-requires-clause-wide c = omega (arith, lowest_inside _ _ _ _ _ _ c.loop-left.left (search rules) c.loop-left.invariant.0 c.loop-left.invariant.1, c.lowest-column.ensures, c.requires.wide)
 
-pub loop-column-preserved : goal.loop-column-preserved
-loop-column-preserved c = (search rules, search rules, next_column _ _ _ _ c.args.row c.args.window.now.left c.loop-column.column (search rules) c.loop-column.invariant.2 c.paint_cell.ensures)
+pub without-left-requires : goal.without-left-requires
+without-left-requires c = omega (arith, lowest_inside _ _ _ _ _ _ c.loop-left.left (search rules) c.loop-left.invariant.0 c.loop-left.invariant.1, c.lowest-column.ensures, c.requires.wide)
+
+pub loop-left-smaller : goal.loop-left-smaller
+loop-left-smaller c = fewer c.loop-left.left c.lowest-column.result c.without-left.result (search rules) c.loop-left.invariant.0 c.lowest-column.ensures c.without-left.ensures
+
+pub loop-left-preserved : goal.loop-left-preserved
+loop-left-preserved c = (
+  c.without-left.type_inv,
+  next_left (λ k. put (stroke_paint c.args.stroke.now c.args.line k)) _ _ _ c.args.row _ _ c.loop-left.left c.lowest-column.result c.without-left.result (search rules) c.loop-left.invariant.0 c.lowest-column.ensures c.without-left.ensures c.loop-left.invariant.1 c.paint_cell.ensures,
+)
 
 pub returns : goal.returns
-returns c = ended _ c.args.window.now _ _ _ c.loop-column.column c.loop-column.invariant.0 c.loop-column.invariant.1 (search rules) c.loop-column.invariant.2
+returns c = none_left (λ k. put (stroke_paint c.args.stroke.now c.args.line k)) _ _ c.args.row _ _ c.loop-left.left (search rules) c.loop-left.invariant.1

@@ -1,10 +1,12 @@
-use Rattle.std.proofs.Common.{◌*◌, ◌+◌, ◌≤◌}
-use Rattle.std.specs.Prelude.{max}
-use Rattle.mh_display.specs.Painting.{IsBetween, marked_at, put}
+use Rattle.std.proofs.Common.{◌<◌, ◌^◌}
+use Rattle.mh_display.specs.Bits.{IsLeft}
+use Rattle.mh_display.specs.Painting.{marked_at}
+use Rattle.mh_display.specs.Painting.{put}
 use Rattle.mh_display.specs.Strokes.{stroke_paint}
 use Rattle.mh_display.proofs.strokes.paint_row.Given as goal
 
-abbrev pub invariant-loop-column : goal.invariant-loop-column
-invariant-loop-column l =
-    (l.window.left ≤ l.column) × (l.column ≤ max l.window.left l.window.right)
-    × IsBetween (λ c. put (stroke_paint l.stroke l.line c)) (marked_at l.initial.screen) (marked_at l.screen) (60 * l.row + l.window.left) (60 * l.row + l.column)
+abbrev pub invariant-loop-left : goal.invariant-loop-left
+invariant-loop-left l = (l.left < 2 ^ 64) × IsLeft (λ c. put (stroke_paint l.stroke l.line c)) (marked_at l.initial.screen) (marked_at l.screen) l.row l.window.left l.window.right l.left
+
+abbrev pub decreases-loop-left : goal.decreases-loop-left
+decreases-loop-left l = l.left

@@ -11,14 +11,16 @@ use Rattle.mh_engine.specs.Play.{Play, with_more}
 use Rattle.mh_engine.proofs.runs.post_or_pass.Goals as goal
 
 -- what is passed over tells of an obstacle
-told : (why : RefusedWhy) → (why ≡ refused.Ended) ⊎ ((why ≡ refused.TickRange) ⊎ ((why ≡ refused.Begun) ⊎ ((why ≡ refused.TooLarge) ⊎ ((why ≡ refused.TooMany) ⊎ ((why ≡ refused.ClockFull) ⊎ (why ≡ refused.QueueFull)))))) → (o : Obstacle) × (why ≡ refusal_for o)
+told : (why : RefusedWhy) → (why ≡ refused.Ended) ⊎ ((why ≡ refused.TickRange) ⊎ ((why ≡ refused.Begun) ⊎ ((why ≡ refused.NotLate) ⊎ ((why ≡ refused.Differs) ⊎ ((why ≡ refused.TooLarge) ⊎ ((why ≡ refused.TooMany) ⊎ ((why ≡ refused.ClockFull) ⊎ (why ≡ refused.QueueFull)))))))) → (o : Obstacle) × (why ≡ refusal_for o)
 told why (inl e) = (obstacle.Ended, e)
 told why (inr (inl e)) = (obstacle.TickRange, e)
 told why (inr (inr (inl e))) = (obstacle.Begun, e)
-told why (inr (inr (inr (inl e)))) = (obstacle.TooLarge, e)
-told why (inr (inr (inr (inr (inl e))))) = (obstacle.TooMany, e)
-told why (inr (inr (inr (inr (inr (inl e)))))) = (obstacle.ClockFull, e)
-told why (inr (inr (inr (inr (inr (inr e)))))) = (obstacle.QueueFull, e)
+told why (inr (inr (inr (inl e)))) = (obstacle.NotLate, e)
+told why (inr (inr (inr (inr (inl e))))) = (obstacle.Differs, e)
+told why (inr (inr (inr (inr (inr (inl e)))))) = (obstacle.TooLarge, e)
+told why (inr (inr (inr (inr (inr (inr (inl e))))))) = (obstacle.TooMany, e)
+told why (inr (inr (inr (inr (inr (inr (inr (inl e)))))))) = (obstacle.ClockFull, e)
+told why (inr (inr (inr (inr (inr (inr (inr (inr e)))))))) = (obstacle.QueueFull, e)
 
 pub returns-in-Ended-clause-made : goal.returns-in-Ended-clause-made
 returns-in-Ended-clause-made c =

@@ -12,7 +12,7 @@ use Rattle.mh_layers.specs.Cycle.{cause_of}
 use Rattle.mh_layers.specs.Deeds.{Doing, IsDoing, NoDoing, number_in}
 use Rattle.mh_layers.specs.Granting.{held_for}
 use Rattle.mh_layers.specs.Listening.{source_of}
-use Rattle.mh_layers.specs.Reading.{Reading, Spot, flow_read}
+use Rattle.mh_layers.specs.Reading.{Spot, flow_read}
 use Rattle.mh_layers.specs.Standings.{effect_named}
 use Rattle.mh_layers.proofs.ArrowLemmas.{is_arrow, number_named}
 use Rattle.mh_layers.proofs.DoingLemmas.{step_does}

@@ -1,4 +1,4 @@
-use Rattle.std.proofs.Common.{rules, ◌∙◌}
+use Rattle.std.proofs.Common.{rules}
 use Rattle.mh_layers.specs.NodeKeys.{same_key}
 use Rattle.mh_layers.specs.NodeKeyLaws.{key_itself}
 use Rattle.mh_layers.proofs.AskedLemmas.{any_among}

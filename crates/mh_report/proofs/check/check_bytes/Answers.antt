@@ -1,21 +1,18 @@
-use Rattle.std.specs.Prelude.{List, ℕ}
-use Rattle.std.proofs.Common.{ap, sym, ◌∙◌}
-use Rattle.mh_told.specs.Reading.{service_read}
 use Rattle.mh_report.specs.Played.{Checks, check_unreadable}
 use Rattle.mh_report.proofs.WrittenLemmas.{unreadable_whole, unreadable_cut, failed}
 use Rattle.mh_report.proofs.PlainLemmas.{plain_service}
+use Rattle.mh_report.specs.Reading.{late_of}
 use Rattle.mh_report.proofs.check.check_bytes.Goals as goal
 
 pub judge-requires-clause-plain : goal.judge-requires-clause-plain
-judge-requires-clause-plain g c = plain_service c.as_slice.result.now c.args.files.now c.in-Ok.service c.in-Ok.ensures
+judge-requires-clause-plain g c =
+    plain_service c.args.options.now.start.items (late_of c.args.options.now) c.args.files.now c.in-Ok.service c.in-Ok.ensures
 
 pub returns : goal.returns
 returns g c = record {
-  written = unreadable_whole (Checks) _ c.in-Err.why _ _ c.complain.result
-      (ap (λ (start : List ℕ). service_read start c.args.files.now) (sym c.as_slice.ensures.value) ∙ failed c.in-Err.why _ c.in-Err.ensures c.in_default.not-NoMemory)
+  written = unreadable_whole (Checks) _ c.in-Err.why _ _ c.complain.result (failed c.in-Err.why _ c.in-Err.ensures c.in_default.not-NoMemory)
       (check_unreadable _) c.complain.ensures.report c.complain.ensures.status;
-  begun = unreadable_cut (Checks) _ c.in-Err.why _ _ c.complain.result
-      (ap (λ (start : List ℕ). service_read start c.args.files.now) (sym c.as_slice.ensures.value) ∙ failed c.in-Err.why _ c.in-Err.ensures c.in_default.not-NoMemory)
+  begun = unreadable_cut (Checks) _ c.in-Err.why _ _ c.complain.result (failed c.in-Err.why _ c.in-Err.ensures c.in_default.not-NoMemory)
       (check_unreadable _) c.complain.ensures.cut;
   write = c.complain.ensures.write;
 }

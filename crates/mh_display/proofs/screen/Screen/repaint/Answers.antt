@@ -4,7 +4,7 @@ use Rattle.mh_display.proofs.DownLemmas.{repainted, clean_after, right_already}
 use Rattle.mh_display.proofs.screen.Screen.repaint.Goals as goal
 
 pub returns-then-is_clean-clause-right : goal.returns-then-is_clean-clause-right
-returns-then-is_clean-clause-right c = right_already (all c.args.objects.now) c.args.stack.now c.args.self.now c.requires (c.is_clean.ensures (search rules)) c.cells.ensures.whole
+returns-then-is_clean-clause-right c = right_already (all c.args.objects.now) c.args.stack.now c.args.self.now c.requires (c.is_clean.ensures (search rules)) c.is_whole.ensures
 
 pub returns-clause-right : goal.returns-clause-right
 returns-clause-right c =

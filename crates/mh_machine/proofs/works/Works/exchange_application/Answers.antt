@@ -1,6 +1,7 @@
-use Rattle.std.specs.Prelude.{◌≡◌, ◌+◌, false, [], ◌∷◌, None, filter, drop}
+use Rattle.std.specs.Prelude.{◌≡◌, ◌+◌, [], ◌∷◌, None, filter, drop}
 use Rattle.std.proofs.Common.{rules, ap, ◌∙◌, arith}
 use Rattle.mh_model.specs.declared.item.Item.TheVariants as item
+use Rattle.mh_model.specs.declared.transition.Transition.TheVariants as transition
 use Rattle.mh_model.specs.Rules.{is_input, application_exchanged}
 use Rattle.mh_model.specs.Service.{group_objects}
 use Rattle.mh_machine.specs.Working.{Working}
@@ -25,6 +26,7 @@ returns-clause-done c =
     let waits : c.clear_waits.new.self.waits ≡ [] = search rules in
     let files : c.clear_waits.new.self.files ≡ c.self.inside.carousel.files = search rules in
     let work : c.put_for_first.new.self.items ≡ item.Enter c.args.group.now ∷ drop 1 c.self.inside.work.items = search rules in
+    let rests : c.set_transition.new.transition ≡ transition.Rests = search rules in
     (λ i. record {
       service = c.self.inside.service;
       application = application i;
@@ -36,7 +38,8 @@ returns-clause-done c =
       queue = queue i;
       work = work i;
       moments = moments i;
-      transition = false;
+      transition = rests i;
+      late = c.self.inside.late.items;
       ended = c.self.inside.ended;
       locks = c.self.inside.locks;
       frozen = c.self.inside.frozen;

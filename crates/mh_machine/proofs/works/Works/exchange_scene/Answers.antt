@@ -1,7 +1,8 @@
-use Rattle.std.specs.Prelude.{◌≡◌, ◌+◌, false, ◌∷◌, Some, filter, drop}
+use Rattle.std.specs.Prelude.{◌≡◌, ◌+◌, ◌∷◌, Some, filter, drop}
 use Rattle.std.specs.Str.{bytes_eq}
 use Rattle.std.proofs.Common.{rules, ap, ◌∙◌, arith}
 use Rattle.mh_model.specs.declared.item.Item.TheVariants as item
+use Rattle.mh_model.specs.declared.transition.Transition.TheVariants as transition
 use Rattle.mh_model.specs.Rules.{stays, scene_exchanged}
 use Rattle.mh_model.specs.Service.{group_objects}
 use Rattle.mh_model.specs.Worked.{interaction_of}
@@ -28,6 +29,7 @@ returns-clause-done c =
     let files : c.leave_scene-2.new.self.files ≡ c.self.inside.carousel.files = search rules in
     let scene : c.set_scene.new.scene ≡ Some c.args.group.now = search rules in
     let interaction : c.leave_interaction.new.interaction ≡ interaction_of c.self.inside.application c.self.inside.interaction = search rules in
+    let rests : c.set_transition.new.transition ≡ transition.Rests = search rules in
     (λ i. record {
       service = c.self.inside.service;
       application = c.self.inside.application;
@@ -39,7 +41,8 @@ returns-clause-done c =
       queue = queue i;
       work = work i;
       moments = moments i;
-      transition = false;
+      transition = rests i;
+      late = c.self.inside.late.items;
       ended = c.self.inside.ended;
       locks = c.self.inside.locks;
       frozen = c.self.inside.frozen;

@@ -31,6 +31,7 @@ returns-clause-done c =
       work = c.self.inside.work.items;
       moments = moments i;
       transition = c.self.inside.transition;
+      late = c.self.inside.late.items;
       ended = c.self.inside.ended;
       locks = c.self.inside.locks;
       frozen = c.self.inside.frozen;

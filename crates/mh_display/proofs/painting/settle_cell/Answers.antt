@@ -1,7 +1,0 @@
-use Rattle.std.proofs.Common.{rules}
-use Rattle.mh_display.specs.Painting.{marked_at}
-use Rattle.mh_display.proofs.PaintLemmas.{is_set_already, settled_already}
-use Rattle.mh_display.proofs.painting.settle_cell.Goals as goal
-
-pub returns-then-is_settled : goal.returns-then-is_settled
-returns-then-is_settled c = is_set_already _ _ _ (settled_already (marked_at c.args.screen.now c.args.at) (search rules))

@@ -1,0 +1,109 @@
+-- What is never said. With which data events come: by their type, or as an active action sends them.
+use Rattle.std.specs.Prelude.{◌≡◌, ℕ, ◌&&◌, ◌||◌, Bool, true, false, nat_le, List, ◌∷◌, Option, Some, None, ℤ, pos, negsuc}
+use Rattle.mh_base.specs.declared.event.EventType.{EventType}
+use Rattle.mh_base.specs.declared.event.EventType.TheVariants as event
+use Rattle.mh_base.specs.declared.obj_ref.ObjRef.{ObjRef}
+use Rattle.mh_base.specs.declared.value.Value.{Value}
+use Rattle.mh_base.specs.declared.value.Value.TheVariants as value
+use Rattle.mh_group.specs.declared.action_name.ActionName.TheVariants as action
+use Rattle.mh_model.specs.declared.act.Act.{Act}
+use Rattle.mh_model.specs.declared.act.Argument.{Argument}
+use Rattle.mh_model.specs.declared.act.Argument.TheVariants as argument
+use Rattle.mh_model.specs.declared.config.Config.{Config}
+use Rattle.mh_model.specs.declared.event.Event.{Event}
+use Rattle.mh_model.specs.declared.file.File.{File}
+use Rattle.mh_model.specs.declared.input.Move.{Move}
+use Rattle.mh_model.specs.declared.input.Waiting.{Waiting}
+use Rattle.mh_model.specs.declared.input.Waiting.TheVariants as waiting
+use Rattle.mh_model.specs.declared.item.Item.{Item}
+use Rattle.mh_model.specs.declared.item.Item.TheVariants as item
+use Rattle.mh_model.specs.declared.program.Signature.{Signature}
+use Rattle.mh_model.specs.Configuration.{present}
+use Rattle.mh_model.specs.Receiver.{IsRun, anything}
+use Rattle.mh_model.specs.Saying.{event_numbered}
+use Rattle.mh_model.specs.Service.{Service}
+use Rattle.mh_model.specs.State.{State}
+use Rattle.mh_laws.specs.Acceptable.{IsAcceptableBy}
+use Rattle.mh_laws.specs.Active.{active_actions}
+use Rattle.mh_laws.specs.Costs.{data_sent}
+use Rattle.mh_laws.specs.Each.{Among, Each}
+use Rattle.mh_laws.specs.Flow.{Flow, reached}
+use Rattle.mh_laws.specs.Headline.{begun_with}
+use Rattle.mh_laws.specs.Ways.{IsKnown}
+
+-- the number of a key
+abbrev pub is_key_number : ℤ → Bool
+is_key_number (pos n) = nat_le 1 n && nat_le n 16 || nat_le 100 n && nat_le n 104
+is_key_number (negsuc n) = false
+
+abbrev pub is_truth : Option Value → Bool
+is_truth (Some (value.Bool b)) = true
+is_truth _ = false
+
+abbrev pub is_number : Option Value → Bool
+is_number (Some (value.Int n)) = true
+is_number _ = false
+
+abbrev pub is_key_data : Option Value → Bool
+is_key_data (Some (value.Int n)) = is_key_number n
+is_key_data _ = false
+
+abbrev pub is_none : Option Value → Bool
+is_none None = true
+is_none (Some v) = false
+
+-- the data with which an event of this type comes where no action sends it
+abbrev pub is_usual : EventType → Option Value → Bool
+is_usual event.TestEvent d = is_truth d
+is_usual event.FirstItemPresented d = is_truth d
+is_usual event.LastItemPresented d = is_truth d
+is_usual event.TokenMovedFrom d = is_number d
+is_usual event.TokenMovedTo d = is_number d
+is_usual event.HeadItems d = is_number d
+is_usual event.TailItems d = is_number d
+is_usual event.ItemSelected d = is_number d
+is_usual event.ItemDeselected d = is_number d
+is_usual event.StreamEvent d = is_number d
+is_usual event.TimerFired d = is_number d
+is_usual event.EngineEvent d = is_number d
+is_usual event.UserInput d = is_key_data d
+is_usual _ d = is_none d
+
+abbrev pub Sayings : Type 0
+Sayings = Event → Bool
+
+abbrev pub event_by : ObjRef → EventType → Option Value → Event
+event_by r kind d = record { source = r; kind = kind; «data» = d }
+
+pub record IsSaidClosed (v : Service) (w : Flow) (says : Sayings) : Type 0 where
+  pub usual : (r : ObjRef) (kind : EventType) (d : Option Value) → is_usual kind d ≡ true → says (event_by r kind d) ≡ true
+  pub sent : (c : Config) → reached w c ≡ true → (a : Act) → Among (active_actions (present v c)) a → a.name ≡ action.SendEvent → (x : Argument) (n : ℤ) (more : List Argument) → a.arguments ≡ x ∷ argument.Direct (value.Int n) ∷ more → (kind : EventType) → event_numbered n ≡ Some kind → (r : ObjRef) (d : Option Value) → IsKnown (data_sent more) d → says (event_by r kind d) ≡ true
+
+abbrev pub IsSaidIn : Sayings → Item → Type 0
+IsSaidIn says (item.Emit e) = says e ≡ true
+IsSaidIn says (item.Run r) = Unit {0}
+IsSaidIn says (item.RunMember r) = Unit {0}
+IsSaidIn says (item.Act a) = Unit {0}
+IsSaidIn says (item.Prepare r) = Unit {0}
+IsSaidIn says (item.Halt r) = Unit {0}
+IsSaidIn says (item.HaltMember r) = Unit {0}
+IsSaidIn says (item.Drop r) = Unit {0}
+IsSaidIn says (item.Enter g) = Unit {0}
+IsSaidIn says (item.Exchange g) = Unit {0}
+IsSaidIn says item.End = Unit {0}
+
+abbrev pub IsWaitIn : Sayings → Waiting → Type 0
+IsWaitIn says (waiting.Event e) = says e ≡ true
+IsWaitIn says (waiting.Input i) = Unit {0}
+
+-- what will be told and what waits is of the set
+pub record SaysOnly (says : Sayings) (s : State) : Type 0 where
+  pub work : Each (IsSaidIn says) s.work
+  pub queue : Each (IsWaitIn says) s.queue
+
+-- THE LAW. Of an acceptable service, whatever is posted and whatever programs answer, no other event ever comes.
+abbrev pub NeverSays : Type 0
+NeverSays =
+    (v : Service) (w : Flow) → IsAcceptableBy v w → (says : Sayings) → IsSaidClosed v w says →
+    (mjd : ℕ) (fs : List File) (ss : List Signature) (ms : List Move) (s : State) →
+    IsRun ss anything ms (begun_with v mjd fs) s → SaysOnly says s
