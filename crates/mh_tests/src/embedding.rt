@@ -256,8 +256,8 @@ fn screens(alloc: Global) -> Option<Vec<u8>> {
 
 fn late_screens(alloc: Global) -> Option<Vec<u8>> {
     let sources = first(alloc)?;
-    let engine = start_late(alloc, sources.as_slice(), &[b"s"]);
-    of_late(alloc, engine, sources.get(1)?)
+    let scene = sources.get(1)?;
+    of_late(alloc, start_late(alloc, sources.as_slice(), &[b"s"]), scene)
 }
 
 fn told(alloc: Global) -> Option<Vec<u8>> {
