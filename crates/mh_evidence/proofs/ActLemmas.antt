@@ -1,17 +1,13 @@
--- Actions: of which effects their prices tell.
-use Rattle.std.specs.Prelude.{◌≡◌, ◌<◌, ◌+◌, ◌==◌, ℕ, zero, suc, nat_lt, Bool, true, false, ◌&&◌, ◌||◌, not, List, [], ◌∷◌, filter, map, length, Option, refl}
+-- Actions: that the walk at the view that an arrow grants finds what their prices count.
+use Rattle.std.specs.Prelude.{◌≡◌, ◌<◌, ◌+◌, ◌==◌, ℕ, zero, suc, nat_lt, Bool, true, false, ◌&&◌, ◌||◌, List, [], ◌∷◌, map, length, Result, Ok, refl}
 use Rattle.std.specs.List.{list_all, list_any, range_with_len}
-use Rattle.std.proofs.Common.{arith, inl, ap, ◌∙◌, sym}
+use Rattle.std.proofs.Common.{arith, inl, ap, ◌∙◌, subst, sym}
 use Rattle.std.proofs.Math.Bool.{or-false}
-use Rattle.mh_base.specs.declared.event.EventType.{EventType}
-use Rattle.mh_base.specs.declared.value.Kind.{Kind}
 use Rattle.mh_base.specs.declared.obj_ref.ObjRef.{ObjRef}
-use Rattle.mh_group.specs.Table.{is_link}
 use Rattle.mh_group.specs.declared.action_name.ActionName.{ActionName}
 use Rattle.mh_group.specs.declared.action_name.ActionName.TheVariants as action
 use Rattle.mh_model.specs.declared.act.Act.{Act}
 use Rattle.mh_model.specs.declared.act.Argument.{Argument}
-use Rattle.mh_model.specs.declared.act.Argument.TheVariants as argument
 use Rattle.mh_model.specs.declared.act.Target.{Target}
 use Rattle.mh_model.specs.declared.act.Target.TheVariants as target
 use Rattle.mh_model.specs.declared.config.Config.{Config}
@@ -19,55 +15,41 @@ use Rattle.mh_model.specs.declared.object.Fixed.{Fixed}
 use Rattle.mh_model.specs.Configuration.{same_config}
 use Rattle.mh_model.specs.Reference.{same_key}
 use Rattle.mh_model.specs.Service.{Service}
-use Rattle.mh_laws.specs.Costs.{Effect, act, data_sent, done_to, effect, emit, enter, first_slot, leave_all, leave_scene, link_effect, named, on_close_down, on_start_up, slot_numbers, slots, targets}
+use Rattle.mh_laws.specs.Costs as costs
+use Rattle.mh_laws.specs.Costs.{Effect, effect, enter, first_slot, leave_all, leave_scene, link_effect, on_close_down, on_start_up, slot_numbers}
 use Rattle.mh_laws.specs.Flow.{Flow, reached}
 use Rattle.mh_laws.specs.Price.{Price, if_price, most_price}
 use Rattle.mh_laws.specs.Safe.{exchanged}
+use Rattle.mh_laws.specs.View as view
+use Rattle.mh_laws.specs.Ways.{slots_of}
 use Rattle.mh_laws.proofs.NodeLemmas.{among_is}
 use Rattle.mh_layers.specs.declared.arrow.Arrow.{Arrow}
-use Rattle.mh_laws.specs.Ways.{slots_of}
 use Rattle.mh_layers.specs.declared.arrow.By.{By}
 use Rattle.mh_layers.specs.declared.arrow.By.TheVariants as by
-use Rattle.mh_layers.specs.declared.arrow.Held.{Held}
 use Rattle.mh_layers.specs.Arrows.{comes_to, counts, granted, number_by, put_by}
 use Rattle.mh_layers.specs.Reading.{same_setting}
-use Rattle.mh_evidence.specs.Putting.{Asked, asked, asks, effect_of, flow_of, is_slot, puts_at, tells}
-use Rattle.mh_evidence.proofs.AnyLemmas.{any_and, any_filtered, any_mapped, any_more, any_same_where, each_one}
-use Rattle.mh_evidence.proofs.PutLemmas.{counts_tells, tells_if, tells_most}
-
--- to what a target comes through a variable
-pub comes_through : (p : ObjRef → Bool) (hs : List Held) (x : ObjRef) → list_any p (comes_to hs (target.Through x)) ≡ list_any (λ h. same_key x h.by && p h.at) hs
-comes_through p hs x =
-    any_mapped p (λ (h : Held). h.at) (filter (λ (h : Held). same_key x h.by) hs) ∙ any_filtered (λ (h : Held). same_key x h.by) (λ (h : Held). p h.at) hs
-
--- what a variable refers to sends an event
-sent : (a : Asked) (x : ObjRef) (kind : EventType) (more : List Argument) → asks a (λ v w c. most_price (λ q. emit v w c q kind (data_sent more)) (w.sets c x)) ≡ list_any (λ h. same_key x h.by && asks a (λ v w c. emit v w c h.at kind (data_sent more))) a.arrow.held
-unfolding flow_of
-sent a x kind more =
-    tells_most (effect_of a) (λ (q : ObjRef). emit a.service (flow_of a) a.config q kind (data_sent more)) (comes_to a.arrow.held (target.Through x))
-    ∙ comes_through (λ (q : ObjRef). asks a (λ v w c. emit v w c q kind (data_sent more))) a.arrow.held x
-
-pub sent_through : (a : Asked) (s : Argument) (x : ObjRef) (k : Option Kind) (kind : EventType) (more : List Argument) → s ≡ argument.Through x k → list_any (λ h. same_key x h.by && asks a (λ v w c. emit v w c h.at kind (data_sent more))) a.arrow.held ≡ asks a (λ v w c. most_price (λ q. emit v w c q kind (data_sent more)) (named w c s))
-sent_through a s x k kind more is =
-    sym (sent a x kind more) ∙ ap (λ (t : Argument). asks a (λ v w c. most_price (λ (q : ObjRef). emit v w c q kind (data_sent more)) (named w c t))) (sym is)
+use Rattle.mh_prices.specs.Meter.{Adds, onto}
+use Rattle.mh_evidence.specs.Putting.{Asked, around_of, asked, effect_of, flow_of, is_slot, meter_of, tells}
+use Rattle.mh_evidence.proofs.AnyLemmas.{any_and, any_more, any_same_where, each_one}
+use Rattle.mh_evidence.proofs.PutLemmas.{counts_tells, found_told, tells_most}
 
 -- Transitions go on to where they lead, since what their targets come to is granted
 
 is_led : Service → Flow → Config → ObjRef → Bool
 is_led v w c r = reached w (exchanged v c r.group)
 
-leads_on : (a : Asked) (b : Bool) (p : Price Effect) → b ≡ true → (false || tells (effect_of a) (if_price b p)) ≡ tells (effect_of a) p
-leads_on a true p e = refl
-leads_on a false p e = absurd cc
+led_on : (y : Effect) (b : Bool) (p : Price Effect) → b ≡ true → (false || tells y (if_price b p)) ≡ (false || tells y p)
+led_on y true p e = refl
+led_on y false p e = absurd cc
 
-done_asked : (a : Asked) (n : ActionName) (xs : List Argument) (r : ObjRef) → is_led a.service (flow_of a) a.config r ≡ true → asks a (λ v w c. done_to v w c n xs r) ≡ puts_at a n xs r
-unfolding is_led effect_of flow_of
+done_asked : (a : Asked) (n : ActionName) (xs : List Argument) (r : ObjRef) → is_led a.service (flow_of a) a.config r ≡ true → tells (effect_of a) (costs.done_to a.service (flow_of a) a.config n xs r) ≡ tells (effect_of a) (view.done_to (around_of a) n xs r)
+unfolding is_led
 done_asked a action.TransitionTo xs r led =
-    ap (λ (b : Bool). asks a (λ v w c. leave_scene v w c) || b)
-    (leads_on a (reached (flow_of a) (exchanged a.service a.config r.group)) (enter a.service (flow_of a) (exchanged a.service a.config r.group) r.group) led)
+    ap (λ (b : Bool). tells (effect_of a) (leave_scene a.service (flow_of a) a.config) || b)
+    (led_on (effect_of a) (reached (flow_of a) (exchanged a.service a.config r.group)) (enter a.service (flow_of a) (exchanged a.service a.config r.group) r.group) led)
 done_asked a action.Launch xs r led =
-    ap (λ (b : Bool). asks a (λ v w c. leave_all v w c) || b)
-    (leads_on a (reached (flow_of a) (exchanged a.service a.config r.group)) (enter a.service (flow_of a) (exchanged a.service a.config r.group) r.group) led)
+    ap (λ (b : Bool). tells (effect_of a) (leave_all a.service (flow_of a) a.config) || b)
+    (led_on (effect_of a) (reached (flow_of a) (exchanged a.service a.config r.group)) (enter a.service (flow_of a) (exchanged a.service a.config r.group) r.group) led)
 done_asked a n xs r led = refl
 
 config_itself : (c : Config) → same_config c c ≡ true
@@ -86,21 +68,35 @@ all_led v a d x =
     there : ObjRef → Config → Bool
     there r c = same_config (led r) c
 
-targets_granted : (v : Service) (a : Arrow) (d : Config) (x : Act) (t : Target) → targets (granted v a d x) a.cause.config t ≡ comes_to a.held t
-targets_granted v a d x (target.Direct r) = refl
-targets_granted v a d x (target.Through y) = refl
+targets_granted : (a : Asked) (t : Target) → view.targets (around_of a).lists.view t ≡ comes_to a.arrow.held t
+unfolding flow_of
+targets_granted a (target.Direct r) = refl
+targets_granted a (target.Through y) = refl
 
-act_told : (a : Asked) (n : ActionName) (xs : List Argument) (rs : List ObjRef) → list_all (is_led a.service (flow_of a) a.config) rs ≡ true → asks a (λ v w c. most_price (done_to v w c n xs) rs) ≡ list_any (puts_at a n xs) rs
+act_told : (a : Asked) (n : ActionName) (xs : List Argument) (rs : List ObjRef) → list_all (is_led a.service (flow_of a) a.config) rs ≡ true → tells (effect_of a) (most_price (costs.done_to a.service (flow_of a) a.config n xs) rs) ≡ tells (effect_of a) (most_price (view.done_to (around_of a) n xs) rs)
 act_told a n xs rs led =
-    tells_most (effect_of a) (done_to a.service (flow_of a) a.config n xs) rs
-    ∙ any_same_where (is_led a.service (flow_of a) a.config) (λ (r : ObjRef). asks a (λ v w c. done_to v w c n xs r)) (puts_at a n xs) (done_asked a n xs) rs led
+    tells_most (effect_of a) (costs.done_to a.service (flow_of a) a.config n xs) rs
+    ∙ any_same_where (is_led a.service (flow_of a) a.config) (λ (r : ObjRef). tells (effect_of a) (costs.done_to a.service (flow_of a) a.config n xs r)) (λ (r : ObjRef). tells (effect_of a) (view.done_to (around_of a) n xs r)) (done_asked a n xs) rs led
+    ∙ sym (tells_most (effect_of a) (view.done_to (around_of a) n xs) rs)
 
-pub act_asked : (v : Service) (a next : Arrow) (x : Act) → counts (put_by a.by next.cause) (act v (granted v a next.cause.config x) a.cause.config x) ≡ list_any (puts_at (asked v a next x) x.name x.arguments) (comes_to a.held x.target)
+-- what the walk finds is what the action counts
+act_found : (v : Service) (a next : Arrow) (x : Act) → onto (meter_of (asked v a next x)) (view.act (around_of (asked v a next x)) x) false ≡ counts (put_by a.by next.cause) (costs.act v (granted v a next.cause.config x) a.cause.config x)
 unfolding flow_of effect_of
-act_asked v a next x =
-    counts_tells (put_by a.by next.cause) (act v (granted v a next.cause.config x) a.cause.config x)
-    ∙ ap (λ (rs : List ObjRef). tells (put_by a.by next.cause) (most_price (done_to v (granted v a next.cause.config x) a.cause.config x.name x.arguments) rs)) (targets_granted v a next.cause.config x x.target)
-    ∙ act_told (asked v a next x) x.name x.arguments (comes_to a.held x.target) (all_led v a next.cause.config x)
+act_found v a next x =
+    found_told (effect_of here) (view.act (around_of here) x) false
+    ∙ sym (act_told here x.name x.arguments (view.targets (around_of here).lists.view x.target) led)
+    ∙ sym (counts_tells (effect_of here) (costs.act v (flow_of here) a.cause.config x))
+  where
+    here : Asked
+    here = asked v a next x
+
+    led : list_all (is_led v (flow_of here) a.cause.config) (view.targets (around_of here).lists.view x.target) ≡ true
+    led = ap (λ (rs : List ObjRef). list_all (is_led v (flow_of here) a.cause.config) rs) (targets_granted here x.target) ∙ all_led v a next.cause.config x
+
+pub puts_found : {E : Type 0} (v : Service) (a next : Arrow) (x : Act) (here : Asked) (r : Result Bool E) (t : Bool) → here ≡ asked v a next x → r ≡ Ok t → Adds (λ (y : Bool). y) (meter_of here) (view.act (around_of here) x) false r → t ≡ counts (put_by a.by next.cause) (costs.act v (granted v a next.cause.config x) a.cause.config x)
+puts_found {E} v a next x here r t is ok adds =
+    subst (λ (z : Asked × Result Bool E). Adds (λ (y : Bool). y) (meter_of z.0) (view.act (around_of z.0) x) false z.1) (λ i. (is i, ok i)) adds
+    ∙ act_found v a next x
 
 -- Slots
 
@@ -143,11 +139,9 @@ in_range (by.Slot n) count = among_range first_slot n count
 in_range by.Entered count = below_range on_start_up first_slot count (omega arith)
 in_range by.Left count = below_range on_close_down first_slot count (omega arith)
 
-pub slots_asked : (a : Asked) (p : Fixed) → asks a (λ v w c. slots c p) ≡ (not (is_link p.class) && ((same_setting a.next.cause.config a.config && same_key a.next.cause.at p.key) && is_slot (length (slots_of p)) a.arrow.by))
+pub slots_asked : (a : Asked) (p : Fixed) → tells (effect_of a) ((around_of a).lists.view.slots p) ≡ ((same_setting a.next.cause.config a.config && same_key a.next.cause.at p.key) && is_slot (length (slots_of p)) a.arrow.by)
 unfolding effect_of
 slots_asked a p =
-    tells_if (effect_of a) (not (is_link p.class)) (most_price (λ n. effect a.config n p) (slot_numbers p))
-    ∙ ap (λ (b : Bool). not (is_link p.class) && b)
-    (tells_most (effect_of a) (λ (n : ℕ). effect a.config n p) (slot_numbers p)
+    tells_most (effect_of a) (λ (n : ℕ). effect a.config n p) (slot_numbers p)
     ∙ any_and (same_setting a.next.cause.config a.config && same_key a.next.cause.at p.key) (λ (n : ℕ). number_by a.arrow.by == n) (slot_numbers p)
-    ∙ ap (λ (b : Bool). (same_setting a.next.cause.config a.config && same_key a.next.cause.at p.key) && b) (in_range a.arrow.by (length (slots_of p))))
+    ∙ ap (λ (b : Bool). (same_setting a.next.cause.config a.config && same_key a.next.cause.at p.key) && b) (in_range a.arrow.by (length (slots_of p)))

@@ -1,11 +1,10 @@
 -- Whether any of a list passes a test.
-use Rattle.std.specs.Prelude.{◌≡◌, Bool, true, false, ◌&&◌, ◌||◌, cond, List, [], ◌∷◌, ◌++◌, filter, map, reverse, Option, Some, None, refl}
+use Rattle.std.specs.Prelude.{◌≡◌, Bool, true, false, ◌&&◌, ◌||◌, cond, List, [], ◌∷◌, ◌++◌, filter, map, Option, Some, None, refl}
 use Rattle.std.specs.Cmp.Derive.{both_true}
 use Rattle.std.specs.List.{cons_option, filter_map, find, flat_map, list_any, list_all}
 use Rattle.std.specs.Option.{option_map_or, option_or}
 use Rattle.std.proofs.Common.{ap, ◌∙◌, sym}
-use Rattle.std.proofs.Math.Bool.{or-false, or-true, or_comm}
-use Rattle.std.proofs.lemmas.Grind.{reverse_onto}
+use Rattle.std.proofs.Math.Bool.{or-true}
 use Rattle.std.proofs.lemmas.List.Folds.{find-append, list_any-append}
 use Rattle.mh_model.proofs.ListLemmas.{and_left, and_right}
 
@@ -72,16 +71,6 @@ pub each_one : {X Y : Type 0} (p : X → Y → Bool) (f : X → Y) → ((x : X) 
 each_one p f its [] = refl
 each_one p f its (x ∷ xs) =
     both_true (ap (λ (b : Bool). b || list_any (p x) (map f xs)) (its x)) (any_more p (f x) (map f xs) xs (each_one p f its xs))
-
--- the order is no matter
-pub any_turned : {X : Type 0} (p : X → Bool) (xs : List X) → list_any p (reverse xs) ≡ list_any p xs
-any_turned {X} p [] = refl
-any_turned {X} p (x ∷ xs) =
-    ap (list_any p) (reverse_onto xs x [])
-    ∙ list_any-append p (reverse xs) (x ∷ [])
-    ∙ ap (λ (b : Bool). list_any p (reverse xs) || b) (or-false (p x))
-    ∙ ap (λ (b : Bool). b || p x) (any_turned p xs)
-    ∙ or_comm (list_any p xs) (p x)
 
 -- what all ask in front of a test
 pub any_and : {X : Type 0} (a : Bool) (p : X → Bool) (xs : List X) → list_any (λ x. a && p x) xs ≡ (a && list_any p xs)

@@ -24,7 +24,7 @@ use Rattle.mh_model.specs.Service.{Service, is_there}
 use Rattle.mh_model.specs.Variables.{same_value}
 use Rattle.mh_model.proofs.ListLemmas.{and_left, and_right}
 use Rattle.mh_model.proofs.ServiceLemmas.{same_ref-same}
-use Rattle.mh_laws.specs.Costs.{Effect, can_hear, effect, emit, entry, event_from, fired, fired_if_there, heard_by, first_slot, link_effect, named_data}
+use Rattle.mh_laws.specs.Costs.{Effect, can_hear, effect, entry, event_from, fired, fired_if_there, heard_by, first_slot, link_effect, named_data, objects}
 use Rattle.mh_laws.specs.Flow.{Flow}
 use Rattle.mh_laws.specs.Price.{if_price, most_price}
 use Rattle.mh_laws.specs.Safe.{exchanged}
@@ -33,7 +33,7 @@ use Rattle.mh_laws.proofs.SetLemmas.{same_itself}
 use Rattle.mh_layers.specs.Arrows.{comes_to, number_by, same_effect}
 use Rattle.mh_layers.specs.Keys.{data_of, waits_for}
 use Rattle.mh_layers.specs.Reading.{same_setting}
-use Rattle.mh_evidence.specs.Putting.{Asked, asks, could_hear, effect_of, flow_of, is_heard, tells, there}
+use Rattle.mh_evidence.specs.Putting.{Asked, around_of, could_hear, effect_of, flow_of, is_heard, tells, there}
 use Rattle.mh_evidence.proofs.AnyLemmas.{any_and, any_crossed, any_more, any_same, any_same_where, each_one}
 use Rattle.mh_evidence.proofs.PutLemmas.{tells_if, tells_most, tells_sum}
 
@@ -173,8 +173,8 @@ entry_told v w y r kind d has =
     ∙ and_comm (tells y (fired_if_there v y.config r kind d)) (list_any (same_setting y.config) w.configs)
     ∙ ap (λ (b : Bool). b && tells y (fired_if_there v y.config r kind d)) has
 
-pub emit_told : (v : Service) (w : Flow) (y : Effect) (c : Config) (r : ObjRef) (kind : EventType) (d : Told) → list_any (same_setting y.config) w.configs ≡ true → tells y (emit v w c r kind d) ≡ ((not (is_sync kind) || same_setting y.config c) && tells y (fired_if_there v y.config r kind d))
-emit_told v w y c r kind d has = by (is_sync kind)
+dealt_told : (v : Service) (w : Flow) (y : Effect) (c : Config) (r : ObjRef) (kind : EventType) (d : Told) → list_any (same_setting y.config) w.configs ≡ true → tells y ((objects v w c).dealt_with r kind d) ≡ ((not (is_sync kind) || same_setting y.config c) && tells y (fired_if_there v y.config r kind d))
+dealt_told v w y c r kind d has = by (is_sync kind)
   where
     by : (b : Bool) → tells y (if b then fired_if_there v c r kind d else entry v w r kind d) ≡ ((not b || same_setting y.config c) && tells y (fired_if_there v y.config r kind d))
     by true = elsewhere v y c r kind d
@@ -201,10 +201,10 @@ heard_asked a r kind d = heard_there a.service (effect_of a) r kind d ∙ groupe
     grouped true y z = refl
     grouped false y z = refl
 
-pub emit_asked : (a : Asked) (r : ObjRef) (kind : EventType) (d : Told) → asks a (λ v w c. emit v w c r kind d) ≡ ((not (is_sync kind) || same_setting a.next.cause.config a.config) && is_heard a r kind d)
+pub dealt_asked : (a : Asked) (r : ObjRef) (kind : EventType) (d : Told) → tells (effect_of a) ((around_of a).lists.view.dealt_with r kind d) ≡ ((not (is_sync kind) || same_setting a.next.cause.config a.config) && is_heard a r kind d)
 unfolding effect_of
-emit_asked a r kind d =
-    emit_told a.service (flow_of a) (effect_of a) a.config r kind d (has_next a)
+dealt_asked a r kind d =
+    dealt_told a.service (flow_of a) (effect_of a) a.config r kind d (has_next a)
     ∙ ap (λ (b : Bool). (not (is_sync kind) || same_setting a.next.cause.config a.config) && b) (heard_asked a r kind d)
 
 pub slot_is_no_link : (n : ℕ) → (first_slot + n == link_effect) ≡ false

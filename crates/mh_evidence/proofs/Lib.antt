@@ -1,7 +1,7 @@
 pub mod AnyLemmas
 pub mod PutLemmas
+pub mod HeldLemmas
 pub mod HearLemmas
-pub mod LifeLemmas
 pub mod GroupLemmas
 pub mod ActLemmas
 pub mod EffectLemmas

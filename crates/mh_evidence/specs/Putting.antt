@@ -1,13 +1,10 @@
--- Whether an action puts an effect to work, read off the price of the action part by part. That is just where the price counts
--- the effect (`PutLemmas`).
-use Rattle.std.specs.Prelude.{ℕ, nat_lt, Bool, true, false, ◌==◌, ◌&&◌, ◌||◌, List, [], ◌∷◌, length, take}
+-- Whether an action puts an effect to work: the price of the action counts it, in the view of a configuration that an arrow
+-- grants. Of the effect that is asked for this says which events put it to work.
+use Rattle.std.specs.Prelude.{ℕ, nat_lt, Bool, true, false, ◌==◌, ◌&&◌, ◌||◌, List, [], ◌∷◌, drop, length, take}
 use Rattle.std.specs.List.{list_any, sum_by}
 use Rattle.mh_base.specs.declared.event.EventType.{EventType}
 use Rattle.mh_base.specs.declared.obj_ref.ObjRef.{ObjRef}
-use Rattle.mh_group.specs.declared.action_name.ActionName.{ActionName}
-use Rattle.mh_group.specs.declared.action_name.ActionName.TheVariants as action
 use Rattle.mh_model.specs.declared.act.Act.{Act}
-use Rattle.mh_model.specs.declared.act.Argument.{Argument}
 use Rattle.mh_model.specs.declared.config.Config.{Config}
 use Rattle.mh_model.specs.declared.object.Fixed.{Fixed}
 use Rattle.mh_model.specs.Configuration.{present}
@@ -18,14 +15,18 @@ use Rattle.mh_laws.specs.Costs.{Effect}
 use Rattle.mh_laws.specs.Flow.{Flow}
 use Rattle.mh_laws.specs.Price.{Price, Nothing, One, Node, Plus, Most}
 use Rattle.mh_laws.specs.Safe.{exchanged}
+use Rattle.mh_laws.specs.View.{Around}
 use Rattle.mh_laws.specs.Ways.{Told, Sure, Unsure}
 use Rattle.mh_flow.specs.Sites.{sites}
 use Rattle.mh_layers.specs.declared.arrow.Arrow.{Arrow}
 use Rattle.mh_layers.specs.declared.arrow.By.{By}
 use Rattle.mh_layers.specs.declared.arrow.By.TheVariants as by
-use Rattle.mh_layers.specs.Arrows.{counts, granted, is_action_of, leads, number_by, put_by, puts, same_action, same_effect}
+use Rattle.mh_layers.specs.Arrows.{counts, granted, held_by, is_action_of, leads, number_by, put_by, puts, same_action, same_effect}
 use Rattle.mh_layers.specs.Keys.{waits_for}
+use Rattle.mh_prices.specs.Meter.{Meter}
+use Rattle.mh_prices.specs.Meters.{finding}
 
+-- the price counts the effect, read off it part by part (`PutLemmas`)
 abbrev pub tells : Effect → Price Effect → Bool
 tells y Nothing = false
 tells y One = false
@@ -51,9 +52,28 @@ flow_of a = granted a.service a.arrow a.next.cause.config a.act
 unfoldable pub effect_of : Asked → Effect
 effect_of a = put_by a.arrow.by a.next.cause
 
--- what is done comes to a price that tells of the effect
-abbrev pub asks : Asked → (Service → Flow → Config → Price Effect) → Bool
-asks a price = tells (effect_of a) (price a.service (flow_of a) a.config)
+-- The view of the configuration. To where the action leads is granted, so whatever is gone on to is entered.
+
+abbrev pub around_of : Asked → Around Effect
+around_of a = record {
+  lists = costs.lists a.service (flow_of a) a.config;
+  leave = costs.leaves a.service (flow_of a) a.config;
+  exchange = λ g. Plus One (costs.enter a.service (flow_of a) (exchanged a.service a.config g) g);
+}
+
+-- what a variable refers to and a list has, of all that is granted from a place on
+abbrev pub left_of : Asked → ObjRef → ℕ → List ObjRef
+left_of a r n = held_by (drop n a.arrow.held) r
+
+abbrev pub starts_of : Asked → List ℕ → Price Effect
+starts_of a g = costs.group_effect a.service a.config g costs.on_start_up
+
+abbrev pub closes_of : Asked → List ℕ → Price Effect
+closes_of a g = costs.group_effect a.service a.config g costs.on_close_down
+
+-- and what its prices are added up to: whether the effect was found
+abbrev pub meter_of : Asked → Meter Effect Bool (record {})
+meter_of a = finding (same_effect (effect_of a))
 
 -- what is present where the effect is
 abbrev pub there : Asked → List Fixed
@@ -81,14 +101,6 @@ acts_before n p = sum_by (λ (e : List Act). length e) (take n (costs.effects p)
 abbrev pub is_slot : ℕ → By → Bool
 is_slot count (by.Slot n) = nat_lt n count
 is_slot count _ = false
-
--- what an action puts that is done to this object, which its target comes to: a transition goes on to where it leads
-abbrev pub puts_at : Asked → ActionName → List Argument → ObjRef → Bool
-puts_at a action.TransitionTo xs r =
-    asks a costs.leave_scene || asks (record a { config = exchanged a.service a.config r.group }) (λ v w c. costs.enter v w c r.group)
-puts_at a action.Launch xs r =
-    asks a costs.leave_all || asks (record a { config = exchanged a.service a.config r.group }) (λ v w c. costs.enter v w c r.group)
-puts_at a n xs r = asks a (λ v w c. costs.done_to v w c n xs r)
 
 -- the action is the arrow's, and counts the effect of the next
 unfoldable pub is_putting : Service → Arrow → Arrow → Act → Bool

@@ -4,17 +4,17 @@
 ghost use Rattle.std.specs.Prelude.{◌≡◌, ◌&&◌, ◌==◌};
 ghost use Rattle.std.specs.Option.{option_copied, option_eq};
 ghost use Rattle.std.specs.Str.{bytes_eq};
-ghost use Rattle.mh_model.specs.Configuration.{present, scene_parts};
+ghost use Rattle.mh_model.specs.Configuration.{present};
 ghost use Rattle.mh_model.specs.Reference.{same_key};
-ghost use Rattle.mh_model.specs.Service.{group_parts, part_at};
+ghost use Rattle.mh_model.specs.Service.{group_parts};
 ghost use Rattle.mh_laws.specs.Safe.{exchanged};
 ghost use Rattle.mh_layers.specs.Reading.{same_setting};
 ghost use Rattle.mh_evidence.specs.Putting.{asked};
 
-use crate::there::{There, scene_parts};
+use crate::there::There;
 use mh_base::{GroupName, ObjRef};
-use mh_layers::{Arrow, By, Cause, Held};
-use mh_model::{Act, Fixed, FixedPart};
+use mh_layers::Arrow;
+use mh_model::{Act, FixedPart};
 use mh_service::Service;
 use std::marker::Model;
 
@@ -22,14 +22,14 @@ use std::marker::Model;
 /// configuration.
 #[derive(Drop)]
 pub(crate) struct Asked<'a> {
-    service: &'a Service,
+    pub service: &'a Service,
     /// The arrow of the action: what it grants, and by what the next is put to work.
-    arrow: &'a Arrow,
-    next: &'a Arrow,
-    act: &'a Act,
+    pub arrow: &'a Arrow,
+    pub next: &'a Arrow,
+    pub act: &'a Act,
     /// Where it is done.
-    application: &'a GroupName,
-    scene: Option<&'a GroupName>,
+    pub application: &'a GroupName,
+    pub scene: Option<&'a GroupName>,
 }
 
 impl<'a> Model for Asked<'a> {
@@ -101,27 +101,6 @@ impl<'a> Asked<'a> {
         }
     }
 
-    /// The part to which the reference leads, if it is present.
-    pub(crate) fn part(&self, at: &ObjRef) -> Option<&Fixed>
-        ensures { option_copied result ≡ part_at at.now (present self.now.service self.now.config) }
-    {
-        There::with(self.service, self.application, self.scene).find(at)
-    }
-
-    /// The application.
-    pub(crate) fn application(&self) -> &GroupName
-        ensures { result.now ≡ self.now.config.app }
-    {
-        self.application
-    }
-
-    /// The scene, if there is one.
-    pub(crate) fn scene(&self) -> Option<&GroupName>
-        ensures { option_copied result ≡ self.now.config.scene }
-    {
-        self.scene
-    }
-
     /// The parts of a group.
     pub(crate) fn parts(&self, group: &GroupName) -> &[FixedPart]
         ensures { result.now ≡ group_parts self.now.service group.now }
@@ -129,42 +108,7 @@ impl<'a> Asked<'a> {
         self.service.parts(group)
     }
 
-    /// The parts of the application.
-    pub(crate) fn application_parts(&self) -> &[FixedPart]
-        ensures { result.now ≡ group_parts self.now.service self.now.config.app }
-    {
-        self.service.parts(self.application)
-    }
-
-    /// The parts of the scene, if there is one.
-    pub(crate) fn scene_parts(&self) -> &[FixedPart]
-        ensures { result.now ≡ scene_parts self.now.service self.now.config.scene }
-    {
-        scene_parts(self.service, self.scene)
-    }
-
-    /// To what variables refer, and which items lists have.
-    pub(crate) fn held(&self) -> &[Held]
-        ensures { result.now ≡ self.now.arrow.held }
-    {
-        self.arrow.held.as_slice()
-    }
-
-    /// The effect that is asked for, by its place.
-    pub(crate) fn cause(&self) -> &Cause
-        ensures { result.now ≡ self.now.next.cause }
-    {
-        &self.next.cause
-    }
-
-    /// What is to put it to work.
-    pub(crate) fn by(&self) -> &By
-        ensures { result.now ≡ self.now.arrow.by }
-    {
-        &self.arrow.by
-    }
-
-    /// What is present where it is.
+    /// What is present where the effect is that is asked for.
     pub(crate) fn there(&self) -> There<'_>
         ensures { result ≡ present self.now.service self.now.next.cause.config }
     {

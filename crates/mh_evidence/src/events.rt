@@ -1,22 +1,22 @@
 //! Events: whether one of them puts the effect to work that is asked for.
 //!
-//! Promise: each function answers whether its price tells of the effect.
+//! Promise: an event puts it to work just where its price tells of it.
 ghost use Rattle.std.specs.Prelude.{◌≡◌, ◌&&◌, ◌||◌, ◌==◌, not};
 ghost use Rattle.std.specs.List.{list_any};
 ghost use Rattle.mh_base.specs.Event.{is_sync};
-ghost use Rattle.mh_model.specs.Reference.{same_key, group_ref};
+ghost use Rattle.mh_model.specs.Reference.{same_key};
 ghost use Rattle.mh_laws.specs.Costs as costs;
-ghost use Rattle.mh_laws.specs.Ways.{Unsure};
 ghost use Rattle.mh_layers.specs.Arrows.{number_by};
 ghost use Rattle.mh_layers.specs.Reading.{same_setting};
-ghost use Rattle.mh_evidence.specs.Putting.{asks, could_hear, is_heard, ref_of};
+ghost use Rattle.mh_evidence.specs.Putting.{around_of, could_hear, effect_of, is_heard, ref_of, tells};
 
 use crate::asked::Asked;
-use crate::links::{Told, could_hear};
+use crate::links::could_hear;
 use crate::there::There;
-use mh_base::{EventType, GroupName, ObjRef};
+use mh_base::{EventType, GroupName};
 use mh_layers::By;
 use mh_model::{Fixed, FixedPart};
+use mh_prices::Told;
 
 /// Whether it is an event that puts an effect to work.
 #[tactic(auto, using(crate::proofs::HearLemmas::slot_is_no_link))]
@@ -37,7 +37,7 @@ impl<'a> Asked<'a> {
     ) -> bool
         ensures { result ≡ (could_hear (ref_of group.now number) kind told.now part.now && same_key self.now.next.cause.at part.now.key) }
     {
-        if self.cause().at == part.key {
+        if self.next.cause.at == part.key {
             could_hear(part, group, number, kind, told)
         } else {
             false
@@ -78,7 +78,7 @@ impl<'a> Asked<'a> {
     fn is_heard(&self, group: &GroupName, number: u32, kind: EventType, told: &Told<'_>) -> bool
         ensures { result ≡ is_heard self.now (ref_of group.now number) kind told.now }
     {
-        if !is_event(self.by()) {
+        if !is_event(&self.arrow.by) {
             return false;
         }
         let there = self.there();
@@ -93,38 +93,17 @@ impl<'a> Asked<'a> {
     }
 
     /// An event of the object of the group that has the number.
-    #[tactic(auto, using(crate::proofs::HearLemmas::emit_asked))]
-    fn emits_from(&self, group: &GroupName, number: u32, kind: EventType, told: &Told<'_>) -> bool
-        ensures { result ≡ asks self.now (λ v w c. costs.emit v w c (ref_of group.now number) kind told.now) }
+    #[tactic(auto, using(crate::proofs::HearLemmas::dealt_asked))]
+    pub(crate) fn deals_with(
+        &self,
+        group: &GroupName,
+        number: u32,
+        kind: EventType,
+        told: &Told<'_>,
+    ) -> bool
+        ensures { let source = ref_of group.now number in
+            result ≡ tells (effect_of self.now) ((around_of self.now).lists.view.dealt_with source kind told.now) }
     {
         self.may_come(kind) && self.is_heard(group, number, kind, told)
-    }
-
-    /// An event, of whose data this is known.
-    pub(crate) fn emits(&self, at: &ObjRef, kind: EventType, told: &Told<'_>) -> bool
-        ensures { result ≡ asks self.now (λ v w c. costs.emit v w c at.now kind told.now) }
-    {
-        self.emits_from(&at.group, at.number, kind, told)
-    }
-
-    /// An event without data.
-    pub(crate) fn emits_plain(&self, at: &ObjRef, kind: EventType) -> bool
-        ensures { result ≡ asks self.now (λ v w c. costs.plain_emit v w c at.now kind) }
-    {
-        self.emits(at, kind, &Told::sure(None))
-    }
-
-    /// An event of whose data nothing is known.
-    pub(crate) fn emits_unsure(&self, at: &ObjRef, kind: EventType) -> bool
-        ensures { result ≡ asks self.now (λ v w c. costs.emit v w c at.now kind Unsure) }
-    {
-        self.emits(at, kind, &Told::unsure())
-    }
-
-    /// An event without data of a group itself.
-    pub(crate) fn group_emits(&self, group: &GroupName, kind: EventType) -> bool
-        ensures { result ≡ asks self.now (λ v w c. costs.plain_emit v w c (group_ref group.now) kind) }
-    {
-        self.emits_from(group, 0, kind, &Told::sure(None))
     }
 }

@@ -4,7 +4,6 @@
 //! is found, no layers are laid, and no memory is taken.
 #![tactic(auto)]
 
-mod actions;
 mod asked;
 mod chains;
 mod claims;
@@ -12,12 +11,11 @@ mod effects;
 mod events;
 mod evidence;
 mod links;
-mod lives;
 mod questions;
 mod rounds;
 mod sites;
 mod there;
-mod transitions;
+mod view;
 mod wrongs;
 mod wrongs_arguments;
 mod wrongs_calls;

@@ -6,7 +6,6 @@ ghost use Rattle.std.specs.Option.{option_copied, option_eq};
 ghost use Rattle.mh_model.specs.Items.{hears_data, hears_source, hears_type};
 ghost use Rattle.mh_model.specs.Property.{held, as_event, as_value};
 ghost use Rattle.mh_model.specs.Variables.{same_value};
-ghost use Rattle.mh_laws.specs.Ways.{Sure, Unsure};
 ghost use Rattle.mh_layers.specs.Arrows.{is_waited_for};
 ghost use Rattle.mh_layers.specs.Keys.{data_of, waits_for};
 ghost use Rattle.mh_evidence.specs.Putting.{could_hear, ref_of};
@@ -17,46 +16,7 @@ use mh_layers::By;
 use mh_model::Fixed;
 use mh_model::held::{as_event, as_value};
 use mh_model::kinds::same_value;
-use std::marker::Model;
-
-/// What is known of the data of an event.
-#[derive(Drop)]
-pub(crate) struct Told<'a> {
-    is_sure: bool,
-    value: Option<&'a Value>,
-}
-
-impl<'a> Model for Told<'a> {
-    ghost use Rattle.std.specs.Prelude.{if◌then◌else◌};
-    ghost use Rattle.std.specs.Option.{option_copied};
-    ghost use Rattle.mh_laws.specs.Ways.{Told as ToldValue, Sure, Unsure};
-
-    ghost Value = { ToldValue };
-
-    ghost view = { λ t. if t.is_sure then Sure (option_copied t.value) else Unsure };
-}
-
-impl<'a> Told<'a> {
-    /// That it has this data, or none.
-    pub(crate) fn sure(value: Option<&'a Value>) -> Told<'a>
-        ensures { result ≡ Sure (option_copied value.entry) }
-    {
-        Told {
-            is_sure: true,
-            value,
-        }
-    }
-
-    /// Nothing.
-    pub(crate) fn unsure() -> Told<'a>
-        ensures { result ≡ Unsure }
-    {
-        Told {
-            is_sure: false,
-            value: None,
-        }
-    }
-}
+use mh_prices::Told;
 
 fn data_of(link: &Fixed) -> Option<&Value>
     ensures { option_copied result ≡ data_of link.now }

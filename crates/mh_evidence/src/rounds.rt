@@ -11,11 +11,11 @@ ghost use Rattle.mh_verify.specs.Evidence.{is_arrow_of, is_by_holder};
 ghost use Rattle.mh_evidence.specs.Spots.{with_number};
 ghost use Rattle.mh_evidence.specs.Putting.{is_putting, lead_on, next_of, puts_in};
 
-use crate::actions::puts;
 use crate::effects::is_action_in;
 use crate::links::is_waited_for;
 use crate::sites::with_number;
 use crate::there::{There, class_in, is_configuration, is_holder};
+use crate::view::puts;
 use mh_layers::{Arrow, By, Held};
 use mh_model::{Act, Fixed, FixedPart};
 use mh_service::Service;

@@ -1,0 +1,4 @@
+mod TurnedLemmas
+mod CostLemmas
+mod KeysLemmas
+pub mod FoundLemmas

@@ -1,0 +1,31 @@
+//! Prices: one walk over what an action, an object, a list and a group come to.
+//!
+//! Promise: what is summed is what the definition says (`View` of `mh_laws`), whatever is asked of a configuration and
+//! whatever is made of a price. Nothing is searched for.
+#![tactic(auto)]
+
+mod actions;
+mod cost;
+mod found;
+mod groups;
+mod keyed;
+mod keyed_price;
+mod keys;
+mod life;
+mod meter;
+mod metered;
+mod putting;
+mod sending;
+mod told;
+mod view;
+
+pub use actions::act;
+pub use cost::{Costs, cost_of};
+pub use found::counts;
+pub use groups::{enter, leave_all, leave_scene};
+pub use keyed::Keyed;
+pub use keyed_price::KeyedPrice;
+pub use keys::keys_of;
+pub use life::change;
+pub use told::Told;
+pub use view::{Around, Groups, Lists, View};
