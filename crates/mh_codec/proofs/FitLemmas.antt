@@ -26,6 +26,7 @@ use Rattle.mh_group.specs.Table.{needs_of, optional_of}
 use Rattle.mh_codec.specs.declared.codec_error.Why.TheVariants.{UnknownTag, Limit, BadValue}
 use Rattle.mh_codec.specs.Tags.{action_with}
 use Rattle.mh_codec.specs.Gives.{Refusal}
+use Rattle.mh_codec.specs.Tags.{Tags, IsTable}
 use Rattle.mh_codec.specs.Reading.{taken, ended, only, own_at, some_at, sequence_at, truth_at, integer_at, octets_at, natural_at, length_at, fixed_at, event_at, justification_at, colour_at, reference_at, content_name_at, content_at, data_at, generic_at, exhausted, next_member, continued, listed, list_at, typed_at, parameter_at, parameters, action_at, effect_at, row_at, member_in, member_at, list_item_in, list_item_at, position_at, next_scene_at, part, pair, single, setting}
 use Rattle.mh_codec.proofs.ValueLemmas.{natural_read}
 use Rattle.mh_codec.proofs.PairLemmas.{fits_part}
@@ -83,19 +84,6 @@ module _ {A : Type 0} {member : Element → Result A Refusal} {is_fit : A → Bo
 
 -- actions
 
-parameter_fits : (n : Need) (e : Element) (p : Parameter) → parameter_at n e ≡ Ok p → fits_parameter n p ≡ true
-unfolding parameter_at
-parameter_fits need.Bool e p is = made_fits (fits_parameter need.Bool) (generic_at truth_at e) of_parameter.Bool p is (λ x h. refl)
-parameter_fits need.Int e p is = made_fits (fits_parameter need.Int) (generic_at integer_at e) of_parameter.Int p is (λ x h. refl)
-parameter_fits need.Octets e p is = made_fits (fits_parameter need.Octets) (generic_at octets_at e) of_parameter.Octets p is (λ x h. refl)
-parameter_fits need.Ref e p is = made_fits (fits_parameter need.Ref) (generic_at reference_at e) of_parameter.Ref p is (λ x h. refl)
-parameter_fits need.Content e p is = made_fits (fits_parameter need.Content) (generic_at content_at e) of_parameter.Content p is (λ x h. refl)
-parameter_fits need.Data e p is = made_fits (fits_parameter need.Data) (generic_at data_at e) of_parameter.Data p is (λ x h. refl)
-parameter_fits need.Event e p is = made_fits (fits_parameter need.Event) (event_at e) of_parameter.Event p is (λ x h. refl)
-parameter_fits (need.Receiver k) e p is = made_fits (fits_parameter (need.Receiver k)) (reference_at e) of_parameter.Receiver p is (λ x h. refl)
-parameter_fits need.Typed e p is = made_fits (fits_parameter need.Typed) (typed_at e) of_parameter.Typed p is (λ x h. refl)
-parameter_fits need.Arguments e p is = made_fits (fits_parameter need.Arguments) (list_at typed_at longest_list e) of_parameter.Arguments p is (λ x h. refl)
-
 -- parameters that were read behind others
 record Parameters (optional : ℕ) (ns : List Need) (done ps : List Parameter) : Type 0 where
   pub new : List Parameter
@@ -108,59 +96,7 @@ no_parameters optional ns done few = record { new = []; all = sym (append-nil do
 none_over : (n : ℕ) → nat_le 0 n ≡ true
 none_over n = grind (arith, nat_tests)
 
-parameters_step : (optional : ℕ) (n : Need) (ns : List Need) (done : List Parameter) (left : Rest) (b : Bool) (y : List Parameter × Rest) → (b ≡ true → nat_le (length (n ∷ ns)) optional ≡ true)
-    → (if b then Ok (done, left) else (taken left >>= λ a. parameter_at n a.0 >>= λ x. parameters optional ns (done ++ x ∷ []) a.1)) ≡ Ok y
-    → ((p : Parameter) (rest : Rest) → parameters optional ns (done ++ p ∷ []) rest ≡ Ok y → Parameters optional ns (done ++ p ∷ []) y.0) → Parameters optional (n ∷ ns) done y.0
-parameters_step optional n ns done left true y few e further =
-    subst (λ (z : List Parameter × Rest). Parameters optional (n ∷ ns) done z.0) (ok_same e) (no_parameters optional (n ∷ ns) done (few refl))
-parameters_step optional n ns done left false y few e further =
-    let a = went (taken left) _ y e in
-    let p = went (parameter_at n a.value.0) _ y a.behind in
-    let more = further p.value a.value.1 p.behind in
-    record {
-      new = p.value ∷ more.new;
-      all = more.all ∙ append_assoc done (p.value ∷ []) more.new;
-      fit = and_from (fits_parameter n p.value) (fits_parameters optional ns more.new) (parameter_fits n a.value.0 p.value p.first) more.fit;
-    }
-
-parameters_fit : (optional : ℕ) (ns : List Need) (done : List Parameter) (left : Rest) (y : List Parameter × Rest) → parameters optional ns done left ≡ Ok y → Parameters optional ns done y.0
-parameters_fit optional [] done left y e =
-    subst (λ (z : List Parameter × Rest). Parameters optional [] done z.0) (ok_same e) (no_parameters optional [] done (none_over optional))
-parameters_fit optional (n ∷ ns) done left y e =
-    parameters_step optional n ns done left (is_empty left.bytes && nat_le (length (n ∷ ns)) optional) y
-    (λ h. (and_parts (is_empty left.bytes) (nat_le (length (n ∷ ns)) optional) h).1) e (λ p rest more. parameters_fit optional ns (done ++ p ∷ []) rest y more)
-
-action_fits : (e : Element) (x : Action) → action_at e ≡ Ok x → fits_action x ≡ true
-unfolding action_at
-action_fits e x is =
-    let n = went (own_at e) _ x is in
-    let called = went (some_at e UnknownTag (action_with n.value)) _ x n.behind in
-    let a = went (taken e.contents) _ x called.behind in
-    let target = went (generic_at reference_at a.value.0) _ x a.behind in
-    let given = went (parameters (optional_of called.value) (needs_of called.value) [] a.value.1) _ x target.behind in
-    let p = parameters_fit (optional_of called.value) (needs_of called.value) [] a.value.1 given.value given.first in
-    let end = went (ended given.value.1) _ x given.behind in
-    let fit : fits_parameters (optional_of called.value) (needs_of called.value) given.value.0 ≡ true = rw p.all p.fit in
-    subst (λ (y : Action). fits_action y ≡ true) (ok_same end.behind) fit
-
 -- members
-
-effect_fits : (e : Element) (xs : List Action) → effect_at e ≡ Ok xs → fits_effect xs ≡ true
-effect_fits e xs is = (list_fits action_fits longest_list e xs is).0
-
-slots_fit : (left : Rest) (m : Member) → member_in left ≡ Ok m → fits_member m ≡ true
-unfolding member_in
-slots_fit left m is =
-    let a = went (taken left) _ m is in
-    let object = went (reference_at a.value.0) _ m a.behind in
-    let slots = went (listed effect_at longest_list [] a.value.1) _ m object.behind in
-    subst (λ (n : Member). fits_member n ≡ true) (ok_same slots.behind) (members_fit effect_fits longest_list [] a.value.1 slots.value refl slots.first).fit
-
-member_fits : (e : Element) (m : Member) → member_at e ≡ Ok m → fits_member m ≡ true
-unfolding member_at
-member_fits e m is =
-    let inner = went (sequence_at e) _ m is in
-    slots_fit inner.value m inner.behind
 
 no_slots : (left : Rest) (m : Member) → list_item_in left ≡ Ok m → is_list_item m ≡ true
 unfolding list_item_in
@@ -200,28 +136,6 @@ length_fits e x is =
     let t = if_ok (is_field_length a.value) (Ok a.value) BadValue e.offset x a.behind in
     subst (λ (y : ℤ). is_field_length y ≡ true) (ok_same t.1) t.0
 
-single_fits : (s : Shape) (e : Element) (v : Setting) → single s e ≡ Ok v → fits s v ≡ true
-unfolding single
-single_fits shape.Effect e v is = made_fits (fits shape.Effect) (effect_at e) of_setting.Effect v is (effect_fits e)
-single_fits shape.Bool e v is = made_fits (fits shape.Bool) (truth_at e) of_setting.Bool v is (λ x h. refl)
-single_fits shape.Int e v is = made_fits (fits shape.Int) (integer_at e) of_setting.Int v is (λ x h. refl)
-single_fits shape.Natural e v is = made_fits (fits shape.Natural) (natural_at e) of_setting.Int v is (natural_fits e)
-single_fits shape.Length e v is = made_fits (fits shape.Length) (length_at e) of_setting.Int v is (length_fits e)
-single_fits shape.Ref e v is = made_fits (fits shape.Ref) (reference_at e) of_setting.Ref v is (λ x h. refl)
-single_fits shape.Event e v is = made_fits (fits shape.Event) (event_at e) of_setting.Event v is (λ x h. refl)
-single_fits shape.Data e v is = made_fits (fits shape.Data) (data_at e) of_setting.Data v is (λ x h. refl)
-single_fits shape.Octets e v is = made_fits (fits shape.Octets) (octets_at e) of_setting.Octets v is (λ x h. refl)
-single_fits shape.Colour e v is = made_fits (fits shape.Colour) (colour_at e) of_setting.Colour v is (λ x h. refl)
-single_fits shape.Content e v is = made_fits (fits shape.Content) (content_at e) of_setting.Content v is (λ x h. refl)
-single_fits shape.ContentRef e v is = made_fits (fits shape.ContentRef) (content_name_at e) of_setting.ContentRef v is (λ x h. refl)
-single_fits shape.Justification e v is = made_fits (fits shape.Justification) (justification_at e) of_setting.Justification v is (λ x h. refl)
-single_fits shape.MovementTable e v is = made_fits (fits shape.MovementTable) (list_at row_at longest_list e) of_setting.MovementTable v is (λ x h. refl)
-single_fits shape.Members e v is = made_fits (fits shape.Members) (list_at member_at longest_list e) of_setting.Members v is (λ x h. (list_fits member_fits longest_list e x h).0)
-single_fits shape.ListItems e v is = made_fits (fits shape.ListItems) (list_at list_item_at 256 e) of_setting.Members v is (items_fit e)
-single_fits shape.Positions e v is = made_fits (fits shape.Positions) (list_at position_at longest_list e) of_setting.Positions v is (λ x h. refl)
-single_fits shape.NextScenes e v is = made_fits (fits shape.NextScenes) (list_at next_scene_at longest_list e) of_setting.NextScenes v is (λ x h. refl)
-single_fits _ e v is = absurd cc
-
 -- pairs
 
 fixed_fits : (k : ℤ) (e : Element) (x : ℤ) → fixed_at k e ≡ Ok x → int_eq x k ≡ true
@@ -257,14 +171,102 @@ pair_fits s left p is =
 abbrev of_pair : ℤ × ℤ → Setting
 of_pair p = of_setting.Pair p.0 p.1
 
-alone_fits : (s : Shape) (left : Rest) (v : Setting) → (only left >>= λ e. single s e) ≡ Ok v → fits s v ≡ true
-alone_fits s left v is =
-    let e = went (only left) _ v is in
-    single_fits s e.value v e.behind
+module _ (tags : Tags) (table : IsTable tags) where
+  parameter_fits : (n : Need) (e : Element) (p : Parameter) → parameter_at tags n e ≡ Ok p → fits_parameter n p ≡ true
+  unfolding parameter_at
+  parameter_fits need.Bool e p is = made_fits (fits_parameter need.Bool) (generic_at tags truth_at e) of_parameter.Bool p is (λ x h. refl)
+  parameter_fits need.Int e p is = made_fits (fits_parameter need.Int) (generic_at tags integer_at e) of_parameter.Int p is (λ x h. refl)
+  parameter_fits need.Octets e p is = made_fits (fits_parameter need.Octets) (generic_at tags octets_at e) of_parameter.Octets p is (λ x h. refl)
+  parameter_fits need.Ref e p is = made_fits (fits_parameter need.Ref) (generic_at tags reference_at e) of_parameter.Ref p is (λ x h. refl)
+  parameter_fits need.Content e p is = made_fits (fits_parameter need.Content) (generic_at tags (content_at tags) e) of_parameter.Content p is (λ x h. refl)
+  parameter_fits need.Data e p is = made_fits (fits_parameter need.Data) (generic_at tags data_at e) of_parameter.Data p is (λ x h. refl)
+  parameter_fits need.Event e p is = made_fits (fits_parameter need.Event) (event_at e) of_parameter.Event p is (λ x h. refl)
+  parameter_fits (need.Receiver k) e p is = made_fits (fits_parameter (need.Receiver k)) (reference_at e) of_parameter.Receiver p is (λ x h. refl)
+  parameter_fits need.Typed e p is = made_fits (fits_parameter need.Typed) (typed_at tags e) of_parameter.Typed p is (λ x h. refl)
+  parameter_fits need.Arguments e p is = made_fits (fits_parameter need.Arguments) (list_at (typed_at tags) longest_list e) of_parameter.Arguments p is (λ x h. refl)
 
-pub setting_fits : (s : Shape) (left : Rest) (v : Setting) → setting s left ≡ Ok v → fits s v ≡ true
-unfolding setting
-setting_fits shape.Pair left v is = made_fits (fits shape.Pair) (pair shape.Pair left) of_pair v is (pair_fits shape.Pair left)
-setting_fits shape.Size left v is = made_fits (fits shape.Size) (pair shape.Size left) of_pair v is (pair_fits shape.Size left)
-setting_fits shape.Screen left v is = made_fits (fits shape.Screen) (pair shape.Screen left) of_pair v is (pair_fits shape.Screen left)
-setting_fits s left v is = alone_fits s left v is
+  parameters_step : (optional : ℕ) (n : Need) (ns : List Need) (done : List Parameter) (left : Rest) (b : Bool) (y : List Parameter × Rest) → (b ≡ true → nat_le (length (n ∷ ns)) optional ≡ true)
+      → (if b then Ok (done, left) else (taken left >>= λ a. parameter_at tags n a.0 >>= λ x. parameters tags optional ns (done ++ x ∷ []) a.1)) ≡ Ok y
+      → ((p : Parameter) (rest : Rest) → parameters tags optional ns (done ++ p ∷ []) rest ≡ Ok y → Parameters optional ns (done ++ p ∷ []) y.0) → Parameters optional (n ∷ ns) done y.0
+  parameters_step optional n ns done left true y few e further =
+      subst (λ (z : List Parameter × Rest). Parameters optional (n ∷ ns) done z.0) (ok_same e) (no_parameters optional (n ∷ ns) done (few refl))
+  parameters_step optional n ns done left false y few e further =
+      let a = went (taken left) _ y e in
+      let p = went (parameter_at tags n a.value.0) _ y a.behind in
+      let more = further p.value a.value.1 p.behind in
+      record {
+        new = p.value ∷ more.new;
+        all = more.all ∙ append_assoc done (p.value ∷ []) more.new;
+        fit = and_from (fits_parameter n p.value) (fits_parameters optional ns more.new) (parameter_fits n a.value.0 p.value p.first) more.fit;
+      }
+
+  parameters_fit : (optional : ℕ) (ns : List Need) (done : List Parameter) (left : Rest) (y : List Parameter × Rest) → parameters tags optional ns done left ≡ Ok y → Parameters optional ns done y.0
+  parameters_fit optional [] done left y e =
+      subst (λ (z : List Parameter × Rest). Parameters optional [] done z.0) (ok_same e) (no_parameters optional [] done (none_over optional))
+  parameters_fit optional (n ∷ ns) done left y e =
+      parameters_step optional n ns done left (is_empty left.bytes && nat_le (length (n ∷ ns)) optional) y
+      (λ h. (and_parts (is_empty left.bytes) (nat_le (length (n ∷ ns)) optional) h).1) e (λ p rest more. parameters_fit optional ns (done ++ p ∷ []) rest y more)
+
+  action_fits : (e : Element) (x : Action) → action_at tags e ≡ Ok x → fits_action x ≡ true
+  unfolding action_at
+  action_fits e x is =
+      let n = went (own_at e) _ x is in
+      let called = went (some_at e UnknownTag (action_with tags n.value)) _ x n.behind in
+      let a = went (taken e.contents) _ x called.behind in
+      let target = went (generic_at tags reference_at a.value.0) _ x a.behind in
+      let given = went (parameters tags (optional_of called.value) (needs_of called.value) [] a.value.1) _ x target.behind in
+      let p = parameters_fit (optional_of called.value) (needs_of called.value) [] a.value.1 given.value given.first in
+      let end = went (ended given.value.1) _ x given.behind in
+      let fit : fits_parameters (optional_of called.value) (needs_of called.value) given.value.0 ≡ true = rw p.all p.fit in
+      subst (λ (y : Action). fits_action y ≡ true) (ok_same end.behind) fit
+
+  effect_fits : (e : Element) (xs : List Action) → effect_at tags e ≡ Ok xs → fits_effect xs ≡ true
+  effect_fits e xs is = (list_fits action_fits longest_list e xs is).0
+
+  slots_fit : (left : Rest) (m : Member) → member_in tags left ≡ Ok m → fits_member m ≡ true
+  unfolding member_in
+  slots_fit left m is =
+      let a = went (taken left) _ m is in
+      let object = went (reference_at a.value.0) _ m a.behind in
+      let slots = went (listed (effect_at tags) longest_list [] a.value.1) _ m object.behind in
+      subst (λ (n : Member). fits_member n ≡ true) (ok_same slots.behind) (members_fit effect_fits longest_list [] a.value.1 slots.value refl slots.first).fit
+
+  member_fits : (e : Element) (m : Member) → member_at tags e ≡ Ok m → fits_member m ≡ true
+  unfolding member_at
+  member_fits e m is =
+      let inner = went (sequence_at e) _ m is in
+      slots_fit inner.value m inner.behind
+
+  single_fits : (s : Shape) (e : Element) (v : Setting) → single tags s e ≡ Ok v → fits s v ≡ true
+  unfolding single
+  single_fits shape.Effect e v is = made_fits (fits shape.Effect) (effect_at tags e) of_setting.Effect v is (effect_fits e)
+  single_fits shape.Bool e v is = made_fits (fits shape.Bool) (truth_at e) of_setting.Bool v is (λ x h. refl)
+  single_fits shape.Int e v is = made_fits (fits shape.Int) (integer_at e) of_setting.Int v is (λ x h. refl)
+  single_fits shape.Natural e v is = made_fits (fits shape.Natural) (natural_at e) of_setting.Int v is (natural_fits e)
+  single_fits shape.Length e v is = made_fits (fits shape.Length) (length_at e) of_setting.Int v is (length_fits e)
+  single_fits shape.Ref e v is = made_fits (fits shape.Ref) (reference_at e) of_setting.Ref v is (λ x h. refl)
+  single_fits shape.Event e v is = made_fits (fits shape.Event) (event_at e) of_setting.Event v is (λ x h. refl)
+  single_fits shape.Data e v is = made_fits (fits shape.Data) (data_at e) of_setting.Data v is (λ x h. refl)
+  single_fits shape.Octets e v is = made_fits (fits shape.Octets) (octets_at e) of_setting.Octets v is (λ x h. refl)
+  single_fits shape.Colour e v is = made_fits (fits shape.Colour) (colour_at e) of_setting.Colour v is (λ x h. refl)
+  single_fits shape.Content e v is = made_fits (fits shape.Content) (content_at tags e) of_setting.Content v is (λ x h. refl)
+  single_fits shape.ContentRef e v is = made_fits (fits shape.ContentRef) (content_name_at tags e) of_setting.ContentRef v is (λ x h. refl)
+  single_fits shape.Justification e v is = made_fits (fits shape.Justification) (justification_at e) of_setting.Justification v is (λ x h. refl)
+  single_fits shape.MovementTable e v is = made_fits (fits shape.MovementTable) (list_at row_at longest_list e) of_setting.MovementTable v is (λ x h. refl)
+  single_fits shape.Members e v is = made_fits (fits shape.Members) (list_at (member_at tags) longest_list e) of_setting.Members v is (λ x h. (list_fits member_fits longest_list e x h).0)
+  single_fits shape.ListItems e v is = made_fits (fits shape.ListItems) (list_at list_item_at 256 e) of_setting.Members v is (items_fit e)
+  single_fits shape.Positions e v is = made_fits (fits shape.Positions) (list_at position_at longest_list e) of_setting.Positions v is (λ x h. refl)
+  single_fits shape.NextScenes e v is = made_fits (fits shape.NextScenes) (list_at next_scene_at longest_list e) of_setting.NextScenes v is (λ x h. refl)
+  single_fits _ e v is = absurd cc
+
+  alone_fits : (s : Shape) (left : Rest) (v : Setting) → (only left >>= λ e. single tags s e) ≡ Ok v → fits s v ≡ true
+  alone_fits s left v is =
+      let e = went (only left) _ v is in
+      single_fits s e.value v e.behind
+
+  pub setting_fits : (s : Shape) (left : Rest) (v : Setting) → setting tags s left ≡ Ok v → fits s v ≡ true
+  unfolding setting
+  setting_fits shape.Pair left v is = made_fits (fits shape.Pair) (pair shape.Pair left) of_pair v is (pair_fits shape.Pair left)
+  setting_fits shape.Size left v is = made_fits (fits shape.Size) (pair shape.Size left) of_pair v is (pair_fits shape.Size left)
+  setting_fits shape.Screen left v is = made_fits (fits shape.Screen) (pair shape.Screen left) of_pair v is (pair_fits shape.Screen left)
+  setting_fits s left v is = alone_fits s left v is

@@ -1,4 +1,6 @@
-pub mod TagLemmas
+pub mod TableLemmas
+pub mod ColumnLemmas
+pub mod LineLemmas
 pub mod ListLemmas
 pub mod ElementLemmas
 pub mod ValueLemmas

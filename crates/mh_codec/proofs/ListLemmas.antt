@@ -8,6 +8,7 @@ use Rattle.mh_group.specs.declared.written.Field.{Field}
 use Rattle.mh_group.specs.Table.{attribute_number}
 use Rattle.mh_codec.specs.declared.codec_error.CodecError.{CodecError}
 use Rattle.mh_codec.specs.declared.codec_error.Why.TheVariants.{Limit}
+use Rattle.mh_codec.specs.Tags.{Tags}
 use Rattle.mh_codec.specs.Gives.{Refusal, Fails, told}
 use Rattle.mh_codec.specs.Reading.{exhausted, listed, next_member, fields, next_field}
 
@@ -41,20 +42,20 @@ module _ {A : Type 0} (member : Element → Result A Refusal) where
   listed_full_fails zero done left error z h = fails_bind (told error) (exhausted Limit left) _ h
   listed_full_fails (suc n) done left error z h = absurd (omega arith)
 
-pub fields_fail : (c : Class) (n last : ℕ) (done : List Field) (left : Rest) (error : CodecError) → 0 < n → Fails error (next_field c last left) → Fails error (fields c n last done left)
+pub fields_fail : (tags : Tags) (c : Class) (n last : ℕ) (done : List Field) (left : Rest) (error : CodecError) → 0 < n → Fails error (next_field tags c last left) → Fails error (fields tags c n last done left)
 unfolding fields
-fields_fail c zero last done left error some h = absurd (omega arith)
-fields_fail c (suc n) last done left error some h = fails_bind (told error) (next_field c last left) _ h
+fields_fail tags c zero last done left error some h = absurd (omega arith)
+fields_fail tags c (suc n) last done left error some h = fails_bind (told error) (next_field tags c last left) _ h
 
-pub fields_done : (c : Class) (n last : ℕ) (done : List Field) (left rest : Rest) (o : Option Field) (i : Option Element) → 0 < n → next_field c last left ≡ Ok (o, i, rest) → o ≡ None → fields c n last done left ≡ Ok (done, i, rest)
+pub fields_done : (tags : Tags) (c : Class) (n last : ℕ) (done : List Field) (left rest : Rest) (o : Option Field) (i : Option Element) → 0 < n → next_field tags c last left ≡ Ok (o, i, rest) → o ≡ None → fields tags c n last done left ≡ Ok (done, i, rest)
 unfolding fields
-fields_done c zero last done left rest o i some e h = absurd (omega arith)
-fields_done c (suc n) last done left rest o i some e h = rw (e, h) refl
+fields_done tags c zero last done left rest o i some e h = absurd (omega arith)
+fields_done tags c (suc n) last done left rest o i some e h = rw (e, h) refl
 
-pub fields_more : (c : Class) (n k last number : ℕ) (done more : List Field) (left rest : Rest) (o : Option Field) (f : Field) (i : Option Element) → k + 1 ≡ n → next_field c last left ≡ Ok (o, i, rest) → o ≡ Some f → number ≡ attribute_number f.attribute → more ≡ done ++ f ∷ []
-    → fields c k number more rest ≡ fields c n last done left
+pub fields_more : (tags : Tags) (c : Class) (n k last number : ℕ) (done more : List Field) (left rest : Rest) (o : Option Field) (f : Field) (i : Option Element) → k + 1 ≡ n → next_field tags c last left ≡ Ok (o, i, rest) → o ≡ Some f → number ≡ attribute_number f.attribute → more ≡ done ++ f ∷ []
+    → fields tags c k number more rest ≡ fields tags c n last done left
 unfolding fields
-fields_more c zero k last number done more left rest o f i h e s m l = absurd (omega arith)
-fields_more c (suc n) k last number done more left rest o f i h e s m l =
+fields_more tags c zero k last number done more left rest o f i h e s m l = absurd (omega arith)
+fields_more tags c (suc n) k last number done more left rest o f i h e s m l =
     let same : k ≡ n = omega arith in
     rw (e, s, m, l, same) refl

@@ -24,6 +24,8 @@ use Rattle.mh_group.specs.Holdable.{is_integer, is_number, is_reference, is_gene
 use Rattle.mh_codec.specs.declared.kind.Kind.{Kind}
 use Rattle.mh_codec.specs.declared.kind.Kind.TheVariants as kind
 use Rattle.mh_codec.specs.Tags.{kind_of}
+use Rattle.mh_codec.specs.Tags.{Tags, IsTable, variable_tag}
+use Rattle.mh_codec.proofs.TableLemmas.{content_name_small, variable_small, same_self}
 use Rattle.mh_codec.specs.Spelling.{own, integer, natural, boolean, octet_string, named, reference, generic, content_tag, content_name, content_value, data_value}
 use Rattle.mh_codec.specs.Gives.{Refusal}
 use Rattle.mh_codec.specs.Reading.{taken, ended, only, truth_at, integer_at, octets_at, number_at, name_at, content_name_at, content_at, data_at, named_in, reference_at, is_indirect, variable_at, generic_at}
@@ -74,28 +76,6 @@ octets_reads = record {
   found = λ e x good is. (octets_read e x is, octets_are e x good is);
   given = λ e x small good is. octets_written e x small is;
   one = λ x good. octets_one x;
-}
-
-pub content_name_one : (name : List ℕ) → IsOne (content_name name)
-unfolding content_name
-content_name_one name = record { tag = content_tag; contents = name; small = omega arith; is = refl }
-
-pub content_name_reads : Reads content_name_at content_name is_name is_name
-content_name_reads = record {
-  found = λ e x good is. content_name_read e x is;
-  given = content_name_written;
-  one = λ x good. content_name_one x;
-}
-
-pub content_one : (x : Content) → IsOne (content_value x)
-content_one (content.Included octets) = octets_one octets
-content_one (content.Referenced name) = content_name_one name
-
-pub content_reads : Reads content_at content_value is_content is_content
-content_reads = record {
-  found = content_read;
-  given = content_written;
-  one = λ x good. content_one x;
 }
 
 pub data_one : (x : EventData) → IsOne (data_value x)
@@ -232,100 +212,123 @@ reference_reads = record {
 
 -- what variables hold
 
-indirect_kind : (e : Element) (k : Kind) → kind_of e.tag ≡ k → is_indirect e ≡ true → e.tag ≡ own 61
-unfolding is_indirect
-indirect_kind e (kind.Own n) h is =
-    let same : n ≡ 61 = same_number n 61 (rw h at is) in
-    kind_tag e (kind.Own n) h ∙ ap own same
-indirect_kind e _ h is = absurd (let y = rw h at is in cc)
+module _ (tags : Tags) (table : IsTable tags) where
+  pub content_name_one : (name : List ℕ) → IsOne (content_name tags name)
+  unfolding content_name
+  content_name_one name = record { tag = content_tag tags; contents = name; small = content_name_small tags table; is = refl }
 
-indirect_tag : (e : Element) → is_indirect e ≡ true → e.tag ≡ own 61
-indirect_tag e is = indirect_kind e (kind_of e.tag) refl is
-
-indirect_written : (e : Element) → e.tag ≡ own 61 → is_indirect e ≡ true
-unfolding is_indirect kind_of
-indirect_written e tag = rw tag refl
-
--- no element that is spelled so is one of a variable
-abbrev pub Plain : {A : Type 0} → (A → List ℕ) → Type 0
-Plain {A} spelling = (e : Element) (x : A) → e.tag.number < 2 ^ 16 → written e ≡ spelling x → is_indirect e ≡ false
-
-pub integer_plain : Plain integer
-unfolding integer is_indirect kind_of
-integer_plain e x small is =
-    let same = same_element e.tag integer_tag e.contents.bytes (integer_octets x) small (omega arith) is in
-    rw same.tag refl
-
-pub reference_plain : Plain reference
-unfolding integer named is_indirect kind_of
-reference_plain e (ref.Here n) small is = integer_plain e (pos n) small is
-reference_plain e (ref.In name n) small is =
-    let same = same_element e.tag sequence_tag e.contents.bytes (octet_string name ++ natural n) small (omega arith) is in
-    rw same.tag refl
-
-pub truth_plain : Plain boolean
-unfolding boolean is_indirect kind_of
-truth_plain e x small is =
-    let same = same_element e.tag boolean_tag e.contents.bytes (boolean_octets x) small (omega arith) is in
-    rw same.tag refl
-
-pub octets_plain : Plain octet_string
-unfolding octet_string is_indirect kind_of
-octets_plain e x small is =
-    let same = same_element e.tag octet_string_tag e.contents.bytes x small (omega arith) is in
-    rw same.tag refl
-
-pub content_name_plain : Plain content_name
-unfolding content_name is_indirect kind_of
-content_name_plain e x small is =
-    let same = same_element e.tag content_tag e.contents.bytes x small (omega arith) is in
-    rw same.tag refl
-
-pub content_plain : Plain content_value
-content_plain e (content.Included octets) small is = octets_plain e octets small is
-content_plain e (content.Referenced name) small is = content_name_plain e name small is
-
-pub data_plain : Plain data_value
-data_plain e (event_data.Bool b) small is = truth_plain e b small is
-data_plain e (event_data.Int x) small is = integer_plain e x small is
-
-module _ {A : Type 0} {read : Element → Result A Refusal} {spelling : A → List ℕ} {is_good is_fit : A → Bool} (reads : Reads read spelling is_good is_fit) (plain : Plain spelling) where
-  generic_kind : (e : Element) (x : Generic A) (b : Bool) → is_indirect e ≡ b → Good e → generic_at read e ≡ Ok x → (written e ≡ generic spelling x) × (is_generic is_good x ≡ true)
-  unfolding generic_at generic variable_at
-  generic_kind e x true h good is =
-      let v = went (variable_at e) _ x (rw h at is) in
-      let inner = went (only e.contents) _ v.value v.first in
-      let o = only_read e.contents inner.value good.bytes inner.first in
-      let r = reference_read inner.value v.value o.good inner.behind in
-      let tag : e.tag ≡ own 61 = indirect_tag e h in
-      subst (λ (y : Generic A). (written e ≡ generic spelling y) × (is_generic is_good y ≡ true)) (ok_same v.behind)
-      (spelled_as e (own 61) (reference v.value) tag (o.is ∙ r.0), r.1)
-  generic_kind e x false h good is =
-      let v = went (read e) _ x (rw h at is) in
-      let r = reads.found e v.value good v.first in
-      subst (λ (y : Generic A). (written e ≡ generic spelling y) × (is_generic is_good y ≡ true)) (ok_same v.behind) r
-
-  pub generic_read : (e : Element) (x : Generic A) → Good e → generic_at read e ≡ Ok x → (written e ≡ generic spelling x) × (is_generic is_good x ≡ true)
-  generic_read e x good is = generic_kind e x (is_indirect e) refl good is
-
-  pub generic_written : (e : Element) (x : Generic A) → e.tag.number < 2 ^ 16 → is_generic is_fit x ≡ true → written e ≡ generic spelling x → generic_at read e ≡ Ok x
-  unfolding generic_at generic variable_at
-  generic_written e (Direct x) small good is = rw (plain e x small is, reads.given e x small good is) refl
-  generic_written e (Indirect r) small good is =
-      let same = same_element e.tag (own 61) e.contents.bytes (reference r) small (omega arith) is in
-      let one = reference_one r in
-      let o = only_written e.contents one.tag one.contents one.small (same.inner ∙ one.is) in
-      let inner = reference_written o.found r o.small good (o.is ∙ sym one.is) in
-      rw (indirect_written e same.tag, o.takes, inner) refl
-
-  pub generic_one : (x : Generic A) → is_generic is_fit x ≡ true → IsOne (generic spelling x)
-  unfolding generic
-  generic_one (Direct x) good = reads.one x good
-  generic_one (Indirect r) good = record { tag = own 61; contents = reference r; small = omega arith; is = refl }
-
-  pub generic_reads : Reads (generic_at read) (generic spelling) (is_generic is_good) (is_generic is_fit)
-  generic_reads = record {
-    found = generic_read;
-    given = generic_written;
-    one = generic_one;
+  pub content_name_reads : Reads (content_name_at tags) (content_name tags) is_name is_name
+  content_name_reads = record {
+    found = λ e x good is. content_name_read tags table e x is;
+    given = content_name_written tags table;
+    one = λ x good. content_name_one x;
   }
+
+  pub content_one : (x : Content) → IsOne (content_value tags x)
+  content_one (content.Included octets) = octets_one octets
+  content_one (content.Referenced name) = content_name_one name
+
+  pub content_reads : Reads (content_at tags) (content_value tags) is_content is_content
+  content_reads = record {
+    found = content_read tags table;
+    given = content_written tags table;
+    one = λ x good. content_one x;
+  }
+
+  indirect_kind : (e : Element) (k : Kind) → kind_of e.tag ≡ k → is_indirect tags e ≡ true → e.tag ≡ own (variable_tag tags)
+  unfolding is_indirect
+  indirect_kind e (kind.Own n) h is =
+      let same : n ≡ variable_tag tags = same_number n (variable_tag tags) (rw h at is) in
+      kind_tag e (kind.Own n) h ∙ ap own same
+  indirect_kind e _ h is = absurd (let y = rw h at is in cc)
+
+  indirect_tag : (e : Element) → is_indirect tags e ≡ true → e.tag ≡ own (variable_tag tags)
+  indirect_tag e is = indirect_kind e (kind_of e.tag) refl is
+
+  indirect_written : (e : Element) → e.tag ≡ own (variable_tag tags) → is_indirect tags e ≡ true
+  unfolding is_indirect kind_of
+  indirect_written e tag = rw (tag, same_self (variable_tag tags)) refl
+
+  -- no element that is spelled so is one of a variable
+  abbrev pub Plain : {A : Type 0} → (A → List ℕ) → Type 0
+  Plain {A} spelling = (e : Element) (x : A) → e.tag.number < 2 ^ 16 → written e ≡ spelling x → is_indirect tags e ≡ false
+
+  pub integer_plain : Plain integer
+  unfolding integer is_indirect kind_of
+  integer_plain e x small is =
+      let same = same_element e.tag integer_tag e.contents.bytes (integer_octets x) small (omega arith) is in
+      rw same.tag refl
+
+  pub reference_plain : Plain reference
+  unfolding integer named is_indirect kind_of
+  reference_plain e (ref.Here n) small is = integer_plain e (pos n) small is
+  reference_plain e (ref.In name n) small is =
+      let same = same_element e.tag sequence_tag e.contents.bytes (octet_string name ++ natural n) small (omega arith) is in
+      rw same.tag refl
+
+  pub truth_plain : Plain boolean
+  unfolding boolean is_indirect kind_of
+  truth_plain e x small is =
+      let same = same_element e.tag boolean_tag e.contents.bytes (boolean_octets x) small (omega arith) is in
+      rw same.tag refl
+
+  pub octets_plain : Plain octet_string
+  unfolding octet_string is_indirect kind_of
+  octets_plain e x small is =
+      let same = same_element e.tag octet_string_tag e.contents.bytes x small (omega arith) is in
+      rw same.tag refl
+
+  pub content_name_plain : Plain (content_name tags)
+  unfolding content_name is_indirect kind_of
+  content_name_plain e x small is =
+      let same = same_element e.tag (content_tag tags) e.contents.bytes x small (content_name_small tags table) is in
+      rw same.tag refl
+
+  pub content_plain : Plain (content_value tags)
+  content_plain e (content.Included octets) small is = octets_plain e octets small is
+  content_plain e (content.Referenced name) small is = content_name_plain e name small is
+
+  pub data_plain : Plain data_value
+  data_plain e (event_data.Bool b) small is = truth_plain e b small is
+  data_plain e (event_data.Int x) small is = integer_plain e x small is
+
+  module _ {A : Type 0} {read : Element → Result A Refusal} {spelling : A → List ℕ} {is_good is_fit : A → Bool} (reads : Reads read spelling is_good is_fit) (plain : Plain spelling) where
+    generic_kind : (e : Element) (x : Generic A) (b : Bool) → is_indirect tags e ≡ b → Good e → generic_at tags read e ≡ Ok x → (written e ≡ generic tags spelling x) × (is_generic is_good x ≡ true)
+    unfolding generic_at generic variable_at
+    generic_kind e x true h good is =
+        let v = went (variable_at e) _ x (rw h at is) in
+        let inner = went (only e.contents) _ v.value v.first in
+        let o = only_read e.contents inner.value good.bytes inner.first in
+        let r = reference_read inner.value v.value o.good inner.behind in
+        let tag : e.tag ≡ own (variable_tag tags) = indirect_tag e h in
+        subst (λ (y : Generic A). (written e ≡ generic tags spelling y) × (is_generic is_good y ≡ true)) (ok_same v.behind)
+        (spelled_as e (own (variable_tag tags)) (reference v.value) tag (o.is ∙ r.0), r.1)
+    generic_kind e x false h good is =
+        let v = went (read e) _ x (rw h at is) in
+        let r = reads.found e v.value good v.first in
+        subst (λ (y : Generic A). (written e ≡ generic tags spelling y) × (is_generic is_good y ≡ true)) (ok_same v.behind) r
+
+    pub generic_read : (e : Element) (x : Generic A) → Good e → generic_at tags read e ≡ Ok x → (written e ≡ generic tags spelling x) × (is_generic is_good x ≡ true)
+    generic_read e x good is = generic_kind e x (is_indirect tags e) refl good is
+
+    pub generic_written : (e : Element) (x : Generic A) → e.tag.number < 2 ^ 16 → is_generic is_fit x ≡ true → written e ≡ generic tags spelling x → generic_at tags read e ≡ Ok x
+    unfolding generic_at generic variable_at
+    generic_written e (Direct x) small good is = rw (plain e x small is, reads.given e x small good is) refl
+    generic_written e (Indirect r) small good is =
+        let same = same_element e.tag (own (variable_tag tags)) e.contents.bytes (reference r) small (variable_small tags table) is in
+        let one = reference_one r in
+        let o = only_written e.contents one.tag one.contents one.small (same.inner ∙ one.is) in
+        let inner = reference_written o.found r o.small good (o.is ∙ sym one.is) in
+        rw (indirect_written e same.tag, o.takes, inner) refl
+
+    pub generic_one : (x : Generic A) → is_generic is_fit x ≡ true → IsOne (generic tags spelling x)
+    unfolding generic
+    generic_one (Direct x) good = reads.one x good
+    generic_one (Indirect r) good = record { tag = own (variable_tag tags); contents = reference r; small = variable_small tags table; is = refl }
+
+    pub generic_reads : Reads (generic_at tags read) (generic tags spelling) (is_generic is_good) (is_generic is_fit)
+    generic_reads = record {
+      found = generic_read;
+      given = generic_written;
+      one = generic_one;
+    }

@@ -16,6 +16,7 @@ use Rattle.mh_group.specs.Fit.{fits_action, fits_effect, fits_member, is_list_it
 use Rattle.mh_group.specs.Holdable.{is_integer, is_name, is_reference, is_list, is_action, is_member, is_next_scene}
 use Rattle.mh_codec.specs.declared.codec_error.Why.TheVariants.{UnknownTag}
 use Rattle.mh_codec.specs.Spelling.{integer, octet_string, reference, several, list, action, member, next_scene}
+use Rattle.mh_codec.specs.Tags.{Tags, IsTable}
 use Rattle.mh_codec.specs.Reading.{taken, ended, sequence_at, integer_at, name_at, reference_at, listed, effect_at, member_in, member_at, exhausted, list_item_in, list_item_at, next_scene_in, next_scene_at}
 use Rattle.mh_codec.proofs.ElementLemmas.{written, in_parts, last_part, Good, same_element, same_number, taken_found, good_found, taken_given, nothing_left, ended_given}
 use Rattle.mh_codec.proofs.ValueLemmas.{integer_read, integer_written, name_read, name_written, sequence_read, sequence_written}
@@ -40,9 +41,6 @@ list_fit p q xs fit good =
 
 -- effects
 
-pub effect_reads : Reads effect_at (list action) (is_list is_action) (is_list fits_and_is)
-effect_reads = list_reads action_reads
-
 effects_fit : (es : List (List Action)) → list_all fits_effect es ≡ true → list_all (is_list is_action) es ≡ true → list_all (is_list fits_and_is) es ≡ true
 effects_fit [] fit good = refl
 effects_fit (e ∷ es) fit good =
@@ -52,86 +50,10 @@ effects_fit (e ∷ es) fit good =
 
 -- members
 
-abbrev IsMember : List ℕ → Member → Type 0
-IsMember bs m = (bs ≡ reference m.object ++ several (list action) m.slots) × (is_member m ≡ true)
-
-member_found : (left : Rest) (m : Member) → AreBytes left.bytes → member_in left ≡ Ok m → IsMember left.bytes m
-unfolding member_in
-member_found left m bytes is =
-    let a = went (taken left) _ m is in
-    let f = taken_found left a.value.0 a.value.1 bytes a.first in
-    let o = went (reference_at a.value.0) _ m a.behind in
-    let slots = went (listed effect_at longest_list [] a.value.1) _ m o.behind in
-    let r = reference_read a.value.0 o.value (good_found left a.value.0 a.value.1 f) o.first in
-    let s = several_found effect_reads longest_list a.value.1 slots.value (omega arith) f.rest slots.first in
-    subst (IsMember left.bytes) (ok_same slots.behind) (
-      in_parts left.bytes (written a.value.0) a.value.1.bytes (reference o.value) (several (list action) slots.value) f.written r.0 s.0,
-      and_from (is_reference o.value) (is_list (is_list is_action) slots.value) r.1 s.1,
-    )
-
-member_read : (e : Element) (m : Member) → Good e → member_at e ≡ Ok m → (written e ≡ member m) × (is_member m ≡ true)
-unfolding member_at member
-member_read e m good is =
-    let inner = went (sequence_at e) _ m is in
-    let s = sequence_read e inner.value inner.first in
-    let r = member_found inner.value m (subst (λ (r : Rest). AreBytes r.bytes) s.1 good.bytes) inner.behind in
-    (spelled_as e sequence_tag (reference m.object ++ several (list action) m.slots) s.0 (ap (λ (r : Rest). r.bytes) s.1 ∙ r.0), r.1)
-
 abbrev pub fits_and_is_member : Member → Bool
 fits_and_is_member m = fits_member m && is_member m
 
-member_given : (left : Rest) (m : Member) → fits_and_is_member m ≡ true → left.bytes ≡ reference m.object ++ several (list action) m.slots → member_in left ≡ Ok m
-unfolding member_in
-member_given left m fit is =
-    let parts = and_parts (fits_member m) (is_member m) fit in
-    let goods = and_parts (is_reference m.object) (is_list (is_list is_action) m.slots) parts.1 in
-    let slots = and_parts (nat_le (length m.slots) longest_list) (list_all (is_list is_action) m.slots) goods.1 in
-    let one = reference_one m.object in
-    let g = taken_given left one.tag one.contents (several (list action) m.slots) one.small (is ∙ ap (λ (bs : List ℕ). bs ++ several (list action) m.slots) one.is) in
-    let object = reference_written g.found m.object g.small goods.0 (g.is ∙ sym one.is) in
-    let rest = several_given effect_reads longest_list m.slots g.rest (few_enough (length m.slots) slots.0) (effects_fit m.slots parts.0 slots.1) g.behind in
-    rw (g.takes, object, rest) refl
-
-member_written : (e : Element) (m : Member) → e.tag.number < 2 ^ 16 → fits_and_is_member m ≡ true → written e ≡ member m → member_at e ≡ Ok m
-unfolding member_at member
-member_written e m small fit is =
-    let same = same_element e.tag sequence_tag e.contents.bytes (reference m.object ++ several (list action) m.slots) small (omega arith) is in
-    rw (sequence_written e same.tag, member_given e.contents m fit same.inner) refl
-
-member_one : (m : Member) → IsOne (member m)
-unfolding member
-member_one m = record { tag = sequence_tag; contents = reference m.object ++ several (list action) m.slots; small = omega arith; is = refl }
-
-pub member_reads : Reads member_at member is_member fits_and_is_member
-member_reads = record {
-  found = member_read;
-  given = member_written;
-  one = λ m fit. member_one m;
-}
-
 -- members of list groups
-
-item_found : (left : Rest) (m : Member) → AreBytes left.bytes → list_item_in left ≡ Ok m → IsMember left.bytes m
-unfolding list_item_in
-item_found left m bytes is =
-    let a = went (taken left) _ m is in
-    let f = taken_found left a.value.0 a.value.1 bytes a.first in
-    let o = went (reference_at a.value.0) _ m a.behind in
-    let end = went (exhausted UnknownTag a.value.1) _ m o.behind in
-    let r = reference_read a.value.0 o.value (good_found left a.value.0 a.value.1 f) o.first in
-    let none = exhausted_is UnknownTag a.value.1 end.first in
-    subst (IsMember left.bytes) (ok_same end.behind) (
-      in_parts left.bytes (written a.value.0) a.value.1.bytes (reference o.value) [] f.written r.0 none,
-      and_from (is_reference o.value) true r.1 refl,
-    )
-
-item_read : (e : Element) (m : Member) → Good e → list_item_at e ≡ Ok m → (written e ≡ member m) × (is_member m ≡ true)
-unfolding list_item_at member
-item_read e m good is =
-    let inner = went (sequence_at e) _ m is in
-    let s = sequence_read e inner.value inner.first in
-    let r = item_found inner.value m (subst (λ (r : Rest). AreBytes r.bytes) s.1 good.bytes) inner.behind in
-    (spelled_as e sequence_tag (reference m.object ++ several (list action) m.slots) s.0 (ap (λ (r : Rest). r.bytes) s.1 ∙ r.0), r.1)
 
 abbrev pub is_item_and_member : Member → Bool
 is_item_and_member m = is_list_item m && is_member m
@@ -139,30 +61,6 @@ is_item_and_member m = is_list_item m && is_member m
 no_slots : (slots : List (List Action)) → (length slots == 0) ≡ true → slots ≡ []
 no_slots [] h = refl
 no_slots (x ∷ xs) h = absurd (let none : length (x ∷ xs) ≡ 0 = same_number (length (x ∷ xs)) 0 h in omega (arith, none))
-
-item_given : (left : Rest) (m : Member) → is_item_and_member m ≡ true → left.bytes ≡ reference m.object ++ several (list action) m.slots → list_item_in left ≡ Ok m
-unfolding list_item_in
-item_given left m fit is =
-    let parts = and_parts (is_list_item m) (is_member m) fit in
-    let goods = and_parts (is_reference m.object) (is_list (is_list is_action) m.slots) parts.1 in
-    let none = no_slots m.slots parts.0 in
-    let one = reference_one m.object in
-    let g = taken_given left one.tag one.contents [] one.small (is ∙ ap (λ (l : List (List Action)). reference m.object ++ several (list action) l) none ∙ ap (λ (bs : List ℕ). bs ++ []) one.is) in
-    let object = reference_written g.found m.object g.small goods.0 (g.is ∙ sym one.is) in
-    rw (g.takes, object, exhausted_given UnknownTag g.rest g.behind, none) refl
-
-item_written : (e : Element) (m : Member) → e.tag.number < 2 ^ 16 → is_item_and_member m ≡ true → written e ≡ member m → list_item_at e ≡ Ok m
-unfolding list_item_at member
-item_written e m small fit is =
-    let same = same_element e.tag sequence_tag e.contents.bytes (reference m.object ++ several (list action) m.slots) small (omega arith) is in
-    rw (sequence_written e same.tag, item_given e.contents m fit same.inner) refl
-
-pub item_reads : Reads list_item_at member is_member is_item_and_member
-item_reads = record {
-  found = item_read;
-  given = item_written;
-  one = λ m fit. member_one m;
-}
 
 -- next scenes
 
@@ -221,3 +119,107 @@ scene_reads = record {
   given = scene_written;
   one = λ s good. scene_one s;
 }
+
+module _ (tags : Tags) (table : IsTable tags) where
+  pub effect_reads : Reads (effect_at tags) (list (action tags)) (is_list is_action) (is_list fits_and_is)
+  effect_reads = list_reads (action_reads tags table)
+
+  abbrev IsMember : List ℕ → Member → Type 0
+  IsMember bs m = (bs ≡ reference m.object ++ several (list (action tags)) m.slots) × (is_member m ≡ true)
+
+  member_found : (left : Rest) (m : Member) → AreBytes left.bytes → member_in tags left ≡ Ok m → IsMember left.bytes m
+  unfolding member_in
+  member_found left m bytes is =
+      let a = went (taken left) _ m is in
+      let f = taken_found left a.value.0 a.value.1 bytes a.first in
+      let o = went (reference_at a.value.0) _ m a.behind in
+      let slots = went (listed (effect_at tags) longest_list [] a.value.1) _ m o.behind in
+      let r = reference_read a.value.0 o.value (good_found left a.value.0 a.value.1 f) o.first in
+      let s = several_found effect_reads longest_list a.value.1 slots.value (omega arith) f.rest slots.first in
+      subst (IsMember left.bytes) (ok_same slots.behind) (
+        in_parts left.bytes (written a.value.0) a.value.1.bytes (reference o.value) (several (list (action tags)) slots.value) f.written r.0 s.0,
+        and_from (is_reference o.value) (is_list (is_list is_action) slots.value) r.1 s.1,
+      )
+
+  member_read : (e : Element) (m : Member) → Good e → member_at tags e ≡ Ok m → (written e ≡ member tags m) × (is_member m ≡ true)
+  unfolding member_at member
+  member_read e m good is =
+      let inner = went (sequence_at e) _ m is in
+      let s = sequence_read e inner.value inner.first in
+      let r = member_found inner.value m (subst (λ (r : Rest). AreBytes r.bytes) s.1 good.bytes) inner.behind in
+      (spelled_as e sequence_tag (reference m.object ++ several (list (action tags)) m.slots) s.0 (ap (λ (r : Rest). r.bytes) s.1 ∙ r.0), r.1)
+
+  member_given : (left : Rest) (m : Member) → fits_and_is_member m ≡ true → left.bytes ≡ reference m.object ++ several (list (action tags)) m.slots → member_in tags left ≡ Ok m
+  unfolding member_in
+  member_given left m fit is =
+      let parts = and_parts (fits_member m) (is_member m) fit in
+      let goods = and_parts (is_reference m.object) (is_list (is_list is_action) m.slots) parts.1 in
+      let slots = and_parts (nat_le (length m.slots) longest_list) (list_all (is_list is_action) m.slots) goods.1 in
+      let one = reference_one m.object in
+      let g = taken_given left one.tag one.contents (several (list (action tags)) m.slots) one.small (is ∙ ap (λ (bs : List ℕ). bs ++ several (list (action tags)) m.slots) one.is) in
+      let object = reference_written g.found m.object g.small goods.0 (g.is ∙ sym one.is) in
+      let rest = several_given effect_reads longest_list m.slots g.rest (few_enough (length m.slots) slots.0) (effects_fit m.slots parts.0 slots.1) g.behind in
+      rw (g.takes, object, rest) refl
+
+  member_written : (e : Element) (m : Member) → e.tag.number < 2 ^ 16 → fits_and_is_member m ≡ true → written e ≡ member tags m → member_at tags e ≡ Ok m
+  unfolding member_at member
+  member_written e m small fit is =
+      let same = same_element e.tag sequence_tag e.contents.bytes (reference m.object ++ several (list (action tags)) m.slots) small (omega arith) is in
+      rw (sequence_written e same.tag, member_given e.contents m fit same.inner) refl
+
+  member_one : (m : Member) → IsOne (member tags m)
+  unfolding member
+  member_one m = record { tag = sequence_tag; contents = reference m.object ++ several (list (action tags)) m.slots; small = omega arith; is = refl }
+
+  pub member_reads : Reads (member_at tags) (member tags) is_member fits_and_is_member
+  member_reads = record {
+    found = member_read;
+    given = member_written;
+    one = λ m fit. member_one m;
+  }
+
+  item_found : (left : Rest) (m : Member) → AreBytes left.bytes → list_item_in left ≡ Ok m → IsMember left.bytes m
+  unfolding list_item_in
+  item_found left m bytes is =
+      let a = went (taken left) _ m is in
+      let f = taken_found left a.value.0 a.value.1 bytes a.first in
+      let o = went (reference_at a.value.0) _ m a.behind in
+      let end = went (exhausted UnknownTag a.value.1) _ m o.behind in
+      let r = reference_read a.value.0 o.value (good_found left a.value.0 a.value.1 f) o.first in
+      let none = exhausted_is UnknownTag a.value.1 end.first in
+      subst (IsMember left.bytes) (ok_same end.behind) (
+        in_parts left.bytes (written a.value.0) a.value.1.bytes (reference o.value) [] f.written r.0 none,
+        and_from (is_reference o.value) true r.1 refl,
+      )
+
+  item_read : (e : Element) (m : Member) → Good e → list_item_at e ≡ Ok m → (written e ≡ member tags m) × (is_member m ≡ true)
+  unfolding list_item_at member
+  item_read e m good is =
+      let inner = went (sequence_at e) _ m is in
+      let s = sequence_read e inner.value inner.first in
+      let r = item_found inner.value m (subst (λ (r : Rest). AreBytes r.bytes) s.1 good.bytes) inner.behind in
+      (spelled_as e sequence_tag (reference m.object ++ several (list (action tags)) m.slots) s.0 (ap (λ (r : Rest). r.bytes) s.1 ∙ r.0), r.1)
+
+  item_given : (left : Rest) (m : Member) → is_item_and_member m ≡ true → left.bytes ≡ reference m.object ++ several (list (action tags)) m.slots → list_item_in left ≡ Ok m
+  unfolding list_item_in
+  item_given left m fit is =
+      let parts = and_parts (is_list_item m) (is_member m) fit in
+      let goods = and_parts (is_reference m.object) (is_list (is_list is_action) m.slots) parts.1 in
+      let none = no_slots m.slots parts.0 in
+      let one = reference_one m.object in
+      let g = taken_given left one.tag one.contents [] one.small (is ∙ ap (λ (l : List (List Action)). reference m.object ++ several (list (action tags)) l) none ∙ ap (λ (bs : List ℕ). bs ++ []) one.is) in
+      let object = reference_written g.found m.object g.small goods.0 (g.is ∙ sym one.is) in
+      rw (g.takes, object, exhausted_given UnknownTag g.rest g.behind, none) refl
+
+  item_written : (e : Element) (m : Member) → e.tag.number < 2 ^ 16 → is_item_and_member m ≡ true → written e ≡ member tags m → list_item_at e ≡ Ok m
+  unfolding list_item_at member
+  item_written e m small fit is =
+      let same = same_element e.tag sequence_tag e.contents.bytes (reference m.object ++ several (list (action tags)) m.slots) small (omega arith) is in
+      rw (sequence_written e same.tag, item_given e.contents m fit same.inner) refl
+
+  pub item_reads : Reads list_item_at (member tags) is_member is_item_and_member
+  item_reads = record {
+    found = item_read;
+    given = item_written;
+    one = λ m fit. member_one m;
+  }

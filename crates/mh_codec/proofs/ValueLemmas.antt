@@ -31,6 +31,8 @@ use Rattle.mh_codec.specs.declared.kind.Kind.TheVariants as kind
 use Rattle.mh_codec.specs.declared.codec_error.Why.{Why}
 use Rattle.mh_codec.specs.declared.codec_error.Why.TheVariants.{UnknownTag, BadValue}
 use Rattle.mh_codec.specs.Tags.{kind_of}
+use Rattle.mh_codec.specs.Tags.{Tags, IsTable, content_name_tag}
+use Rattle.mh_codec.proofs.TableLemmas.{content_name_small, same_self}
 use Rattle.mh_codec.specs.Spelling.{own, integer, natural, boolean, octet_string, content_tag, content_name, content_value, data_value, colour_value}
 use Rattle.mh_codec.specs.Gives.{der}
 use Rattle.mh_codec.specs.Reading.{some_at, admitted, truth_at, integer_at, octets_at, sequence_at, own_at, primitive_at, natural_at, length_at, number_at, ingredient_number_at, name_at, content_name_at, content_at, data_at, event_at, justification_at, colour_of, colour_at}
@@ -235,46 +237,6 @@ pub name_written : (e : Element) (name : List ℕ) → e.tag.number < 2 ^ 16 →
 unfolding name_at
 name_written e name small good is = rw (octets_written e name small is, good) refl
 
-pub content_name_read : (e : Element) (name : List ℕ) → content_name_at e ≡ Ok name → (written e ≡ content_name name) × (is_name name ≡ true)
-unfolding content_name_at content_name
-content_name_read e name is =
-    let n = went (primitive_at e) _ name is in
-    let k = went (admitted (n.value == 60) UnknownTag e n.value) _ name n.behind in
-    let same = if_ok (n.value == 60) (Ok n.value) UnknownTag e.offset k.value k.first in
-    let t = if_ok (list_all is_name_byte e.contents.bytes) (Ok e.contents.bytes) BadValue e.offset name k.behind in
-    let tag : e.tag ≡ content_tag = primitive_read e n.value n.first ∙ ap primitive (same_number n.value 60 same.0) in
-    let inner = ok_same t.1 in
-    (rw (tag, inner) refl, subst (λ (y : List ℕ). list_all is_name_byte y ≡ true) inner t.0)
-
-pub content_name_written : (e : Element) (name : List ℕ) → e.tag.number < 2 ^ 16 → is_name name ≡ true → written e ≡ content_name name → content_name_at e ≡ Ok name
-unfolding content_name_at content_name
-content_name_written e name small good is =
-    let same = same_element e.tag content_tag e.contents.bytes name small (omega arith) is in
-    rw (primitive_written e 60 same.tag, same.inner, good) refl
-
-content_kind : (e : Element) (x : Content) (k : Kind) → kind_of e.tag ≡ k → Good e → content_at e ≡ Ok x → (written e ≡ content_value x) × (is_content x ≡ true)
-unfolding content_at
-content_kind e x kind.Octets h good is =
-    let o = went (octets_at e) _ x (rw h at is) in
-    subst (λ (y : Content). (written e ≡ content_value y) × (is_content y ≡ true)) (ok_same o.behind) (octets_read e o.value o.first, octets_are e o.value good o.first)
-content_kind e x _ h good is =
-    let n = went (content_name_at e) _ x (rw h at is) in
-    subst (λ (y : Content). (written e ≡ content_value y) × (is_content y ≡ true)) (ok_same n.behind) (content_name_read e n.value n.first)
-
-pub content_read : (e : Element) (x : Content) → Good e → content_at e ≡ Ok x → (written e ≡ content_value x) × (is_content x ≡ true)
-content_read e x good is = content_kind e x (kind_of e.tag) refl good is
-
-pub content_written : (e : Element) (x : Content) → e.tag.number < 2 ^ 16 → is_content x ≡ true → written e ≡ content_value x → content_at e ≡ Ok x
-unfolding content_at kind_of octet_string content_name
-content_written e (content.Included octets) small good is =
-    let same = same_element e.tag octet_string_tag e.contents.bytes octets small (omega arith) is in
-    let kind_is : kind_of e.tag ≡ kind.Octets = ap kind_of same.tag in
-    rw (kind_is, octets_written e octets small is) refl
-content_written e (content.Referenced name) small good is =
-    let same = same_element e.tag content_tag e.contents.bytes name small (omega arith) is in
-    let kind_is : kind_of e.tag ≡ kind.Primitive 60 = ap kind_of same.tag in
-    rw (kind_is, content_name_written e name small good is) refl
-
 data_kind : (e : Element) (x : EventData) (k : Kind) → kind_of e.tag ≡ k → Good e → data_at e ≡ Ok x → (written e ≡ data_value x) × (is_data x ≡ true)
 unfolding data_at
 data_kind e x kind.Boolean h good is =
@@ -382,3 +344,44 @@ colour_read e c good is =
 pub colour_written : (e : Element) (c : Colour) → e.tag.number < 2 ^ 16 → written e ≡ colour_value c → colour_at e ≡ Ok c
 unfolding colour_at
 colour_written e c small is = rw (octets_written e (colour_octets c) small is) refl
+
+module _ (tags : Tags) (table : IsTable tags) where
+  pub content_name_read : (e : Element) (name : List ℕ) → content_name_at tags e ≡ Ok name → (written e ≡ content_name tags name) × (is_name name ≡ true)
+  unfolding content_name_at content_name
+  content_name_read e name is =
+      let n = went (primitive_at e) _ name is in
+      let k = went (admitted (n.value == content_name_tag tags) UnknownTag e n.value) _ name n.behind in
+      let same = if_ok (n.value == content_name_tag tags) (Ok n.value) UnknownTag e.offset k.value k.first in
+      let t = if_ok (list_all is_name_byte e.contents.bytes) (Ok e.contents.bytes) BadValue e.offset name k.behind in
+      let tag : e.tag ≡ content_tag tags = primitive_read e n.value n.first ∙ ap primitive (same_number n.value (content_name_tag tags) same.0) in
+      let inner = ok_same t.1 in
+      (rw (tag, inner) refl, subst (λ (y : List ℕ). list_all is_name_byte y ≡ true) inner t.0)
+
+  pub content_name_written : (e : Element) (name : List ℕ) → e.tag.number < 2 ^ 16 → is_name name ≡ true → written e ≡ content_name tags name → content_name_at tags e ≡ Ok name
+  unfolding content_name_at content_name
+  content_name_written e name small good is =
+      let same = same_element e.tag (content_tag tags) e.contents.bytes name small (content_name_small tags table) is in
+      rw (primitive_written e (content_name_tag tags) same.tag, same_self (content_name_tag tags), same.inner, good) refl
+
+  content_kind : (e : Element) (x : Content) (k : Kind) → kind_of e.tag ≡ k → Good e → content_at tags e ≡ Ok x → (written e ≡ content_value tags x) × (is_content x ≡ true)
+  unfolding content_at
+  content_kind e x kind.Octets h good is =
+      let o = went (octets_at e) _ x (rw h at is) in
+      subst (λ (y : Content). (written e ≡ content_value tags y) × (is_content y ≡ true)) (ok_same o.behind) (octets_read e o.value o.first, octets_are e o.value good o.first)
+  content_kind e x _ h good is =
+      let n = went (content_name_at tags e) _ x (rw h at is) in
+      subst (λ (y : Content). (written e ≡ content_value tags y) × (is_content y ≡ true)) (ok_same n.behind) (content_name_read e n.value n.first)
+
+  pub content_read : (e : Element) (x : Content) → Good e → content_at tags e ≡ Ok x → (written e ≡ content_value tags x) × (is_content x ≡ true)
+  content_read e x good is = content_kind e x (kind_of e.tag) refl good is
+
+  pub content_written : (e : Element) (x : Content) → e.tag.number < 2 ^ 16 → is_content x ≡ true → written e ≡ content_value tags x → content_at tags e ≡ Ok x
+  unfolding content_at kind_of octet_string content_name
+  content_written e (content.Included octets) small good is =
+      let same = same_element e.tag octet_string_tag e.contents.bytes octets small (omega arith) is in
+      let kind_is : kind_of e.tag ≡ kind.Octets = ap kind_of same.tag in
+      rw (kind_is, octets_written e octets small is) refl
+  content_written e (content.Referenced name) small good is =
+      let same = same_element e.tag (content_tag tags) e.contents.bytes name small (content_name_small tags table) is in
+      let kind_is : kind_of e.tag ≡ kind.Primitive (content_name_tag tags) = ap kind_of same.tag in
+      rw (kind_is, content_name_written e name small good is) refl

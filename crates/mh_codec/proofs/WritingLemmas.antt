@@ -7,6 +7,7 @@ use Rattle.mh_base.specs.Limits.{largest_file}
 use Rattle.mh_group.specs.declared.written.Written.{Written}
 use Rattle.mh_group.specs.Holdable.{is_holdable}
 use Rattle.mh_codec.specs.declared.codec_error.CodecError.{CodecError}
+use Rattle.mh_codec.specs.Tags.{Tags}
 use Rattle.mh_codec.specs.Spelling.{several, group}
 use Rattle.mh_codec.specs.Writable.{Spells}
 use Rattle.mh_codec.specs.Unwritable.{Refuses, HasNoSpelling}
@@ -35,13 +36,13 @@ member_refused p xs i x e within is refuses other =
     ((refuses other).0, list_all_at p xs i x within (rw is at bad))
 
 -- what the notation cannot hold has no spelling
-pub none_spells_unwritable : (g : Written) → is_holdable g ≡ false → HasNoSpelling g
+pub none_spells_unwritable : (tags : Tags) (g : Written) → is_holdable g ≡ false → HasNoSpelling tags g
 unfolding Spells
-none_spells_unwritable g bad octets s = cc
+none_spells_unwritable tags g bad octets s = cc
 
 -- nor has what a file cannot hold
-pub none_spells_large : (g : Written) (octets : List ℕ) → octets ≡ group g → largest_file < length octets → HasNoSpelling g
+pub none_spells_large : (tags : Tags) (g : Written) (octets : List ℕ) → octets ≡ group tags g → largest_file < length octets → HasNoSpelling tags g
 unfolding Spells
-none_spells_large g octets e large other s =
+none_spells_large tags g octets e large other s =
     let same : length other ≡ length octets = ap (λ l. length l) (s.0 ∙ sym e) in
     omega (arith, same, s.1)

@@ -1,6 +1,7 @@
 pub mod Numbers
 pub mod Gives
 pub mod Tags
+pub mod TagLines
 pub mod Spelling
 pub mod Writable
 pub mod Reading

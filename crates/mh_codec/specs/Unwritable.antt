@@ -4,6 +4,7 @@ use Rattle.mh_group.specs.declared.written.Written.{Written}
 use Rattle.mh_codec.specs.declared.codec_error.CodecError.{CodecError}
 use Rattle.mh_codec.specs.declared.codec_error.CodecError.TheVariants.{At, NoMemory}
 use Rattle.mh_codec.specs.declared.codec_error.Why.TheVariants.{Limit}
+use Rattle.mh_codec.specs.Tags.{Tags}
 use Rattle.mh_codec.specs.Writable.{Spells}
 
 -- unless memory ran out, the error is that of a limit and the test of what was to be written fails
@@ -11,5 +12,5 @@ abbrev pub Refuses : Bool → CodecError → Type 0
 Refuses fits e = e ≢ NoMemory → (e ≡ At Limit 0) × (fits ≡ false)
 
 -- no octets spell the group
-abbrev pub HasNoSpelling : Written → Type 0
-HasNoSpelling g = (octets : List ℕ) → Spells octets g → ⊥
+abbrev pub HasNoSpelling : Tags → Written → Type 0
+HasNoSpelling tags g = (octets : List ℕ) → Spells tags octets g → ⊥

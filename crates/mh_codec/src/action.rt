@@ -5,8 +5,8 @@ ghost use Rattle.mh_codec.specs.Gives.{Gives};
 ghost use Rattle.mh_codec.specs.Reading.{action_at, parameters, parameter_at, typed_at, value_at};
 
 use crate::element::{ended, only, own_at, refused, taken};
-use crate::kind::{action_with, value_kind_with};
 use crate::readable::{Readable, generic_at, list_at};
+use crate::tag_table::TagTable;
 use crate::value::{event_at, reference_at};
 use crate::{CodecError, Why};
 use mh_base::{Kind as ValueKind, LONGEST_LIST, Octets, Seq};
@@ -15,16 +15,16 @@ use mh_group::{Action, Content, EventData, Need, Parameter, Ref, Typed, WrittenN
 use std::alloc::Global;
 
 #[tactic(auto, unfolding(crate::specs::Reading::action_at))]
-fn action_at(alloc: Global, element: &Element<'_>) -> Result<Action, CodecError>
-    ensures { Gives (λ x. x) result (action_at element.now) }
+fn action_at(alloc: Global, tags: &TagTable, element: &Element<'_>) -> Result<Action, CodecError>
+    ensures { Gives (λ x. x) result (action_at tags.now element.now) }
 {
     let number = own_at(element)?;
-    let Some(name) = action_with(number) else {
+    let Some(name) = tags.action_with(number) else {
         return Err(refused(element, Why::UnknownTag));
     };
     let (inner, reader) = taken(element.contents())?;
-    let target = generic_at::<Ref>(alloc, &inner)?;
-    let (parameters, reader) = parameters(alloc, name.optional(), name.needs(), reader)?;
+    let target = generic_at::<Ref>(alloc, tags, &inner)?;
+    let (parameters, reader) = parameters(alloc, tags, name.optional(), name.needs(), reader)?;
     ended(reader)?;
     Ok(Action {
         name,
@@ -37,11 +37,12 @@ fn action_at(alloc: Global, element: &Element<'_>) -> Result<Action, CodecError>
 /// missing.
 fn parameters<'a>(
     alloc: Global,
+    tags: &TagTable,
     optional: usize,
     needs: &[Need],
     reader: Reader<'a>,
 ) -> Result<(Seq<Parameter>, Reader<'a>), CodecError>
-    ensures { Gives (λ x. x) result (parameters optional needs.now [] reader.entry) }
+    ensures { Gives (λ x. x) result (parameters tags.now optional needs.now [] reader.entry) }
 {
     let mut parameters = Seq::new(alloc);
     let mut reader = reader;
@@ -51,7 +52,7 @@ fn parameters<'a>(
             return Ok((parameters, reader));
         }
         let (element, behind) = taken(reader)?;
-        parameters.push(parameter_at(alloc, *need, &element)?)?;
+        parameters.push(parameter_at(alloc, tags, *need, &element)?)?;
         reader = behind;
         needs = others;
     }
@@ -59,47 +60,62 @@ fn parameters<'a>(
 }
 
 #[tactic(auto, unfolding(crate::specs::Reading::parameter_at))]
-fn parameter_at(alloc: Global, need: Need, element: &Element<'_>) -> Result<Parameter, CodecError>
-    ensures { Gives (λ x. x) result (parameter_at need element.now) }
+fn parameter_at(
+    alloc: Global,
+    tags: &TagTable,
+    need: Need,
+    element: &Element<'_>,
+) -> Result<Parameter, CodecError>
+    ensures { Gives (λ x. x) result (parameter_at tags.now need element.now) }
 {
     Ok(match need {
-        Need::Bool => Parameter::Bool(generic_at::<bool>(alloc, element)?),
-        Need::Int => Parameter::Int(generic_at::<i32>(alloc, element)?),
-        Need::Octets => Parameter::Octets(generic_at::<Octets>(alloc, element)?),
-        Need::Ref => Parameter::Ref(generic_at::<Ref>(alloc, element)?),
-        Need::Content => Parameter::Content(generic_at::<Content>(alloc, element)?),
-        Need::Data => Parameter::Data(generic_at::<EventData>(alloc, element)?),
+        Need::Bool => Parameter::Bool(generic_at::<bool>(alloc, tags, element)?),
+        Need::Int => Parameter::Int(generic_at::<i32>(alloc, tags, element)?),
+        Need::Octets => Parameter::Octets(generic_at::<Octets>(alloc, tags, element)?),
+        Need::Ref => Parameter::Ref(generic_at::<Ref>(alloc, tags, element)?),
+        Need::Content => Parameter::Content(generic_at::<Content>(alloc, tags, element)?),
+        Need::Data => Parameter::Data(generic_at::<EventData>(alloc, tags, element)?),
         Need::Event => Parameter::Event(event_at(element)?),
         Need::Receiver(_) => Parameter::Receiver(reference_at(alloc, element)?),
-        Need::Typed => Parameter::Typed(typed_at(alloc, element)?),
-        Need::Arguments => Parameter::Arguments(list_at::<Typed>(alloc, LONGEST_LIST, element)?),
+        Need::Typed => Parameter::Typed(typed_at(alloc, tags, element)?),
+        Need::Arguments => Parameter::Arguments(list_at::<Typed>(
+            alloc,
+            tags,
+            LONGEST_LIST,
+            element,
+        )?),
     })
 }
 
 /// A value behind the tag of its kind.
 #[tactic(auto, unfolding(crate::specs::Reading::typed_at))]
-fn typed_at(alloc: Global, element: &Element<'_>) -> Result<Typed, CodecError>
-    ensures { Gives (λ x. x) result (typed_at element.now) }
+fn typed_at(alloc: Global, tags: &TagTable, element: &Element<'_>) -> Result<Typed, CodecError>
+    ensures { Gives (λ x. x) result (typed_at tags.now element.now) }
 {
     let number = own_at(element)?;
-    let Some(kind) = value_kind_with(number) else {
+    let Some(kind) = tags.value_kind_with(number) else {
         return Err(refused(element, Why::UnknownTag));
     };
     let inner = only(element.contents())?;
-    value_at(alloc, kind, &inner)
+    value_at(alloc, tags, kind, &inner)
 }
 
 /// A value of this kind.
 #[tactic(auto, unfolding(crate::specs::Reading::value_at))]
-fn value_at(alloc: Global, kind: ValueKind, element: &Element<'_>) -> Result<Typed, CodecError>
-    ensures { Gives (λ x. x) result (value_at kind element.now) }
+fn value_at(
+    alloc: Global,
+    tags: &TagTable,
+    kind: ValueKind,
+    element: &Element<'_>,
+) -> Result<Typed, CodecError>
+    ensures { Gives (λ x. x) result (value_at tags.now kind element.now) }
 {
     Ok(match kind {
-        ValueKind::Bool => Typed::Bool(generic_at::<bool>(alloc, element)?),
-        ValueKind::Int => Typed::Int(generic_at::<i32>(alloc, element)?),
-        ValueKind::Octets => Typed::Octets(generic_at::<Octets>(alloc, element)?),
-        ValueKind::Object => Typed::Ref(generic_at::<Ref>(alloc, element)?),
-        ValueKind::Content => Typed::ContentRef(generic_at::<WrittenName>(alloc, element)?),
+        ValueKind::Bool => Typed::Bool(generic_at::<bool>(alloc, tags, element)?),
+        ValueKind::Int => Typed::Int(generic_at::<i32>(alloc, tags, element)?),
+        ValueKind::Octets => Typed::Octets(generic_at::<Octets>(alloc, tags, element)?),
+        ValueKind::Object => Typed::Ref(generic_at::<Ref>(alloc, tags, element)?),
+        ValueKind::Content => Typed::ContentRef(generic_at::<WrittenName>(alloc, tags, element)?),
     })
 }
 
@@ -110,8 +126,8 @@ impl Readable for Typed {
 
     ghost reading = { reading_lem };
 
-    fn read_at(alloc: Global, element: &Element<'_>) -> Result<Typed, CodecError> {
-        typed_at(alloc, element)
+    fn read_at(alloc: Global, tags: &TagTable, element: &Element<'_>) -> Result<Typed, CodecError> {
+        typed_at(alloc, tags, element)
     }
 }
 
@@ -122,7 +138,11 @@ impl Readable for Action {
 
     ghost reading = { reading_lem };
 
-    fn read_at(alloc: Global, element: &Element<'_>) -> Result<Action, CodecError> {
-        action_at(alloc, element)
+    fn read_at(
+        alloc: Global,
+        tags: &TagTable,
+        element: &Element<'_>,
+    ) -> Result<Action, CodecError> {
+        action_at(alloc, tags, element)
     }
 }

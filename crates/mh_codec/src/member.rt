@@ -6,6 +6,7 @@ ghost use Rattle.mh_codec.specs.Reading.{member_in, member_at, list_item_in, lis
 use crate::element::{ended, exhausted, sequence_at, taken};
 use crate::readable::{Readable, members};
 use crate::setting::pair;
+use crate::tag_table::TagTable;
 use crate::value::{integer_at, name_at, reference_at};
 use crate::{CodecError, Why};
 use mh_base::{LONGEST_LIST, Seq};
@@ -15,20 +16,20 @@ use std::alloc::Global;
 
 /// A member: its object, and the effect of each slot.
 #[tactic(auto, unfolding(crate::specs::Reading::member_in))]
-fn member_in(alloc: Global, reader: Reader<'_>) -> Result<Member, CodecError>
-    ensures { Gives (λ x. x) result (member_in reader.entry) }
+fn member_in(alloc: Global, tags: &TagTable, reader: Reader<'_>) -> Result<Member, CodecError>
+    ensures { Gives (λ x. x) result (member_in tags.now reader.entry) }
 {
     let (element, reader) = taken(reader)?;
     let object = reference_at(alloc, &element)?;
-    let slots = members::<Effect>(alloc, LONGEST_LIST, reader)?;
+    let slots = members::<Effect>(alloc, tags, LONGEST_LIST, reader)?;
     Ok(Member { object, slots })
 }
 
 #[tactic(auto, unfolding(crate::specs::Reading::member_at))]
-fn member_at(alloc: Global, element: &Element<'_>) -> Result<Member, CodecError>
-    ensures { Gives (λ x. x) result (member_at element.now) }
+fn member_at(alloc: Global, tags: &TagTable, element: &Element<'_>) -> Result<Member, CodecError>
+    ensures { Gives (λ x. x) result (member_at tags.now element.now) }
 {
-    member_in(alloc, sequence_at(element)?)
+    member_in(alloc, tags, sequence_at(element)?)
 }
 
 /// A member of a list group: its object alone.
@@ -90,8 +91,12 @@ impl Readable for Member {
 
     ghost reading = { reading_lem };
 
-    fn read_at(alloc: Global, element: &Element<'_>) -> Result<Member, CodecError> {
-        member_at(alloc, element)
+    fn read_at(
+        alloc: Global,
+        tags: &TagTable,
+        element: &Element<'_>,
+    ) -> Result<Member, CodecError> {
+        member_at(alloc, tags, element)
     }
 }
 
@@ -100,9 +105,13 @@ impl Readable for ListItem {
 
     type Value = Member;
 
-    ghost reading = { reading_lem };
+    ghost reading = { λ tags. reading_lem };
 
-    fn read_at(alloc: Global, element: &Element<'_>) -> Result<Member, CodecError> {
+    fn read_at(
+        alloc: Global,
+        _tags: &TagTable,
+        element: &Element<'_>,
+    ) -> Result<Member, CodecError> {
         list_item_at(alloc, element)
     }
 }
@@ -112,9 +121,13 @@ impl Readable for Position {
 
     type Value = Position;
 
-    ghost reading = { reading_lem };
+    ghost reading = { λ tags. reading_lem };
 
-    fn read_at(_alloc: Global, element: &Element<'_>) -> Result<Position, CodecError> {
+    fn read_at(
+        _alloc: Global,
+        _tags: &TagTable,
+        element: &Element<'_>,
+    ) -> Result<Position, CodecError> {
         position_at(element)
     }
 }
@@ -124,9 +137,13 @@ impl Readable for NextScene {
 
     type Value = NextScene;
 
-    ghost reading = { reading_lem };
+    ghost reading = { λ tags. reading_lem };
 
-    fn read_at(alloc: Global, element: &Element<'_>) -> Result<NextScene, CodecError> {
+    fn read_at(
+        alloc: Global,
+        _tags: &TagTable,
+        element: &Element<'_>,
+    ) -> Result<NextScene, CodecError> {
         next_scene_at(alloc, element)
     }
 }

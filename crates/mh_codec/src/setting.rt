@@ -6,6 +6,7 @@ ghost use Rattle.mh_codec.specs.Reading.{setting, single, pair, part, is_pair};
 use crate::element::{ended, only, refused, taken};
 use crate::member::ListItem;
 use crate::readable::{Readable, list_at};
+use crate::tag_table::TagTable;
 use crate::value::{
     colour_at, content_at, data_at, event_at, fixed_at, integer_at, justification_at, length_at,
     natural_at, reference_at, truth_at,
@@ -21,17 +22,18 @@ use std::alloc::Global;
 #[tactic(auto, unfolding(crate::specs::Reading::setting))]
 pub(crate) fn setting(
     alloc: Global,
+    tags: &TagTable,
     shape: Shape,
     reader: Reader<'_>,
 ) -> Result<Setting, CodecError>
-    ensures { Gives (λ x. x) result (setting shape reader.entry) }
+    ensures { Gives (λ x. x) result (setting tags.now shape reader.entry) }
 {
     if is_pair(shape) {
         let (first, second) = pair(shape, reader)?;
         return Ok(Setting::Pair(first, second));
     }
     let element = only(reader)?;
-    single(alloc, shape, &element)
+    single(alloc, tags, shape, &element)
 }
 
 fn is_pair(shape: Shape) -> bool
@@ -42,11 +44,16 @@ fn is_pair(shape: Shape) -> bool
 
 /// The value of a shape of one element.
 #[tactic(auto, unfolding(crate::specs::Reading::single))]
-fn single(alloc: Global, shape: Shape, element: &Element<'_>) -> Result<Setting, CodecError>
-    ensures { Gives (λ x. x) result (single shape element.now) }
+fn single(
+    alloc: Global,
+    tags: &TagTable,
+    shape: Shape,
+    element: &Element<'_>,
+) -> Result<Setting, CodecError>
+    ensures { Gives (λ x. x) result (single tags.now shape element.now) }
 {
     Ok(match shape {
-        Shape::Effect => Setting::Effect(Effect::read_at(alloc, element)?),
+        Shape::Effect => Setting::Effect(Effect::read_at(alloc, tags, element)?),
         Shape::Bool => Setting::Bool(truth_at(element)?),
         Shape::Int => Setting::Int(integer_at(element)?),
         Shape::Natural => Setting::Int(natural_at(element)?),
@@ -54,16 +61,23 @@ fn single(alloc: Global, shape: Shape, element: &Element<'_>) -> Result<Setting,
         Shape::Ref => Setting::Ref(reference_at(alloc, element)?),
         Shape::Event => Setting::Event(event_at(element)?),
         Shape::Data => Setting::Data(data_at(element)?),
-        Shape::Octets => Setting::Octets(Octets::read_at(alloc, element)?),
+        Shape::Octets => Setting::Octets(Octets::read_at(alloc, tags, element)?),
         Shape::Colour => Setting::Colour(colour_at(element)?),
-        Shape::Content => Setting::Content(content_at(alloc, element)?),
-        Shape::ContentRef => Setting::ContentRef(WrittenName::read_at(alloc, element)?),
+        Shape::Content => Setting::Content(content_at(alloc, tags, element)?),
+        Shape::ContentRef => Setting::ContentRef(WrittenName::read_at(alloc, tags, element)?),
         Shape::Justification => Setting::Justification(justification_at(element)?),
-        Shape::MovementTable => Setting::MovementTable(Seq::<Seq<i32>>::read_at(alloc, element)?),
-        Shape::Members => Setting::Members(Seq::<Member>::read_at(alloc, element)?),
-        Shape::ListItems => Setting::Members(list_at::<ListItem>(alloc, MOST_LIST_ITEMS, element)?),
-        Shape::Positions => Setting::Positions(Seq::<Position>::read_at(alloc, element)?),
-        Shape::NextScenes => Setting::NextScenes(Seq::<NextScene>::read_at(alloc, element)?),
+        Shape::MovementTable => Setting::MovementTable(Seq::<Seq<i32>>::read_at(
+            alloc, tags, element,
+        )?),
+        Shape::Members => Setting::Members(Seq::<Member>::read_at(alloc, tags, element)?),
+        Shape::ListItems => Setting::Members(list_at::<ListItem>(
+            alloc,
+            tags,
+            MOST_LIST_ITEMS,
+            element,
+        )?),
+        Shape::Positions => Setting::Positions(Seq::<Position>::read_at(alloc, tags, element)?),
+        Shape::NextScenes => Setting::NextScenes(Seq::<NextScene>::read_at(alloc, tags, element)?),
         _ => return Err(refused(element, Why::UnknownTag)),
     })
 }

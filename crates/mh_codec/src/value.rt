@@ -4,7 +4,8 @@ ghost use Rattle.mh_codec.specs.Gives.{Gives};
 ghost use Rattle.mh_codec.specs.Reading.{truth_at, integer_at, octets_at, natural_at, fixed_at, number_at, ingredient_number_at, name_at, event_at, colour_at, justification_at, length_at, name_of, content_name_at, content_at, data_at, named_in, reference_at, is_indirect, variable_at};
 
 use crate::element::{ended, only, primitive_at, refused, taken};
-use crate::kind::{CONTENT_NAME, Kind, VARIABLE, kind_of};
+use crate::kind::{Kind, kind_of};
+use crate::tag_table::TagTable;
 use crate::{CodecError, Why};
 use mh_base::{Colour, EventType, Octets};
 use mh_der::{Element, Reader, bool_of, int_of};
@@ -124,12 +125,13 @@ fn name_of(alloc: Global, element: &Element<'_>, bytes: &[u8]) -> Result<Written
 #[tactic(auto, unfolding(crate::specs::Reading::content_name_at))]
 pub(crate) fn content_name_at(
     alloc: Global,
+    tags: &TagTable,
     element: &Element<'_>,
 ) -> Result<WrittenName, CodecError>
-    ensures { Gives (λ x. x) result (content_name_at element.now) }
+    ensures { Gives (λ x. x) result (content_name_at tags.now element.now) }
 {
     let number = primitive_at(element)?;
-    if number != CONTENT_NAME {
+    if number != tags.content_name_tag() {
         return Err(refused(element, Why::UnknownTag));
     }
     name_of(alloc, element, element.contents().bytes())
@@ -137,15 +139,19 @@ pub(crate) fn content_name_at(
 
 /// Content: in the file, or in a file of a name.
 #[tactic(auto, unfolding(crate::specs::Reading::content_at))]
-pub(crate) fn content_at(alloc: Global, element: &Element<'_>) -> Result<Content, CodecError>
-    ensures { Gives (λ x. x) result (content_at element.now) }
+pub(crate) fn content_at(
+    alloc: Global,
+    tags: &TagTable,
+    element: &Element<'_>,
+) -> Result<Content, CodecError>
+    ensures { Gives (λ x. x) result (content_at tags.now element.now) }
 {
     match kind_of(element.tag()) {
         Kind::Octets => {
             let octets = Octets::from_slice(alloc, octets_at(element)?)?;
             Ok(Content::Included(octets))
         }
-        _ => Ok(Content::Referenced(content_name_at(alloc, element)?)),
+        _ => Ok(Content::Referenced(content_name_at(alloc, tags, element)?)),
     }
 }
 
@@ -232,11 +238,11 @@ pub(crate) fn reference_at(alloc: Global, element: &Element<'_>) -> Result<Ref, 
 
 /// Whether the element holds the reference of a variable.
 #[tactic(auto, unfolding(crate::specs::Reading::is_indirect))]
-pub(crate) fn is_indirect(element: &Element<'_>) -> bool
-    ensures { result ≡ is_indirect element.now }
+pub(crate) fn is_indirect(tags: &TagTable, element: &Element<'_>) -> bool
+    ensures { result ≡ is_indirect tags.now element.now }
 {
     match kind_of(element.tag()) {
-        Kind::Own(number) => number == VARIABLE,
+        Kind::Own(number) => number == tags.variable_tag(),
         _ => false,
     }
 }

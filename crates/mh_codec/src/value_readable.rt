@@ -1,6 +1,7 @@
 //! The types of the values that are one element, as what can be read.
 use crate::CodecError;
 use crate::readable::Readable;
+use crate::tag_table::TagTable;
 use crate::value::{
     content_at, content_name_at, data_at, integer_at, octets_at, reference_at, truth_at,
 };
@@ -14,9 +15,13 @@ impl Readable for bool {
 
     type Value = bool;
 
-    ghost reading = { reading_lem };
+    ghost reading = { λ tags. reading_lem };
 
-    fn read_at(_alloc: Global, element: &Element<'_>) -> Result<bool, CodecError> {
+    fn read_at(
+        _alloc: Global,
+        _tags: &TagTable,
+        element: &Element<'_>,
+    ) -> Result<bool, CodecError> {
         truth_at(element)
     }
 }
@@ -26,9 +31,9 @@ impl Readable for i32 {
 
     type Value = i32;
 
-    ghost reading = { reading_lem };
+    ghost reading = { λ tags. reading_lem };
 
-    fn read_at(_alloc: Global, element: &Element<'_>) -> Result<i32, CodecError> {
+    fn read_at(_alloc: Global, _tags: &TagTable, element: &Element<'_>) -> Result<i32, CodecError> {
         integer_at(element)
     }
 }
@@ -38,9 +43,13 @@ impl Readable for Octets {
 
     type Value = Octets;
 
-    ghost reading = { reading_lem };
+    ghost reading = { λ tags. reading_lem };
 
-    fn read_at(alloc: Global, element: &Element<'_>) -> Result<Octets, CodecError> {
+    fn read_at(
+        alloc: Global,
+        _tags: &TagTable,
+        element: &Element<'_>,
+    ) -> Result<Octets, CodecError> {
         Ok(Octets::from_slice(alloc, octets_at(element)?)?)
     }
 }
@@ -50,9 +59,9 @@ impl Readable for Ref {
 
     type Value = Ref;
 
-    ghost reading = { reading_lem };
+    ghost reading = { λ tags. reading_lem };
 
-    fn read_at(alloc: Global, element: &Element<'_>) -> Result<Ref, CodecError> {
+    fn read_at(alloc: Global, _tags: &TagTable, element: &Element<'_>) -> Result<Ref, CodecError> {
         reference_at(alloc, element)
     }
 }
@@ -64,8 +73,12 @@ impl Readable for WrittenName {
 
     ghost reading = { reading_lem };
 
-    fn read_at(alloc: Global, element: &Element<'_>) -> Result<WrittenName, CodecError> {
-        content_name_at(alloc, element)
+    fn read_at(
+        alloc: Global,
+        tags: &TagTable,
+        element: &Element<'_>,
+    ) -> Result<WrittenName, CodecError> {
+        content_name_at(alloc, tags, element)
     }
 }
 
@@ -76,8 +89,12 @@ impl Readable for Content {
 
     ghost reading = { reading_lem };
 
-    fn read_at(alloc: Global, element: &Element<'_>) -> Result<Content, CodecError> {
-        content_at(alloc, element)
+    fn read_at(
+        alloc: Global,
+        tags: &TagTable,
+        element: &Element<'_>,
+    ) -> Result<Content, CodecError> {
+        content_at(alloc, tags, element)
     }
 }
 
@@ -86,9 +103,13 @@ impl Readable for EventData {
 
     type Value = EventData;
 
-    ghost reading = { reading_lem };
+    ghost reading = { λ tags. reading_lem };
 
-    fn read_at(_alloc: Global, element: &Element<'_>) -> Result<EventData, CodecError> {
+    fn read_at(
+        _alloc: Global,
+        _tags: &TagTable,
+        element: &Element<'_>,
+    ) -> Result<EventData, CodecError> {
         data_at(element)
     }
 }

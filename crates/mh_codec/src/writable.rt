@@ -6,9 +6,10 @@ ghost use Rattle.std.specs.List.{list_all};
 ghost use Rattle.mh_der.specs.Element.{element};
 ghost use Rattle.mh_group.specs.Holdable.{is_reference, is_generic, is_list};
 ghost use Rattle.mh_codec.specs.Spelling.{own, several, list, generic, reference};
+ghost use Rattle.mh_codec.specs.Tags.{variable_tag};
 ghost use Rattle.mh_codec.specs.Unwritable.{Refuses};
 
-use crate::kind::VARIABLE;
+use crate::tag_table::TagTable;
 use crate::{CodecError, Why};
 use mh_base::{LONGEST_LIST, Seq};
 use mh_der::{SEQUENCE, Tag, TagClass, write_element};
@@ -24,13 +25,14 @@ pub(crate) const PAST_LIMIT: CodecError = CodecError::At {
 /// What can be written.
 pub(crate) trait Writable {
     ghost use Rattle.std.specs.Prelude.{ℕ, Bool, List};
+    ghost use Rattle.mh_codec.specs.Tags.{Tags};
 
-    ghost spelling: { Self → List ℕ };
+    ghost spelling: { Tags → Self → List ℕ };
 
     ghost is_good: { Self → Bool };
 
-    fn write(&self, alloc: Global, out: &mut Vec<u8>) -> Result<(), CodecError>
-        ensures written { OnOk result (out.new.items ≡ out.old.items ++ spelling self.now) }
+    fn write(&self, alloc: Global, tags: &TagTable, out: &mut Vec<u8>) -> Result<(), CodecError>
+        ensures written { OnOk result (out.new.items ≡ out.old.items ++ spelling tags.now self.now) }
         ensures fits { OnOk result (is_good self.now ≡ true) }
         ensures limit { IfErr result (Refuses (is_good self.now)) };
 }
@@ -40,12 +42,12 @@ impl<T: Writable> Writable for Seq<T> {
     ghost use Rattle.mh_codec.specs.Spelling.{list};
     ghost use Rattle.mh_group.specs.Holdable.{is_list};
 
-    ghost spelling = { list T.spelling };
+    ghost spelling = { λ tags. list (T.spelling tags) };
 
     ghost is_good = { is_list T.is_good };
 
-    fn write(&self, alloc: Global, out: &mut Vec<u8>) -> Result<(), CodecError> {
-        write_list(alloc, out, self.as_slice())
+    fn write(&self, alloc: Global, tags: &TagTable, out: &mut Vec<u8>) -> Result<(), CodecError> {
+        write_list(alloc, tags, out, self.as_slice())
     }
 }
 
@@ -54,40 +56,46 @@ impl<T: Writable> Writable for Generic<T> {
     ghost use Rattle.mh_codec.specs.Spelling.{generic};
     ghost use Rattle.mh_group.specs.Holdable.{is_generic};
 
-    ghost spelling = { generic T.spelling };
+    ghost spelling = { λ tags. generic tags (T.spelling tags) };
 
     ghost is_good = { is_generic T.is_good };
 
-    fn write(&self, alloc: Global, out: &mut Vec<u8>) -> Result<(), CodecError> {
-        write_generic(alloc, out, self)
+    fn write(&self, alloc: Global, tags: &TagTable, out: &mut Vec<u8>) -> Result<(), CodecError> {
+        write_generic(alloc, tags, out, self)
     }
 }
 
 #[tactic(auto, unfolding(crate::specs::Spelling::generic))]
 fn write_generic<T: Writable>(
     alloc: Global,
+    tags: &TagTable,
     out: &mut Vec<u8>,
     value: &Generic<T>,
 ) -> Result<(), CodecError>
-    ensures written { OnOk result (out.new.items ≡ out.old.items ++ generic T.spelling value.now) }
+    ensures written { OnOk result (out.new.items ≡ out.old.items ++ generic tags.now (T.spelling tags.now) value.now) }
     ensures fits { OnOk result (is_generic T.is_good value.now ≡ true) }
     ensures limit { IfErr result (Refuses (is_generic T.is_good value.now)) }
 {
     match value {
-        Generic::Direct(value) => value.write(alloc, out),
-        Generic::Indirect(variable) => write_variable(alloc, out, variable),
+        Generic::Direct(value) => value.write(alloc, tags, out),
+        Generic::Indirect(variable) => write_variable(alloc, tags, out, variable),
     }
 }
 
 /// Writes the reference of a variable that holds a value.
-fn write_variable(alloc: Global, out: &mut Vec<u8>, variable: &Ref) -> Result<(), CodecError>
-    ensures written { OnOk result (out.new.items ≡ out.old.items ++ element (own 61) (reference variable.now)) }
+fn write_variable(
+    alloc: Global,
+    tags: &TagTable,
+    out: &mut Vec<u8>,
+    variable: &Ref,
+) -> Result<(), CodecError>
+    ensures written { OnOk result (out.new.items ≡ out.old.items ++ element (own (variable_tag tags.now)) (reference variable.now)) }
     ensures fits { OnOk result (is_reference variable.now ≡ true) }
     ensures limit { IfErr result (Refuses (is_reference variable.now)) }
 {
     let mut contents = Vec::new(alloc);
-    variable.write(alloc, &mut contents)?;
-    write_element(out, own(VARIABLE), contents.as_slice())?;
+    variable.write(alloc, tags, &mut contents)?;
+    write_element(out, own(tags.variable_tag()), contents.as_slice())?;
     Ok(())
 }
 
@@ -95,10 +103,11 @@ fn write_variable(alloc: Global, out: &mut Vec<u8>, variable: &Ref) -> Result<()
 #[tactic(auto, unfolding(crate::specs::Spelling::list))]
 pub(crate) fn write_list<T: Writable>(
     alloc: Global,
+    tags: &TagTable,
     out: &mut Vec<u8>,
     members: &[T],
 ) -> Result<(), CodecError>
-    ensures written { OnOk result (out.new.items ≡ out.old.items ++ list T.spelling members.now) }
+    ensures written { OnOk result (out.new.items ≡ out.old.items ++ list (T.spelling tags.now) members.now) }
     ensures fits { OnOk result (is_list T.is_good members.now ≡ true) }
     ensures limit { IfErr result (Refuses (is_list T.is_good members.now)) }
 {
@@ -106,7 +115,7 @@ pub(crate) fn write_list<T: Writable>(
         return Err(PAST_LIMIT);
     }
     let mut contents = Vec::new(alloc);
-    write_several(alloc, &mut contents, members)?;
+    write_several(alloc, tags, &mut contents, members)?;
     write_element(out, SEQUENCE, contents.as_slice())?;
     Ok(())
 }
@@ -114,15 +123,16 @@ pub(crate) fn write_list<T: Writable>(
 /// Writes the members one after the other.
 pub(crate) fn write_several<T: Writable>(
     alloc: Global,
+    tags: &TagTable,
     out: &mut Vec<u8>,
     members: &[T],
 ) -> Result<(), CodecError>
-    ensures written { OnOk result (out.new.items ≡ out.old.items ++ several T.spelling members.now) }
+    ensures written { OnOk result (out.new.items ≡ out.old.items ++ several (T.spelling tags.now) members.now) }
     ensures fits { OnOk result (list_all T.is_good members.now ≡ true) }
     ensures limit { IfErr result (Refuses (list_all T.is_good members.now)) }
 {
     for member in members {
-        member.write(alloc, out)?;
+        member.write(alloc, tags, out)?;
     }
     Ok(())
 }

@@ -9,7 +9,7 @@ ghost use Rattle.mh_codec.specs.declared.codec_error.Why.{Why};
 ghost use Rattle.mh_codec.specs.Unwritable.{Refuses, HasNoSpelling};
 
 use crate::CodecError;
-use crate::kind::{attribute_number, class_number};
+use crate::tag_table::TagTable;
 use crate::writable::{PAST_LIMIT, Writable, own, write_list, write_several};
 use crate::writing_value::{write_integer, write_named, write_natural};
 use mh_base::{LARGEST_FILE, Seq};
@@ -18,14 +18,14 @@ use mh_group::group::before_items;
 use mh_group::{Attribute, Field, Group, Ingredient, Setting, Written};
 use std::alloc::Global;
 
-/// The octets that spell the group; 13 at 0 exactly where the notation cannot hold it.
+/// The octets that spell the group by these tags; 13 at 0 exactly where the notation cannot hold it.
 #[tactic(auto, using(crate::proofs::WritingLemmas::none_spells_unwritable, crate::proofs::WritingLemmas::none_spells_large), unfolding(crate::specs::Writable::Spells))]
-pub fn encode_group(alloc: Global, group: &Group) -> Result<Vec<u8>, CodecError>
-    ensures written { IfOk result (λ octets. Spells octets.items group.now) }
-    ensures limit { IfErr result (λ e. e ≢ CodecError.NoMemory → (e ≡ CodecError.At Why.Limit 0) × HasNoSpelling group.now) }
+pub fn encode_group(alloc: Global, tags: &TagTable, group: &Group) -> Result<Vec<u8>, CodecError>
+    ensures written { IfOk result (λ octets. Spells tags.now octets.items group.now) }
+    ensures limit { IfErr result (λ e. e ≢ CodecError.NoMemory → (e ≡ CodecError.At Why.Limit 0) × HasNoSpelling tags.now group.now) }
 {
     let mut octets = Vec::new(alloc);
-    write_group(alloc, &mut octets, group.written())?;
+    write_group(alloc, tags, &mut octets, group.written())?;
     if octets.len() > LARGEST_FILE {
         return Err(PAST_LIMIT);
     }
@@ -33,15 +33,26 @@ pub fn encode_group(alloc: Global, group: &Group) -> Result<Vec<u8>, CodecError>
 }
 
 #[tactic(auto, unfolding(crate::specs::Spelling::group, mh_group::specs::Holdable::is_holdable))]
-fn write_group(alloc: Global, out: &mut Vec<u8>, group: &Written) -> Result<(), CodecError>
-    ensures written { OnOk result (out.new.items ≡ out.old.items ++ group_lem group.now) }
+fn write_group(
+    alloc: Global,
+    tags: &TagTable,
+    out: &mut Vec<u8>,
+    group: &Written,
+) -> Result<(), CodecError>
+    ensures written { OnOk result (out.new.items ≡ out.old.items ++ group_lem tags.now group.now) }
     ensures fits { OnOk result (is_holdable group.now ≡ true) }
     ensures limit { IfErr result (Refuses (is_holdable group.now)) }
 {
     let mut contents = Vec::new(alloc);
     write_named(alloc, &mut contents, &group.identifier, 0)?;
-    write_body(alloc, &mut contents, &group.items, group.fields.as_slice())?;
-    write_element(out, own(class_number(group.class)), contents.as_slice())?;
+    write_body(
+        alloc,
+        tags,
+        &mut contents,
+        &group.items,
+        group.fields.as_slice(),
+    )?;
+    write_element(out, own(tags.class_tag(group.class)), contents.as_slice())?;
     Ok(())
 }
 
@@ -49,37 +60,43 @@ fn write_group(alloc: Global, out: &mut Vec<u8>, group: &Written) -> Result<(), 
 #[tactic(auto, unfolding(crate::specs::Spelling::body))]
 fn write_body(
     alloc: Global,
+    tags: &TagTable,
     out: &mut Vec<u8>,
     items: &Option<Seq<Ingredient>>,
     fields: &[Field],
 ) -> Result<(), CodecError>
-    ensures written { OnOk result (out.new.items ≡ out.old.items ++ body items.now fields.now) }
+    ensures written { OnOk result (out.new.items ≡ out.old.items ++ body tags.now items.now fields.now) }
     ensures settings { OnOk result (has_settings fields.now ≡ true) }
     ensures members { OnOk result (is_list is_ingredient (written_items items.now) ≡ true) }
     ensures limit { IfErr result (Refuses (has_settings fields.now && is_list is_ingredient (written_items items.now))) }
 {
     match items {
-        None => write_several(alloc, out, fields),
+        None => write_several(alloc, tags, out, fields),
         Some(items) => {
             let count = before_items(fields);
-            write_several(alloc, out, &fields[..count])?;
-            write_items(alloc, out, items.as_slice())?;
-            write_several(alloc, out, &fields[count..])
+            write_several(alloc, tags, out, &fields[..count])?;
+            write_items(alloc, tags, out, items.as_slice())?;
+            write_several(alloc, tags, out, &fields[count..])
         }
     }
 }
 
 #[tactic(auto, unfolding(crate::specs::Spelling::items))]
-fn write_items(alloc: Global, out: &mut Vec<u8>, items: &[Ingredient]) -> Result<(), CodecError>
-    ensures written { OnOk result (out.new.items ≡ out.old.items ++ items_lem items.now) }
+fn write_items(
+    alloc: Global,
+    tags: &TagTable,
+    out: &mut Vec<u8>,
+    items: &[Ingredient],
+) -> Result<(), CodecError>
+    ensures written { OnOk result (out.new.items ≡ out.old.items ++ items_lem tags.now items.now) }
     ensures fits { OnOk result (is_list is_ingredient items.now ≡ true) }
     ensures limit { IfErr result (Refuses (is_list is_ingredient items.now)) }
 {
     let mut contents = Vec::new(alloc);
-    write_list(alloc, &mut contents, items)?;
+    write_list(alloc, tags, &mut contents, items)?;
     write_element(
         out,
-        own(attribute_number(Attribute::Items)),
+        own(tags.attribute_tag(Attribute::Items)),
         contents.as_slice(),
     )?;
     Ok(())
@@ -94,11 +111,11 @@ impl Writable for Ingredient {
     ghost is_good = { is_good_lem };
 
     #[tactic(auto, unfolding(crate::specs::Spelling::ingredient))]
-    fn write(&self, alloc: Global, out: &mut Vec<u8>) -> Result<(), CodecError> {
+    fn write(&self, alloc: Global, tags: &TagTable, out: &mut Vec<u8>) -> Result<(), CodecError> {
         let mut contents = Vec::new(alloc);
         write_natural(&mut contents, self.number.get())?;
-        write_several(alloc, &mut contents, self.fields.as_slice())?;
-        write_element(out, own(class_number(self.class)), contents.as_slice())?;
+        write_several(alloc, tags, &mut contents, self.fields.as_slice())?;
+        write_element(out, own(tags.class_tag(self.class)), contents.as_slice())?;
         Ok(())
     }
 }
@@ -112,12 +129,12 @@ impl Writable for Field {
     ghost is_good = { λ f. is_good_lem f.setting };
 
     #[tactic(auto, unfolding(crate::specs::Spelling::field))]
-    fn write(&self, alloc: Global, out: &mut Vec<u8>) -> Result<(), CodecError> {
+    fn write(&self, alloc: Global, tags: &TagTable, out: &mut Vec<u8>) -> Result<(), CodecError> {
         let mut contents = Vec::new(alloc);
-        self.setting.write(alloc, &mut contents)?;
+        self.setting.write(alloc, tags, &mut contents)?;
         write_element(
             out,
-            own(attribute_number(self.attribute)),
+            own(tags.attribute_tag(self.attribute)),
             contents.as_slice(),
         )?;
         Ok(())
@@ -134,28 +151,28 @@ impl Writable for Setting {
     ghost is_good = { is_good_lem };
 
     #[tactic(auto, unfolding(crate::specs::Spelling::value))]
-    fn write(&self, alloc: Global, out: &mut Vec<u8>) -> Result<(), CodecError> {
+    fn write(&self, alloc: Global, tags: &TagTable, out: &mut Vec<u8>) -> Result<(), CodecError> {
         match self {
-            Setting::Bool(truth) => truth.write(alloc, out),
-            Setting::Int(value) => value.write(alloc, out),
+            Setting::Bool(truth) => truth.write(alloc, tags, out),
+            Setting::Int(value) => value.write(alloc, tags, out),
             Setting::Pair(first, second) => {
                 write_integer(out, *first)?;
                 write_integer(out, *second)?;
                 Ok(())
             }
-            Setting::Octets(octets) => octets.write(alloc, out),
-            Setting::Colour(colour) => colour.write(alloc, out),
-            Setting::Ref(reference) => reference.write(alloc, out),
-            Setting::Content(content) => content.write(alloc, out),
-            Setting::ContentRef(name) => name.write(alloc, out),
+            Setting::Octets(octets) => octets.write(alloc, tags, out),
+            Setting::Colour(colour) => colour.write(alloc, tags, out),
+            Setting::Ref(reference) => reference.write(alloc, tags, out),
+            Setting::Content(content) => content.write(alloc, tags, out),
+            Setting::ContentRef(name) => name.write(alloc, tags, out),
             Setting::Event(event) => Ok(write_natural(out, event.number())?),
-            Setting::Data(event_data) => event_data.write(alloc, out),
+            Setting::Data(event_data) => event_data.write(alloc, tags, out),
             Setting::Justification(side) => Ok(write_natural(out, side.number())?),
-            Setting::Effect(actions) => actions.write(alloc, out),
-            Setting::MovementTable(rows) => rows.write(alloc, out),
-            Setting::Members(members) => members.write(alloc, out),
-            Setting::Positions(positions) => positions.write(alloc, out),
-            Setting::NextScenes(scenes) => scenes.write(alloc, out),
+            Setting::Effect(actions) => actions.write(alloc, tags, out),
+            Setting::MovementTable(rows) => rows.write(alloc, tags, out),
+            Setting::Members(members) => members.write(alloc, tags, out),
+            Setting::Positions(positions) => positions.write(alloc, tags, out),
+            Setting::NextScenes(scenes) => scenes.write(alloc, tags, out),
         }
     }
 }

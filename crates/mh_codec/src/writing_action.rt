@@ -1,6 +1,6 @@
 //! Writers of elementary actions and their parameters.
 use crate::CodecError;
-use crate::kind::{action_number, value_number};
+use crate::tag_table::TagTable;
 use crate::writable::{Writable, own, write_several};
 use crate::writing_value::write_natural;
 use mh_base::Kind as ValueKind;
@@ -18,31 +18,31 @@ impl Writable for Typed {
     ghost is_good = { is_good_lem };
 
     #[tactic(auto, unfolding(crate::specs::Spelling::typed_value))]
-    fn write(&self, alloc: Global, out: &mut Vec<u8>) -> Result<(), CodecError> {
+    fn write(&self, alloc: Global, tags: &TagTable, out: &mut Vec<u8>) -> Result<(), CodecError> {
         let mut contents = Vec::new(alloc);
         let kind = match self {
             Typed::Bool(value) => {
-                value.write(alloc, &mut contents)?;
+                value.write(alloc, tags, &mut contents)?;
                 ValueKind::Bool
             }
             Typed::Int(value) => {
-                value.write(alloc, &mut contents)?;
+                value.write(alloc, tags, &mut contents)?;
                 ValueKind::Int
             }
             Typed::Octets(value) => {
-                value.write(alloc, &mut contents)?;
+                value.write(alloc, tags, &mut contents)?;
                 ValueKind::Octets
             }
             Typed::Ref(value) => {
-                value.write(alloc, &mut contents)?;
+                value.write(alloc, tags, &mut contents)?;
                 ValueKind::Object
             }
             Typed::ContentRef(value) => {
-                value.write(alloc, &mut contents)?;
+                value.write(alloc, tags, &mut contents)?;
                 ValueKind::Content
             }
         };
-        write_element(out, own(value_number(kind)), contents.as_slice())?;
+        write_element(out, own(tags.value_tag(kind)), contents.as_slice())?;
         Ok(())
     }
 }
@@ -55,18 +55,18 @@ impl Writable for Parameter {
 
     ghost is_good = { is_good_lem };
 
-    fn write(&self, alloc: Global, out: &mut Vec<u8>) -> Result<(), CodecError> {
+    fn write(&self, alloc: Global, tags: &TagTable, out: &mut Vec<u8>) -> Result<(), CodecError> {
         match self {
-            Parameter::Bool(value) => value.write(alloc, out),
-            Parameter::Int(value) => value.write(alloc, out),
-            Parameter::Octets(value) => value.write(alloc, out),
-            Parameter::Ref(value) => value.write(alloc, out),
-            Parameter::Content(value) => value.write(alloc, out),
-            Parameter::Data(value) => value.write(alloc, out),
+            Parameter::Bool(value) => value.write(alloc, tags, out),
+            Parameter::Int(value) => value.write(alloc, tags, out),
+            Parameter::Octets(value) => value.write(alloc, tags, out),
+            Parameter::Ref(value) => value.write(alloc, tags, out),
+            Parameter::Content(value) => value.write(alloc, tags, out),
+            Parameter::Data(value) => value.write(alloc, tags, out),
             Parameter::Event(event) => Ok(write_natural(out, event.number())?),
-            Parameter::Receiver(variable) => variable.write(alloc, out),
-            Parameter::Typed(value) => value.write(alloc, out),
-            Parameter::Arguments(values) => values.write(alloc, out),
+            Parameter::Receiver(variable) => variable.write(alloc, tags, out),
+            Parameter::Typed(value) => value.write(alloc, tags, out),
+            Parameter::Arguments(values) => values.write(alloc, tags, out),
         }
     }
 }
@@ -80,11 +80,11 @@ impl Writable for Action {
     ghost is_good = { is_good_lem };
 
     #[tactic(auto, unfolding(crate::specs::Spelling::action))]
-    fn write(&self, alloc: Global, out: &mut Vec<u8>) -> Result<(), CodecError> {
+    fn write(&self, alloc: Global, tags: &TagTable, out: &mut Vec<u8>) -> Result<(), CodecError> {
         let mut contents = Vec::new(alloc);
-        self.target.write(alloc, &mut contents)?;
-        write_several(alloc, &mut contents, self.parameters.as_slice())?;
-        write_element(out, own(action_number(self.name)), contents.as_slice())?;
+        self.target.write(alloc, tags, &mut contents)?;
+        write_several(alloc, tags, &mut contents, self.parameters.as_slice())?;
+        write_element(out, own(tags.action_tag(self.name)), contents.as_slice())?;
         Ok(())
     }
 }

@@ -6,7 +6,7 @@ ghost use Rattle.mh_group.specs.Holdable.{is_integer, is_octets};
 ghost use Rattle.mh_codec.specs.Spelling.{integer, natural, octet_string, named, content_tag};
 
 use crate::CodecError;
-use crate::kind::CONTENT_NAME;
+use crate::tag_table::TagTable;
 use crate::writable::Writable;
 use mh_base::{Colour, Octets};
 use mh_der::{OCTET_STRING, SEQUENCE, Tag, TagClass, write_bool, write_element, write_int};
@@ -66,13 +66,13 @@ pub(crate) fn write_integer(out: &mut Vec<u8>, value: i32) -> Result<(), AllocEr
 }
 
 /// The tag of the name of a content file.
-fn content_tag() -> Tag
-    ensures { result ≡ content_tag }
+fn content_tag(tags: &TagTable) -> Tag
+    ensures { result ≡ content_tag tags.now }
 {
     Tag {
         class: TagClass::Context,
         is_constructed: false,
-        number: CONTENT_NAME,
+        number: tags.content_name_tag(),
     }
 }
 
@@ -80,12 +80,12 @@ impl Writable for bool {
     ghost use Rattle.mh_codec.specs.Spelling.{boolean as spelling_lem};
     ghost use Rattle.mh_group.specs.Holdable.{is_plain as is_good_lem};
 
-    ghost spelling = { spelling_lem };
+    ghost spelling = { λ tags. spelling_lem };
 
     ghost is_good = { is_good_lem };
 
     #[tactic(auto, unfolding(crate::specs::Spelling::boolean))]
-    fn write(&self, _alloc: Global, out: &mut Vec<u8>) -> Result<(), CodecError> {
+    fn write(&self, _alloc: Global, _tags: &TagTable, out: &mut Vec<u8>) -> Result<(), CodecError> {
         write_bool(out, *self)?;
         Ok(())
     }
@@ -95,11 +95,11 @@ impl Writable for i32 {
     ghost use Rattle.mh_codec.specs.Spelling.{integer as spelling_lem};
     ghost use Rattle.mh_group.specs.Holdable.{is_integer as is_good_lem};
 
-    ghost spelling = { spelling_lem };
+    ghost spelling = { λ tags. spelling_lem };
 
     ghost is_good = { is_good_lem };
 
-    fn write(&self, _alloc: Global, out: &mut Vec<u8>) -> Result<(), CodecError> {
+    fn write(&self, _alloc: Global, _tags: &TagTable, out: &mut Vec<u8>) -> Result<(), CodecError> {
         write_integer(out, *self)?;
         Ok(())
     }
@@ -109,11 +109,11 @@ impl Writable for Octets {
     ghost use Rattle.mh_codec.specs.Spelling.{octet_string as spelling_lem};
     ghost use Rattle.mh_group.specs.Holdable.{is_octets as is_good_lem};
 
-    ghost spelling = { spelling_lem };
+    ghost spelling = { λ tags. spelling_lem };
 
     ghost is_good = { is_good_lem };
 
-    fn write(&self, _alloc: Global, out: &mut Vec<u8>) -> Result<(), CodecError> {
+    fn write(&self, _alloc: Global, _tags: &TagTable, out: &mut Vec<u8>) -> Result<(), CodecError> {
         write_octets(out, self.as_slice())?;
         Ok(())
     }
@@ -123,11 +123,11 @@ impl Writable for Colour {
     ghost use Rattle.mh_codec.specs.Spelling.{colour_value as spelling_lem};
     ghost use Rattle.mh_group.specs.Holdable.{is_octets as is_octets_lem, colour_octets};
 
-    ghost spelling = { spelling_lem };
+    ghost spelling = { λ tags. spelling_lem };
 
     ghost is_good = { λ c. is_octets_lem (colour_octets c) };
 
-    fn write(&self, _alloc: Global, out: &mut Vec<u8>) -> Result<(), CodecError> {
+    fn write(&self, _alloc: Global, _tags: &TagTable, out: &mut Vec<u8>) -> Result<(), CodecError> {
         let octets = [self.red, self.green, self.blue, self.transparency];
         write_octets(out, &octets)?;
         Ok(())
@@ -138,11 +138,11 @@ impl Writable for Ref {
     ghost use Rattle.mh_codec.specs.Spelling.{reference as spelling_lem};
     ghost use Rattle.mh_group.specs.Holdable.{is_reference as is_good_lem};
 
-    ghost spelling = { spelling_lem };
+    ghost spelling = { λ tags. spelling_lem };
 
     ghost is_good = { is_good_lem };
 
-    fn write(&self, alloc: Global, out: &mut Vec<u8>) -> Result<(), CodecError> {
+    fn write(&self, alloc: Global, _tags: &TagTable, out: &mut Vec<u8>) -> Result<(), CodecError> {
         match self {
             Ref::Here(number) => write_natural(out, number.get())?,
             Ref::In(name, number) => write_named(alloc, out, name, number.get())?,
@@ -161,8 +161,8 @@ impl Writable for WrittenName {
     ghost is_good = { is_good_lem };
 
     #[tactic(auto, unfolding(crate::specs::Spelling::content_name))]
-    fn write(&self, _alloc: Global, out: &mut Vec<u8>) -> Result<(), CodecError> {
-        write_element(out, content_tag(), self.as_bytes())?;
+    fn write(&self, _alloc: Global, tags: &TagTable, out: &mut Vec<u8>) -> Result<(), CodecError> {
+        write_element(out, content_tag(tags), self.as_bytes())?;
         Ok(())
     }
 }
@@ -175,10 +175,10 @@ impl Writable for Content {
 
     ghost is_good = { is_good_lem };
 
-    fn write(&self, alloc: Global, out: &mut Vec<u8>) -> Result<(), CodecError> {
+    fn write(&self, alloc: Global, tags: &TagTable, out: &mut Vec<u8>) -> Result<(), CodecError> {
         match self {
-            Content::Included(octets) => octets.write(alloc, out),
-            Content::Referenced(name) => name.write(alloc, out),
+            Content::Included(octets) => octets.write(alloc, tags, out),
+            Content::Referenced(name) => name.write(alloc, tags, out),
         }
     }
 }
@@ -187,14 +187,14 @@ impl Writable for EventData {
     ghost use Rattle.mh_codec.specs.Spelling.{data_value as spelling_lem};
     ghost use Rattle.mh_group.specs.Holdable.{is_data as is_good_lem};
 
-    ghost spelling = { spelling_lem };
+    ghost spelling = { λ tags. spelling_lem };
 
     ghost is_good = { is_good_lem };
 
-    fn write(&self, alloc: Global, out: &mut Vec<u8>) -> Result<(), CodecError> {
+    fn write(&self, alloc: Global, tags: &TagTable, out: &mut Vec<u8>) -> Result<(), CodecError> {
         match self {
-            EventData::Bool(truth) => truth.write(alloc, out),
-            EventData::Int(value) => value.write(alloc, out),
+            EventData::Bool(truth) => truth.write(alloc, tags, out),
+            EventData::Int(value) => value.write(alloc, tags, out),
         }
     }
 }

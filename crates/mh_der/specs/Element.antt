@@ -1,7 +1,8 @@
 -- Elements as the distinguished encoding rules write them (ITU-T X.690, 8.1 and 10.1): octets that
 -- name the tag, octets that tell the length, and the contents.
-use Rattle.std.specs.Prelude.{ℕ, ◌+◌, ◌/◌, ◌%◌, Bool, true, false, nat_lt, if◌then◌else◌, List, [], ◌∷◌, ◌++◌, length, map}
+use Rattle.std.specs.Prelude.{ℕ, ◌+◌, ◌/◌, ◌%◌, ◌==◌, Bool, true, false, nat_lt, if◌then◌else◌, List, [], ◌∷◌, ◌++◌, length, map}
 use Rattle.std.specs.Int.Digits.{digits_of}
+use Rattle.std.specs.List.{starts_with}
 use Rattle.mh_der.specs.declared.tag.Tag.{Tag}
 use Rattle.mh_der.specs.declared.tag.TagClass.{TagClass}
 use Rattle.mh_der.specs.declared.tag.TagClass.TheVariants as class
@@ -25,6 +26,10 @@ identifier t =
     let front = class_bits t.class + form_bit t.is_constructed in
     if nat_lt t.number 31 then (front + t.number) ∷ []
     else (front + 31) ∷ (map (λ d. 128 + d) (digits_of 128 (t.number / 128)) ++ (t.number % 128) ∷ [])
+
+-- the octets begin with the identifier octets of this tag
+unfoldable pub begins_with : List ℕ → Tag → Bool
+begins_with octets t = starts_with (λ a b. a == b) octets (identifier t)
 
 -- The length octets: the length itself below 128, else its digits of base 256, as few as there can
 -- be, behind their count (8.1.3.4, 8.1.3.5 and 10.1).

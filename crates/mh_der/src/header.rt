@@ -2,7 +2,7 @@
 //! left to `reader`.
 ghost use Rattle.std.specs.Prelude.{◌≡◌, ◌+◌, ◌*◌, ◌<◌, ◌≤◌, ◌^◌, ◌++◌, length, IfOk, IfErr, IfSome, IfNone};
 ghost use Rattle.std.specs.Int.Digits.{number_from_digits};
-ghost use Rattle.mh_der.specs.Element.{element};
+ghost use Rattle.mh_der.specs.Element.{element, begins_with};
 ghost use Rattle.mh_der.specs.Laws.{BeginWithNone};
 ghost use Rattle.mh_der.specs.Reading.{Gives, class_of, is_constructed, digit, long_enough, long_number, tag_of, begins_with_zero, held, long_length, length_of, parts};
 
@@ -107,6 +107,17 @@ fn tag_of(bytes: &[u8]) -> Result<(Tag, &[u8]), Why>
         },
         rest,
     ))
+}
+
+/// Whether the octets begin with the identifier octets of this tag (ITU-T X.690, 8.1.2). What stands
+/// behind them is not looked at.
+pub fn begins_with(octets: &[u8], tag: Tag) -> bool
+    ensures { result ≡ begins_with octets.now tag }
+{
+    match tag_of(octets) {
+        Ok((found, _)) => found == tag,
+        Err(_) => false,
+    }
 }
 
 /// The number that digits of base 256 write; none where 64 bits do not hold it.

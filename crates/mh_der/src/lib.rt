@@ -15,6 +15,7 @@ pub mod writing;
 
 pub use der_error::{DerError, Why};
 pub use element::Element;
+pub use header::begins_with;
 pub use reader::Reader;
 pub use tag::{BOOLEAN, INTEGER, OCTET_STRING, SEQUENCE, Tag, TagClass};
 pub use value::{bool_of, int_of};

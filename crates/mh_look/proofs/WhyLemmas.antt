@@ -13,17 +13,19 @@ use Rattle.mh_layers.specs.declared.way.Way.{Way}
 use Rattle.mh_text.specs.Landmarks.{Landmark, Through, landmarks, variables_at}
 use Rattle.mh_text.specs.declared.mark.Mark.{Mark}
 use Rattle.mh_text.specs.Marks.{mark_of}
-use Rattle.mh_look.specs.Advice.{Row, row_with, row_text, advice, refusals, files, services, faults, readings}
+use Rattle.mh_look.specs.Advice.{Row, row_with, row_text, advice, refusals, files, services, tags, faults, readings}
 use Rattle.mh_look.specs.LineWords.{first_word, behind_first, last_word, before_last, number_in}
 use Rattle.mh_look.specs.Places.{IsHarmless}
 use Rattle.mh_look.specs.Services.{landmark_for, shown_for, shown_service}
-use Rattle.mh_look.specs.Sources.{NamedFile, Source, by_number, by_numbers, count_named, in_source, marks_named, named_words, object_in, shown_action, shown_actions, shown_byte, shown_landmark, shown_line, shown_line_from, shown_mark, shown_named, shown_numbered, shown_object, shown_object_in, shown_offset, shown_refused, shown_through, shown_with_variables, shown_written_from, source_named, through_words}
+use Rattle.mh_look.specs.Sources.{NamedFile, Source, by_number, by_numbers, count_named, in_source, is_marked, marks_named, named_words, object_in, shown_action, shown_actions, shown_byte, shown_if_marked, shown_landmark, shown_line, shown_line_from, shown_mark, shown_named, shown_numbered, shown_object, shown_object_in, shown_offset, shown_refused, shown_through, shown_with_variables, shown_written_from, source_named, through_words}
 use Rattle.mh_look.specs.declared.why_keyword.Keyword.{Keyword}
 use Rattle.mh_look.specs.declared.why_keyword.Keyword.TheVariants as keyword
+use Rattle.mh_look.specs.declared.why_marked.TheConstants.{HAVE_CHANGED}
 use Rattle.mh_look.specs.declared.why_way.TheConstants.{PUTS_FIRST, PUTS_NEXT}
+use Rattle.mh_look.specs.Wrapping.{paragraph}
 use Rattle.mh_look.specs.WayWords.{other_words, place_words, stage_words, stage_text, stages_text, way_text, way_of, bound_text}
 use Rattle.mh_look.specs.Why as spec
-use Rattle.mh_look.specs.Why.{Ground, Spot, spot, shown_spot, shown_from, or_else, refused_spot, refused_at, shown_late, shown_script, stuck, told, with_line, explained, explained_all, number_behind, keyword_of, why, ExplanationsAreHarmless}
+use Rattle.mh_look.specs.Why.{Ground, Spot, spot, shown_spot, shown_from, or_else, refused_spot, refused_at, shown_late, shown_tags, shown_script, stuck, told, with_line, explained, explained_all, number_behind, keyword_of, why, ExplanationsAreHarmless}
 use Rattle.mh_look.proofs.HarmlessLemmas.{◌⌢◌, harmless_codes, harmless_plain, harmless_paragraph, harmless_place}
 
 none : IsHarmless []
@@ -77,11 +79,14 @@ through_put : (from : List ℕ) (ts : List Through) → IsHarmless (through_word
 through_put from [] = none
 through_put from (t ∷ ts) = harmless_paragraph _
 
-refused_put : (ss : List Source) (group : List ℕ) (object index : ℕ) → IsHarmless (shown_refused ss group object index)
+refused_put : (ss : List Source) (word group : List ℕ) (object index : ℕ) → IsHarmless (shown_refused ss word group object index)
 unfolding shown_refused
-refused_put ss group object index =
-    in_source_put (shown_with_variables object index)
-    (λ s. optional (shown_through s) (λ m. mark_put s m ⌢ through_put s.name (variables_at s.text m.start)) (mark_of s.marks object index)) ss group
+refused_put ss word group object index = in_source_put (shown_with_variables word object index) (λ s. there s (mark_of s.marks object index)) ss group
+  where
+    there : (s : Source) (m : Option Mark) → IsHarmless (option_map_or (shown_if_marked word s) m (paragraph HAVE_CHANGED.now))
+    there s None = harmless_paragraph _
+    there s (Some m) =
+        either (is_marked word m) _ _ (mark_put s m ⌢ through_put s.name (variables_at s.text m.start)) (harmless_paragraph _)
 
 named_put : (word : List ℕ) (ss : List Source) → IsHarmless (shown_named word ss)
 named_put word ss =
@@ -127,6 +132,10 @@ late_put : (late : Option NamedFile) (number line : List ℕ) → IsHarmless (sh
 late_put None number line = none
 late_put (Some f) number line = either (bytes_eq number (codes "37")) _ _ (written_from_put f 0 (lines_of f.bytes) line) none
 
+tag_line_put : (tags : Option NamedFile) (number place : List ℕ) → IsHarmless (shown_tags tags number place)
+tag_line_put None number place = none
+tag_line_put (Some f) number place = either (bytes_eq number (codes "60")) _ _ (by_number_put (shown_line f) (script_line_put f) place) none
+
 script_put : (script : Option NamedFile) (word : List ℕ) → IsHarmless (shown_script script word)
 script_put script word = optional (λ (s : NamedFile). by_number (shown_line s) word) (λ s. by_number_put (shown_line s) (script_line_put s) word) script
 
@@ -170,7 +179,7 @@ bound_put ss ways word printed = optional (way_text ss printed) (way_put ss prin
 
 refused_spot_put : (ss : List Source) (action : List ℕ) (s : Spot) → IsHarmless (refused_spot ss action s)
 unfolding refused_spot
-refused_spot_put ss action s = harmless_paragraph _ ⌢ by_numbers_put (shown_refused ss s.group) (refused_put ss s.group) s.object s.index
+refused_spot_put ss action s = harmless_paragraph _ ⌢ by_numbers_put (shown_refused ss action s.group) (refused_put ss action s.group) s.object s.index
 
 refused_at_put : (ss : List Source) (action group object index : List ℕ)
     → IsHarmless (refused_at ss action (record { group = group; object = object; index = index }))
@@ -217,6 +226,12 @@ unfolding spec.service
 group_put g ws =
     harmless_paragraph _ ⌢ service_put g.sources (first_word ws) (behind_first ws) ⌢ late_put g.late (first_word ws) (behind_first ws) ⌢ advice_put services (first_word ws)
 
+tags_put : (file : Option NamedFile) (ws : List ℕ) → IsHarmless (spec.tagged file ws)
+unfolding spec.tagged
+tags_put file ws =
+    either (bytes_eq (first_word ws) (codes "60")) _ _ (harmless_paragraph _) (harmless_paragraph _)
+    ⌢ tag_line_put file (first_word ws) (behind_first ws) ⌢ advice_put tags (first_word ws)
+
 line_of_script_put : (script : Option NamedFile) (ws : List ℕ) → IsHarmless (spec.script script ws)
 unfolding spec.script
 line_of_script_put script ws = harmless_paragraph _ ⌢ script_put script ws ⌢ advice_put readings (codes "script")
@@ -256,6 +271,7 @@ told_put g number keyword.By ws = by_put g.sources (spot ws)
 told_put g number keyword.Cause ws = cause_put g.sources (spot ws)
 told_put g number keyword.File ws = file_put g.sources (spot ws)
 told_put g number keyword.Service ws = group_put g ws
+told_put g number keyword.Tags ws = tags_put g.tags ws
 told_put g number keyword.Script ws = line_of_script_put g.script ws
 told_put g number keyword.Read ws = unread_put ws
 told_put g number keyword.Fault ws = fault_put g.sources ws

@@ -25,6 +25,9 @@ files = map (λ row. map (λ x. x.now) row) table.FILES
 unfoldable pub services : List Row
 services = map (λ row. map (λ x. x.now) row) table.SERVICES
 
+unfoldable pub tags : List Row
+tags = map (λ row. map (λ x. x.now) row) table.TAGS
+
 unfoldable pub faults : List Row
 faults = map (λ row. map (λ x. x.now) row) table.FAULTS
 

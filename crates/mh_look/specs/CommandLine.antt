@@ -64,6 +64,10 @@ start = record (named (codes "start")) { defaults = codes "a" ∷ [] }
 abbrev pub late : Rule
 late = named (codes "late")
 
+-- the file that gives the tags of the binary notation
+abbrev pub tags : Rule
+tags = named (codes "tags")
+
 -- the script that was played
 abbrev pub script : Rule
 script = named (codes "script")
@@ -91,7 +95,7 @@ abbrev pub why_required : App
 why_required = with_rule (with_rule (new_app (codes "why")) output) folder
 
 abbrev pub why_service : App
-why_service = with_rule (with_rule why_required start) late
+why_service = with_rule (with_rule (with_rule why_required start) late) tags
 
 abbrev pub why : App
 why = with_rule (with_rule why_service script) color
@@ -113,7 +117,7 @@ pub data Asked : Type 0 where
   paged : (report : Text) → Asked
   drawn : (report : Text) (frame : Option ℕ) → Asked
   compared : (first second : Text) → Asked
-  explained : (output folder start : Text) (late script : Option Text) (color : Bool) → Asked
+  explained : (output folder start : Text) (late tags script : Option Text) (color : Bool) → Asked
 
 -- the value of an argument; each that is read here is required or has a default
 abbrev pub text_of : Text → List Row → Text
@@ -143,7 +147,7 @@ comparing rows = compared (text_of (codes "REPORT") rows) (text_of (codes "OTHER
 abbrev pub explaining : List Row → Asked
 explaining rows =
     explained (text_of (codes "OUTPUT") rows) (text_of (codes "DIR") rows) (text_of (codes "start") rows) (first_of (codes "late") rows)
-    (first_of (codes "script") rows) (is_set (codes "color") rows)
+    (first_of (codes "tags") rows) (first_of (codes "script") rows) (is_set (codes "color") rows)
 
 -- the subcommand of this name
 abbrev pub asked_under : Text → List Row → Asked
@@ -164,8 +168,9 @@ said (task.Show report frame plain) = shown report.now frame plain
 said (task.Page report) = paged report.now
 said (task.Image report frame) = drawn report.now frame
 said (task.Diff first second) = compared first.now second.now
-said (task.Why output folder start late script color) =
-    explained output.now folder.now start.now (option_map (λ s. s.now) late) (option_map (λ s. s.now) script) color
+said (task.Why output folder start given color) =
+    explained output.now folder.now start.now (option_map (λ s. s.now) given.late) (option_map (λ s. s.now) given.tags)
+    (option_map (λ s. s.now) given.script) color
 
 -- Why words ask for nothing that can be done.
 

@@ -2,7 +2,7 @@
 use Rattle.std.specs.Prelude.{ℕ, zero, suc, ◌+◌, ◌==◌, Bool, false, nat_le, if◌then◌else◌, List, [], ◌∷◌, ◌++◌, length, codes, Option, Some, None, Result, Ok, Err}
 use Rattle.std.specs.Fmt.{decimal}
 use Rattle.std.specs.List.{filter, find, flat_map}
-use Rattle.std.specs.Option.{option_map_or}
+use Rattle.std.specs.Option.{option_map, option_map_or}
 use Rattle.std.specs.Str.{bytes_eq}
 use Rattle.bstr.specs.Text.{lines_of, without_terminator}
 use Rattle.mh_base.specs.Path.{is_path, led_to}
@@ -11,12 +11,15 @@ use Rattle.mh_group.specs.declared.written.Written.{Written}
 use Rattle.mh_group.specs.Words.{action_word}
 use Rattle.mh_codec.specs.Gives.{Refusal}
 use Rattle.mh_codec.specs.Reading as octets
+use Rattle.mh_codec.specs.Tags.{Tags, profile}
 use Rattle.mh_text.specs.Landmarks.{Landmark, Sight, Class, Number, Name, Through, landmarks, variables_at}
 use Rattle.mh_text.specs.Lexing as words
 use Rattle.mh_text.specs.Printed.{printed, passes_limit}
 use Rattle.mh_text.specs.declared.mark.Mark.{Mark}
 use Rattle.mh_text.specs.Marks.{marks, mark_of}
-use Rattle.mh_told.specs.Reading.{Source as File}
+use Rattle.mh_told.specs.Reading.{Source as File, table_of}
+use Rattle.mh_told.specs.declared.unplayable.Unplayable.{Unplayable}
+use Rattle.mh_look.specs.declared.why_marked.TheConstants.{HAVE_CHANGED}
 use Rattle.mh_look.specs.declared.why_place.TheConstants.{GOES_THROUGH, STANDS_HERE, STAND_IN}
 use Rattle.mh_look.specs.LineWords.{number_in}
 use Rattle.mh_look.specs.Places.{shown_place}
@@ -38,12 +41,12 @@ abbrev pub shown_as : List ℕ → Result Written Refusal → List ℕ
 shown_as bs (Ok g) = printed_as bs g
 shown_as bs (Err _) = bs
 
--- what is shown of a file
-unfoldable pub text_of : List ℕ → List ℕ
-text_of bs = if octets.begins_group bs then shown_as bs (octets.read bs) else bs
+-- what is shown of a file, where the binary notation has these tags
+unfoldable pub text_of : Tags → List ℕ → List ℕ
+text_of tags bs = if octets.begins_group tags bs then shown_as bs (octets.read tags bs) else bs
 
-abbrev pub source_of : File → Source
-source_of f = record { name = f.0; text = text_of f.1.items; marks = marks (text_of f.1.items); is_written = words.begins_group f.1.items }
+abbrev pub source_of : Tags → File → Source
+source_of tags f = record { name = f.0; text = text_of tags f.1.items; marks = marks (text_of tags f.1.items); is_written = words.begins_group f.1.items }
 
 abbrev pub source_named : List Source → List ℕ → Option Source
 source_named ss name = find (λ (s : Source). bytes_eq s.name name) ss
@@ -88,12 +91,21 @@ through_words from (t ∷ ts) = paragraph (GOES_THROUGH.now ++ variable_words fr
 abbrev pub shown_through : Source → Mark → List ℕ
 shown_through s m = shown_mark s m ++ through_words s.name (variables_at s.text m.start)
 
-abbrev pub shown_with_variables : ℕ → ℕ → Source → List ℕ
-shown_with_variables object index s = option_map_or (shown_through s) (mark_of s.marks object index) []
+-- an action of this name stands there, or a list of members for `-`
+abbrev pub is_marked : List ℕ → Mark → Bool
+is_marked word m = option_map_or (λ name. bytes_eq (action_word name) word) m.action (bytes_eq word (codes "-"))
 
--- an action with the variables through which it goes
-unfoldable pub shown_refused : List Source → List ℕ → ℕ → ℕ → List ℕ
-shown_refused ss group object index = in_source (shown_with_variables object index) ss group
+-- where something else stands there, the output is of other files
+abbrev pub shown_if_marked : List ℕ → Source → Mark → List ℕ
+shown_if_marked word s m = if is_marked word m then shown_through s m else paragraph HAVE_CHANGED.now
+
+abbrev pub shown_with_variables : List ℕ → ℕ → ℕ → Source → List ℕ
+shown_with_variables word object index s =
+    option_map_or (shown_if_marked word s) (mark_of s.marks object index) (paragraph HAVE_CHANGED.now)
+
+-- an action of this name with the variables through which it goes
+unfoldable pub shown_refused : List Source → List ℕ → List ℕ → ℕ → ℕ → List ℕ
+shown_refused ss word group object index = in_source (shown_with_variables word object index) ss group
 
 -- where all actions of a name stand
 
@@ -151,7 +163,7 @@ shown_byte n s = if s.is_written then shown_place s.name s.text n 1 else []
 unfoldable pub shown_offset : List Source → List ℕ → ℕ → List ℕ
 shown_offset ss name n = in_source (shown_byte n) ss name
 
--- a file that the command line names, a script or one of late scenes, by its name and its bytes
+-- a file that the command line names, a script, one of late scenes or one of tags, by its name and its bytes
 pub record NamedFile : Type 0 where
   pub name : List ℕ
   pub bytes : List ℕ
@@ -161,6 +173,15 @@ abbrev pub shown_line_from : NamedFile → ℕ → List (List ℕ) → ℕ → L
 shown_line_from f start [] n = []
 shown_line_from f start (l ∷ ls) zero = shown_place f.name f.bytes start (length (without_terminator l))
 shown_line_from f start (l ∷ ls) (suc n) = shown_line_from f (start + length l) ls n
+
+-- a table that was read; the profile's where there is none
+abbrev pub or_profile : Result Tags Unplayable → Tags
+or_profile (Ok tags) = tags
+or_profile (Err why) = profile
+
+-- the table by which files are shown: that of a file, if it gives one
+abbrev pub table_by : Option NamedFile → Tags
+table_by file = or_profile (table_of (option_map (λ (f : NamedFile). f.bytes) file))
 
 -- the line with this number, from 1 on
 abbrev pub shown_line : NamedFile → ℕ → List ℕ

@@ -8,7 +8,7 @@ use Rattle.mh_flow.specs.Equipment.{equipped}
 use Rattle.mh_flow.specs.Solved.{IsFlowOf, Solved, flow_in}
 use Rattle.mh_layers.specs.declared.way.Way.{Way}
 use Rattle.mh_layers.specs.Dearest.{AreDearestWays}
-use Rattle.mh_told.specs.Reading.{Source as File, service_read}
+use Rattle.mh_told.specs.Reading.{Source as File, service_tagged}
 
 -- these are the dearest ways of the service, by its flow
 abbrev pub AreOf : Service → List Way → Type 0
@@ -25,6 +25,6 @@ AreWaysIn v None = IsRound v
 
 -- They are those of the service that the files make, with the built-in programs; and there are none only where the files make no
 -- service, or its effects put themselves to work.
-abbrev pub AreWaysOf : List ℕ → Option (List ℕ) → List File → Option (Vec Way Global) → Type 0
-AreWaysOf start late fs (Some ways) = (v : Service) × (service_read start late fs ≡ Ok v) × AreOf (equipped v []) ways.items
-AreWaysOf start late fs None = (v : Service) → service_read start late fs ≡ Ok v → IsRound (equipped v [])
+abbrev pub AreWaysOf : Option (List ℕ) → List ℕ → Option (List ℕ) → List File → Option (Vec Way Global) → Type 0
+AreWaysOf tags start late fs (Some ways) = (v : Service) × (service_tagged tags start late fs ≡ Ok v) × AreOf (equipped v []) ways.items
+AreWaysOf tags start late fs None = (v : Service) → service_tagged tags start late fs ≡ Ok v → IsRound (equipped v [])

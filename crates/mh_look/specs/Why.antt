@@ -7,24 +7,25 @@ use Rattle.std.specs.Str.{bytes_eq}
 use Rattle.bstr.specs.Text.{lines_of, without_terminator}
 use Rattle.mh_layers.specs.declared.way.Way.{Way}
 use Rattle.mh_told.specs.Reading.{Source as File}
-use Rattle.mh_look.specs.declared.why_line.TheConstants.{STANDS_IN, MEMBERS_OF, SO_IT_IS, SHOWS_NONE, SHOWS_SCENE, THE_ACTION, WAS_STUCK, LEADS_TO, CIRCLE_THROUGH, COMES_BY, IS_BYTE, OF_FILE, TOLD_OF, IS_LINE}
-use Rattle.mh_look.specs.Advice.{advice, cell, row_with, refusals, files, services, faults, objects, readings}
+use Rattle.mh_look.specs.declared.why_line.TheConstants.{STANDS_IN, MEMBERS_OF, SO_IT_IS, SHOWS_NONE, SHOWS_SCENE, THE_ACTION, WAS_STUCK, LEADS_TO, CIRCLE_THROUGH, COMES_BY, IS_BYTE, OF_FILE, TOLD_OF, IS_LINE, IS_CONTEXT, CONTEXTS}
+use Rattle.mh_look.specs.Advice.{advice, cell, row_with, refusals, files, services, tags, faults, objects, readings}
 use Rattle.mh_look.specs.declared.why_keyword.Keyword.{Keyword}
 use Rattle.mh_look.specs.declared.why_keyword.Keyword.TheVariants as keyword
 use Rattle.mh_look.specs.LineWords.{first_word, behind_first, last_word, before_last}
 use Rattle.mh_look.specs.Places.{plain, IsHarmless}
 use Rattle.mh_look.specs.Services.{shown_service}
-use Rattle.mh_look.specs.Sources.{NamedFile, Source, by_number, by_numbers, shown_action, shown_actions, shown_line, shown_object, shown_offset, shown_refused, shown_written, source_of}
+use Rattle.mh_look.specs.Sources.{NamedFile, Source, by_number, by_numbers, shown_action, shown_actions, shown_line, shown_object, shown_offset, shown_refused, shown_written, source_of, table_by}
 use Rattle.mh_look.specs.WayWords.{bound_text}
 use Rattle.mh_look.specs.Wrapping.{paragraph}
 
--- What is known beside an output: the files of the service, the dearest ways of its inputs, the file that names late scenes, and the
--- script. Where these are not known, there are no ways, and neither file.
+-- What is known beside an output: the files of the service, the dearest ways of its inputs, the file that names late scenes, the one
+-- that gives tags, and the script. Where these are not known, there are no ways, and none of these files.
 
 pub record Known : Type 0 where
   pub files : List File
   pub ways : List Way
   pub late : Option NamedFile
+  pub tags : Option NamedFile
   pub script : Option NamedFile
 
 -- the same, with what is shown of the files
@@ -32,6 +33,7 @@ pub record Ground : Type 0 where
   pub sources : List Source
   pub ways : List Way
   pub late : Option NamedFile
+  pub tags : Option NamedFile
   pub script : Option NamedFile
 
 -- Words
@@ -52,6 +54,7 @@ keyword_word keyword.By = codes "by"
 keyword_word keyword.Cause = codes "cause"
 keyword_word keyword.File = codes "file"
 keyword_word keyword.Service = codes "service"
+keyword_word keyword.Tags = codes "tags"
 keyword_word keyword.Script = codes "script"
 keyword_word keyword.Read = codes "read"
 keyword_word keyword.Fault = codes "fault"
@@ -59,8 +62,8 @@ keyword_word keyword.Fault = codes "fault"
 abbrev pub keywords : List Keyword
 keywords =
     keyword.Accepted ∷ keyword.Start ∷ keyword.Key ∷ keyword.Tick ∷ keyword.Stream ∷ keyword.Engine ∷ keyword.Arrive ∷ keyword.Refused
-    ∷ keyword.Config ∷ keyword.Object ∷ keyword.By ∷ keyword.Cause ∷ keyword.File ∷ keyword.Service ∷ keyword.Script ∷ keyword.Read
-    ∷ keyword.Fault ∷ []
+    ∷ keyword.Config ∷ keyword.Object ∷ keyword.By ∷ keyword.Cause ∷ keyword.File ∷ keyword.Service ∷ keyword.Tags ∷ keyword.Script
+    ∷ keyword.Read ∷ keyword.Fault ∷ []
 
 abbrev pub keyword_of : List ℕ → Option Keyword
 keyword_of word = find (λ k. bytes_eq (keyword_word k) word) keywords
@@ -95,7 +98,7 @@ refused_words action s =
 -- with the variables through which it goes
 unfoldable pub refused_spot : List Source → List ℕ → Spot → List ℕ
 refused_spot ss action s =
-    paragraph (STANDS_IN.now ++ refused_words action s ++ codes ".") ++ by_numbers (shown_refused ss s.group) s.object s.index
+    paragraph (STANDS_IN.now ++ refused_words action s ++ codes ".") ++ by_numbers (shown_refused ss action s.group) s.object s.index
 
 -- only what the verifier refuses for what stands somewhere has a place
 abbrev pub refused_at : List Source → List ℕ → Spot → List ℕ
@@ -170,6 +173,21 @@ service g ws =
     paragraph (TOLD_OF.now ++ behind_first ws ++ codes ".") ++ shown_service g.sources (first_word ws) (behind_first ws)
     ++ shown_late g.late (first_word ws) (behind_first ws) ++ advice services (first_word ws)
 
+-- which line of the file of tags is wrong, or in which context a tag stands twice
+abbrev pub tag_words : List ℕ → List ℕ → List ℕ
+tag_words number place =
+    if bytes_eq number (codes "60") then paragraph (IS_LINE.now ++ place ++ codes " of the file of tags.")
+    else paragraph (IS_CONTEXT.now ++ place ++ CONTEXTS.now)
+
+abbrev pub shown_tags : Option NamedFile → List ℕ → List ℕ → List ℕ
+shown_tags None number place = []
+shown_tags (Some f) number place = if bytes_eq number (codes "60") then by_number (shown_line f) place else []
+
+-- a number, and a line or a context
+unfoldable pub tagged : Option NamedFile → List ℕ → List ℕ
+tagged f ws =
+    tag_words (first_word ws) (behind_first ws) ++ shown_tags f (first_word ws) (behind_first ws) ++ advice tags (first_word ws)
+
 abbrev pub shown_script : Option NamedFile → List ℕ → List ℕ
 shown_script script word = option_map_or (λ s. by_number (shown_line s) word) script []
 
@@ -209,6 +227,7 @@ told g number keyword.By ws = by g.sources (spot ws)
 told g number keyword.Cause ws = cause g.sources (spot ws)
 told g number keyword.File ws = file g.sources (spot ws)
 told g number keyword.Service ws = service g ws
+told g number keyword.Tags ws = tagged g.tags ws
 told g number keyword.Script ws = script g.script ws
 told g number keyword.Read ws = unread ws
 told g number keyword.Fault ws = fault g.sources ws
@@ -228,7 +247,7 @@ explained_all g number [] = []
 explained_all g number (line ∷ lines) = explained g number line ++ explained_all g (number_behind number line) lines
 
 abbrev pub ground : Known → Ground
-ground k = record { sources = map source_of k.files; ways = k.ways; late = k.late; script = k.script }
+ground k = record { sources = map (source_of (table_by k.tags)) k.files; ways = k.ways; late = k.late; tags = k.tags; script = k.script }
 
 unfoldable pub why : Known → List ℕ → List ℕ
 why k output = explained_all (ground k) [] (map without_terminator (lines_of output))

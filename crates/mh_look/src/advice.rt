@@ -2,9 +2,9 @@
 //! `advice_tables`.
 ghost use Rattle.std.specs.Prelude.{◌≡◌, ◌++◌, ◌<◌, OnOk, map};
 ghost use Rattle.std.specs.Option.{option_map};
-ghost use Rattle.mh_look.specs.Advice.{cells, cell, row_text, row_with, advice, refusals, files, services, faults, readings};
+ghost use Rattle.mh_look.specs.Advice.{cells, cell, row_text, row_with, advice, refusals, files, services, tags, faults, readings};
 
-use crate::advice_tables::{FAULTS, FILES, READINGS, REFUSALS, SERVICES};
+use crate::advice_tables::{FAULTS, FILES, READINGS, REFUSALS, SERVICES, TAGS};
 use crate::wrap::put_sentence;
 use mh_told::text::Text;
 use std::alloc::{AllocError, Global};
@@ -73,6 +73,13 @@ pub(crate) fn services() -> &'static [[&'static [u8]; 3]]
     ensures { map cells result.now ≡ services }
 {
     &SERVICES
+}
+
+#[tactic(auto, unfolding(crate::specs::Advice::tags))]
+pub(crate) fn tags() -> &'static [[&'static [u8]; 3]]
+    ensures { map cells result.now ≡ tags }
+{
+    &TAGS
 }
 
 #[tactic(auto, unfolding(crate::specs::Advice::faults))]

@@ -216,6 +216,20 @@ pub static SERVICES: [[&[u8]; 3]; 7] = [
     ],
 ];
 
+/// What `tags` tells, of a file that gives tags and makes no table.
+pub static TAGS: [[&[u8]; 3]; 2] = [
+    [
+        b"60",
+        b"a line of the file of `--tags` is wrong: it has another form, a name that is none, a number that is too large, or a name that stands before",
+        b"write `class NAME N`, `attr NAME N`, `action NAME N` or `value NAME N`, one space between words; N is decimal digits, up to 65,535",
+    ],
+    [
+        b"61",
+        b"a tag stands twice in a context: 1 classes, 2 attributes, 3 actions, 4 values",
+        b"give one of the two another tag; what no line names keeps the tag of the profile",
+    ],
+];
+
 /// What `fault` tells, of an action that was stuck.
 pub static FAULTS: [[&[u8]; 3]; 3] = [
     [

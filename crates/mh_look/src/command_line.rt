@@ -44,12 +44,20 @@ pub enum Task<'a> {
         folder: &'a str,
         /// The path of the application that the service starts with.
         start: &'a str,
-        /// The file that names the scenes whose files come late, if one is named.
-        late: Option<&'a str>,
-        /// The file with the script that was played, if one is named.
-        script: Option<&'a str>,
+        given: Given<'a>,
         color: bool,
     },
+}
+
+/// The files beside those of a service that are named, where they are.
+#[derive(Drop)]
+pub struct Given<'a> {
+    /// The file that names the scenes whose files come late.
+    pub late: Option<&'a str>,
+    /// The file that gives the tags of the binary notation.
+    pub tags: Option<&'a str>,
+    /// The file with the script that was played.
+    pub script: Option<&'a str>,
 }
 
 /// What the words ask for. The first word is the program's own name.
@@ -133,8 +141,11 @@ fn explaining<'a>(given: &ArgMatches<'a>) -> Task<'a>
         output: text_of(given, "OUTPUT"),
         folder: text_of(given, "DIR"),
         start: text_of(given, "start"),
-        late: named(given, "late"),
-        script: named(given, "script"),
+        given: Given {
+            late: named(given, "late"),
+            tags: named(given, "tags"),
+            script: named(given, "script"),
+        },
         color: is_set(given, "color"),
     }
 }

@@ -1,5 +1,5 @@
 //! What is done for each subcommand: a report is read whole, and then what is asked for is written.
-use crate::command_line::Task;
+use crate::command_line::{Given, Task};
 use crate::difference::{Difference, compare};
 use crate::frames::frame_at;
 use crate::image::image_of;
@@ -9,7 +9,7 @@ use crate::paint::painted;
 use crate::report::Report;
 use crate::service::files_in;
 use crate::show::{put_frame, put_report};
-use crate::source::{Failure, output_of, report_of};
+use crate::source::{Failure, output_of, report_of, unknown};
 use crate::telling::told;
 use crate::ways::ways_of;
 use crate::why_output::{Known, why};
@@ -43,11 +43,10 @@ pub fn done<R: Runtime + AllocGlobal>(rt: &R, task: &Task) -> Result<Outcome, Fa
             output,
             folder,
             start,
-            late,
-            script,
+            given,
             color,
         } => {
-            let text = explanation(rt, output, folder, start, *late, *script)?;
+            let text = explanation(rt, output, folder, start, given)?;
             explained(rt, &text, *color)
         }
     }
@@ -99,31 +98,40 @@ fn compared<R: Runtime + AllocGlobal>(
     written(rt, &text, outcome)
 }
 
-/// What is explained of an output.
+/// What is explained of an output; an error where nothing is.
 fn explanation<R: Runtime + AllocGlobal>(
     rt: &R,
-    output: &str,
+    name: &str,
     folder: &str,
     start: &str,
-    late: Option<&str>,
-    script: Option<&str>,
+    given: &Given<'_>,
 ) -> Result<Text, Failure> {
-    let output = output_of(rt, output)?;
-    let lines = named_bytes(rt, script)?;
-    let names = named_bytes(rt, late)?;
+    let output = output_of(rt, name)?;
+    let script = named_bytes(rt, given.script)?;
+    let late = named_bytes(rt, given.late)?;
+    let tags = named_bytes(rt, given.tags)?;
     let files = files_in(rt, folder)?;
-    let late_names = names.as_ref().map(|bytes| bytes.as_slice());
-    let ways = ways_of(rt.alloc(), files.as_slice(), start.as_bytes(), late_names)?;
+    let ways = ways_of(
+        rt.alloc(),
+        tags.as_ref().map(|bytes| bytes.as_slice()),
+        files.as_slice(),
+        start.as_bytes(),
+        late.as_ref().map(|bytes| bytes.as_slice()),
+    )?;
     let known = Known {
         files: files.as_slice(),
         ways: match &ways {
             Some(ways) => ways.as_slice(),
             None => &[],
         },
-        late: named_file(late, &names),
-        script: named_file(script, &lines),
+        late: named_file(given.late, &late),
+        tags: named_file(given.tags, &tags),
+        script: named_file(given.script, &script),
     };
     let text = why(rt.alloc(), &known, output.as_slice())?;
+    if text.as_slice().is_empty() {
+        return Err(unknown(rt.alloc(), name));
+    }
     Ok(text)
 }
 

@@ -42,6 +42,7 @@ mod why_fault;
 mod why_ground;
 mod why_keyword;
 mod why_line;
+mod why_marked;
 mod why_more;
 mod why_object;
 mod why_output;

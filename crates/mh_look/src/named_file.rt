@@ -10,7 +10,7 @@ use mh_told::text::Text;
 use std::alloc::{AllocError, Global};
 use std::marker::Model;
 
-/// A script that was played, or the file that names late scenes.
+/// A script that was played, the file that names late scenes, or the one that gives tags.
 #[derive(Drop)]
 pub struct NamedFile<'a> {
     /// What the file is called.

@@ -116,7 +116,10 @@ fn why_service<'a>(alloc: Global) -> Result<Command<'a>, AllocError>
     ensures app { IfOk result (λ c. app_of c ≡ spec.why_service) }
     ensures local { IfOk result (λ c. (fields_of c).has_globals ≡ false) }
 {
-    why_required(alloc)?.arg(start(alloc))?.arg(late(alloc))
+    why_required(alloc)?
+        .arg(start(alloc))?
+        .arg(late(alloc))?
+        .arg(tags(alloc))
 }
 
 /// The subcommand with what has to be given.
@@ -222,6 +225,13 @@ fn late<'a>(alloc: Global) -> Arg<'a>
     ensures local { result.global ≡ false }
 {
     named(alloc, "late", "FILE").help("The scenes whose files come late, a name a line")
+}
+
+fn tags<'a>(alloc: Global) -> Arg<'a>
+    ensures rule { rule_of result ≡ spec.tags }
+    ensures local { result.global ≡ false }
+{
+    named(alloc, "tags", "FILE").help("The tags of the binary notation, a line each")
 }
 
 fn script<'a>(alloc: Global) -> Arg<'a>

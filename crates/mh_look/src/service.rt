@@ -1,9 +1,9 @@
 //! The files of a service, as they lie in a folder and in the folders in it.
 //!
-//! What is no file, as a pipe, is not opened, since that might wait. What cannot be read is left out, and
-//! so is a path that no group can have. Each folder is listed once, so that links which lead round come to
-//! an end.
-use crate::source::Failure;
+//! What is no file, as a pipe, is not opened, since that might wait. A folder that cannot be listed is an error. Of what
+//! lies in it, what cannot be read is left out, and so is a path that no group can have. Each folder is listed once, so
+//! that links which lead round come to an end.
+use crate::source::{Failure, unread};
 use mh_base::{GroupName, LARGEST_FILE, NameError};
 use std::alloc::{AllocError, Global};
 use std::collections::BTreeSet;
@@ -21,6 +21,9 @@ pub(crate) fn files_in<R: Runtime + AllocGlobal>(
     folder: &str,
 ) -> Result<Vec<(GroupName, Vec<u8>)>, Failure> {
     let alloc = rt.alloc();
+    if got(fs::read_dir(rt, folder))?.is_none() {
+        return Err(unread(alloc, folder));
+    }
     let mut files = Vec::new(alloc);
     for path in &paths_in(rt, folder)? {
         let place = joined(alloc, folder, path.as_str())?;

@@ -15,6 +15,9 @@ pub enum Failure {
     /// What the file that this names has in a line, counted from 1, is no report's.
     #[error("line {1} of {0} is not of a report")]
     NoReport(String, usize),
+    /// What the file that this names has is nothing that can be explained.
+    #[error("no line of {0} is one that can be explained")]
+    NothingKnown(String),
     /// There is no frame with this number.
     #[error("there is no frame {0}")]
     NoFrame(u64),
@@ -82,8 +85,21 @@ fn unreadable(alloc: Global, error: &io::Error, name: &str) -> Failure {
     if error.kind() == io::ErrorKind::OutOfMemory {
         return Failure::Failed;
     }
+    unread(alloc, name)
+}
+
+/// What is called by this name cannot be read.
+pub(crate) fn unread(alloc: Global, name: &str) -> Failure {
     match String::from_str(alloc, name) {
         Ok(name) => Failure::Unreadable(name),
+        Err(_) => Failure::Failed,
+    }
+}
+
+/// What is called by this name has nothing that can be explained.
+pub(crate) fn unknown(alloc: Global, name: &str) -> Failure {
+    match String::from_str(alloc, called(name)) {
+        Ok(name) => Failure::NothingKnown(name),
         Err(_) => Failure::Failed,
     }
 }

@@ -9,22 +9,23 @@ use mh_base::GroupName;
 use mh_flow::{Equipped, Flow, flow_of};
 use mh_layers::{LayersError, Way, dearest_ways};
 use mh_service::Service;
-use mh_told::reading::read_service;
+use mh_told::reading::read_tagged_service;
 use mh_told::unplayable::Unplayable;
 use std::alloc::{AllocError, Global};
 
-/// The dearest ways of the service that these files make, which starts with the application of this name, and in
-/// which the scenes come late that `late` names, a name a line. None where they make no service, or where its
-/// effects put themselves to work.
+/// The dearest ways of the service that these files make, which starts with the application of this name, in which the
+/// scenes come late that `late` names, a name a line, and whose files in the binary notation have the tags that `tags`
+/// gives, a tag a line. None where they make no service, or where its effects put themselves to work.
 pub fn ways_of(
     alloc: Global,
+    tags: Option<&[u8]>,
     files: &[(GroupName, Vec<u8>)],
     start: &[u8],
     late: Option<&[u8]>,
 ) -> Result<Option<Vec<Way>>, AllocError>
-    ensures { IfOk result (AreWaysOf start.now (option_copied late.entry) files.now) }
+    ensures { IfOk result (AreWaysOf (option_copied tags.entry) start.now (option_copied late.entry) files.now) }
 {
-    match read_service(alloc, files, start, late) {
+    match read_tagged_service(alloc, tags, files, start, late) {
         Ok(service) => ways_in(alloc, &service),
         Err(Unplayable::NoMemory) => Err(AllocError),
         Err(_) => Ok(None),

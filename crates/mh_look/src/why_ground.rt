@@ -12,6 +12,8 @@ pub(crate) struct Ground<'a> {
     pub(crate) ways: &'a [Way],
     /// The file that names late scenes, if it is known.
     pub(crate) late: Option<&'a NamedFile<'a>>,
+    /// The file that gives tags, if it is known.
+    pub(crate) tags: Option<&'a NamedFile<'a>>,
     /// The script that was played, if it is known.
     pub(crate) script: Option<&'a NamedFile<'a>>,
 }
@@ -22,5 +24,5 @@ impl<'a> Model for Ground<'a> {
 
     ghost Value = { Ground };
 
-    ghost view = { λ g. record { sources = g.sources.now; ways = g.ways.now; late = option_copied g.late; script = option_copied g.script } };
+    ghost view = { λ g. record { sources = g.sources.now; ways = g.ways.now; late = option_copied g.late; tags = option_copied g.tags; script = option_copied g.script } };
 }

@@ -19,12 +19,13 @@ pub(crate) enum Keyword {
     Cause,
     File,
     Service,
+    Tags,
     Script,
     Read,
     Fault,
 }
 
-static KEYWORDS: [Keyword; 17] = [
+static KEYWORDS: [Keyword; 18] = [
     Keyword::Accepted,
     Keyword::Start,
     Keyword::Key,
@@ -39,6 +40,7 @@ static KEYWORDS: [Keyword; 17] = [
     Keyword::Cause,
     Keyword::File,
     Keyword::Service,
+    Keyword::Tags,
     Keyword::Script,
     Keyword::Read,
     Keyword::Fault,
@@ -63,6 +65,7 @@ impl Keyword {
             Keyword::Cause => b"cause",
             Keyword::File => b"file",
             Keyword::Service => b"service",
+            Keyword::Tags => b"tags",
             Keyword::Script => b"script",
             Keyword::Read => b"read",
             Keyword::Fault => b"fault",

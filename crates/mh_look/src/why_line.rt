@@ -10,7 +10,7 @@ use crate::why_keyword::Keyword;
 use crate::why_more::{put_by, put_cause, put_config, put_named};
 use crate::why_refused::put_refused;
 use crate::why_spot::Spot;
-use crate::why_unread::{put_file, put_script, put_service, put_unread};
+use crate::why_unread::{put_file, put_script, put_service, put_tags, put_unread};
 use crate::why_way::put_bound;
 use crate::why_words::{behind_first, first_word};
 use crate::wrap::put_paragraph;
@@ -45,6 +45,10 @@ pub const OF_FILE: &[u8] = b" of the file ";
 pub const TOLD_OF: &[u8] = b"  It is told of ";
 
 pub const IS_LINE: &[u8] = b"  It is line ";
+
+pub const IS_CONTEXT: &[u8] = b"  It is context ";
+
+pub const CONTEXTS: &[u8] = b": 1 are classes, 2 attributes, 3 actions, 4 values.";
 
 /// Puts what is explained of a line, behind a refusal with this number.
 #[tactic(auto, unfolding(crate::specs::Why::explained))]
@@ -106,6 +110,7 @@ fn put_told(
         Keyword::Cause => put_cause(alloc, text, ground.sources, &Spot::of_words(words)),
         Keyword::File => put_file(alloc, text, ground.sources, &Spot::of_words(words)),
         Keyword::Service => put_service(alloc, text, ground, words),
+        Keyword::Tags => put_tags(alloc, text, ground.tags, words),
         Keyword::Script => put_script(alloc, text, ground.script, words),
         Keyword::Read => put_unread(alloc, text, words),
         Keyword::Fault => put_fault(alloc, text, ground.sources, words),

@@ -10,10 +10,11 @@ ghost use Rattle.mh_look.specs.Why.{explained_all, number_behind, why, Explanati
 use crate::named_file::NamedFile;
 use crate::why_ground::Ground;
 use crate::why_line::put_explained;
-use crate::why_source::Source;
+use crate::why_source::{Source, table_by};
 use crate::why_words::{behind_first, first_word};
 use bstr::ByteSlice;
 use mh_base::GroupName;
+use mh_codec::TagTable;
 use mh_layers::Way;
 use mh_told::text::Text;
 use std::alloc::{AllocError, Global};
@@ -28,6 +29,9 @@ pub struct Known<'a> {
     pub ways: &'a [Way],
     /// The file that names late scenes, if it is known.
     pub late: Option<NamedFile<'a>>,
+    /// The file that gives the tags of the binary notation, if it is known; without it, or where it makes no table,
+    /// they are the profile's.
+    pub tags: Option<NamedFile<'a>>,
     /// The script that was played, if it is known.
     pub script: Option<NamedFile<'a>>,
 }
@@ -37,7 +41,7 @@ impl<'a> Model for Known<'a> {
 
     ghost Value = { Known };
 
-    ghost view = { λ k. record { files = k.files.now; ways = k.ways.now; late = k.late; script = k.script } };
+    ghost view = { λ k. record { files = k.files.now; ways = k.ways.now; late = k.late; tags = k.tags; script = k.script } };
 }
 
 /// What is explained of the output of `check` or `play`.
@@ -45,11 +49,13 @@ impl<'a> Model for Known<'a> {
 pub fn why(alloc: Global, known: &Known<'_>, output: &[u8]) -> Result<Text, AllocError>
     ensures { IfOk result (λ text. text ≡ why known.now output.now) }
 {
-    let sources = sources_of(alloc, known.files)?;
+    let tags = table_by(alloc, known.tags.as_ref())?;
+    let sources = sources_of(alloc, &tags, known.files)?;
     let ground = Ground {
         sources: sources.as_slice(),
         ways: known.ways,
         late: known.late.as_ref(),
+        tags: known.tags.as_ref(),
         script: known.script.as_ref(),
     };
     let mut text = Text::new(alloc);
@@ -62,12 +68,16 @@ pub fn explanations_are_harmless()
     ensures { ExplanationsAreHarmless }
 {}
 
-fn sources_of(alloc: Global, files: &[(GroupName, Vec<u8>)]) -> Result<Vec<Source<'_>>, AllocError>
-    ensures { IfOk result (λ sources. sources.items ≡ map source_of files.now) }
+fn sources_of<'a>(
+    alloc: Global,
+    tags: &TagTable,
+    files: &'a [(GroupName, Vec<u8>)],
+) -> Result<Vec<Source<'a>>, AllocError>
+    ensures { IfOk result (λ sources. sources.items ≡ map (source_of tags.now) files.now) }
 {
     let mut sources = Vec::new(alloc);
     for file in files {
-        sources.push(Source::of_file(alloc, file)?)?;
+        sources.push(Source::of_file(alloc, tags, file)?)?;
     }
     Ok(sources)
 }

@@ -4,14 +4,13 @@ ghost use Rattle.std.specs.Fmt.{decimal};
 ghost use Rattle.std.specs.List.{flat_map};
 ghost use Rattle.std.specs.Option.{option_copied};
 ghost use Rattle.mh_text.specs.Landmarks.{sight_of};
-ghost use Rattle.mh_look.specs.Sources.{shown_mark, shown_numbered, shown_action, shown_through, shown_with_variables, shown_refused, is_named, marks_named, count_named, shown_named, named_words, shown_actions, shown_landmark, is_object, object_in, shown_object_in, shown_object, shown_byte, shown_offset};
+ghost use Rattle.mh_look.specs.Sources.{shown_mark, shown_numbered, shown_action, is_named, marks_named, count_named, shown_named, named_words, shown_actions, shown_landmark, is_object, object_in, shown_object_in, shown_object, shown_byte, shown_offset};
 ghost use Rattle.mh_look.specs.Wrapping.{paragraph};
 
 use crate::place::put_place;
 use crate::why_source::{Source, source_named};
-use crate::why_variable::put_variables;
 use crate::wrap::put_paragraph;
-use mh_text::{Landmark, Mark, Sight, landmarks, mark_of, variables_at};
+use mh_text::{Landmark, Mark, Sight, landmarks, mark_of};
 use mh_told::text::Text;
 use std::alloc::{AllocError, Global};
 
@@ -55,7 +54,7 @@ fn put_numbered(
     }
 }
 
-fn put_mark(
+pub(crate) fn put_mark(
     alloc: Global,
     text: &mut Text,
     source: &Source<'_>,
@@ -65,52 +64,6 @@ fn put_mark(
 {
     let name = source.name().as_bytes();
     put_place(alloc, text, name, source.text(), mark.start, mark.length)
-}
-
-/// Puts the same, with the variables through which the action goes behind its place.
-#[tactic(auto, unfolding(crate::specs::Sources::shown_refused))]
-pub(crate) fn put_refused(
-    alloc: Global,
-    text: &mut Text,
-    sources: &[Source<'_>],
-    group: &[u8],
-    object: u32,
-    index: usize,
-) -> Result<(), AllocError>
-    ensures { OnOk result (text.new ≡ text.old ++ shown_refused sources.now group.now object index) }
-{
-    match source_named(sources, group) {
-        Some(source) => put_with_variables(alloc, text, source, object, index),
-        None => Ok(()),
-    }
-}
-
-fn put_with_variables(
-    alloc: Global,
-    text: &mut Text,
-    source: &Source<'_>,
-    object: u32,
-    index: usize,
-) -> Result<(), AllocError>
-    ensures { OnOk result (text.new ≡ text.old ++ shown_with_variables object index source.now) }
-{
-    match mark_of(source.marks(), object, index) {
-        Some(mark) => put_through(alloc, text, source, &mark),
-        None => Ok(()),
-    }
-}
-
-fn put_through(
-    alloc: Global,
-    text: &mut Text,
-    source: &Source<'_>,
-    mark: &Mark,
-) -> Result<(), AllocError>
-    ensures { OnOk result (text.new ≡ text.old ++ shown_through source.now mark.now) }
-{
-    let variables = variables_at(alloc, source.text(), mark.start)?;
-    put_mark(alloc, text, source, mark)?;
-    put_variables(alloc, text, source.name(), variables.as_slice())
 }
 
 /// Puts where the actions with this name stand.

@@ -64,7 +64,7 @@ fn put_refused_spot(
     put_refused_words(&mut sentence, action, spot)?;
     sentence.put(b".")?;
     put_paragraph(alloc, text, sentence.as_slice())?;
-    spot.put_refused(alloc, text, sources)
+    spot.put_refused(alloc, text, sources, action)
 }
 
 /// Puts the action, or the members where it has no name.

@@ -1,13 +1,16 @@
 //! The files of a service, as places in them are shown: a group in the binary notation as it is
 //! printed.
-ghost use Rattle.std.specs.Prelude.{◌≡◌, IfOk};
+ghost use Rattle.std.specs.Prelude.{◌≡◌, Some, IfOk};
 ghost use Rattle.std.specs.Option.{option_copied};
-ghost use Rattle.mh_look.specs.Sources.{text_of, printed_as, source_of, source_named};
+ghost use Rattle.mh_look.specs.Sources.{text_of, printed_as, source_of, source_named, or_profile, table_by};
+ghost use Rattle.mh_told.specs.Reading.{table_of};
 
+use crate::named_file::NamedFile;
 use mh_base::GroupName;
-use mh_codec::{CodecError, decode_group};
+use mh_codec::{CodecError, TagTable, decode_group};
 use mh_group::Group;
 use mh_text::{Mark, TextError, marks, print_group};
+use mh_told::unplayable::Unplayable;
 use std::alloc::{AllocError, Global};
 use std::marker::Model;
 
@@ -33,11 +36,12 @@ impl<'a> Model for Source<'a> {
 impl<'a> Source<'a> {
     pub(crate) fn of_file(
         alloc: Global,
+        tags: &TagTable,
         file: &'a (GroupName, Vec<u8>),
     ) -> Result<Source<'a>, AllocError>
-        ensures { IfOk result (λ source. source ≡ source_of file.now) }
+        ensures { IfOk result (λ source. source ≡ source_of tags.now file.now) }
     {
-        let text = text_of(alloc, file.1.as_slice())?;
+        let text = text_of(alloc, tags, file.1.as_slice())?;
         let marks = marks(alloc, text.as_slice())?;
         Ok(Source {
             name: &file.0,
@@ -72,15 +76,37 @@ impl<'a> Source<'a> {
     }
 }
 
+/// The table of tags by which files are shown: that of a file, if it gives one, and else the profile's.
+#[tactic(auto, unfolding(mh_told::specs::Reading::table_of))]
+pub(crate) fn table_by(alloc: Global, file: Option<&NamedFile<'_>>) -> Result<TagTable, AllocError>
+    ensures { IfOk result (λ tags. tags ≡ table_by (option_copied file.entry)) }
+{
+    match file {
+        Some(file) => table_in(alloc, file.bytes),
+        None => TagTable::profile(alloc),
+    }
+}
+
+/// The table that a file of these bytes gives, and else the profile's.
+fn table_in(alloc: Global, bytes: &[u8]) -> Result<TagTable, AllocError>
+    ensures { IfOk result (λ tags. tags ≡ or_profile (table_of (Some bytes.now))) }
+{
+    match mh_told::tags::table_of(alloc, Some(bytes)) {
+        Ok(tags) => Ok(tags),
+        Err(Unplayable::NoMemory) => Err(AllocError),
+        Err(_) => TagTable::profile(alloc),
+    }
+}
+
 /// What is shown of a file.
 #[tactic(auto, unfolding(crate::specs::Sources::text_of))]
-fn text_of(alloc: Global, bytes: &[u8]) -> Result<Vec<u8>, AllocError>
-    ensures { IfOk result (λ text. text.items ≡ text_of bytes.now) }
+fn text_of(alloc: Global, tags: &TagTable, bytes: &[u8]) -> Result<Vec<u8>, AllocError>
+    ensures { IfOk result (λ text. text.items ≡ text_of tags.now bytes.now) }
 {
-    if !mh_codec::begins_group(bytes) {
+    if !mh_codec::begins_group(tags, bytes) {
         return Vec::from_slice(alloc, bytes);
     }
-    match decode_group(alloc, bytes) {
+    match decode_group(alloc, tags, bytes) {
         Ok(group) => printed_as(alloc, bytes, &group),
         Err(CodecError::At { .. }) => Vec::from_slice(alloc, bytes),
         Err(CodecError::NoMemory) => Err(AllocError),

@@ -3,7 +3,8 @@ ghost use Rattle.std.specs.Prelude.{◌≡◌, ◌++◌, OnOk};
 ghost use Rattle.mh_look.specs.Sources.{by_numbers, shown_refused};
 ghost use Rattle.mh_look.specs.Why.{spot, object_words, action_words, shown_spot};
 
-use crate::why_place::{put_action, put_refused};
+use crate::why_marked::put_refused;
+use crate::why_place::put_action;
 use crate::why_source::Source;
 use crate::why_words::{before_last, last_word, number_in};
 use mh_told::text::Text;
@@ -95,20 +96,31 @@ impl<'a> Spot<'a> {
         }
     }
 
-    /// The same, with the variables through which the action goes.
+    /// The same of the action of this name, with the variables through which it goes.
     pub(crate) fn put_refused(
         &self,
         alloc: Global,
         text: &mut Text,
         sources: &[Source<'_>],
+        word: &[u8],
     ) -> Result<(), AllocError>
-        ensures { OnOk result (text.new ≡ text.old ++ by_numbers (shown_refused sources.now self.now.group) self.now.object self.now.index) }
+        ensures { OnOk result (text.new ≡ text.old ++ by_numbers (shown_refused sources.now word.now self.now.group) self.now.object self.now.index) }
     {
         let Some(object) = number_in(self.object) else {
             return Ok(());
         };
         match number_in(self.index) {
-            Some(index) => put_refused(alloc, text, sources, self.group, object, index as usize),
+            Some(index) => {
+                put_refused(
+                    alloc,
+                    text,
+                    sources,
+                    word,
+                    self.group,
+                    object,
+                    index as usize,
+                )
+            }
             None => Ok(()),
         }
     }

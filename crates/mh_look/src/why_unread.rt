@@ -1,14 +1,14 @@
 //! What is told of the lines on files, groups and scripts that are not taken.
 ghost use Rattle.std.specs.Prelude.{◌≡◌, ◌++◌, OnOk, codes};
 ghost use Rattle.std.specs.Option.{option_copied};
-ghost use Rattle.mh_look.specs.Sources.{shown_offset, by_number};
+ghost use Rattle.mh_look.specs.Sources.{shown_line, shown_offset, by_number};
 ghost use Rattle.mh_look.specs.Why as spec;
-ghost use Rattle.mh_look.specs.Why.{shown_late, shown_script};
+ghost use Rattle.mh_look.specs.Why.{shown_late, shown_script, shown_tags, tag_words};
 
-use crate::advice::{files, put_advice, readings, services};
+use crate::advice::{files, put_advice, readings, services, tags};
 use crate::named_file::{NamedFile, put_numbered_line, put_written_line};
 use crate::why_ground::Ground;
-use crate::why_line::{IS_BYTE, IS_LINE, OF_FILE, TOLD_OF};
+use crate::why_line::{CONTEXTS, IS_BYTE, IS_CONTEXT, IS_LINE, OF_FILE, TOLD_OF};
 use crate::why_place::put_offset;
 use crate::why_service::put_service as put_group;
 use crate::why_source::Source;
@@ -91,6 +91,69 @@ fn put_late_shown(
     }
 }
 
+/// Puts which line of the file of tags is wrong, or in which context a tag stands twice.
+#[tactic(auto, unfolding(crate::specs::Why::tagged))]
+pub(crate) fn put_tags(
+    alloc: Global,
+    text: &mut Text,
+    file: Option<&NamedFile<'_>>,
+    words: &[u8],
+) -> Result<(), AllocError>
+    ensures { OnOk result (text.new ≡ text.old ++ spec.tagged (option_copied file.entry) words.now) }
+{
+    let number = first_word(words);
+    let place = behind_first(words);
+    put_tag_words(alloc, text, number, place)?;
+    put_tag_line(alloc, text, file, number, place)?;
+    put_advice(alloc, text, tags(), number)
+}
+
+fn put_tag_words(
+    alloc: Global,
+    text: &mut Text,
+    number: &[u8],
+    place: &[u8],
+) -> Result<(), AllocError>
+    ensures { OnOk result (text.new ≡ text.old ++ tag_words number.now place.now) }
+{
+    if number == b"60".as_slice() {
+        put_sentence(alloc, text, IS_LINE, place, b" of the file of tags.")
+    } else {
+        put_sentence(alloc, text, IS_CONTEXT, place, CONTEXTS)
+    }
+}
+
+/// Puts the line of the file of tags, if it is told of one, the file is known and the line is found.
+fn put_tag_line(
+    alloc: Global,
+    text: &mut Text,
+    file: Option<&NamedFile<'_>>,
+    number: &[u8],
+    place: &[u8],
+) -> Result<(), AllocError>
+    ensures { OnOk result (text.new ≡ text.old ++ shown_tags (option_copied file.entry) number.now place.now) }
+{
+    match file {
+        Some(file) if number == b"60".as_slice() => put_line_by(alloc, text, file, place),
+        _ => Ok(()),
+    }
+}
+
+/// Puts the line that the word numbers, if it is found.
+fn put_line_by(
+    alloc: Global,
+    text: &mut Text,
+    file: &NamedFile<'_>,
+    word: &[u8],
+) -> Result<(), AllocError>
+    ensures { OnOk result (text.new ≡ text.old ++ by_number (shown_line file.now) word.now) }
+{
+    match number_in(word) {
+        Some(number) => put_numbered_line(alloc, text, file, number),
+        None => Ok(()),
+    }
+}
+
 /// Puts which line of the script is wrong.
 #[tactic(auto, unfolding(crate::specs::Why::script))]
 pub(crate) fn put_script(
@@ -115,11 +178,8 @@ fn put_script_shown(
 ) -> Result<(), AllocError>
     ensures { OnOk result (text.new ≡ text.old ++ shown_script (option_copied script.entry) word.now) }
 {
-    let Some(script) = script else {
-        return Ok(());
-    };
-    match number_in(word) {
-        Some(number) => put_numbered_line(alloc, text, script, number),
+    match script {
+        Some(script) => put_line_by(alloc, text, script, word),
         None => Ok(()),
     }
 }

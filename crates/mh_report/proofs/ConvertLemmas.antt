@@ -4,6 +4,7 @@ use Rattle.std.proofs.lemmas.Bool.{and_parts}
 use Rattle.std.proofs.lemmas.Bool.Decides.{nat_tests}
 use Rattle.mh_group.specs.declared.written.Written.{Written}
 use Rattle.mh_codec.specs.Spelling.{group}
+use Rattle.mh_codec.specs.Tags.{Tags}
 use Rattle.mh_group.specs.Holdable.{is_holdable}
 use Rattle.mh_codec.specs.Writable.{Spells}
 use Rattle.mh_codec.specs.Unwritable.{HasNoSpelling}
@@ -25,22 +26,22 @@ is_within n h = grind (arith, nat_tests)
 within : (n : ℕ) → nat_le n 1048576 ≡ true → n ≤ 1048576
 within n h = grind (arith, nat_tests)
 
-pub spelled : (name octets : List ℕ) (g : Written) → Spells octets g → in_octets name g ≡ Ok octets
+pub spelled : (tags : Tags) (name octets : List ℕ) (g : Written) → Spells tags octets g → in_octets tags name g ≡ Ok octets
 unfolding in_octets has_spelling Spells
-spelled name octets g s =
-    let same : length (group g) ≡ length octets = ap (λ (l : List ℕ). length l) (sym s.0) in
-    let short : nat_le (length (group g)) 1048576 ≡ true = is_within (length (group g)) (omega (arith, same, s.1)) in
+spelled tags name octets g s =
+    let same : length (group tags g) ≡ length octets = ap (λ (l : List ℕ). length l) (sym s.0) in
+    let short : nat_le (length (group tags g)) 1048576 ≡ true = is_within (length (group tags g)) (omega (arith, same, s.1)) in
     rw (s.2, short) (ap Ok (sym s.0))
 
-pub unspelled : (name : List ℕ) (g : Written) → HasNoSpelling g → in_octets name g ≡ Err (unplayable.File name 13 0)
+pub unspelled : (tags : Tags) (name : List ℕ) (g : Written) → HasNoSpelling tags g → in_octets tags name g ≡ Err (unplayable.File name 13 0)
 unfolding in_octets has_spelling Spells
-unspelled name g none = by (is_holdable g && nat_le (length (group g)) 1048576) refl
+unspelled tags name g none = by (is_holdable g && nat_le (length (group tags g)) 1048576) refl
   where
-    by : (t : Bool) → (is_holdable g && nat_le (length (group g)) 1048576) ≡ t → (if t then Ok (group g) else Err (unplayable.File name 13 0)) ≡ Err (unplayable.File name 13 0)
+    by : (t : Bool) → (is_holdable g && nat_le (length (group tags g)) 1048576) ≡ t → (if t then Ok (group tags g) else Err (unplayable.File name 13 0)) ≡ Err (unplayable.File name 13 0)
     by false e = refl
     by true e =
-        let parts = and_parts (is_holdable g) (nat_le (length (group g)) 1048576) e in
-        absurd (none (group g) (refl, within (length (group g)) parts.1, parts.0))
+        let parts = and_parts (is_holdable g) (nat_le (length (group tags g)) 1048576) e in
+        absurd (none (group tags g) (refl, within (length (group tags g)) parts.1, parts.0))
 
 -- what is handed out is what is meant
 pub converted_whole : (r : Result (List ℕ) Unplayable) (before after : Option (List ℕ)) (bytes text : List ℕ) (answer : Result Status PlayError) → r ≡ Ok text → bytes ≡ text

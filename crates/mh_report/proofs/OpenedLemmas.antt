@@ -21,6 +21,7 @@ use Rattle.mh_report.proofs.WrittenLemmas.{failed}
 fails_begins : (e : Unplayable) (r : Result State Unplayable) → Fails e r → Fails e (begins r)
 fails_begins (unplayable.File name number offset) r so = ap begins so
 fails_begins (unplayable.Service number group) r so = ap begins so
+fails_begins (unplayable.Tags number place) r so = ap begins so
 fails_begins (unplayable.Script number) r so = ap begins so
 fails_begins unplayable.NoMemory r so = tt
 

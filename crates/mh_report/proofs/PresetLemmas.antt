@@ -23,6 +23,7 @@ IsAnswer f p r = MatchOption (preset_refusal f p.state) (IfErr r (λ x. x.why �
 fails_itself : (e : Unplayable) → Fails {Y = State} e (Err e)
 fails_itself (unplayable.File name number offset) = refl
 fails_itself (unplayable.Service number group) = refl
+fails_itself (unplayable.Tags number place) = refl
 fails_itself (unplayable.Script number) = refl
 fails_itself unplayable.NoMemory = tt
 

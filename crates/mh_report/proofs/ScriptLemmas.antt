@@ -7,6 +7,7 @@ use Rattle.std.proofs.lemmas.List.{take_rest}
 use Rattle.mh_base.proofs.PathLemmas.{slice_split-uncut, slice_split-cut, position-some, position-none}
 use Rattle.std.proofs.Math.Seq.{drop-cons}
 use Rattle.mh_report.specs.declared.script.Line.{Line}
+use Rattle.mh_codec.specs.Tags.{Tags}
 use Rattle.mh_service.specs.Refusals.{File}
 use Rattle.mh_report.specs.Script.{lines, read_digits, with_digit, number_of, named_line, parted_line, file_line, brought_line, parted_scene, scene_line}
 
@@ -32,11 +33,11 @@ file_parted {E} r words at found told =
     (subst (λ (digits : List ℕ). IfOk r (λ line. line ≡ named_line (take at words) digits)) (take_rest words (at + 1)) told)
 
 -- the same of the line of a scene
-pub scene_parted : {E : Type 0} (r : Result Line E) (files : List File) (words : List ℕ) (at : ℕ) → position (λ b. b == 32) words ≡ Some at
-    → IfOk r (λ line. line ≡ brought_line (take at words) (take (length words - (at + 1)) (drop (at + 1) words))) → IfOk r (λ line. line ≡ scene_line files words)
-scene_parted {E} r files words at found told =
-    subst (λ (o : Option ℕ). IfOk r (λ line. line ≡ parted_scene files o words)) (sym found)
-    (subst (λ (digits : List ℕ). IfOk r (λ line. line ≡ brought_line (take at words) digits)) (take_rest words (at + 1)) told)
+pub scene_parted : {E : Type 0} (r : Result Line E) (tags : Tags) (files : List File) (words : List ℕ) (at : ℕ) → position (λ b. b == 32) words ≡ Some at
+    → IfOk r (λ line. line ≡ brought_line tags (take at words) (take (length words - (at + 1)) (drop (at + 1) words))) → IfOk r (λ line. line ≡ scene_line tags files words)
+scene_parted {E} r tags files words at found told =
+    subst (λ (o : Option ℕ). IfOk r (λ line. line ≡ parted_scene tags files o words)) (sym found)
+    (subst (λ (digits : List ℕ). IfOk r (λ line. line ≡ brought_line tags (take at words) digits)) (take_rest words (at + 1)) told)
 
 -- once there is no number, there is none
 pub read_none : (ds : List ℕ) → read_digits None ds ≡ None

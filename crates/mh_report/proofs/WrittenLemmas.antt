@@ -45,6 +45,7 @@ named s r (inr same) other = absurd (other (ap (λ (x : Refusal). x.kind) same))
 pub failed : {Y : Type 0} (e : Unplayable) (r : Result Y Unplayable) → Fails e r → (e ≡ unplayable.NoMemory → ⊥) → r ≡ Err e
 failed {Y} (unplayable.File name number offset) r so other = so
 failed {Y} (unplayable.Service number group) r so other = so
+failed {Y} (unplayable.Tags number place) r so other = so
 failed {Y} (unplayable.Script number) r so other = so
 failed {Y} unplayable.NoMemory r so other = absurd (other refl)
 

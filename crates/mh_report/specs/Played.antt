@@ -24,6 +24,7 @@ use Rattle.mh_report.specs.Presets.{opened}
 unfoldable pub complaint : Unplayable → List ℕ
 complaint (unplayable.File name number offset) = codes "file " ++ name ++ codes " " ++ decimal number ++ codes " " ++ decimal offset ++ 10 ∷ []
 complaint (unplayable.Service number group) = codes "service " ++ decimal number ++ codes " " ++ group ++ 10 ∷ []
+complaint (unplayable.Tags number place) = codes "tags " ++ decimal number ++ codes " " ++ decimal place ++ 10 ∷ []
 complaint (unplayable.Script number) = codes "script " ++ decimal number ++ 10 ∷ []
 complaint unplayable.NoMemory = []
 

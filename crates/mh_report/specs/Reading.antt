@@ -8,7 +8,8 @@ use Rattle.mh_service.specs.Contents.{names_file}
 use Rattle.mh_service.specs.Refusals.{File}
 use Rattle.mh_told.specs.declared.unplayable.Unplayable.{Unplayable}
 use Rattle.mh_told.specs.declared.unplayable.Unplayable.TheVariants as unplayable
-use Rattle.mh_told.specs.Reading.{◌>>=◌, Source, is_group_file, service_read}
+use Rattle.mh_codec.specs.Tags.{Tags}
+use Rattle.mh_told.specs.Reading.{◌>>=◌, Source, is_group_file, service_read, service_tagged, table_of}
 use Rattle.mh_report.specs.declared.material.Material.{Material}
 use Rattle.mh_report.specs.declared.options.Options.{Options}
 use Rattle.mh_report.specs.declared.script.Command.{Command}
@@ -19,32 +20,47 @@ unless_wrong None x = Ok x
 unless_wrong (Some line) x = Err (unplayable.Script line)
 
 -- the commands of a script that is played on a service with these files
-unfoldable pub commands_of : List File → List ℕ → Result (List Command) Unplayable
-commands_of files script = unless_wrong (first_wrong files 1 (lines script)) (commands files (lines script))
+unfoldable pub commands_of : Tags → List File → List ℕ → Result (List Command) Unplayable
+commands_of tags files script = unless_wrong (first_wrong tags files 1 (lines script)) (commands tags files (lines script))
 
 -- a file that is no group, and that a group of the service names
-abbrev pub is_content : Service → Source → Bool
-is_content service f = not (is_group_file f.1.items) && names_file service f.0
+abbrev pub is_content : Tags → Service → Source → Bool
+is_content tags service f = not (is_group_file tags f.1.items) && names_file service f.0
 
 -- a file as content
 abbrev pub content_of : Source → Content
 content_of f = record { name = f.0; content = f.1.items }
 
-abbrev pub content_in : Service → Source → Option Content
-content_in service f = if is_content service f then Some (content_of f) else None
+abbrev pub content_in : Tags → Service → Source → Option Content
+content_in tags service f = if is_content tags service f then Some (content_of f) else None
 
 -- the content files that the service names, in order
-abbrev pub contents : Service → List Source → List Content
-contents service files = filter_map (content_in service) files
+abbrev pub contents : Tags → Service → List Source → List Content
+contents tags service files = filter_map (content_in tags service) files
 
 -- the bytes of the file that names late scenes, if there is one
 abbrev pub late_of : Options → Option (List ℕ)
 late_of options = option_map (λ bytes. bytes.items) options.late
 
--- what is to be played: a service, the content files that it names, and commands; or the first thing that cannot be
--- read
-unfoldable pub readied : List ℕ → Option (List ℕ) → List Source → List ℕ → Result Material Unplayable
-readied start late files script = do
-  service ← service_read start late files
-  found ← commands_of service.files script
-  Ok (record { service = service; files = contents service files; commands = found })
+-- the bytes of the file that gives tags, if there is one
+abbrev pub tags_of : Options → Option (List ℕ)
+tags_of options = option_map (λ bytes. bytes.items) options.tags
+
+-- the service of the files with these tags, with the start and the late scenes that are chosen
+abbrev pub service_with : Options → List Source → Tags → Result Service Unplayable
+service_with options files tags = service_read tags options.start.items (late_of options) files
+
+-- the service that is chosen; or the first thing that cannot be read, of which the file of tags is the first
+abbrev pub chosen_service : Options → List Source → Result Service Unplayable
+chosen_service options files = service_tagged (tags_of options) options.start.items (late_of options) files
+
+-- what is to be played with these tags: a service, the content files that it names, and commands
+unfoldable pub readied_with : Options → List Source → List ℕ → Tags → Result Material Unplayable
+readied_with options files script tags = do
+  service ← service_with options files tags
+  found ← commands_of tags service.files script
+  Ok (record { service = service; files = contents tags service files; commands = found })
+
+-- what is to be played; or the first thing that cannot be read, of which the file of tags is the first
+unfoldable pub readied : Options → List Source → List ℕ → Result Material Unplayable
+readied options files script = table_of (tags_of options) >>= readied_with options files script

@@ -8,6 +8,7 @@ use Rattle.std.specs.Char.{is_ascii_digit}
 use Rattle.hex.specs.Hex.{decode_of}
 use Rattle.hex.specs.declared.error.FromHexError.{FromHexError}
 use Rattle.mh_base.specs.Path.{is_path}
+use Rattle.mh_codec.specs.Tags.{Tags}
 use Rattle.mh_group.specs.declared.written.Written.{Written}
 use Rattle.mh_model.specs.Late.{written_at}
 use Rattle.mh_model.specs.declared.input.Input.TheVariants as input
@@ -156,21 +157,21 @@ as_group (Ok group) = Some group
 as_group (Err e) = None
 
 -- the group that octets write, in either notation
-abbrev pub written_by : List ℕ → Option (List ℕ) → Option Written
-written_by name (Some octets) = as_group (group_in name octets)
-written_by name None = None
+abbrev pub written_by : Tags → List ℕ → Option (List ℕ) → Option Written
+written_by tags name (Some octets) = as_group (group_in tags name octets)
+written_by tags name None = None
 
 -- the name is a path, and the digits write a group
-abbrev pub brought_line : List ℕ → List ℕ → Line
-brought_line name digits = if is_path name then sent_line name (written_by name (octets_of digits)) else line.Wrong
+abbrev pub brought_line : Tags → List ℕ → List ℕ → Line
+brought_line tags name digits = if is_path name then sent_line name (written_by tags name (octets_of digits)) else line.Wrong
 
 -- a space parts the name from the digits; without one there are none
-abbrev pub parted_scene : List File → Option ℕ → List ℕ → Line
-parted_scene files (Some at) words = brought_line (take at words) (drop (at + 1) words)
-parted_scene files None words = own_line files words
+abbrev pub parted_scene : Tags → List File → Option ℕ → List ℕ → Line
+parted_scene tags files (Some at) words = brought_line tags (take at words) (drop (at + 1) words)
+parted_scene tags files None words = own_line files words
 
-abbrev pub scene_line : List File → List ℕ → Line
-scene_line files words = parted_scene files (position (λ b. b == 32) words) words
+abbrev pub scene_line : Tags → List File → List ℕ → Line
+scene_line tags files words = parted_scene tags files (position (λ b. b == 32) words) words
 
 -- the bytes begin with these
 abbrev pub begins : List ℕ → List ℕ → Bool
@@ -200,10 +201,10 @@ unfoldable pub plain_line : List ℕ → Line
 plain_line l = if is_comment l then line.Skipped else command_line l
 
 -- one of these, or one of `file NAME HEX`, `scene NAME` and `scene NAME HEX`
-abbrev pub line_of : List File → List ℕ → Line
-line_of files l =
+abbrev pub line_of : Tags → List File → List ℕ → Line
+line_of tags files l =
     if begins (codes "file ") l then file_line (drop 5 l)
-    else (if begins (codes "scene ") l then scene_line files (drop 6 l) else plain_line l)
+    else (if begins (codes "scene ") l then scene_line tags files (drop 6 l) else plain_line l)
 
 abbrev pub said : Line → Option Command
 said (line.Says c) = Some c
@@ -216,15 +217,15 @@ is_wrong line.Skipped = false
 is_wrong (line.Says c) = false
 
 -- what the lines say, in order
-abbrev pub commands : List File → List (List ℕ) → List Command
-commands files ls = filter_map (λ l. said (line_of files l)) ls
+abbrev pub commands : Tags → List File → List (List ℕ) → List Command
+commands tags files ls = filter_map (λ l. said (line_of tags files l)) ls
 
 -- the number of the first wrong line, if there is one, where the first line has number `n`
-abbrev pub first_wrong : List File → ℕ → List (List ℕ) → Option ℕ
-first_wrong files n [] = None
-first_wrong files n (l ∷ ls) = if is_wrong (line_of files l) then Some n else first_wrong files (n + 1) ls
+abbrev pub first_wrong : Tags → List File → ℕ → List (List ℕ) → Option ℕ
+first_wrong tags files n [] = None
+first_wrong tags files n (l ∷ ls) = if is_wrong (line_of tags files l) then Some n else first_wrong tags files (n + 1) ls
 
 -- the first wrong line of these bytes is the one that the error names
-abbrev pub IsWrongAt : List File → List ℕ → ScriptError → Type 0
-IsWrongAt files bytes (script_error.Wrong n) = first_wrong files 1 (lines bytes) ≡ Some n
-IsWrongAt files bytes script_error.NoMemory = Unit {0}
+abbrev pub IsWrongAt : Tags → List File → List ℕ → ScriptError → Type 0
+IsWrongAt tags files bytes (script_error.Wrong n) = first_wrong tags files 1 (lines bytes) ≡ Some n
+IsWrongAt tags files bytes script_error.NoMemory = Unit {0}

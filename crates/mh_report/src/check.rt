@@ -4,8 +4,7 @@ ghost use Rattle.std.specs.Io.KnownBytes.{Appends};
 ghost use Rattle.mh_report.specs.Sink.{IsBeginning};
 ghost use Rattle.mh_report.specs.Played.{Checks, HasWritten, HasBegun};
 ghost use Rattle.mh_report.specs.Verdict.{accepted_lines};
-ghost use Rattle.mh_told.specs.Reading.{service_read};
-ghost use Rattle.mh_report.specs.Reading.{late_of};
+ghost use Rattle.mh_report.specs.Reading.{chosen_service};
 
 use crate::options::Options;
 use crate::play::{complain, refuse};
@@ -31,8 +30,8 @@ pub fn check_bytes<S: Sink>(
     sink: &mut S,
 ) -> Result<Status, PlayError>
     requires { S.failures sink.old < 2 ^ 64 - 1 }
-    ensures written { IfOk result (HasWritten (Checks (service_read options.now.start.items (late_of options.now) files.now)) (S.written sink.old) (S.written sink.new)) }
-    ensures begun { OnErr result (HasBegun (Checks (service_read options.now.start.items (late_of options.now) files.now)) (S.written sink.old) (S.written sink.new)) }
+    ensures written { IfOk result (HasWritten (Checks (chosen_service options.now files.now)) (S.written sink.old) (S.written sink.new)) }
+    ensures begun { OnErr result (HasBegun (Checks (chosen_service options.now files.now)) (S.written sink.old) (S.written sink.new)) }
     ensures write { IsErrOf result PlayError.Write → S.failures sink.old < S.failures sink.new }
 {
     match chosen_service(alloc, files, options) {

@@ -7,17 +7,19 @@ ghost use Rattle.std.specs.Io.KnownBytes.{Appends};
 ghost use Rattle.mh_report.specs.Sink.{IsBeginning};
 ghost use Rattle.mh_report.specs.Played.{HasWritten, HasBegun};
 ghost use Rattle.mh_told.specs.Reading.{Gives};
-ghost use Rattle.mh_report.specs.Converted.{converted, written_in, in_octets, in_text, Converts};
+ghost use Rattle.mh_report.specs.Converted.{converted, converted_with, written_in, in_octets, in_text, Converts};
 
+use crate::options::Options;
 use crate::play::complain;
 use crate::play_error::PlayError;
 use crate::sink::{Sink, write_all};
 use crate::status::Status;
 use mh_base::Octets;
-use mh_codec::{CodecError, encode_group};
+use mh_codec::{CodecError, TagTable, encode_group};
 use mh_group::Group;
 use mh_text::{TextError, print_group};
 use mh_told::reading::read_file;
+use mh_told::tags::table_of;
 use mh_told::unplayable::Unplayable;
 use std::alloc::Global;
 
@@ -30,21 +32,22 @@ pub enum Notation {
 }
 
 /// Writes the group of a file in the notation that is wanted, or the line on what cannot be read or
-/// written. `name` is what the line calls the file. After an error a beginning of that was written, or
-/// nothing.
+/// written, of which the file of tags is the first; of the options the tags alone are taken. `name` is what the line
+/// calls the file. After an error a beginning of that was written, or nothing.
 pub fn convert_bytes<S: Sink>(
     alloc: Global,
     name: &[u8],
     bytes: &[u8],
     to: Notation,
+    options: &Options,
     sink: &mut S,
 ) -> Result<Status, PlayError>
     requires { S.failures sink.old < 2 ^ 64 - 1 }
-    ensures written { IfOk result (HasWritten (Converts (converted to name.now bytes.now)) (S.written sink.old) (S.written sink.new)) }
-    ensures begun { OnErr result (HasBegun (Converts (converted to name.now bytes.now)) (S.written sink.old) (S.written sink.new)) }
+    ensures written { IfOk result (HasWritten (Converts (converted options.now to name.now bytes.now)) (S.written sink.old) (S.written sink.new)) }
+    ensures begun { OnErr result (HasBegun (Converts (converted options.now to name.now bytes.now)) (S.written sink.old) (S.written sink.new)) }
     ensures write { IsErrOf result PlayError.Write → S.failures sink.old < S.failures sink.new }
 {
-    match converted(alloc, name, bytes, to) {
+    match converted(alloc, name, bytes, to, options) {
         Ok(group) => hand_out(group.as_slice(), sink),
         Err(why) => match why {
             Unplayable::NoMemory => Err(PlayError::NoMemory),
@@ -66,32 +69,59 @@ fn hand_out<S: Sink>(bytes: &[u8], sink: &mut S) -> Result<Status, PlayError>
 
 /// The group of the file, in the notation that is wanted.
 #[tactic(auto, unfolding(crate::specs::Converted::converted))]
-fn converted(alloc: Global, name: &[u8], bytes: &[u8], to: Notation) -> Result<Vec<u8>, Unplayable>
-    ensures { Gives (λ found. found.items) result (converted to name.now bytes.now) }
+fn converted(
+    alloc: Global,
+    name: &[u8],
+    bytes: &[u8],
+    to: Notation,
+    options: &Options,
+) -> Result<Vec<u8>, Unplayable>
+    ensures { Gives (λ found. found.items) result (converted options.now to name.now bytes.now) }
 {
-    let group = read_file(alloc, name, bytes)?;
-    written_in(alloc, name, &group, to)
+    let tags = table_of(alloc, options.tags())?;
+    converted_with(alloc, &tags, name, bytes, to)
+}
+
+/// The same, with these tags of the binary notation.
+#[tactic(auto, unfolding(crate::specs::Converted::converted_with))]
+fn converted_with(
+    alloc: Global,
+    tags: &TagTable,
+    name: &[u8],
+    bytes: &[u8],
+    to: Notation,
+) -> Result<Vec<u8>, Unplayable>
+    ensures { Gives (λ found. found.items) result (converted_with to name.now bytes.now tags.now) }
+{
+    let group = read_file(alloc, tags, name, bytes)?;
+    written_in(alloc, tags, name, &group, to)
 }
 
 fn written_in(
     alloc: Global,
+    tags: &TagTable,
     name: &[u8],
     group: &Group,
     to: Notation,
 ) -> Result<Vec<u8>, Unplayable>
-    ensures { Gives (λ found. found.items) result (written_in to name.now group.now) }
+    ensures { Gives (λ found. found.items) result (written_in tags.now to name.now group.now) }
 {
     match to {
-        Notation::Binary => in_octets(alloc, name, group),
+        Notation::Binary => in_octets(alloc, tags, name, group),
         Notation::Textual => in_text(alloc, name, group),
     }
 }
 
 #[tactic(auto, using(crate::proofs::ConvertLemmas::spelled, crate::proofs::ConvertLemmas::unspelled), unfolding(crate::specs::Converted::in_octets))]
-fn in_octets(alloc: Global, name: &[u8], group: &Group) -> Result<Vec<u8>, Unplayable>
-    ensures { Gives (λ found. found.items) result (in_octets name.now group.now) }
+fn in_octets(
+    alloc: Global,
+    tags: &TagTable,
+    name: &[u8],
+    group: &Group,
+) -> Result<Vec<u8>, Unplayable>
+    ensures { Gives (λ found. found.items) result (in_octets tags.now name.now group.now) }
 {
-    match encode_group(alloc, group) {
+    match encode_group(alloc, tags, group) {
         Ok(octets) => Ok(octets),
         Err(CodecError::At { why, offset }) => Err(Unplayable::File {
             name: Octets::from_slice(alloc, name)?,

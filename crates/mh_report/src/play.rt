@@ -10,7 +10,7 @@ ghost use Rattle.mh_report.specs.Sink.{IsBeginning};
 ghost use Rattle.mh_report.specs.Report.{Session};
 ghost use Rattle.mh_report.specs.Verdict.{refusal_lines};
 ghost use Rattle.mh_told.specs.Reading.{Gives};
-ghost use Rattle.mh_report.specs.Reading.{readied, late_of};
+ghost use Rattle.mh_report.specs.Reading.{readied};
 ghost use Rattle.mh_report.specs.Presets.{opened};
 ghost use Rattle.mh_report.specs.Played.{complaint, play_lines, play_status, Plays, HasWritten, HasBegun};
 
@@ -42,8 +42,8 @@ pub fn play_bytes<S: Sink>(
     sink: &mut S,
 ) -> Result<Status, PlayError>
     requires { S.failures sink.old < 2 ^ 64 - 1 }
-    ensures written { IfOk result (HasWritten (Plays options.now.mjd options.now.lenient (readied options.now.start.items (late_of options.now) files.now script.now)) (S.written sink.old) (S.written sink.new)) }
-    ensures begun { OnErr result (HasBegun (Plays options.now.mjd options.now.lenient (readied options.now.start.items (late_of options.now) files.now script.now)) (S.written sink.old) (S.written sink.new)) }
+    ensures written { IfOk result (HasWritten (Plays options.now.mjd options.now.lenient (readied options.now files.now script.now)) (S.written sink.old) (S.written sink.new)) }
+    ensures begun { OnErr result (HasBegun (Plays options.now.mjd options.now.lenient (readied options.now files.now script.now)) (S.written sink.old) (S.written sink.new)) }
     ensures write { IsErrOf result PlayError.Write → S.failures sink.old < S.failures sink.new }
 {
     match ready(alloc, files, script, options) {
@@ -143,7 +143,7 @@ fn play_service<S: Sink>(
     )
 }
 
-/// Plays the commands on a service that the verifier accepts.
+/// Plays the commands on a service that the verifier accepts, which has no programs but the built-in ones.
 fn play_accepted<S: Sink>(
     alloc: Global,
     accepted: Accepted,
@@ -152,7 +152,8 @@ fn play_accepted<S: Sink>(
     commands: &[Command],
     sink: &mut S,
 ) -> Result<Status, PlayError>
-    requires { S.failures sink.old < 2 ^ 64 - 1 }
+    requires plain { accepted.service.programs ≡ [] }
+    requires room { S.failures sink.old < 2 ^ 64 - 1 }
     ensures report { OnOk result (Appends (S.written sink.old) (S.written sink.new) (play_lines commands.now (opened accepted.service mjd files.now))) }
     ensures status { IfOk result (λ status. status ≡ play_status commands.now (opened accepted.service mjd files.now)) }
     ensures cut { OnErr result (IsBeginning (S.written sink.old) (S.written sink.new) (play_lines commands.now (opened accepted.service mjd files.now))) }

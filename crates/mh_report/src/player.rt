@@ -17,7 +17,7 @@ use crate::script::Command;
 use crate::sink::{Sink, write_all};
 use crate::status::Status;
 use crate::telling::{progress, refusal};
-use mh_engine::{Engine, Refused, RefusedWhy};
+use mh_engine::{Engine, Refused, RefusedWhy, StartError};
 use mh_model::{File, Input, Picture};
 use mh_service::Service;
 use mh_told::text::Text;
@@ -65,7 +65,7 @@ impl Player {
     }
 
     /// A player at the start of a service that the verifier accepts, on this day, with these files
-    /// there.
+    /// there. The service has no programs but the built-in ones, so that only memory can be refused.
     #[tactic(auto, unfolding(crate::specs::Presets::opened))]
     pub fn of_accepted(
         alloc: Global,
@@ -73,13 +73,17 @@ impl Player {
         mjd: u32,
         files: &[File],
     ) -> Result<Player, Unplayable>
+        requires plain { accepted.service.programs ≡ [] }
         ensures opened { Gives (λ player. player) result (opened accepted.service mjd files.now) }
         ensures fresh { IfOk result (λ player. player.frames ≡ 0) }
     {
         let frame = Picture::black(alloc)?;
         match Engine::start(alloc, accepted, mjd) {
             Ok(engine) => Player::with_files(alloc, engine, frame, files),
-            Err(_) => Err(Unplayable::NoMemory),
+            Err(refused) => match refused.why {
+                StartError::NoMemory => Err(Unplayable::NoMemory),
+                StartError::ProgramsDiffer => unreachable!(),
+            },
         }
     }
 

@@ -2,16 +2,18 @@
 //! files, and the commands of a script; or what cannot be read.
 //!
 //! Promise: each function answers what the definition of its name in `specs/Reading` says.
-ghost use Rattle.mh_told.specs.Reading.{Gives, service_read};
-ghost use Rattle.mh_report.specs.Reading.{readied, commands_of, late_of};
+ghost use Rattle.mh_told.specs.Reading.{Gives};
+ghost use Rattle.mh_report.specs.Reading.{chosen_service, readied, readied_with, service_with, commands_of};
 
 use crate::contents::read_contents;
 use crate::material::Material;
 use crate::options::Options;
 use crate::script::{Command, ScriptError, read_script};
 use mh_base::{GroupName, Seq};
+use mh_codec::TagTable;
 use mh_service::Service;
-use mh_told::reading::read_service;
+use mh_told::reading::{read_service, read_tagged_service};
+use mh_told::tags::table_of;
 use mh_told::unplayable::Unplayable;
 use std::alloc::Global;
 
@@ -23,11 +25,26 @@ pub fn ready(
     script: &[u8],
     options: &Options,
 ) -> Result<Material, Unplayable>
-    ensures { Gives (λ material. material) result (readied options.now.start.items (late_of options.now) files.now script.now) }
+    ensures { Gives (λ material. material) result (readied options.now files.now script.now) }
 {
-    let service = chosen_service(alloc, files, options)?;
-    let commands = read_commands(alloc, &service, script)?;
-    let files = read_contents(alloc, &service, files)?;
+    let tags = table_of(alloc, options.tags())?;
+    ready_with(alloc, &tags, files, script, options)
+}
+
+/// The same, with these tags of the binary notation.
+#[tactic(auto, unfolding(crate::specs::Reading::readied_with))]
+fn ready_with(
+    alloc: Global,
+    tags: &TagTable,
+    files: &[(GroupName, Vec<u8>)],
+    script: &[u8],
+    options: &Options,
+) -> Result<Material, Unplayable>
+    ensures { Gives (λ material. material) result (readied_with options.now files.now script.now tags.now) }
+{
+    let service = service_with(alloc, tags, files, options)?;
+    let commands = read_commands(alloc, tags, &service, script)?;
+    let files = read_contents(alloc, tags, &service, files)?;
     Ok(Material {
         service,
         files,
@@ -35,27 +52,47 @@ pub fn ready(
     })
 }
 
-/// The service of the files, with the start and the late scenes that are chosen.
+/// The service of the files, with the tags, the start and the late scenes that are chosen.
 pub fn chosen_service(
     alloc: Global,
     files: &[(GroupName, Vec<u8>)],
     options: &Options,
 ) -> Result<Service, Unplayable>
-    ensures { Gives (λ service. service) result (service_read options.now.start.items (late_of options.now) files.now) }
+    ensures { Gives (λ service. service) result (chosen_service options.now files.now) }
 {
-    read_service(alloc, files, options.start.as_slice(), options.late())
+    read_tagged_service(
+        alloc,
+        options.tags(),
+        files,
+        options.start.as_slice(),
+        options.late(),
+    )
+}
+
+/// The same, with these tags of the binary notation.
+fn service_with(
+    alloc: Global,
+    tags: &TagTable,
+    files: &[(GroupName, Vec<u8>)],
+    options: &Options,
+) -> Result<Service, Unplayable>
+    ensures { Gives (λ service. service) result (service_with options.now files.now tags.now) }
+{
+    let late = options.late();
+    read_service(alloc, tags, files, options.start.as_slice(), late)
 }
 
 /// The commands of a script that is played on this service.
 #[tactic(auto, unfolding(crate::specs::Reading::commands_of))]
 fn read_commands(
     alloc: Global,
+    tags: &TagTable,
     service: &Service,
     script: &[u8],
 ) -> Result<Seq<Command>, Unplayable>
-    ensures { Gives (λ found. found) result (commands_of service.now.files script.now) }
+    ensures { Gives (λ found. found) result (commands_of tags.now service.now.files script.now) }
 {
-    match read_script(alloc, service, script) {
+    match read_script(alloc, tags, service, script) {
         Ok(commands) => Ok(commands),
         Err(ScriptError::Wrong(number)) => Err(Unplayable::Script(number)),
         Err(ScriptError::NoMemory) => Err(Unplayable::NoMemory),

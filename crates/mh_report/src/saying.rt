@@ -38,6 +38,11 @@ pub fn complaint_text(alloc: Global, why: &Unplayable) -> Result<Text, AllocErro
             text.put(b" ")?;
             text.put(group.as_slice())?;
         }
+        Unplayable::Tags { number, place } => {
+            text.put(b"tags")?;
+            put_spaced(&mut text, u64::from(*number))?;
+            put_spaced(&mut text, *place as u64)?;
+        }
         Unplayable::Script(number) => {
             text.put(b"script")?;
             put_spaced(&mut text, *number as u64)?;

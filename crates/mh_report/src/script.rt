@@ -10,6 +10,7 @@ ghost use Rattle.mh_report.specs.Script.{begins, lines, line_of, is_comment, pla
 use crate::scene_line::scene_line;
 use crate::words::{integer_of, key_named, number_of, octets_of};
 use mh_base::{GroupName, NameError, Seq};
+use mh_codec::TagTable;
 use mh_model::{File, Input};
 use mh_service::Service;
 use std::alloc::{AllocError, Global};
@@ -59,15 +60,16 @@ impl From<AllocError> for ScriptError {
     }
 }
 
-/// The commands of a script that is played on this service.
+/// The commands of a script that is played on this service, with these tags of the binary notation.
 pub fn read_script(
     alloc: Global,
+    tags: &TagTable,
     service: &Service,
     bytes: &[u8],
 ) -> Result<Seq<Command>, ScriptError>
-    ensures good { OnOk result (first_wrong service.now.files 1 (lines bytes.now) ≡ None) }
-    ensures found { IfOk result (λ script. script ≡ commands service.now.files (lines bytes.now)) }
-    ensures wrong { IfErr result (IsWrongAt service.now.files bytes.now) }
+    ensures good { OnOk result (first_wrong tags.now service.now.files 1 (lines bytes.now) ≡ None) }
+    ensures found { IfOk result (λ script. script ≡ commands tags.now service.now.files (lines bytes.now)) }
+    ensures wrong { IfErr result (IsWrongAt tags.now service.now.files bytes.now) }
 {
     let mut commands = Seq::new(alloc);
     let mut rest = Some(bytes);
@@ -75,7 +77,7 @@ pub fn read_script(
     while let Some(text) = rest {
         let (line, behind) = first_line(text);
         number += 1;
-        match line_of(alloc, service, line)? {
+        match line_of(alloc, tags, service, line)? {
             Line::Skipped => {}
             Line::Says(command) => commands.push(command)?,
             Line::Wrong => return Err(ScriptError::Wrong(number)),
@@ -104,13 +106,18 @@ fn line_end(text: &[u8]) -> Option<usize>
 }
 
 /// What a line says of a play on this service.
-pub fn line_of(alloc: Global, service: &Service, line: &[u8]) -> Result<Line, AllocError>
-    ensures { IfOk result (λ said. said ≡ line_of service.now.files line.now) }
+pub fn line_of(
+    alloc: Global,
+    tags: &TagTable,
+    service: &Service,
+    line: &[u8],
+) -> Result<Line, AllocError>
+    ensures { IfOk result (λ said. said ≡ line_of tags.now service.now.files line.now) }
 {
     if let Some(words) = behind(line, b"file ") {
         file_line(alloc, words)
     } else if let Some(words) = behind(line, b"scene ") {
-        scene_line(alloc, service, words)
+        scene_line(alloc, tags, service, words)
     } else {
         Ok(plain_line(line))
     }

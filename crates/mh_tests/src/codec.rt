@@ -2,12 +2,22 @@
 //! tables of the notation.
 use crate::cases::{Question, all_hold, are, behind, placed, said, word};
 use crate::octets::{APPLICATION, ITEMS, LIST, NUMBER, SCENE, START_UP, Shell, within};
-use mh_codec::{CodecError, begins_group, decode_group};
+use mh_codec::{CodecError, TagTable, begins_group, decode_group};
 use std::alloc::Global;
 
-/// The number and the offset of the refusal, if there is one.
+/// The table with the tags of the profile.
+pub fn profile(alloc: Global) -> Option<TagTable> {
+    TagTable::profile(alloc).ok()
+}
+
+/// The number and the offset of the refusal under the profile, if there is one.
 pub fn reading(alloc: Global, octets: &[u8]) -> Option<Vec<u8>> {
-    match decode_group(alloc, octets) {
+    reading_by(alloc, &profile(alloc)?, octets)
+}
+
+/// The same under a table of tags.
+pub fn reading_by(alloc: Global, tags: &TagTable, octets: &[u8]) -> Option<Vec<u8>> {
+    match decode_group(alloc, tags, octets) {
         Ok(_) => said(alloc, b"read"),
         Err(CodecError::At { why, offset }) => placed(alloc, why.number(), offset),
         Err(CodecError::NoMemory) => None,
@@ -29,6 +39,15 @@ fn reading_of_cut(alloc: Global, octets: &[u8]) -> Option<Vec<u8>> {
     reading(alloc, octets)
 }
 
+/// Whether the octets begin as a group does under the profile.
+fn beginning(alloc: Global, octets: &[u8]) -> Option<Vec<u8>> {
+    if begins_group(&profile(alloc)?, octets) {
+        said(alloc, b"group")
+    } else {
+        said(alloc, b"other")
+    }
+}
+
 /// What is said of octets, of what they begin, of octets that were cut off, of the fields of a group, of an
 /// action, or of the fields of an ingredient whose class has this number.
 pub struct Coded;
@@ -38,8 +57,7 @@ impl Question for Coded {
         let octets = behind(asked, bytes)?;
         match word(asked, 0) {
             "octets" => reading(alloc, octets),
-            "begins" if begins_group(octets) => said(alloc, b"group"),
-            "begins" => said(alloc, b"other"),
+            "begins" => beginning(alloc, octets),
             "cut" => reading_of_cut(alloc, octets),
             "scene" => reading_within(alloc, &[SCENE_S], octets),
             "application" => reading_within(alloc, &[APPLICATION], octets),

@@ -3,7 +3,7 @@
 use crate::cases::are;
 use crate::page::file;
 use mh_base::{GroupName, Octets};
-use mh_codec::decode_group;
+use mh_codec::{TagTable, decode_group};
 use mh_engine::Engine;
 use mh_group::Group;
 use mh_model::picture::CELLS;
@@ -17,45 +17,45 @@ use std::alloc::Global;
 type Source = (GroupName, Vec<u8>);
 
 /// Whether a file is a group. Every other one is content.
-fn is_group(source: &Source) -> bool {
+fn is_group(tags: &TagTable, source: &Source) -> bool {
     let bytes = source.1.as_slice();
-    mh_text::begins_group(bytes) || mh_codec::begins_group(bytes)
+    mh_text::begins_group(bytes) || mh_codec::begins_group(tags, bytes)
 }
 
 /// The group of a file, in the notation in which it begins, under the name of the file.
-fn named(alloc: Global, source: &Source) -> Option<(GroupName, Group)> {
-    let group = group(alloc, source.1.as_slice())?;
+fn named(alloc: Global, tags: &TagTable, source: &Source) -> Option<(GroupName, Group)> {
+    let group = group(alloc, tags, source.1.as_slice())?;
     Some((source.0.clone().ok()?, group))
 }
 
-fn group(alloc: Global, bytes: &[u8]) -> Option<Group> {
-    if mh_codec::begins_group(bytes) {
-        decode_group(alloc, bytes).ok()
+fn group(alloc: Global, tags: &TagTable, bytes: &[u8]) -> Option<Group> {
+    if mh_codec::begins_group(tags, bytes) {
+        decode_group(alloc, tags, bytes).ok()
     } else {
         read_group(alloc, bytes).ok()
     }
 }
 
 /// The service of the files, which begins with the application `a`.
-fn service(alloc: Global, sources: &[Source]) -> Option<Service> {
+fn service(alloc: Global, tags: &TagTable, sources: &[Source]) -> Option<Service> {
     let mut groups = Vec::new(alloc);
     for source in sources {
-        if is_group(source) {
-            groups.push(named(alloc, source)?).ok()?;
+        if is_group(tags, source) {
+            groups.push(named(alloc, tags, source)?).ok()?;
         }
     }
     Service::of_files(alloc, groups, GroupName::of_path(alloc, b"a").ok()?).ok()
 }
 
 /// An engine of the service, if the verifier accepts it, which begins on the modified Julian day 60,000.
-fn start(alloc: Global, sources: &[Source]) -> Option<Engine> {
-    let accepted = verify(alloc, service(alloc, sources)?, &[]).ok()?;
+fn start(alloc: Global, tags: &TagTable, sources: &[Source]) -> Option<Engine> {
+    let accepted = verify(alloc, service(alloc, tags, sources)?, &[]).ok()?;
     Engine::start(alloc, accepted, 60_000).ok()
 }
 
 /// What the verifier says of the service, if it accepts it: to how many steps the start, a key and a tick lead at most.
-fn longest(alloc: Global, sources: &[Source]) -> Option<Vec<u8>> {
-    let accepted = verify(alloc, service(alloc, sources)?, &[]).ok()?;
+fn longest(alloc: Global, tags: &TagTable, sources: &[Source]) -> Option<Vec<u8>> {
+    let accepted = verify(alloc, service(alloc, tags, sources)?, &[]).ok()?;
     let bounds = accepted.bounds();
     let (start, key, tick) = (bounds.start, bounds.key, bounds.tick);
     let line = format!(in alloc; "start {start} key {key} tick {tick}\n").ok()?;
@@ -71,9 +71,9 @@ fn content(alloc: Global, source: &Source) -> Option<File> {
 }
 
 /// Puts the content files there before the first move.
-fn preset(alloc: Global, engine: &mut Engine, sources: &[Source]) -> Option<()> {
+fn preset(alloc: Global, tags: &TagTable, engine: &mut Engine, sources: &[Source]) -> Option<()> {
     for source in sources {
-        if !is_group(source) {
+        if !is_group(tags, source) {
             engine.preset(content(alloc, source)?).ok()?;
         }
     }
@@ -81,9 +81,14 @@ fn preset(alloc: Global, engine: &mut Engine, sources: &[Source]) -> Option<()> 
 }
 
 /// Plays: what is shown at first, and what is shown once the red key was pressed.
-fn play(alloc: Global, engine: &mut Engine, sources: &[Source]) -> Option<Vec<u8>> {
+fn play(
+    alloc: Global,
+    tags: &TagTable,
+    engine: &mut Engine,
+    sources: &[Source],
+) -> Option<Vec<u8>> {
     let mut screen = Vec::new(alloc);
-    preset(alloc, engine, sources)?;
+    preset(alloc, tags, engine, sources)?;
     turn(alloc, engine, &mut screen)?;
     engine.post(Input::Key(Key::Red)).ok()?;
     turn(alloc, engine, &mut screen)?;
@@ -101,28 +106,38 @@ fn turn(alloc: Global, engine: &mut Engine, screen: &mut Vec<u8>) -> Option<()> 
 }
 
 /// An engine of the service of the files, of which these scenes come late.
-fn start_late(alloc: Global, sources: &[Source], late: &[&[u8]]) -> Option<Engine> {
+fn start_late(
+    alloc: Global,
+    tags: &TagTable,
+    sources: &[Source],
+    late: &[&[u8]],
+) -> Option<Engine> {
     let mut names = Vec::new(alloc);
     for name in late {
         names.push(GroupName::of_path(alloc, name).ok()?).ok()?;
     }
-    let service = service(alloc, sources)?.with_late(names).ok()?;
+    let service = service(alloc, tags, sources)?.with_late(names).ok()?;
     let accepted = verify(alloc, service, &[]).ok()?;
     Engine::start(alloc, accepted, 60_000).ok()
 }
 
 /// Posts the file of a scene, which the carousel has brought.
-fn arrived(alloc: Global, engine: &mut Engine, source: &Source) -> Option<()> {
-    let (name, group) = named(alloc, source)?;
+fn arrived(alloc: Global, tags: &TagTable, engine: &mut Engine, source: &Source) -> Option<()> {
+    let (name, group) = named(alloc, tags, source)?;
     let group = SharedGroup::new(alloc, group).ok()?;
     engine.post(Input::Scene(name, group)).ok()
 }
 
 /// Plays: what is shown while the scene is late, and what is shown once its file has come.
-fn play_late(alloc: Global, engine: &mut Engine, scene: &Source) -> Option<Vec<u8>> {
+fn play_late(
+    alloc: Global,
+    tags: &TagTable,
+    engine: &mut Engine,
+    scene: &Source,
+) -> Option<Vec<u8>> {
     let mut screen = Vec::new(alloc);
     turn(alloc, engine, &mut screen)?;
-    arrived(alloc, engine, scene)?;
+    arrived(alloc, tags, engine, scene)?;
     turn(alloc, engine, &mut screen)?;
     Some(screen)
 }
@@ -154,33 +169,39 @@ fn draw_cell(alloc: Global, at: usize, cell: Cell, screen: &mut Vec<u8>) -> Opti
 /// What is played. Its owner below is generic, since a function that owns an engine by name is dear to
 /// prove.
 trait Played {
-    fn screens(&mut self, alloc: Global, sources: &[Source]) -> Option<Vec<u8>>;
+    fn screens(&mut self, alloc: Global, tags: &TagTable, sources: &[Source]) -> Option<Vec<u8>>;
 
-    fn late_screens(&mut self, alloc: Global, scene: &Source) -> Option<Vec<u8>>;
+    fn late_screens(&mut self, alloc: Global, tags: &TagTable, scene: &Source) -> Option<Vec<u8>>;
 }
 
 impl Played for Engine {
-    fn screens(&mut self, alloc: Global, sources: &[Source]) -> Option<Vec<u8>> {
-        play(alloc, self, sources)
+    fn screens(&mut self, alloc: Global, tags: &TagTable, sources: &[Source]) -> Option<Vec<u8>> {
+        play(alloc, tags, self, sources)
     }
 
-    fn late_screens(&mut self, alloc: Global, scene: &Source) -> Option<Vec<u8>> {
-        play_late(alloc, self, scene)
+    fn late_screens(&mut self, alloc: Global, tags: &TagTable, scene: &Source) -> Option<Vec<u8>> {
+        play_late(alloc, tags, self, scene)
     }
 }
 
 fn of_played<P: Played + Drop>(
     alloc: Global,
+    tags: &TagTable,
     played: Option<P>,
     sources: &[Source],
 ) -> Option<Vec<u8>> {
     let mut played = played;
-    played.as_mut()?.screens(alloc, sources)
+    played.as_mut()?.screens(alloc, tags, sources)
 }
 
-fn of_late<P: Played + Drop>(alloc: Global, played: Option<P>, scene: &Source) -> Option<Vec<u8>> {
+fn of_late<P: Played + Drop>(
+    alloc: Global,
+    tags: &TagTable,
+    played: Option<P>,
+    scene: &Source,
+) -> Option<Vec<u8>> {
     let mut played = played;
-    played.as_mut()?.late_screens(alloc, scene)
+    played.as_mut()?.late_screens(alloc, tags, scene)
 }
 
 static APPLICATION: &str =
@@ -251,18 +272,27 @@ fn first(alloc: Global) -> Option<Vec<Source>> {
 
 fn screens(alloc: Global) -> Option<Vec<u8>> {
     let sources = first(alloc)?;
-    of_played(alloc, start(alloc, sources.as_slice()), sources.as_slice())
+    let tags = TagTable::profile(alloc).ok()?;
+    let sources = sources.as_slice();
+    of_played(alloc, &tags, start(alloc, &tags, sources), sources)
 }
 
 fn late_screens(alloc: Global) -> Option<Vec<u8>> {
     let sources = first(alloc)?;
+    let tags = TagTable::profile(alloc).ok()?;
+    let sources = sources.as_slice();
     let scene = sources.get(1)?;
-    of_late(alloc, start_late(alloc, sources.as_slice(), &[b"s"]), scene)
+    of_late(
+        alloc,
+        &tags,
+        start_late(alloc, &tags, sources, &[b"s"]),
+        scene,
+    )
 }
 
 fn told(alloc: Global) -> Option<Vec<u8>> {
     let sources = first(alloc)?;
-    longest(alloc, sources.as_slice())
+    longest(alloc, &TagTable::profile(alloc).ok()?, sources.as_slice())
 }
 
 #[test]

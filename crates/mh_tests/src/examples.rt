@@ -194,6 +194,11 @@ scene-octets: s \a163 3008 04037e2f73 020100 a348 3046 a820 02010a ad06 020118 0
 020110 af03 020100 b106 0404ff000000 a222 02010b a803 020100 a903 020106 aa03 020164 ab0e 300c
 bf7e09 02010a 020118 020110 a403 020103 a508 020202d0 02020240\"#;
 
+/// Each of these files: its path and what it holds, as a table writes them.
+pub fn all_files() -> &'static str {
+    FILES
+}
+
 /// The path of a file and what it holds, as a table writes them or as one of these files.
 pub fn path_and_text(file: &str) -> Option<(&str, &str)> {
     let file = file.trim_end();

@@ -1,9 +1,10 @@
 //! Hostile input: files that are cut off, too long or without an end, and reads that fail.
 use crate::cases::{are, said};
+use crate::codec::profile;
 use crate::cutting_source::{CuttingSource, ZeroSource};
 use crate::playing::{DAY, File, converted, played, sources};
 use crate::text::refusal;
-use mh_codec::{CodecError, decode_group};
+use mh_codec::{CodecError, TagTable, decode_group};
 use mh_report::{Notation, Tally, Unread, read_short, read_whole};
 use std::alloc::Global;
 
@@ -103,11 +104,11 @@ fn a_long_file_ends(rt: HostRuntime) {
 const MOVES: (&str, &str, bool, u32) = ("a", "run|show|key red|run|show|", false, DAY);
 
 /// The number and the offset of a refusal, as the notation in which the bytes begin says it.
-fn refused(alloc: Global, bytes: &[u8]) -> (u32, usize) {
-    if !mh_codec::begins_group(bytes) {
+fn refused(alloc: Global, tags: &TagTable, bytes: &[u8]) -> (u32, usize) {
+    if !mh_codec::begins_group(tags, bytes) {
         return refusal(alloc, bytes);
     }
-    match decode_group(alloc, bytes) {
+    match decode_group(alloc, tags, bytes) {
         Ok(_) => (0, 0),
         Err(CodecError::At { why, offset }) => (why.number(), offset),
         Err(CodecError::NoMemory) => (0, 1),
@@ -116,7 +117,7 @@ fn refused(alloc: Global, bytes: &[u8]) -> (u32, usize) {
 
 /// The line on a file that cannot be read, and the exit status.
 fn line(alloc: Global, name: &str, bytes: &[u8]) -> Option<Vec<u8>> {
-    let (number, offset) = refused(alloc, bytes);
+    let (number, offset) = refused(alloc, &profile(alloc)?, bytes);
     let line = format!(in alloc; "file {name} {number} {offset}\nexit 2\n").ok()?;
     Some(line.into_bytes())
 }
@@ -128,8 +129,8 @@ fn played_with(alloc: Global, files: &mut [File], at: usize, bytes: Vec<u8>) -> 
     played(alloc, files, MOVES)
 }
 
-fn begins_group(bytes: &[u8]) -> bool {
-    mh_text::begins_group(bytes) || mh_codec::begins_group(bytes)
+fn begins_group(tags: &TagTable, bytes: &[u8]) -> bool {
+    mh_text::begins_group(bytes) || mh_codec::begins_group(tags, bytes)
 }
 
 /// Whether a file that is cut off is told by the number and the offset that the notation says, where it is
@@ -137,7 +138,7 @@ fn begins_group(bytes: &[u8]) -> bool {
 fn is_told(alloc: Global, files: &mut [File], at: usize, name: &str, cut: Vec<u8>) -> Option<bool> {
     let line = line(alloc, name, cut.as_slice())?;
     let told = converted(alloc, name.as_bytes(), cut.as_slice(), Notation::Binary);
-    let is_group = begins_group(cut.as_slice());
+    let is_group = begins_group(&profile(alloc)?, cut.as_slice());
     let written = played_with(alloc, files, at, cut)?;
     let is_right = if is_group {
         written.as_slice() == line.as_slice()

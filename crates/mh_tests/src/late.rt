@@ -154,6 +154,7 @@ fn options(alloc: Global, late: &str) -> Option<Options> {
     Some(Options {
         start,
         late: Some(bytes(alloc, late)?),
+        tags: None,
         lenient: false,
         mjd: DAY,
     })

@@ -112,6 +112,8 @@ mod sinks;
 #[cfg(test)]
 mod tables;
 #[cfg(test)]
+mod tags;
+#[cfg(test)]
 mod text;
 #[cfg(test)]
 mod text_forms;
@@ -135,3 +137,5 @@ mod why_large;
 mod widgets;
 #[cfg(test)]
 mod words;
+#[cfg(test)]
+mod writing;

@@ -1,7 +1,7 @@
 //! Lists and files at their limits, in both notations.
 use crate::building::{application, token_group};
 use crate::cases::{Question, all_hold, are, number, placed};
-use crate::codec::reading_within as reading_in_shells;
+use crate::codec::{profile, reading_within as reading_in_shells};
 use crate::octets::{APPLICATION, ITEMS, LIST, NUMBER, SCENE, START_UP, Shell, repeated};
 use crate::text_forms::{ITEMS as PLACE, reading_within};
 use mh_codec::{CodecError, LARGEST_FILE, Why, encode_group};
@@ -162,10 +162,10 @@ fn octets_have_short_lists(rt: HostRuntime) {
 
 /// How many octets the group is written in, or `TOO_LONG`.
 fn written_length(alloc: Global, group: Option<Group>) -> usize {
-    let Some(group) = group else {
+    let Some((group, tags)) = group.zip(profile(alloc)) else {
         return 0;
     };
-    match encode_group(alloc, &group) {
+    match encode_group(alloc, &tags, &group) {
         Ok(octets) => octets.len(),
         Err(CodecError::At { why, offset: 0 }) if why == Why::Limit => TOO_LONG,
         Err(_) => 0,

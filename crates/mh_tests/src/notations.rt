@@ -1,6 +1,7 @@
 //! Both notations and the conversion: the same groups as text and as octets, by values worked out by
 //! hand and octets of another program.
 use crate::cases::{Question, all_hold, are, said};
+use crate::codec::profile;
 use crate::playing::converted;
 use crate::whole::SHAPES;
 use mh_codec::{decode_group, encode_group};
@@ -9,7 +10,7 @@ use mh_text::{print_group, read_group};
 use std::alloc::Global;
 
 /// Texts as they are printed, and the octets of the same groups.
-static PAIRS: &str = r#"
+pub static PAIRS: &str = r#"
 { :Application ( "~/a" 0 ) }|
 => \a00a 3008 04037e2f61 020100\;;
 { :Scene ( "~/s" 0 ) :Items ( { :IntegerVar 1 :OrigValue 128 } ) :InputEventReg 3 }|
@@ -87,14 +88,14 @@ static WRITTEN: &str = r#"
 
 /// The text of the group that the octets spell.
 fn text_of(alloc: Global, octets: &[u8]) -> Option<Vec<u8>> {
-    let group = decode_group(alloc, octets).ok()?;
+    let group = decode_group(alloc, &profile(alloc)?, octets).ok()?;
     print_group(alloc, &group).ok()
 }
 
 /// The octets of the group that the text writes.
 fn encoded(alloc: Global, text: &[u8]) -> Option<Vec<u8>> {
     let group = read_group(alloc, text).ok()?;
-    encode_group(alloc, &group).ok()
+    encode_group(alloc, &profile(alloc)?, &group).ok()
 }
 
 /// What a good conversion gives.

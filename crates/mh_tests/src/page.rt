@@ -215,6 +215,7 @@ pub fn reported(alloc: Global, files: &[File], script: &str) -> Option<Vec<u8>> 
     let options = Options {
         start: Vec::from_slice(alloc, b"a").ok()?,
         late: None,
+        tags: None,
         lenient: false,
         mjd: DAY,
     };

@@ -37,11 +37,12 @@ pub fn sources(alloc: Global, files: &str) -> Option<Vec<File>> {
 pub const DAY: u32 = 60_000;
 
 /// The choices of a play that starts with this application, on this day.
-fn options(alloc: Global, start: &str, lenient: bool, mjd: u32) -> Option<Options> {
+pub fn options(alloc: Global, start: &str, lenient: bool, mjd: u32) -> Option<Options> {
     let start = Vec::from_slice(alloc, start.as_bytes()).ok()?;
     Some(Options {
         start,
         late: None,
+        tags: None,
         lenient,
         mjd,
     })
@@ -100,7 +101,8 @@ pub fn converted(alloc: Global, name: &[u8], bytes: &[u8], to: Notation) -> Opti
         bytes: Vec::new(alloc),
         failures: 0,
     };
-    let status = convert_bytes(alloc, name, bytes, to, &mut sink).ok()?;
+    let options = options(alloc, "a", false, DAY)?;
+    let status = convert_bytes(alloc, name, bytes, to, &options, &mut sink).ok()?;
     ended(alloc, sink.bytes, status.code())
 }
 

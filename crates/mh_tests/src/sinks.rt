@@ -1,6 +1,6 @@
 //! Sinks that fail, and sinks over writers: what they took is a beginning of what is meant.
 use crate::cutting_sink::CuttingSink;
-use crate::playing::{DAY, File, play, sources};
+use crate::playing::{DAY, File, options, play, sources};
 use mh_report::{Notation, PlayError, Status, WriterSink, convert_bytes};
 use std::alloc::Global;
 
@@ -81,7 +81,8 @@ fn taken_of_a_conversion(alloc: Global, writes: usize) -> Option<usize> {
         writes,
         most: 1,
     };
-    let ended = convert_bytes(alloc, b"a", SMALL, Notation::Textual, &mut sink);
+    let options = options(alloc, "a", false, DAY)?;
+    let ended = convert_bytes(alloc, b"a", SMALL, Notation::Textual, &options, &mut sink);
     taken(ended, &sink, SMALL)
 }
 

@@ -1,6 +1,7 @@
 //! Scenes with an ingredient of each class, each with each attribute that the tables give it, and with
 //! each action: written as text by the tables, with other values in each round, and carried through both
 //! notations.
+use crate::codec::profile;
 use crate::notations::difference;
 use crate::whole::WORDS;
 use mh_codec::encode_group;
@@ -207,7 +208,7 @@ fn put_scene(text: &mut Vec<u8>, round: usize) -> Result<(), AllocError> {
 fn difference_of(alloc: Global, text: &[u8]) -> Option<&'static str> {
     let group = read_group(alloc, text).ok()?;
     let text = print_group(alloc, &group).ok();
-    let (text, octets) = text.zip(encode_group(alloc, &group).ok())?;
+    let (text, octets) = text.zip(encode_group(alloc, &profile(alloc)?, &group).ok())?;
     Some(difference(alloc, text.as_slice(), octets.as_slice()))
 }
 

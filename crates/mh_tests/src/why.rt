@@ -15,11 +15,12 @@ pub fn explanation(
     files: &[File],
     script: Option<NamedFile<'_>>,
 ) -> Option<Vec<u8>> {
-    let ways = ways_of(alloc, files, b"a", None).ok()?;
+    let ways = ways_of(alloc, None, files, b"a", None).ok()?;
     let known = Known {
         files,
         ways: ways.as_ref().map_or(&[], |ways| ways.as_slice()),
         late: None,
+        tags: None,
         script,
     };
     let text = why(alloc, &known, output).ok()?;
@@ -622,7 +623,29 @@ variable may hold, as the target or as a parameter, is|    absent; so is an item
 have, whose line has number 0 and|    `-` for the action.|  Mend: do not set the variable, or fill the
 list, with it where it is gone.|refused V10 s 1 1 Run|  It stands in Run, action 1 of object 1 of
 s.|refused|refused 53|  Cause: with the ticks that wait, the clock would be past
-4,294,967,295|    milliseconds.|  Mend: start anew.|"#;
+4,294,967,295|    milliseconds.|  Mend: start anew.|;;
+refused V1 s 11 1 Run|refused V1 s 12 1 Run|refused V2 s 11 0 -
+@s {:Scene ("~/s" 0) :Items ( {:Link 11 :EventSource 0 :EventType UserInput :LinkEffect ( :Stop (99)
+) } ) }
+=> refused V1 s 11 1 Run|  It stands in Run, action 1 of object 11 of s.|  The files have changed
+since: something else stands there now. Check again.|  Cause: an object or a variable that is named is
+absent in that configuration;|    so is a member of a TokenGroup, whose line has number 0 and `-` for
+the|    action.|  Mend: name one that is there, or move the action.|refused V1 s 12 1 Run|  It stands
+in Run, action 1 of object 12 of s.|  The files have changed since: something else stands there now.
+Check again.|  Cause: an object or a variable that is named is absent in that configuration;|    so is
+a member of a TokenGroup, whose line has number 0 and `-` for the|    action.|  Mend: name one that is
+there, or move the action.|refused V2 s 11 0 -|  It stands in the list of members of object 11 of
+s.|  The files have changed since: something else stands there now. Check again.|  Cause: the action
+has no rule for objects of that class; or a member of a|    TokenGroup (number 0, `-`) is no
+visible.|  Mend: write another action, or name another object.|;;
+tags 60 3|tags 61 2
+=> tags 60 3|  It is line 3 of the file of tags.|  Cause: a line of the file of `--tags` is wrong: it
+has another form, a name|    that is none, a number that is too large, or a name that stands
+before.|  Mend: write `class NAME N`, `attr NAME N`, `action NAME N` or `value NAME N`,|    one space
+between words; N is decimal digits, up to 65,535.|tags 61 2|  It is context 2: 1 are classes, 2
+attributes, 3 actions, 4 values.|  Cause: a tag stands twice in a context: 1 classes, 2 attributes, 3
+actions, 4|    values.|  Mend: give one of the two another tag; what no line names keeps the tag of
+the|    profile.|"#;
 
 #[test]
 fn explains_what_is_refused(rt: HostRuntime) {
@@ -648,4 +671,51 @@ fn explains_bounds(rt: HostRuntime) {
 #[test]
 fn explains_lines_alone(rt: HostRuntime) {
     all_hold::<Lines>(&rt, rt.alloc(), LINES);
+}
+
+/// Lines of an output behind ` / `, where a file gives these tags and the scene `s` is in octets.
+struct Tagged;
+
+impl Question for Tagged {
+    fn answer(alloc: Global, asked: &str, _: &[u8]) -> Option<Vec<u8>> {
+        let (tags, output) = asked.split_once(" / ")?;
+        let tags = bytes(alloc, tags)?;
+        let output = bytes(alloc, output)?;
+        let files = sources(alloc, OCTETS)?;
+        let known = Known {
+            files: files.as_slice(),
+            ways: &[],
+            late: None,
+            tags: Some(NamedFile {
+                name: b"tags",
+                bytes: tags.as_slice(),
+            }),
+            script: None,
+        };
+        let text = why(alloc, &known, output.as_slice()).ok()?;
+        Vec::from_slice(alloc, text.as_slice()).ok()
+    }
+}
+
+static OCTETS: &str =
+    r#"s \bf1f27 3008 04037e2f73 020100 a31b 3019 a217 02010b a803 020100 a903 020106 ab08
+3006 bf6403 020109\"#;
+
+static TAGGED: &str = r#"
+class Lnk 3| / tags 60 1
+=> tags 60 1|  It is line 1 of the file of tags.|  tags, line 1, column 1|      class
+Lnk 3|      ^^^^^^^^^^^|  Cause: a line of the file of `--tags` is wrong: it has another form, a
+name|    that is none, a number that is too large, or a name that stands before.|  Mend: write `class NAME
+N`, `attr NAME N`, `action NAME N` or `value NAME N`,|    one space between words; N is decimal digits,
+up to 65,535.|;;
+class Scene 31 / refused V1 s 11 1 Run
+=> refused V1 s 11 1 Run|  It stands in Run, action 1 of object 11 of s.|  s, line 1, column
+92|      ce 0 :EventType UserInput :LinkEffect ( :Run ( 9 ) ) } )
+}|                                              ^^^^|  Cause: an object or a variable that is named is
+absent in that configuration;|    so is a member of a TokenGroup, whose line has number 0 and `-` for
+the|    action.|  Mend: name one that is there, or move the action.|"#;
+
+#[test]
+fn explains_tags(rt: HostRuntime) {
+    all_hold::<Tagged>(&rt, rt.alloc(), TAGGED);
 }

@@ -18,6 +18,8 @@ use Rattle.mh_text.specs.Reading.{read}
 use Rattle.mh_text.specs.Numbers.{number_of}
 use Rattle.mh_text.specs.Gives.{Refusal as TextRefusal}
 use Rattle.mh_codec.specs.Reading.{read as read_octets, begins_group as begins_octets}
+use Rattle.mh_codec.specs.Tags.{Tags, profile}
+use Rattle.mh_codec.specs.TagLines.{TagRefusal, WrongLine, DoubleTag, read_table}
 use Rattle.mh_codec.specs.Numbers.{number_of as octets_number_of}
 use Rattle.mh_codec.specs.Gives.{Refusal as OctetsRefusal}
 use Rattle.mh_told.specs.declared.unplayable.Unplayable.{Unplayable}
@@ -44,24 +46,37 @@ abbrev pub spelled : List ℕ → Result Written OctetsRefusal → Result Writte
 spelled name (Ok group) = Ok group
 spelled name (Err e) = Err (unplayable.File name (octets_number_of e.why) e.offset)
 
--- the bytes begin as a group does, in either notation
-abbrev pub is_group_file : List ℕ → Bool
-is_group_file bytes = begins_group bytes || begins_octets bytes
+-- a file of tags that makes no table is what cannot be read
+abbrev pub tagged : Result Tags TagRefusal → Result Tags Unplayable
+tagged (Ok tags) = Ok tags
+tagged (Err (WrongLine line)) = Err (unplayable.Tags 60 line)
+tagged (Err (DoubleTag context)) = Err (unplayable.Tags 61 context)
 
--- the group that the bytes of this file write, in the notation in which they begin
-unfoldable pub group_in : List ℕ → List ℕ → Result Written Unplayable
-group_in name bytes = if begins_octets bytes then spelled name (read_octets bytes) else named name (read bytes)
+-- the table of tags that a file gives; without one it is the profile's
+unfoldable pub table_of : Option (List ℕ) → Result Tags Unplayable
+table_of None = Ok profile
+table_of (Some bytes) = tagged (read_table bytes)
 
--- the groups with that of a file behind them; a file that does not begin as a group does is passed over
-unfoldable pub with_file : List File → Source → Result (List File) Unplayable
-with_file done f =
-    if is_group_file f.1.items then group_in f.0 f.1.items >>= (λ (group : Written). Ok (done ++ (f.0, group) ∷ []))
-    else Ok done
+-- Groups, where the binary notation has the tags of a table.
+module _ (tags : Tags) where
+  -- the bytes begin as a group does, in either notation
+  abbrev pub is_group_file : List ℕ → Bool
+  is_group_file bytes = begins_group bytes || begins_octets tags bytes
 
--- the groups of the files in order behind these, or the first file that cannot be read
-abbrev pub read_files : List File → List Source → Result (List File) Unplayable
-read_files done [] = Ok done
-read_files done (f ∷ fs) = with_file done f >>= (λ (more : List File). read_files more fs)
+  -- the group that the bytes of this file write, in the notation in which they begin
+  unfoldable pub group_in : List ℕ → List ℕ → Result Written Unplayable
+  group_in name bytes = if begins_octets tags bytes then spelled name (read_octets tags bytes) else named name (read bytes)
+
+  -- the groups with that of a file behind them; a file that does not begin as a group does is passed over
+  unfoldable pub with_file : List File → Source → Result (List File) Unplayable
+  with_file done f =
+      if is_group_file f.1.items then group_in f.0 f.1.items >>= (λ (group : Written). Ok (done ++ (f.0, group) ∷ []))
+      else Ok done
+
+  -- the groups of the files in order behind these, or the first file that cannot be read
+  abbrev pub read_files : List File → List Source → Result (List File) Unplayable
+  read_files done [] = Ok done
+  read_files done (f ∷ fs) = with_file done f >>= (λ (more : List File). read_files more fs)
 
 -- why the groups make no service with this start; a text that is no path is the name of no group
 abbrev pub unstartable_for : List ℕ → List File → ServiceRefusal
@@ -109,8 +124,12 @@ with_late None service = Ok service
 with_late (Some bytes) service = with_names (late_lines bytes) service
 
 -- the service of the groups among the files, with its start and its late scenes, or the first thing that is in the way
-unfoldable pub service_read : List ℕ → Option (List ℕ) → List Source → Result Service Unplayable
-service_read start late files = read_files [] files >>= service_of start >>= with_late late
+unfoldable pub service_read : Tags → List ℕ → Option (List ℕ) → List Source → Result Service Unplayable
+service_read tags start late files = read_files tags [] files >>= service_of start >>= with_late late
+
+-- the same with the table that a file gives, which is read before all others
+unfoldable pub service_tagged : Option (List ℕ) → List ℕ → Option (List ℕ) → List Source → Result Service Unplayable
+service_tagged tags start late files = table_of tags >>= (λ (t : Tags). service_read t start late files)
 
 -- Answers of functions.
 
@@ -118,6 +137,7 @@ service_read start late files = read_files [] files >>= service_of start >>= wit
 abbrev pub Fails : {Y : Type 0} → Unplayable → Result Y Unplayable → Type 0
 Fails (unplayable.File name number offset) r = r ≡ Err (unplayable.File name number offset)
 Fails (unplayable.Service number group) r = r ≡ Err (unplayable.Service number group)
+Fails (unplayable.Tags number place) r = r ≡ Err (unplayable.Tags number place)
 Fails (unplayable.Script number) r = r ≡ Err (unplayable.Script number)
 Fails unplayable.NoMemory r = Unit {0}
 

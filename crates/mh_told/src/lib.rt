@@ -8,6 +8,7 @@
 mod late;
 pub mod reading;
 pub mod row;
+pub mod tags;
 pub mod text;
 pub mod told;
 pub mod unplayable;

@@ -9,12 +9,13 @@ ghost use Rattle.mh_service.specs.Resolved.{resolved};
 ghost use Rattle.mh_service.specs.Numbers.{why_number};
 ghost use Rattle.mh_text.specs.Reading.{read};
 ghost use Rattle.mh_codec.specs.Reading.{read as read_octets_lem};
-ghost use Rattle.mh_told.specs.Reading.{with_file, is_group_file, group_in, spelled, read_files, service_of, service_read, named, unless_refused, unstartable_for, unserviceable, Gives, Fails};
+ghost use Rattle.mh_told.specs.Reading.{with_file, is_group_file, group_in, spelled, read_files, service_of, service_read, service_tagged, named, unless_refused, unstartable_for, unserviceable, Gives, Fails};
 
 use crate::late::with_late;
+use crate::tags::table_of;
 use crate::unplayable::Unplayable;
 use mh_base::{GroupName, NameError, Octets};
-use mh_codec::{CodecError, decode_group};
+use mh_codec::{CodecError, TagTable, decode_group};
 use mh_group::Group;
 use mh_service::{Service, ServiceError, Why, double_name};
 use mh_text::{TextError, read_group};
@@ -22,31 +23,49 @@ use std::alloc::{AllocError, Global};
 
 /// The service of the groups among the files, which begins with the group that `start` names, and in which the
 /// scenes come late that `late` names, a name a line; or the first thing that is in the way, memory apart. A
-/// file that does not begin as a group does is passed over.
+/// file that does not begin as a group does is passed over. `tags` has the tags of the binary notation.
 #[tactic(auto, unfolding(crate::specs::Reading::service_read))]
 pub fn read_service(
     alloc: Global,
+    tags: &TagTable,
     files: &[(GroupName, Vec<u8>)],
     start: &[u8],
     late: Option<&[u8]>,
 ) -> Result<Service, Unplayable>
-    ensures { Gives (λ service. service) result (service_read start.now (option_copied late.entry) files.now) }
+    ensures { Gives (λ service. service) result (service_read tags.now start.now (option_copied late.entry) files.now) }
 {
-    let groups = read_files(alloc, files)?;
+    let groups = read_files(alloc, tags, files)?;
     let service = service_of(alloc, groups, start)?;
     with_late(alloc, service, late)
+}
+
+/// The same with the tags of the binary notation that a file gives, a tag a line. What is wrong with it comes before all
+/// else.
+#[tactic(auto, unfolding(crate::specs::Reading::service_tagged))]
+pub fn read_tagged_service(
+    alloc: Global,
+    tags: Option<&[u8]>,
+    files: &[(GroupName, Vec<u8>)],
+    start: &[u8],
+    late: Option<&[u8]>,
+) -> Result<Service, Unplayable>
+    ensures { Gives (λ service. service) result (service_tagged (option_copied tags.entry) start.now (option_copied late.entry) files.now) }
+{
+    let tags = table_of(alloc, tags)?;
+    read_service(alloc, &tags, files, start, late)
 }
 
 /// The groups of the files that are groups, in order.
 fn read_files(
     alloc: Global,
+    tags: &TagTable,
     files: &[(GroupName, Vec<u8>)],
 ) -> Result<Vec<(GroupName, Group)>, Unplayable>
-    ensures { Gives (λ groups. groups.items) result (read_files [] files.now) }
+    ensures { Gives (λ groups. groups.items) result (read_files tags.now [] files.now) }
 {
     let mut groups = Vec::new(alloc);
     for file in files {
-        add_file(alloc, &mut groups, file)?;
+        add_file(alloc, tags, &mut groups, file)?;
     }
     Ok(groups)
 }
@@ -55,44 +74,55 @@ fn read_files(
 #[tactic(auto, unfolding(crate::specs::Reading::with_file))]
 fn add_file(
     alloc: Global,
+    tags: &TagTable,
     groups: &mut Vec<(GroupName, Group)>,
     file: &(GroupName, Vec<u8>),
 ) -> Result<(), Unplayable>
-    ensures added { OnOk result (with_file groups.old.items file.now ≡ Ok groups.new.items) }
-    ensures refused { IfErr result (λ why. Fails why (with_file groups.old.items file.now)) }
+    ensures added { OnOk result (with_file tags.now groups.old.items file.now ≡ Ok groups.new.items) }
+    ensures refused { IfErr result (λ why. Fails why (with_file tags.now groups.old.items file.now)) }
 {
     let bytes = file.1.as_slice();
-    if is_group_file(bytes) {
-        let group = read_file(alloc, file.0.as_bytes(), bytes)?;
+    if is_group_file(tags, bytes) {
+        let group = read_file(alloc, tags, file.0.as_bytes(), bytes)?;
         groups.push((file.0.clone()?, group))?;
     }
     Ok(())
 }
 
-/// Whether the bytes begin as a group does, in either notation.
-pub fn is_group_file(bytes: &[u8]) -> bool
-    ensures { result ≡ is_group_file bytes.now }
+/// Whether the bytes begin as a group does, in either notation, the binary one with these tags.
+pub fn is_group_file(tags: &TagTable, bytes: &[u8]) -> bool
+    ensures { result ≡ is_group_file tags.now bytes.now }
 {
-    mh_text::begins_group(bytes) || mh_codec::begins_group(bytes)
+    mh_text::begins_group(bytes) || mh_codec::begins_group(tags, bytes)
 }
 
 /// The group that the file writes, in the notation in which it begins. A refusal calls the file by its
 /// name.
 #[tactic(auto, unfolding(crate::specs::Reading::group_in))]
-pub fn read_file(alloc: Global, name: &[u8], bytes: &[u8]) -> Result<Group, Unplayable>
-    ensures { Gives (λ g. g) result (group_in name.now bytes.now) }
+pub fn read_file(
+    alloc: Global,
+    tags: &TagTable,
+    name: &[u8],
+    bytes: &[u8],
+) -> Result<Group, Unplayable>
+    ensures { Gives (λ g. g) result (group_in tags.now name.now bytes.now) }
 {
-    if mh_codec::begins_group(bytes) {
-        read_octets(alloc, name, bytes)
+    if mh_codec::begins_group(tags, bytes) {
+        read_octets(alloc, tags, name, bytes)
     } else {
         read_text(alloc, name, bytes)
     }
 }
 
-fn read_octets(alloc: Global, name: &[u8], octets: &[u8]) -> Result<Group, Unplayable>
-    ensures { Gives (λ g. g) result (spelled name.now (read_octets_lem octets.now)) }
+fn read_octets(
+    alloc: Global,
+    tags: &TagTable,
+    name: &[u8],
+    octets: &[u8],
+) -> Result<Group, Unplayable>
+    ensures { Gives (λ g. g) result (spelled name.now (read_octets_lem tags.now octets.now)) }
 {
-    match decode_group(alloc, octets) {
+    match decode_group(alloc, tags, octets) {
         Ok(group) => Ok(group),
         Err(CodecError::At { why, offset }) => Err(Unplayable::File {
             name: Octets::from_slice(alloc, name)?,

@@ -20,6 +20,13 @@ pub enum Unplayable {
         number: u32,
         group: Octets,
     },
+    /// The file that gives tags makes no table: 60 with the number of its first wrong line, or 61 with the number of
+    /// the first context in which a tag stands twice.
+    #[error("tags: {number} at {place}")]
+    Tags {
+        number: u32,
+        place: usize,
+    },
     /// The first wrong line of the script.
     #[error("script: line {0}")]
     Script(usize),

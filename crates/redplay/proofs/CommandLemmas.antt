@@ -1,11 +1,11 @@
 -- Arguments and subcommands that were added; what was found for an argument, and the day that a text writes; want of
 -- memory.
-use Rattle.std.specs.Prelude.{◌≡◌, ℕ, ◌≤◌, ◌||◌, Bool, true, false, if◌then◌else◌, Option, Some, None, Result, Ok, Err, IfErr, IfOk, IsErrAnd, option_map, refl}
+use Rattle.std.specs.Prelude.{◌≡◌, ℕ, ◌≤◌, ◌||◌, Bool, true, false, if◌then◌else◌, Option, Some, None, Result, Ok, Err, IfErr, IfOk, IsErrAnd, option_map, refl, List}
 use Rattle.std.specs.Str.Parse.{ParsesUnsigned, digits_value, without_leading_plus}
 use Rattle.std.proofs.Common.{ap, ap₂, arith, sym, subst, ◌∙◌}
 use Rattle.std.proofs.lemmas.Result.{IfOk-weaker}
 use Rattle.std.specs.Borrow.{Bor}
-use Rattle.clap.specs.Words.{AddsArg, AddsSubcommand, App, Rule, Text, app_of, first_of, first_value, kind_of, rows_of, rule_of, with_rule, with_subcommand}
+use Rattle.clap.specs.Words.{AddsArg, AddsSubcommand, App, HasMatchesOf, Rule, Text, app_of, first_of, first_value, is_simple, kind_of, rows_of, rule_of, subcommand_of, subcommand_rows_of, with_rule, with_subcommand}
 use Rattle.clap.specs.declared.builder.arg.Arg.{Arg}
 use Rattle.clap.specs.declared.builder.command.Command.{Command}
 use Rattle.clap.specs.declared.builder.command.Command.TheViews.{out-Command as fields_of}
@@ -14,6 +14,7 @@ use Rattle.clap.specs.ValueTests.{is_unsigned_in}
 use Rattle.clap.specs.declared.builder.value_parser.ValueParser.TheVariants as parser
 use Rattle.clap.specs.declared.error.Error.{Error}
 use Rattle.clap.specs.declared.error.kind.ErrorKind.TheVariants.{OutOfMemory}
+use Rattle.clap.specs.declared.parser.matches.ArgMatches.{ArgMatches}
 use Rattle.clap.specs.declared.parser.matches.Found.{Found}
 use Rattle.clap.proofs.WalkLemmas.{first_value-rows}
 use Rattle.clap.proofs.ValueTestLemmas.{accepts-Accepts, Accepts-accepts}
@@ -93,3 +94,9 @@ pub memory_told : {T : Type 0} (error : Error) (Fit : Type 0) (r : Result T NoTa
 memory_told error Fit (Ok x) told memory = absurd told
 memory_told error Fit (Err (no_task.Said said)) told memory = λ fit. absurd (told.1 (memory fit))
 memory_told error Fit (Err no_task.NoMemory) told memory = λ fit. refl
+
+-- the subcommand that a simple command's matches name
+pub subcommand_found : {E : Type 0} (a : App) (words : List Text) (r : Result ArgMatches E) → is_simple a ≡ true → IfOk r (HasMatchesOf a words)
+    → IfOk r (λ m. subcommand_rows_of m ≡ subcommand_of a words)
+subcommand_found a words (Ok m) simple has = (has simple).1
+subcommand_found a words (Err e) simple has = has

@@ -2,6 +2,7 @@
 -- against them, what is refused and under which kind, are the definitions of `clap`.
 use Rattle.std.specs.Prelude.{◌≡◌, ◌≢◌, ℕ, ◌≤◌, Bool, true, false, if◌then◌else◌, List, [], ◌∷◌, Option, Some, None, Result, MatchResult, codes, unwrap_or, option_map}
 use Rattle.std.specs.Option.{option_map_or}
+use Rattle.std.specs.Borrow.{Bor}
 use Rattle.std.specs.Str.{bytes_eq}
 use Rattle.std.specs.Str.Parse.{digits_value, without_leading_plus}
 use Rattle.clap.specs.Words.{App, IsAmong, Kinds, Row, Rule, Text, first_of, kind_of, new_app, new_rule, with_rule, with_subcommand}
@@ -15,7 +16,6 @@ use Rattle.mh_report.specs.declared.convert.Notation.{Notation}
 use Rattle.mh_report.specs.declared.convert.Notation.TheVariants as notation
 use Rattle.redplay.specs.declared.command_line.NoTask.{NoTask}
 use Rattle.redplay.specs.declared.command_line.NoTask.TheVariants as no_task
-use Rattle.redplay.specs.declared.command_line.Source.{Source}
 use Rattle.redplay.specs.declared.command_line.Task.{Task}
 use Rattle.redplay.specs.declared.command_line.Task.TheVariants as task
 
@@ -46,6 +46,10 @@ script = record (named (codes "script")) { required = true }
 abbrev pub late : Rule
 late = named (codes "late")
 
+-- the file that gives the tags of the binary notation
+abbrev pub tags : Rule
+tags = named (codes "tags")
+
 -- the last day on which a play can begin, and the one on which it does unless another is asked for
 abbrev pub last_day : ℕ
 last_day = 1000000
@@ -63,7 +67,7 @@ lenient = record (new_rule (codes "lenient")) { long = Some (codes "lenient"); a
 -- The subcommands.
 
 abbrev pub check : App
-check = with_rule (with_rule (with_rule (new_app (codes "check")) folder) start) late
+check = with_rule (with_rule (with_rule (with_rule (new_app (codes "check")) folder) start) late) tags
 
 -- what has to be given, what may be said of the service, and then of the play
 
@@ -71,16 +75,16 @@ abbrev pub play_required : App
 play_required = with_rule (with_rule (new_app (codes "play")) folder) script
 
 abbrev pub play_service : App
-play_service = with_rule (with_rule play_required start) late
+play_service = with_rule (with_rule (with_rule play_required start) late) tags
 
 abbrev pub play : App
 play = with_rule (with_rule play_service mjd) lenient
 
 abbrev pub to_der : App
-to_der = with_rule (new_app (codes "to-der")) file
+to_der = with_rule (with_rule (new_app (codes "to-der")) file) tags
 
 abbrev pub to_text : App
-to_text = with_rule (new_app (codes "to-text")) file
+to_text = with_rule (with_rule (new_app (codes "to-text")) file) tags
 
 -- the program without them: it has a version, and one of them has to be given
 abbrev pub bare : App
@@ -95,9 +99,9 @@ program = with_subcommand (with_subcommand with_services to_der.top) to_text.top
 -- What is asked for.
 
 pub data Asked : Type 0 where
-  checked : (folder start : Text) (late : Option Text) → Asked
-  played : (folder start : Text) (late : Option Text) (script : Text) (lenient : Bool) (mjd : ℕ) → Asked
-  converted : (file : Text) (to : Notation) → Asked
+  checked : (folder start : Text) (late tags : Option Text) → Asked
+  played : (folder start : Text) (late tags : Option Text) (script : Text) (lenient : Bool) (mjd : ℕ) → Asked
+  converted : (file : Text) (to : Notation) (tags : Option Text) → Asked
 
 -- the value of an argument; each that is read here is required or has a default
 abbrev pub text_of : Text → List Row → Text
@@ -116,15 +120,15 @@ day_of rows = day_in (text_of (codes "mjd") rows)
 -- what was found for the arguments of a subcommand
 
 abbrev pub checking : List Row → Asked
-checking rows = checked (text_of (codes "DIR") rows) (text_of (codes "start") rows) (first_of (codes "late") rows)
+checking rows = checked (text_of (codes "DIR") rows) (text_of (codes "start") rows) (first_of (codes "late") rows) (first_of (codes "tags") rows)
 
 abbrev pub playing : List Row → Asked
 playing rows =
-    played (text_of (codes "DIR") rows) (text_of (codes "start") rows) (first_of (codes "late") rows) (text_of (codes "script") rows)
-    (is_set (codes "lenient") rows) (day_of rows)
+    played (text_of (codes "DIR") rows) (text_of (codes "start") rows) (first_of (codes "late") rows) (first_of (codes "tags") rows)
+    (text_of (codes "script") rows) (is_set (codes "lenient") rows) (day_of rows)
 
 abbrev pub converting : List Row → Notation → Asked
-converting rows to = converted (text_of (codes "FILE") rows) to
+converting rows to = converted (text_of (codes "FILE") rows) to (first_of (codes "tags") rows)
 
 -- the subcommand of this name
 abbrev pub asked_under : Text → List Row → Asked
@@ -136,17 +140,18 @@ asked_under name rows =
 -- one subcommand is required
 abbrev pub asked_by : Option (Text × List Row) → Asked
 asked_by (Some given) = asked_under given.0 given.1
-asked_by None = checked [] [] None
+asked_by None = checked [] [] None None
 
--- the file of late scenes that is named, if one is
-abbrev pub late_in : Source → Option Text
-late_in source = option_map (λ s. s.now) source.late
+-- a file that is named, if one is
+abbrev pub named_in : Option (Bor Text) → Option Text
+named_in name = option_map (λ s. s.now) name
 
 -- what a task says
 abbrev pub said : Task → Asked
-said (task.Check source) = checked source.folder.now source.start.now (late_in source)
-said (task.Play source script lenient mjd) = played source.folder.now source.start.now (late_in source) script.now lenient mjd
-said (task.Convert file to) = converted file.now to
+said (task.Check source) = checked source.folder.now source.start.now (named_in source.late) (named_in source.tags)
+said (task.Play source script lenient mjd) =
+    played source.folder.now source.start.now (named_in source.late) (named_in source.tags) script.now lenient mjd
+said (task.Convert file to tags) = converted file.now to (named_in tags)
 
 -- a play begins on a day on which one can
 abbrev pub HasDay : Task → Type 0

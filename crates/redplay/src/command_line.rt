@@ -2,10 +2,10 @@
 //!
 //! What the words mean, which are refused and why are `clap`'s rules over `program`; the texts on a wrong
 //! command line are left to it too.
-ghost use Rattle.std.specs.Prelude.{◌≡◌, ◌≤◌, map, codes, true, option_map, IfOk, IfErr};
+ghost use Rattle.std.specs.Prelude.{◌≡◌, ◌≤◌, map, codes, true, IfOk, IfErr};
 ghost use Rattle.clap.specs.Words.{FailsBy, fault_of, first_of, found_of, kind_of, rows_of, subcommand_of, subcommand_rows_of, takes};
 ghost use Rattle.clap.specs.declared.error.kind.ErrorKind.TheVariants.{OutOfMemory};
-ghost use Rattle.redplay.specs.CommandLine.{HasDay, IsRefusedBy, IsToldAs, TellsNoMemory, asked_by, asked_under, day_in, day_of, is_set, last_day, late_in, said, text_of};
+ghost use Rattle.redplay.specs.CommandLine.{HasDay, IsRefusedBy, IsToldAs, TellsNoMemory, asked_by, asked_under, day_in, day_of, is_set, last_day, named_in, said, text_of};
 ghost use Rattle.redplay.specs.declared.command_line.NoTask.TheVariants.{NoMemory};
 ghost use Rattle.redplay.specs.CommandLine as spec;
 
@@ -27,7 +27,7 @@ pub enum Task<'a> {
     /// A script, played on a service.
     Play {
         source: Source<'a>,
-        /// The file with the script.
+        /// The file with the script, or `-` for standard input.
         script: &'a str,
         lenient: bool,
         /// The modified Julian day on which the play begins.
@@ -37,6 +37,8 @@ pub enum Task<'a> {
     Convert {
         file: &'a str,
         to: Notation,
+        /// The file that gives the tags of the binary notation, if one is named.
+        tags: Option<&'a str>,
     },
 }
 
@@ -49,6 +51,8 @@ pub struct Source<'a> {
     pub start: &'a str,
     /// The file that names the scenes whose files come late, if one is named.
     pub late: Option<&'a str>,
+    /// The file that gives the tags of the binary notation, if one is named.
+    pub tags: Option<&'a str>,
 }
 
 /// Why the words ask for no task.
@@ -104,6 +108,7 @@ fn task_of<'a>(matches: &ArgMatches<'a>) -> Task<'a>
             folder: "",
             start: "",
             late: None,
+            tags: None,
         }),
     }
 }
@@ -140,26 +145,29 @@ fn converting<'a>(given: &ArgMatches<'a>, to: Notation) -> Task<'a>
     Task::Convert {
         file: text_of(given, "FILE"),
         to,
+        tags: file_of(given, "tags"),
     }
 }
 
 fn source_of<'a>(given: &ArgMatches<'a>) -> Source<'a>
     ensures folder { result.folder.now ≡ text_of (codes "DIR") (rows_of (found_of given.now)) }
     ensures start { result.start.now ≡ text_of (codes "start") (rows_of (found_of given.now)) }
-    ensures late { late_in result ≡ first_of (codes "late") (rows_of (found_of given.now)) }
+    ensures late { named_in result.late ≡ first_of (codes "late") (rows_of (found_of given.now)) }
+    ensures tags { named_in result.tags ≡ first_of (codes "tags") (rows_of (found_of given.now)) }
 {
     Source {
         folder: text_of(given, "DIR"),
         start: text_of(given, "start"),
-        late: late_of(given),
+        late: file_of(given, "late"),
+        tags: file_of(given, "tags"),
     }
 }
 
-/// The file of late scenes that is named, if one is.
-fn late_of<'a>(given: &ArgMatches<'a>) -> Option<&'a str>
-    ensures { option_map (λ s. s.now) result ≡ first_of (codes "late") (rows_of (found_of given.now)) }
+/// The file that an option names, if it is given.
+fn file_of<'a>(given: &ArgMatches<'a>, name: &str) -> Option<&'a str>
+    ensures { named_in result ≡ first_of name.now (rows_of (found_of given.now)) }
 {
-    given.get_str("late")
+    given.get_str(name)
 }
 
 /// The value of an argument that is required or has a default. Were there none, it would be the empty

@@ -1,4 +1,4 @@
-//! Files: those of a service's folder, in the order of their paths, and those that an option names.
+//! Files: those of a service's folder, in the order of their paths, those that an option names, and standard input.
 //!
 //! Reading one is left to `mh_report`, whatever the file is and does; so is which of them are groups, and
 //! which are content that a group names. Here is what a folder holds: each folder is listed once, so that
@@ -11,7 +11,7 @@ use mh_report::{ReaderSource, Unread, read_short, read_whole};
 use std::alloc::{AllocError, AllocFailed, Global};
 use std::collections::BTreeSet;
 use std::os::unix::fs::MetadataExt;
-use std::rt::Files;
+use std::rt::{Files, Runtime};
 use std::{fs, io};
 
 /// Why the files could not be gathered.
@@ -94,6 +94,17 @@ pub fn read_file<R: Files + AllocGlobal>(
 /// The bytes of a file that an option names. One that is longer than a file may be cannot be read.
 pub fn read_named<R: Files + AllocGlobal>(rt: &R, name: &str) -> Result<Vec<u8>, Ungathered> {
     let mut source = opened(rt, name, name)?;
+    let bytes = read_short(rt.alloc(), name, &mut source)?;
+    Ok(bytes)
+}
+
+/// The bytes of the script that an option names, or of standard input for `-`. One that is longer than a file may be
+/// cannot be read.
+pub fn read_script<R: Runtime + AllocGlobal>(rt: &R, name: &str) -> Result<Vec<u8>, Ungathered> {
+    if name != "-" {
+        return read_named(rt, name);
+    }
+    let mut source = ReaderSource::new(rt.reader());
     let bytes = read_short(rt.alloc(), name, &mut source)?;
     Ok(bytes)
 }

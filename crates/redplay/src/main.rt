@@ -7,7 +7,7 @@ pub mod gather;
 mod program;
 
 use command_line::{NoTask, Source, Task, line_of};
-use gather::{Ungathered, gather, read_file, read_named};
+use gather::{Ungathered, gather, read_file, read_named, read_script};
 pub use mh_report::{
     ListSink, Notation, Options, PlayError, Sink, Status, WriterSink, check_bytes, convert_bytes,
     play_bytes,
@@ -68,7 +68,7 @@ fn done<R: Runtime + AllocGlobal>(rt: &R, task: &Task) -> Result<u8, Ungathered>
             lenient,
             mjd,
         } => played(rt, source, script, *mjd, *lenient),
-        Task::Convert { file, to } => converted(rt, file, *to),
+        Task::Convert { file, to, tags } => converted(rt, file, *to, *tags),
     }
 }
 
@@ -91,7 +91,7 @@ fn played<R: Runtime + AllocGlobal>(
     lenient: bool,
 ) -> Result<u8, Ungathered> {
     let files = gather(rt, source.folder)?;
-    let script = read_named(rt, script)?;
+    let script = read_script(rt, script)?;
     let options = chosen(rt, source, mjd, lenient)?;
     let mut sink = WriterSink {
         writer: io::writer(rt),
@@ -102,31 +102,60 @@ fn played<R: Runtime + AllocGlobal>(
     Ok(status.map_or(FAILED, |status| status.code()))
 }
 
-fn converted<R: Runtime + AllocGlobal>(rt: &R, file: &str, to: Notation) -> Result<u8, Ungathered> {
+fn converted<R: Runtime + AllocGlobal>(
+    rt: &R,
+    file: &str,
+    to: Notation,
+    tags: Option<&str>,
+) -> Result<u8, Ungathered> {
     let bytes = read_file(rt, file, file)?;
+    let options = Options {
+        start: Vec::new(rt.alloc()),
+        late: None,
+        tags: read_option(rt, tags)?,
+        mjd: 0,
+        lenient: false,
+    };
     let mut sink = WriterSink {
         writer: io::writer(rt),
         failures: 0,
     };
-    let status = convert_bytes(rt.alloc(), file.as_bytes(), bytes.as_slice(), to, &mut sink);
+    let status = convert_bytes(
+        rt.alloc(),
+        file.as_bytes(),
+        bytes.as_slice(),
+        to,
+        &options,
+        &mut sink,
+    );
     Ok(status.map_or(FAILED, |status| status.code()))
 }
 
-/// What is chosen of the service and of a play, the file of late scenes being read.
+/// What is chosen of the service and of a play, the file of late scenes being read, and then that of tags.
 fn chosen<R: Runtime + AllocGlobal>(
     rt: &R,
     source: &Source,
     mjd: u32,
     lenient: bool,
 ) -> Result<Options, Ungathered> {
-    let late = match source.late {
-        Some(name) => Some(read_named(rt, name)?),
-        None => None,
-    };
+    let late = read_option(rt, source.late)?;
+    let tags = read_option(rt, source.tags)?;
     Ok(Options {
         start: Vec::from_slice(rt.alloc(), source.start.as_bytes())?,
         late,
+        tags,
         mjd,
         lenient,
     })
+}
+
+/// The bytes of the file that an option names, if it is given.
+fn read_option<R: Runtime + AllocGlobal>(
+    rt: &R,
+    name: Option<&str>,
+) -> Result<Option<Vec<u8>>, Ungathered> {
+    match name {
+        Some(name) => Ok(Some(read_named(rt, name)?)),
+        None => Ok(None),
+    }
 }

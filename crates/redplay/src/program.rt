@@ -19,6 +19,31 @@ const START: &str = "a";
 /// The day on which a play begins where none is named.
 const DAY: &str = "60000";
 
+/// What is told behind the help of the program.
+const STATUSES: &str = "Exit status:
+  0  the service is accepted, the script was played without a fault, or the group is written
+  1  the verifier refuses the service; the lines tell why (`redlook why` explains them)
+  2  a file, the service, the script or the command line cannot be read; a line tells which
+  3  a lenient play met actions that could not be done; its lines `fault` tell which
+  4  memory or writing failed";
+
+/// What is told behind the help of `play`.
+const COMMANDS: &str =
+    "A script has a command a line. Empty lines and those that begin with # are skipped.
+  run           make the steps that there are to make, at most 1000000
+  step 10       make so many steps
+  show          print the picture
+  key red       press a key: up, down, left, right, 0 to 9, select, cancel, red, green, yellow, blue, text
+  tick 500      let so many milliseconds pass, 1 to 60000
+  stream 7      an event of a stream, by its tag
+  engine 3      an event of the engine, by its number
+  file x 4869   the content file x comes, with its octets in hexadecimal digits
+  scene s       the file of the late scene s comes; octets behind the name are read in its place
+
+Examples:
+  redplay play examples/first/service --script examples/first/script
+  redplay play examples/late/service --script examples/late/script --late examples/late/late";
+
 /// The last day on which a play can begin.
 pub const LAST_DAY: u64 = 1_000_000;
 
@@ -47,6 +72,7 @@ fn bare<'a>(alloc: Global) -> Command<'a>
     Command::new(alloc, "redplay")
         .version(VERSION)
         .about("Checks, plays and converts red-button television services")
+        .after_help(STATUSES)
         .subcommand_required(true)
 }
 
@@ -60,7 +86,8 @@ fn to_der<'a>(alloc: Global) -> Result<Command<'a>, AllocError>
         "Writes the group of a file in the binary notation",
         "Example:\n  redplay to-der examples/menu/service/a > a.der",
     )
-    .arg(file(alloc))
+    .arg(file(alloc))?
+    .arg(tags(alloc))
 }
 
 fn to_text<'a>(alloc: Global) -> Result<Command<'a>, AllocError>
@@ -73,7 +100,8 @@ fn to_text<'a>(alloc: Global) -> Result<Command<'a>, AllocError>
         "Writes the group of a file in the textual notation",
         "Example:\n  redplay to-text examples/menu/der/a",
     )
-    .arg(file(alloc))
+    .arg(file(alloc))?
+    .arg(tags(alloc))
 }
 
 fn check<'a>(alloc: Global) -> Result<Command<'a>, AllocError>
@@ -88,7 +116,8 @@ fn check<'a>(alloc: Global) -> Result<Command<'a>, AllocError>
     )
     .arg(folder(alloc))?
     .arg(start(alloc))?
-    .arg(late(alloc))
+    .arg(late(alloc))?
+    .arg(tags(alloc))
 }
 
 fn play<'a>(alloc: Global) -> Result<Command<'a>, AllocError>
@@ -103,7 +132,10 @@ fn play_service<'a>(alloc: Global) -> Result<Command<'a>, AllocError>
     ensures app { IfOk result (λ c. app_of c ≡ spec.play_service) }
     ensures local { IfOk result (λ c. (fields_of c).has_globals ≡ false) }
 {
-    play_required(alloc)?.arg(start(alloc))?.arg(late(alloc))
+    play_required(alloc)?
+        .arg(start(alloc))?
+        .arg(late(alloc))?
+        .arg(tags(alloc))
 }
 
 /// The subcommand with what has to be given.
@@ -115,7 +147,7 @@ fn play_required<'a>(alloc: Global) -> Result<Command<'a>, AllocError>
         alloc,
         "play",
         "Plays a script on a service and prints what happens and what is shown",
-        "Examples:\n  redplay play examples/first/service --script examples/first/script\n  redplay play examples/late/service --script examples/late/script --late examples/late/late",
+        COMMANDS,
     )
     .arg(folder(alloc))?
     .arg(script(alloc))
@@ -154,7 +186,7 @@ fn script<'a>(alloc: Global) -> Arg<'a>
     ensures local { result.global ≡ false }
 {
     named(alloc, "script", "FILE").required(true).help(
-        "The script: a command a line, such as `run`, `key red`, `step 10`, `show`",
+        "The script: a command a line, such as `run`, `key red`, `step 10`, `show`; `-` is standard input",
     )
 }
 
@@ -173,6 +205,15 @@ fn late<'a>(alloc: Global) -> Arg<'a>
 {
     named(alloc, "late", "FILE").help(
         "The scenes whose files come late, a name a line; a line `scene NAME` of the script brings one",
+    )
+}
+
+fn tags<'a>(alloc: Global) -> Arg<'a>
+    ensures rule { rule_of result ≡ spec.tags }
+    ensures local { result.global ≡ false }
+{
+    named(alloc, "tags", "FILE").help(
+        "The tags of the binary notation, a line each, such as `class Scene 31`; where none is given, a tag is the profile's",
     )
 }
 

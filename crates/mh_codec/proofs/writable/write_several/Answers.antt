@@ -15,7 +15,7 @@ returns-in_err-write-clause-limit g c =
 
 pub loop-member-preserved : goal.loop-member-preserved
 loop-member-preserved g c = record {
-  written = more_written g.T.Writable.spelling c.loop-member.out.items c.write.new.out.items c.args.members.now c.loop-member.member-index c.member-item.result (omega arith) c.member-item.is c.in_ok-write.ensures.written
+  written = more_written (g.T.Writable.spelling c.args.tags.now) c.loop-member.out.items c.write.new.out.items c.args.members.now c.loop-member.member-index c.member-item.result (omega arith) c.member-item.is c.in_ok-write.ensures.written
       ∙ c.loop-member.invariant.written;
   fits = more_fits g.T.Writable.is_good c.args.members.now c.loop-member.member-index c.member-item.result (omega arith) c.member-item.is c.in_ok-write.ensures.fits ∙ c.loop-member.invariant.fits;
 }
@@ -26,5 +26,5 @@ returns-clause-fits g c =
 
 pub returns-clause-written : goal.returns-clause-written
 returns-clause-written g c =
-    let none = at_drop_all (several g.T.Writable.spelling) c.args.members.now c.loop-member.member-index c.loop-member-test.false in
+    let none = at_drop_all (several (g.T.Writable.spelling c.args.tags.now)) c.args.members.now c.loop-member.member-index c.loop-member-test.false in
     sym (append-nil c.loop-member.out.items) ∙ ap (λ bs. c.loop-member.out.items ++ bs) (sym none) ∙ c.loop-member.invariant.written

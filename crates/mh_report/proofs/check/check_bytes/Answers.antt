@@ -1,12 +1,11 @@
 use Rattle.mh_report.specs.Played.{Checks, check_unreadable}
 use Rattle.mh_report.proofs.WrittenLemmas.{unreadable_whole, unreadable_cut, failed}
 use Rattle.mh_report.proofs.PlainLemmas.{plain_service}
-use Rattle.mh_report.specs.Reading.{late_of}
 use Rattle.mh_report.proofs.check.check_bytes.Goals as goal
 
 pub judge-requires-clause-plain : goal.judge-requires-clause-plain
 judge-requires-clause-plain g c =
-    plain_service c.args.options.now.start.items (late_of c.args.options.now) c.args.files.now c.in-Ok.service c.in-Ok.ensures
+    plain_service c.args.options.now c.args.files.now c.in-Ok.service c.in-Ok.ensures
 
 pub returns : goal.returns
 returns g c = record {

@@ -3,4 +3,4 @@ use Rattle.mh_report.specs.Reading.{contents}
 use Rattle.mh_report.proofs.contents.read_contents.Given as goal
 
 abbrev pub invariant-loop-file : goal.invariant-loop-file
-invariant-loop-file l = l.found ++ contents l.service (drop l.file-index l.files) ≡ contents l.service l.files
+invariant-loop-file l = l.found ++ contents l.tags l.service (drop l.file-index l.files) ≡ contents l.tags l.service l.files

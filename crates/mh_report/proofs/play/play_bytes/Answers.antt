@@ -1,4 +1,3 @@
-use Rattle.mh_report.specs.Reading.{late_of}
 use Rattle.mh_report.specs.Played.{Plays, play_unreadable}
 use Rattle.mh_report.proofs.WrittenLemmas.{unreadable_whole, unreadable_cut, failed}
 use Rattle.mh_report.proofs.PlainLemmas.{plain_material}
@@ -6,7 +5,7 @@ use Rattle.mh_report.proofs.play.play_bytes.Goals as goal
 
 pub play_ready-requires-clause-plain : goal.play_ready-requires-clause-plain
 play_ready-requires-clause-plain g c =
-    plain_material c.args.options.now.start.items (late_of c.args.options.now) c.args.files.now c.args.script.now c.in-Ok.material c.in-Ok.ensures
+    plain_material c.args.options.now c.args.files.now c.args.script.now c.in-Ok.material c.in-Ok.ensures
 
 pub returns : goal.returns
 returns g c = record {

@@ -1,0 +1,8 @@
+use Rattle.std.proofs.Common.{◌∙◌, sym, arith}
+use Rattle.mh_codec.proofs.LineLemmas.{number_full, read_stuck}
+use Rattle.mh_codec.proofs.tag_line.decimal.Goals as goal
+
+pub returns-in-None : goal.returns-in-None
+returns-in-None c =
+    sym (number_full c.args.digits.now (sym c.is_empty.ensures ∙ c.if-is_empty.false) ∙ sym c.loop-digit.invariant
+    ∙ read_stuck c.loop-digit.number c.args.digits.now c.loop-digit.digit-index (omega arith) (sym c.with_digit.ensures ∙ c.in-None.is))

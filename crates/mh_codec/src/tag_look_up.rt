@@ -1,0 +1,104 @@
+//! Look-ups by a tag. Where a table says of a tag what the profile says, nothing is searched.
+ghost use Rattle.std.specs.Prelude.{◌≡◌, Some, IfSome};
+ghost use Rattle.mh_codec.specs.Tags.{class_with, attribute_with, action_with, value_kind_with};
+
+use crate::tag_table::TagTable;
+use mh_base::{KINDS, Kind};
+use mh_group::action_name::ALL as ACTIONS;
+use mh_group::attribute::ALL as ATTRIBUTES;
+use mh_group::class::ALL as CLASSES;
+use mh_group::{ActionName, Attribute, Class};
+
+impl TagTable {
+    /// The class whose elements have this tag, if there is one.
+    #[tactic(auto, unfolding(crate::specs::Tags::class_with))]
+    pub(crate) fn class_with(&self, tag: u16) -> Option<Class>
+        ensures { result ≡ class_with self.now tag }
+    {
+        if let Some(class) = self.likely_class(tag) {
+            return Some(class);
+        }
+        CLASSES
+            .iter()
+            .copied()
+            .find(|class| self.class_tag(*class) == tag)
+    }
+
+    /// The class that has the tag in the profile, where it has it here too. It saves the search.
+    fn likely_class(&self, tag: u16) -> Option<Class>
+        ensures { IfSome result (λ c. Some c ≡ class_with self.now tag) }
+    {
+        self.is_table();
+        let class = *CLASSES.get(usize::from(tag))?;
+        if self.class_tag(class) == tag {
+            Some(class)
+        } else {
+            None
+        }
+    }
+
+    /// The attribute whose elements have this tag, if there is one.
+    #[tactic(auto, unfolding(crate::specs::Tags::attribute_with))]
+    pub(crate) fn attribute_with(&self, tag: u16) -> Option<Attribute>
+        ensures { result ≡ attribute_with self.now tag }
+    {
+        if let Some(attribute) = self.likely_attribute(tag) {
+            return Some(attribute);
+        }
+        ATTRIBUTES
+            .iter()
+            .copied()
+            .find(|attribute| self.attribute_tag(*attribute) == tag)
+    }
+
+    /// The attribute that has the tag in the profile, where it has it here too.
+    fn likely_attribute(&self, tag: u16) -> Option<Attribute>
+        ensures { IfSome result (λ a. Some a ≡ attribute_with self.now tag) }
+    {
+        self.is_table();
+        let attribute = *ATTRIBUTES.get(usize::from(tag.checked_sub(1)?))?;
+        if self.attribute_tag(attribute) == tag {
+            Some(attribute)
+        } else {
+            None
+        }
+    }
+
+    /// The action whose elements have this tag, if there is one.
+    #[tactic(auto, unfolding(crate::specs::Tags::action_with))]
+    pub(crate) fn action_with(&self, tag: u16) -> Option<ActionName>
+        ensures { result ≡ action_with self.now tag }
+    {
+        if let Some(action) = self.likely_action(tag) {
+            return Some(action);
+        }
+        ACTIONS
+            .iter()
+            .copied()
+            .find(|action| self.action_tag(*action) == tag)
+    }
+
+    /// The action that has the tag in the profile, where it has it here too.
+    fn likely_action(&self, tag: u16) -> Option<ActionName>
+        ensures { IfSome result (λ a. Some a ≡ action_with self.now tag) }
+    {
+        self.is_table();
+        let action = *ACTIONS.get(usize::from(tag.checked_sub(100)?))?;
+        if self.action_tag(action) == tag {
+            Some(action)
+        } else {
+            None
+        }
+    }
+
+    /// The kind of the values that stand behind this tag, if there is one.
+    #[tactic(auto, unfolding(crate::specs::Tags::value_kind_with))]
+    pub(crate) fn value_kind_with(&self, tag: u16) -> Option<Kind>
+        ensures { result ≡ value_kind_with self.now tag }
+    {
+        KINDS
+            .iter()
+            .copied()
+            .find(|kind| self.value_tag(*kind) == tag)
+    }
+}

@@ -1,8 +1,0 @@
-use Rattle.std.specs.Prelude.{codes}
-use Rattle.std.proofs.Common.{sym}
-use Rattle.clap.specs.Words.{found_of}
-use Rattle.redplay.proofs.CommandLemmas.{lent}
-use Rattle.redplay.proofs.command_line.late_of.Goals as goal
-
-pub returns : goal.returns
-returns c = sym (lent (found_of c.args.given.now) (codes "late") c.get_str.result c.get_str.ensures)
