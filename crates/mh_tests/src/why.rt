@@ -8,20 +8,37 @@ use crate::playing::{File, outcome, sources};
 use mh_look::{Known, NamedFile, ways_of, why};
 use std::alloc::Global;
 
-/// What is explained of an output, where these are the files, and this script was played.
+/// A file that is named, with its bytes, if it is there.
+fn named<'a>(name: &'a str, bytes: &'a Option<Vec<u8>>) -> Option<NamedFile<'a>> {
+    match bytes {
+        Some(bytes) => Some(NamedFile {
+            name: name.as_bytes(),
+            bytes: bytes.as_slice(),
+        }),
+        None => None,
+    }
+}
+
+/// What is explained of an output, where these are the files, this file gives tags, and this script was played.
 pub fn explanation(
     alloc: Global,
     output: &[u8],
-    files: &[File],
-    script: Option<NamedFile<'_>>,
+    files: Vec<File>,
+    tags: Option<Vec<u8>>,
+    script: Option<Vec<u8>>,
 ) -> Option<Vec<u8>> {
-    let ways = ways_of(alloc, None, files, b"a", None).ok()?;
+    let late = None;
+    let lines = tags.as_ref().map(|bytes| bytes.as_slice());
+    let ways = ways_of(alloc, lines, files.as_slice(), b"a", None).ok()?;
     let known = Known {
-        files,
-        ways: ways.as_ref().map_or(&[], |ways| ways.as_slice()),
-        late: None,
-        tags: None,
-        script,
+        files: files.as_slice(),
+        ways: match &ways {
+            Some(ways) => ways.as_slice(),
+            None => &[],
+        },
+        late: named("late", &late),
+        tags: named("tags", &tags),
+        script: named("script", &script),
     };
     let text = why(alloc, &known, output).ok()?;
     Vec::from_slice(alloc, text.as_slice()).ok()
@@ -36,13 +53,9 @@ fn script(alloc: Global, task: &str) -> Option<Vec<u8>> {
 /// What is explained of what is written where this is done with the files.
 fn told(alloc: Global, task: &str, files: &str) -> Option<Vec<u8>> {
     let output = outcome(alloc, task, files)?;
-    let bytes = script(alloc, task)?;
-    let script = NamedFile {
-        name: b"script",
-        bytes: bytes.as_slice(),
-    };
+    let script = script(alloc, task)?;
     let files = sources(alloc, files)?;
-    explanation(alloc, output.as_slice(), files.as_slice(), Some(script))
+    explanation(alloc, output.as_slice(), files, None, Some(script))
 }
 
 /// A task, as a block tells it, and what is explained of it.
@@ -64,7 +77,7 @@ impl Question for Lines {
         let (output, files) = asked.split_once('@').unwrap_or((asked, "x nothing"));
         let output = bytes(alloc, output.trim_end())?;
         let files = sources(alloc, files)?;
-        explanation(alloc, output.as_slice(), files.as_slice(), None)
+        explanation(alloc, output.as_slice(), files, None, None)
     }
 }
 
@@ -682,18 +695,7 @@ impl Question for Tagged {
         let tags = bytes(alloc, tags)?;
         let output = bytes(alloc, output)?;
         let files = sources(alloc, OCTETS)?;
-        let known = Known {
-            files: files.as_slice(),
-            ways: &[],
-            late: None,
-            tags: Some(NamedFile {
-                name: b"tags",
-                bytes: tags.as_slice(),
-            }),
-            script: None,
-        };
-        let text = why(alloc, &known, output.as_slice()).ok()?;
-        Vec::from_slice(alloc, text.as_slice()).ok()
+        explanation(alloc, output.as_slice(), files, Some(tags), None)
     }
 }
 

@@ -46,7 +46,7 @@ fn tells(
     let (files, script) = files.zip(script)?;
     let script = str::from_utf8(script.as_slice()).ok()?;
     let output = played(alloc, files.as_slice(), ("a", script, true, DAY))?;
-    let told = explanation(alloc, output.as_slice(), files.as_slice(), None)?;
+    let told = explanation(alloc, output.as_slice(), files, None, None)?;
     Some(told.as_slice() == wanted.as_bytes())
 }
 
