@@ -6,9 +6,11 @@ ghost use Rattle.std.specs.Cmp.Lexicographic.{pointwise, nat_list_eq_equiv};
 ghost use Rattle.std.specs.Cmp.{partial_equiv_from_equiv};
 ghost use Rattle.std.specs.Cmp.Rules.{hashing};
 ghost use Rattle.std.proofs.Common.{rules};
+ghost use Rattle.mh_base.specs.Mixing.{mixed as mixed_lem};
 ghost use Rattle.mh_base.specs.Path.{is_path, led_to, folder_of, is_name_byte, is_part, has_good_parts, behind_slashes, folder_of as folder_of_lem};
 
 use crate::NameError;
+use crate::mixing::{are_same_bytes, mixed};
 use std::alloc::{AllocError, Global};
 use std::fmt;
 use std::hash::{Hash, Hasher};
@@ -22,7 +24,48 @@ pub const LONGEST_PATH: usize = 255;
 /// single slashes. Copies share one piece of memory. A contract sees the bytes of the path.
 #[derive(Drop)]
 pub struct GroupName {
-    path: Rc<Vec<u8>>,
+    path: Rc<Path>,
+}
+
+/// The bytes of a path, and the word that is mixed from them: most names that differ are told apart by it alone.
+#[derive(Drop)]
+struct Path {
+    word: u64,
+    bytes: Vec<u8>,
+}
+
+impl Model for Path {
+    ghost use Rattle.std.specs.Prelude.{ℕ, List, ◌≡◌};
+    ghost use Rattle.mh_base.specs.Mixing.{mixed};
+
+    ghost Value = { List ℕ };
+
+    ghost view = { λ p. p.bytes.items };
+
+    ghost invariant = { λ p. p.word ≡ mixed p.bytes.items };
+}
+
+impl Path {
+    fn new(bytes: Vec<u8>) -> Path
+        ensures { result ≡ bytes.items }
+    {
+        Path {
+            word: mixed(bytes.as_slice()),
+            bytes,
+        }
+    }
+
+    fn word(&self) -> u64
+        ensures { result ≡ mixed_lem self.now }
+    {
+        self.word
+    }
+
+    fn as_bytes(&self) -> &[u8]
+        ensures { result.now ≡ self.now }
+    {
+        self.bytes.as_slice()
+    }
 }
 
 impl Model for GroupName {
@@ -31,9 +74,9 @@ impl Model for GroupName {
 
     ghost Value = { List ℕ };
 
-    ghost view = { λ n. n.path.value.items };
+    ghost view = { λ n. n.path.value };
 
-    ghost invariant = { λ n. is_path n.path.value.items ≡ true };
+    ghost invariant = { λ n. is_path n.path.value ≡ true };
 }
 
 impl GroupName {
@@ -70,7 +113,14 @@ impl GroupName {
         ensures value { result.now ≡ self.now }
         ensures path { is_path self.now ≡ true }
     {
-        self.path.as_ref().as_slice()
+        self.path.as_ref().as_bytes()
+    }
+
+    /// The word that is mixed from the path.
+    fn word(&self) -> u64
+        ensures { result ≡ mixed_lem self.now }
+    {
+        self.path.as_ref().word()
     }
 
     /// The path of a relative name: behind the folder of this group.
@@ -92,7 +142,7 @@ impl GroupName {
         ensures found { IfOk result (λ name. name ≡ path.items) }
         ensures only { ¬ (IsErrOf result NameError.BadName) }
     {
-        match Rc::new(alloc, path) {
+        match Rc::new(alloc, Path::new(path)) {
             Ok(path) => Ok(GroupName { path }),
             Err(_) => Err(NameError::NoMemory),
         }
@@ -188,7 +238,7 @@ impl PartialEq for GroupName {
     ghost laws = { partial_equiv_from_equiv nat_list_eq_equiv };
 
     fn eq(&self, other: &GroupName) -> bool {
-        self.as_bytes() == other.as_bytes()
+        self.word() == other.word() && are_same_bytes(self.as_bytes(), other.as_bytes())
     }
 }
 
@@ -197,12 +247,12 @@ impl Eq for GroupName {
 }
 
 impl Hash for GroupName {
-    ghost hash_input = { fed.slice fed.u8 };
+    ghost hash_input = { λ name. fed.u64 (mixed_lem name) };
 
     ghost respects_eq = { Prim.search (hashing, rules) };
 
     fn hash<H: Hasher>(&self, state: &mut H) {
-        self.as_bytes().hash(state);
+        self.word().hash(state);
     }
 }
 

@@ -1,5 +1,5 @@
 //! `Seq`: a list that contracts see as a list.
-ghost use Rattle.std.specs.Prelude.{◌≡◌, ◌==◌, ◌++◌, ◌∷◌, [], length, OnOk, OnErr};
+ghost use Rattle.std.specs.Prelude.{◌≡◌, ◌==◌, ◌++◌, ◌∷◌, [], length, IfOk, OnOk, OnErr};
 
 use std::alloc::{AllocError, Global};
 use std::marker::Model;
@@ -29,6 +29,15 @@ impl<T> Seq<T> {
         Seq {
             vector: Vec::new(alloc),
         }
+    }
+
+    /// A list with no member, and with room for so many.
+    pub fn with_capacity(alloc: Global, capacity: usize) -> Result<Self, AllocError>
+        ensures { IfOk result (λ list. list ≡ []) }
+    {
+        Ok(Seq {
+            vector: Vec::with_capacity(alloc, capacity)?,
+        })
     }
 
     /// The members of a vector, which it takes over as they lie.

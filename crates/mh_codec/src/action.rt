@@ -44,7 +44,7 @@ fn parameters<'a>(
 ) -> Result<(Seq<Parameter>, Reader<'a>), CodecError>
     ensures { Gives (λ x. x) result (parameters tags.now optional needs.now [] reader.entry) }
 {
-    let mut parameters = Seq::new(alloc);
+    let mut parameters = Seq::with_capacity(alloc, needs.len())?;
     let mut reader = reader;
     let mut needs = needs;
     while let [need, others @ ..] = needs {

@@ -22,13 +22,10 @@ pub(crate) fn read_lines(alloc: Global, bytes: &[u8]) -> Result<Vec<NamedTag>, T
         number += 1;
         match line_of(line) {
             TagLine::Skipped => {}
-            TagLine::Names(one) => {
-                if is_named(named.as_slice(), one.context, one.number) {
-                    return Err(TagError::Line(number));
-                }
+            TagLine::Names(one) if !is_named(named.as_slice(), one.context, one.number) => {
                 named.push(one)?;
             }
-            TagLine::Wrong => return Err(TagError::Line(number)),
+            _ => return Err(TagError::Line(number)),
         }
         rest = behind;
     }

@@ -110,16 +110,14 @@ fn same_list<T: Same>(first: &[T], second: &[T]) -> bool
     let mut left = first;
     let mut right = second;
     while let [x, more @ ..] = left {
-        match right {
-            [y, rest @ ..] => {
-                if !x.is_same(y) {
-                    return false;
-                }
-                right = rest;
-            }
-            _ => return false,
+        let [y, rest @ ..] = right else {
+            return false;
+        };
+        if !x.is_same(y) {
+            return false;
         }
         left = more;
+        right = rest;
     }
     right.is_empty()
 }

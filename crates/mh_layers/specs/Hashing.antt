@@ -7,6 +7,7 @@ use Rattle.std.proofs.Common.{ap, sym, subst}
 use Rattle.std.proofs.lemmas.Bool.{false≢true}
 use Rattle.std.proofs.lemmas.Bool.Decides.{Decides-int_eq, Decides-eqb}
 use Rattle.std.proofs.lemmas.Slice.Eq.{bytes_eq-Decides}
+use Rattle.mh_base.specs.Mixing.{mixed}
 use Rattle.mh_base.specs.declared.value.Value.{Value}
 use Rattle.mh_base.specs.declared.value.Value.TheVariants as value
 use Rattle.mh_model.specs.Variables.{same_value}
@@ -16,8 +17,8 @@ abbrev pub hash_words : Value → List (List ℕ)
 hash_words (value.Bool b) = fed.bool b
 hash_words (value.Int n) = fed.i32 n
 hash_words (value.Octets os) = fed.slice fed.u8 os
-hash_words (value.Object r) = fed.u32 r.number ++ fed.slice fed.u8 r.group
-hash_words (value.Content g) = fed.slice fed.u8 g
+hash_words (value.Object r) = fed.u32 r.number ++ fed.u64 (mixed r.group)
+hash_words (value.Content g) = fed.u64 (mixed g)
 
 -- values are the same or not
 pub value_one : (a b : Value) → same_value a b ≡ true → a ≡ b

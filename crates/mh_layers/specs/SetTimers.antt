@@ -10,6 +10,7 @@ use Rattle.std.specs.Cmp.Lexicographic.{nat_list_eq_equiv}
 use Rattle.std.proofs.Common.{ap, sym, subst}
 use Rattle.std.proofs.lemmas.Bool.Decides.{Decides-int_eq}
 use Rattle.std.proofs.lemmas.Slice.Eq.{bytes_eq-Decides}
+use Rattle.mh_base.specs.Mixing.{mixed}
 use Rattle.mh_base.specs.declared.obj_ref.ObjRef.{ObjRef}
 use Rattle.mh_model.specs.declared.act.Act.{Act}
 use Rattle.mh_model.specs.declared.act.Target.{Target}
@@ -24,7 +25,7 @@ use Rattle.mh_laws.specs.Flow.{Flow}
 use Rattle.mh_flow.specs.Solved.{held_by}
 
 abbrev pub timer_fed : TimerKey → List (List ℕ)
-timer_fed t = fed.slice fed.u8 t.0 ++ fed.i32 t.1
+timer_fed t = fed.u64 (mixed t.0) ++ fed.i32 t.1
 
 -- timers are the same or not
 pub timer_one : (x y : TimerKey) → same_timer x y ≡ true → x ≡ y

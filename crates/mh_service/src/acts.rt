@@ -23,7 +23,7 @@ pub(crate) fn effect(
     ensures { Gives (λ x. x) result (map (act_of from.now) actions.now)
         (list_all (act_leads from.now) actions.now) }
 {
-    let mut acts = Seq::new(alloc);
+    let mut acts = Seq::with_capacity(alloc, actions.len())?;
     for action in actions {
         acts.push(act(alloc, from, action)?)?;
     }
@@ -60,7 +60,7 @@ fn arguments(
     ensures { Gives (λ x. x) result (flat_map (arguments_of from.now) parameters.now)
         (list_all (parameter_leads from.now) parameters.now) }
 {
-    let mut arguments = Seq::new(alloc);
+    let mut arguments = Seq::with_capacity(alloc, parameters.len())?;
     for parameter in parameters {
         push_arguments(alloc, from, parameter, &mut arguments)?;
     }

@@ -27,7 +27,8 @@ pub fn parts(
 {
     let itself = part(alloc, name, 0, written.class, written.fields.as_slice())?;
     let ingredients = group::items(written);
-    let mut parts = Seq::new(alloc);
+    // The group itself stands in front.
+    let mut parts = Seq::with_capacity(alloc, ingredients.len().saturating_add(1))?;
     parts.push(itself)?;
     for ingredient in ingredients {
         parts.push(ingredient_part(alloc, name, ingredient)?)?;
@@ -77,7 +78,7 @@ fn properties(alloc: Global, from: &GroupName, fields: &[Field]) -> Result<Prope
     ensures { Gives (λ x. x) result (map (property_of from.now) fields.now)
         (list_all (field_leads from.now) fields.now) }
 {
-    let mut properties = Seq::new(alloc);
+    let mut properties = Seq::with_capacity(alloc, fields.len())?;
     for field in fields {
         properties.push(property(alloc, from, field)?)?;
     }
@@ -128,7 +129,7 @@ fn held_members(
     ensures { Gives (λ x. x) result (map (member_of from.now) written.now)
         (list_all (member_leads from.now) written.now) }
 {
-    let mut members = Seq::new(alloc);
+    let mut members = Seq::with_capacity(alloc, written.len())?;
     for one in written {
         members.push(member(alloc, from, one)?)?;
     }
@@ -152,7 +153,7 @@ fn slots(
     ensures { Gives (λ x. x) result (map (map (act_of from.now)) written.now)
         (slots_lead from.now written.now) }
 {
-    let mut slots = Seq::new(alloc);
+    let mut slots = Seq::with_capacity(alloc, written.len())?;
     for slot in written {
         slots.push(effect(alloc, from, slot.as_slice())?)?;
     }

@@ -64,7 +64,7 @@ fn parameters<'a>(
 ) -> Result<(Seq<Parameter>, Place<'a>), TextError>
     ensures { Gives (λ x. x) result (parameters optional needs.now [] place.entry) }
 {
-    let mut parameters = Seq::new(alloc);
+    let mut parameters = Seq::with_capacity(alloc, needs.len())?;
     let mut place = place;
     for (at, need) in needs.iter().enumerate() {
         let (piece, behind) = place.next()?;

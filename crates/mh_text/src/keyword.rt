@@ -5,7 +5,7 @@ ghost use Rattle.std.specs.Prelude.{◌≡◌, Some, true};
 ghost use Rattle.mh_text.specs.Signs.{name_sign, mark_sign};
 
 use crate::sign::Sign;
-use mh_base::Kind;
+use mh_base::{Kind, are_same_bytes};
 use mh_group::{ActionName, Attribute, Class};
 
 const CONTENT_REF: &[u8] = b"ContentRef";
@@ -216,12 +216,12 @@ fn is_named(sign: Sign, name: &[u8]) -> bool
     ensures { result ≡ true → name_sign name.now ≡ Some sign }
 {
     match sign {
-        Sign::Class(class) => class.word() == name,
-        Sign::Attribute(attribute) => attribute.word() == name,
-        Sign::Action(action) => action.word() == name,
-        Sign::Kind(kind) => mh_group::kind_word(kind) == name,
-        Sign::ContentRef => CONTENT_REF == name,
-        Sign::IndirectRef => INDIRECT_REF == name,
+        Sign::Class(class) => are_same_bytes(class.word(), name),
+        Sign::Attribute(attribute) => are_same_bytes(attribute.word(), name),
+        Sign::Action(action) => are_same_bytes(action.word(), name),
+        Sign::Kind(kind) => are_same_bytes(mh_group::kind_word(kind), name),
+        Sign::ContentRef => are_same_bytes(CONTENT_REF, name),
+        Sign::IndirectRef => are_same_bytes(INDIRECT_REF, name),
         _ => false,
     }
 }
