@@ -11,7 +11,6 @@ use Rattle.mh_model.specs.declared.member.Member.{Member}
 use Rattle.mh_model.specs.declared.object.Fixed.{Fixed}
 use Rattle.mh_model.specs.Arguments.{receivers}
 use Rattle.mh_model.specs.Property.{value_held, as_reference}
-use Rattle.mh_model.specs.Reference.{same_ref}
 use Rattle.mh_model.specs.Service.{fresh}
 use Rattle.mh_model.specs.Tokens.{members}
 use Rattle.mh_laws.specs.Flow.{refers}
@@ -25,31 +24,31 @@ any_append {X} p (x ∷ xs) ys = by (p x) (any_append p xs ys)
     by true ih = refl
     by false ih = ih
 
-by_value : (q : ObjRef) (b : Bool) (o : Option ObjRef) → option_map_or (same_ref q) (if b then o else None) false ≡ list_any (same_ref q) (if b then option_to_list o else [])
-by_value q false o = refl
-by_value q true None = refl
-by_value q true (Some r) = or_false (same_ref q r)
+by_value : (t : ObjRef → Bool) (b : Bool) (o : Option ObjRef) → option_map_or t (if b then o else None) false ≡ list_any t (if b then option_to_list o else [])
+by_value t false o = refl
+by_value t true None = refl
+by_value t true (Some r) = or_false (t r)
   where
     or_false : (b : Bool) → b ≡ (b || false)
     or_false true = refl
     or_false false = refl
 
-by_members : (q : ObjRef) (ms : List Member) → list_any (λ (m : Member). same_ref q m.object) ms ≡ list_any (same_ref q) (map (λ (m : Member). m.object) ms)
-by_members q [] = refl
-by_members q (m ∷ ms) = ap (λ (b : Bool). same_ref q m.object || b) (by_members q ms)
+by_members : (t : ObjRef → Bool) (ms : List Member) → list_any (λ (m : Member). t m.object) ms ≡ list_any t (map (λ (m : Member). m.object) ms)
+by_members t [] = refl
+by_members t (m ∷ ms) = ap (λ (b : Bool). t m.object || b) (by_members t ms)
 
-by_items : (q : ObjRef) (b : Bool) (ms : List Member) → list_any (λ (m : Member). same_ref q m.object) (if b then ms else []) ≡ list_any (same_ref q) (if b then map (λ (m : Member). m.object) ms else [])
-by_items q false ms = refl
-by_items q true ms = by_members q ms
+by_items : (t : ObjRef → Bool) (b : Bool) (ms : List Member) → list_any (λ (m : Member). t m.object) (if b then ms else []) ≡ list_any t (if b then map (λ (m : Member). m.object) ms else [])
+by_items t false ms = refl
+by_items t true ms = by_members t ms
 
-first_held : (q : ObjRef) (p : Fixed) → (option_map_or (same_ref q) (first_value p) false || list_any (λ m. same_ref q m.object) (first_items p)) ≡ list_any (same_ref q) (firsts p)
-first_held q p =
-    (λ i. by_value q (refers p.class) (as_reference (value_held p (fresh p).body)) i || by_items q (is_list_group p.class) (members p) i)
-    ∙ sym (any_append (same_ref q) (if refers p.class then option_to_list (as_reference (value_held p (fresh p).body)) else []) (if is_list_group p.class then map (λ m. m.object) (members p) else []))
+first_held : (t : ObjRef → Bool) (p : Fixed) → (option_map_or t (first_value p) false || list_any (λ m. t m.object) (first_items p)) ≡ list_any t (firsts p)
+first_held t p =
+    (λ i. by_value t (refers p.class) (as_reference (value_held p (fresh p).body)) i || by_items t (is_list_group p.class) (members p) i)
+    ∙ sym (any_append t (if refers p.class then option_to_list (as_reference (value_held p (fresh p).body)) else []) (if is_list_group p.class then map (λ m. m.object) (members p) else []))
 
--- where no value is the reference, a member may be
-pub no_value : (q : ObjRef) (p : Fixed) → option_map_or (same_ref q) (first_value p) false ≡ false → list_any (λ m. same_ref q m.object) (first_items p) ≡ list_any (same_ref q) (firsts p)
-no_value q p h = ap (λ (b : Bool). b || list_any (λ (m : Member). same_ref q m.object) (first_items p)) (sym h) ∙ first_held q p
+-- where no value passes, a member may
+pub no_value : (t : ObjRef → Bool) (p : Fixed) → option_map_or t (first_value p) false ≡ false → list_any (λ m. t m.object) (first_items p) ≡ list_any t (firsts p)
+no_value t p h = ap (λ (b : Bool). b || list_any (λ (m : Member). t m.object) (first_items p)) (sym h) ∙ first_held t p
 
 -- one argument, and then the others
 pub one_receiver : {X : Type 0} (f : ObjRef → List X) (x : Argument) (xs : List Argument) → flat_map f (receivers (x ∷ [])) ++ flat_map f (receivers xs) ≡ flat_map f (receivers (x ∷ xs))

@@ -32,3 +32,5 @@ pub mod ChainNumberLemmas
 pub mod ChainGraphLemmas
 pub mod ChainHoldLemmas
 pub mod ChainExactLemmas
+pub mod OriginLemmas
+pub mod NearestLemmas

@@ -18,7 +18,7 @@ pub order_total : IsTotalOrder by_reference
 order_total = then_total (on_total (λ (r : ObjRef). r.group) nat_list_cmp_total) (on_total (λ (r : ObjRef). r.number) nat_cmp_total)
 
 -- neither is before the other only where both are one
-level_same : (q r : ObjRef) → by_reference q r ≡ Equal → same_ref q r ≡ true
+pub level_same : (q r : ObjRef) → by_reference q r ≡ Equal → same_ref q r ≡ true
 level_same q r h = by (slice_cmp nat_cmp q.group r.group) refl h
   where
     by : (a : Ordering) → slice_cmp nat_cmp q.group r.group ≡ a → ordering_then a (nat_cmp q.number r.number) ≡ Equal → same_ref q r ≡ true

@@ -1,5 +1,6 @@
 -- Chains say what is derived: where a variable or a list may hold a reference there is a chain, and only there.
 use Rattle.std.specs.Prelude.{List}
+use Rattle.std.specs.List.{Contains}
 use Rattle.mh_base.specs.declared.obj_ref.ObjRef.{ObjRef}
 use Rattle.mh_model.specs.declared.config.Config.{Config}
 use Rattle.mh_model.specs.Service.{Service}
@@ -21,13 +22,13 @@ WhatIsHeldIsBrought =
     (v : Service) (q : ObjRef) (c : Config) (r : ObjRef) → Derived v (Held c r q) →
     (ls : List Link) × Brings v q ls c r
 
--- In an exact flow the moves of a reference are what brings it.
+-- In an exact flow the moves of references are what brings one of them.
 abbrev pub MovesBring : Type 0
 MovesBring =
-    (v : Service) (w : Flow) → IsExact v w → (q : ObjRef) (ls : List Link) (p : Place) →
-    Follows (moves_of v w q) ls p → Brings v q ls p.config p.at
+    (v : Service) (w : Flow) → IsExact v w → (qs : List ObjRef) (ls : List Link) (p : Place) →
+    Follows (moves_of v w qs) ls p → (q : ObjRef) × Contains qs q × Brings v q ls p.config p.at
 
 abbrev pub WhatBringsMoves : Type 0
 WhatBringsMoves =
-    (v : Service) (w : Flow) → IsExact v w → (q : ObjRef) (ls : List Link) (c : Config) (r : ObjRef) →
-    Brings v q ls c r → Follows (moves_of v w q) ls (place c r)
+    (v : Service) (w : Flow) → IsExact v w → (qs : List ObjRef) (q : ObjRef) → Contains qs q →
+    (ls : List Link) (c : Config) (r : ObjRef) → Brings v q ls c r → Follows (moves_of v w qs) ls (place c r)

@@ -14,3 +14,5 @@ pub mod Moves
 pub mod Steps
 pub mod Routes
 pub mod ChainLaws
+pub mod Origins
+pub mod Nearest

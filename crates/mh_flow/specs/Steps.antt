@@ -1,5 +1,6 @@
--- The moves of a reference: where it is at first or is written, and where actions take it, in all configurations that
--- are reached.
+-- The moves of references: where they are at first or are written, and where actions take them, in all configurations
+-- that are reached. Only where a move comes from nowhere does it matter which reference it brings: from there on each
+-- move takes along whatever is held.
 use Rattle.std.specs.Prelude.{◌≡◌, Bool, true, ◌&&◌, if◌then◌else◌, ℕ, List, [], ◌∷◌, ◌++◌, Option, Some, None}
 use Rattle.std.specs.List.{Contains, flat_map, list_any}
 use Rattle.std.specs.Option.{option_to_list}
@@ -34,7 +35,7 @@ first_spot p = record { key = p.key; index = 0 }
 abbrev pub site_spot : Site → Spot
 site_spot x = record { key = x.key; index = x.index }
 
--- the reference comes from nowhere; from a place; and stays with what holds it
+-- a reference comes from nowhere; from a place; and stays with what holds it
 
 abbrev pub comes : Spot → Place → Move
 comes s p = record { from = None; spot = Some s; to = p }
@@ -45,42 +46,46 @@ goes o s p = record { from = Some o; spot = Some s; to = p }
 abbrev pub stays : Place → Place → Move
 stays o p = record { from = Some o; spot = None; to = p }
 
--- A configuration that is reached, with what is present there, the sets that it has, and the reference that is sought.
+-- the reference is one of these
+abbrev pub is_one_of : List ObjRef → ObjRef → Bool
+is_one_of qs q = list_any (same_ref q) qs
+
+-- A configuration that is reached, with what is present there, the sets that it has, and the references that are sought.
 pub record Ground : Type 0 where
   pub service : Service
   pub config : Config
   pub present : List Fixed
   pub sets : Sets
-  pub sought : ObjRef
+  pub sought : List ObjRef
 
 -- with what is known there
-abbrev pub ground_of : Service → Config → List Fixed → Known → ObjRef → Ground
-ground_of v c ps k q = record { service = v; config = c; present = ps; sets = k.refers; sought = q }
+abbrev pub ground_of : Service → Config → List Fixed → Known → List ObjRef → Ground
+ground_of v c ps k qs = record { service = v; config = c; present = ps; sets = k.refers; sought = qs }
 
 -- a place there
 abbrev pub there : Ground → ObjRef → Place
 there g r = place g.config r
 
--- what holds the reference there
+-- what holds one of them there
 abbrev pub holds : Ground → ObjRef → Bool
-holds g r = has g.sets r g.sought
+holds g r = list_any (is_one_of g.sought) (g.sets r)
 
--- the object has the reference at first
+-- the object has one of them at first
 abbrev pub first_moves : Ground → Fixed → List Move
 first_moves g p =
-    if list_any (same_ref g.sought) (firsts p) then comes (first_spot p) (there g p.key) ∷ [] else []
+    if list_any (is_one_of g.sought) (firsts p) then comes (first_spot p) (there g p.key) ∷ [] else []
 
 -- Actions. Each function says what the action at a site does where its target comes to an object.
 
--- it writes a reference there; it hands on what a variable holds
+-- it writes one of them there; it hands on what a variable holds
 abbrev pub written_moves : Ground → Site → ObjRef → ObjRef → List Move
-written_moves g x r y = if same_ref g.sought y then comes (site_spot x) (there g r) ∷ [] else []
+written_moves g x r y = if is_one_of g.sought y then comes (site_spot x) (there g r) ∷ [] else []
 
 abbrev pub read_moves : Ground → Site → ObjRef → ObjRef → List Move
 read_moves g x r y =
     if is_reference_in g.present y && holds g y then goes (there g y) (site_spot x) (there g r) ∷ [] else []
 
--- the argument brings the reference to the object
+-- the argument brings one of them to the object
 abbrev pub handed_moves : Ground → Site → ObjRef → Argument → List Move
 handed_moves g x r (argument.Direct (value.Object y)) = written_moves g x r y
 handed_moves g x r (argument.Direct y) = []
@@ -102,7 +107,7 @@ filled_moves g x r =
     if fills x.act.name && is_list_in g.present r && holds g r
     then flat_map (received_moves g x r) (receivers x.act.arguments) else []
 
--- the object takes the reference along, if it holds it
+-- the object takes along what it holds of them
 abbrev pub kept_moves : Ground → Config → Fixed → List Move
 kept_moves g d p = if holds g p.key then stays (there g p.key) (place d p.key) ∷ [] else []
 
@@ -131,11 +136,11 @@ site_moves g x = flat_map (done_moves g x) (targets g.present g.sets x.act.targe
 abbrev pub moves_in : Ground → List Move
 moves_in g = flat_map (first_moves g) g.present ++ flat_map (site_moves g) (sites_of g.present)
 
-abbrev pub ground : Service → Flow → ObjRef → Config → Ground
-ground v w q c = record { service = v; config = c; present = present v c; sets = w.sets c; sought = q }
+abbrev pub ground : Service → Flow → List ObjRef → Config → Ground
+ground v w qs c = record { service = v; config = c; present = present v c; sets = w.sets c; sought = qs }
 
-abbrev pub moves_of : Service → Flow → ObjRef → List Move
-moves_of v w q = flat_map (λ c. moves_in (ground v w q c)) w.configs
+abbrev pub moves_of : Service → Flow → List ObjRef → List Move
+moves_of v w qs = flat_map (λ c. moves_in (ground v w qs c)) w.configs
 
 -- the flow has what is derived, and nothing else
 pub record IsExact (v : Service) (w : Flow) : Type 0 where

@@ -13,23 +13,25 @@ use crate::known::KnownWith;
 use crate::link::Link;
 use crate::moves::Move;
 use crate::search::first_links;
+use crate::sought::alone;
 use crate::steps::{Ground, place};
+use indexmap::IndexSet;
 use mh_base::ObjRef;
 use mh_model::Config;
 use std::alloc::{AllocError, Global};
 
-/// The moves of the reference in the configuration go behind these.
+/// The moves of what is sought in the configuration go behind these.
 fn push_config<'a>(
     alloc: Global,
     moves: &mut Vec<Move>,
     service: &'a Equipped<'a>,
     flow: &'a Flow,
     config: &'a Config,
-    sought: &'a ObjRef,
+    sought: &'a IndexSet<ObjRef>,
 ) -> Result<(), AllocError>
     requires { IsFlowOf service.now flow.now }
     ensures { let w = flow_of service.now flow.now.chart flow.now.rows in
-        OnOk result (moves.new.items ≡ moves.old.items ++ moves_in (ground service.now w sought.now config.now)) }
+        OnOk result (moves.new.items ≡ moves.old.items ++ moves_in (ground service.now w sought.now.keys config.now)) }
 {
     let present = flow.present(service, config);
     let held = flow.held(alloc, service, config)?;
@@ -49,16 +51,16 @@ fn push_config<'a>(
     Ok(())
 }
 
-/// All moves of the reference.
-fn moves_of(
+/// All moves of what is sought.
+pub(crate) fn moves_of(
     alloc: Global,
     service: &Equipped<'_>,
     flow: &Flow,
-    sought: &ObjRef,
+    sought: &IndexSet<ObjRef>,
 ) -> Result<Vec<Move>, AllocError>
     requires { IsFlowOf service.now flow.now }
     ensures { let w = flow_of service.now flow.now.chart flow.now.rows in
-        IfOk result (λ moves. moves.items ≡ moves_of service.now w sought.now) }
+        IfOk result (λ moves. moves.items ≡ moves_of service.now w sought.now.keys) }
 {
     let configs = flow.configs(alloc)?;
     let mut moves = Vec::new(alloc);
@@ -84,7 +86,8 @@ pub fn chain(
     ensures none { IfOk result (λ found. IfNone found
         (Derived service.now (Held config.now holder.now at.now) → ⊥)) }
 {
-    let moves = moves_of(alloc, service, flow, at)?;
+    let sought = alone(alloc, at)?;
+    let moves = moves_of(alloc, service, flow, &sought)?;
     let goal = place(config, holder)?;
     first_links(alloc, moves.as_slice(), &goal)
 }

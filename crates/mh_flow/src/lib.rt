@@ -3,7 +3,7 @@
 //!
 //! Promise: the flow is the least solution; the actions that can come to be done in a configuration are one list, each
 //! at its place, in written order; and a chain tells how a reference came to a variable or a list, the first of the
-//! shortest. What is wrong with an action is left to the crates above.
+//! shortest, and `nearest_of` the first of several references. What is wrong with an action is left to the crates above.
 #![tactic(auto)]
 
 mod bits;
@@ -19,9 +19,11 @@ mod known;
 mod law;
 mod link;
 mod moves;
+pub mod nearest;
 mod net;
 mod numbering;
 mod opening;
+mod origins;
 mod place;
 mod present;
 mod references;
@@ -30,6 +32,7 @@ mod rows;
 mod search;
 mod sets;
 pub mod sites;
+mod sought;
 mod steps;
 
 pub use equipped::Equipped;

@@ -61,7 +61,7 @@ fn is_object(kind: Kind) -> bool
 
 /// Puts a reference among these, if it is not there.
 #[tactic(auto, using(crate::proofs::ChartLemmas::insert_reference))]
-fn put(references: &mut IndexSet<ObjRef>, at: &ObjRef) -> Result<(), AllocError>
+pub(crate) fn put(references: &mut IndexSet<ObjRef>, at: &ObjRef) -> Result<(), AllocError>
     ensures { OnOk result (references.new.keys ≡ spec.with_reference references.old.keys at.now) }
 {
     references.insert(at.clone()?)?;
@@ -122,7 +122,7 @@ fn put_members(held: &mut IndexSet<ObjRef>, members: &[Member]) -> Result<(), Al
 
 /// Puts what an object holds at first among these.
 #[tactic(auto, using(crate::proofs::ChartLemmas::firsts_put))]
-fn put_firsts(held: &mut IndexSet<ObjRef>, part: &Fixed) -> Result<(), AllocError>
+pub(crate) fn put_firsts(held: &mut IndexSet<ObjRef>, part: &Fixed) -> Result<(), AllocError>
     ensures { OnOk result (held.new.keys ≡ spec.with_references held.old.keys (spec.firsts part.now)) }
 {
     put_some(held, first_value(part))?;
@@ -142,7 +142,7 @@ fn written(argument: Option<&Argument>) -> Option<&ObjRef>
 
 /// Puts the reference among these that the action hands on, if one is written there.
 #[tactic(auto, using(crate::proofs::ChartLemmas::handed_once))]
-fn put_handed(held: &mut IndexSet<ObjRef>, act: &Act) -> Result<(), AllocError>
+pub(crate) fn put_handed(held: &mut IndexSet<ObjRef>, act: &Act) -> Result<(), AllocError>
     ensures { OnOk result (held.new.keys ≡ spec.with_references held.old.keys (spec.handed act.now)) }
 {
     put_some(held, written(handed(act)))

@@ -12,7 +12,7 @@ use std::alloc::{AllocError, Global};
 pub fn empty_bits(alloc: Global, nodes: usize) -> Result<Vec<Bits>, AllocError>
     ensures { IfOk result (λ rows. rows.items ≡ replicate nodes []) }
 {
-    let mut rows = Vec::new(alloc);
+    let mut rows = Vec::with_capacity(alloc, nodes)?;
     for _ in 0..nodes {
         rows.push(Bits::new(alloc))?;
     }
@@ -23,7 +23,7 @@ pub fn empty_bits(alloc: Global, nodes: usize) -> Result<Vec<Bits>, AllocError>
 pub fn empty_rows(alloc: Global, nodes: usize) -> Result<Vec<Vec<usize>>, AllocError>
     ensures { IfOk result (λ rows. number_rows rows.items ≡ replicate nodes []) }
 {
-    let mut rows = Vec::new(alloc);
+    let mut rows = Vec::with_capacity(alloc, nodes)?;
     for _ in 0..nodes {
         rows.push(Vec::new(alloc))?;
     }

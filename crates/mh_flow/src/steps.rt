@@ -1,78 +1,35 @@
-//! The moves of a reference in a configuration.
+//! The moves of references in a configuration.
 //!
 //! Promise: each function puts behind what is there what the definition of the same name says.
-ghost use Rattle.std.specs.Prelude.{◌≡◌, ◌++◌, ◌∷◌, [], ◌&&◌, ◌||◌, false, IfOk, OnOk};
-ghost use Rattle.std.specs.List.{flat_map, list_any};
-ghost use Rattle.std.specs.Option.{option_copied, option_map_or, option_to_list};
+ghost use Rattle.std.specs.Prelude.{◌≡◌, ◌++◌, ◌∷◌, [], ◌&&◌, IfOk, OnOk};
+ghost use Rattle.std.specs.List.{flat_map};
+ghost use Rattle.std.specs.Option.{option_copied, option_to_list};
 ghost use Rattle.mh_model.specs.Arguments.{receivers};
-ghost use Rattle.mh_model.specs.Reference.{same_ref as same};
 ghost use Rattle.mh_laws.specs.Flow.{is_reference_in};
-ghost use Rattle.mh_flow.specs.Chart.{firsts};
-ghost use Rattle.mh_flow.specs.Chart as numbers;
 ghost use Rattle.mh_flow.specs.Steps as spec;
 
 use crate::equipped::Equipped;
 use crate::moves::{Move, Place, Spot};
 use crate::place::fills;
 use crate::present::{Present, leads_to};
-use crate::references::{first_items, first_value, handed};
+use crate::references::handed;
 use crate::sites::{Site, sites_of};
+use crate::sought::{is_any, is_first, is_sought};
+use indexmap::IndexSet;
 use mh_base::{ObjRef, Value};
 use mh_model::known::Known;
-use mh_model::parts::same_ref;
-use mh_model::{Argument, Config, Fixed, FixedPart, Member, Target};
+use mh_model::{Argument, Config, Fixed, FixedPart, Target};
 use std::alloc::{AllocError, Global};
 use std::slice;
 
-/// A configuration that is reached, what is present and known there, and the reference that is sought.
+/// A configuration that is reached, what is present and known there, and the references that are sought.
 #[derive(Drop)]
 pub(crate) struct Ground<'a, K: Known> {
     pub service: &'a Equipped<'a>,
     pub config: &'a Config,
     pub present: &'a Present<'a>,
     pub known: &'a K,
-    pub sought: &'a ObjRef,
-}
-
-/// Whether the reference is one of these.
-fn is_among(at: &ObjRef, references: &[ObjRef]) -> bool
-    ensures { result ≡ list_any (same at.now) references.now }
-{
-    for reference in references {
-        if same_ref(at, reference) {
-            return true;
-        }
-    }
-    false
-}
-
-/// Whether the reference is that of one of the members.
-fn is_member(at: &ObjRef, members: &[Member]) -> bool
-    ensures { result ≡ list_any (λ m. same at.now m.object) members.now }
-{
-    for member in members {
-        if same_ref(at, &member.object) {
-            return true;
-        }
-    }
-    false
-}
-
-/// Whether the variable has the reference at first.
-fn is_value(at: &ObjRef, part: &Fixed) -> bool
-    ensures { result ≡ option_map_or (same at.now) (numbers.first_value part.now) false }
-{
-    match first_value(part) {
-        None => false,
-        Some(value) => same_ref(at, value),
-    }
-}
-
-/// Whether the object has the reference at first.
-fn is_first(at: &ObjRef, part: &Fixed) -> bool
-    ensures { result ≡ list_any (same at.now) (firsts part.now) }
-{
-    is_value(at, part) || is_member(at, first_items(part))
+    pub sought: &'a IndexSet<ObjRef>,
 }
 
 /// The place of the object.
@@ -103,7 +60,7 @@ fn site_spot(site: &Site<'_>) -> Result<Spot, AllocError>
     })
 }
 
-/// Puts behind these that the reference comes to the place.
+/// Puts behind these that a reference comes to the place.
 fn push_comes(moves: &mut Vec<Move>, spot: Spot, to: Place) -> Result<(), AllocError>
     ensures { OnOk result (moves.new.items ≡ moves.old.items ++ spec.comes spot to ∷ []) }
 {
@@ -115,7 +72,7 @@ fn push_comes(moves: &mut Vec<Move>, spot: Spot, to: Place) -> Result<(), AllocE
     Ok(())
 }
 
-/// Puts behind these that the reference goes from place to place.
+/// Puts behind these that a reference goes from place to place.
 fn push_goes(moves: &mut Vec<Move>, from: Place, spot: Spot, to: Place) -> Result<(), AllocError>
     ensures { OnOk result (moves.new.items ≡ moves.old.items ++ spec.goes from spot to ∷ []) }
 {
@@ -127,7 +84,7 @@ fn push_goes(moves: &mut Vec<Move>, from: Place, spot: Spot, to: Place) -> Resul
     Ok(())
 }
 
-/// Puts behind these that the reference stays with what holds it.
+/// Puts behind these that a reference stays with what holds it.
 fn push_stays(moves: &mut Vec<Move>, from: Place, to: Place) -> Result<(), AllocError>
     ensures { OnOk result (moves.new.items ≡ moves.old.items ++ spec.stays from to ∷ []) }
 {
@@ -147,28 +104,28 @@ impl<'a, K: Known> Ground<'a, K> {
         place(self.config, at)
     }
 
-    /// Whether the object holds the reference.
+    /// Whether the object holds one that is sought.
     fn holds(&self, at: &ObjRef) -> bool
         ensures { let w = self.now in
-            let g = spec.ground_of w.service.now w.config.now w.present.now (K.known w.known.now) w.sought.now in
+            let g = spec.ground_of w.service.now w.config.now w.present.now (K.known w.known.now) w.sought.now.keys in
             result ≡ spec.holds g at.now }
     {
-        is_among(self.sought, self.known.refers(at))
+        is_any(self.sought, self.known.refers(at))
     }
 
-    /// Whether the variable is present, and holds the reference.
+    /// Whether the variable is present, and holds one that is sought.
     fn is_holding(&self, variable: &ObjRef) -> bool
         ensures { let w = self.now in
-            let g = spec.ground_of w.service.now w.config.now w.present.now (K.known w.known.now) w.sought.now in
+            let g = spec.ground_of w.service.now w.config.now w.present.now (K.known w.known.now) w.sought.now.keys in
             result ≡ (is_reference_in g.present variable.now && spec.holds g variable.now) }
     {
         self.present.is_reference(variable) && self.holds(variable)
     }
 
-    /// That the object has the reference at first.
+    /// That the object has one that is sought at first.
     fn push_first(&self, moves: &mut Vec<Move>, part: &Fixed) -> Result<(), AllocError>
         ensures { let w = self.now in
-            let g = spec.ground_of w.service.now w.config.now w.present.now (K.known w.known.now) w.sought.now in
+            let g = spec.ground_of w.service.now w.config.now w.present.now (K.known w.known.now) w.sought.now.keys in
             OnOk result (moves.new.items ≡ moves.old.items ++ spec.first_moves g part.now) }
     {
         if is_first(self.sought, part) {
@@ -179,7 +136,7 @@ impl<'a, K: Known> Ground<'a, K> {
 
     fn push_firsts(&self, moves: &mut Vec<Move>, parts: &[FixedPart]) -> Result<(), AllocError>
         ensures { let w = self.now in
-            let g = spec.ground_of w.service.now w.config.now w.present.now (K.known w.known.now) w.sought.now in
+            let g = spec.ground_of w.service.now w.config.now w.present.now (K.known w.known.now) w.sought.now.keys in
             OnOk result (moves.new.items ≡ moves.old.items ++ flat_map (spec.first_moves g) parts.now) }
     {
         for part in parts {
@@ -188,7 +145,7 @@ impl<'a, K: Known> Ground<'a, K> {
         Ok(())
     }
 
-    /// That the action writes the reference, if it is this one.
+    /// That the action writes the reference, if it is sought.
     fn push_written(
         &self,
         moves: &mut Vec<Move>,
@@ -197,10 +154,10 @@ impl<'a, K: Known> Ground<'a, K> {
         written: &ObjRef,
     ) -> Result<(), AllocError>
         ensures { let w = self.now in
-            let g = spec.ground_of w.service.now w.config.now w.present.now (K.known w.known.now) w.sought.now in
+            let g = spec.ground_of w.service.now w.config.now w.present.now (K.known w.known.now) w.sought.now.keys in
             OnOk result (moves.new.items ≡ moves.old.items ++ spec.written_moves g site.now at.now written.now) }
     {
-        if same_ref(self.sought, written) {
+        if is_sought(self.sought, written) {
             push_comes(moves, site_spot(site)?, self.place(at)?)?;
         }
         Ok(())
@@ -215,7 +172,7 @@ impl<'a, K: Known> Ground<'a, K> {
         variable: &ObjRef,
     ) -> Result<(), AllocError>
         ensures { let w = self.now in
-            let g = spec.ground_of w.service.now w.config.now w.present.now (K.known w.known.now) w.sought.now in
+            let g = spec.ground_of w.service.now w.config.now w.present.now (K.known w.known.now) w.sought.now.keys in
             OnOk result (moves.new.items ≡ moves.old.items ++ spec.read_moves g site.now at.now variable.now) }
     {
         if self.is_holding(variable) {
@@ -229,7 +186,7 @@ impl<'a, K: Known> Ground<'a, K> {
         Ok(())
     }
 
-    /// That the argument brings the reference to the object.
+    /// That the argument brings one that is sought to the object.
     fn push_handed(
         &self,
         moves: &mut Vec<Move>,
@@ -238,7 +195,7 @@ impl<'a, K: Known> Ground<'a, K> {
         argument: &Argument,
     ) -> Result<(), AllocError>
         ensures { let w = self.now in
-            let g = spec.ground_of w.service.now w.config.now w.present.now (K.known w.known.now) w.sought.now in
+            let g = spec.ground_of w.service.now w.config.now w.present.now (K.known w.known.now) w.sought.now.keys in
             OnOk result (moves.new.items ≡ moves.old.items ++ spec.handed_moves g site.now at.now argument.now) }
     {
         match argument {
@@ -256,7 +213,7 @@ impl<'a, K: Known> Ground<'a, K> {
         argument: Option<&Argument>,
     ) -> Result<(), AllocError>
         ensures { let w = self.now in
-            let g = spec.ground_of w.service.now w.config.now w.present.now (K.known w.known.now) w.sought.now in
+            let g = spec.ground_of w.service.now w.config.now w.present.now (K.known w.known.now) w.sought.now.keys in
             OnOk result (moves.new.items ≡ moves.old.items ++ flat_map (spec.handed_moves g site.now at.now)
             (option_to_list (option_copied argument.entry))) }
     {
@@ -266,7 +223,7 @@ impl<'a, K: Known> Ground<'a, K> {
         }
     }
 
-    /// That the action brings the reference to the object.
+    /// That the action brings one that is sought to the object.
     fn push_given(
         &self,
         moves: &mut Vec<Move>,
@@ -274,7 +231,7 @@ impl<'a, K: Known> Ground<'a, K> {
         at: &ObjRef,
     ) -> Result<(), AllocError>
         ensures { let w = self.now in
-            let g = spec.ground_of w.service.now w.config.now w.present.now (K.known w.known.now) w.sought.now in
+            let g = spec.ground_of w.service.now w.config.now w.present.now (K.known w.known.now) w.sought.now.keys in
             OnOk result (moves.new.items ≡ moves.old.items ++ spec.given_moves g site.now at.now) }
     {
         if self.present.is_given(site.act.name, at) {
@@ -292,7 +249,7 @@ impl<'a, K: Known> Ground<'a, K> {
         variable: &ObjRef,
     ) -> Result<(), AllocError>
         ensures { let w = self.now in
-            let g = spec.ground_of w.service.now w.config.now w.present.now (K.known w.known.now) w.sought.now in
+            let g = spec.ground_of w.service.now w.config.now w.present.now (K.known w.known.now) w.sought.now.keys in
             OnOk result (moves.new.items ≡ moves.old.items ++ spec.received_moves g site.now at.now variable.now) }
     {
         if self.present.is_reference(variable) {
@@ -314,7 +271,7 @@ impl<'a, K: Known> Ground<'a, K> {
         argument: &Argument,
     ) -> Result<(), AllocError>
         ensures { let w = self.now in
-            let g = spec.ground_of w.service.now w.config.now w.present.now (K.known w.known.now) w.sought.now in
+            let g = spec.ground_of w.service.now w.config.now w.present.now (K.known w.known.now) w.sought.now.keys in
             OnOk result (moves.new.items ≡ moves.old.items ++ flat_map (spec.received_moves g site.now at.now)
             (receivers (argument.now ∷ []))) }
     {
@@ -333,7 +290,7 @@ impl<'a, K: Known> Ground<'a, K> {
         arguments: &[Argument],
     ) -> Result<(), AllocError>
         ensures { let w = self.now in
-            let g = spec.ground_of w.service.now w.config.now w.present.now (K.known w.known.now) w.sought.now in
+            let g = spec.ground_of w.service.now w.config.now w.present.now (K.known w.known.now) w.sought.now.keys in
             OnOk result (moves.new.items ≡ moves.old.items ++ flat_map (spec.received_moves g site.now at.now)
             (receivers arguments.now)) }
     {
@@ -343,7 +300,7 @@ impl<'a, K: Known> Ground<'a, K> {
         Ok(())
     }
 
-    /// That the action answers the reference, where the object is a list that has it.
+    /// That the action answers one that is sought, where the object is a list that has it.
     fn push_filled(
         &self,
         moves: &mut Vec<Move>,
@@ -351,7 +308,7 @@ impl<'a, K: Known> Ground<'a, K> {
         at: &ObjRef,
     ) -> Result<(), AllocError>
         ensures { let w = self.now in
-            let g = spec.ground_of w.service.now w.config.now w.present.now (K.known w.known.now) w.sought.now in
+            let g = spec.ground_of w.service.now w.config.now w.present.now (K.known w.known.now) w.sought.now.keys in
             OnOk result (moves.new.items ≡ moves.old.items ++ spec.filled_moves g site.now at.now) }
     {
         if fills(site.act.name) && self.present.is_list(at) && self.holds(at) {
@@ -360,10 +317,10 @@ impl<'a, K: Known> Ground<'a, K> {
         Ok(())
     }
 
-    /// That the object takes the reference along to the configuration, if it holds it.
+    /// That the object takes along to the configuration what it holds of them.
     fn push_kept(&self, moves: &mut Vec<Move>, to: &Config, part: &Fixed) -> Result<(), AllocError>
         ensures { let w = self.now in
-            let g = spec.ground_of w.service.now w.config.now w.present.now (K.known w.known.now) w.sought.now in
+            let g = spec.ground_of w.service.now w.config.now w.present.now (K.known w.known.now) w.sought.now.keys in
             OnOk result (moves.new.items ≡ moves.old.items ++ spec.kept_moves g to.now part.now) }
     {
         if self.holds(&part.key) {
@@ -379,7 +336,7 @@ impl<'a, K: Known> Ground<'a, K> {
         parts: &[FixedPart],
     ) -> Result<(), AllocError>
         ensures { let w = self.now in
-            let g = spec.ground_of w.service.now w.config.now w.present.now (K.known w.known.now) w.sought.now in
+            let g = spec.ground_of w.service.now w.config.now w.present.now (K.known w.known.now) w.sought.now.keys in
             OnOk result (moves.new.items ≡ moves.old.items ++ flat_map (spec.kept_moves g to.now) parts.now) }
     {
         for part in parts {
@@ -388,10 +345,10 @@ impl<'a, K: Known> Ground<'a, K> {
         Ok(())
     }
 
-    /// That the objects of the application take the reference along, if the configuration has a scene.
+    /// That the objects of the application take along what they hold, if the configuration has a scene.
     fn push_passed(&self, moves: &mut Vec<Move>, to: &Config) -> Result<(), AllocError>
         ensures { let w = self.now in
-            let g = spec.ground_of w.service.now w.config.now w.present.now (K.known w.known.now) w.sought.now in
+            let g = spec.ground_of w.service.now w.config.now w.present.now (K.known w.known.now) w.sought.now.keys in
             OnOk result (moves.new.items ≡ moves.old.items ++ spec.passed_moves g to.now to.now.scene) }
     {
         if to.scene.is_some() {
@@ -402,7 +359,7 @@ impl<'a, K: Known> Ground<'a, K> {
 
     fn push_led(&self, moves: &mut Vec<Move>, to: &Option<Config>) -> Result<(), AllocError>
         ensures { let w = self.now in
-            let g = spec.ground_of w.service.now w.config.now w.present.now (K.known w.known.now) w.sought.now in
+            let g = spec.ground_of w.service.now w.config.now w.present.now (K.known w.known.now) w.sought.now.keys in
             OnOk result (moves.new.items ≡ moves.old.items ++ spec.led_moves g to.now) }
     {
         match to {
@@ -419,7 +376,7 @@ impl<'a, K: Known> Ground<'a, K> {
         at: &ObjRef,
     ) -> Result<(), AllocError>
         ensures { let w = self.now in
-            let g = spec.ground_of w.service.now w.config.now w.present.now (K.known w.known.now) w.sought.now in
+            let g = spec.ground_of w.service.now w.config.now w.present.now (K.known w.known.now) w.sought.now.keys in
             OnOk result (moves.new.items ≡ moves.old.items ++ spec.done_moves g site.now at.now) }
     {
         self.push_given(moves, site, at)?;
@@ -436,7 +393,7 @@ impl<'a, K: Known> Ground<'a, K> {
         targets: &[ObjRef],
     ) -> Result<(), AllocError>
         ensures { let w = self.now in
-            let g = spec.ground_of w.service.now w.config.now w.present.now (K.known w.known.now) w.sought.now in
+            let g = spec.ground_of w.service.now w.config.now w.present.now (K.known w.known.now) w.sought.now.keys in
             OnOk result (moves.new.items ≡ moves.old.items ++ flat_map (spec.done_moves g site.now) targets.now) }
     {
         for at in targets {
@@ -448,7 +405,7 @@ impl<'a, K: Known> Ground<'a, K> {
     /// The objects to which the target may come.
     fn targets<'b>(&'b self, target: &'b Target) -> &'b [ObjRef]
         ensures { let w = self.now in
-            let g = spec.ground_of w.service.now w.config.now w.present.now (K.known w.known.now) w.sought.now in
+            let g = spec.ground_of w.service.now w.config.now w.present.now (K.known w.known.now) w.sought.now.keys in
             result.now ≡ spec.targets g.present g.sets target.now }
     {
         match target {
@@ -466,7 +423,7 @@ impl<'a, K: Known> Ground<'a, K> {
     /// What the action does wherever its target may come.
     fn push_site(&self, moves: &mut Vec<Move>, site: &Site<'_>) -> Result<(), AllocError>
         ensures { let w = self.now in
-            let g = spec.ground_of w.service.now w.config.now w.present.now (K.known w.known.now) w.sought.now in
+            let g = spec.ground_of w.service.now w.config.now w.present.now (K.known w.known.now) w.sought.now.keys in
             OnOk result (moves.new.items ≡ moves.old.items ++ spec.site_moves g site.now) }
     {
         self.push_all_done(moves, site, self.targets(&site.act.target))
@@ -474,7 +431,7 @@ impl<'a, K: Known> Ground<'a, K> {
 
     fn push_sites(&self, moves: &mut Vec<Move>, sites: &[Site<'_>]) -> Result<(), AllocError>
         ensures { let w = self.now in
-            let g = spec.ground_of w.service.now w.config.now w.present.now (K.known w.known.now) w.sought.now in
+            let g = spec.ground_of w.service.now w.config.now w.present.now (K.known w.known.now) w.sought.now.keys in
             OnOk result (moves.new.items ≡ moves.old.items ++ flat_map (spec.site_moves g) sites.now) }
     {
         for site in sites {
@@ -483,10 +440,10 @@ impl<'a, K: Known> Ground<'a, K> {
         Ok(())
     }
 
-    /// All moves of the reference in the configuration.
+    /// All moves of what is sought in the configuration.
     pub fn push_moves(&self, alloc: Global, moves: &mut Vec<Move>) -> Result<(), AllocError>
         ensures { let w = self.now in
-            let g = spec.ground_of w.service.now w.config.now w.present.now (K.known w.known.now) w.sought.now in
+            let g = spec.ground_of w.service.now w.config.now w.present.now (K.known w.known.now) w.sought.now.keys in
             OnOk result (moves.new.items ≡ moves.old.items ++ spec.moves_in g) }
     {
         let (application, scene) = self.present.parts();

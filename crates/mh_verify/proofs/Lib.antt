@@ -6,6 +6,7 @@ pub mod RefusalLemmas
 pub mod CarriedLemmas
 pub mod CandidateLemmas
 pub mod SoonestLemmas
+pub mod NearestLemmas
 pub mod BoundLemmas
 pub mod CycleRefusedLemmas
 pub mod ProgramLemmas

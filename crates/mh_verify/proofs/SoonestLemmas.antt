@@ -26,10 +26,10 @@ use Rattle.mh_verify.specs.Least.{sooner}
 use Rattle.mh_verify.specs.Naming.{AreCandidates, IsBest, IsSoonest, IsSoonestOf, by_coming, candidates_at, is_sooner}
 use Rattle.mh_verify.proofs.OrderLemmas.{after_less, not_before, not_before_itself}
 
-spot_total : IsTotalOrder by_spot
+pub spot_total : IsTotalOrder by_spot
 spot_total = then_total (on_total (λ (l : Link). l.key) reference_total) (on_total (λ (l : Link). l.index) nat_cmp_total)
 
-coming_total : IsTotalOrder by_coming
+pub coming_total : IsTotalOrder by_coming
 coming_total = then_total (then_total (on_total (λ (k : Coming). length k.chain) nat_cmp_total) (on_total (λ (k : Coming). k.chain) (lists_total spot_total))) (on_total (λ (k : Coming). k.at) reference_total)
 
 -- no chain of a reference comes before its first one

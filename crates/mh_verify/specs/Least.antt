@@ -1,5 +1,11 @@
 -- The first refusal of a list, and the reference that came soonest.
-use Rattle.std.specs.Prelude.{◌≡◌, if◌then◌else◌, List, [], ◌∷◌, Option, Some, None}
+use Rattle.std.specs.Prelude.{◌≡◌, Bool, true, ◌||◌, if◌then◌else◌, List, [], ◌∷◌, Option, Some, None}
+use Rattle.std.specs.Ordering.{is_lt, is_ne}
+use Rattle.std.specs.Cmp.Lexicographic.{slice_cmp}
+use Rattle.mh_base.specs.declared.obj_ref.ObjRef.{ObjRef}
+use Rattle.mh_laws.specs.Least.{by_reference}
+use Rattle.mh_flow.specs.declared.link.Link.{Link}
+use Rattle.mh_flow.specs.Chains.{by_spot}
 use Rattle.mh_verify.specs.declared.refusal.Found.{Found}
 use Rattle.mh_model.specs.Service.{Service}
 use Rattle.mh_laws.specs.Flow.{Flow}
@@ -22,6 +28,12 @@ least_of b (x ∷ xs) = least_of (Some (lesser b x)) xs
 abbrev pub sooner : Option Coming → Coming → Coming
 sooner None k = k
 sooner (Some b) k = if is_sooner k b then k else b
+
+-- a reference, of which no links come before these, may have come sooner than the best so far: not if that came by the
+-- places of these links, and the reference is no smaller
+abbrev pub may_be_sooner : Option Coming → List Link → ObjRef → Bool
+may_be_sooner None ls q = true
+may_be_sooner (Some b) ls q = is_ne (slice_cmp by_spot b.chain ls) || is_lt (by_reference q b.at)
 
 -- what comes first of all that is wrong, with the reference that is named; none where nothing is wrong
 pub record IsFirstNamed (s : Service) (w : Flow) (x : Found) (k : Coming) : Type 0 where

@@ -1,10 +1,11 @@
 -- Which of several references is named, where a variable or a list may hold more than one that is wrong at one place: the
 -- one that came there by the first of the shortest chains, and of those that came alike the smallest.
-use Rattle.std.specs.Prelude.{◌≡◌, ℕ, Bool, true, false, ◌&&◌, ◌==◌, if◌then◌else◌, List, [], ◌∷◌, ◌++◌, length, filter, Option, Some, None}
+use Rattle.std.specs.Prelude.{◌≡◌, ◌≢◌, ◌≤◌, ℕ, Bool, true, false, ◌&&◌, ◌==◌, if◌then◌else◌, List, [], ◌∷◌, ◌++◌, length, filter, Option, Some, None}
 use Rattle.std.specs.List.{Contains, flat_map}
 use Rattle.std.specs.Option.{is_some}
 use Rattle.std.specs.Str.{bytes_eq}
 use Rattle.std.specs.declared.cmp.Ordering.{Ordering}
+use Rattle.std.specs.declared.cmp.Ordering.TheVariants.{Less}
 use Rattle.std.specs.Ordering.{is_lt, nat_cmp, on, then_cmp}
 use Rattle.std.specs.Cmp.Lexicographic.{slice_cmp}
 use Rattle.mh_base.specs.declared.obj_ref.ObjRef.{ObjRef}
@@ -136,6 +137,11 @@ class_held _ _ = None
 -- the variable or list may hold each
 abbrev pub AreHeld : Sets → ObjRef → List ObjRef → Type 0
 AreHeld h v qs = (q : ObjRef) → Contains qs q → has h v q ≡ true
+
+-- no links that bring one of these there come before these links, by number and places
+pub record AreNoSooner (s : Service) (c : Config) (v : ObjRef) (qs : List ObjRef) (ls : List Link) : Type 0 where
+  pub shortest : (q : ObjRef) (ks : List Link) → Contains qs q → Brings s q ks c v → length ls ≤ length ks
+  pub first : (q : ObjRef) (ks : List Link) → Contains qs q → Brings s q ks c v → length ks ≡ length ls → slice_cmp by_spot ks ls ≢ Less
 
 -- of these the one that came soonest
 pub record IsSoonestOf (s : Service) (c : Config) (v : ObjRef) (qs : List ObjRef) (k : Coming) : Type 0 where

@@ -7,16 +7,17 @@ ghost use Rattle.mh_model.specs.Configuration.{present as present_there};
 ghost use Rattle.mh_laws.specs.Flow.{has};
 ghost use Rattle.mh_flow.specs.Chains.{IsFirstChain};
 ghost use Rattle.mh_flow.specs.Solved.{IsFlowOf, flow_in};
-ghost use Rattle.mh_verify.specs.Naming.{AreCandidates, AreHeld, IsBest, IsNamed, IsSoonest, IsWritten, candidates_at};
+ghost use Rattle.mh_verify.specs.Naming.{AreCandidates, AreHeld, AreNoSooner, IsBest, IsNamed, IsSoonest, IsWritten, candidates_at};
 ghost use Rattle.mh_verify.specs.Order.{IsFirst};
 
 use crate::candidates::candidates_at;
-use crate::ordering::sooner;
+use crate::ordering::{may_be_sooner, sooner};
 use crate::telling::Scope;
 use crate::{Coming, Found, RefusalKind};
 use mh_base::{ObjRef, Seq};
 use mh_flow::chain::chain;
-use mh_flow::{Equipped, Flow};
+use mh_flow::nearest::nearest_of;
+use mh_flow::{Equipped, Flow, Link};
 use mh_model::{Config, Rank, Reason};
 use std::alloc::{AllocError, Global};
 
@@ -75,6 +76,33 @@ fn coming(
     }
 }
 
+/// The one that came soonest of those that may have come by the places of this chain, where none came before it. Where the
+/// best so far came by the very places, only a smaller reference is worth a search of its own; they are in their order, so
+/// there is mostly one search.
+fn soonest_origin(
+    alloc: Global,
+    service: &Equipped<'_>,
+    flow: &Flow,
+    config: &Config,
+    holder: &ObjRef,
+    links: &[Link],
+    origins: &[ObjRef],
+) -> Result<Option<Coming>, AllocError>
+    requires flow { IsFlowOf service.now flow.now }
+    requires held { AreHeld ((flow_in service.now flow.now).sets config.now) holder.now origins.now }
+    requires first { AreNoSooner service.now config.now holder.now origins.now links.now }
+    ensures { IfOk result (IsBest service.now config.now holder.now origins.now) }
+{
+    let mut best = None;
+    for at in origins {
+        if may_be_sooner(&best, links, at) {
+            let next = coming(alloc, service, flow, config, holder, at)?;
+            best = Some(sooner(best, next));
+        }
+    }
+    Ok(best)
+}
+
 /// The one of these that came soonest to the variable or list.
 fn soonest(
     alloc: Global,
@@ -88,12 +116,18 @@ fn soonest(
     requires held { AreHeld ((flow_in service.now flow.now).sets config.now) holder.now candidates.now }
     ensures { IfOk result (IsBest service.now config.now holder.now candidates.now) }
 {
-    let mut best = None;
-    for at in candidates {
-        let next = coming(alloc, service, flow, config, holder, at)?;
-        best = Some(sooner(best, next));
+    match nearest_of(alloc, service, flow, config, holder, candidates)? {
+        None => Ok(None),
+        Some(nearest) => soonest_origin(
+            alloc,
+            service,
+            flow,
+            config,
+            holder,
+            nearest.links.as_slice(),
+            nearest.origins.as_slice(),
+        ),
     }
-    Ok(best)
 }
 
 /// The one that came soonest of what is wrong in this way where the refusal says, through that variable or list.

@@ -3,13 +3,13 @@
 //! Promise: each function answers what the definition of the same name says.
 ghost use Rattle.std.specs.Prelude.{◌≡◌};
 ghost use Rattle.std.specs.Option.{option_cmp};
-ghost use Rattle.std.specs.Ordering.{nat_cmp};
+ghost use Rattle.std.specs.Ordering.{is_ne, nat_cmp};
 ghost use Rattle.std.specs.Cmp.Lexicographic.{slice_cmp};
 ghost use Rattle.mh_verify.specs.Kinds.{kind_number};
 ghost use Rattle.mh_verify.specs.Least.{lesser};
 ghost use Rattle.mh_laws.specs.Least.{by_reference};
 ghost use Rattle.mh_flow.specs.Chains.{by_spot};
-ghost use Rattle.mh_verify.specs.Least.{sooner};
+ghost use Rattle.mh_verify.specs.Least.{may_be_sooner, sooner};
 ghost use Rattle.mh_verify.specs.Naming.{by_coming};
 ghost use Rattle.mh_verify.specs.Order.{by_place, by_config, order};
 
@@ -141,4 +141,22 @@ pub fn sooner(best: Option<Coming>, coming: Coming) -> Coming
             }
         }
     }
+}
+
+/// Whether a reference may have come sooner than the best so far, where no chain of it comes before this one: not if the
+/// best came by the very places of that chain, and the reference is no smaller.
+pub fn may_be_sooner(best: &Option<Coming>, links: &[Link], at: &ObjRef) -> bool
+    ensures { result ≡ may_be_sooner best.now links.now at.now }
+{
+    match best {
+        None => true,
+        Some(best) => is_apart(best, links) || by_reference(at, &best.at).is_lt(),
+    }
+}
+
+/// Whether the reference came by other places than those of this chain.
+fn is_apart(best: &Coming, links: &[Link]) -> bool
+    ensures { result ≡ is_ne (slice_cmp by_spot best.now.chain links.now) }
+{
+    by_spots(best.chain.as_slice(), links).is_ne()
 }

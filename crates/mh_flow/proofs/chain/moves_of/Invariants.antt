@@ -6,5 +6,5 @@ use Rattle.mh_flow.proofs.chain.moves_of.Given as goal
 
 abbrev pub invariant-loop-config : goal.invariant-loop-config
 invariant-loop-config l =
-    l.moves.items ++ flat_map (λ c. moves_in (ground l.service (flow_of l.service l.flow.chart l.flow.rows) l.sought c)) (drop l.config-index l.config-items)
-    ≡ moves_of l.service (flow_of l.service l.flow.chart l.flow.rows) l.sought
+    l.moves.items ++ flat_map (λ c. moves_in (ground l.service (flow_of l.service l.flow.chart l.flow.rows) l.sought.keys c)) (drop l.config-index l.config-items)
+    ≡ moves_of l.service (flow_of l.service l.flow.chart l.flow.rows) l.sought.keys

@@ -12,5 +12,5 @@ returns c =
       config = c.args.config.now;
       present = c.present-present.ensures i;
       sets = sets i;
-      sought = c.args.sought.now;
+      sought = c.args.sought.now.keys;
     }))

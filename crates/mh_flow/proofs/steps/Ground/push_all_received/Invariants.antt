@@ -6,5 +6,5 @@ use Rattle.mh_flow.proofs.steps.Ground.push_all_received.Given as goal
 
 abbrev pub invariant-loop-argument : goal.invariant-loop-argument
 invariant-loop-argument g l =
-    l.moves.items ++ flat_map (received_moves (ground_of l.self.service.now l.self.config.now l.self.present.now (g.K.Known.known l.self.known.now) l.self.sought.now) l.site l.at) (receivers (drop l.argument-index l.arguments))
-    ≡ l.initial.moves.items ++ flat_map (received_moves (ground_of l.self.service.now l.self.config.now l.self.present.now (g.K.Known.known l.self.known.now) l.self.sought.now) l.site l.at) (receivers l.arguments)
+    l.moves.items ++ flat_map (received_moves (ground_of l.self.service.now l.self.config.now l.self.present.now (g.K.Known.known l.self.known.now) l.self.sought.now.keys) l.site l.at) (receivers (drop l.argument-index l.arguments))
+    ≡ l.initial.moves.items ++ flat_map (received_moves (ground_of l.self.service.now l.self.config.now l.self.present.now (g.K.Known.known l.self.known.now) l.self.sought.now.keys) l.site l.at) (receivers l.arguments)
