@@ -94,7 +94,7 @@ fn first(values: &[Value]) -> Result<Option<Value>, AllocError>
 }
 
 /// The event that says how the test went. A variable that holds nothing is not tested.
-fn tested(
+pub fn tested(
     at: &ObjRef,
     operator: Option<Operator>,
     held: Option<&Value>,

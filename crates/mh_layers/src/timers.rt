@@ -63,7 +63,7 @@ impl Hash for SetTimer {
     ghost respects_eq = { timer_alike };
 
     fn hash<H: Hasher>(&self, state: &mut H) {
-        self.group.group.as_bytes().hash(state);
+        self.group.group.hash(state);
         self.id.hash(state);
     }
 }

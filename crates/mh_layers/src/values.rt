@@ -60,7 +60,7 @@ impl Hash for Datum {
             Value::Int(number) => number.hash(state),
             Value::Octets(octets) => octets.as_slice().hash(state),
             Value::Object(at) => at.hash(state),
-            Value::Content(name) => name.as_bytes().hash(state),
+            Value::Content(name) => name.hash(state),
         }
     }
 }

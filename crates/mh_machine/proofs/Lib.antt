@@ -5,3 +5,6 @@ pub mod PlanLemmas
 pub mod StageLemmas
 pub mod StepLemmas
 pub mod WidgetLemmas
+pub mod ByClassLemmas
+pub mod SumLemmas
+pub mod TestLemmas

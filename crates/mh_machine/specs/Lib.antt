@@ -5,3 +5,6 @@ pub mod Rest
 pub mod Stage
 pub mod Taking
 pub mod Working
+pub mod ByClass
+pub mod Sums
+pub mod Tests

@@ -4,7 +4,7 @@ use Rattle.mh_model.specs.declared.fault.Fault.{Fault}
 use Rattle.mh_model.specs.declared.input.Waiting.{Waiting}
 use Rattle.mh_model.specs.declared.item.Item.{Item}
 use Rattle.mh_model.specs.State.{State}
-use Rattle.mh_model.specs.Step.{done, is_idle}
+use Rattle.mh_model.specs.Step.{done, is_idle, step}
 use Rattle.mh_machine.specs.Plans.{taken_from}
 use Rattle.mh_model.specs.Stuck.{stuck}
 use Rattle.mh_model.specs.declared.rest.Rest.{Rest}
@@ -35,6 +35,14 @@ is_faulted (answer.Faulted f) = true
 abbrev pub rest_of : State → Rest
 rest_of s = if s.ended then rest.Ended else (if is_idle s then rest.Idle else rest.More)
 
--- the first item is not stuck, and to do it is to take it off
+-- a step was made, and the first item was done by it
+abbrev pub IsMade : State → State → Type 0
+IsMade before after = (after ≡ step before) × (answer.Did ≡ answer_of before)
+
+-- the first item is not stuck, and to do it makes this of the state
+abbrev pub Does : State → State → Type 0
+Does before after = (i : Item) × ((slice_get before.work 0 ≡ Some i) × ((stuck i before ≡ None) × (done i before ≡ after)))
+
+-- or is to take it off
 abbrev pub IsPassed : State → Type 0
-IsPassed s = (i : Item) × ((slice_get s.work 0 ≡ Some i) × ((stuck i s ≡ None) × (done i s ≡ taken_from s)))
+IsPassed s = Does s (taken_from s)

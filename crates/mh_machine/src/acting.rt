@@ -22,7 +22,7 @@ use mh_work::groups::entering;
 use std::alloc::{AllocError, Global};
 
 /// The most items that one action puts.
-const MOST_PUT: usize = 2;
+pub(crate) const MOST_PUT: usize = 2;
 
 impl Works {
     /// An event: the actions of all links that hear it, at once or when it is taken from the queue.

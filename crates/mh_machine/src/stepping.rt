@@ -1,12 +1,12 @@
 //! One step: an item is planned and carried out, or what waits first is taken.
-ghost use Rattle.std.specs.Prelude.{◌≡◌, ◌+◌, ◌<◌, ◌^◌, None, true, IfOk, OnOk, OnErr};
+ghost use Rattle.std.specs.Prelude.{◌≡◌, ◌+◌, ◌<◌, ◌^◌, None, true, false, IfOk, OnOk, OnErr};
 ghost use Rattle.mh_model.specs.Faults.{fault_known};
 ghost use Rattle.mh_model.specs.Known.{known_in};
 ghost use Rattle.mh_model.specs.State.{all};
 ghost use Rattle.mh_model.specs.Stuck.{stuck, front_fault};
 ghost use Rattle.mh_model.specs.Step.{done, faulted, did, step};
 ghost use Rattle.mh_machine.specs.Plans.{taken_from};
-ghost use Rattle.mh_machine.specs.Rest.{answer_of, judged, IsPassed};
+ghost use Rattle.mh_machine.specs.Rest.{answer_of, judged, IsMade, IsPassed};
 
 use crate::Stepped;
 use crate::judging::Judging;
@@ -37,11 +37,63 @@ impl Works {
             self.pass();
             return Ok(Stepped::Did);
         }
+        if self.do_first()? {
+            return Ok(Stepped::Did);
+        }
+        self.step_front::<J>()
+    }
+
+    /// One step, in which the first item is judged and done, or what waits first is taken.
+    fn step_front<J: Judging>(&mut self) -> Result<Stepped, AllocError>
+        requires room { self.old.state.taken + 1 < 2 ^ 64 }
+        requires runs { self.old.state.ended ≡ false }
+        requires allowed { J.allows (front_fault self.old.state) }
+        ensures step { OnOk result (self.new.state ≡ step self.old.state) }
+        ensures answer { IfOk result (λ a. a ≡ answer_of self.old.state) }
+        ensures kept { OnErr result (self.new.state ≡ self.old.state) }
+    {
         match self.work.front()? {
             Some(Front::Act(effect, place)) => self.work_on_act::<J>(&effect.as_slice()[place]),
             Some(Front::Item(item)) => self.work_on::<J>(&item),
             None => self.take_first(),
         }
+    }
+
+    /// Makes a step, if the first item is one of those that are done most often: an event that is heard at once, a sum
+    /// or a test. It is lent by the work list, and needs no judgement but a look at what it is done to. Whether it did.
+    fn do_first(&mut self) -> Result<bool, AllocError>
+        requires room { self.old.state.taken + 1 < 2 ^ 64 }
+        requires runs { self.old.state.ended ≡ false }
+        ensures made { IfOk result (λ made. made ≡ true → IsMade self.old.state self.new.state) }
+        ensures same { IfOk result (λ made. made ≡ false → self.new ≡ self.old) }
+        ensures kept { OnErr result (self.new.state ≡ self.old.state) }
+    {
+        if self.sum_first() {
+            return Ok(true);
+        }
+        if self.emit_first()? {
+            return Ok(true);
+        }
+        self.test_first()
+    }
+
+    /// Makes a step, if the first item is an event that is heard at once. Whether it did.
+    fn emit_first(&mut self) -> Result<bool, AllocError>
+        requires room { self.old.state.taken + 1 < 2 ^ 64 }
+        requires runs { self.old.state.ended ≡ false }
+        ensures made { IfOk result (λ made. made ≡ true → IsMade self.old.state self.new.state) }
+        ensures same { IfOk result (λ made. made ≡ false → self.new ≡ self.old) }
+        ensures kept { OnErr result (self.new.state ≡ self.old.state) }
+    {
+        let Some(event) = self.work.first_event() else {
+            return Ok(false);
+        };
+        if !event.kind.is_sync() {
+            return Ok(false);
+        }
+        let batches = self.links.heard(self.alloc, event, self.stage.objects())?;
+        self.commit_batches(batches)?;
+        Ok(true)
     }
 
     /// Whether the first item is an event that is heard at once, and for whose source no link waits. Most

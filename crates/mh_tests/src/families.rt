@@ -1,6 +1,6 @@
 //! Services of many sizes, with ample memory: each plays until nothing is left to do, in as many steps as
 //! were worked out.
-use crate::playing::{DAY, File, played};
+use crate::playing::{DAY, File, outcome, played};
 use mh_base::GroupName;
 use std::alloc::Global;
 
@@ -116,7 +116,7 @@ fn doubling(alloc: Global, count: u64) -> Option<Vec<u8>> {
     for at in 0..count {
         put_doubling(alloc, &mut text, at.checked_add(1)?)?;
     }
-    text.extend_from_slice(b" {:Link 119 :EventSource 0 :EventType IsRunning :LinkEffect (")
+    text.extend_from_slice(b" {:Link 99 :EventSource 0 :EventType IsRunning :LinkEffect (")
         .ok()?;
     put_test(alloc, &mut text, 1)?;
     text.extend_from_slice(b" ) } ) }").ok()?;
@@ -138,6 +138,23 @@ fn doublings_take_what_they_should(rt: HostRuntime) {
             "{count}"
         );
         power = power.wrapping_mul(2);
+    }
+}
+
+/// Whether so many doublings are refused, since they take too many steps.
+fn is_too_dear(alloc: Global, count: u64) -> Option<bool> {
+    let mut file = text_of(alloc, "a ")?;
+    file.extend_from_slice(doubling(alloc, count)?.as_slice())
+        .ok()?;
+    let said = outcome(alloc, "check ", str::from_utf8(file.as_slice()).ok()?)?;
+    Some(said.as_slice() == b"refused V8 start|exit 1|".as_slice())
+}
+
+/// A sum of steps stays at the largest number, and never begins again at 0.
+#[test]
+fn doublings_never_wrap(rt: HostRuntime) {
+    for count in 58..70 {
+        assert!(rt; is_too_dear(rt.alloc(), count) == Some(true), "{count}");
     }
 }
 

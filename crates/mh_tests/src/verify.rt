@@ -59,6 +59,12 @@ absent comes before a wrong class at one place
 check @a {:Application ("~/a" 0) :OnStartUp (:TransitionTo(("~/s" 0)) :Add(("~/s" 10) 1)) }
 @s {:Scene ("~/s" 0) :Items ( {:Rectangle 10 :OrigBoxSize 24 32} {:IntegerVar 20 :OrigValue 0} ) }
 => refused V1 a 0 2 Add|config a -|object s 10|exit 1|;;
+a link of the application is judged in each scene where its source is there, and not in the first alone
+check @a {:Application ("~/a" 0) :OnStartUp (:TransitionTo(("~/s" 0))) :Items ( {:Rectangle 1 :OrigBoxSize 12 16 }
+{:Link 3 :EventSource ("~/t" 5) :EventType IsStopped :LinkEffect ( :Run (1) :Run (("~/t" 6)) ) } ) }
+@s {:Scene ("~/s" 0) :Items ( {:Link 4 :EventSource 0 :EventType UserInput :EventData 100 :LinkEffect (
+:TransitionTo (("~/t" 0)) ) } ) } @t {:Scene ("~/t" 0) :Items ( {:Rectangle 5 :OrigBoxSize 12 16 } ) }
+=> refused V1 a 3 2 Run|config a t|object t 6|exit 1|;;
 no such scene
 check @a {:Application ("~/a" 0) :OnStartUp (:TransitionTo(("~/x" 0))) }
 @s {:Scene ("~/s" 0) :Items ( {:Rectangle 10 :OrigBoxSize 24 32} {:IntegerVar 20 :OrigValue 0} ) }

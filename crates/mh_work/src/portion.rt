@@ -1,8 +1,8 @@
 //! A portion of the work list: what was put as one batch, as far as it is not done.
-ghost use Rattle.std.specs.Prelude.{◌≡◌, true, IfOk, IfSome, Some};
+ghost use Rattle.std.specs.Prelude.{◌≡◌, slice_get, true, IfOk, IfSome, Some};
 ghost use Rattle.mh_work.specs.Portions.{IsFront, has_more, is_live, left_of, passed};
 
-use mh_model::{Effect, Event, Item};
+use mh_model::{Act, Effect, Event, Item};
 use std::alloc::AllocError;
 
 /// What was put as one batch, as far as it is not done.
@@ -28,6 +28,16 @@ pub(crate) fn front_in(portion: &Portion) -> Result<Front, AllocError>
     match portion {
         Portion::Acts(effect, next) => Ok(Front::Act(effect.clone()?, *next)),
         Portion::One(item) => Ok(Front::Item(copied(item)?)),
+    }
+}
+
+/// The action that comes first in a portion, if one does.
+pub(crate) fn act_in(portion: &Portion) -> Option<&Act>
+    ensures { IfSome result (λ act. slice_get (left_of portion.now) 0 ≡ Some (Item.Act act.now)) }
+{
+    match portion {
+        Portion::Acts(effect, next) => effect.as_slice().get(*next),
+        _ => None,
     }
 }
 

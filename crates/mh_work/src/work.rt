@@ -1,7 +1,7 @@
 //! The work list, as a stack of portions: looking at its first item, and putting batches in the place of
 //! that item, cost the same however long the list is.
 ghost use Rattle.std.specs.Prelude.{◌≡◌, ◌∷◌, ◌++◌, ◌+◌, ◌<◌, ◌≤◌, true, drop, vec_len, []};
-ghost use Rattle.std.specs.Prelude.{IfOk, IfSome, OnOk, Some};
+ghost use Rattle.std.specs.Prelude.{IfOk, IfSome, OnOk, Some, slice_get};
 ghost use Rattle.std.specs.VecDeque.{deque_len, deque_capacity};
 ghost use Rattle.mh_work.specs.Listed.{listed};
 ghost use Rattle.mh_model.specs.Items.{acts};
@@ -11,9 +11,9 @@ ghost use Rattle.mh_work.specs.Portions.{AreLive, IsFront, flat, goes_on, has_mo
 ghost use Rattle.mh_work.specs.Portions.{passed, passed_first};
 
 use crate::batch::Batch;
-use crate::portion::{Front, Portion, event_of, front_in, pass};
+use crate::portion::{Front, Portion, act_in, event_of, front_in, pass};
 use crate::put::Put;
-use mh_model::{Effect, Event, Item};
+use mh_model::{Act, Effect, Event, Item};
 use std::alloc::{AllocError, Global};
 use std::collections::VecDeque;
 use std::marker::Model;
@@ -65,6 +65,13 @@ impl Work {
         ensures { IfOk result (λ front. IsFront front self.now.items) }
     {
         front_of(&self.portions)
+    }
+
+    /// The first item, where that is an action of an effect. It is lent, and nothing is copied.
+    pub fn first_act(&self) -> Option<&Act>
+        ensures { IfSome result (λ act. slice_get self.now.items 0 ≡ Some (Item.Act act.now)) }
+    {
+        first_act_of(&self.portions)
     }
 
     /// The first item, where that is an event to emit.
@@ -132,6 +139,16 @@ fn holds_nothing(portions: &VecDeque<Portion>) -> bool
     ensures { result ≡ is_empty (flat portions.now.items) }
 {
     portions.is_empty()
+}
+
+fn first_act_of(portions: &VecDeque<Portion>) -> Option<&Act>
+    requires { AreLive portions.now.items }
+    ensures { IfSome result (λ act. slice_get (flat portions.now.items) 0 ≡ Some (Item.Act act.now)) }
+{
+    match portions.front() {
+        Some(portion) => act_in(portion),
+        None => None,
+    }
 }
 
 fn first_event_of(portions: &VecDeque<Portion>) -> Option<&Event>

@@ -7,7 +7,7 @@ use Rattle.mh_text.proofs.effect.parameters.Goals as goal
 
 pub returns-in_err-piece : goal.returns-in_err-piece
 returns-in_err-piece c =
-    let p = err_from_is_err_and c.from_residual.result c.from_residual.ensures.1 in
+    let p = err_from_is_err_and c.from_residual-in_err-piece.result c.from_residual-in_err-piece.ensures.1 in
     rw (p.1, p.2) (subst (Fails c.in_err-piece.field-0.0) c.loop-at.invariant
     (parameters_fail c.args.optional c.args.needs.now c.loop-at.at need.Bool c.loop-at.parameters c.loop-at.place c.loop-at-test.true c.in_err-piece.field-0.0 c.in_err-piece.ensures))
 

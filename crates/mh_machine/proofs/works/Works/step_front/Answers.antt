@@ -3,7 +3,7 @@ use Rattle.std.proofs.Common.{rules}
 use Rattle.mh_model.specs.declared.item.Item.TheVariants as item
 use Rattle.mh_work.proofs.PortionLemmas.{front_act}
 use Rattle.mh_machine.proofs.StepLemmas.{allowed_first, answer_first, step_first}
-use Rattle.mh_machine.proofs.works.Works.step.Goals as goal
+use Rattle.mh_machine.proofs.works.Works.step_front.Goals as goal
 
 pub work_on_act-requires-clause-allowed : goal.work_on_act-requires-clause-allowed
 work_on_act-requires-clause-allowed g c =
