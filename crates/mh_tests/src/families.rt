@@ -147,7 +147,7 @@ fn is_too_dear(alloc: Global, count: u64) -> Option<bool> {
     file.extend_from_slice(doubling(alloc, count)?.as_slice())
         .ok()?;
     let said = outcome(alloc, "check ", str::from_utf8(file.as_slice()).ok()?)?;
-    Some(said.as_slice() == b"refused V8 start|exit 1|".as_slice())
+    Some(said.as_slice() == b"refused V8 start\nexit 1\n".as_slice())
 }
 
 /// A sum of steps stays at the largest number, and never begins again at 0.
