@@ -1,7 +1,8 @@
 -- What is put of words, numbers, names and lines of files gives a terminal no order.
-use Rattle.std.specs.Prelude.{◌≡◌, ℕ, zero, suc, ◌+◌, ◌<◌, ◌==◌, Bool, true, false, ◌&&◌, ◌||◌, not, nat_le, nat_lt, if◌then◌else◌, List, [], ◌∷◌, ◌++◌, map, take, drop, replicate, codes, refl}
+use Rattle.std.specs.Prelude.{◌≡◌, ℕ, zero, suc, ◌+◌, ◌<◌, ◌==◌, Bool, true, false, ◌&&◌, ◌||◌, not, nat_le, nat_lt, if◌then◌else◌, List, [], ◌∷◌, ◌++◌, ◌-◌, map, length, take, drop, replicate, codes, refl}
 use Rattle.std.specs.List.{flat_map, list_all, prefix_len}
-use Rattle.std.proofs.Common.{ap, ◌∙◌, sym, arith}
+use Rattle.std.specs.Fmt.{decimal}
+use Rattle.std.proofs.Common.{ap, ◌∙◌, sym, arith, append-nil}
 use Rattle.std.proofs.lemmas.Bool.{and_parts, and_from, lt-ltb}
 use Rattle.std.proofs.lemmas.Bool.Decides.{nat_tests}
 use Rattle.std.proofs.lemmas.Grind.{flat_map-append}
@@ -13,7 +14,7 @@ use Rattle.mh_told.specs.Printing.{character}
 use Rattle.mh_look.specs.LineWords.{is_in_word}
 use Rattle.mh_look.specs.Shown.{is_order, harmless}
 use Rattle.mh_look.specs.Wrapping.{columns, wrapped, paragraph}
-use Rattle.mh_look.specs.Places.{plain, is_shown, IsHarmless, Line, spaced, column, first_shown, shift, caret_count, line_at, shown_from_column, place_words, shown_line, caret_line, shown_at, shown_place, PlacesAreHarmless}
+use Rattle.mh_look.specs.Places.{plain, is_shown, IsHarmless, Line, spaced, column, characters_of, first_shown, size_shown, cut_mark, front_mark, back_mark, mark_width, meant, line_at, place_words, shown_line, caret_line, window, shown_at, shown_place, PlacesAreHarmless}
 
 or_true : (b : Bool) → (b || true) ≡ true
 or_true true = refl
@@ -127,29 +128,76 @@ spaced_is_shown c = by (c == 9)
     by true = refl
     by false = harmless_is_shown c
 
-indent : IsHarmless (codes "      ")
-indent = harmless_codes (codes "      ") refl
-
 harmless_words : (name : List ℕ) (number at : ℕ) → IsHarmless (place_words name number at)
 unfolding place_words
 harmless_words name number at = harmless_paragraph _
 
-harmless_from_column : (bs : List ℕ) (first : ℕ) → IsHarmless (shown_from_column bs first)
-unfolding shown_from_column
-harmless_from_column bs first = harmless_mapped spaced spaced_is_shown (take 70 (drop first (lossy_chars (without_terminator bs))))
+-- a part of a list of which all are shown
 
-harmless_line : (bs : List ℕ) (first : ℕ) → IsHarmless (shown_line bs first)
+all_behind : (n : ℕ) (cs : List ℕ) → list_all is_shown cs ≡ true → list_all is_shown (drop n cs) ≡ true
+all_behind zero cs all = all
+all_behind (suc n) [] all = refl
+all_behind (suc n) (c ∷ cs) all = all_behind n cs (and_parts (is_shown c) (list_all is_shown cs) all).1
+
+all_before : (n : ℕ) (cs : List ℕ) → list_all is_shown cs ≡ true → list_all is_shown (take n cs) ≡ true
+all_before zero cs all = refl
+all_before (suc n) [] all = refl
+all_before (suc n) (c ∷ cs) all =
+    let parts = and_parts (is_shown c) (list_all is_shown cs) all in
+    and_from _ _ parts.0 (all_before n cs parts.1)
+
+harmless_characters : (cs : List ℕ) → list_all is_shown cs ≡ true → IsHarmless (flat_map character cs)
+harmless_characters cs all = record { characters = cs; spelled = refl; shown = all }
+
+cut_put : IsHarmless cut_mark
+cut_put = record { characters = 8230 ∷ []; spelled = sym (append-nil (character 8230)); shown = refl }
+
+front_put : (first : ℕ) → IsHarmless (front_mark first)
+unfolding front_mark
+front_put first = by (first == 0)
+  where
+    by : (b : Bool) → IsHarmless (if b then [] else cut_mark ++ codes " ")
+    by true = harmless_codes [] refl
+    by false = cut_put ⌢ harmless_codes (codes " ") refl
+
+back_put : (shown all : ℕ) → IsHarmless (back_mark shown all)
+unfolding back_mark
+back_put shown all = by (nat_lt shown all)
+  where
+    by : (b : Bool) → IsHarmless (if b then codes " " ++ cut_mark else [])
+    by true = harmless_codes (codes " ") refl ⌢ cut_put
+    by false = harmless_codes [] refl
+
+two_spaces : IsHarmless (codes "  ")
+two_spaces = harmless_codes (codes "  ") refl
+
+gutter : IsHarmless (codes " | ")
+gutter = harmless_codes (codes " | ") refl
+
+harmless_line : (digits cs : List ℕ) (first shown : ℕ) → list_all is_shown cs ≡ true → IsHarmless (shown_line digits cs first shown)
 unfolding shown_line
-harmless_line bs first = indent ⌢ harmless_from_column bs first ⌢ feed
+harmless_line digits cs first shown all =
+    two_spaces ⌢ harmless_plain digits ⌢ gutter ⌢ front_put first ⌢ harmless_characters (take shown cs) (all_before shown cs all) ⌢ back_put shown (length cs) ⌢ feed
 
-harmless_carets : (spaces count : ℕ) → IsHarmless (caret_line spaces count)
+harmless_carets : (digits mark spaces count : ℕ) → IsHarmless (caret_line digits mark spaces count)
 unfolding caret_line
-harmless_carets spaces count = indent ⌢ harmless_repeated spaces 32 refl ⌢ harmless_repeated count 94 refl ⌢ feed
+harmless_carets digits mark spaces count =
+    two_spaces ⌢ harmless_repeated digits 32 refl ⌢ gutter ⌢ harmless_repeated mark 32 refl ⌢ harmless_repeated spaces 32 refl
+    ⌢ harmless_repeated count 94 refl ⌢ feed
+
+harmless_window : (number : ℕ) (cs : List ℕ) (first shift count : ℕ) → list_all is_shown cs ≡ true → IsHarmless (window number cs first shift count)
+unfolding window
+harmless_window number cs first shift count all =
+    harmless_line (decimal number) cs first (size_shown cs shift) all ⌢ harmless_carets (length (decimal number)) (mark_width first) shift _
 
 harmless_at : (name : List ℕ) (l : Line) (size : ℕ) → IsHarmless (shown_at name l size)
 unfolding shown_at
 harmless_at name l size =
-    harmless_words name l.number (column l) ⌢ harmless_line l.bytes (first_shown l) ⌢ harmless_carets (shift l) (caret_count l size)
+    let cs = characters_of l.bytes in
+    let first = first_shown cs (column l) in
+    harmless_words name l.number (column l)
+    ⌢ harmless_window l.number (drop first cs) first (column l - first) (meant l size)
+    (all_behind first cs (all_shown spaced spaced_is_shown (lossy_chars (without_terminator l.bytes))))
 
 pub harmless_place : PlacesAreHarmless
 unfolding shown_place

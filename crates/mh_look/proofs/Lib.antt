@@ -29,8 +29,9 @@ pub mod SpaceLemmas
 pub mod StepLemmas
 pub mod TailLemmas
 pub mod AdviceLemmas
+pub mod PlacedLemmas
 pub mod WhyLemmas
 pub mod PaintLemmas
 pub mod FileLineLemmas
 pub mod VariableLemmas
-pub mod CaretLemmas
+pub mod VerdictLemmas

@@ -56,7 +56,7 @@ unfolding painted_line
 line_painted bs =
     let mend = either (begins_with (codes "  Mend:") bs) _ _ (in_part 2 5 order.Green bs) (written bs) in
     let cause = either (begins_with (codes "  Cause:") bs) _ _ (in_part 2 6 order.Yellow bs) mend in
-    let caret = either (begins_with (codes "^") (behind_spaces bs)) _ _ (in_colour order.Red bs) cause in
+    let caret = either (begins_with (codes "|") (behind_spaces bs)) _ _ (in_colour order.Red bs) cause in
     either (prefix_len is_space bs == 0) _ _ (in_colour order.Bold bs) caret
 
 -- Ends of lines: a line without its end is its front

@@ -5,6 +5,8 @@ use Rattle.std.specs.List.{find}
 use Rattle.std.specs.Option.{option_map_or}
 use Rattle.std.specs.Str.{bytes_eq}
 use Rattle.mh_look.specs.declared.advice_tables.TheConstants as table
+use Rattle.mh_look.specs.declared.why_bound.TheConstants as table_of_bounds
+use Rattle.mh_look.specs.declared.why_circle.TheConstants as table_of_events
 use Rattle.mh_look.specs.declared.why_object.TheConstants as table_of_objects
 use Rattle.mh_look.specs.Wrapping.{paragraph}
 
@@ -37,6 +39,18 @@ readings = map (λ row. map (λ x. x.now) row) table.READINGS
 -- what stands in front of the object that a refusal names and behind it, by the number of the refusal
 unfoldable pub objects : List Row
 objects = map (λ row. map (λ x. x.now) row) table_of_objects.OBJECTS
+
+-- what stands in front of the steps of a bound and behind them, by the word of the kind
+unfoldable pub bounds : List Row
+bounds = map (λ row. map (λ x. x.now) row) table_of_bounds.BOUNDS
+
+-- what stands in front of the object of an event and behind it, and in front of its data, by the type of the event
+
+unfoldable pub events : List Row
+events = map (λ row. map (λ x. x.now) row) table_of_events.EVENTS
+
+unfoldable pub event_data : List Row
+event_data = map (λ row. map (λ x. x.now) row) table_of_events.EVENT_DATA
 
 abbrev pub cell : Row → ℕ → List ℕ
 cell [] n = []

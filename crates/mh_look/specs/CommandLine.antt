@@ -28,11 +28,12 @@ report = file (codes "REPORT")
 abbrev pub other : Rule
 other = file (codes "OTHER")
 
-abbrev pub output : Rule
-output = file (codes "OUTPUT")
+abbrev pub path : Rule
+path = file (codes "PATH")
 
+-- behind a path: a folder
 abbrev pub folder : Rule
-folder = file (codes "DIR")
+folder = record (new_rule (codes "DIR")) { action = Some Set }
 
 -- an option with a value
 abbrev pub named : Text → Rule
@@ -72,8 +73,12 @@ tags = named (codes "tags")
 abbrev pub script : Rule
 script = named (codes "script")
 
+abbrev pub costs : Rule
+costs = flag (codes "costs")
+
+-- when an explanation is written in colours: the words that there are for that are not told by `clap`
 abbrev pub color : Rule
-color = flag (codes "color")
+color = record (named (codes "color")) { defaults = codes "auto" ∷ [] }
 
 -- The subcommands.
 
@@ -89,16 +94,16 @@ image = with_rule (with_rule (new_app (codes "image")) report) frame_required
 abbrev pub diff : App
 diff = with_rule (with_rule (new_app (codes "diff")) report) other
 
--- what has to be given, what may be said of the service, and then of the rest
+-- what is explained, what may be said of the service, and then of the rest
 
-abbrev pub why_required : App
-why_required = with_rule (with_rule (new_app (codes "why")) output) folder
+abbrev pub why_paths : App
+why_paths = with_rule (with_rule (new_app (codes "why")) path) folder
 
 abbrev pub why_service : App
-why_service = with_rule (with_rule (with_rule why_required start) late) tags
+why_service = with_rule (with_rule (with_rule why_paths start) late) tags
 
 abbrev pub why : App
-why = with_rule (with_rule why_service script) color
+why = with_rule (with_rule (with_rule why_service script) costs) color
 
 -- the program without them: it has a version, and one of them has to be given
 abbrev pub bare : App
@@ -117,7 +122,7 @@ pub data Asked : Type 0 where
   paged : (report : Text) → Asked
   drawn : (report : Text) (frame : Option ℕ) → Asked
   compared : (first second : Text) → Asked
-  explained : (output folder start : Text) (late tags script : Option Text) (color : Bool) → Asked
+  explained : (output : Option Text) (folder start : Text) (late tags script : Option Text) (costs : Bool) (color : Text) → Asked
 
 -- the value of an argument; each that is read here is required or has a default
 abbrev pub text_of : Text → List Row → Text
@@ -144,10 +149,18 @@ drawing rows = drawn (text_of (codes "REPORT") rows) (frame_of rows)
 abbrev pub comparing : List Row → Asked
 comparing rows = compared (text_of (codes "REPORT") rows) (text_of (codes "OTHER") rows)
 
+-- of two paths the first is of an output, and the other the folder; one is the folder
+
+abbrev pub output_of : List Row → Option Text
+output_of rows = option_map_or (λ _. first_of (codes "PATH") rows) (first_of (codes "DIR") rows) None
+
+abbrev pub folder_of : List Row → Text
+folder_of rows = option_map_or (λ dir. dir) (first_of (codes "DIR") rows) (text_of (codes "PATH") rows)
+
 abbrev pub explaining : List Row → Asked
 explaining rows =
-    explained (text_of (codes "OUTPUT") rows) (text_of (codes "DIR") rows) (text_of (codes "start") rows) (first_of (codes "late") rows)
-    (first_of (codes "tags") rows) (first_of (codes "script") rows) (is_set (codes "color") rows)
+    explained (output_of rows) (folder_of rows) (text_of (codes "start") rows) (first_of (codes "late") rows)
+    (first_of (codes "tags") rows) (first_of (codes "script") rows) (is_set (codes "costs") rows) (text_of (codes "color") rows)
 
 -- the subcommand of this name
 abbrev pub asked_under : Text → List Row → Asked
@@ -168,9 +181,9 @@ said (task.Show report frame plain) = shown report.now frame plain
 said (task.Page report) = paged report.now
 said (task.Image report frame) = drawn report.now frame
 said (task.Diff first second) = compared first.now second.now
-said (task.Why output folder start given color) =
-    explained output.now folder.now start.now (option_map (λ s. s.now) given.late) (option_map (λ s. s.now) given.tags)
-    (option_map (λ s. s.now) given.script) color
+said (task.Why e) =
+    explained (option_map (λ s. s.now) e.output) e.folder.now e.start.now (option_map (λ s. s.now) e.given.late)
+    (option_map (λ s. s.now) e.given.tags) (option_map (λ s. s.now) e.given.script) e.costs e.color.now
 
 -- Why words ask for nothing that can be done.
 

@@ -18,6 +18,12 @@ pub mod Sources
 pub mod Services
 pub mod WayWords
 pub mod Ways
+pub mod Verdict
 pub mod Painting
+pub mod Spots
+pub mod Circles
+pub mod Through
+pub mod Missing
+pub mod Keywords
 pub mod Why
 pub mod Places

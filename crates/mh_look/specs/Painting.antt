@@ -35,7 +35,7 @@ coloured_from first size o bs = take first bs ++ coloured o (take size (drop fir
 unfoldable pub painted_line : List ℕ → List ℕ
 painted_line bs =
     if prefix_len is_space bs == 0 then coloured order.Bold bs
-    else (if begins_with (codes "^") (behind_spaces bs) then coloured order.Red bs
+    else (if begins_with (codes "|") (behind_spaces bs) then coloured order.Red bs
     else (if begins_with (codes "  Cause:") bs then coloured_from 2 6 order.Yellow bs
     else (if begins_with (codes "  Mend:") bs then coloured_from 2 5 order.Green bs else bs)))
 

@@ -1,11 +1,12 @@
 -- Where something stands in a file, as an author is shown it: the file, the line and the column, both from 1 on, the line itself, and
 -- carets under what is meant. No more than 70 characters of the line are shown, and no character gives a terminal an order.
-use Rattle.std.specs.Prelude.{ℕ, suc, ◌-◌, ◌==◌, ◌≡◌, Bool, true, ◌||◌, not, nat_lt, if◌then◌else◌, List, [], ◌∷◌, ◌++◌, length, take, drop, min, max, codes, replicate}
-use Rattle.std.specs.List.{flat_map, list_all}
+use Rattle.std.specs.Prelude.{ℕ, zero, suc, ◌+◌, ◌-◌, ◌==◌, ◌≡◌, Bool, true, ◌||◌, not, nat_le, nat_lt, if◌then◌else◌, List, [], ◌∷◌, ◌++◌, length, map, take, drop, min, max, codes, replicate, slice_index_or}
+use Rattle.std.specs.List.{flat_map, list_all, prefix_len}
 use Rattle.std.specs.Fmt.{decimal}
 use Rattle.bstr.specs.Text.{lines_of, without_terminator}
 use Rattle.bstr.specs.Utf8.{lossy_chars}
 use Rattle.mh_told.specs.Printing.{character}
+use Rattle.mh_look.specs.LineWords.{is_in_word}
 use Rattle.mh_look.specs.Shown.{is_order, harmless}
 use Rattle.mh_look.specs.Wrapping.{paragraph}
 
@@ -44,28 +45,42 @@ line_at text offset = line_in 1 (lines_of text) offset
 abbrev pub column : Line → ℕ
 column l = length (lossy_chars (take l.before l.bytes))
 
--- a line is shown in part where it is long: so many characters of it, and no more than so many before what is meant
-abbrev pub width : ℕ
-width = 70
-
-abbrev pub first_shown : Line → ℕ
-first_shown l = column l - 40
-
 -- tabs are one column wide
 abbrev pub spaced : ℕ → ℕ
 spaced c = if c == 9 then 32 else harmless c
 
--- a line from so many characters on
-unfoldable pub shown_from_column : List ℕ → ℕ → List ℕ
-shown_from_column bs first = flat_map (λ c. character (spaced c)) (take width (drop first (lossy_chars (without_terminator bs))))
+-- the characters of a line as they are shown
+abbrev pub characters_of : List ℕ → List ℕ
+characters_of bs = map spaced (lossy_chars (without_terminator bs))
 
--- what is meant stands behind so many of the characters that are shown
-abbrev pub shift : Line → ℕ
-shift l = column l - first_shown l
+-- A line is shown in part where it is long: it is cut between words, where that can be.
 
--- carets under so many bytes of the line: one at least, and none past what is shown
-abbrev pub caret_count : Line → ℕ → ℕ
-caret_count l size = max 1 (min (length (lossy_chars (take size (drop l.before (without_terminator l.bytes))))) (width - shift l))
+abbrev pub width : ℕ
+width = 70
+
+-- so many characters are shown at most before what is meant
+abbrev pub margin : ℕ
+margin = 40
+
+-- the word behind the one in which it would be cut, if it begins before what is meant
+abbrev pub word_behind : ℕ → ℕ → ℕ
+word_behind n size = if nat_lt size margin then n + size + 1 else n
+
+-- how many characters are left out in front of what stands in this column
+unfoldable pub first_shown : List ℕ → ℕ → ℕ
+first_shown cs column = if nat_le column margin then 0 else word_behind (column - margin) (prefix_len is_in_word (drop (column - margin) cs))
+
+-- the place of the last space among so many characters, or 0
+unfoldable pub last_space : List ℕ → ℕ → ℕ
+last_space cs zero = 0
+last_space cs (suc n) = if slice_index_or cs n 0 == 32 then n else last_space cs n
+
+abbrev pub cut_at : ℕ → ℕ → ℕ
+cut_at space shift = if nat_lt shift space then space else width
+
+-- how many of these are shown, where what is meant stands behind so many of them
+unfoldable pub size_shown : List ℕ → ℕ → ℕ
+size_shown cs shift = if nat_le (length cs) width then length cs else cut_at (last_space cs width) shift
 
 -- What is shown of a place: a line of words, the line, and one of carets.
 
@@ -73,14 +88,48 @@ unfoldable pub place_words : List ℕ → ℕ → ℕ → List ℕ
 place_words name number column =
     paragraph (codes "  " ++ name ++ codes ", line " ++ decimal number ++ codes ", column " ++ decimal (suc column))
 
-unfoldable pub shown_line : List ℕ → ℕ → List ℕ
-shown_line bs first = codes "      " ++ shown_from_column bs first ++ 10 ∷ []
+-- what tells that a line is cut in front, or behind
 
-unfoldable pub caret_line : ℕ → ℕ → List ℕ
-caret_line shift count = codes "      " ++ replicate shift 32 ++ replicate count 94 ++ 10 ∷ []
+abbrev pub cut_mark : List ℕ
+cut_mark = character 8230
+
+unfoldable pub front_mark : ℕ → List ℕ
+front_mark first = if first == 0 then [] else cut_mark ++ codes " "
+
+unfoldable pub back_mark : ℕ → ℕ → List ℕ
+back_mark shown all = if nat_lt shown all then codes " " ++ cut_mark else []
+
+-- so many columns the mark in front takes
+abbrev pub mark_width : ℕ → ℕ
+mark_width first = if first == 0 then 0 else 2
+
+-- the gutter has the number of the line
+unfoldable pub shown_line : List ℕ → List ℕ → ℕ → ℕ → List ℕ
+shown_line digits cs first shown =
+    codes "  " ++ plain digits ++ codes " | " ++ front_mark first ++ flat_map character (take shown cs) ++ back_mark shown (length cs) ++ 10 ∷ []
+
+unfoldable pub caret_line : ℕ → ℕ → ℕ → ℕ → List ℕ
+caret_line digits mark shift count =
+    codes "  " ++ replicate digits 32 ++ codes " | " ++ replicate mark 32 ++ replicate shift 32 ++ replicate count 94 ++ 10 ∷ []
+
+-- characters of a line behind so many that are left out, and carets under so many behind so many others: one at least, and none past what
+-- is shown
+unfoldable pub window : ℕ → List ℕ → ℕ → ℕ → ℕ → List ℕ
+window number cs first shift count =
+    shown_line (decimal number) cs first (size_shown cs shift)
+    ++ caret_line (length (decimal number)) (mark_width first) shift (max 1 (min count (size_shown cs shift - shift)))
+
+-- how many characters so many bytes of the line are
+abbrev pub meant : Line → ℕ → ℕ
+meant l size = length (lossy_chars (take size (drop l.before (without_terminator l.bytes))))
+
+-- with so many characters left out
+abbrev pub shown_from : List ℕ → Line → ℕ → ℕ → List ℕ
+shown_from name l size first =
+    place_words name l.number (column l) ++ window l.number (drop first (characters_of l.bytes)) first (column l - first) (meant l size)
 
 unfoldable pub shown_at : List ℕ → Line → ℕ → List ℕ
-shown_at name l size = place_words name l.number (column l) ++ shown_line l.bytes (first_shown l) ++ caret_line (shift l) (caret_count l size)
+shown_at name l size = shown_from name l size (first_shown (characters_of l.bytes) (column l))
 
 unfoldable pub shown_place : List ℕ → List ℕ → ℕ → ℕ → List ℕ
 shown_place name text offset size = shown_at name (line_at text offset) size

@@ -1,7 +1,7 @@
 -- The files of a service, as places in them are shown.
-use Rattle.std.specs.Prelude.{ℕ, zero, suc, ◌+◌, ◌==◌, Bool, false, nat_le, if◌then◌else◌, List, [], ◌∷◌, ◌++◌, length, codes, Option, Some, None, Result, Ok, Err}
+use Rattle.std.specs.Prelude.{ℕ, zero, suc, ◌+◌, ◌==◌, Bool, false, ◌||◌, not, nat_le, if◌then◌else◌, List, [], ◌∷◌, ◌++◌, drop, length, codes, Option, Some, None, Result, Ok, Err}
 use Rattle.std.specs.Fmt.{decimal}
-use Rattle.std.specs.List.{filter, find, flat_map}
+use Rattle.std.specs.List.{filter, find, flat_map, prefix_len}
 use Rattle.std.specs.Option.{option_map, option_map_or}
 use Rattle.std.specs.Str.{bytes_eq}
 use Rattle.bstr.specs.Text.{lines_of, without_terminator}
@@ -12,25 +12,28 @@ use Rattle.mh_group.specs.Words.{action_word}
 use Rattle.mh_codec.specs.Gives.{Refusal}
 use Rattle.mh_codec.specs.Reading as octets
 use Rattle.mh_codec.specs.Tags.{Tags, profile}
-use Rattle.mh_text.specs.Landmarks.{Landmark, Sight, Class, Number, Name, Through, landmarks, variables_at}
+use Rattle.mh_text.specs.Landmarks.{Landmark, Sight, Class, Number, Name, Through, landmarks}
 use Rattle.mh_text.specs.Lexing as words
 use Rattle.mh_text.specs.Printed.{printed, passes_limit}
 use Rattle.mh_text.specs.declared.mark.Mark.{Mark}
 use Rattle.mh_text.specs.Marks.{marks, mark_of}
-use Rattle.mh_told.specs.Reading.{Source as File, table_of}
+use Rattle.mh_told.specs.Reading.{Source as File, is_group_file, table_of}
 use Rattle.mh_told.specs.declared.unplayable.Unplayable.{Unplayable}
 use Rattle.mh_look.specs.declared.why_marked.TheConstants.{HAVE_CHANGED}
-use Rattle.mh_look.specs.declared.why_place.TheConstants.{GOES_THROUGH, STANDS_HERE, STAND_IN}
+use Rattle.mh_look.specs.declared.why_place.TheConstants.{AS_PRINTED, STANDS_HERE, STAND_IN}
 use Rattle.mh_look.specs.LineWords.{number_in}
 use Rattle.mh_look.specs.Places.{shown_place}
 use Rattle.mh_look.specs.Wrapping.{paragraph}
 
--- a file's path, the text that is shown of it, the marks of that, and whether the file begins as a group in the textual notation
+-- a file's path, the text that is shown of it, the marks of that, whether the file begins as a group in the textual notation, whether it
+-- begins as one at all, and whether the text is the printed form of a group in the binary notation
 pub record Source : Type 0 where
   pub name : List ℕ
   pub text : List ℕ
   pub marks : List Mark
   pub is_written : Bool
+  pub is_group : Bool
+  pub is_printed : Bool
 
 -- what is shown of a group that was read
 abbrev pub printed_as : List ℕ → Written → List ℕ
@@ -45,8 +48,19 @@ shown_as bs (Err _) = bs
 unfoldable pub text_of : Tags → List ℕ → List ℕ
 text_of tags bs = if octets.begins_group tags bs then shown_as bs (octets.read tags bs) else bs
 
+-- another text is shown of the file than its bytes
+abbrev pub is_printed : List ℕ → List ℕ → Bool
+is_printed text bs = not (bytes_eq text bs)
+
 abbrev pub source_of : Tags → File → Source
-source_of tags f = record { name = f.0; text = text_of tags f.1.items; marks = marks (text_of tags f.1.items); is_written = words.begins_group f.1.items }
+source_of tags f = record {
+  name = f.0;
+  text = text_of tags f.1.items;
+  marks = marks (text_of tags f.1.items);
+  is_written = words.begins_group f.1.items;
+  is_group = is_group_file tags f.1.items;
+  is_printed = is_printed (text_of tags f.1.items) f.1.items;
+}
 
 abbrev pub source_named : List Source → List ℕ → Option Source
 source_named ss name = find (λ (s : Source). bytes_eq s.name name) ss
@@ -55,10 +69,15 @@ source_named ss name = find (λ (s : Source). bytes_eq s.name name) ss
 abbrev pub in_source : (Source → List ℕ) → List Source → List ℕ → List ℕ
 in_source shown ss name = option_map_or shown (source_named ss name) []
 
+-- so many bytes of the text behind so many others; of the printed form it is told that it is one
+unfoldable pub shown_in : Source → ℕ → ℕ → List ℕ
+shown_in s start size =
+    if s.is_printed then shown_place (s.name ++ AS_PRINTED.now) s.text start size else shown_place s.name s.text start size
+
 -- ACTIONS
 
 abbrev pub shown_mark : Source → Mark → List ℕ
-shown_mark s m = shown_place s.name s.text m.start m.length
+shown_mark s m = shown_in s m.start m.length
 
 -- the mark of the action with this number of an object, or with the number 0 of its list of members
 abbrev pub shown_numbered : ℕ → ℕ → Source → List ℕ
@@ -83,29 +102,21 @@ variable_words from t = codes "variable " ++ decimal t.number ++ codes " of " ++
 abbrev pub more_variables : List ℕ → List Through → List ℕ
 more_variables from ts = flat_map (λ t. codes ", " ++ variable_words from t) ts
 
--- the variables through which an action goes, if there are some
-abbrev pub through_words : List ℕ → List Through → List ℕ
-through_words from [] = []
-through_words from (t ∷ ts) = paragraph (GOES_THROUGH.now ++ variable_words from t ++ more_variables from ts ++ codes ".")
-
-abbrev pub shown_through : Source → Mark → List ℕ
-shown_through s m = shown_mark s m ++ through_words s.name (variables_at s.text m.start)
-
 -- an action of this name stands there, or a list of members for `-`
 abbrev pub is_marked : List ℕ → Mark → Bool
 is_marked word m = option_map_or (λ name. bytes_eq (action_word name) word) m.action (bytes_eq word (codes "-"))
 
 -- where something else stands there, the output is of other files
 abbrev pub shown_if_marked : List ℕ → Source → Mark → List ℕ
-shown_if_marked word s m = if is_marked word m then shown_through s m else paragraph HAVE_CHANGED.now
+shown_if_marked word s m = if is_marked word m then shown_mark s m else paragraph HAVE_CHANGED.now
 
-abbrev pub shown_with_variables : List ℕ → ℕ → ℕ → Source → List ℕ
-shown_with_variables word object index s =
+abbrev pub shown_named_at : List ℕ → ℕ → ℕ → Source → List ℕ
+shown_named_at word object index s =
     option_map_or (shown_if_marked word s) (mark_of s.marks object index) (paragraph HAVE_CHANGED.now)
 
--- an action of this name with the variables through which it goes
+-- an action of this name
 unfoldable pub shown_refused : List Source → List ℕ → List ℕ → ℕ → ℕ → List ℕ
-shown_refused ss word group object index = in_source (shown_with_variables word object index) ss group
+shown_refused ss word group object index = in_source (shown_named_at word object index) ss group
 
 -- where all actions of a name stand
 
@@ -136,7 +147,7 @@ shown_actions ss word = named_words word ss (count_named word ss)
 -- OBJECTS AND NAMES
 
 abbrev pub shown_landmark : Source → Landmark → List ℕ
-shown_landmark s m = shown_place s.name s.text m.start m.length
+shown_landmark s m = shown_in s m.start m.length
 
 -- the number of an ingredient, or the class of the group itself, whose number is 0
 abbrev pub is_object : ℕ → Sight → Bool
@@ -156,9 +167,31 @@ shown_object ss group number = in_source (shown_object_in number) ss group
 
 -- BYTES AND LINES
 
--- what is shown of a byte of a file, if it is one of a text
+-- how long the token is that begins so: a string up to its end, and else all up to white space, a bracket or a string; of what begins
+-- no token one byte
+
+abbrev pub is_quote : ℕ → Bool
+is_quote b = b == 34 || b == 39
+
+abbrev pub is_bracket : ℕ → Bool
+is_bracket b = ((b == 40 || b == 41) || b == 123) || b == 125
+
+abbrev pub is_blank : ℕ → Bool
+is_blank b = ((b == 32 || b == 9) || b == 13) || b == 10
+
+abbrev pub is_in_token : ℕ → Bool
+is_in_token b = not ((is_blank b || is_bracket b) || is_quote b)
+
+abbrev pub is_no : ℕ → ℕ → Bool
+is_no b c = not (c == b)
+
+abbrev pub token_size : List ℕ → ℕ
+token_size [] = 1
+token_size (b ∷ bs) = if is_quote b then prefix_len (is_no b) bs + 2 else (if is_bracket b then 1 else prefix_len is_in_token bs + 1)
+
+-- what is shown of the token at a byte of a file, if it is one of a text
 abbrev pub shown_byte : ℕ → Source → List ℕ
-shown_byte n s = if s.is_written then shown_place s.name s.text n 1 else []
+shown_byte n s = if s.is_written then shown_place s.name s.text n (token_size (drop n s.text)) else []
 
 unfoldable pub shown_offset : List Source → List ℕ → ℕ → List ℕ
 shown_offset ss name n = in_source (shown_byte n) ss name

@@ -13,6 +13,7 @@ use Rattle.mh_layers.specs.declared.way.Way.{Way}
 use Rattle.mh_layers.specs.Bounding.{kind_word}
 use Rattle.mh_look.specs.declared.why_line.TheConstants.{SHOWS_NONE, SHOWS_SCENE}
 use Rattle.mh_look.specs.declared.why_way.TheConstants.{FILES_COME_TO, COSTS_MOST, STARTS, PUTS_FIRST, PUTS_NEXT, DEAREST_ACTION, PUTS_NONE}
+use Rattle.mh_look.specs.Advice.{Row, bounds, cell, row_with}
 use Rattle.mh_look.specs.Sources.{Source, shown_action}
 use Rattle.mh_look.specs.Wrapping.{paragraph}
 
@@ -58,5 +59,21 @@ way_text ss printed w = other_words printed w.cost ++ place_words w.kind w.confi
 abbrev pub way_of : List Way → List ℕ → Option Way
 way_of ways word = find (λ (w : Way). bytes_eq (kind_word w.kind) word) ways
 
+-- the steps to which an input of a kind leads, as they were printed
+
+unfoldable pub printed_steps : List ℕ → List ℕ
+printed_steps n = if bytes_eq n (codes "1") then n ++ codes " step" else n ++ codes " steps"
+
+abbrev pub bound_row : List ℕ → Row → List ℕ
+bound_row printed row = paragraph (cell row 1 ++ printed_steps printed ++ cell row 2)
+
+unfoldable pub bound_said : List ℕ → List ℕ → List ℕ
+bound_said word printed = option_map_or (bound_row printed) (row_with bounds word) []
+
+-- the way of the kind with this word, if it is known
 unfoldable pub bound_text : List Source → List Way → List ℕ → List ℕ → List ℕ
 bound_text ss ways word printed = option_map_or (way_text ss printed) (way_of ways word) []
+
+-- all that is told of a bound
+abbrev pub bound_told : List Source → List Way → List ℕ → List ℕ → List ℕ
+bound_told ss ways word printed = bound_said word printed ++ bound_text ss ways word printed

@@ -1,29 +1,38 @@
 -- What is explained of the lines that `check` and `play` print: the line itself, what it tells, where what it names stands in the files,
 -- the cause, and the mend. A line that tells of nothing wrong, and of no bound, is passed over.
-use Rattle.std.specs.Prelude.{ℕ, if◌then◌else◌, List, [], ◌∷◌, ◌++◌, map, codes, Option, Some, None}
-use Rattle.std.specs.List.{find}
+use Rattle.std.specs.Prelude.{ℕ, if◌then◌else◌, List, [], ◌∷◌, ◌++◌, drop, map, codes, Option, Some, None}
 use Rattle.std.specs.Option.{option_map_or}
 use Rattle.std.specs.Str.{bytes_eq}
 use Rattle.bstr.specs.Text.{lines_of, without_terminator}
+use Rattle.mh_flow.specs.declared.link.Link.{Link}
+use Rattle.mh_layers.specs.declared.arrow.Arrow.{Arrow}
 use Rattle.mh_layers.specs.declared.way.Way.{Way}
 use Rattle.mh_told.specs.Reading.{Source as File}
-use Rattle.mh_look.specs.declared.why_line.TheConstants.{STANDS_IN, MEMBERS_OF, SO_IT_IS, SHOWS_NONE, SHOWS_SCENE, THE_ACTION, WAS_STUCK, LEADS_TO, CIRCLE_THROUGH, COMES_BY, IS_BYTE, OF_FILE, TOLD_OF, IS_LINE, IS_CONTEXT, CONTEXTS}
+use Rattle.mh_look.specs.declared.why_line.TheConstants.{STANDS_IN, MEMBERS_OF, SO_IT_IS, SHOWS_NONE, SHOWS_SCENE, THE_ACTION, WAS_STUCK, LEADS_TO, CIRCLE_THROUGH, COMES_BY, EFFECT_WITH, PUTS_ITSELF, HANDS_ON, WRITES_IT, IS_BYTE, OF_FILE, TOLD_OF, IS_LINE, IS_CONTEXT, CONTEXTS}
 use Rattle.mh_look.specs.Advice.{advice, cell, row_with, refusals, files, services, tags, faults, objects, readings}
 use Rattle.mh_look.specs.declared.why_keyword.Keyword.{Keyword}
 use Rattle.mh_look.specs.declared.why_keyword.Keyword.TheVariants as keyword
+use Rattle.mh_look.specs.Circles.{arrow_text, at_words, next_in}
+use Rattle.mh_look.specs.Keywords.{keyword_of}
 use Rattle.mh_look.specs.LineWords.{first_word, behind_first, last_word, before_last}
+use Rattle.mh_look.specs.Missing.{missing}
 use Rattle.mh_look.specs.Places.{plain, IsHarmless}
 use Rattle.mh_look.specs.Services.{shown_service}
 use Rattle.mh_look.specs.Sources.{NamedFile, Source, by_number, by_numbers, shown_action, shown_actions, shown_line, shown_object, shown_offset, shown_refused, shown_written, source_of, table_by}
-use Rattle.mh_look.specs.WayWords.{bound_text}
+use Rattle.mh_look.specs.Spots.{Spot, spot, object_words, action_words}
+use Rattle.mh_look.specs.Through.{through_told}
+use Rattle.mh_look.specs.WayWords.{bound_text, bound_told}
 use Rattle.mh_look.specs.Wrapping.{paragraph}
 
--- What is known beside an output: the files of the service, the dearest ways of its inputs, the file that names late scenes, the one
--- that gives tags, and the script. Where these are not known, there are no ways, and none of these files.
+-- What is known beside an output: the files of the service, the dearest ways of its inputs, the chain and the circle of its refusal, the
+-- file that names late scenes, the one that gives tags, and the script. Where these are not known, there are no ways, links and arrows,
+-- and none of these files.
 
 pub record Known : Type 0 where
   pub files : List File
   pub ways : List Way
+  pub chain : List Link
+  pub cycle : List Arrow
   pub late : Option NamedFile
   pub tags : Option NamedFile
   pub script : Option NamedFile
@@ -32,57 +41,19 @@ pub record Known : Type 0 where
 pub record Ground : Type 0 where
   pub sources : List Source
   pub ways : List Way
+  pub chain : List Link
+  pub cycle : List Arrow
   pub late : Option NamedFile
   pub tags : Option NamedFile
   pub script : Option NamedFile
 
--- Words
-
--- the first words of the lines that are explained
-abbrev pub keyword_word : Keyword → List ℕ
-keyword_word keyword.Accepted = codes "accepted"
-keyword_word keyword.Start = codes "start"
-keyword_word keyword.Key = codes "key"
-keyword_word keyword.Tick = codes "tick"
-keyword_word keyword.Stream = codes "stream"
-keyword_word keyword.Engine = codes "engine"
-keyword_word keyword.Arrive = codes "arrive"
-keyword_word keyword.Refused = codes "refused"
-keyword_word keyword.Config = codes "config"
-keyword_word keyword.Object = codes "object"
-keyword_word keyword.By = codes "by"
-keyword_word keyword.Cause = codes "cause"
-keyword_word keyword.File = codes "file"
-keyword_word keyword.Service = codes "service"
-keyword_word keyword.Tags = codes "tags"
-keyword_word keyword.Script = codes "script"
-keyword_word keyword.Read = codes "read"
-keyword_word keyword.Fault = codes "fault"
-
-abbrev pub keywords : List Keyword
-keywords =
-    keyword.Accepted ∷ keyword.Start ∷ keyword.Key ∷ keyword.Tick ∷ keyword.Stream ∷ keyword.Engine ∷ keyword.Arrive ∷ keyword.Refused
-    ∷ keyword.Config ∷ keyword.Object ∷ keyword.By ∷ keyword.Cause ∷ keyword.File ∷ keyword.Service ∷ keyword.Tags ∷ keyword.Script
-    ∷ keyword.Read ∷ keyword.Fault ∷ []
-
-abbrev pub keyword_of : List ℕ → Option Keyword
-keyword_of word = find (λ k. bytes_eq (keyword_word k) word) keywords
-
--- what a line names: a group, and two numbers behind it, of which the first is mostly that of an object and the second that of an action
-pub record Spot : Type 0 where
-  pub group : List ℕ
-  pub object : List ℕ
-  pub index : List ℕ
-
-abbrev pub spot : List ℕ → Spot
-spot ws = record { group = before_last (before_last ws); object = last_word (before_last ws); index = last_word ws }
-
--- an object by its group and its number
-unfoldable pub object_words : List ℕ → List ℕ → List ℕ
-object_words group number = codes "object " ++ number ++ codes " of " ++ group
-
-unfoldable pub action_words : Spot → List ℕ
-action_words s = codes "action " ++ s.index ++ codes " of " ++ object_words s.group s.object
+-- what was told before a line, and what is still to come: the words behind the last `refused`, the line before, and the links and the
+-- arrows of which no line told yet
+pub record Past : Type 0 where
+  pub refusal : List ℕ
+  pub before : List ℕ
+  pub chain : List Link
+  pub cycle : List Arrow
 
 -- where the action or the members stand
 abbrev pub shown_spot : List Source → Spot → List ℕ
@@ -95,23 +66,39 @@ abbrev pub refused_words : List ℕ → Spot → List ℕ
 refused_words action s =
     if bytes_eq action (codes "-") then MEMBERS_OF.now ++ object_words s.group s.object else action ++ codes ", " ++ action_words s
 
--- with the variables through which it goes
 unfoldable pub refused_spot : List Source → List ℕ → Spot → List ℕ
 refused_spot ss action s =
     paragraph (STANDS_IN.now ++ refused_words action s ++ codes ".") ++ by_numbers (shown_refused ss action s.group) s.object s.index
 
+-- the effect of which a circle is told; where its arrows are known, they show the actions
+unfoldable pub circle_words : List ℕ → Spot → List ℕ
+circle_words action s = EFFECT_WITH.now ++ action ++ codes ", " ++ action_words s ++ PUTS_ITSELF.now
+
+abbrev pub unless_known : List Arrow → List ℕ → List ℕ
+unless_known [] shown = shown
+unless_known (a ∷ more) shown = []
+
+unfoldable pub circle_place : Ground → List ℕ → Spot → List ℕ
+circle_place g action s = unless_known g.cycle (by_numbers (shown_refused g.sources action s.group) s.object s.index)
+
+unfoldable pub circle_spot : Ground → List ℕ → Spot → List ℕ
+circle_spot g action s = paragraph (circle_words action s) ++ circle_place g action s
+
+abbrev pub refused_by : Ground → List ℕ → List ℕ → Spot → List ℕ
+refused_by g number action s = if bytes_eq number (codes "V6") then circle_spot g action s else refused_spot g.sources action s
+
 -- only what the verifier refuses for what stands somewhere has a place
-abbrev pub refused_at : List Source → List ℕ → Spot → List ℕ
-refused_at ss action s = told s.group
+abbrev pub refused_at : Ground → List ℕ → List ℕ → Spot → List ℕ
+refused_at g number action s = told s.group
   where
     told : List ℕ → List ℕ
     told [] = []
-    told (b ∷ bs) = refused_spot ss action s
+    told (b ∷ bs) = refused_by g number action s
 
 -- for a bound that is too large the kind of input is told
 unfoldable pub refused : Ground → List ℕ → List ℕ
 refused g ws =
-    refused_at g.sources (last_word (behind_first ws)) (spot (before_last (behind_first ws))) ++ advice refusals (first_word ws)
+    refused_at g (first_word ws) (last_word (behind_first ws)) (spot (before_last (behind_first ws))) ++ advice refusals (first_word ws)
     ++ bound_text g.sources g.ways (behind_first ws) []
 
 -- Lines that tell more of what is refused
@@ -128,15 +115,27 @@ abbrev pub object_told : List ℕ → List ℕ → List ℕ
 object_told number words =
     option_map_or (λ row. cell row 1 ++ words ++ cell row 2) (row_with objects number) (LEADS_TO.now ++ words ++ codes ".")
 
-unfoldable pub object : List Source → List ℕ → List ℕ → List ℕ
-object ss number ws =
-    paragraph (object_told number (object_words (before_last ws) (last_word ws)))
-    ++ by_number (shown_object ss (before_last ws)) (last_word ws)
+unfoldable pub object : Ground → List ℕ → List ℕ → List ℕ
+object g refusal ws =
+    paragraph (object_told (first_word refusal) (object_words (before_last ws) (last_word ws)))
+    ++ by_number (shown_object g.sources (before_last ws)) (last_word ws)
+    ++ through_told g.sources g.chain refusal ws ++ missing g.sources (before_last ws)
 
-abbrev pub by_words : Spot → List ℕ
-by_words s =
-    if bytes_eq s.index (codes "0") then object_words s.group s.object ++ codes ", which has it from the start"
-    else action_words s ++ codes ", which writes it or hands it on"
+-- the first of a chain writes the reference, and the others hand it on
+abbrev pub brings : List ℕ → List ℕ
+brings before = if bytes_eq (first_word before) (codes "by") then HANDS_ON.now else WRITES_IT.now
+
+-- the variable or the list that has it then, if the link is known
+abbrev pub into : List Link → List ℕ
+into [] = []
+into (l ∷ ls) = codes " to " ++ at_words l.written
+
+unfoldable pub brought_words : Past → Spot → List ℕ
+brought_words p s = action_words s ++ brings p.before ++ into p.chain
+
+abbrev pub by_words : Past → Spot → List ℕ
+by_words p s =
+    if bytes_eq s.index (codes "0") then object_words s.group s.object ++ codes ", which has it from the start" else brought_words p s
 
 -- the text, or if that is empty the other
 abbrev pub or_else : List ℕ → List ℕ → List ℕ
@@ -148,11 +147,17 @@ abbrev pub shown_from : List Source → Spot → List ℕ
 shown_from ss s =
     if bytes_eq s.index (codes "0") then or_else (shown_spot ss s) (by_number (shown_object ss s.group) s.object) else shown_spot ss s
 
-unfoldable pub by : List Source → Spot → List ℕ
-by ss s = paragraph (COMES_BY.now ++ by_words s ++ codes ".") ++ shown_from ss s
+unfoldable pub by : List Source → Past → Spot → List ℕ
+by ss p s = paragraph (COMES_BY.now ++ by_words p s ++ codes ".") ++ shown_from ss s
 
+-- an effect of a circle that is known by its first action alone
 unfoldable pub cause : List Source → Spot → List ℕ
 cause ss s = paragraph (CIRCLE_THROUGH.now ++ action_words s ++ codes ".") ++ shown_spot ss s
+
+-- the next effect of a circle, by its arrow where that is known
+abbrev pub cause_told : Ground → List Arrow → Spot → List ℕ
+cause_told g [] s = cause g.sources s
+cause_told g (a ∷ more) s = arrow_text g.sources a (next_in a more g.cycle)
 
 -- Lines on what cannot be read, and on faults
 
@@ -171,7 +176,7 @@ shown_late (Some f) number line = if bytes_eq number (codes "37") then shown_wri
 unfoldable pub service : Ground → List ℕ → List ℕ
 service g ws =
     paragraph (TOLD_OF.now ++ behind_first ws ++ codes ".") ++ shown_service g.sources (first_word ws) (behind_first ws)
-    ++ shown_late g.late (first_word ws) (behind_first ws) ++ advice services (first_word ws)
+    ++ shown_late g.late (first_word ws) (behind_first ws) ++ missing g.sources (behind_first ws) ++ advice services (first_word ws)
 
 -- which line of the file of tags is wrong, or in which context a tag stands twice
 abbrev pub tag_words : List ℕ → List ℕ → List ℕ
@@ -204,53 +209,71 @@ stuck action at = paragraph (THE_ACTION.now ++ action ++ WAS_STUCK.now ++ object
 unfoldable pub fault : List Source → List ℕ → List ℕ
 fault ss ws =
     stuck (first_word (behind_first ws)) (behind_first (behind_first ws)) ++ shown_actions ss (first_word (behind_first ws))
-    ++ advice faults (first_word ws)
+    ++ missing ss (before_last (behind_first (behind_first ws))) ++ advice faults (first_word ws)
 
 unfoldable pub accepted : List ℕ
 accepted = paragraph (codes "  Nothing can go wrong, and no input leads to more steps than the line of its kind tells.")
 
 -- All lines
 
--- what is told of a line with this first word and these behind it, behind a refusal with this number
-abbrev pub told : Ground → List ℕ → Keyword → List ℕ → List ℕ
-told g number keyword.Accepted ws = accepted
-told g number keyword.Start ws = bound_text g.sources g.ways (codes "start") ws
-told g number keyword.Key ws = bound_text g.sources g.ways (codes "key") ws
-told g number keyword.Tick ws = bound_text g.sources g.ways (codes "tick") ws
-told g number keyword.Stream ws = bound_text g.sources g.ways (codes "stream") ws
-told g number keyword.Engine ws = bound_text g.sources g.ways (codes "engine") ws
-told g number keyword.Arrive ws = bound_text g.sources g.ways (codes "arrive") ws
-told g number keyword.Refused ws = refused g ws
-told g number keyword.Config ws = config ws
-told g number keyword.Object ws = object g.sources number ws
-told g number keyword.By ws = by g.sources (spot ws)
-told g number keyword.Cause ws = cause g.sources (spot ws)
-told g number keyword.File ws = file g.sources (spot ws)
-told g number keyword.Service ws = service g ws
-told g number keyword.Tags ws = tagged g.tags ws
-told g number keyword.Script ws = script g.script ws
-told g number keyword.Read ws = unread ws
-told g number keyword.Fault ws = fault g.sources ws
+-- what is told of a line with this first word and these behind it, behind what was told
+abbrev pub told : Ground → Past → Keyword → List ℕ → List ℕ
+told g p keyword.Accepted ws = accepted
+told g p keyword.Start ws = bound_told g.sources g.ways (codes "start") ws
+told g p keyword.Key ws = bound_told g.sources g.ways (codes "key") ws
+told g p keyword.Tick ws = bound_told g.sources g.ways (codes "tick") ws
+told g p keyword.Stream ws = bound_told g.sources g.ways (codes "stream") ws
+told g p keyword.Engine ws = bound_told g.sources g.ways (codes "engine") ws
+told g p keyword.Arrive ws = bound_told g.sources g.ways (codes "arrive") ws
+told g p keyword.Refused ws = refused g ws
+told g p keyword.Config ws = config ws
+told g p keyword.Object ws = object g p.refusal ws
+told g p keyword.By ws = by g.sources p (spot ws)
+told g p keyword.Cause ws = cause_told g p.cycle (spot ws)
+told g p keyword.File ws = file g.sources (spot ws)
+told g p keyword.Service ws = service g ws
+told g p keyword.Tags ws = tagged g.tags ws
+told g p keyword.Script ws = script g.script ws
+told g p keyword.Read ws = unread ws
+told g p keyword.Fault ws = fault g.sources ws
 
-unfoldable pub with_line : Ground → List ℕ → List ℕ → Keyword → List ℕ
-with_line g number line k = plain line ++ 10 ∷ [] ++ told g number k (behind_first line)
+unfoldable pub with_line : Ground → Past → List ℕ → Keyword → List ℕ
+with_line g p line k = plain line ++ 10 ∷ [] ++ told g p k (behind_first line)
 
-unfoldable pub explained : Ground → List ℕ → List ℕ → List ℕ
-explained g number line = option_map_or (with_line g number line) (keyword_of (first_word line)) []
+unfoldable pub explained : Ground → Past → List ℕ → List ℕ
+explained g p line = option_map_or (with_line g p line) (keyword_of (first_word line)) []
 
--- the number of the last refusal, behind one more line
-abbrev pub number_behind : List ℕ → List ℕ → List ℕ
-number_behind number line = if bytes_eq (first_word line) (codes "refused") then first_word (behind_first line) else number
+-- what was told, behind one more line
 
-abbrev pub explained_all : Ground → List ℕ → List (List ℕ) → List ℕ
-explained_all g number [] = []
-explained_all g number (line ∷ lines) = explained g number line ++ explained_all g (number_behind number line) lines
+abbrev pub refusal_behind : List ℕ → List ℕ → List ℕ
+refusal_behind refusal line = if bytes_eq (first_word line) (codes "refused") then behind_first line else refusal
+
+abbrev pub chain_behind : List Link → List ℕ → List Link
+chain_behind chain line = if bytes_eq (first_word line) (codes "by") then drop 1 chain else chain
+
+abbrev pub cycle_behind : List Arrow → List ℕ → List Arrow
+cycle_behind cycle line = if bytes_eq (first_word line) (codes "cause") then drop 1 cycle else cycle
+
+abbrev pub past_behind : Past → List ℕ → Past
+past_behind p line = record {
+  refusal = refusal_behind p.refusal line;
+  before = line;
+  chain = chain_behind p.chain line;
+  cycle = cycle_behind p.cycle line;
+}
+
+abbrev pub explained_all : Ground → Past → List (List ℕ) → List ℕ
+explained_all g p [] = []
+explained_all g p (line ∷ lines) = explained g p line ++ explained_all g (past_behind p line) lines
+
+abbrev pub first_past : Ground → Past
+first_past g = record { refusal = []; before = []; chain = g.chain; cycle = g.cycle }
 
 abbrev pub ground : Known → Ground
-ground k = record { sources = map (source_of (table_by k.tags)) k.files; ways = k.ways; late = k.late; tags = k.tags; script = k.script }
+ground k = record { sources = map (source_of (table_by k.tags)) k.files; ways = k.ways; chain = k.chain; cycle = k.cycle; late = k.late; tags = k.tags; script = k.script }
 
 unfoldable pub why : Known → List ℕ → List ℕ
-why k output = explained_all (ground k) [] (map without_terminator (lines_of output))
+why k output = explained_all (ground k) (first_past (ground k)) (map without_terminator (lines_of output))
 
 -- the law: whatever is known and whatever the output is, a terminal is given no order
 abbrev pub ExplanationsAreHarmless : Type 0

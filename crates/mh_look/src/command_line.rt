@@ -5,7 +5,7 @@
 ghost use Rattle.std.specs.Prelude.{◌≡◌, map, true, option_map, IfOk, IfErr};
 ghost use Rattle.clap.specs.Words.{FailsBy, fault_of, first_of, found_of, kind_of, rows_of, subcommand_of, subcommand_rows_of, takes};
 ghost use Rattle.clap.specs.declared.error.kind.ErrorKind.TheVariants.{OutOfMemory};
-ghost use Rattle.mh_look.specs.CommandLine.{IsApart, IsRefusedBy, asked_by, asked_under, number_in, frame_of, is_set, said, text_of};
+ghost use Rattle.mh_look.specs.CommandLine.{IsApart, IsRefusedBy, asked_by, asked_under, folder_of, number_in, frame_of, is_set, output_of, said, text_of};
 ghost use Rattle.mh_look.specs.CommandLine as spec;
 ghost use Rattle.mh_look.specs.declared.command_line_error.CommandLineError.TheVariants.{NoMemory};
 
@@ -38,15 +38,24 @@ pub enum Task<'a> {
         first: &'a str,
         second: &'a str,
     },
-    /// Why `redplay` refuses a service, by what it printed of the service in a folder.
-    Why {
-        output: &'a str,
-        folder: &'a str,
-        /// The path of the application that the service starts with.
-        start: &'a str,
-        given: Given<'a>,
-        color: bool,
-    },
+    /// Why a service is refused, or what `redplay` printed of it.
+    Why(Explain<'a>),
+}
+
+/// What is explained.
+#[derive(Drop)]
+pub struct Explain<'a> {
+    /// The file with what `redplay` printed; without it the service is checked.
+    pub output: Option<&'a str>,
+    /// The folder of the service.
+    pub folder: &'a str,
+    /// The path of the application that the service starts with.
+    pub start: &'a str,
+    pub given: Given<'a>,
+    /// Whether it is told what makes inputs dear.
+    pub costs: bool,
+    /// When it is written in colours.
+    pub color: &'a str,
 }
 
 /// The files beside those of a service that are named, where they are.
@@ -137,16 +146,37 @@ fn comparing<'a>(given: &ArgMatches<'a>) -> Task<'a>
 fn explaining<'a>(given: &ArgMatches<'a>) -> Task<'a>
     ensures { said result ≡ spec.explaining (rows_of (found_of given.now)) }
 {
-    Task::Why {
-        output: text_of(given, "OUTPUT"),
-        folder: text_of(given, "DIR"),
+    Task::Why(Explain {
+        output: output_of(given),
+        folder: folder_of(given),
         start: text_of(given, "start"),
         given: Given {
             late: named(given, "late"),
             tags: named(given, "tags"),
             script: named(given, "script"),
         },
-        color: is_set(given, "color"),
+        costs: is_set(given, "costs"),
+        color: text_of(given, "color"),
+    })
+}
+
+/// The file with an output: the first of two paths.
+fn output_of<'a>(given: &ArgMatches<'a>) -> Option<&'a str>
+    ensures { option_map (λ s. s.now) result ≡ output_of (rows_of (found_of given.now)) }
+{
+    match named(given, "DIR") {
+        Some(_) => named(given, "PATH"),
+        None => None,
+    }
+}
+
+/// The folder: the second of two paths, or the one that there is.
+fn folder_of<'a>(given: &ArgMatches<'a>) -> &'a str
+    ensures { result.now ≡ folder_of (rows_of (found_of given.now)) }
+{
+    match named(given, "DIR") {
+        Some(folder) => folder,
+        None => text_of(given, "PATH"),
     }
 }
 

@@ -81,7 +81,7 @@ fn put_line(text: &mut Text, line: &[u8]) -> Result<(), AllocError>
     if spaces == 0 {
         return put_coloured(text, Order::Bold, line);
     }
-    if begins_with(b"^", &line[spaces..]) {
+    if begins_with(b"|", &line[spaces..]) {
         return put_coloured(text, Order::Red, line);
     }
     if begins_with(b"  Cause:", line) {
@@ -107,7 +107,7 @@ fn is_space(byte: u8) -> bool
     byte == b' '
 }
 
-fn begins_with(word: &[u8], bytes: &[u8]) -> bool
+pub(crate) fn begins_with(word: &[u8], bytes: &[u8]) -> bool
     ensures exact { result ≡ begins_with word.now bytes.now }
     ensures within { result ≡ true → length word.now ≤ length bytes.now }
 {

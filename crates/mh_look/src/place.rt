@@ -6,19 +6,14 @@
 ghost use Rattle.std.specs.Prelude.{◌≡◌, ◌≤◌, ◌<◌, ◌^◌, ◌++◌, OnOk, IfOk, length, take, drop, replicate};
 ghost use Rattle.bstr.specs.Text.{without_terminator};
 ghost use Rattle.bstr.specs.Utf8.{lossy_chars};
-ghost use Rattle.mh_look.specs.Places.{plain, PlacesAreHarmless, line_at, spaced, shown_from_column, place_words, shown_line, caret_line, shown_at, shown_place};
+ghost use Rattle.mh_look.specs.Places.{characters_of, plain, PlacesAreHarmless, line_at, spaced, place_words, shown_at, shown_place};
 
 use crate::show::{harmless, put_character};
+use crate::window::{first_shown, put_window};
 use crate::wrap::put_paragraph;
 use bstr::ByteSlice;
 use mh_told::text::Text;
 use std::alloc::{AllocError, Global};
-
-/// How many characters of a line are shown.
-const WIDTH: usize = 70;
-
-/// How many characters of a line are shown before what is meant.
-const MARGIN: usize = 40;
 
 /// What is shown of so many bytes behind so many others of a file of this name.
 pub fn place_text(
@@ -108,12 +103,23 @@ fn put_in_line(
     ensures { OnOk result (text.new ≡ text.old ++ shown_at name.now (record { number = number; bytes = line.now; before = before }) size) }
 {
     let column = characters_in(&line[..before]);
-    let first = column.saturating_sub(MARGIN);
+    let characters = characters_of(alloc, line)?;
+    let first = first_shown(characters.as_slice(), column);
     put_words(alloc, text, name, number, column)?;
-    put_line(text, line, first)?;
-    let shift = column - first;
+    let rest = characters.get(first..).unwrap_or(&[]);
     let count = characters_behind(line, before, size);
-    put_carets(text, shift, count.min(WIDTH - shift).max(1))
+    put_window(alloc, text, number, rest, first, column - first, count)
+}
+
+/// The characters of a line as they are shown.
+fn characters_of(alloc: Global, line: &[u8]) -> Result<Vec<u32>, AllocError>
+    ensures { IfOk result (λ characters. characters.items ≡ characters_of line.now) }
+{
+    let mut characters = Vec::new(alloc);
+    for character in without_terminator(line).chars() {
+        characters.push(spaced(character as u32))?;
+    }
+    Ok(characters)
 }
 
 /// How many characters of a line there are in so many bytes behind so many others, or up to its end
@@ -160,27 +166,6 @@ fn put_words(
     put_paragraph(alloc, text, words.as_slice())
 }
 
-/// Puts a line from so many characters on.
-#[tactic(auto, unfolding(crate::specs::Places::shown_line))]
-fn put_line(text: &mut Text, line: &[u8], first: usize) -> Result<(), AllocError>
-    ensures { OnOk result (text.new ≡ text.old ++ shown_line line.now first) }
-{
-    text.put(b"      ")?;
-    put_from_column(text, line, first)?;
-    text.put(b"\n")
-}
-
-/// Puts the characters of a line that are shown.
-#[tactic(auto, unfolding(crate::specs::Places::shown_from_column))]
-fn put_from_column(text: &mut Text, line: &[u8], first: usize) -> Result<(), AllocError>
-    ensures { OnOk result (text.new ≡ text.old ++ shown_from_column line.now first) }
-{
-    for character in without_terminator(line).chars().skip(first).take(WIDTH) {
-        put_character(text, spaced(character as u32))?;
-    }
-    Ok(())
-}
-
 /// The character that is shown for one of a line: a space for a tab.
 fn spaced(scalar: u32) -> u32
     ensures { result ≡ spaced scalar }
@@ -201,19 +186,8 @@ pub(crate) fn without_terminator(line: &[u8]) -> &[u8]
     }
 }
 
-/// Puts carets, behind so many spaces.
-#[tactic(auto, unfolding(crate::specs::Places::caret_line))]
-fn put_carets(text: &mut Text, shift: usize, count: usize) -> Result<(), AllocError>
-    ensures { OnOk result (text.new ≡ text.old ++ caret_line shift count) }
-{
-    text.put(b"      ")?;
-    put_repeated(text, b' ', shift)?;
-    put_repeated(text, b'^', count)?;
-    text.put(b"\n")
-}
-
 /// Puts a byte so many times.
-fn put_repeated(text: &mut Text, byte: u8, count: usize) -> Result<(), AllocError>
+pub(crate) fn put_repeated(text: &mut Text, byte: u8, count: usize) -> Result<(), AllocError>
     ensures { OnOk result (text.new ≡ text.old ++ replicate count byte) }
 {
     for _ in 0..count {

@@ -16,8 +16,22 @@ const VERSION: &str = "0.1.0";
 /// The application that a service starts with where none is named.
 const START: &str = "a";
 
+/// When an explanation is written in colours where nothing is said of it.
+const WHEN: &str = "auto";
+
 /// The largest number that a frame can be asked for under.
 pub const LAST_FRAME: u64 = 1_000_000_000;
+
+/// What is told behind the help of `why`.
+const WHY_EXAMPLES: &str = "Exit status of `why DIR`:
+  0  the service is accepted
+  1  the verifier refuses it
+  2  a file, the service or the command line cannot be read
+
+Examples:
+  redlook why examples/broken/service
+  redlook why examples/late/service --late examples/late/late --costs
+  redplay play examples/first/service --script script | redlook why - examples/first/service --script script";
 
 /// The program with all its subcommands.
 pub fn program<'a>(alloc: Global) -> Result<Command<'a>, AllocError>
@@ -108,32 +122,35 @@ fn why<'a>(alloc: Global) -> Result<Command<'a>, AllocError>
     ensures app { IfOk result (λ c. app_of c ≡ spec.why) }
     ensures local { IfOk result (λ c. (fields_of c).has_globals ≡ false) }
 {
-    why_service(alloc)?.arg(script(alloc))?.arg(color(alloc))
+    why_service(alloc)?
+        .arg(script(alloc))?
+        .arg(costs(alloc))?
+        .arg(color(alloc))
 }
 
-/// The subcommand with what has to be given, and what may be said of the service.
+/// The subcommand with what is explained, and what may be said of the service.
 fn why_service<'a>(alloc: Global) -> Result<Command<'a>, AllocError>
     ensures app { IfOk result (λ c. app_of c ≡ spec.why_service) }
     ensures local { IfOk result (λ c. (fields_of c).has_globals ≡ false) }
 {
-    why_required(alloc)?
+    why_paths(alloc)?
         .arg(start(alloc))?
         .arg(late(alloc))?
         .arg(tags(alloc))
 }
 
-/// The subcommand with what has to be given.
-fn why_required<'a>(alloc: Global) -> Result<Command<'a>, AllocError>
-    ensures app { IfOk result (λ c. app_of c ≡ spec.why_required) }
+/// The subcommand with what is explained.
+fn why_paths<'a>(alloc: Global) -> Result<Command<'a>, AllocError>
+    ensures app { IfOk result (λ c. app_of c ≡ spec.why_paths) }
     ensures local { IfOk result (λ c. (fields_of c).has_globals ≡ false) }
 {
     described(
         alloc,
         "why",
-        "Explains why a service is refused, with the places in its files, and how to mend it",
-        "Examples:\n  redplay check examples/broken/service | redlook why - examples/broken/service\n  redplay check examples/late/service --late examples/late/late | redlook why - examples/late/service --late examples/late/late",
+        "Checks a service, and explains why it is refused, with the places in its files, and how to mend it; of an accepted one its bounds",
+        WHY_EXAMPLES,
     )
-    .arg(output(alloc))?
+    .arg(path(alloc))?
     .arg(folder(alloc))
 }
 
@@ -159,14 +176,14 @@ fn other<'a>(alloc: Global) -> Arg<'a>
     file(alloc, "OTHER", "The file with the report, or `-`")
 }
 
-fn output<'a>(alloc: Global) -> Arg<'a>
-    ensures rule { rule_of result ≡ spec.output }
+fn path<'a>(alloc: Global) -> Arg<'a>
+    ensures rule { rule_of result ≡ spec.path }
     ensures local { result.global ≡ false }
 {
     file(
         alloc,
-        "OUTPUT",
-        "The file with what `redplay check` or `redplay play` printed, or `-`",
+        "PATH",
+        "The folder of the service; in front of DIR the file with what `redplay` printed of it, or `-`",
     )
 }
 
@@ -174,7 +191,9 @@ fn folder<'a>(alloc: Global) -> Arg<'a>
     ensures rule { rule_of result ≡ spec.folder }
     ensures local { result.global ≡ false }
 {
-    file(alloc, "DIR", "The folder of the service")
+    Arg::new(alloc, "DIR")
+        .action(ArgAction::Set)
+        .help("The folder of the service of which PATH was printed")
 }
 
 /// A file or folder that has to be named.
@@ -241,11 +260,24 @@ fn script<'a>(alloc: Global) -> Arg<'a>
     named(alloc, "script", "FILE").help("The script that was played")
 }
 
+fn costs<'a>(alloc: Global) -> Arg<'a>
+    ensures rule { rule_of result ≡ spec.costs }
+    ensures local { result.global ≡ false }
+{
+    flag(
+        alloc,
+        "costs",
+        "Tell what makes the start and each kind of input dear",
+    )
+}
+
 fn color<'a>(alloc: Global) -> Arg<'a>
     ensures rule { rule_of result ≡ spec.color }
     ensures local { result.global ≡ false }
 {
-    flag(alloc, "color", "Write in colours")
+    named(alloc, "color", "WHEN").default_value(WHEN).help(
+        "Write in colours: auto, where a terminal reads it; always; or never",
+    )
 }
 
 /// An option with a value.

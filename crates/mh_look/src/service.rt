@@ -1,8 +1,8 @@
 //! The files of a service, as they lie in a folder and in the folders in it.
 //!
 //! What is no file, as a pipe, is not opened, since that might wait. A folder that cannot be listed is an error. Of what
-//! lies in it, what cannot be read is left out, and so is a path that no group can have. Each folder is listed once, so
-//! that links which lead round come to an end.
+//! lies in it, what cannot be read is left out, and the first such path is told; a path that no group can have is passed
+//! over. Each folder is listed once, so that links which lead round come to an end.
 use crate::source::{Failure, unread};
 use mh_base::{GroupName, LARGEST_FILE, NameError};
 use std::alloc::{AllocError, Global};
@@ -15,34 +15,55 @@ use std::{fs, io};
 /// The most bytes that are read of a file: one more than a file may have, by which a longer one is known.
 const MOST_READ: u64 = LARGEST_FILE as u64 + 1;
 
-/// The files of the folder, each under its path inside it, in bytewise order of these paths.
-pub(crate) fn files_in<R: Runtime + AllocGlobal>(
-    rt: &R,
-    folder: &str,
-) -> Result<Vec<(GroupName, Vec<u8>)>, Failure> {
+/// What a folder holds.
+#[derive(Drop)]
+pub(crate) struct Folder {
+    /// The files, each under its path inside the folder, in bytewise order of these paths.
+    pub(crate) files: Vec<(GroupName, Vec<u8>)>,
+    /// The first path that cannot be read, or is none of a file or folder.
+    pub(crate) unread: Option<String>,
+}
+
+/// What the folder holds.
+pub(crate) fn folder_of<R: Runtime + AllocGlobal>(rt: &R, folder: &str) -> Result<Folder, Failure> {
     let alloc = rt.alloc();
     if got(fs::read_dir(rt, folder))?.is_none() {
         return Err(unread(alloc, folder));
     }
+    let Found {
+        files: paths,
+        mut unread,
+        ..
+    } = found_in(rt, folder)?;
     let mut files = Vec::new(alloc);
-    for path in &paths_in(rt, folder)? {
+    for path in &paths {
         let place = joined(alloc, folder, path.as_str())?;
         if let Some(name) = name_of(alloc, path.as_bytes())? {
-            if let Some(bytes) = got(bytes_of(rt, place.as_str()))? {
-                files.push((name, bytes))?;
+            match got(bytes_of(rt, place.as_str()))? {
+                Some(bytes) => files.push((name, bytes))?,
+                None => note(alloc, &mut unread, path.as_str())?,
             }
         }
     }
-    Ok(files)
+    Ok(Folder { files, unread })
 }
 
-/// The paths of what may be a file of a service, in order.
-fn paths_in<R: Runtime + AllocGlobal>(rt: &R, top: &str) -> Result<Vec<String>, Failure> {
+/// Keeps the path as the first that cannot be read, unless there is one.
+fn note(alloc: Global, unread: &mut Option<String>, path: &str) -> Result<(), AllocError> {
+    if unread.is_none() {
+        *unread = Some(String::from_str(alloc, path)?);
+    }
+    Ok(())
+}
+
+/// What may be a file of a service, in order.
+fn found_in<R: Runtime + AllocGlobal>(rt: &R, top: &str) -> Result<Found, Failure> {
     let alloc = rt.alloc();
     let mut found = Found {
         files: Vec::new(alloc),
         folders: BTreeSet::new(alloc),
         listed: BTreeSet::new(alloc),
+        unread: None,
     };
     found.folders.insert(String::new(alloc))?;
     for _ in 0..u64::MAX {
@@ -51,9 +72,8 @@ fn paths_in<R: Runtime + AllocGlobal>(rt: &R, top: &str) -> Result<Vec<String>, 
         };
         found.list(rt, top, folder.as_str())?;
     }
-    let Found { mut files, .. } = found;
-    files.sort()?;
-    Ok(files)
+    found.files.sort()?;
+    Ok(found)
 }
 
 /// What was found so far.
@@ -65,6 +85,8 @@ struct Found {
     folders: BTreeSet<String>,
     /// The folders that were listed, each by its device and its number there.
     listed: BTreeSet<(u64, u64)>,
+    /// The first path that cannot be read.
+    unread: Option<String>,
 }
 
 impl Found {
@@ -78,14 +100,15 @@ impl Found {
         let alloc = rt.alloc();
         let place = joined(alloc, top, folder)?;
         if !self.is_new(rt, place.as_str())? {
-            return Ok(());
+            return Ok(note(alloc, &mut self.unread, folder)?);
         }
         let Some(entries) = got(fs::read_dir(rt, place.as_str()))? else {
-            return Ok(());
+            return Ok(note(alloc, &mut self.unread, folder)?);
         };
         for entry in entries {
-            if let Some(entry) = got(entry)? {
-                self.add(rt, top, joined(alloc, folder, entry.file_name())?)?;
+            match got(entry)? {
+                Some(entry) => self.add(rt, top, joined(alloc, folder, entry.file_name())?)?,
+                None => note(alloc, &mut self.unread, folder)?,
             }
         }
         Ok(())
@@ -115,7 +138,7 @@ impl Found {
             Some(about) if about.is_dir() => {
                 self.folders.insert(path)?;
             }
-            _ => {}
+            _ => note(rt.alloc(), &mut self.unread, path.as_str())?,
         }
         Ok(())
     }

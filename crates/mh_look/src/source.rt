@@ -18,6 +18,9 @@ pub enum Failure {
     /// What the file that this names has is nothing that can be explained.
     #[error("no line of {0} is one that can be explained")]
     NothingKnown(String),
+    /// When to write in colours is told by no such word.
+    #[error("--color is auto, always or never, and not {0}")]
+    NoWhen(String),
     /// There is no frame with this number.
     #[error("there is no frame {0}")]
     NoFrame(u64),
@@ -100,6 +103,14 @@ pub(crate) fn unread(alloc: Global, name: &str) -> Failure {
 pub(crate) fn unknown(alloc: Global, name: &str) -> Failure {
     match String::from_str(alloc, called(name)) {
         Ok(name) => Failure::NothingKnown(name),
+        Err(_) => Failure::Failed,
+    }
+}
+
+/// This word does not tell when to write in colours.
+pub(crate) fn uncoloured(alloc: Global, word: &str) -> Failure {
+    match String::from_str(alloc, word) {
+        Ok(word) => Failure::NoWhen(word),
         Err(_) => Failure::Failed,
     }
 }

@@ -5,6 +5,7 @@ ghost use Rattle.mh_look.specs.Why.{stuck};
 
 use crate::advice::{faults, put_advice};
 use crate::why_line::{THE_ACTION, WAS_STUCK};
+use crate::why_missing::put_missing;
 use crate::why_place::put_actions_named;
 use crate::why_source::Source;
 use crate::why_spot::put_object;
@@ -25,8 +26,10 @@ pub(crate) fn put_fault(
 {
     let behind = behind_first(words);
     let action = first_word(behind);
-    put_stuck(alloc, text, action, behind_first(behind))?;
+    let at = behind_first(behind);
+    put_stuck(alloc, text, action, at)?;
     put_actions_named(alloc, text, sources, action)?;
+    put_missing(alloc, text, sources, before_last(at))?;
     put_advice(alloc, text, faults(), first_word(words))
 }
 

@@ -1,7 +1,8 @@
 //! What is known beside an output, with what is shown of the files.
 use crate::named_file::NamedFile;
 use crate::why_source::Source;
-use mh_layers::Way;
+use mh_flow::Link;
+use mh_layers::{Arrow, Way};
 use std::marker::Model;
 
 /// What is known beside an output.
@@ -10,6 +11,10 @@ pub(crate) struct Ground<'a> {
     pub(crate) sources: &'a [Source<'a>],
     /// The dearest ways of the inputs; where they are not known, none.
     pub(crate) ways: &'a [Way],
+    /// The links of the chain of a refusal; where they are not known, none.
+    pub(crate) chain: &'a [Link],
+    /// The effects of the circle of a refusal; where they are not known, none.
+    pub(crate) cycle: &'a [Arrow],
     /// The file that names late scenes, if it is known.
     pub(crate) late: Option<&'a NamedFile<'a>>,
     /// The file that gives tags, if it is known.
@@ -24,5 +29,5 @@ impl<'a> Model for Ground<'a> {
 
     ghost Value = { Ground };
 
-    ghost view = { λ g. record { sources = g.sources.now; ways = g.ways.now; late = option_copied g.late; tags = option_copied g.tags; script = option_copied g.script } };
+    ghost view = { λ g. record { sources = g.sources.now; ways = g.ways.now; chain = g.chain.now; cycle = g.cycle.now; late = option_copied g.late; tags = option_copied g.tags; script = option_copied g.script } };
 }

@@ -1,6 +1,6 @@
 //! The first words of the lines that are explained.
 ghost use Rattle.std.specs.Prelude.{◌≡◌};
-ghost use Rattle.mh_look.specs.Why.{keyword_word, keyword_of};
+ghost use Rattle.mh_look.specs.Keywords.{keyword_word, keyword_of};
 
 /// The first word of a line that is explained.
 #[derive(Clone, Copy)]

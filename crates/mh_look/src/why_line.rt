@@ -4,14 +4,15 @@ ghost use Rattle.mh_look.specs.Why as spec;
 ghost use Rattle.mh_look.specs.Why.{told, with_line, explained};
 
 use crate::place::put_plain;
+use crate::why_bound::put_bound_told;
 use crate::why_fault::put_fault;
 use crate::why_ground::Ground;
 use crate::why_keyword::Keyword;
 use crate::why_more::{put_by, put_cause, put_config, put_named};
+use crate::why_past::Past;
 use crate::why_refused::put_refused;
 use crate::why_spot::Spot;
 use crate::why_unread::{put_file, put_script, put_service, put_tags, put_unread};
-use crate::why_way::put_bound;
 use crate::why_words::{behind_first, first_word};
 use crate::wrap::put_paragraph;
 use mh_told::text::Text;
@@ -38,6 +39,14 @@ pub const CIRCLE_THROUGH: &[u8] = b"  The circle goes through the effect that be
 
 pub const COMES_BY: &[u8] = b"  It comes there by ";
 
+pub const WRITES_IT: &[u8] = b", which writes it";
+
+pub const HANDS_ON: &[u8] = b", which hands it on";
+
+pub const EFFECT_WITH: &[u8] = b"  The effect that begins with ";
+
+pub const PUTS_ITSELF: &[u8] = b", puts itself to work.";
+
 pub const IS_BYTE: &[u8] = b"  It is byte ";
 
 pub const OF_FILE: &[u8] = b" of the file ";
@@ -50,19 +59,19 @@ pub const IS_CONTEXT: &[u8] = b"  It is context ";
 
 pub const CONTEXTS: &[u8] = b": 1 are classes, 2 attributes, 3 actions, 4 values.";
 
-/// Puts what is explained of a line, behind a refusal with this number.
+/// Puts what is explained of a line, behind what was told.
 #[tactic(auto, unfolding(crate::specs::Why::explained))]
 pub(crate) fn put_explained(
     alloc: Global,
     text: &mut Text,
     ground: &Ground<'_>,
-    number: &[u8],
+    past: &Past<'_, '_>,
     line: &[u8],
 ) -> Result<(), AllocError>
-    ensures { OnOk result (text.new ≡ text.old ++ explained ground.now number.now line.now) }
+    ensures { OnOk result (text.new ≡ text.old ++ explained ground.now past.now line.now) }
 {
     match Keyword::of_word(first_word(line)) {
-        Some(keyword) => put_with_line(alloc, text, ground, number, line, keyword),
+        Some(keyword) => put_with_line(alloc, text, ground, past, line, keyword),
         None => Ok(()),
     }
 }
@@ -73,15 +82,15 @@ fn put_with_line(
     alloc: Global,
     text: &mut Text,
     ground: &Ground<'_>,
-    number: &[u8],
+    past: &Past<'_, '_>,
     line: &[u8],
     keyword: Keyword,
 ) -> Result<(), AllocError>
-    ensures { OnOk result (text.new ≡ text.old ++ with_line ground.now number.now line.now keyword) }
+    ensures { OnOk result (text.new ≡ text.old ++ with_line ground.now past.now line.now keyword) }
 {
     put_plain(text, line)?;
     text.put(b"\n")?;
-    put_told(alloc, text, ground, number, keyword, behind_first(line))
+    put_told(alloc, text, ground, past, keyword, behind_first(line))
 }
 
 /// Puts what is told of a line with this keyword and these words behind it.
@@ -89,25 +98,46 @@ fn put_told(
     alloc: Global,
     text: &mut Text,
     ground: &Ground<'_>,
-    number: &[u8],
+    past: &Past<'_, '_>,
     keyword: Keyword,
     words: &[u8],
 ) -> Result<(), AllocError>
-    ensures { OnOk result (text.new ≡ text.old ++ told ground.now number.now keyword words.now) }
+    ensures { OnOk result (text.new ≡ text.old ++ told ground.now past.now keyword words.now) }
 {
     match keyword {
         Keyword::Accepted => put_accepted(alloc, text),
-        Keyword::Start => put_bound(alloc, text, ground.sources, ground.ways, b"start", words),
-        Keyword::Key => put_bound(alloc, text, ground.sources, ground.ways, b"key", words),
-        Keyword::Tick => put_bound(alloc, text, ground.sources, ground.ways, b"tick", words),
-        Keyword::Stream => put_bound(alloc, text, ground.sources, ground.ways, b"stream", words),
-        Keyword::Engine => put_bound(alloc, text, ground.sources, ground.ways, b"engine", words),
-        Keyword::Arrive => put_bound(alloc, text, ground.sources, ground.ways, b"arrive", words),
+        Keyword::Start => put_bound_told(alloc, text, ground.sources, ground.ways, b"start", words),
+        Keyword::Key => put_bound_told(alloc, text, ground.sources, ground.ways, b"key", words),
+        Keyword::Tick => put_bound_told(alloc, text, ground.sources, ground.ways, b"tick", words),
+        Keyword::Stream => put_bound_told(
+            alloc,
+            text,
+            ground.sources,
+            ground.ways,
+            b"stream",
+            words,
+        ),
+        Keyword::Engine => put_bound_told(
+            alloc,
+            text,
+            ground.sources,
+            ground.ways,
+            b"engine",
+            words,
+        ),
+        Keyword::Arrive => put_bound_told(
+            alloc,
+            text,
+            ground.sources,
+            ground.ways,
+            b"arrive",
+            words,
+        ),
         Keyword::Refused => put_refused(alloc, text, ground, words),
         Keyword::Config => put_config(alloc, text, words),
-        Keyword::Object => put_named(alloc, text, ground.sources, number, words),
-        Keyword::By => put_by(alloc, text, ground.sources, &Spot::of_words(words)),
-        Keyword::Cause => put_cause(alloc, text, ground.sources, &Spot::of_words(words)),
+        Keyword::Object => put_named(alloc, text, ground, past.refusal, words),
+        Keyword::By => put_by(alloc, text, ground.sources, past, &Spot::of_words(words)),
+        Keyword::Cause => put_cause(alloc, text, ground, past.cycle, &Spot::of_words(words)),
         Keyword::File => put_file(alloc, text, ground.sources, &Spot::of_words(words)),
         Keyword::Service => put_service(alloc, text, ground, words),
         Keyword::Tags => put_tags(alloc, text, ground.tags, words),

@@ -1,14 +1,13 @@
-//! Places of actions that are refused, with the variables through which they go.
+//! Places of actions that are refused.
 //!
 //! An output that was printed of other files is told so: where it names an action, another stands there now.
 ghost use Rattle.std.specs.Prelude.{◌≡◌, ◌++◌, OnOk};
-ghost use Rattle.mh_look.specs.Sources.{shown_through, shown_with_variables, shown_refused, is_marked};
+ghost use Rattle.mh_look.specs.Sources.{shown_named_at, shown_refused, is_marked};
 
 use crate::why_place::put_mark;
 use crate::why_source::{Source, source_named};
-use crate::why_variable::put_variables;
 use crate::wrap::put_paragraph;
-use mh_text::{Mark, mark_of, variables_at};
+use mh_text::{Mark, mark_of};
 use mh_told::text::Text;
 use std::alloc::{AllocError, Global};
 
@@ -16,8 +15,7 @@ use std::alloc::{AllocError, Global};
 pub const HAVE_CHANGED: &[u8] =
     b"  The files have changed since: something else stands there now. Check again.";
 
-/// Puts where the action of this name stands, or members for `-`, with the variables through which it goes behind its
-/// place; or that something else stands there.
+/// Puts where the action of this name stands, or members for `-`; or that something else stands there.
 #[tactic(auto, unfolding(crate::specs::Sources::shown_refused))]
 pub(crate) fn put_refused(
     alloc: Global,
@@ -31,12 +29,12 @@ pub(crate) fn put_refused(
     ensures { OnOk result (text.new ≡ text.old ++ shown_refused sources.now word.now group.now object index) }
 {
     match source_named(sources, group) {
-        Some(source) => put_with_variables(alloc, text, source, word, object, index),
+        Some(source) => put_named_at(alloc, text, source, word, object, index),
         None => Ok(()),
     }
 }
 
-fn put_with_variables(
+fn put_named_at(
     alloc: Global,
     text: &mut Text,
     source: &Source<'_>,
@@ -44,33 +42,20 @@ fn put_with_variables(
     object: u32,
     index: usize,
 ) -> Result<(), AllocError>
-    ensures { OnOk result (text.new ≡ text.old ++ shown_with_variables word.now object index source.now) }
+    ensures { OnOk result (text.new ≡ text.old ++ shown_named_at word.now object index source.now) }
 {
     match mark_of(source.marks(), object, index) {
-        Some(mark) if is_marked(&mark, word) => put_through(alloc, text, source, &mark),
+        Some(mark) if is_marked(&mark, word) => put_mark(alloc, text, source, &mark),
         _ => put_paragraph(alloc, text, HAVE_CHANGED),
     }
 }
 
 /// Whether an action of this name stands at the mark, or a list of members for `-`.
-fn is_marked(mark: &Mark, word: &[u8]) -> bool
+pub(crate) fn is_marked(mark: &Mark, word: &[u8]) -> bool
     ensures { result ≡ is_marked word.now mark.now }
 {
     match mark.action {
         Some(name) => name.word() == word,
         None => word == b"-".as_slice(),
     }
-}
-
-fn put_through(
-    alloc: Global,
-    text: &mut Text,
-    source: &Source<'_>,
-    mark: &Mark,
-) -> Result<(), AllocError>
-    ensures { OnOk result (text.new ≡ text.old ++ shown_through source.now mark.now) }
-{
-    let variables = variables_at(alloc, source.text(), mark.start)?;
-    put_mark(alloc, text, source, mark)?;
-    put_variables(alloc, text, source.name(), variables.as_slice())
 }

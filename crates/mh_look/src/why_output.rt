@@ -2,20 +2,22 @@
 //! with the places in the files, the causes and the mends.
 //!
 //! Promise: what is explained is exactly what `specs/Why` says.
-ghost use Rattle.std.specs.Prelude.{◌≡◌, ◌++◌, [], map, OnOk, IfOk};
+ghost use Rattle.std.specs.Prelude.{◌≡◌, ◌++◌, drop, map, OnOk, IfOk};
 ghost use Rattle.bstr.specs.Text.{lines_of, without_terminator};
 ghost use Rattle.mh_look.specs.Sources.{source_of};
-ghost use Rattle.mh_look.specs.Why.{explained_all, number_behind, why, ExplanationsAreHarmless};
+ghost use Rattle.mh_look.specs.Why.{chain_behind, cycle_behind, explained_all, first_past, refusal_behind, why, ExplanationsAreHarmless};
 
 use crate::named_file::NamedFile;
 use crate::why_ground::Ground;
 use crate::why_line::put_explained;
+use crate::why_past::Past;
 use crate::why_source::{Source, table_by};
 use crate::why_words::{behind_first, first_word};
 use bstr::ByteSlice;
 use mh_base::GroupName;
 use mh_codec::TagTable;
-use mh_layers::Way;
+use mh_flow::Link;
+use mh_layers::{Arrow, Way};
 use mh_told::text::Text;
 use std::alloc::{AllocError, Global};
 use std::marker::Model;
@@ -27,6 +29,10 @@ pub struct Known<'a> {
     pub files: &'a [(GroupName, Vec<u8>)],
     /// The dearest ways of its inputs; where they are not known, none.
     pub ways: &'a [Way],
+    /// The links of the chain of its refusal; where they are not known, none.
+    pub chain: &'a [Link],
+    /// The effects of the circle of its refusal; where they are not known, none.
+    pub cycle: &'a [Arrow],
     /// The file that names late scenes, if it is known.
     pub late: Option<NamedFile<'a>>,
     /// The file that gives the tags of the binary notation, if it is known; without it, or where it makes no table,
@@ -41,7 +47,7 @@ impl<'a> Model for Known<'a> {
 
     ghost Value = { Known };
 
-    ghost view = { λ k. record { files = k.files.now; ways = k.ways.now; late = k.late; tags = k.tags; script = k.script } };
+    ghost view = { λ k. record { files = k.files.now; ways = k.ways.now; chain = k.chain.now; cycle = k.cycle.now; late = k.late; tags = k.tags; script = k.script } };
 }
 
 /// What is explained of the output of `check` or `play`.
@@ -54,6 +60,8 @@ pub fn why(alloc: Global, known: &Known<'_>, output: &[u8]) -> Result<Text, Allo
     let ground = Ground {
         sources: sources.as_slice(),
         ways: known.ways,
+        chain: known.chain,
+        cycle: known.cycle,
         late: known.late.as_ref(),
         tags: known.tags.as_ref(),
         script: known.script.as_ref(),
@@ -82,30 +90,71 @@ fn sources_of<'a>(
     Ok(sources)
 }
 
-/// Puts what is explained of each line. What a refusal names is told by its number, which stands in a
-/// line before.
+/// Puts what is explained of each line. What a line tells leans on those before it.
 fn put_all(
     alloc: Global,
     text: &mut Text,
     ground: &Ground<'_>,
     output: &[u8],
 ) -> Result<(), AllocError>
-    ensures { OnOk result (text.new ≡ text.old ++ explained_all ground.now [] (map without_terminator (lines_of output.now))) }
+    ensures { OnOk result (text.new ≡ text.old ++ explained_all ground.now (first_past ground.now) (map without_terminator (lines_of output.now))) }
 {
-    let mut number: &[u8] = &[];
+    let mut refusal: &[u8] = &[];
+    let mut before: &[u8] = &[];
+    let mut chain = ground.chain;
+    let mut cycle = ground.cycle;
     for line in output.lines() {
-        put_explained(alloc, text, ground, number, line)?;
-        number = number_behind(number, line);
+        let past = Past {
+            refusal,
+            before,
+            chain,
+            cycle,
+        };
+        put_explained(alloc, text, ground, &past, line)?;
+        refusal = refusal_behind(refusal, line);
+        before = line;
+        chain = chain_behind(chain, line);
+        cycle = cycle_behind(cycle, line);
     }
     Ok(())
 }
 
-/// The number of the last refusal, behind one more line.
-fn number_behind<'a>(number: &'a [u8], line: &'a [u8]) -> &'a [u8]
-    ensures { result.now ≡ number_behind number.now line.now }
+/// The words behind the last `refused`, behind one more line.
+fn refusal_behind<'a>(refusal: &'a [u8], line: &'a [u8]) -> &'a [u8]
+    ensures { result.now ≡ refusal_behind refusal.now line.now }
 {
     if first_word(line) == b"refused".as_slice() {
-        return first_word(behind_first(line));
+        return behind_first(line);
     }
-    number
+    refusal
+}
+
+/// The links that are still to come.
+fn chain_behind<'a>(chain: &'a [Link], line: &[u8]) -> &'a [Link]
+    ensures { result.now ≡ chain_behind chain.now line.now }
+{
+    if first_word(line) == b"by".as_slice() {
+        return behind_one(chain);
+    }
+    chain
+}
+
+/// The arrows that are still to come.
+fn cycle_behind<'a>(cycle: &'a [Arrow], line: &[u8]) -> &'a [Arrow]
+    ensures { result.now ≡ cycle_behind cycle.now line.now }
+{
+    if first_word(line) == b"cause".as_slice() {
+        return behind_one(cycle);
+    }
+    cycle
+}
+
+/// All but the first.
+fn behind_one<T>(list: &[T]) -> &[T]
+    ensures { result.now ≡ drop 1 list.now }
+{
+    match list {
+        [] => list,
+        [_, behind @ ..] => behind,
+    }
 }

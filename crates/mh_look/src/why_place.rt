@@ -4,18 +4,19 @@ ghost use Rattle.std.specs.Fmt.{decimal};
 ghost use Rattle.std.specs.List.{flat_map};
 ghost use Rattle.std.specs.Option.{option_copied};
 ghost use Rattle.mh_text.specs.Landmarks.{sight_of};
-ghost use Rattle.mh_look.specs.Sources.{shown_mark, shown_numbered, shown_action, is_named, marks_named, count_named, shown_named, named_words, shown_actions, shown_landmark, is_object, object_in, shown_object_in, shown_object, shown_byte, shown_offset};
+ghost use Rattle.mh_look.specs.Sources.{shown_mark, shown_numbered, shown_action, is_named, marks_named, count_named, shown_named, named_words, shown_actions, shown_landmark, is_object, object_in, shown_object_in, shown_object, shown_byte, shown_in, shown_offset};
 ghost use Rattle.mh_look.specs.Wrapping.{paragraph};
 
 use crate::place::put_place;
 use crate::why_source::{Source, source_named};
+use crate::why_token::token_size;
 use crate::wrap::put_paragraph;
 use mh_text::{Landmark, Mark, Sight, landmarks, mark_of};
 use mh_told::text::Text;
 use std::alloc::{AllocError, Global};
 
-// What stands in front of variables, of places, and of their number.
-pub const GOES_THROUGH: &[u8] = b"  It goes through ";
+// What stands behind the name of a file that is shown in its printed form, in front of places, and of their number.
+pub const AS_PRINTED: &[u8] = b", as `to-text` prints it";
 
 pub const STANDS_HERE: &[u8] = b"  Actions of that name stand here:";
 
@@ -62,8 +63,28 @@ pub(crate) fn put_mark(
 ) -> Result<(), AllocError>
     ensures { OnOk result (text.new ≡ text.old ++ shown_mark source.now mark.now) }
 {
+    put_in(alloc, text, source, mark.start, mark.length)
+}
+
+/// Puts where so many bytes of the text stand behind so many others.
+#[tactic(auto, unfolding(crate::specs::Sources::shown_in))]
+fn put_in(
+    alloc: Global,
+    text: &mut Text,
+    source: &Source<'_>,
+    start: usize,
+    size: usize,
+) -> Result<(), AllocError>
+    ensures { OnOk result (text.new ≡ text.old ++ shown_in source.now start size) }
+{
     let name = source.name().as_bytes();
-    put_place(alloc, text, name, source.text(), mark.start, mark.length)
+    if source.is_printed() {
+        let mut title = Text::new(alloc);
+        title.put(name)?;
+        title.put(AS_PRINTED)?;
+        return put_place(alloc, text, title.as_slice(), source.text(), start, size);
+    }
+    put_place(alloc, text, name, source.text(), start, size)
 }
 
 /// Puts where the actions with this name stand.
@@ -234,15 +255,7 @@ pub(crate) fn put_landmark(
 ) -> Result<(), AllocError>
     ensures { OnOk result (text.new ≡ text.old ++ shown_landmark source.now landmark.now) }
 {
-    let name = source.name().as_bytes();
-    put_place(
-        alloc,
-        text,
-        name,
-        source.text(),
-        landmark.start,
-        landmark.length,
-    )
+    put_in(alloc, text, source, landmark.start, landmark.length)
 }
 
 /// Puts where a byte of this file stands, if the file is there and a text.
@@ -274,5 +287,6 @@ fn put_byte(
         return Ok(());
     }
     let name = source.name().as_bytes();
-    put_place(alloc, text, name, source.text(), offset, 1)
+    let size = token_size(source.text().get(offset..).unwrap_or(&[]));
+    put_place(alloc, text, name, source.text(), offset, size)
 }

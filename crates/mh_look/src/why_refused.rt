@@ -1,11 +1,11 @@
 //! What is told of a line that begins with `refused`.
 ghost use Rattle.std.specs.Prelude.{◌≡◌, ◌++◌, OnOk};
 ghost use Rattle.mh_look.specs.Why as spec;
-ghost use Rattle.mh_look.specs.Why.{refused_words, refused_spot, refused_at};
+ghost use Rattle.mh_look.specs.Why.{circle_place, circle_spot, circle_words, refused_at, refused_by, refused_spot, refused_words};
 
 use crate::advice::{put_advice, refusals};
 use crate::why_ground::Ground;
-use crate::why_line::{MEMBERS_OF, STANDS_IN};
+use crate::why_line::{EFFECT_WITH, MEMBERS_OF, PUTS_ITSELF, STANDS_IN};
 use crate::why_source::Source;
 use crate::why_spot::Spot;
 use crate::why_way::put_bound;
@@ -27,7 +27,14 @@ pub(crate) fn put_refused(
 {
     let behind = behind_first(words);
     let spot = Spot::of_words(before_last(behind));
-    put_refused_at(alloc, text, ground.sources, last_word(behind), &spot)?;
+    put_refused_at(
+        alloc,
+        text,
+        ground,
+        first_word(words),
+        last_word(behind),
+        &spot,
+    )?;
     put_advice(alloc, text, refusals(), first_word(words))?;
     put_bound(alloc, text, ground.sources, ground.ways, behind, b"")
 }
@@ -37,16 +44,77 @@ pub(crate) fn put_refused(
 fn put_refused_at(
     alloc: Global,
     text: &mut Text,
-    sources: &[Source<'_>],
+    ground: &Ground<'_>,
+    number: &[u8],
     action: &[u8],
     spot: &Spot<'_>,
 ) -> Result<(), AllocError>
-    ensures { OnOk result (text.new ≡ text.old ++ refused_at sources.now action.now spot.now) }
+    ensures { OnOk result (text.new ≡ text.old ++ refused_at ground.now number.now action.now spot.now) }
 {
     match spot.group() {
         [] => Ok(()),
-        _ => put_refused_spot(alloc, text, sources, action, spot),
+        _ => put_refused_by(alloc, text, ground, number, action, spot),
     }
+}
+
+fn put_refused_by(
+    alloc: Global,
+    text: &mut Text,
+    ground: &Ground<'_>,
+    number: &[u8],
+    action: &[u8],
+    spot: &Spot<'_>,
+) -> Result<(), AllocError>
+    ensures { OnOk result (text.new ≡ text.old ++ refused_by ground.now number.now action.now spot.now) }
+{
+    if number == b"V6".as_slice() {
+        return put_circle_spot(alloc, text, ground, action, spot);
+    }
+    put_refused_spot(alloc, text, ground.sources, action, spot)
+}
+
+/// Puts the effect that puts itself to work; where the arrows are known, they show the actions.
+#[tactic(auto, unfolding(crate::specs::Why::circle_spot))]
+fn put_circle_spot(
+    alloc: Global,
+    text: &mut Text,
+    ground: &Ground<'_>,
+    action: &[u8],
+    spot: &Spot<'_>,
+) -> Result<(), AllocError>
+    ensures { OnOk result (text.new ≡ text.old ++ circle_spot ground.now action.now spot.now) }
+{
+    let mut sentence = Text::new(alloc);
+    put_circle_words(&mut sentence, action, spot)?;
+    put_paragraph(alloc, text, sentence.as_slice())?;
+    put_circle_place(alloc, text, ground, action, spot)
+}
+
+#[tactic(auto, unfolding(crate::specs::Why::circle_place))]
+fn put_circle_place(
+    alloc: Global,
+    text: &mut Text,
+    ground: &Ground<'_>,
+    action: &[u8],
+    spot: &Spot<'_>,
+) -> Result<(), AllocError>
+    ensures { OnOk result (text.new ≡ text.old ++ circle_place ground.now action.now spot.now) }
+{
+    match ground.cycle {
+        [] => spot.put_refused(alloc, text, ground.sources, action),
+        _ => Ok(()),
+    }
+}
+
+#[tactic(auto, unfolding(crate::specs::Why::circle_words))]
+fn put_circle_words(text: &mut Text, action: &[u8], spot: &Spot<'_>) -> Result<(), AllocError>
+    ensures { OnOk result (text.new ≡ text.old ++ circle_words action.now spot.now) }
+{
+    text.put(EFFECT_WITH)?;
+    text.put(action)?;
+    text.put(b", ")?;
+    spot.put_action(text)?;
+    text.put(PUTS_ITSELF)
 }
 
 #[tactic(auto, unfolding(crate::specs::Why::refused_spot))]

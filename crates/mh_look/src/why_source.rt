@@ -2,7 +2,7 @@
 //! printed.
 ghost use Rattle.std.specs.Prelude.{◌≡◌, Some, IfOk};
 ghost use Rattle.std.specs.Option.{option_copied};
-ghost use Rattle.mh_look.specs.Sources.{text_of, printed_as, source_of, source_named, or_profile, table_by};
+ghost use Rattle.mh_look.specs.Sources.{is_printed, text_of, printed_as, source_of, source_named, or_profile, table_by};
 ghost use Rattle.mh_told.specs.Reading.{table_of};
 
 use crate::named_file::NamedFile;
@@ -10,6 +10,7 @@ use mh_base::GroupName;
 use mh_codec::{CodecError, TagTable, decode_group};
 use mh_group::Group;
 use mh_text::{Mark, TextError, marks, print_group};
+use mh_told::reading::is_group_file;
 use mh_told::unplayable::Unplayable;
 use std::alloc::{AllocError, Global};
 use std::marker::Model;
@@ -22,6 +23,10 @@ pub(crate) struct Source<'a> {
     marks: Vec<Mark>,
     /// Whether the file begins as a group in the textual notation.
     is_written: bool,
+    /// Whether it begins as a group at all.
+    is_group: bool,
+    /// Whether the text is the printed form of a group in the binary notation.
+    is_printed: bool,
 }
 
 impl<'a> Model for Source<'a> {
@@ -30,7 +35,14 @@ impl<'a> Model for Source<'a> {
     ghost Value = { Source };
 
     ghost view = { λ s.
-        record { name = s.name.now; text = s.text.items; marks = s.marks.items; is_written = s.is_written } };
+        record {
+          name = s.name.now;
+          text = s.text.items;
+          marks = s.marks.items;
+          is_written = s.is_written;
+          is_group = s.is_group;
+          is_printed = s.is_printed;
+        } };
 }
 
 impl<'a> Source<'a> {
@@ -41,13 +53,17 @@ impl<'a> Source<'a> {
     ) -> Result<Source<'a>, AllocError>
         ensures { IfOk result (λ source. source ≡ source_of tags.now file.now) }
     {
-        let text = text_of(alloc, tags, file.1.as_slice())?;
+        let bytes = file.1.as_slice();
+        let text = text_of(alloc, tags, bytes)?;
         let marks = marks(alloc, text.as_slice())?;
+        let is_printed = is_printed(text.as_slice(), bytes);
         Ok(Source {
             name: &file.0,
             text,
             marks,
-            is_written: mh_text::begins_group(file.1.as_slice()),
+            is_written: mh_text::begins_group(bytes),
+            is_group: is_group_file(tags, bytes),
+            is_printed,
         })
     }
 
@@ -74,6 +90,25 @@ impl<'a> Source<'a> {
     {
         self.is_written
     }
+
+    pub(crate) fn is_group(&self) -> bool
+        ensures { result ≡ self.now.is_group }
+    {
+        self.is_group
+    }
+
+    pub(crate) fn is_printed(&self) -> bool
+        ensures { result ≡ self.now.is_printed }
+    {
+        self.is_printed
+    }
+}
+
+/// Whether another text is shown of a file than its bytes.
+fn is_printed(text: &[u8], bytes: &[u8]) -> bool
+    ensures { result ≡ is_printed text.now bytes.now }
+{
+    text != bytes
 }
 
 /// The table of tags by which files are shown: that of a file, if it gives one, and else the profile's.

@@ -1,7 +1,8 @@
 //! What a line names: an action of an object, or the object alone.
 ghost use Rattle.std.specs.Prelude.{◌≡◌, ◌++◌, OnOk};
 ghost use Rattle.mh_look.specs.Sources.{by_numbers, shown_refused};
-ghost use Rattle.mh_look.specs.Why.{spot, object_words, action_words, shown_spot};
+ghost use Rattle.mh_look.specs.Spots.{spot, object_words, action_words};
+ghost use Rattle.mh_look.specs.Why.{shown_spot};
 
 use crate::why_marked::put_refused;
 use crate::why_place::put_action;
@@ -22,7 +23,7 @@ pub(crate) struct Spot<'a> {
 }
 
 impl<'a> Model for Spot<'a> {
-    ghost use Rattle.mh_look.specs.Why.{Spot};
+    ghost use Rattle.mh_look.specs.Spots.{Spot};
 
     ghost Value = { Spot };
 
@@ -68,7 +69,7 @@ impl<'a> Spot<'a> {
     }
 
     /// Puts the action by its object and its number.
-    #[tactic(auto, unfolding(crate::specs::Why::action_words))]
+    #[tactic(auto, unfolding(crate::specs::Spots::action_words))]
     pub(crate) fn put_action(&self, text: &mut Text) -> Result<(), AllocError>
         ensures { OnOk result (text.new ≡ text.old ++ action_words self.now) }
     {
@@ -96,7 +97,7 @@ impl<'a> Spot<'a> {
         }
     }
 
-    /// The same of the action of this name, with the variables through which it goes.
+    /// The same of the action of this name.
     pub(crate) fn put_refused(
         &self,
         alloc: Global,
@@ -127,7 +128,7 @@ impl<'a> Spot<'a> {
 }
 
 /// Puts an object by its group and its number.
-#[tactic(auto, unfolding(crate::specs::Why::object_words))]
+#[tactic(auto, unfolding(crate::specs::Spots::object_words))]
 pub(crate) fn put_object(text: &mut Text, group: &[u8], number: &[u8]) -> Result<(), AllocError>
     ensures { OnOk result (text.new ≡ text.old ++ object_words group.now number.now) }
 {

@@ -9,6 +9,7 @@ use crate::advice::{files, put_advice, readings, services, tags};
 use crate::named_file::{NamedFile, put_numbered_line, put_written_line};
 use crate::why_ground::Ground;
 use crate::why_line::{CONTEXTS, IS_BYTE, IS_CONTEXT, IS_LINE, OF_FILE, TOLD_OF};
+use crate::why_missing::put_missing;
 use crate::why_place::put_offset;
 use crate::why_service::put_service as put_group;
 use crate::why_source::Source;
@@ -72,6 +73,7 @@ pub(crate) fn put_service(
     put_sentence(alloc, text, TOLD_OF, group, b".")?;
     put_group(alloc, text, ground.sources, number, group)?;
     put_late_shown(alloc, text, ground.late, number, group)?;
+    put_missing(alloc, text, ground.sources, group)?;
     put_advice(alloc, text, services(), number)
 }
 

@@ -1,49 +1,15 @@
 //! The variables through which an action goes, in words.
-ghost use Rattle.std.specs.Prelude.{◌≡◌, ◌++◌, ◌∷◌, OnOk};
+ghost use Rattle.std.specs.Prelude.{◌≡◌, ◌++◌, OnOk};
 ghost use Rattle.std.specs.Option.{option_copied};
-ghost use Rattle.mh_look.specs.Sources.{path_from, through_path, variable_words, more_variables, through_words};
+ghost use Rattle.mh_look.specs.Sources.{path_from, through_path, variable_words, more_variables};
 
-use crate::why_place::GOES_THROUGH;
-use crate::wrap::put_paragraph;
 use mh_base::{GroupName, NameError};
 use mh_text::Through;
 use mh_told::text::Text;
 use std::alloc::{AllocError, Global};
 
-/// Puts the variables through which an action of this group goes, if there are some.
-pub(crate) fn put_variables(
-    alloc: Global,
-    text: &mut Text,
-    from: &GroupName,
-    variables: &[Through<'_>],
-) -> Result<(), AllocError>
-    ensures { OnOk result (text.new ≡ text.old ++ through_words from.now variables.now) }
-{
-    match variables {
-        [] => Ok(()),
-        [first, more @ ..] => put_several(alloc, text, from, first, more),
-    }
-}
-
-/// Puts the first of the variables and the others.
-fn put_several(
-    alloc: Global,
-    text: &mut Text,
-    from: &GroupName,
-    first: &Through<'_>,
-    more: &[Through<'_>],
-) -> Result<(), AllocError>
-    ensures { OnOk result (text.new ≡ text.old ++ through_words from.now (first.now ∷ more.now)) }
-{
-    let mut words = Text::new(alloc);
-    words.put(GOES_THROUGH)?;
-    put_variable(alloc, &mut words, from, first)?;
-    put_more(alloc, &mut words, from, more)?;
-    words.put(b".")?;
-    put_paragraph(alloc, text, words.as_slice())
-}
-
-fn put_more(
+/// Puts variables, each behind a comma.
+pub(crate) fn put_more(
     alloc: Global,
     words: &mut Text,
     from: &GroupName,
@@ -58,7 +24,8 @@ fn put_more(
     Ok(())
 }
 
-fn put_variable(
+/// Puts a variable, as the text of a group names it.
+pub(crate) fn put_variable(
     alloc: Global,
     words: &mut Text,
     from: &GroupName,
@@ -73,7 +40,7 @@ fn put_variable(
 }
 
 /// Puts the path of the group that is named; of the group itself where none is.
-fn put_group(
+pub(crate) fn put_group(
     alloc: Global,
     words: &mut Text,
     from: &GroupName,

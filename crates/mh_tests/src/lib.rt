@@ -134,6 +134,8 @@ mod why;
 #[cfg(test)]
 mod why_large;
 #[cfg(test)]
+mod why_verdict;
+#[cfg(test)]
 mod widgets;
 #[cfg(test)]
 mod words;

@@ -7,29 +7,29 @@ use std::alloc::Global;
 
 /// An offset, a size, the name of a file and its bytes, and what is shown.
 static PLACES: &str = r#"
-0 1 a ab|cd| =>   a, line 1, column 1|      ab|      ^| -- the first character of a line;;
-1 1 a ab|cd| =>   a, line 1, column 2|      ab|       ^| -- the last one;;
-2 1 a ab|cd| =>   a, line 1, column 3|      ab|        ^| -- the line feed;;
-3 2 a ab|cd| =>   a, line 2, column 1|      cd|      ^^|;;
-4 1 a ab|cd =>   a, line 2, column 2|      cd|       ^|;;
-0 0 a ab| =>   a, line 1, column 1|      ab|      ^| -- no bytes;;
-1 5 a ab|cd| =>   a, line 1, column 2|      ab|       ^| -- carets end with the line;;
-1 5 a ab\0d0a\cd =>   a, line 1, column 2|      ab|       ^|;;
-2 1 a ab||cd| =>   a, line 1, column 3|      ab|        ^|;;
-3 1 a ab||cd| =>   a, line 2, column 1|      |      ^| -- a line with nothing in it;;
-2 1 a \0909\x =>   a, line 1, column 3|        x|        ^| -- behind tabs;;
-9 1 a é€😀x =>   a, line 1, column 4|      é€😀x|         ^| -- behind characters of two to four bytes;;
-2 7 a é€😀x =>   a, line 1, column 2|      é€😀x|       ^^|;;
-4 2 a ab\0d0a\cd\0d0a\ =>   a, line 2, column 1|      cd|      ^^|;;
-1 1 a ab\0d0a\cd\0d0a\ =>   a, line 1, column 2|      ab|       ^|;;
-3 1 a ab| =>   a, line 1, column 3|      ab|        ^| -- the end, behind a line feed;;
-4 1 a ab\0d0a\ =>   a, line 1, column 3|      ab|        ^| -- and behind that of another system;;
-2 1 a ab =>   a, line 1, column 3|      ab|        ^| -- the end with none;;
-999 9 a ab|cd =>   a, line 2, column 3|      cd|        ^| -- far behind the end;;
-0 1 a  =>   a, line 1, column 1|      |      ^| -- a file with nothing in it;;
-6 1 a \1b\[31m\ff\x =>   a, line 1, column 7|      \efbfbd\[31m\efbfbd\x|            ^| -- an order, and a byte of no character;;
-2 1 a \c285\x =>   a, line 1, column 2|      \efbfbd\x|       ^| -- an order of two bytes;;
-0 1 a|\1b\b x =>   a\efbfbdefbfbd\b, line 1, column 1|      x|      ^| -- orders in a name"#;
+0 1 a ab|cd| =>   a, line 1, column 1|  1 \7c\ ab|    \7c\ ^| -- the first character of a line;;
+1 1 a ab|cd| =>   a, line 1, column 2|  1 \7c\ ab|    \7c\  ^| -- the last one;;
+2 1 a ab|cd| =>   a, line 1, column 3|  1 \7c\ ab|    \7c\   ^| -- the line feed;;
+3 2 a ab|cd| =>   a, line 2, column 1|  2 \7c\ cd|    \7c\ ^^|;;
+4 1 a ab|cd =>   a, line 2, column 2|  2 \7c\ cd|    \7c\  ^|;;
+0 0 a ab| =>   a, line 1, column 1|  1 \7c\ ab|    \7c\ ^| -- no bytes;;
+1 5 a ab|cd| =>   a, line 1, column 2|  1 \7c\ ab|    \7c\  ^| -- carets end with the line;;
+1 5 a ab\0d0a\cd =>   a, line 1, column 2|  1 \7c\ ab|    \7c\  ^|;;
+2 1 a ab||cd| =>   a, line 1, column 3|  1 \7c\ ab|    \7c\   ^|;;
+3 1 a ab||cd| =>   a, line 2, column 1|  2 \7c\ |    \7c\ ^| -- a line with nothing in it;;
+2 1 a \0909\x =>   a, line 1, column 3|  1 \7c\   x|    \7c\   ^| -- behind tabs;;
+9 1 a é€😀x =>   a, line 1, column 4|  1 \7c\ é€😀x|    \7c\    ^| -- behind characters of two to four bytes;;
+2 7 a é€😀x =>   a, line 1, column 2|  1 \7c\ é€😀x|    \7c\  ^^|;;
+4 2 a ab\0d0a\cd\0d0a\ =>   a, line 2, column 1|  2 \7c\ cd|    \7c\ ^^|;;
+1 1 a ab\0d0a\cd\0d0a\ =>   a, line 1, column 2|  1 \7c\ ab|    \7c\  ^|;;
+3 1 a ab| =>   a, line 1, column 3|  1 \7c\ ab|    \7c\   ^| -- the end, behind a line feed;;
+4 1 a ab\0d0a\ =>   a, line 1, column 3|  1 \7c\ ab|    \7c\   ^| -- and behind that of another system;;
+2 1 a ab =>   a, line 1, column 3|  1 \7c\ ab|    \7c\   ^| -- the end with none;;
+999 9 a ab|cd =>   a, line 2, column 3|  2 \7c\ cd|    \7c\   ^| -- far behind the end;;
+0 1 a  =>   a, line 1, column 1|  1 \7c\ |    \7c\ ^| -- a file with nothing in it;;
+6 1 a \1b\[31m\ff\x =>   a, line 1, column 7|  1 \7c\ \efbfbd\[31m\efbfbd\x|    \7c\       ^| -- an order, and a byte of no character;;
+2 1 a \c285\x =>   a, line 1, column 2|  1 \7c\ \efbfbd\x|    \7c\  ^| -- an order of two bytes;;
+0 1 a|\1b\b x =>   a\efbfbdefbfbd\b, line 1, column 1|  1 \7c\ x|    \7c\ ^| -- orders in a name"#;
 
 /// What is shown of a place, which is told by the first two words of a question.
 fn shown(alloc: Global, asked: &str, name: &[u8], file: &[u8]) -> Option<Vec<u8>> {
@@ -56,12 +56,12 @@ fn places_are_shown(rt: HostRuntime) {
 
 /// An offset and a size in a file whose first line has 100,008 characters.
 static LONG_PLACES: &str = r#"
-0 5 =>   a, line 1, column 1|      begin01234567890123456789012345678901234567890123456789012345678901234|      ^^^^^|;;
-0 5000 =>   a, line 1, column 1|      begin01234567890123456789012345678901234567890123456789012345678901234|      ^^^^^^^^^^^^^^^^^^^^^^^^^^^^^^^^^^^^^^^^^^^^^^^^^^^^^^^^^^^^^^^^^^^^^^|;;
-50005 3 =>   a, line 1, column 50006|      0123456789012345678901234567890123456789012345678901234567890123456789|                                              ^^^|;;
-50005 99 =>   a, line 1, column 50006|      0123456789012345678901234567890123456789012345678901234567890123456789|                                              ^^^^^^^^^^^^^^^^^^^^^^^^^^^^^^|;;
-100005 3 =>   a, line 1, column 100006|      0123456789012345678901234567890123456789end|                                              ^^^|;;
-100009 4 =>   a, line 2, column 1|      next|      ^^^^|"#;
+0 5 =>   a, line 1, column 1|  1 \7c\ begin01234567890123456789012345678901234567890123456789012345678901234 …|    \7c\ ^^^^^|;;
+0 5000 =>   a, line 1, column 1|  1 \7c\ begin01234567890123456789012345678901234567890123456789012345678901234 …|    \7c\ ^^^^^^^^^^^^^^^^^^^^^^^^^^^^^^^^^^^^^^^^^^^^^^^^^^^^^^^^^^^^^^^^^^^^^^|;;
+50005 3 =>   a, line 1, column 50006|  1 \7c\ … 0123456789012345678901234567890123456789012345678901234567890123456789 …|    \7c\                                           ^^^|;;
+50005 99 =>   a, line 1, column 50006|  1 \7c\ … 0123456789012345678901234567890123456789012345678901234567890123456789 …|    \7c\                                           ^^^^^^^^^^^^^^^^^^^^^^^^^^^^^^|;;
+100005 3 =>   a, line 1, column 100006|  1 \7c\ … 0123456789012345678901234567890123456789end|    \7c\                                           ^^^|;;
+100009 4 =>   a, line 2, column 1|  2 \7c\ next|    \7c\ ^^^^|"#;
 
 struct LongPlace;
 

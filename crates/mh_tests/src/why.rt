@@ -5,7 +5,9 @@
 //! what is explained of what is written.
 use crate::cases::{Question, all_hold, bytes};
 use crate::playing::{File, outcome, sources};
-use mh_look::{Known, NamedFile, ways_of, why};
+use mh_flow::Link;
+use mh_layers::Arrow;
+use mh_look::{Known, NamedFile, Verdict, verdict_on, ways_of, why};
 use std::alloc::Global;
 
 /// A file that is named, with its bytes, if it is there.
@@ -29,19 +31,31 @@ pub fn explanation(
 ) -> Option<Vec<u8>> {
     let late = None;
     let lines = tags.as_ref().map(|bytes| bytes.as_slice());
+    let verdict = verdict_on(alloc, lines, files.as_slice(), b"a", None).ok()?;
     let ways = ways_of(alloc, lines, files.as_slice(), b"a", None).ok()?;
+    let (chain, cycle) = of_refusal(&verdict);
     let known = Known {
         files: files.as_slice(),
         ways: match &ways {
             Some(ways) => ways.as_slice(),
             None => &[],
         },
+        chain,
+        cycle,
         late: named("late", &late),
         tags: named("tags", &tags),
         script: named("script", &script),
     };
     let text = why(alloc, &known, output).ok()?;
     Vec::from_slice(alloc, text.as_slice()).ok()
+}
+
+/// The links and the arrows of a refusal.
+fn of_refusal(verdict: &Verdict) -> (&[Link], &[Arrow]) {
+    match verdict {
+        Verdict::Refused(refusal) => (refusal.chain.as_slice(), refusal.cycle.as_slice()),
+        _ => (&[], &[]),
+    }
 }
 
 /// The script that is played.
@@ -89,23 +103,23 @@ check
 :OrigLineWidth 0 :OrigRefFillColour '=FF=00=00=00' }|  {:Link 11 :EventSource 0 :EventType UserInput
 :EventData 100 :LinkEffect ( :SetPosition (99 24 16) ) } ) }|
 => refused V1 s 11 1 SetPosition|  It stands in SetPosition, action 1 of object 11 of s.|  s, line 3,
-column 78|       UserInput :EventData 100 :LinkEffect ( :SetPosition (99 24 16) ) } )
-|                                              ^^^^^^^^^^^^|  Cause: an object or a variable that is
-named is absent in that configuration;|    so is a member of a TokenGroup, whose line has number 0 and
-`-` for the|    action.|  Mend: name one that is there, or move the action.|config a s|  So it is while
-application a shows scene s.|object s 99|  What is named there is object 99 of s, which is absent then.|;;
+column 78|  3 \7c\ … UserInput :EventData 100 :LinkEffect ( :SetPosition (99 24 16) ) } ) }|    \7c\                                         
+^^^^^^^^^^^^|  Cause: an object or a variable that is named is absent in that configuration;|    so
+is a member of a TokenGroup, whose line has number 0 and `-` for the|    action.|  Mend: name one
+that is there, or move the action.|config a s|  So it is while application a shows scene s.|object s
+99|  What is named there is object 99 of s, which is absent then.|;;
 a member that is none
 check
 @a {:Application ("~/a" 0) :OnStartUp ( :TransitionTo (("~/s" 0)) ) }
 @s {:Scene ("~/s" 0) :InputEventReg 3|  :Items ( {:Rectangle 10 :OrigBoxSize 24 32 :OrigPosition 12 16
 :OrigLineWidth 0 :OrigRefFillColour '=FF=00=00=00' }|  {:TokenGroup 7 :TokenGroupItems ( (10) (99) ) } )
 }|
-=> refused V1 s 7 0 -|  It stands in the list of members of object 7 of s.|  s, line 3, column
-18|        {:TokenGroup 7 :TokenGroupItems ( (10) (99) ) } )
-}|                       ^^^^^^^^^^^^^^^^|  Cause: an object or a variable that is named is absent in
-that configuration;|    so is a member of a TokenGroup, whose line has number 0 and `-` for
-the|    action.|  Mend: name one that is there, or move the action.|config a s|  So it is while
-application a shows scene s.|object s 99|  What is named there is object 99 of s, which is absent then.|;;
+=> refused V1 s 7 0 -|  It stands in the list of members of object 7 of s.|  s, line 3, column 18|  3
+\7c\   {:TokenGroup 7 :TokenGroupItems ( (10) (99) ) } ) }|    \7c\                 
+^^^^^^^^^^^^^^^^|  Cause: an object or a variable that is named is absent in that configuration;|   
+so is a member of a TokenGroup, whose line has number 0 and `-` for the|    action.|  Mend: name one
+that is there, or move the action.|config a s|  So it is while application a shows scene s.|object s
+99|  What is named there is object 99 of s, which is absent then.|;;
 an object of another class
 check
 @a {:Application ("~/a" 0) :OnStartUp ( :TransitionTo (("~/s" 0)) ) }
@@ -113,27 +127,26 @@ check
 :OrigLineWidth 0 :OrigRefFillColour '=FF=00=00=00' }|  {:Link 11 :EventSource 0 :EventType UserInput
 :EventData 100 :LinkEffect ( :SetPosition (10 24 16) :SetPosition (0 24 16) ) } ) }|
 => refused V2 s 11 2 SetPosition|  It stands in SetPosition, action 2 of object 11 of s.|  s, line 3,
-column 102|      0 :LinkEffect ( :SetPosition (10 24 16) :SetPosition (0 24 16) ) } )
-}|                                              ^^^^^^^^^^^^|  Cause: the action has no rule for objects
-of that class; or a member of a|    TokenGroup (number 0, `-`) is no visible.|  Mend: write another
-action, or name another object.|config a s|  So it is while application a shows scene s.|object s
-0|  What is named there is object 0 of s, whose class does not fit.|  s, line 1, column 2|      {:Scene
-("~/s" 0) :InputEventReg 3|       ^^^^^^|;;
+column 102|  3 \7c\ … :LinkEffect ( :SetPosition (10 24 16) :SetPosition (0 24 16) ) } ) }|    \7c\                                        
+^^^^^^^^^^^^|  Cause: the action has no rule for objects of that class; or a member of a|   
+TokenGroup (number 0, `-`) is no visible.|  Mend: write another action, or name another
+object.|config a s|  So it is while application a shows scene s.|object s 0|  What is named there is
+object 0 of s, whose class does not fit.|  s, line 1, column 2|  1 \7c\ {:Scene ("~/s" 0)
+:InputEventReg 3|    \7c\  ^^^^^^|;;
 a value of another kind
 check
 @a {:Application ("~/a" 0) :OnStartUp ( :TransitionTo (("~/s" 0)) ) }
 @s {:Scene ("~/s" 0) :InputEventReg 3|  :Items ( {:IntegerVar 5 :OrigValue 1 } {:BooleanVar 6 :OrigValue
 true }|  {:Link 11 :EventSource 0 :EventType UserInput :EventData 100 :LinkEffect ( :Add (5 :IndirectRef
 6) ) } ) }|
-=> refused V3 s 11 1 Add|  It stands in Add, action 1 of object 11 of s.|  s, line 3, column
-78|       UserInput :EventData 100 :LinkEffect ( :Add (5 :IndirectRef 6) ) } )
-|                                              ^^^^|  It goes through variable 6 of s.|  Cause: a value,
-or a variable that is gone through or receives an answer, is|    of another kind than is needed there;
-or an operator is one that the|    variable does not have, or is held by a variable.|  Mend: write a
-value or a variable of that kind, and the operator itself.|config a s|  So it is while application a
-shows scene s.|object s 6|  The reference that is wrong leads to object 6 of s.|  s, line 2, column
-55|      ntegerVar 5 :OrigValue 1 } {:BooleanVar 6 :OrigValue true
-}|                                              ^|;;
+=> refused V3 s 11 1 Add|  It stands in Add, action 1 of object 11 of s.|  s, line 3, column 78|  3
+\7c\ … UserInput :EventData 100 :LinkEffect ( :Add (5 :IndirectRef 6) ) } ) }|    \7c\                                         
+^^^^|  Cause: a value, or a variable that is gone through or receives an answer, is|    of another
+kind than is needed there; or an operator is one that the|    variable does not have, or is held by
+a variable.|  Mend: write a value or a variable of that kind, and the operator itself.|config a s| 
+So it is while application a shows scene s.|object s 6|  The reference that is wrong leads to object
+6 of s.|  s, line 2, column 55|  2 \7c\ … 5 :OrigValue 1 } {:BooleanVar 6 :OrigValue true }|    \7c\                                
+^|  The action goes through this variable.|;;
 a variable that may refer to what is gone
 check
 @a {:Application ("~/a" 0) :OnStartUp ( :TransitionTo (("~/p" 0)) )|  :Items ( {:ObjectRefVar 20
@@ -144,15 +157,15 @@ check
 :LinkEffect ( :TransitionTo (("~/q" 0)) ) } ) }|
 @q {:Scene ("~/q" 0) }
 => refused V4 a 31 1 SetData|  It stands in SetData, action 1 of object 31 of a.|  a, line 4, column
-16|       :LinkEffect ( :SetData (:IndirectRef 20 'X') ) } ) }|                     ^^^^^^^^|  It goes
-through variable 20 of a.|  Cause: an object that a variable may hold, as the target or as a parameter,
-is|    absent; so is an item that a ListGroup may have, whose line has number 0 and|    `-` for the
-action.|  Mend: do not set the variable, or fill the list, with it where it is gone.|config a q|  So it
-is while application a shows scene q.|object p 10|  What is meant there can be object 10 of p, which is
-absent then.|  p, line 3, column 19|        :Items ( {:Text 10 :OrigBoxSize 120 16
-}|                        ^^|by p 0 1|  It comes there by action 1 of object 0 of p, which writes it or
-hands it on.|  p, line 2, column 16|        :OnStartUp ( :SetVariable (("~/a" 20) :GObjectRef 10)
-)|                     ^^^^^^^^^^^^|;;
+16|  4 \7c\  :LinkEffect ( :SetData (:IndirectRef 20 'X') ) } ) }|    \7c\                ^^^^^^^^| 
+Cause: an object that a variable may hold, as the target or as a parameter, is|    absent; so is an
+item that a ListGroup may have, whose line has number 0 and|    `-` for the action.|  Mend: do not
+set the variable, or fill the list, with it where it is gone.|config a q|  So it is while
+application a shows scene q.|object p 10|  What is meant there can be object 10 of p, which is
+absent then.|  p, line 3, column 19|  3 \7c\   :Items ( {:Text 10 :OrigBoxSize 120 16 }|    \7c\                  
+^^|  The action reaches it through variable 20 of a.|by p 0 1|  It comes there by action 1 of object
+0 of p, which writes it to object 20 of|    a.|  p, line 2, column 16|  2 \7c\   :OnStartUp (
+:SetVariable (("~/a" 20) :GObjectRef 10) )|    \7c\                ^^^^^^^^^^^^|;;
 a variable that may refer to an object of another class
 check
 @a {:Application ("~/a" 0) :OnStartUp ( :TransitionTo (("~/s" 0)) ) }
@@ -160,79 +173,76 @@ check
 :OrigBoxSize 24 32 :OrigPosition 12 16 :OrigLineWidth 0 :OrigRefFillColour '=FF=00=00=00' }|  {:Link 11
 :EventSource 0 :EventType UserInput :EventData 100 :LinkEffect ( :SetData (:IndirectRef 1 'X') ) } ) }|
 => refused V5 s 11 1 SetData|  It stands in SetData, action 1 of object 11 of s.|  s, line 4, column
-78|       UserInput :EventData 100 :LinkEffect ( :SetData (:IndirectRef 1 'X')
-|                                              ^^^^^^^^|  It goes through variable 1 of s.|  Cause: an
-object that a variable may hold, as the target or as a parameter, is|    of a class for which the action
-has no rule; or an item that a ListGroup may|    have (number 0, `-`) is no visible.|  Mend: write
-another action, or set the variable to another object.|config a s|  So it is while application a shows
-scene s.|object s 10|  What is meant there can be object 10 of s, whose class does not fit.|  s, line 3,
-column 15|        {:Rectangle 10 :OrigBoxSize 24 32 :OrigPosition 12 16
-:OrigLineWidth|                    ^^|by s 1 0|  It comes there by object 1 of s, which has it from the
-start.|  s, line 2, column 27|        :Items ( {:ObjectRefVar 1 :OrigValue 10
-}|                                ^|;;
+78|  4 \7c\ … UserInput :EventData 100 :LinkEffect ( :SetData (:IndirectRef 1 'X') …|    \7c\                                         
+^^^^^^^^|  Cause: an object that a variable may hold, as the target or as a parameter, is|    of a
+class for which the action has no rule; or an item that a ListGroup may|    have (number 0, `-`) is
+no visible.|  Mend: write another action, or set the variable to another object.|config a s|  So it
+is while application a shows scene s.|object s 10|  What is meant there can be object 10 of s, whose
+class does not fit.|  s, line 3, column 15|  3 \7c\   {:Rectangle 10 :OrigBoxSize 24 32
+:OrigPosition 12 16 …|    \7c\               ^^|  The action reaches it through variable 1 of s.|by
+s 1 0|  It comes there by object 1 of s, which has it from the start.|  s, line 2, column 27|  2
+\7c\   :Items ( {:ObjectRefVar 1 :OrigValue 10 }|    \7c\                           ^|;;
 an effect that puts itself to work
 check
 @a {:Application ("~/a" 0)|  :OnCloseDown ( :Quit (0) ) }|
-=> refused V6 a 0 1 Quit|  It stands in Quit, action 1 of object 0 of a.|  a, line 2, column
-18|        :OnCloseDown ( :Quit (0) ) }|                       ^^^^^|  Cause: an effect puts itself to
-work, at once or by way of others: events that|    links hear, slots that are called, scenes that are
-left and entered, entries|    of the queue.|  Mend: take one of the effects that are named out of the
-circle: let it wait|    for an event from outside (a key, a timer), or let its link name data
-that|    the event does not have.|config a -|  So it is while application a shows no scene.|cause a 0
-1|  The circle goes through the effect that begins with action 1 of object 0 of a.|  a, line 2, column
-18|        :OnCloseDown ( :Quit (0) ) }|                       ^^^^^|;;
+=> refused V6 a 0 1 Quit|  The effect that begins with Quit, action 1 of object 0 of a, puts itself to|   
+work.|  Cause: an effect puts itself to work, at once or by way of others: events that|    links
+hear, slots that are called, scenes that are left and entered, entries|    of the queue.|  Mend:
+take one of the effects that are named out of the circle: let it wait|    for an event from outside
+(a key, a timer), or let its link name data that|    the event does not have.|config a -|  So it is
+while application a shows no scene.|cause a 0 1|  Quit, action 1 of object 0 of a, puts the next
+effect to work: it leaves a,|    whose OnCloseDown is that effect.|  a, line 2, column 18|  2 \7c\  
+:OnCloseDown ( :Quit (0) ) }|    \7c\                  ^^^^^|;;
 the number of a timer in a variable
 check
 @a {:Application ("~/a" 0) :OnStartUp ( :TransitionTo (("~/s" 0)) ) }
 @s {:Scene ("~/s" 0) :InputEventReg 3|  :Items ( {:IntegerVar 5 :OrigValue 1 }|  {:Link 11 :EventSource
 0 :EventType UserInput :EventData 100 :LinkEffect ( :SetTimer (0 :IndirectRef 5 100) ) } ) }|
 => refused V7 s 11 1 SetTimer|  It stands in SetTimer, action 1 of object 11 of s.|  s, line 3, column
-78|       UserInput :EventData 100 :LinkEffect ( :SetTimer (0 :IndirectRef 5
-10|                                              ^^^^^^^^^|  It goes through variable 5 of s.|  Cause:
-the number of the timer that SetTimer sets is held by a variable, which|    is named.|  Mend: write the
-number.|config a s|  So it is while application a shows scene s.|object s 5|  The number is held by
-object 5 of s.|  s, line 2, column 25|        :Items ( {:IntegerVar 5 :OrigValue 1
-}|                              ^|;;
+78|  3 \7c\ … UserInput :EventData 100 :LinkEffect ( :SetTimer (0 :IndirectRef 5 …|    \7c\                                         
+^^^^^^^^^|  Cause: the number of the timer that SetTimer sets is held by a variable, which|    is
+named.|  Mend: write the number.|config a s|  So it is while application a shows scene s.|object s
+5|  The number is held by object 5 of s.|  s, line 2, column 25|  2 \7c\   :Items ( {:IntegerVar 5
+:OrigValue 1 }|    \7c\                         ^|  The action goes through this variable.|;;
 a program that none has
 check
 @a {:Application ("~/a" 0) :OnStartUp ( :TransitionTo (("~/s" 0)) ) }
 @s {:Scene ("~/s" 0) :InputEventReg 3|  :Items ( {:BooleanVar 6 :OrigValue true } {:ResidentPrg 7 :Name
 'ABC' }|  {:Link 11 :EventSource 0 :EventType UserInput :EventData 100 :LinkEffect ( :Call (7 6 (
 :GInteger 1 )) ) } ) }|
-=> refused V9 s 11 1 Call|  It stands in Call, action 1 of object 11 of s.|  s, line 3, column
-78|       UserInput :EventData 100 :LinkEffect ( :Call (7 6 ( :GInteger 1 )) )
-|                                              ^^^^^|  Cause: a program that is called has a name that
-none has, or takes other|    arguments: more, fewer, of another kind, or an answer that is
-written|    directly.|  Mend: write the program's name and its parameters as in the table of
-programs.|config a s|  So it is while application a shows scene s.|object s 7|  The program that is
-called is object 7 of s.|  s, line 2, column 59|      anVar 6 :OrigValue true } {:ResidentPrg 7 :Name
-'ABC' }|                                              ^|"#;
+=> refused V9 s 11 1 Call|  It stands in Call, action 1 of object 11 of s.|  s, line 3, column 78|  3
+\7c\ … UserInput :EventData 100 :LinkEffect ( :Call (7 6 ( :GInteger 1 )) ) …|    \7c\                                         
+^^^^^|  Cause: a program that is called has a name that none has, or takes other|    arguments:
+more, fewer, of another kind, or an answer that is written|    directly.|  Mend: write the program's
+name and its parameters as in the table of programs.|config a s|  So it is while application a shows
+scene s.|object s 7|  The program that is called is object 7 of s.|  s, line 2, column 59|  2 \7c\ …
+6 :OrigValue true } {:ResidentPrg 7 :Name 'ABC' }|    \7c\                                     ^|"#;
 
 static FILES: &str = r#"
 text: no token
 check
 @a {:Application ("~/a" 0)\0d\|  :OnStartUp ( ? ) }
-=> file a 20 40|  It is byte 40 of the file a.|  a, line 2, column 16|        :OnStartUp ( ? )
-}|                     ^|  Cause: a byte begins no token, a string is open, or an `=XX` is
-wrong.|  Mend: close the string, or mend what stands there.|;;
+=> file a 20 40|  It is byte 40 of the file a.|  a, line 2, column 16|  2 \7c\   :OnStartUp ( ? ) }|   
+\7c\                ^|  Cause: a byte begins no token, a string is open, or an `=XX` is wrong.| 
+Mend: close the string, or mend what stands there.|;;
 text: another token
 check
 @a {:Application ("~/a" 0) :OnStartUp ( ( (
-=> file a 21 37|  It is byte 37 of the file a.|  a, line 1, column 38|      {:Application ("~/a" 0)
-:OnStartUp ( ( (|                                           ^|  Cause: another token is wanted here; or
-the class does not take the field, or|    has it already; or, at a closing bracket, a field is
-missing.|  Mend: look at the token at the offset.|;;
+=> file a 21 37|  It is byte 37 of the file a.|  a, line 1, column 38|  1 \7c\ {:Application ("~/a" 0)
+:OnStartUp ( ( (|    \7c\                                      ^|  Cause: another token is wanted
+here; or the class does not take the field, or|    has it already; or, at a closing bracket, a field
+is missing.|  Mend: look at the token at the offset.|;;
 text: no such keyword
 check
 @a {:Applicatoin ("~/a" 0) }
-=> file a 22 1|  It is byte 1 of the file a.|  a, line 1, column 2|      {:Applicatoin ("~/a" 0)
-}|       ^|  Cause: no table has this keyword or word.|  Mend: mend the spelling.|;;
+=> file a 22 1|  It is byte 1 of the file a.|  a, line 1, column 2|  1 \7c\ {:Applicatoin ("~/a" 0) }|   
+\7c\  ^^^^^^^^^^^^|  Cause: no table has this keyword or word.|  Mend: mend the spelling.|;;
 text: a large number
 check
 @a {:Application ("~/a" 0) :Items ( {:IntegerVar 1 :OrigValue|2147483648 } ) }
-=> file a 23 59|  It is byte 59 of the file a.|  a, line 2, column 1|      2147483648 } )
-}|      ^|  Cause: a number is past 32 bits, or a value outside what the table allows.|  Mend: write a
-smaller number, or a value that is allowed.|;;
+=> file a 23 59|  It is byte 59 of the file a.|  a, line 2, column 1|  2 \7c\ 2147483648 } ) }|    \7c\
+^^^^^^^^^^|  Cause: a number is past 32 bits, or a value outside what the table allows.|  Mend:
+write a smaller number, or a value that is allowed.|;;
 octets that end
 check
 @a \a0 1b 30 08 04 03 7e 2f 61\
@@ -305,20 +315,21 @@ check
 @s {:Scene ("~/s" 0) :InputEventReg 3|  :Items ( {:Rectangle 10 :OrigBoxSize 24 32 :OrigPosition 12 16
 :OrigLineWidth 0 :OrigRefFillColour '=FF=00=00=00' }|  {:IntegerVar 5 :OrigValue 1 }|  {:IntegerVar 10
 :OrigValue 2 } ) }|
-=> service 32 s|  It is told of s.|  s, line 4, column 16|        {:IntegerVar 10 :OrigValue 2 } )
-}|                     ^^|  Cause: two ingredients of a group have one number.|  Mend: renumber one.|;;
+=> service 32 s|  It is told of s.|  s, line 4, column 16|  4 \7c\   {:IntegerVar 10 :OrigValue 2 } )
+}|    \7c\                ^^|  Cause: two ingredients of a group have one number.|  Mend: renumber
+one.|;;
 a scene to start with
 check
 @a // the start|{:Scene ("~/a" 0) }
-=> service 33 a|  It is told of a.|  a, line 2, column 2|      {:Scene ("~/a" 0)
-}|       ^^^^^^|  Cause: the start group is a scene.|  Mend: start an application.|;;
+=> service 33 a|  It is told of a.|  a, line 2, column 2|  2 \7c\ {:Scene ("~/a" 0) }|    \7c\  ^^^^^^| 
+Cause: the start group is a scene.|  Mend: start an application.|;;
 a name that leads above the folder
 check
 @a {:Application ("../no" 0) :NextScenes ( ( "../no" 1 ) )|  :OnStartUp ( :TransitionTo (("~/../x" 0)) )
 }
-=> service 35 a|  It is told of a.|  a, line 2, column 32|        :OnStartUp ( :TransitionTo (("~/../x"
-0)) ) }|                                     ^^^^^^^^|  Cause: a written name leads to no path.|  Mend:
-write the path from the top: `~/x`.|"#;
+=> service 35 a|  It is told of a.|  a, line 2, column 32|  2 \7c\   :OnStartUp ( :TransitionTo
+(("~/../x" 0)) ) }|    \7c\                                ^^^^^^^^|  Cause: a written name leads to
+no path.|  Mend: write the path from the top: `~/x`.|"#;
 
 static PLAYS: &str = r#"
 what is absent
@@ -327,10 +338,10 @@ lenient run|key red|run|
 @s {:Scene ("~/s" 0) :InputEventReg 3|  :Items ( {:Rectangle 10 :OrigBoxSize 24 32 :OrigPosition 12 16
 :OrigLineWidth 0 :OrigRefFillColour '=FF=00=00=00' }|  {:Link 11 :EventSource 0 :EventType UserInput
 :EventData 100 :LinkEffect ( :SetPosition (99 24 16) ) } ) }|
-=> fault absent SetPosition s 99|  The action SetPosition was stuck at object 99 of s.|  Actions of that
-name stand here:|  s, line 3, column 78|       UserInput :EventData 100 :LinkEffect ( :SetPosition (99
-24 16) ) } ) |                                              ^^^^^^^^^^^^|  Cause: what the action needs
-was not there.|  Mend: name one that is there, or make it come before.|;;
+=> fault absent SetPosition s 99|  The action SetPosition was stuck at object 99 of s.|  Actions of
+that name stand here:|  s, line 3, column 78|  3 \7c\ … UserInput :EventData 100 :LinkEffect (
+:SetPosition (99 24 16) ) } ) }|    \7c\                                          ^^^^^^^^^^^^| 
+Cause: what the action needs was not there.|  Mend: name one that is there, or make it come before.|;;
 what has no rule, in four places
 lenient run|key red|run|
 @a {:Application ("~/a" 0) :OnStartUp ( :TransitionTo (("~/s" 0)) ) }
@@ -347,10 +358,10 @@ lenient run|key red|run|
 @s {:Scene ("~/s" 0) :InputEventReg 3|  :Items ( {:IntegerVar 5 :OrigValue 1 } {:BooleanVar 6 :OrigValue
 true }|  {:Link 11 :EventSource 0 :EventType UserInput :EventData 100 :LinkEffect ( :Add (5 :IndirectRef
 6) ) } ) }|
-=> fault kind Add s 6|  The action Add was stuck at object 6 of s.|  Actions of that name stand
-here:|  s, line 3, column 78|       UserInput :EventData 100 :LinkEffect ( :Add (5 :IndirectRef 6) ) } )
-|                                              ^^^^|  Cause: a value was of another kind than the action
-needs.|  Mend: give the action a value of that kind.|;;
+=> fault kind Add s 6|  The action Add was stuck at object 6 of s.|  Actions of that name stand here:| 
+s, line 3, column 78|  3 \7c\ … UserInput :EventData 100 :LinkEffect ( :Add (5 :IndirectRef 6) ) } )
+}|    \7c\                                          ^^^^|  Cause: a value was of another kind than
+the action needs.|  Mend: give the action a value of that kind.|;;
 ticks of no time and of too much
 lenient tick 0|tick 60001|run|
 @a {:Application ("~/a" 0) :OnStartUp ( :TransitionTo (("~/s" 0)) ) }
@@ -368,21 +379,23 @@ play run||key purple|run|
 @a {:Application ("~/a" 0) :OnStartUp ( :TransitionTo (("~/s" 0)) ) }
 @s {:Scene ("~/s" 0) :InputEventReg 3|  :Items ( {:Rectangle 10 :OrigBoxSize 24 32 :OrigPosition 12 16
 :OrigLineWidth 0 :OrigRefFillColour '=FF=00=00=00' } ) }|
-=> script 3|  It is line 3 of the script.|  script, line 3, column 1|      key
-purple|      ^^^^^^^^^^|  Cause: that line of the script is wrong.|  Mend: write `key NAME`, `tick N`, `stream N`, `engine N`, `file NAME HEX`,|    `scene NAME`,
-`scene NAME HEX`, `step N`, `run` or `show`, one space between|    words; N is decimal digits, up to
-4,294,967,295, behind `stream` and|    `engine` up to 2,147,483,647; `scene NAME` has the name of a
-group of the|    service, and in `scene NAME HEX` the octets write a group.|;;
+=> script 3|  It is line 3 of the script.|  script, line 3, column 1|  3 \7c\ key purple|    \7c\
+^^^^^^^^^^|  Cause: that line of the script is wrong.|  Mend: write `key NAME`, `tick N`, `stream
+N`, `engine N`, `file NAME HEX`,|    `scene NAME`, `scene NAME HEX`, `step N`, `run` or `show`, one
+space between|    words; N is decimal digits, up to 4,294,967,295, behind `stream` and|    `engine`
+up to 2,147,483,647; `scene NAME` has the name of a group of the|    service, and in `scene NAME
+HEX` the octets write a group.|;;
 a wrong line at the end
 play run|stop
 @a {:Application ("~/a" 0) :OnStartUp ( :TransitionTo (("~/s" 0)) ) }
 @s {:Scene ("~/s" 0) :InputEventReg 3|  :Items ( {:Rectangle 10 :OrigBoxSize 24 32 :OrigPosition 12 16
 :OrigLineWidth 0 :OrigRefFillColour '=FF=00=00=00' } ) }|
-=> script 2|  It is line 2 of the script.|  script, line 2, column 1|      stop|      ^^^^|  Cause: that
-line of the script is wrong.|  Mend: write `key NAME`, `tick N`, `stream N`, `engine N`, `file NAME HEX`,|    `scene NAME`,
-`scene NAME HEX`, `step N`, `run` or `show`, one space between|    words; N is decimal digits, up to
-4,294,967,295, behind `stream` and|    `engine` up to 2,147,483,647; `scene NAME` has the name of a
-group of the|    service, and in `scene NAME HEX` the octets write a group.|"#;
+=> script 2|  It is line 2 of the script.|  script, line 2, column 1|  2 \7c\ stop|    \7c\ ^^^^| 
+Cause: that line of the script is wrong.|  Mend: write `key NAME`, `tick N`, `stream N`, `engine N`,
+`file NAME HEX`,|    `scene NAME`, `scene NAME HEX`, `step N`, `run` or `show`, one space between|   
+words; N is decimal digits, up to 4,294,967,295, behind `stream` and|    `engine` up to
+2,147,483,647; `scene NAME` has the name of a group of the|    service, and in `scene NAME HEX` the
+octets write a group.|"#;
 
 static BOUNDS: &str = r#"
 a red box
@@ -392,18 +405,21 @@ check
 :OrigLineWidth 0 :OrigRefFillColour '=FF=00=00=00' }|  {:Link 11 :EventSource 0 :EventType UserInput
 :EventData 100 :LinkEffect ( :SetPosition (10 24 16) ) } ) }|
 => accepted|  Nothing can go wrong, and no input leads to more steps than the line of its|    kind
-tells.|start 12|  It enters application a.|  The dearest effect that it puts to work costs 10 steps. Its
-dearest action is|    TransitionTo, action 1 of object 0 of a, with 10 steps, while application
-a|    shows no scene.|  a, line 1, column 38|      {:Application ("~/a" 0) :OnStartUp ( :TransitionTo
-(("~/s" 0)) ) }|                                           ^^^^^^^^^^^^^|key 2|  It costs most while
-application a shows scene s.|  The dearest effect that it puts to work costs 1 step. Its dearest action
-is|    SetPosition, action 1 of object 11 of s, with 1 step, while application a|    shows scene s.|  s,
-line 3, column 78|       UserInput :EventData 100 :LinkEffect ( :SetPosition (10 24 16) ) } )
-|                                              ^^^^^^^^^^^^|tick 1|  It costs most while application a
-shows no scene.|  It puts no effect to work.|stream 1|  It costs most while application a shows no
-scene.|  It puts no effect to work.|engine 1|  It costs most while application a shows no scene.|  It
-puts no effect to work.|arrive 1|  It costs most while application a shows no scene.|  It puts no effect
-to work.|;;
+tells.|start 12|  To start the service takes 12 steps at most.|  It enters application a.|  The
+dearest effect that it puts to work costs 10 steps. Its dearest action is|    TransitionTo, action 1
+of object 0 of a, with 10 steps, while application a|    shows no scene.|  a, line 1, column 38|  1
+\7c\ {:Application ("~/a" 0) :OnStartUp ( :TransitionTo (("~/s" 0)) ) }|    \7c\                                     
+^^^^^^^^^^^^^|key 2|  A key that is pressed leads to 2 steps at most.|  It costs most while
+application a shows scene s.|  The dearest effect that it puts to work costs 1 step. Its dearest
+action is|    SetPosition, action 1 of object 11 of s, with 1 step, while application a|    shows
+scene s.|  s, line 3, column 78|  3 \7c\ … UserInput :EventData 100 :LinkEffect ( :SetPosition (10
+24 16) ) } ) }|    \7c\                                          ^^^^^^^^^^^^|tick 1|  A tick of the
+clock leads to 1 step at most.|  It costs most while application a shows no scene.|  It puts no
+effect to work.|stream 1|  An event of the stream leads to 1 step at most.|  It costs most while
+application a shows no scene.|  It puts no effect to work.|engine 1|  An event of the engine leads
+to 1 step at most.|  It costs most while application a shows no scene.|  It puts no effect to
+work.|arrive 1|  A file that arrives leads to 1 step at most.|  It costs most while application a
+shows no scene.|  It puts no effect to work.|;;
 tests that double
 check
 @a {:Application ("~/a" 0) :Items (|  {:BooleanVar 1 :OrigValue true }|  {:BooleanVar 2 :OrigValue true
@@ -413,21 +429,24 @@ check
 true) ) }|  {:Link 119 :EventSource 0 :EventType IsRunning :LinkEffect ( :TestVariable (1 1 :GBoolean
 true) ) } ) }|
 => accepted|  Nothing can go wrong, and no input leads to more steps than the line of its|    kind
-tells.|start 25|  It enters application a.|  The dearest effect that it puts to work costs 14 steps. Its
-dearest action is|    TestVariable, action 1 of object 119 of a, with 14 steps, while application|    a
-shows no scene.|  a, line 9, column 64|      ce 0 :EventType IsRunning :LinkEffect ( :TestVariable (1 1
-:GBoolean t|                                              ^^^^^^^^^^^^^|  The dearest effect that this
-one puts to work costs 12 steps. Its dearest|    action is TestVariable, action 1 of object 101 of a,
-with 6 steps, while|    application a shows no scene.|  a, line 6, column 19|          :LinkEffect (
-:TestVariable (2 1 :GBoolean true) :TestVariable (2 |                        ^^^^^^^^^^^^^|  The dearest
-effect that this one puts to work costs 4 steps. Its dearest|    action is TestVariable, action 1 of
-object 102 of a, with 2 steps, while|    application a shows no scene.|  a, line 8, column
-19|          :LinkEffect ( :TestVariable (3 1 :GBoolean true) :TestVariable (3
-|                        ^^^^^^^^^^^^^|key 1|  It costs most while application a shows no scene.|  It
-puts no effect to work.|tick 1|  It costs most while application a shows no scene.|  It puts no effect
-to work.|stream 1|  It costs most while application a shows no scene.|  It puts no effect to
-work.|engine 1|  It costs most while application a shows no scene.|  It puts no effect to work.|arrive
-1|  It costs most while application a shows no scene.|  It puts no effect to work.|;;
+tells.|start 25|  To start the service takes 25 steps at most.|  It enters application a.|  The
+dearest effect that it puts to work costs 14 steps. Its dearest action is|    TestVariable, action 1
+of object 119 of a, with 14 steps, while application|    a shows no scene.|  a, line 9, column 64| 
+9 \7c\ … 0 :EventType IsRunning :LinkEffect ( :TestVariable (1 1 :GBoolean …|    \7c\                                       
+^^^^^^^^^^^^^|  The dearest effect that this one puts to work costs 12 steps. Its dearest|    action
+is TestVariable, action 1 of object 101 of a, with 6 steps, while|    application a shows no scene.| 
+a, line 6, column 19|  6 \7c\     :LinkEffect ( :TestVariable (2 1 :GBoolean true) :TestVariable (2
+…|    \7c\                   ^^^^^^^^^^^^^|  The dearest effect that this one puts to work costs 4
+steps. Its dearest|    action is TestVariable, action 1 of object 102 of a, with 2 steps, while|   
+application a shows no scene.|  a, line 8, column 19|  8 \7c\     :LinkEffect ( :TestVariable (3 1
+:GBoolean true) :TestVariable (3 …|    \7c\                   ^^^^^^^^^^^^^|key 1|  A key that is
+pressed leads to 1 step at most.|  It costs most while application a shows no scene.|  It puts no
+effect to work.|tick 1|  A tick of the clock leads to 1 step at most.|  It costs most while
+application a shows no scene.|  It puts no effect to work.|stream 1|  An event of the stream leads
+to 1 step at most.|  It costs most while application a shows no scene.|  It puts no effect to
+work.|engine 1|  An event of the engine leads to 1 step at most.|  It costs most while application a
+shows no scene.|  It puts no effect to work.|arrive 1|  A file that arrives leads to 1 step at
+most.|  It costs most while application a shows no scene.|  It puts no effect to work.|;;
 more steps than are allowed
 check
 @a {:Application ("~/a" 0) :Items (|  {:BooleanVar 1 :OrigValue true }|  {:BooleanVar 2 :OrigValue true
@@ -479,27 +498,27 @@ true) :TestVariable (3 1 :GBoolean true) :TestVariable (3 1 :GBoolean true) ) }|
 :TestVariable (5 1 :GBoolean true) :TestVariable (5 1 :GBoolean true) :TestVariable (5 1 :GBoolean true)
 :TestVariable (5 1 :GBoolean true) :TestVariable (5 1 :GBoolean true) ) }|  {:Link 119 :EventSource 0
 :EventType IsRunning :LinkEffect ( :TestVariable (1 1 :GBoolean true) ) } ) }|
-=> refused V8 start|  Cause: the start, or an input of the kind that is named, can lead to more
-than|    1,000,000 steps.|  Mend: have fewer links that hear one event, fewer actions in what they put,
-or|    a timer between the parts of the work.|  By the files in the folder it comes to 2164819
-steps.|  It enters application a.|  The dearest effect that it puts to work costs 2164802 steps. Its
-dearest|    action is TestVariable, action 1 of object 119 of a, with 2164802 steps,|    while
-application a shows no scene.|  a, line 15, column 64|      ce 0 :EventType IsRunning :LinkEffect (
-:TestVariable (1 1 :GBoolean t|                                              ^^^^^^^^^^^^^|  The dearest
-effect that this one puts to work costs 2164800 steps. Its dearest|    action is TestVariable, action 1
-of object 101 of a, with 67650 steps, while|    application a shows no scene.|  a, line 8, column
-19|          :LinkEffect ( :TestVariable (2 1 :GBoolean true) :TestVariable (2
-|                        ^^^^^^^^^^^^^|  The dearest effect that this one puts to work costs 67648
-steps. Its dearest|    action is TestVariable, action 1 of object 102 of a, with 2114 steps,
-while|    application a shows no scene.|  a, line 10, column 19|          :LinkEffect ( :TestVariable (3
-1 :GBoolean true) :TestVariable (3 |                        ^^^^^^^^^^^^^|  The dearest effect that this
-one puts to work costs 2112 steps. Its dearest|    action is TestVariable, action 1 of object 103 of a,
-with 66 steps, while|    application a shows no scene.|  a, line 12, column 19|          :LinkEffect (
-:TestVariable (4 1 :GBoolean true) :TestVariable (4 |                        ^^^^^^^^^^^^^|  The dearest
-effect that this one puts to work costs 64 steps. Its dearest|    action is TestVariable, action 1 of
-object 104 of a, with 2 steps, while|    application a shows no scene.|  a, line 14, column
-19|          :LinkEffect ( :TestVariable (5 1 :GBoolean true) :TestVariable (5
-|                        ^^^^^^^^^^^^^|"#;
+=> refused V8 start|  Cause: the start, or an input of the kind that is named, can lead to more than|   
+1,000,000 steps.|  Mend: have fewer links that hear one event, fewer actions in what they put, or|   
+a timer between the parts of the work.|  By the files in the folder it comes to 2164819 steps.|  It
+enters application a.|  The dearest effect that it puts to work costs 2164802 steps. Its dearest|   
+action is TestVariable, action 1 of object 119 of a, with 2164802 steps,|    while application a
+shows no scene.|  a, line 15, column 64|  15 \7c\ … 0 :EventType IsRunning :LinkEffect (
+:TestVariable (1 1 :GBoolean …|     \7c\                                        ^^^^^^^^^^^^^|  The
+dearest effect that this one puts to work costs 2164800 steps. Its dearest|    action is
+TestVariable, action 1 of object 101 of a, with 67650 steps, while|    application a shows no
+scene.|  a, line 8, column 19|  8 \7c\     :LinkEffect ( :TestVariable (2 1 :GBoolean true)
+:TestVariable (2 …|    \7c\                   ^^^^^^^^^^^^^|  The dearest effect that this one puts
+to work costs 67648 steps. Its dearest|    action is TestVariable, action 1 of object 102 of a, with
+2114 steps, while|    application a shows no scene.|  a, line 10, column 19|  10 \7c\    
+:LinkEffect ( :TestVariable (3 1 :GBoolean true) :TestVariable (3 …|     \7c\                  
+^^^^^^^^^^^^^|  The dearest effect that this one puts to work costs 2112 steps. Its dearest|   
+action is TestVariable, action 1 of object 103 of a, with 66 steps, while|    application a shows no
+scene.|  a, line 12, column 19|  12 \7c\     :LinkEffect ( :TestVariable (4 1 :GBoolean true)
+:TestVariable (4 …|     \7c\                   ^^^^^^^^^^^^^|  The dearest effect that this one puts
+to work costs 64 steps. Its dearest|    action is TestVariable, action 1 of object 104 of a, with 2
+steps, while|    application a shows no scene.|  a, line 14, column 19|  14 \7c\     :LinkEffect (
+:TestVariable (5 1 :GBoolean true) :TestVariable (5 …|     \7c\                   ^^^^^^^^^^^^^|"#;
 
 static LINES: &str = r#"
 read 3
@@ -518,35 +537,34 @@ object s 99
 refused V1 s 11 1 Run|object s 7|refused 52|object s 7
 @s {:Scene ("~/s" 0)|  :Items ({:Link 11 :EventSource 0 :EventType UserInput :LinkEffect (:Run
 (9)|     :Stop (8))} {:TokenGroup 7 :TokenGroupItems ((8))}) }|
-=> refused V1 s 11 1 Run|  It stands in Run, action 1 of object 11 of s.|  s, line 2, column
-70|      rce 0 :EventType UserInput :LinkEffect (:Run
-(9)|                                              ^^^^|  Cause: an object or a variable that is named is
-absent in that configuration;|    so is a member of a TokenGroup, whose line has number 0 and `-` for
-the|    action.|  Mend: name one that is there, or move the action.|object s 7|  What is named there is
-object 7 of s, which is absent then.|  s, line 3, column 31|           :Stop (8))} {:TokenGroup 7
-:TokenGroupItems ((8))}) }|                                    ^|refused 52|  Cause: the application has
-quit.|  Mend: post nothing any more.|object s 7|  The reference that is wrong leads to object 7 of
-s.|  s, line 3, column 31|           :Stop (8))} {:TokenGroup 7 :TokenGroupItems ((8))})
-}|                                    ^|;;
+=> refused V1 s 11 1 Run|  It stands in Run, action 1 of object 11 of s.|  s, line 2, column 70|  2
+\7c\ … 0 :EventType UserInput :LinkEffect (:Run (9)|    \7c\                                      
+^^^^|  Cause: an object or a variable that is named is absent in that configuration;|    so is a
+member of a TokenGroup, whose line has number 0 and `-` for the|    action.|  Mend: name one that is
+there, or move the action.|object s 7|  What is named there is object 7 of s, which is absent then.| 
+s, line 3, column 31|  3 \7c\      :Stop (8))} {:TokenGroup 7 :TokenGroupItems ((8))}) }|    \7c\                              
+^|refused 52|  Cause: the application has quit.|  Mend: post nothing any more.|object s 7|  The
+reference that is wrong leads to object 7 of s.|  s, line 3, column 31|  3 \7c\      :Stop (8))}
+{:TokenGroup 7 :TokenGroupItems ((8))}) }|    \7c\                               ^|;;
 by s 11 1|by s 7 0|by s 11 0
 @s {:Scene ("~/s" 0)|  :Items ({:Link 11 :EventSource 0 :EventType UserInput :LinkEffect (:Run
 (9)|     :Stop (8))} {:TokenGroup 7 :TokenGroupItems ((8))}) }|
-=> by s 11 1|  It comes there by action 1 of object 11 of s, which writes it or hands it on.|  s, line
-2, column 70|      rce 0 :EventType UserInput :LinkEffect (:Run
-(9)|                                              ^^^^|by s 7 0|  It comes there by object 7 of s, which
-has it from the start.|  s, line 3, column 33|           :Stop (8))} {:TokenGroup 7 :TokenGroupItems
-((8))}) }|                                      ^^^^^^^^^^^^^^^^|by s 11 0|  It comes there by object 11
-of s, which has it from the start.|  s, line 2, column 18|        :Items ({:Link 11 :EventSource 0
-:EventType UserInput :LinkEffect (:|                       ^^|;;
+=> by s 11 1|  It comes there by action 1 of object 11 of s, which writes it.|  s, line 2, column 70| 
+2 \7c\ … 0 :EventType UserInput :LinkEffect (:Run (9)|    \7c\                                      
+^^^^|by s 7 0|  It comes there by object 7 of s, which has it from the start.|  s, line 3, column
+33|  3 \7c\      :Stop (8))} {:TokenGroup 7 :TokenGroupItems ((8))}) }|    \7c\                                
+^^^^^^^^^^^^^^^^|by s 11 0|  It comes there by object 11 of s, which has it from the start.|  s,
+line 2, column 18|  2 \7c\   :Items ({:Link 11 :EventSource 0 :EventType UserInput :LinkEffect …|   
+\7c\                  ^^|;;
 cause s 11 2|cause s 11 3|cause s 12 1|cause t 11 1
 @s {:Scene ("~/s" 0)|  :Items ({:Link 11 :EventSource 0 :EventType UserInput :LinkEffect (:Run
 (9)|     :Stop (8))} {:TokenGroup 7 :TokenGroupItems ((8))}) }|
-=> cause s 11 2|  The circle goes through the effect that begins with action 2 of object 11
-of|    s.|  s, line 3, column 6|           :Stop (8))} {:TokenGroup 7 :TokenGroupItems ((8))})
-}|           ^^^^^|cause s 11 3|  The circle goes through the effect that begins with action 3 of object
-11 of|    s.|cause s 12 1|  The circle goes through the effect that begins with action 1 of object 12
-of|    s.|cause t 11 1|  The circle goes through the effect that begins with action 1 of object 11
-of|    t.|;;
+=> cause s 11 2|  The circle goes through the effect that begins with action 2 of object 11 of|    s.| 
+s, line 3, column 6|  3 \7c\      :Stop (8))} {:TokenGroup 7 :TokenGroupItems ((8))}) }|    \7c\     
+^^^^^|cause s 11 3|  The circle goes through the effect that begins with action 3 of object 11 of|   
+s.|cause s 12 1|  The circle goes through the effect that begins with action 1 of object 12 of|   
+s.|cause t 11 1|  The circle goes through the effect that begins with action 1 of object 11 of|   
+t.|;;
 cause s 11 1x|cause s 11 4294967296|cause s x 1
 @s {:Scene ("~/s" 0)|  :Items ({:Link 11 :EventSource 0 :EventType UserInput :LinkEffect (:Run
 (9)|     :Stop (8))} {:TokenGroup 7 :TokenGroupItems ((8))}) }|
@@ -558,41 +576,42 @@ refused V3 f/s 0 1 PutBefore|refused V9 f/s 0 2 Call
 @f/s {:Scene ("~/f/s" 0) :OnStartUp (|  :PutBefore (:IndirectRef 3 :IndirectRef ("../t" 4))|  :Call (5 6
 ( :GInteger :IndirectRef ("~/g" 7) :GInteger 8 )) ) }|
 => refused V3 f/s 0 1 PutBefore|  It stands in PutBefore, action 1 of object 0 of f/s.|  f/s, line 2,
-column 3|        :PutBefore (:IndirectRef 3 :IndirectRef ("../t" 4))|        ^^^^^^^^^^|  It goes
-through variable 3 of f/s, variable 4 of ../t.|  Cause: a value, or a variable that is gone through or
-receives an answer, is|    of another kind than is needed there; or an operator is one that
-the|    variable does not have, or is held by a variable.|  Mend: write a value or a variable of that
-kind, and the operator itself.|refused V9 f/s 0 2 Call|  It stands in Call, action 2 of object 0 of
-f/s.|  f/s, line 3, column 3|        :Call (5 6 ( :GInteger :IndirectRef ("~/g" 7) :GInteger 8 )) )
-}|        ^^^^^|  It goes through variable 7 of g.|  Cause: a program that is called has a name that
-none has, or takes other|    arguments: more, fewer, of another kind, or an answer that is
-written|    directly.|  Mend: write the program's name and its parameters as in the table of programs.|;;
+column 3|  2 \7c\   :PutBefore (:IndirectRef 3 :IndirectRef ("../t" 4))|    \7c\   ^^^^^^^^^^| 
+Cause: a value, or a variable that is gone through or receives an answer, is|    of another kind
+than is needed there; or an operator is one that the|    variable does not have, or is held by a
+variable.|  Mend: write a value or a variable of that kind, and the operator itself.|refused V9 f/s
+0 2 Call|  It stands in Call, action 2 of object 0 of f/s.|  f/s, line 3, column 3|  3 \7c\   :Call
+(5 6 ( :GInteger :IndirectRef ("~/g" 7) :GInteger 8 )) ) }|    \7c\   ^^^^^|  Cause: a program that
+is called has a name that none has, or takes other|    arguments: more, fewer, of another kind, or
+an answer that is written|    directly.|  Mend: write the program's name and its parameters as in
+the table of programs.|;;
 cause a 0 1|object a 0|file a 1 0
 @a \a0 1a 30 08 04 03 7e 2f 61 02 01 00 a1 0e 30 0c bf 7e 09 02 01 0a 02 01 18 02 01 10\
-=> cause a 0 1|  The circle goes through the effect that begins with action 1 of object 0 of a.|  a,
-line 1, column 41|      { :Application ( "~/a" 0 ) :OnStartUp ( :SetPosition ( 10 24 16 ) )
-}|                                              ^^^^^^^^^^^^|object a 0|  The reference that is wrong
-leads to object 0 of a.|  a, line 1, column 3|      { :Application ( "~/a" 0 ) :OnStartUp ( :SetPosition
-( 10 24 16 ) ) }|        ^^^^^^^^^^^^|file a 1 0|  It is byte 0 of the file a.|  Cause: the bytes end
-before the element does, or where one is wanted.|  Mend: look at the lengths around the offset.|;;
+=> cause a 0 1|  The circle goes through the effect that begins with action 1 of object 0 of a.|  a, as
+`to-text` prints it, line 1, column 41|  1 \7c\ { :Application ( "~/a" 0 ) :OnStartUp ( :SetPosition
+( 10 24 16 ) ) }|    \7c\                                         ^^^^^^^^^^^^|object a 0|  The
+reference that is wrong leads to object 0 of a.|  a, as `to-text` prints it, line 1, column 3|  1
+\7c\ { :Application ( "~/a" 0 ) :OnStartUp ( :SetPosition ( 10 24 16 ) ) }|    \7c\  
+^^^^^^^^^^^^|file a 1 0|  It is byte 0 of the file a.|  Cause: the bytes end before the element
+does, or where one is wanted.|  Mend: look at the lengths around the offset.|;;
 file x 40 0
 @x some text
 => file x 40 0|  It is byte 0 of the file x.|  Cause: a content file has more than 65,535
 octets.|  Mend: make it smaller.|;;
 file a 23 21|file a 23 x
 @a // é\0d\|{:Scene ("~/a" 99999999999) }
-=> file a 23 21|  It is byte 21 of the file a.|  a, line 2, column 15|      {:Scene ("~/a" 99999999999)
-}|                    ^|  Cause: a number is past 32 bits, or a value outside what the table
-allows.|  Mend: write a smaller number, or a value that is allowed.|file a 23 x|  It is byte x of the
-file a.|  Cause: a number is past 32 bits, or a value outside what the table allows.|  Mend: write a
-smaller number, or a value that is allowed.|;;
+=> file a 23 21|  It is byte 21 of the file a.|  a, line 2, column 15|  2 \7c\ {:Scene ("~/a"
+99999999999) }|    \7c\               ^^^^^^^^^^^^|  Cause: a number is past 32 bits, or a value
+outside what the table allows.|  Mend: write a smaller number, or a value that is allowed.|file a 23
+x|  It is byte x of the file a.|  Cause: a number is past 32 bits, or a value outside what the table
+allows.|  Mend: write a smaller number, or a value that is allowed.|;;
 service 36 s|service 34 s|service 30 s
 @s {:Scene ("~/s" 0)|  :Items ({:Link 11 :EventSource 0 :EventType UserInput :LinkEffect (:Run
 (9)|     :Stop (8))} {:TokenGroup 7 :TokenGroupItems ((8))}) }|
-=> service 36 s|  It is told of s.|service 34 s|  It is told of s.|  s, line 1, column 2|      {:Scene
-("~/s" 0)|       ^^^^^^|  Cause: there are too many groups, ingredients or actions.|  Mend: split the
-service, or take some away.|service 30 s|  It is told of s.|  Cause: two files have one name.|  Mend:
-rename one.|;;
+=> service 36 s|  It is told of s.|service 34 s|  It is told of s.|  s, line 1, column 2|  1 \7c\
+{:Scene ("~/s" 0)|    \7c\  ^^^^^^|  Cause: there are too many groups, ingredients or actions.| 
+Mend: split the service, or take some away.|service 30 s|  It is told of s.|  Cause: two files have
+one name.|  Mend: rename one.|;;
 script 0|script 1|script x
 => script 0|  It is line 0 of the script.|  Cause: that line of the script is wrong.|  Mend: write `key NAME`, `tick N`, `stream N`, `engine N`, `file NAME HEX`,|    `scene NAME`,
 `scene NAME HEX`, `step N`, `run` or `show`, one space between|    words; N is decimal digits, up to
@@ -608,28 +627,29 @@ fault absent Run s 9|fault absent Clear s 9
 @s {:Scene ("~/s" 0)|  :Items ({:Link 11 :EventSource 0 :EventType UserInput :LinkEffect (:Run
 (9)|     :Stop (8))} {:TokenGroup 7 :TokenGroupItems ((8))}) }|
 => fault absent Run s 9|  The action Run was stuck at object 9 of s.|  Actions of that name stand
-here:|  s, line 2, column 70|      rce 0 :EventType UserInput :LinkEffect (:Run
-(9)|                                              ^^^^|  Cause: what the action needs was not
-there.|  Mend: name one that is there, or make it come before.|fault absent Clear s 9|  The action Clear
-was stuck at object 9 of s.|  Cause: what the action needs was not there.|  Mend: name one that is
-there, or make it come before.|;;
+here:|  s, line 2, column 70|  2 \7c\ … 0 :EventType UserInput :LinkEffect (:Run (9)|    \7c\                                      
+^^^^|  Cause: what the action needs was not there.|  Mend: name one that is there, or make it come
+before.|fault absent Clear s 9|  The action Clear was stuck at object 9 of s.|  Cause: what the
+action needs was not there.|  Mend: name one that is there, or make it come before.|;;
 start 12|key 2|row 0 0 000000/ffffff "refused"|did 3 idle|total 3| refused 51|refusedx|
-=> start 12|key 2|;;
+=> start 12|  To start the service takes 12 steps at most.|key 2|  A key that is pressed leads to 2
+steps at most.|;;
 accepted|key 3|key 2
 @a {:Application ("~/a" 0) :OnStartUp ( :TransitionTo (("~/s" 0)) ) }
 @s {:Scene ("~/s" 0) :InputEventReg 3|  :Items ( {:Rectangle 10 :OrigBoxSize 24 32 :OrigPosition 12 16
 :OrigLineWidth 0 :OrigRefFillColour '=FF=00=00=00' }|  {:Link 11 :EventSource 0 :EventType UserInput
 :EventData 100 :LinkEffect ( :SetPosition (10 24 16) ) } ) }|
 => accepted|  Nothing can go wrong, and no input leads to more steps than the line of its|    kind
-tells.|key 3|  By the files in the folder it comes to 2 steps.|  It costs most while application a shows
-scene s.|  The dearest effect that it puts to work costs 1 step. Its dearest action is|    SetPosition,
-action 1 of object 11 of s, with 1 step, while application a|    shows scene s.|  s, line 3, column
-78|       UserInput :EventData 100 :LinkEffect ( :SetPosition (10 24 16) ) } )
-|                                              ^^^^^^^^^^^^|key 2|  It costs most while application a
-shows scene s.|  The dearest effect that it puts to work costs 1 step. Its dearest action
-is|    SetPosition, action 1 of object 11 of s, with 1 step, while application a|    shows scene s.|  s,
-line 3, column 78|       UserInput :EventData 100 :LinkEffect ( :SetPosition (10 24 16) ) } )
-|                                              ^^^^^^^^^^^^|;;
+tells.|key 3|  A key that is pressed leads to 3 steps at most.|  By the files in the folder it comes
+to 2 steps.|  It costs most while application a shows scene s.|  The dearest effect that it puts to
+work costs 1 step. Its dearest action is|    SetPosition, action 1 of object 11 of s, with 1 step,
+while application a|    shows scene s.|  s, line 3, column 78|  3 \7c\ … UserInput :EventData 100
+:LinkEffect ( :SetPosition (10 24 16) ) } ) }|    \7c\                                         
+^^^^^^^^^^^^|key 2|  A key that is pressed leads to 2 steps at most.|  It costs most while
+application a shows scene s.|  The dearest effect that it puts to work costs 1 step. Its dearest
+action is|    SetPosition, action 1 of object 11 of s, with 1 step, while application a|    shows
+scene s.|  s, line 3, column 78|  3 \7c\ … UserInput :EventData 100 :LinkEffect ( :SetPosition (10
+24 16) ) } ) }|    \7c\                                          ^^^^^^^^^^^^|;;
 refused V4 a b 1 2 Run|refused V10 s 1 1 Run|refused|refused 53
 => refused V4 a b 1 2 Run|  It stands in Run, action 2 of object 1 of a b.|  Cause: an object that a
 variable may hold, as the target or as a parameter, is|    absent; so is an item that a ListGroup may
@@ -705,17 +725,17 @@ static OCTETS: &str =
 
 static TAGGED: &str = r#"
 class Lnk 3| / tags 60 1
-=> tags 60 1|  It is line 1 of the file of tags.|  tags, line 1, column 1|      class
-Lnk 3|      ^^^^^^^^^^^|  Cause: a line of the file of `--tags` is wrong: it has another form, a
-name|    that is none, a number that is too large, or a name that stands before.|  Mend: write `class NAME
-N`, `attr NAME N`, `action NAME N` or `value NAME N`,|    one space between words; N is decimal digits,
+=> tags 60 1|  It is line 1 of the file of tags.|  tags, line 1, column 1|  1 \7c\ class Lnk 3|    \7c\
+^^^^^^^^^^^|  Cause: a line of the file of `--tags` is wrong: it has another form, a name|    that
+is none, a number that is too large, or a name that stands before.|  Mend: write `class NAME N`,
+`attr NAME N`, `action NAME N` or `value NAME N`,|    one space between words; N is decimal digits,
 up to 65,535.|;;
 class Scene 31 / refused V1 s 11 1 Run
-=> refused V1 s 11 1 Run|  It stands in Run, action 1 of object 11 of s.|  s, line 1, column
-92|      ce 0 :EventType UserInput :LinkEffect ( :Run ( 9 ) ) } )
-}|                                              ^^^^|  Cause: an object or a variable that is named is
-absent in that configuration;|    so is a member of a TokenGroup, whose line has number 0 and `-` for
-the|    action.|  Mend: name one that is there, or move the action.|"#;
+=> refused V1 s 11 1 Run|  It stands in Run, action 1 of object 11 of s.|  s, as `to-text` prints it,
+line 1, column 92|  1 \7c\ … 0 :EventType UserInput :LinkEffect ( :Run ( 9 ) ) } ) }|    \7c\                                       
+^^^^|  Cause: an object or a variable that is named is absent in that configuration;|    so is a
+member of a TokenGroup, whose line has number 0 and `-` for the|    action.|  Mend: name one that is
+there, or move the action.|"#;
 
 #[test]
 fn explains_tags(rt: HostRuntime) {

@@ -62,7 +62,7 @@ fn empty(alloc: Global) -> Option<Vec<File>> {
 }
 
 static LONG_TEXT: &str =
-    "file a 24 0\n  It is byte 0 of the file a.\n  a, line 1, column 1\n      {:Application (\"~/a\" 0) }                                             \n      ^\n  Cause: the file or a list is too long, as it is read, or (at 0) as `to-text`\n    would write it.\n  Mend: split the group.\n";
+    "file a 24 0\n  It is byte 0 of the file a.\n  a, line 1, column 1\n  1 | {:Application (\"~/a\" 0) }                                             …\n    | ^\n  Cause: the file or a list is too long, as it is read, or (at 0) as `to-text`\n    would write it.\n  Mend: split the group.\n";
 
 static LONG_OCTETS: &str =
     "file a 13 0\n  It is byte 0 of the file a.\n  Cause: the file or a list is too long, as it is read, or (at 0) as `to-der`\n    would write it.\n  Mend: split the group.\n";
@@ -79,7 +79,7 @@ fn explains_long_groups(rt: HostRuntime) {
 }
 
 static MANY_INGREDIENTS: &str =
-    "service 34 a\n  It is told of a.\n  a, line 1, column 2\n      {:Application (\"~/a\" 0) :Items ( {:BooleanVar 1 :OrigValue true } {:Bo\n       ^^^^^^^^^^^^\n  Cause: there are too many groups, ingredients or actions.\n  Mend: split the service, or take some away.\n";
+    "service 34 a\n  It is told of a.\n  a, line 1, column 2\n  1 | {:Application (\"~/a\" 0) :Items ( {:BooleanVar 1 :OrigValue true } …\n    |  ^^^^^^^^^^^^\n  Cause: there are too many groups, ingredients or actions.\n  Mend: split the service, or take some away.\n";
 
 #[test]
 fn explains_large_services(rt: HostRuntime) {

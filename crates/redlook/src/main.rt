@@ -3,25 +3,27 @@
 #![tactic(auto)]
 
 use mh_look::{CommandLineError, Failure, Outcome, done, line_of};
+use std::io::IsTerminal;
 use std::process::ExitCode;
 use std::rt::Runtime;
 use std::{env, io};
 
-/// The exit status where two reports differ.
+/// The exit status where two reports differ, or a service is refused.
 const DIFFERENT: u8 = 1;
 
-/// The exit status where a report or a frame could not be had, or the command line is wrong.
+/// The exit status where a report, a frame or a service could not be had, or the command line is wrong.
 const REFUSED: u8 = 2;
 
 /// The exit status where memory or writing failed.
 const FAILED: u8 = 4;
 
 fn main(rt: HostRuntime) -> ExitCode {
-    ExitCode::from(status_of(&rt).unwrap_or(FAILED))
+    let is_terminal = rt.stdout().is_terminal();
+    ExitCode::from(status_of(&rt, is_terminal).unwrap_or(FAILED))
 }
 
 /// Does what the command line asks for, and answers the exit status.
-fn status_of<R: Runtime + AllocGlobal>(rt: &R) -> io::Result<u8> {
+fn status_of<R: Runtime + AllocGlobal>(rt: &R, is_terminal: bool) -> io::Result<u8> {
     let Some(words) = words_of(rt)? else {
         eprintln!(rt; "redlook: a word of the command line is not UTF-8")?;
         return Ok(REFUSED);
@@ -34,9 +36,10 @@ fn status_of<R: Runtime + AllocGlobal>(rt: &R) -> io::Result<u8> {
             return Ok(if error.use_stderr() { REFUSED } else { 0 });
         }
     };
-    match done(rt, &task) {
+    match done(rt, &task, is_terminal) {
         Ok(Outcome::Written) => Ok(0),
-        Ok(Outcome::Different) => Ok(DIFFERENT),
+        Ok(Outcome::Different | Outcome::Refused) => Ok(DIFFERENT),
+        Ok(Outcome::Unread) => Ok(REFUSED),
         Err(Failure::Failed) => Ok(FAILED),
         Err(failure) => {
             eprintln!(rt; "redlook: {failure}")?;
