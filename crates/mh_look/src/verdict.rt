@@ -1,16 +1,18 @@
 //! The verdict on the service that some files make.
 //!
 //! Promise: it is what reading and the verifier say of the files, and no other.
-ghost use Rattle.std.specs.Prelude.{Ok, IfOk};
+ghost use Rattle.std.specs.Prelude.{◌≡◌, Ok, IfOk};
 ghost use Rattle.std.specs.Option.{option_copied};
 ghost use Rattle.mh_told.specs.Reading.{service_tagged};
-ghost use Rattle.mh_look.specs.Verdict.{IsVerdictOn};
+ghost use Rattle.mh_look.specs.Verdict.{IsVerdictOn, verdict_lines};
 
 use mh_base::GroupName;
 use mh_layers::Bounds;
 use mh_service::Service;
 use mh_told::reading::read_tagged_service;
+use mh_told::text::Text;
 use mh_told::unplayable::Unplayable;
+use mh_verdict::{accepted_text, complaint_text, refusal_text};
 use mh_verify::{Refusal, RefusalKind, verify};
 use std::alloc::{AllocError, Global};
 
@@ -55,5 +57,16 @@ fn verified(alloc: Global, service: Service) -> Result<Verdict, AllocError>
             RefusalKind::NoMemory => Err(AllocError),
             _ => Ok(Verdict::Refused(refusal)),
         },
+    }
+}
+
+/// The lines that `redplay check` prints on it.
+pub fn verdict_text(alloc: Global, verdict: &Verdict) -> Result<Text, AllocError>
+    ensures { IfOk result (λ text. text ≡ verdict_lines verdict.now) }
+{
+    match verdict {
+        Verdict::Unreadable(why) => complaint_text(alloc, why),
+        Verdict::Refused(refusal) => refusal_text(alloc, refusal),
+        Verdict::Accepted(bounds) => accepted_text(alloc, bounds),
     }
 }

@@ -13,7 +13,8 @@ use Rattle.mh_model.specs.State.{State}
 use Rattle.mh_report.specs.Report.{Session, opening, script_lines, ended, status_of}
 use Rattle.mh_told.specs.Reading.{Fails, Gives}
 use Rattle.mh_report.specs.Presets.{begins}
-use Rattle.mh_report.specs.Played.{complaint, play_lines, play_status}
+use Rattle.mh_report.specs.Played.{play_lines, play_status}
+use Rattle.mh_verdict.specs.Lines.{complaint}
 use Rattle.mh_report.proofs.WrittenLemmas.{failed}
 
 -- A player that begins, once the files are there.

@@ -14,8 +14,8 @@ use Rattle.mh_told.specs.declared.unplayable.Unplayable.{Unplayable}
 use Rattle.mh_told.specs.declared.unplayable.Unplayable.TheVariants as unplayable
 use Rattle.std.specs.Io.KnownBytes.{Appends}
 use Rattle.mh_report.specs.Sink.{IsBeginning}
-use Rattle.mh_report.specs.Played.{Checks, check_accepted, complaint, HasWritten, HasBegun, begun_some}
-use Rattle.mh_report.specs.Verdict.{accepted_lines}
+use Rattle.mh_report.specs.Played.{Checks, check_accepted, HasWritten, HasBegun, begun_some}
+use Rattle.mh_verdict.specs.Lines.{accepted_lines, complaint}
 use Rattle.mh_told.specs.Reading.{Fails}
 
 -- a whole report that is meant

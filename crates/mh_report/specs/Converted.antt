@@ -16,7 +16,7 @@ use Rattle.mh_report.specs.declared.status.Status.{Status}
 use Rattle.mh_report.specs.declared.status.Status.TheVariants as status
 use Rattle.mh_told.specs.declared.unplayable.Unplayable.{Unplayable}
 use Rattle.mh_told.specs.declared.unplayable.Unplayable.TheVariants as unplayable
-use Rattle.mh_report.specs.Played.{complaint}
+use Rattle.mh_verdict.specs.Lines.{complaint}
 use Rattle.mh_told.specs.Reading.{◌>>=◌, group_in, table_of}
 use Rattle.mh_report.specs.declared.options.Options.{Options}
 use Rattle.mh_report.specs.Reading.{tags_of}

@@ -4,6 +4,5 @@ pub mod Source
 pub mod Report
 pub mod Reading
 pub mod Presets
-pub mod Verdict
 pub mod Played
 pub mod Converted

@@ -16,17 +16,9 @@ use Rattle.mh_told.specs.declared.unplayable.Unplayable.{Unplayable}
 use Rattle.mh_told.specs.declared.unplayable.Unplayable.TheVariants as unplayable
 use Rattle.std.specs.Io.KnownBytes.{Appends}
 use Rattle.mh_report.specs.Sink.{IsBeginning}
-use Rattle.mh_report.specs.Verdict.{accepted_lines, refusal_lines}
+use Rattle.mh_verdict.specs.Lines.{accepted_lines, complaint, refusal_lines}
 use Rattle.mh_report.specs.Report.{Session, script_lines, ended, status_of}
 use Rattle.mh_report.specs.Presets.{opened}
-
--- the line on what cannot be read
-unfoldable pub complaint : Unplayable → List ℕ
-complaint (unplayable.File name number offset) = codes "file " ++ name ++ codes " " ++ decimal number ++ codes " " ++ decimal offset ++ 10 ∷ []
-complaint (unplayable.Service number group) = codes "service " ++ decimal number ++ codes " " ++ group ++ 10 ∷ []
-complaint (unplayable.Tags number place) = codes "tags " ++ decimal number ++ codes " " ++ decimal place ++ 10 ∷ []
-complaint (unplayable.Script number) = codes "script " ++ decimal number ++ 10 ∷ []
-complaint unplayable.NoMemory = []
 
 -- what is written of a play from here: the report of the commands, or the line on a file that is not put there
 abbrev pub play_lines : List Command → Result Session Unplayable → List ℕ

@@ -3,14 +3,13 @@ ghost use Rattle.std.specs.Prelude.{◌≡◌, ◌-◌, ◌<◌, ◌^◌, [], If
 ghost use Rattle.std.specs.Io.KnownBytes.{Appends};
 ghost use Rattle.mh_report.specs.Sink.{IsBeginning};
 ghost use Rattle.mh_report.specs.Played.{Checks, HasWritten, HasBegun};
-ghost use Rattle.mh_report.specs.Verdict.{accepted_lines};
+ghost use Rattle.mh_verdict.specs.Lines.{accepted_lines};
 ghost use Rattle.mh_report.specs.Reading.{chosen_service};
 
 use crate::options::Options;
 use crate::play::{complain, refuse};
 use crate::play_error::PlayError;
 use crate::reading::chosen_service;
-use crate::saying::accepted_text;
 use crate::sink::{Sink, write_all};
 use crate::status::Status;
 use crate::verdict::verified;
@@ -18,6 +17,7 @@ use mh_base::GroupName;
 use mh_layers::Bounds;
 use mh_service::Service;
 use mh_told::unplayable::Unplayable;
+use mh_verdict::accepted_text;
 use mh_verify::RefusalKind;
 use std::alloc::Global;
 

@@ -17,7 +17,6 @@ mod player;
 mod preset;
 mod reading;
 mod report;
-mod saying;
 mod scene_line;
 mod script;
 pub mod sink;

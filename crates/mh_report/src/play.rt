@@ -8,18 +8,17 @@ ghost use Rattle.std.specs.Io.KnownBytes.{Appends};
 ghost use Rattle.mh_told.specs.declared.unplayable.Unplayable.{Unplayable as Unreadable};
 ghost use Rattle.mh_report.specs.Sink.{IsBeginning};
 ghost use Rattle.mh_report.specs.Report.{Session};
-ghost use Rattle.mh_report.specs.Verdict.{refusal_lines};
+ghost use Rattle.mh_verdict.specs.Lines.{complaint, refusal_lines};
 ghost use Rattle.mh_told.specs.Reading.{Gives};
 ghost use Rattle.mh_report.specs.Reading.{readied};
 ghost use Rattle.mh_report.specs.Presets.{opened};
-ghost use Rattle.mh_report.specs.Played.{complaint, play_lines, play_status, Plays, HasWritten, HasBegun};
+ghost use Rattle.mh_report.specs.Played.{play_lines, play_status, Plays, HasWritten, HasBegun};
 
 use crate::material::Material;
 use crate::options::Options;
 use crate::play_error::PlayError;
 use crate::player::{Player, Plays};
 use crate::reading::ready;
-use crate::saying::{complaint_text, refusal_text};
 use crate::script::Command;
 use crate::sink::{Sink, write_all};
 use crate::status::Status;
@@ -28,6 +27,7 @@ use mh_base::GroupName;
 use mh_model::File;
 use mh_service::Service;
 use mh_told::unplayable::Unplayable;
+use mh_verdict::{complaint_text, refusal_text};
 use mh_verify::{Accepted, Refusal, RefusalKind};
 use std::alloc::Global;
 

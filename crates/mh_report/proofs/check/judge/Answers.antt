@@ -1,5 +1,5 @@
 use Rattle.mh_report.specs.declared.status.Status.TheVariants as status
-use Rattle.mh_report.specs.Verdict.{refusal_lines}
+use Rattle.mh_verdict.specs.Lines.{refusal_lines}
 use Rattle.mh_report.specs.Played.{check_refused}
 use Rattle.mh_report.proofs.WrittenLemmas.{accepted_so, whole, cut, named}
 use Rattle.mh_report.proofs.check.judge.Goals as goal

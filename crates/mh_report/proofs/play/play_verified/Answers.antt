@@ -5,7 +5,7 @@ use Rattle.mh_report.specs.declared.status.Status.{Status}
 use Rattle.mh_report.specs.declared.status.Status.TheVariants as status
 use Rattle.std.specs.Io.KnownBytes.{Appends}
 use Rattle.mh_report.specs.Sink.{IsBeginning}
-use Rattle.mh_report.specs.Verdict.{refusal_lines}
+use Rattle.mh_verdict.specs.Lines.{refusal_lines}
 use Rattle.mh_report.specs.Presets.{opened}
 use Rattle.mh_report.specs.Played.{play_lines, play_status, play_done, play_refused}
 use Rattle.mh_report.proofs.WrittenLemmas.{whole, cut, named}

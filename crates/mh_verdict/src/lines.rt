@@ -1,9 +1,8 @@
 //! What is said of what cannot be read, of what the verifier accepts, and of what it refuses.
 ghost use Rattle.std.specs.Prelude.{◌≡◌, ◌++◌, OnOk, IfOk, codes};
 ghost use Rattle.std.specs.Fmt.{decimal};
-ghost use Rattle.mh_report.specs.Played.{complaint};
-ghost use Rattle.mh_report.specs.Verdict.{refusal_lines, place_words, action_words, scene_word, config_line, object_line};
-ghost use Rattle.mh_report.specs.Verdict.{accepted_lines, bound_line, cause_line, chain_lines, cycle_lines, link_line, where_words};
+ghost use Rattle.mh_verdict.specs.Lines.{complaint, refusal_lines, place_words, action_words, scene_word, config_line, object_line};
+ghost use Rattle.mh_verdict.specs.Lines.{accepted_lines, bound_line, cause_line, chain_lines, cycle_lines, link_line, where_words};
 
 use mh_base::{GroupName, ObjRef};
 use mh_flow::Link;
@@ -16,7 +15,7 @@ use mh_verify::{Place, Refusal, RefusalKind};
 use std::alloc::{AllocError, Global};
 
 /// The line on what cannot be read.
-#[tactic(auto, unfolding(crate::specs::Played::complaint))]
+#[tactic(auto, unfolding(crate::specs::Lines::complaint))]
 pub fn complaint_text(alloc: Global, why: &Unplayable) -> Result<Text, AllocError>
     ensures { IfOk result (λ text. text ≡ complaint why.now) }
 {
@@ -62,7 +61,7 @@ fn put_spaced(text: &mut Text, number: u64) -> Result<(), AllocError>
 }
 
 /// The lines on a refusal of the verifier.
-#[tactic(auto, unfolding(crate::specs::Verdict::refusal_lines))]
+#[tactic(auto, unfolding(crate::specs::Lines::refusal_lines))]
 pub fn refusal_text(alloc: Global, refusal: &Refusal) -> Result<Text, AllocError>
     ensures { IfOk result (λ text. text ≡ refusal_lines refusal.now) }
 {
@@ -202,7 +201,7 @@ fn put_bound(text: &mut Text, kind: InputKind, bound: u64) -> Result<(), AllocEr
 }
 
 /// The lines on a service that is accepted.
-#[tactic(auto, unfolding(crate::specs::Verdict::accepted_lines))]
+#[tactic(auto, unfolding(crate::specs::Lines::accepted_lines))]
 pub fn accepted_text(alloc: Global, bounds: &Bounds) -> Result<Text, AllocError>
     ensures { IfOk result (λ text. text ≡ accepted_lines bounds.now) }
 {

@@ -1,4 +1,4 @@
--- What is printed of a verdict. Of a service that is accepted: the bounds of the start and of each kind of input. Of a
+-- What is printed of a verdict. Of what cannot be read: one line. Of a service that is accepted: the bounds of the start and of each kind of input. Of a
 -- refusal: its number, the place and its action, or the kind of what leads to too many steps; then the configuration, the
 -- reference that is wrong, and a line for each link of the chain that brought it, or for each effect of a cycle.
 use Rattle.std.specs.Prelude.{ℕ, List, [], ◌∷◌, ◌++◌, Option, Some, None, unwrap_or, codes}
@@ -20,6 +20,16 @@ use Rattle.mh_verify.specs.declared.refusal.Refusal.{Refusal}
 use Rattle.mh_verify.specs.declared.refusal.RefusalKind.{RefusalKind}
 use Rattle.mh_verify.specs.declared.refusal.RefusalKind.TheVariants as kind
 use Rattle.mh_verify.specs.Kinds.{kind_number}
+use Rattle.mh_told.specs.declared.unplayable.Unplayable.{Unplayable}
+use Rattle.mh_told.specs.declared.unplayable.Unplayable.TheVariants as unplayable
+
+-- the line on what cannot be read
+unfoldable pub complaint : Unplayable → List ℕ
+complaint (unplayable.File name number offset) = codes "file " ++ name ++ codes " " ++ decimal number ++ codes " " ++ decimal offset ++ 10 ∷ []
+complaint (unplayable.Service number group) = codes "service " ++ decimal number ++ codes " " ++ group ++ 10 ∷ []
+complaint (unplayable.Tags number place) = codes "tags " ++ decimal number ++ codes " " ++ decimal place ++ 10 ∷ []
+complaint (unplayable.Script number) = codes "script " ++ decimal number ++ 10 ∷ []
+complaint unplayable.NoMemory = []
 
 abbrev pub place_words : Option Place → List ℕ
 place_words None = []
