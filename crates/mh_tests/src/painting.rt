@@ -5,7 +5,7 @@ use std::alloc::Global;
 
 static LINES: &str = r#"
 refused V1 s 11 1 Run| => \1b\[1mrefused V1 s 11 1 Run\1b\[0m|;;
-  It stands in Run.|  s, line 1, column 2|      {:Scene|       ^^^| =>   It stands in Run.|  s, line 1, column 2|      {:Scene|\1b\[1;31m       ^^^\1b\[0m|;;
+  It stands in Run.|  s, line 1, column 2|  1 \7c\ {:Scene|    \7c\  ^^^| =>   It stands in Run.|  s, line 1, column 2|  1 \7c\ {:Scene|\1b\[1;31m    \7c\  ^^^\1b\[0m|;;
   Cause: one is|gone.| =>   \1b\[33mCause:\1b\[0m one is|\1b\[1mgone.\1b\[0m| -- a line without a space in front is one of an output;;
   Cause: two|    lines.|  Mend: none.| =>   \1b\[33mCause:\1b\[0m two|    lines.|  \1b\[32mMend:\1b\[0m none.|;;
    Cause: x|  Cause|  Mended:| =>    Cause: x|  Cause|  Mended:|;;
