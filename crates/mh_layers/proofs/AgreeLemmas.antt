@@ -1,7 +1,8 @@
 -- A price over keys agrees with one over effects: with what its keys stand for it is reckoned to the same, and each key that it
 -- counts is met, and of a lower level.
 use Rattle.std.specs.Prelude.{◌≡◌, ◌<◌, ◌≤◌, ℕ, Bool, true, false, List, [], ◌∷◌, Some, refl}
-use Rattle.std.proofs.Common.{arith, inl, inr, ◌∙◌, sym}
+use Rattle.std.proofs.Common.{arith, inl, inr, ◌∙◌, subst}
+use Rattle.mh_base.specs.declared.obj_ref.ObjRef.{ObjRef}
 use Rattle.mh_model.specs.declared.config.Config.{Config}
 use Rattle.mh_model.specs.declared.object.Fixed.{Fixed}
 use Rattle.mh_model.specs.Configuration.{is_service, present}
@@ -10,11 +11,11 @@ use Rattle.mh_laws.specs.Costs as costs
 use Rattle.mh_laws.specs.Each.{Among}
 use Rattle.mh_laws.specs.Flow.{Flow}
 use Rattle.mh_laws.specs.Price.{Price, Nothing, One, Node, Plus, Most, sum_price, most_price, if_price, Nodes}
-use Rattle.mh_layers.specs.Around.{Key}
+use Rattle.mh_layers.specs.Key.{Key}
 use Rattle.mh_layers.specs.Keys.{Heard, HearsAll, IsMet, level, stands_for}
-use Rattle.mh_layers.specs.Sums.{sum_from, most_from}
 use Rattle.mh_laws.proofs.PriceLemmas.{nodes_map}
-use Rattle.mh_layers.proofs.ReckonLemmas.{Way, reckon, plus_right, most_right}
+use Rattle.mh_prices.proofs.NearLemmas.{NearSets, Passes}
+use Rattle.mh_layers.proofs.ReckonLemmas.{Way, reckon}
 
 -- a service that was read, a flow, what is heard there, and a way to reckon
 pub record Setting (A : Type 0) : Type 0 where
@@ -72,28 +73,29 @@ pub agrees_if : {A : Type 0} (s : Setting A) (n : ℕ) (b : Bool) (p : Price Key
 agrees_if s n true p q a = a refl
 agrees_if s n false p q a = agrees_nothing s n
 
--- Sums and maxima over lists, made from the left
+-- Sums and maxima over lists
 
-sum_behind : {A X : Type 0} (s : Setting A) (n : ℕ) (g : X → Price Key) (h : X → Price costs.Effect) (xs : List X) (p : Price Key) (q : Price costs.Effect) → Agrees s n p q → ((x : X) → Among xs x → Agrees s n (g x) (h x)) → Agrees s n (sum_from g p xs) (Plus q (sum_price h xs))
-sum_behind s n g h [] p q a each = agrees_then s n p q (Plus q Nothing) a (sym (plus_right s.way (effects_come s q)))
-sum_behind s n g h (x ∷ xs) p q a each =
-    agrees_then s n (sum_from g (Plus p (g x)) xs) (Plus (Plus q (h x)) (sum_price h xs)) (Plus q (Plus (h x) (sum_price h xs)))
-    (sum_behind s n g h xs (Plus p (g x)) (Plus q (h x)) (agrees_plus s n p (g x) q (h x) a (each x (inl refl))) (λ z there. each z (inr there)))
-    (s.way.plus_join (effects_come s q) (effects_come s (h x)) (effects_come s (sum_price h xs)))
+pub agrees_sum : {A X : Type 0} (s : Setting A) (n : ℕ) (g : X → Price Key) (h : X → Price costs.Effect) (xs : List X) → ((x : X) → Among xs x → Agrees s n (g x) (h x)) → Agrees s n (sum_price g xs) (sum_price h xs)
+agrees_sum s n g h [] each = agrees_nothing s n
+agrees_sum s n g h (x ∷ xs) each =
+    agrees_plus s n (g x) (sum_price g xs) (h x) (sum_price h xs) (each x (inl refl)) (agrees_sum s n g h xs (λ z there. each z (inr there)))
 
-pub agrees_sum : {A X : Type 0} (s : Setting A) (n : ℕ) (g : X → Price Key) (h : X → Price costs.Effect) (xs : List X) → ((x : X) → Among xs x → Agrees s n (g x) (h x)) → Agrees s n (sum_from g Nothing xs) (sum_price h xs)
-agrees_sum s n g h xs each =
-    agrees_then s n (sum_from g Nothing xs) (Plus Nothing (sum_price h xs)) (sum_price h xs) (sum_behind s n g h xs Nothing Nothing (agrees_nothing s n) each)
-    (s.way.plus_none (effects_come s (sum_price h xs)))
+pub agrees_largest : {A X : Type 0} (s : Setting A) (n : ℕ) (g : X → Price Key) (h : X → Price costs.Effect) (xs : List X) → ((x : X) → Among xs x → Agrees s n (g x) (h x)) → Agrees s n (most_price g xs) (most_price h xs)
+agrees_largest s n g h [] each = agrees_nothing s n
+agrees_largest s n g h (x ∷ xs) each =
+    agrees_most s n (g x) (most_price g xs) (h x) (most_price h xs) (each x (inl refl)) (agrees_largest s n g h xs (λ z there. each z (inr there)))
 
-most_behind : {A X : Type 0} (s : Setting A) (n : ℕ) (g : X → Price Key) (h : X → Price costs.Effect) (xs : List X) (p : Price Key) (q : Price costs.Effect) → Agrees s n p q → ((x : X) → Among xs x → Agrees s n (g x) (h x)) → Agrees s n (most_from g p xs) (Most q (most_price h xs))
-most_behind s n g h [] p q a each = agrees_then s n p q (Most q Nothing) a (sym (most_right s.way (effects_come s q)))
-most_behind s n g h (x ∷ xs) p q a each =
-    agrees_then s n (most_from g (Most p (g x)) xs) (Most (Most q (h x)) (most_price h xs)) (Most q (Most (h x) (most_price h xs)))
-    (most_behind s n g h xs (Most p (g x)) (Most q (h x)) (agrees_most s n p (g x) q (h x) a (each x (inl refl))) (λ z there. each z (inr there)))
-    (s.way.most_join (effects_come s q) (effects_come s (h x)) (effects_come s (most_price h xs)))
+-- Views
 
-pub agrees_largest : {A X : Type 0} (s : Setting A) (n : ℕ) (g : X → Price Key) (h : X → Price costs.Effect) (xs : List X) → ((x : X) → Among xs x → Agrees s n (g x) (h x)) → Agrees s n (most_from g Nothing xs) (most_price h xs)
-agrees_largest s n g h xs each =
-    agrees_then s n (most_from g Nothing xs) (Most Nothing (most_price h xs)) (most_price h xs) (most_behind s n g h xs Nothing Nothing (agrees_nothing s n) each)
-    (s.way.most_none (effects_come s (most_price h xs)))
+pub agrees_passes : {A : Type 0} (s : Setting A) (n : ℕ) → Passes (Agrees s n)
+agrees_passes s n = record { nothing = agrees_nothing s n; one = agrees_one s n; plus = agrees_plus s n; most = agrees_most s n }
+
+-- the sets of both are the same
+abbrev pub SameSets : List ObjRef → List ObjRef → Type 0
+SameSets rs ss = rs ≡ ss
+
+pub agrees_sets : {A : Type 0} (s : Setting A) (n : ℕ) → NearSets (λ r. Agrees s n) (Agrees s n) SameSets
+agrees_sets s n = record {
+  sums = λ f g each rs ss e. subst (λ (t : List ObjRef). Agrees s n (sum_price f rs) (sum_price g t)) e (agrees_sum s n f g rs (λ r there. each r));
+  largest = λ f g each rs ss e. subst (λ (t : List ObjRef). Agrees s n (most_price f rs) (most_price g t)) e (agrees_largest s n f g rs (λ r there. each r));
+}

@@ -1,125 +1,29 @@
--- What is told of keys that are counted, and the rows of all that are met on.
-use Rattle.std.specs.Prelude.{◌≡◌, ◌⊎◌, ◌<◌, ◌≤◌, ◌+◌, ℕ, zero, suc, Bool, true, false, cond, List, [], ◌∷◌, ◌++◌, length, drop, get_or, slice_get, Option, Some, None, Result, Ok, Err, Vec, refl}
+-- The keys that are counted, and the rows of all that are met on.
+use Rattle.std.specs.Prelude.{◌≡◌, ◌⊎◌, ℕ, zero, suc, Bool, true, false, cond, List, [], ◌∷◌, ◌++◌, length, slice_get, Some, Vec, refl}
 use Rattle.std.specs.List.{list_any}
 use Rattle.std.specs.declared.alloc.Global.{Global}
-use Rattle.std.proofs.Common.{inl, inr, ap, ◌∙◌, sym, subst}
-use Rattle.std.proofs.Math.ListN.{drop_of_length-le}
-use Rattle.std.proofs.lemmas.List.{drop_more}
-use Rattle.indexmap.specs.IndexMap.{insert_entry}
+use Rattle.std.proofs.Common.{inl, inr, ap, sym, subst}
 use Rattle.indexmap.specs.IndexSet.{insert_key, insert_all}
 use Rattle.mh_model.proofs.ListLemmas.{some_same}
 use Rattle.mh_laws.specs.Each.{Among, Each}
 use Rattle.mh_laws.specs.Price.{Price, counted_in}
-use Rattle.mh_laws.proofs.EachLemmas.{among_each, among_either, among_left, among_right, each_among, each_joined, got_among}
-use Rattle.mh_laws.proofs.PriceLemmas.{nodes_of, of_nodes}
-use Rattle.mh_layers.specs.declared.costs.Laid.{Laid}
+use Rattle.mh_laws.proofs.EachLemmas.{among_each, each_among, each_joined, got_among}
+use Rattle.mh_laws.proofs.PriceLemmas.{of_nodes}
 use Rattle.mh_layers.specs.declared.node_key.NodeKey.{NodeKey}
-use Rattle.mh_layers.specs.Asked.{AreCounted, AreKnown, AreRows, AreTold, IsAsked, NoneKnown, Stays}
-use Rattle.mh_layers.specs.Known.{known_worth, told}
-use Rattle.mh_layers.specs.Layering.{CountsKept, Places, cost_in, cost_of, held, place_in}
+use Rattle.mh_layers.specs.Asked.{AreCounted, AreRows, Stays}
+use Rattle.mh_layers.specs.Layering.{CountsKept}
 use Rattle.mh_layers.specs.NodeKeys.{same_key}
 use Rattle.mh_layers.specs.NodeKeyLaws.{keys_are_apart, key_itself}
-use Rattle.mh_layers.proofs.KnownLemmas.{all_known, one_waits}
-use Rattle.mh_layers.proofs.PlaceLemmas.{put_cases, put_here}
 use Rattle.mh_layers.proofs.PositionLemmas.{TellsOne, position_is, position_there, put_all}
 
--- ASKED
+-- COUNTED
 
-abbrev nothing : Laid
-nothing = record { cost = 0; rank = 0 }
-
-pub asked_none : (price : NodeKey → Price NodeKey) (kept : NodeKey → Type 0) (ts : Places) (k : NodeKey) (c : ℕ) (w : Result ℕ NodeKey) → (kept k → w ≡ known_worth (told (cost_in ts)) (price k)) → w ≡ Ok c → IsAsked price kept ts ts k None
-asked_none price kept ts k c w is e = record {
-  tells = λ j s has. absurd cc;
-  set = λ j s. absurd cc;
-  same = λ s. refl;
-  done = λ s has. (c, sym (is has) ∙ e);
+-- what is told in one pass are the keys that are counted
+pub counted_so : (price : NodeKey → Price NodeKey) (kept : NodeKey → Type 0) (k : NodeKey) (js : List NodeKey) → js ≡ counted_in (price k) → AreCounted price kept k js
+counted_so price kept k js is = record {
+  each = λ has j there. subst (λ (xs : List NodeKey). Among xs j) is there;
+  all = λ has j there. subst (λ (xs : List NodeKey). Among xs j) (sym is) there;
 }
-
-pub asked_some : (price : NodeKey → Price NodeKey) (kept : NodeKey → Type 0) (old new : Places) (k j : NodeKey) (w : Result ℕ NodeKey) → (kept k → w ≡ known_worth (told (cost_in old)) (price k)) → w ≡ Err j
-    → new ≡ insert_entry same_key old j (Some (record { cost = 0; rank = 0 })) → IsAsked price kept old new k (Some j)
-asked_some price kept old new k j w is e now = record {
-  tells = λ i s has.
-      subst (λ (x : NodeKey). Among (counted_in (price k)) x) (some_same s)
-      (one_waits (λ (x : NodeKey). Among (counted_in (price k)) x) (cost_in old) (price k) j (nodes_of (λ (x : NodeKey). Among (counted_in (price k)) x) (price k) (λ x there. there)) (sym (is has) ∙ e)).0;
-  set = λ i s. subst (λ (x : NodeKey). new ≡ insert_entry same_key old x (Some nothing)) (some_same s) now;
-  same = λ s. absurd cc;
-  done = λ s has. absurd cc;
-}
-
-pub nothing_told : (price : NodeKey → Price NodeKey) (kept : NodeKey → Type 0) (k : NodeKey) → AreTold price kept k []
-nothing_told price kept k = record { each = λ has j there. absurd cc }
-
-pub told_more : (price : NodeKey → Price NodeKey) (kept : NodeKey → Type 0) (old new : Places) (k j : NodeKey) (js : List NodeKey) → AreTold price kept k js → IsAsked price kept old new k (Some j) → AreTold price kept k (js ++ j ∷ [])
-told_more price kept old new k j js so_far asked = record { each = λ has i there. by has i (among_either js (j ∷ []) i there) }
-  where
-    by : kept k → (i : NodeKey) → Among js i ⊎ Among (j ∷ []) i → Among (counted_in (price k)) i
-    by has i (inl h) = so_far.each has i h
-    by has i (inr (inl same)) = subst (λ (x : NodeKey). Among (counted_in (price k)) x) same (asked.tells j refl has)
-    by has i (inr (inr never)) = absurd cc
-
-put_more : (old : Places) (js : List NodeKey) (j : NodeKey) (o : Option Laid) → AreKnown old js → AreKnown (insert_entry same_key old j o) (js ++ j ∷ [])
-put_more old js j o known = record { each = λ k a e. by k a e (put_cases old j k o) }
-  where
-    by : (k : NodeKey) (a : ℕ) → cost_in (insert_entry same_key old j o) k ≡ Some a → ((k ≡ j) × (place_in (insert_entry same_key old j o) k ≡ Some o)) ⊎ (place_in (insert_entry same_key old j o) k ≡ place_in old k) → Among (js ++ j ∷ []) k
-    by k a e (inl is) = subst (λ (x : NodeKey). Among (js ++ j ∷ []) x) (sym is.0) (among_right js (j ∷ []) j (inl refl))
-    by k a e (inr same) = among_left js (j ∷ []) k (known.each k a (sym (ap (λ (p : Option (Option Laid)). cost_of (held p)) same) ∙ e))
-
-pub known_more : (price : NodeKey → Price NodeKey) (kept : NodeKey → Type 0) (old new : Places) (k j : NodeKey) (js : List NodeKey) → AreKnown old js → IsAsked price kept old new k (Some j) → AreKnown new (js ++ j ∷ [])
-known_more price kept old new k j js known asked =
-    subst (λ (ts : Places). AreKnown ts (js ++ j ∷ [])) (sym (asked.set j refl)) (put_more old js j (Some nothing) known)
-
-pub none_known : (ts : Places) → NoneKnown ts → AreKnown ts []
-none_known ts none = record { each = λ k a e. let never = sym (none.none k) ∙ e in absurd cc }
-
-pub nothing_known : (ts : Places) → ts ≡ [] → NoneKnown ts
-nothing_known ts e = record { none = λ k. ap (λ (us : Places). cost_in us k) e }
-
-pub counted_all : (price : NodeKey → Price NodeKey) (kept : NodeKey → Type 0) (old new : Places) (k : NodeKey) (js : List NodeKey) → AreTold price kept k js → AreKnown old js → IsAsked price kept old new k None → AreCounted price kept k js
-counted_all price kept old new k js so_far known asked = record {
-  each = so_far.each;
-  all = λ has j there.
-      let done = asked.done refl has in
-      let at = of_nodes (λ (i : NodeKey). (a : ℕ) × (cost_in old i ≡ Some a)) (price k) (all_known (cost_in old) (price k) done.0 done.1) j there in
-      known.each j at.0 at.1;
-}
-
-pub known_still : (price : NodeKey → Price NodeKey) (kept : NodeKey → Type 0) (old new : Places) (k : NodeKey) (js : List NodeKey) → AreKnown old js → IsAsked price kept old new k None → AreKnown new js
-known_still price kept old new k js known asked = subst (λ (ts : Places). AreKnown ts js) (sym (asked.same refl)) known
-
--- FORGOTTEN
-
-forgot : (old : Places) (j : NodeKey) (js : List NodeKey) → AreKnown old (j ∷ js) → AreKnown (insert_entry same_key old j None) js
-forgot old j js known = record { each = λ k a e. by k a e (put_cases old j k None) }
-  where
-    new : Places
-    new = insert_entry same_key old j None
-
-    never : (k : NodeKey) (a : ℕ) → cost_in new k ≡ Some a → place_in new k ≡ Some None → Among js k
-    never k a e at = let none = sym (ap (λ (p : Option (Option Laid)). cost_of (held p)) at) ∙ e in absurd cc
-
-    of : (k : NodeKey) (a : ℕ) → cost_in new k ≡ Some a → (j ≡ k) ⊎ Among js k → Among js k
-    of k a e (inl same) = never k a e (subst (λ (x : NodeKey). place_in new x ≡ Some None) same (put_here old j None))
-    of k a e (inr more) = more
-
-    by : (k : NodeKey) (a : ℕ) → cost_in new k ≡ Some a → ((k ≡ j) × (place_in new k ≡ Some None)) ⊎ (place_in new k ≡ place_in old k) → Among js k
-    by k a e (inl is) = never k a e is.1
-    by k a e (inr same) = of k a e (known.each k a (sym (ap (λ (p : Option (Option Laid)). cost_of (held p)) same) ∙ e))
-
-pub forgot_one : (old new : Places) (js : List NodeKey) (n : ℕ) (d : NodeKey) → n < length js → AreKnown old (drop n js) → new ≡ insert_entry same_key old (get_or js n d) None → AreKnown new (drop (n + 1) js)
-forgot_one old new js n d less known now =
-    subst (λ (ts : Places). AreKnown ts (drop (n + 1) js)) (sym now)
-    (forgot old (get_or js n d) (drop (n + 1) js) (subst (λ (ks : List NodeKey). AreKnown old ks) (drop_more js n d less) known))
-
-none_left : (ts : Places) → AreKnown ts [] → NoneKnown ts
-none_left ts known = record { none = λ k. by k (cost_in ts k) refl }
-  where
-    by : (k : NodeKey) (o : Option ℕ) → cost_in ts k ≡ o → cost_in ts k ≡ None
-    by k None e = e
-    by k (Some a) e = let never : false ≡ true = known.each k a e in absurd cc
-
-pub all_forgot : (ts : Places) (js : List NodeKey) (n : ℕ) → length js ≤ n → AreKnown ts (drop n js) → NoneKnown ts
-all_forgot ts js n far known = none_left ts (subst (λ (ks : List NodeKey). AreKnown ts ks) (drop_of_length-le js far) known)
 
 -- ROWS
 
@@ -184,12 +88,15 @@ each_put P ks [] each all = each
 each_put P ks (j ∷ js) each all = each_put P (insert_key same_key ks j) js (each_one P ks j each all.0) all.1
 
 pub rows_more : (price : NodeKey → Price NodeKey) (kept : NodeKey → Type 0) (ks new : List NodeKey) (rows more : List (Vec NodeKey Global)) (k : NodeKey) (row : Vec NodeKey Global) → CountsKept price kept → AreRows price kept ks rows
-    → slice_get ks (length rows) ≡ Some k → AreCounted price kept k row.items → new ≡ insert_all same_key ks row.items → more ≡ rows ++ row ∷ [] → AreRows price kept new more
-rows_more price kept ks new rows more k row counts are at counted now pushed = record {
+    → slice_get ks (length rows) ≡ Some k → row.items ≡ counted_in (price k) → new ≡ insert_all same_key ks row.items → more ≡ rows ++ row ∷ [] → AreRows price kept new more
+rows_more price kept ks new rows more k row counts are at told now pushed = record {
   holds = subst (λ (is : List NodeKey). Each kept is) (sym now) (each_put kept ks row.items are.holds counted_kept);
   each = λ n r e. by n r (got_pushed rows row n r (subst (λ (rs : List (Vec NodeKey Global)). slice_get rs n ≡ Some r) pushed e));
 }
   where
+    counted : AreCounted price kept k row.items
+    counted = counted_so price kept k row.items told
+
     here : kept k
     here = each_among kept ks k are.holds (got_among ks (length rows) k at)
 

@@ -18,7 +18,7 @@ use Rattle.mh_laws.specs.Safe.{IsPartOf, is_scene_if_any}
 use Rattle.mh_laws.proofs.EachLemmas.{among_each, each_contained, from_joined, from_mapped}
 use Rattle.mh_flow.proofs.ListedLemmas.{is_listed}
 use Rattle.mh_layers.specs.declared.bounds.InputKind.{InputKind}
-use Rattle.mh_layers.specs.Around.{Taken}
+use Rattle.mh_layers.specs.Key.{Taken}
 use Rattle.mh_layers.specs.Keys.{IsKept, IsMet, has_groups, takes}
 use Rattle.mh_layers.specs.Known.{top}
 use Rattle.mh_layers.specs.Layering.{AreLayers, Places, cost_in, is_laid}

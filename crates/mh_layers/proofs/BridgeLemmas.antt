@@ -7,7 +7,7 @@ use Rattle.mh_laws.specs.Flow.{Flow}
 use Rattle.mh_laws.specs.Layers.{IsOn}
 use Rattle.mh_laws.specs.Price.{Price, Nothing, One, Node, Plus, Most, worth, Nodes}
 use Rattle.mh_laws.proofs.PriceLemmas.{nodes_both, nodes_map}
-use Rattle.mh_layers.specs.Around.{Key, Effect, Fired, Entry, Change, Leave, Enter, Taken}
+use Rattle.mh_layers.specs.Key.{Key, Effect, Fired, Entry, Change, Leave, Enter, Taken}
 use Rattle.mh_layers.specs.Bridge.{CountedIsMet, IsHad, IsRead, KeysAgree, KeysAreExact, KeysCost, key_cost}
 use Rattle.mh_layers.specs.Keys.{Heard, IsKept, IsMet, level, price_of, stands_for}
 use Rattle.mh_layers.specs.Known.{known_worth, told, told_of, top}
@@ -51,8 +51,8 @@ pub keys_agree : KeysAgree
 keys_agree v w h read c here = record {
   emit = λ r kind d f. comes v w h read f 4 _ _ (emit_agrees (set by_worth f v w h read) c here r kind d);
   run = λ r f. comes v w h read f 5 _ _ (run_agrees (set by_worth f v w h read) c here r);
-  halt = λ r f. comes v w h read f 4 _ _ (halt_agrees (set by_worth f v w h read) c here r);
-  change = λ r f. comes v w h read f 4 _ _ (change_agrees (set by_worth f v w h read) c here r);
+  halt = λ r f. comes v w h read f 5 _ _ (halt_agrees (set by_worth f v w h read) c here r);
+  change = λ r f. comes v w h read f 4 _ _ (change_agrees (set by_worth f v w h read) 4 (omega arith) c here r);
   exchange = λ g f. comes v w h read f 6 _ _ (exchange_agrees (set by_worth f v w h read) c g);
   act = λ a f. comes v w h read f 6 _ _ (act_agrees (set by_worth f v w h read) c here a);
 }

@@ -6,7 +6,7 @@ use Rattle.mh_model.proofs.ListLemmas.{some_same}
 use Rattle.mh_laws.specs.Each.{Among, Each}
 use Rattle.mh_laws.proofs.EachLemmas.{among_each, each_among, got_among}
 use Rattle.mh_layers.specs.declared.node_key.NodeKey.{NodeKey}
-use Rattle.mh_layers.specs.Around.{Key, Effect}
+use Rattle.mh_layers.specs.Key.{Key, Effect}
 use Rattle.mh_layers.specs.Asked.{Stays}
 use Rattle.mh_layers.specs.Caused.{AreOpened, AreReached, IsCounted, IsNamed, IsOpened, IsPut}
 use Rattle.mh_layers.specs.Causing as causing

@@ -13,7 +13,7 @@ use Rattle.mh_laws.specs.Layers.{IsOn}
 use Rattle.mh_laws.specs.Price.{Price, Nothing, One, Node, Plus, Most, counted_in}
 use Rattle.mh_laws.proofs.EachLemmas.{among_left, among_right}
 use Rattle.mh_laws.proofs.PriceLemmas.{of_nodes}
-use Rattle.mh_layers.specs.Around.{Key, Effect}
+use Rattle.mh_layers.specs.Key.{Key, Effect}
 use Rattle.mh_layers.specs.Bridge.{IsRead, key_of}
 use Rattle.mh_layers.specs.Causing.{Counts, KeysCause, is_effect, once, onward}
 use Rattle.mh_layers.specs.Keys.{Heard, IsKept, IsMet, level, price_of, stands_for}

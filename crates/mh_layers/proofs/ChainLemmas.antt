@@ -16,7 +16,7 @@ use Rattle.mh_laws.specs.Layers.{Causes, IsOn}
 use Rattle.mh_laws.specs.Price.{counted_in, Nodes}
 use Rattle.mh_laws.proofs.PriceLemmas.{of_nodes}
 use Rattle.mh_layers.specs.declared.node_key.NodeKey.{NodeKey}
-use Rattle.mh_layers.specs.Around.{Key}
+use Rattle.mh_layers.specs.Key.{Key}
 use Rattle.mh_layers.specs.Bridge.{IsHad, IsRead, key_of}
 use Rattle.mh_layers.specs.Causing as causing
 use Rattle.mh_layers.specs.Causing.{Counts, is_effect}

@@ -13,13 +13,12 @@ use Rattle.mh_laws.specs.Price.{Price, counted_in}
 use Rattle.mh_laws.proofs.EachLemmas.{from_mapped}
 use Rattle.mh_laws.proofs.PriceLemmas.{of_nodes}
 use Rattle.mh_layers.specs.declared.node_key.NodeKey.{NodeKey}
-use Rattle.mh_layers.specs.Around as around
-use Rattle.mh_layers.specs.Around.{Key}
+use Rattle.mh_layers.specs.Key.{Key}
 use Rattle.mh_layers.specs.Arrows.{counts}
 use Rattle.mh_layers.specs.Bridge.{IsRead, key_of}
 use Rattle.mh_layers.specs.Causing.{Counts, is_effect}
-use Rattle.mh_layers.specs.Deeds.{CountsKey, deed_of}
-use Rattle.mh_layers.specs.Keys.{Heard, IsKept, level, net_around, stands_for}
+use Rattle.mh_layers.specs.Deeds.{CountsKey, puts_so}
+use Rattle.mh_layers.specs.Keys.{Heard, IsKept, level, stands_for}
 use Rattle.mh_layers.specs.Reading.{IsReading, Reading, flow_read, heard_read, name, number}
 use Rattle.mh_layers.specs.Trails.{LeadsTo}
 use Rattle.mh_layers.proofs.ActAgreeLemmas.{done_agrees}
@@ -47,19 +46,19 @@ shown v w h read y n p q a k there shows = from_key v w h read y n p q a k there
         counts_price v w h read y (level k) (stands_for v w k) k (key_of y) (key_agrees (tested v w h read y) k (other_is k more.0) kept) kept refl more.1
 
 -- the keys of an action by their numbers
-pub deed_counts : (r : Reading) → IsReading r → (c : Config) → reached (flow_read r) c ≡ true → (a : Act) (t : ObjRef) (first : NodeKey) (y : costs.Effect) → IsOn r.service (flow_read r) y → CountsKey (deed_of r c a t) first → LeadsTo r first y
+pub deed_counts : (r : Reading) → IsReading r → (c : Config) → reached (flow_read r) c ≡ true → (a : Act) (t : ObjRef) (first : NodeKey) (y : costs.Effect) → IsOn r.service (flow_read r) y → CountsKey r c a t first → LeadsTo r first y
     → counts y (costs.done_to r.service (flow_read r) c a.name a.arguments t) ≡ true
 deed_counts r read c here a t first y on has leads =
     among_counts y (costs.done_to r.service (flow_read r) c a.name a.arguments t)
     (shown r.service (flow_read r) (heard_read r) (read_of r read) y 6 price (costs.done_to r.service (flow_read r) c a.name a.arguments t) agrees from.0 from.1 (shows leads))
   where
     price : Price Key
-    price = around.done_to (net_around r.service (flow_read r) (heard_read r) c) a.name a.arguments t
+    price = puts_so r c a t
 
-    agrees : Agrees (tested r.service (flow_read r) (heard_read r) (read_of r read) y) 6 (around.done_to (net_around r.service (flow_read r) (heard_read r) c) a.name a.arguments t) (costs.done_to r.service (flow_read r) c a.name a.arguments t)
+    agrees : Agrees (tested r.service (flow_read r) (heard_read r) (read_of r read) y) 6 (puts_so r c a t) (costs.done_to r.service (flow_read r) c a.name a.arguments t)
     agrees = done_agrees (tested r.service (flow_read r) (heard_read r) (read_of r read) y) c here a.name a.arguments t
 
-    from : (k : Key) × Among (counted_in (around.done_to (net_around r.service (flow_read r) (heard_read r) c) a.name a.arguments t)) k × (number r k ≡ first)
+    from : (k : Key) × Among (counted_in (puts_so r c a t)) k × (number r k ≡ first)
     from =
         from_mapped (number r) (counted_in price) first
         (subst (λ (ns : List NodeKey). Among ns first) (counted_numbered (number r) price) has)

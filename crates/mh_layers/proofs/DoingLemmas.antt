@@ -14,59 +14,45 @@ use Rattle.mh_model.specs.Service.{part_at}
 use Rattle.mh_laws.specs.Active.{is_active}
 use Rattle.mh_laws.specs.Costs.{effect_at, targets}
 use Rattle.mh_laws.specs.Each.{Among}
-use Rattle.mh_laws.specs.Price.{Price, Nothing, Nodes, Plus, Most, counted_in}
+use Rattle.mh_laws.specs.Price.{Nothing, Nodes, counted_in}
+use Rattle.mh_laws.specs.View as view
 use Rattle.mh_laws.proofs.EachLemmas.{among_either, among_mapped, from_mapped}
-use Rattle.mh_laws.proofs.PriceLemmas.{nodes_if, nodes_of, of_nodes}
+use Rattle.mh_laws.proofs.PriceLemmas.{nodes_if, nodes_most, nodes_of, nodes_sum, of_nodes}
 use Rattle.mh_layers.specs.declared.node_key.NodeKey.{NodeKey}
 use Rattle.mh_layers.specs.declared.node_key.NodeKey.TheVariants as key
-use Rattle.mh_layers.specs.Around as around
-use Rattle.mh_layers.specs.Around.{Key, Effect}
-use Rattle.mh_layers.specs.Deeds.{CountsKey, Doing, IsDoing, NoDoing, NoneCounts, deed_of, deed_puts, number_in}
-use Rattle.mh_layers.specs.Keys.{effect_of, net_around}
-use Rattle.mh_layers.specs.Reading.{Reading, flow_read, heard_read, number, price_read}
-use Rattle.mh_layers.specs.Sums.{most_from, sum_from}
+use Rattle.mh_layers.specs.Key.{Key, Effect}
+use Rattle.mh_layers.specs.Deeds.{CountsKey, Doing, IsDoing, NoDoing, NoneCounts, number_in, puts_so}
+use Rattle.mh_layers.specs.Keys.{effect_of}
+use Rattle.mh_layers.specs.Reading.{Reading, around_at, flow_read, heard_read, number, price_read, spot_in}
 use Rattle.mh_layers.specs.Standings.{effect_named}
 use Rattle.mh_layers.specs.Trails.{IsStep}
 use Rattle.mh_layers.proofs.AskedLemmas.{among_got, got_pushed}
 use Rattle.mh_layers.proofs.WebLemmas.{counted_numbered}
-
--- Sums and maxima as loops make them
-
-nodes_summed : {K X : Type 0} (P : K → Type 0) (g : X → Price K) (p : Price K) (xs : List X) → Nodes P p → ((x : X) → Among xs x → Nodes P (g x)) → Nodes P (sum_from g p xs)
-nodes_summed P g p [] first each = first
-nodes_summed P g p (x ∷ xs) first each = nodes_summed P g (Plus p (g x)) xs (first, each x (inl refl)) (λ y there. each y (inr there))
-
-nodes_mosted : {K X : Type 0} (P : K → Type 0) (g : X → Price K) (p : Price K) (xs : List X) → Nodes P p → ((x : X) → Among xs x → Nodes P (g x)) → Nodes P (most_from g p xs)
-nodes_mosted P g p [] first each = first
-nodes_mosted P g p (x ∷ xs) first each = nodes_mosted P g (Most p (g x)) xs (first, each x (inl refl)) (λ y there. each y (inr there))
 
 -- What an effect counts
 
 -- one of the actions counts the key, done to an object to which its target may come
 abbrev IsPut : Reading → Config → List Act → Key → Type 0
 IsPut r c acts k =
-    (a : Act) × Among acts a × (t : ObjRef) × Among (targets (flow_read r) c a.target) t × Among (counted_in (deed_puts (deed_of r c a t))) k
+    (a : Act) × Among acts a × (t : ObjRef) × Among (targets (flow_read r) c a.target) t × Among (counted_in (puts_so r c a t)) k
 
-act_puts : (r : Reading) (c : Config) (acts : List Act) (a : Act) → Among acts a → Nodes (IsPut r c acts) (around.act (net_around r.service (flow_read r) (heard_read r) c) a)
-unfolding around.act
-act_puts r c acts a own = (tt, by a.target refl)
-  where
-    done : (t : ObjRef) → Among (targets (flow_read r) c a.target) t → Nodes (IsPut r c acts) (around.done_to (net_around r.service (flow_read r) (heard_read r) c) a.name a.arguments t)
-    done t there =
-        nodes_of (IsPut r c acts) (around.done_to (net_around r.service (flow_read r) (heard_read r) c) a.name a.arguments t)
-        (λ k counted. (a, own, t, there, counted))
+same_targets : (r : Reading) (c : Config) (x : Target) → view.targets (around_at (spot_in r c)).lists.view x ≡ targets (flow_read r) c x
+same_targets r c (target.Direct t) = refl
+same_targets r c (target.Through q) = refl
 
-    by : (x : Target) → a.target ≡ x → Nodes (IsPut r c acts) (around.put (net_around r.service (flow_read r) (heard_read r) c) a.name a.arguments x)
-    by (target.Direct t) is = done t (subst (λ (x : Target). Among (targets (flow_read r) c x) t) (sym is) (inl refl))
-    by (target.Through q) is =
-        nodes_mosted (IsPut r c acts) (around.done_to (net_around r.service (flow_read r) (heard_read r) c) a.name a.arguments) Nothing ((flow_read r).sets c q) tt
-        (λ t there. done t (subst (λ (x : Target). Among (targets (flow_read r) c x) t) (sym is) there))
+act_puts : (r : Reading) (c : Config) (acts : List Act) (a : Act) → Among acts a → Nodes (IsPut r c acts) (view.act (around_at (spot_in r c)) a)
+act_puts r c acts a own = (
+  tt,
+  nodes_most (IsPut r c acts) (puts_so r c a) (view.targets (around_at (spot_in r c)).lists.view a.target)
+      (λ t there. nodes_of (IsPut r c acts) (puts_so r c a t)
+      (λ k counted. (a, own, t, subst (λ (ts : List ObjRef). Among ts t) (same_targets r c a.target) there, counted))),
+)
 
 effect_puts : (r : Reading) (c : Config) (o : ObjRef) (n : ℕ) (part : Fixed) → part_at o (present r.service c) ≡ Some part → Nodes (IsPut r c (effect_at part n)) (price_read r (Effect c o n))
 effect_puts r c o n part at =
     subst (λ (m : Option Fixed). Nodes (IsPut r c (effect_at part n)) (option_map_or (effect_of r.service (flow_read r) (heard_read r) c n) m Nothing)) (sym at)
-    (nodes_if (IsPut r c (effect_at part n)) (is_active (present r.service c) part) (around.acts (net_around r.service (flow_read r) (heard_read r) c) (effect_at part n))
-    (λ active. nodes_summed (IsPut r c (effect_at part n)) (around.act (net_around r.service (flow_read r) (heard_read r) c)) Nothing (effect_at part n) tt
+    (nodes_if (IsPut r c (effect_at part n)) (is_active (present r.service c) part) (view.acts (around_at (spot_in r c)) (effect_at part n))
+    (λ active. nodes_sum (IsPut r c (effect_at part n)) (view.act (around_at (spot_in r c))) (effect_at part n)
     (λ a own. act_puts r c (effect_at part n) a own)))
 
 -- The action
@@ -83,9 +69,9 @@ put_does r c acts first k is put =
         place = at.1;
         target = put.3;
         counts =
-            subst (λ (ns : List NodeKey). Among ns first) (sym (counted_numbered (number r) (deed_puts (deed_of r c put.0 put.2))))
-            (subst (λ (n : NodeKey). Among (map (number r) (counted_in (deed_puts (deed_of r c put.0 put.2)))) n) is
-            (among_mapped (number r) (counted_in (deed_puts (deed_of r c put.0 put.2))) k put.4));
+            subst (λ (ns : List NodeKey). Among ns first) (sym (counted_numbered (number r) (puts_so r c put.0 put.2)))
+            (subst (λ (n : NodeKey). Among (map (number r) (counted_in (puts_so r c put.0 put.2))) n) is
+            (among_mapped (number r) (counted_in (puts_so r c put.0 put.2)) k put.4));
       },
     )
 
@@ -106,14 +92,14 @@ step_does r _ first to step part at = let never = step.from_number in absurd cc
 
 -- In loops
 
-pub none_more : (r : Reading) (c : Config) (a : Act) (ts : List ObjRef) (i : ℕ) (d : ObjRef) (k : NodeKey) → i < length ts → NoneCounts r c a (take i ts) k → (CountsKey (deed_of r c a (get_or ts i d)) k → ⊥) → NoneCounts r c a (take (i + 1) ts) k
+pub none_more : (r : Reading) (c : Config) (a : Act) (ts : List ObjRef) (i : ℕ) (d : ObjRef) (k : NodeKey) → i < length ts → NoneCounts r c a (take i ts) k → (CountsKey r c a (get_or ts i d) k → ⊥) → NoneCounts r c a (take (i + 1) ts) k
 none_more r c a ts i d k less before here =
     subst (λ (os : List ObjRef). NoneCounts r c a os k) (sym (take_more ts i d less))
     (record { none = λ t there. by t (among_either (take i ts) (get_or ts i d ∷ []) t there) })
   where
-    by : (t : ObjRef) → Among (take i ts) t ⊎ Among (get_or ts i d ∷ []) t → CountsKey (deed_of r c a t) k → ⊥
+    by : (t : ObjRef) → Among (take i ts) t ⊎ Among (get_or ts i d ∷ []) t → CountsKey r c a t k → ⊥
     by t (inl old) counts = before.none t old counts
-    by t (inr (inl same)) counts = here (subst (λ (o : ObjRef). CountsKey (deed_of r c a o) k) (sym same) counts)
+    by t (inr (inl same)) counts = here (subst (λ (o : ObjRef). CountsKey r c a o k) (sym same) counts)
     by t (inr (inr never)) counts = absurd cc
 
 pub does_more : (r : Reading) (c : Config) (acts : List Act) (i : ℕ) (e : Act) (k : NodeKey) → i < length acts → NoDoing r c (take i acts) k → NoneCounts r c (get_or acts i e) (targets (flow_read r) c (get_or acts i e).target) k → NoDoing r c (take (i + 1) acts) k
@@ -125,4 +111,4 @@ does_more r c acts i e k less before here =
     by d does (inl old) = before.none d (record { place = old; target = does.target; counts = does.counts })
     by d does (inr last) =
         here.none d.at (subst (λ (a : Act). Among (targets (flow_read r) c a.target) d.at) (sym last.1) does.target)
-        (subst (λ (a : Act). CountsKey (deed_of r c a d.at) k) (sym last.1) does.counts)
+        (subst (λ (a : Act). CountsKey r c a d.at k) (sym last.1) does.counts)

@@ -15,10 +15,13 @@ cut_sum a b = omega arith
 cut_most : (a b : ℕ) → max (min a top) (min b top) ≡ min (max a b) top
 cut_most a b = omega arith
 
+cut_one : (a : ℕ) → min (0 + min a top) top ≡ min a top
+cut_one a = omega arith
+
 pub known_cut : {K E : Type 0} (f : K → ℕ) (p : Price K) → known_worth {E = E} (λ k. Ok (min (f k) top)) p ≡ Ok (min (worth f p) top)
 known_cut f Nothing = refl
 known_cut f One = refl
-known_cut f (Node k) = refl
+known_cut f (Node k) = ap Ok (cut_one (f k))
 known_cut f (Plus p q) = (λ i. added (known_cut f p i) (known_cut f q i)) ∙ ap Ok (cut_sum (worth f p) (worth f q))
 known_cut f (Most p q) = (λ i. larger (known_cut f p i) (known_cut f q i)) ∙ ap Ok (cut_most (worth f p) (worth f q))
 

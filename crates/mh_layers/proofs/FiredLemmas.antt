@@ -21,12 +21,11 @@ use Rattle.mh_laws.specs.Costs as costs
 use Rattle.mh_laws.specs.Each.{Among}
 use Rattle.mh_laws.specs.Flow.{reached}
 use Rattle.mh_laws.specs.Price.{Price, Nothing, One, Node, Plus, most_price, if_price}
+use Rattle.mh_laws.specs.View as view
 use Rattle.mh_laws.specs.Ways.{Told, Sure, Unsure}
-use Rattle.mh_layers.specs.Around as around
-use Rattle.mh_layers.specs.Around.{Key, Effect, Fired, Entry, Hearing, Plain, With, Any}
+use Rattle.mh_layers.specs.Key.{Effect, Fired, Entry, Hearing, Plain, With, Any}
 use Rattle.mh_layers.specs.Grouped.{has, is_plain}
-use Rattle.mh_layers.specs.Keys.{bucket, data_of, fired_at, fired_if_there, fired_price, fires, heard_with, hearing, hearing_level, is_caused, is_named, IsMet, knows, links_with, net_around, told_by, values, waits_for}
-use Rattle.mh_layers.specs.Sums.{most_from}
+use Rattle.mh_layers.specs.Keys.{bucket, data_of, fired_at, fired_if_there, fired_price, fires, heard_with, hearing, hearing_level, is_caused, is_named, IsMet, knows, links_with, objects, told_by, values, waits_for}
 use Rattle.mh_layers.proofs.AgreeLemmas.{Agrees, Setting, agrees_if, agrees_largest, agrees_node, agrees_nothing, agrees_one, agrees_plus, agrees_sum, agrees_then, agrees_wider, effects_come}
 use Rattle.mh_layers.proofs.HeardLemmas.{AreKnown, any_heard, links, plain_heard, unheard, unnamed, value_heard, value_there}
 use Rattle.mh_layers.proofs.MetLemmas.{link_active, on_of, reached_among}
@@ -71,11 +70,11 @@ some_named : (o : Option (List Value)) (g : Hearing) → is_named o g ≡ true �
 some_named None g e = absurd cc
 some_named (Some xs) g e = (xs, refl)
 
-any_agrees : {A : Type 0} (s : Setting A) (c : Config) (r : ObjRef) (kind : EventType) (xs : List Value) → s.heard r kind ≡ Some xs → reached s.flow c ≡ true → is_there r (present s.service c) ≡ true → Agrees s 2 (Plus (Node (Fired c r kind Plain)) (most_from (λ x. Node (Fired c r kind (With x))) Nothing xs)) (costs.fired s.service c r kind Unsure)
+any_agrees : {A : Type 0} (s : Setting A) (c : Config) (r : ObjRef) (kind : EventType) (xs : List Value) → s.heard r kind ≡ Some xs → reached s.flow c ≡ true → is_there r (present s.service c) ≡ true → Agrees s 2 (Plus (Node (Fired c r kind Plain)) (most_price (λ x. Node (Fired c r kind (With x))) xs)) (costs.fired s.service c r kind Unsure)
 any_agrees {A} s c r kind xs e here source =
-    agrees_then s 2 (Plus (Node (Fired c r kind Plain)) (most_from (λ x. Node (Fired c r kind (With x))) Nothing xs))
+    agrees_then s 2 (Plus (Node (Fired c r kind Plain)) (most_price (λ x. Node (Fired c r kind (With x))) xs))
     (Plus (costs.fired s.service c r kind (Sure None)) (most_price (λ x. bucket s.service c r kind x) xs)) (costs.fired s.service c r kind Unsure)
-    (agrees_plus s 2 (Node (Fired c r kind Plain)) (most_from (λ x. Node (Fired c r kind (With x))) Nothing xs)
+    (agrees_plus s 2 (Node (Fired c r kind Plain)) (most_price (λ x. Node (Fired c r kind (With x))) xs)
     (costs.fired s.service c r kind (Sure None)) (most_price (λ x. bucket s.service c r kind x) xs)
     (plain_node s 2 c r kind here source (ap (λ (o : Option (List Value)). is_named o Plain) e) (omega arith))
     (agrees_largest s 2 (λ x. Node (Fired c r kind (With x))) (λ x. bucket s.service c r kind x) xs
@@ -88,7 +87,7 @@ fired_agrees s c r kind Plain (here, source, named) = plain_agrees s c r kind he
 fired_agrees s c r kind (With x) (here, source, named) = links_agree s c r kind (has same_value x) here source
 fired_agrees {A} s c r kind Any (here, source, named) =
     let is = some_named (s.heard r kind) Any named in
-    subst (λ (o : Option (List Value)). Agrees s 2 (Plus (Node (Fired c r kind Plain)) (most_from (λ x. Node (Fired c r kind (With x))) Nothing (values o))) (costs.fired s.service c r kind Unsure)) (sym is.1)
+    subst (λ (o : Option (List Value)). Agrees s 2 (Plus (Node (Fired c r kind Plain)) (most_price (λ x. Node (Fired c r kind (With x))) (values o))) (costs.fired s.service c r kind Unsure)) (sym is.1)
     (any_agrees s c r kind is.0 is.1 here source)
 
 -- all that hear an event of this hearing
@@ -192,9 +191,9 @@ silent_entry {A} s r kind d e =
 
 -- Entries
 
-pub entry_agrees : {A : Type 0} (s : Setting A) (r : ObjRef) (kind : EventType) (g : Hearing) → is_named (s.heard r kind) g ≡ true → Agrees s 3 (Plus One (most_from (λ c. fired_if_there s.service c r kind g) Nothing s.flow.configs)) (costs.entry s.service s.flow r kind (told_by g))
+pub entry_agrees : {A : Type 0} (s : Setting A) (r : ObjRef) (kind : EventType) (g : Hearing) → is_named (s.heard r kind) g ≡ true → Agrees s 3 (Plus One (most_price (λ c. fired_if_there s.service c r kind g) s.flow.configs)) (costs.entry s.service s.flow r kind (told_by g))
 entry_agrees s r kind g named =
-    agrees_plus s 3 One (most_from (λ c. fired_if_there s.service c r kind g) Nothing s.flow.configs) One
+    agrees_plus s 3 One (most_price (λ c. fired_if_there s.service c r kind g) s.flow.configs) One
     (most_price (λ c. costs.fired_if_there s.service c r kind (told_by g)) s.flow.configs) (agrees_one s 3)
     (agrees_largest s 3 (λ c. fired_if_there s.service c r kind g) (λ c. costs.fired_if_there s.service c r kind (told_by g)) s.flow.configs
     (λ c there. there_agrees s c r kind g (reached_among s.flow.configs c there) named))
@@ -221,7 +220,7 @@ heard_agrees {A} s c r kind d (Some xs) e here = by (is_sync kind)
         agrees_then s 4 (Node (Entry r kind (hearing xs d))) (costs.entry s.service s.flow r kind (told_by (hearing xs d))) (costs.entry s.service s.flow r kind d)
         (agrees_node s 4 (Entry r kind (hearing xs d)) named (omega arith)) (entry_hearing s r kind xs d e)
 
-pub emit_agrees : {A : Type 0} (s : Setting A) (c : Config) → reached s.flow c ≡ true → (r : ObjRef) (kind : EventType) (d : Told) → Agrees s 4 (around.emit (net_around s.service s.flow s.heard c) r kind d) (costs.emit s.service s.flow c r kind d)
+pub emit_agrees : {A : Type 0} (s : Setting A) (c : Config) → reached s.flow c ≡ true → (r : ObjRef) (kind : EventType) (d : Told) → Agrees s 4 (view.emit (objects s.service s.flow s.heard c) r kind d) (costs.emit s.service s.flow c r kind d)
 emit_agrees s c here r kind d =
     agrees_plus s 4 One (heard_with s.service c r kind d (s.heard r kind)) One (if is_sync kind then costs.fired_if_there s.service c r kind d else costs.entry s.service s.flow r kind d)
     (agrees_one s 4) (heard_agrees s c r kind d (s.heard r kind) refl here)

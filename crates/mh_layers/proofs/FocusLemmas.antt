@@ -1,6 +1,6 @@
 -- Focus: what an action comes to by a flow counts an effect by a smaller one too, which has of sets only the object whose event
 -- the effect waits for, and of configurations the effect's own and the one to which a transition leads.
-use Rattle.std.specs.Prelude.{◌≡◌, ◌⊎◌, ℕ, ◌==◌, Bool, true, false, ◌&&◌, not, if◌then◌else◌, List, ◌∷◌, ◌++◌, filter, reverse, Option, Some, None, pos, refl}
+use Rattle.std.specs.Prelude.{◌≡◌, ◌⊎◌, ℕ, ◌==◌, Bool, true, false, ◌&&◌, if◌then◌else◌, List, ◌∷◌, ◌++◌, Option, Some, refl}
 use Rattle.std.specs.Cmp.Derive.{both_true}
 use Rattle.std.specs.List.{list_any}
 use Rattle.std.specs.Option.{option_map, option_map_or}
@@ -8,45 +8,36 @@ use Rattle.std.proofs.Common.{◌∙◌, inl, inr, ap, sym, subst}
 use Rattle.std.proofs.lemmas.Bool.Decides.{Decides-eqb}
 use Rattle.mh_base.specs.declared.obj_ref.ObjRef.{ObjRef}
 use Rattle.mh_base.specs.declared.value.Kind.{Kind}
-use Rattle.mh_base.specs.declared.value.Value.TheVariants as value
 use Rattle.mh_base.specs.declared.event.EventType.{EventType}
-use Rattle.mh_base.specs.declared.event.EventType.TheVariants as event
 use Rattle.mh_base.specs.Event.{is_sync}
 use Rattle.mh_group.specs.declared.action_name.ActionName.{ActionName}
-use Rattle.mh_group.specs.declared.action_name.ActionName.TheVariants as action
 use Rattle.mh_group.specs.declared.attribute.Attribute.TheVariants as attribute
-use Rattle.mh_group.specs.declared.class.Class.{Class}
-use Rattle.mh_group.specs.declared.class.Class.TheVariants as class
-use Rattle.mh_group.specs.Table.{has_content, is_link, is_list_group, is_runnable}
+use Rattle.mh_group.specs.Table.{is_link, is_list_group}
 use Rattle.mh_model.specs.declared.act.Act.{Act}
 use Rattle.mh_model.specs.declared.act.Argument.{Argument}
 use Rattle.mh_model.specs.declared.act.Argument.TheVariants as argument
 use Rattle.mh_model.specs.declared.config.Config.{Config}
 use Rattle.mh_model.specs.declared.event.Event.{Event}
-use Rattle.mh_model.specs.declared.member.Member.{Member}
 use Rattle.mh_model.specs.declared.object.Fixed.{Fixed}
 use Rattle.mh_model.specs.Configuration.{present, scene_parts}
 use Rattle.mh_model.specs.Faults.{is_transition}
-use Rattle.mh_model.specs.Groups.{is_initially_active, is_shared}
 use Rattle.mh_model.specs.Items.{hears_data, hears_source, hears_type}
-use Rattle.mh_model.specs.Known.{class_at}
 use Rattle.mh_model.specs.Property.{held, as_event, as_value}
 use Rattle.mh_model.specs.Reference.{group_ref, same_key, same_ref}
-use Rattle.mh_model.specs.Saying.{event_numbered}
 use Rattle.mh_model.specs.Service.{Service, group_parts, is_there, part_at}
-use Rattle.mh_model.specs.Tokens.{members}
 use Rattle.mh_model.proofs.ListLemmas.{and_left, and_right}
-use Rattle.mh_laws.specs.Costs.{Effect, act, can_hear, change, data_sent, done_to, effect, emit, enter, entry, event_from, exchange, fired, fired_if_there, group_effect, group_halt, group_run, halt, halt_alone, heard_by, leave_all, leave_scene, link_effect, named, named_data, on_close_down, on_start_up, rise, rise_of, run, run_alone, scene_closes, sends, share, slots, targets}
+use Rattle.mh_laws.specs.Costs.{Effect, act, around, can_hear, done_to, effect, enter, entry, event_from, exchange, fired, fired_if_there, group_effect, heard_by, leaves, link_effect, lists, named_data, objects, on_close_down, on_start_up, scene_closes, targets}
 use Rattle.mh_laws.specs.Each.{Among}
 use Rattle.mh_laws.specs.Flow.{Flow, has, is_list_in, reached}
-use Rattle.mh_laws.specs.Price.{Price, Nothing, One, Nodes, Plus, sum_price, most_price, if_price, counted_in}
+use Rattle.mh_laws.specs.Price.{Price, Nothing, One, Nodes, Plus, Most, sum_price, most_price, if_price, counted_in}
 use Rattle.mh_laws.specs.Safe.{exchanged}
-use Rattle.mh_laws.specs.Ways.{Told, Sure, Unsure, Share, Prepares, Runs, Halts, Drops, Tells, Sends, Changes, Slots, ways}
+use Rattle.mh_laws.specs.Ways.{Told, Sure, Unsure}
 use Rattle.mh_laws.proofs.EachLemmas.{among_either, among_left, among_right}
 use Rattle.mh_laws.proofs.NodeLemmas.{config_among}
 use Rattle.mh_laws.proofs.OnceLemmas.{holds_among}
 use Rattle.mh_laws.proofs.PriceLemmas.{nodes_if, nodes_map, nodes_most, nodes_of, nodes_sum, of_nodes}
 use Rattle.mh_laws.proofs.SetLemmas.{same_itself}
+use Rattle.mh_prices.proofs.NearLemmas.{NearDone, NearLists, NearSets, NearViews, Passes, change_near, done_near, enter_near, leave_all_near, leave_scene_near}
 use Rattle.mh_layers.specs.Arrows.{counts, same_effect}
 use Rattle.mh_layers.specs.Reading.{same_setting}
 use Rattle.mh_layers.proofs.CheapPriceLemmas.{counted_most, counted_sum}
@@ -103,6 +94,11 @@ follow_plus {y} {p} {q} {r} {s} h k = record {
   counted = λ there. follow_joined y (counted_in p) (counted_in q) (counted_in r) (counted_in s) h.counted k.counted (among_either (counted_in p) (counted_in r) y there);
 }
 
+follow_larger : {y : Effect} {p q r s : Price Effect} → Follows y p q → Follows y r s → Follows y (Most p r) (Most q s)
+follow_larger {y} {p} {q} {r} {s} h k = record {
+  counted = λ there. follow_joined y (counted_in p) (counted_in q) (counted_in r) (counted_in s) h.counted k.counted (among_either (counted_in p) (counted_in r) y there);
+}
+
 -- one step, and then this
 follow_step : {y : Effect} {p q : Price Effect} → Follows y p q → Follows y (Plus One p) (Plus One q)
 follow_step {y} h = follow_plus (follow_itself y One) h
@@ -131,13 +127,6 @@ follow_dearest : {X : Type 0} (y : Effect) (f g : X → Price Effect) (xs ys : L
 follow_dearest y f g xs ys stays = record {
   counted = λ there. let from = from_most f xs y there in let to = stays from.0 from.1 from.2 in counted_most g ys from.0 y to.0 to.1;
 }
-
--- of the same list
-follow_sum : {X : Type 0} (y : Effect) (f g : X → Price Effect) → ((x : X) → Follows y (f x) (g x)) → (xs : List X) → Follows y (sum_price f xs) (sum_price g xs)
-follow_sum y f g each xs = follow_listed y f g xs xs (λ x own counted. (own, (each x).counted counted))
-
-follow_most : {X : Type 0} (y : Effect) (f g : X → Price Effect) → ((x : X) → Follows y (f x) (g x)) → (xs : List X) → Follows y (most_price f xs) (most_price g xs)
-follow_most y f g each xs = follow_dearest y f g xs xs (λ x own counted. (own, (each x).counted counted))
 
 -- Sources: an event puts to work only what waits for events of its source
 
@@ -185,28 +174,12 @@ there_fired v c r kind d = nodes_if (IsFired v c r) (is_there r (present v c)) (
 there_from : (v : Service) (c : Config) (r : ObjRef) (kind : EventType) (d : Told) → Nodes (IsFrom v r) (fired_if_there v c r kind d)
 there_from v c r kind d = nodes_map (IsFired v c r) (IsFrom v r) (λ y is. is.1) (fired_if_there v c r kind d) (there_fired v c r kind d)
 
-emit_from : (v : Service) (w : Flow) (c : Config) (r : ObjRef) (kind : EventType) (d : Told) → Nodes (IsFrom v r) (emit v w c r kind d)
-emit_from v w c r kind d = (tt, by (is_sync kind))
+dealt_from : (v : Service) (w : Flow) (c : Config) (r : ObjRef) (kind : EventType) (d : Told) → Nodes (IsFrom v r) ((objects v w c).dealt_with r kind d)
+dealt_from v w c r kind d = by (is_sync kind)
   where
     by : (b : Bool) → Nodes (IsFrom v r) (if b then fired_if_there v c r kind d else entry v w r kind d)
     by true = there_from v c r kind d
     by false = (tt, nodes_most (IsFrom v r) (λ x. fired_if_there v x r kind d) w.configs (λ x own. there_from v x r kind d))
-
-rise_from : (v : Service) (w : Flow) (c : Config) (r : ObjRef) → Nodes (IsFrom v r) (rise v w c r)
-rise_from v w c r = by (class_at r (present v c))
-  where
-    by : (m : Option Class) → Nodes (IsFrom v r) (option_map_or (rise_of v w c r) m Nothing)
-    by None = tt
-    by (Some k) = (
-      emit_from v w c r event.IsAvailable (Sure None),
-      nodes_if (IsFrom v r) (has_content k) (emit v w c r event.ContentAvailable (Sure None)) (λ e. emit_from v w c r event.ContentAvailable (Sure None)),
-    )
-
-run_alone_from : (v : Service) (w : Flow) (c : Config) (r : ObjRef) → Nodes (IsFrom v r) (run_alone v w c r)
-run_alone_from v w c r = (tt, (rise_from v w c r, emit_from v w c r event.IsRunning (Sure None)))
-
-halt_alone_from : (v : Service) (w : Flow) (c : Config) (r : ObjRef) → Nodes (IsFrom v r) (halt_alone v w c r)
-halt_alone_from v w c r = (tt, emit_from v w c r event.IsStopped (Sure None))
 
 -- What the smaller flow has
 
@@ -250,29 +223,12 @@ entry_follows v w u y here r kind d =
         let fired = of_nodes (IsFired v c r) (fired_if_there v c r kind d) (there_fired v c r kind d) y counted in
         subst (λ (x : Config). Among u.configs x) fired.0 (config_among u.configs y.config here)
 
-emit_follows : (v : Service) (w u : Flow) (y : Effect) → reached u y.config ≡ true → (c : Config) (r : ObjRef) (kind : EventType) (d : Told) → Follows y (emit v w c r kind d) (emit v u c r kind d)
-emit_follows v w u y here c r kind d = follow_step (by (is_sync kind))
+dealt_follows : (v : Service) (w u : Flow) (y : Effect) → reached u y.config ≡ true → (c : Config) (r : ObjRef) (kind : EventType) (d : Told) → Follows y ((objects v w c).dealt_with r kind d) ((objects v u c).dealt_with r kind d)
+dealt_follows v w u y here c r kind d = by (is_sync kind)
   where
     by : (b : Bool) → Follows y (if b then fired_if_there v c r kind d else entry v w r kind d) (if b then fired_if_there v c r kind d else entry v u r kind d)
     by true = follow_itself y (fired_if_there v c r kind d)
     by false = entry_follows v w u y here r kind d
-
--- Life
-
-rise_follows : (v : Service) (w u : Flow) (y : Effect) → reached u y.config ≡ true → (c : Config) (r : ObjRef) → Follows y (rise v w c r) (rise v u c r)
-rise_follows v w u y here c r = by (class_at r (present v c))
-  where
-    by : (m : Option Class) → Follows y (option_map_or (rise_of v w c r) m Nothing) (option_map_or (rise_of v u c r) m Nothing)
-    by None = follow_itself y Nothing
-    by (Some k) =
-        follow_plus (emit_follows v w u y here c r event.IsAvailable (Sure None))
-        (follow_if (has_content k) (has_content k) (λ e. e) (emit_follows v w u y here c r event.ContentAvailable (Sure None)))
-
-run_alone_follows : (v : Service) (w u : Flow) (y : Effect) → reached u y.config ≡ true → (c : Config) (r : ObjRef) → Follows y (run_alone v w c r) (run_alone v u c r)
-run_alone_follows v w u y here c r = follow_step (follow_plus (rise_follows v w u y here c r) (emit_follows v w u y here c r event.IsRunning (Sure None)))
-
-halt_alone_follows : (v : Service) (w u : Flow) (y : Effect) → reached u y.config ≡ true → (c : Config) (r : ObjRef) → Follows y (halt_alone v w c r) (halt_alone v u c r)
-halt_alone_follows v w u y here c r = follow_step (emit_follows v w u y here c r event.IsStopped (Sure None))
 
 -- Sets
 
@@ -283,129 +239,92 @@ source_stays v y f g from follows rs ss kept q own counted =
     let source = of_nodes (IsFrom v q) (f q) (from q) y counted in
     (holds_among ss q (kept q source (among_any (same_ref q) rs q own (same_itself q))), (follows q).counted counted)
 
-all_halted : (v : Service) (w u : Flow) (y : Effect) → reached u y.config ≡ true → (c : Config) (r : ObjRef) → HasSources v w u y c r → Follows y (sum_price (halt_alone v w c) (w.sets c r)) (sum_price (halt_alone v u c) (u.sets c r))
-all_halted v w u y here c r sources =
-    follow_listed y (halt_alone v w c) (halt_alone v u c) (w.sets c r) (u.sets c r)
-    (source_stays v y (halt_alone v w c) (halt_alone v u c) (halt_alone_from v w c) (halt_alone_follows v w u y here c) (w.sets c r) (u.sets c r) sources)
+-- Views: what an object itself emits is of links that wait for its events
 
-all_run : (v : Service) (w u : Flow) (y : Effect) → reached u y.config ≡ true → (c : Config) (r : ObjRef) → HasSources v w u y c r → Follows y (sum_price (run_alone v w c) (w.sets c r)) (sum_price (run_alone v u c) (u.sets c r))
-all_run v w u y here c r sources =
-    follow_listed y (run_alone v w c) (run_alone v u c) (w.sets c r) (u.sets c r)
-    (source_stays v y (run_alone v w c) (run_alone v u c) (run_alone_from v w c) (run_alone_follows v w u y here c) (w.sets c r) (u.sets c r) sources)
+abbrev FollowsAt : Service → Effect → ObjRef → Price Effect → Price Effect → Type 0
+FollowsAt v y r p q = Follows y p q × Nodes (IsFrom v r) p
 
-change_follows : (v : Service) (w u : Flow) (y : Effect) → reached u y.config ≡ true → (c : Config) (r : ObjRef) → HasSources v w u y c r → Follows y (change v w c r) (change v u c r)
-change_follows v w u y here c r sources =
-    follow_plus (all_halted v w u y here c r sources)
-    (follow_plus (all_run v w u y here c r sources)
-    (follow_plus (emit_follows v w u y here c r event.FirstItemPresented Unsure) (follow_plus (emit_follows v w u y here c r event.LastItemPresented Unsure)
-    (follow_plus (emit_follows v w u y here c r event.HeadItems Unsure) (emit_follows v w u y here c r event.TailItems Unsure)))))
+abbrev Keeps : Service → Effect → List ObjRef → List ObjRef → Type 0
+Keeps v y rs ss = (q : ObjRef) → is_source v y q ≡ true → list_any (same_ref q) rs ≡ true → list_any (same_ref q) ss ≡ true
 
--- Groups of objects
+passes_at : (v : Service) (y : Effect) (r : ObjRef) → Passes (FollowsAt v y r)
+passes_at v y r = record {
+  nothing = (follow_itself y Nothing, tt);
+  one = (follow_itself y One, tt);
+  plus = λ p o q s h k. (follow_plus h.0 k.0, (h.1, k.1));
+  most = λ p o q s h k. (follow_larger h.0 k.0, (h.1, k.1));
+}
+
+passes : (y : Effect) → Passes (Follows y)
+passes y = record {
+  nothing = follow_itself y Nothing;
+  one = follow_itself y One;
+  plus = λ p o q s h k. follow_plus h k;
+  most = λ p o q s h k. follow_larger h k;
+}
+
+follow_sets : (v : Service) (y : Effect) → NearSets (FollowsAt v y) (Follows y) (Keeps v y)
+follow_sets v y = record {
+  sums = λ f g each rs ss kept. follow_listed y f g rs ss (source_stays v y f g (λ q. (each q).1) (λ q. (each q).0) rs ss kept);
+  largest = λ f g each rs ss kept. follow_dearest y f g rs ss (source_stays v y f g (λ q. (each q).1) (λ q. (each q).0) rs ss kept);
+}
+
+views_follow : (v : Service) (w u : Flow) (c : Config) (y : Effect) → reached u y.config ≡ true → NearViews (FollowsAt v y) (Follows y) (objects v w c) (objects v u c)
+views_follow v w u c y here = record {
+  part = λ r. refl;
+  dealt_with = λ r kind d. (dealt_follows v w u y here c r kind d, dealt_from v w c r kind d);
+  slots = λ r p at other. follow_itself y ((objects v w c).slots p);
+}
 
 -- a list that is found is there
 found_list : (ps : List Fixed) (r : ObjRef) (p : Fixed) → part_at r ps ≡ Some p → is_list_group p.class ≡ true → is_list_in ps r ≡ true
 found_list ps r p e is = ap (λ (m : Option Fixed). option_map_or is_list_group (option_map (λ (x : Fixed). x.class) m) false) e ∙ is
 
-run_follows : (v : Service) (w u : Flow) (c : Config) (y : Effect) → IsFocused v w u c y → (r : ObjRef) → Follows y (run v w c r) (run v u c r)
-run_follows v w u c y f r = follow_plus (run_alone_follows v w u y f.there c r) (by (part_at r (present v c)) (found_list (present v c) r))
-  where
-    by_class : (p : Fixed) (k : Class) → (is_list_group k ≡ true → is_list_in (present v c) r ≡ true) → Follows y (group_run v w c r p k) (group_run v u c r p k)
-    by_class p class.TokenGroup listed =
-        follow_plus (follow_sum y (λ (m : Member). run_alone v w c m.object) (λ (m : Member). run_alone v u c m.object) (λ m. run_alone_follows v w u y f.there c m.object) (members p))
-        (emit_follows v w u y f.there c r event.TokenMovedTo (Sure (Some (value.Int (pos 1)))))
-    by_class p class.ListGroup listed = change_follows v w u y f.there c r (f.items r (listed refl))
-    by_class p _ listed = follow_itself y Nothing
-
-    by : (m : Option Fixed) → ((p : Fixed) → m ≡ Some p → is_list_group p.class ≡ true → is_list_in (present v c) r ≡ true) → Follows y (option_map_or (λ (p : Fixed). group_run v w c r p p.class) m Nothing) (option_map_or (λ (p : Fixed). group_run v u c r p p.class) m Nothing)
-    by None listed = follow_itself y Nothing
-    by (Some p) listed = by_class p p.class (listed p refl)
-
-halt_follows : (v : Service) (w u : Flow) (c : Config) (y : Effect) → IsFocused v w u c y → (r : ObjRef) → Follows y (halt v w c r) (halt v u c r)
-halt_follows v w u c y f r = follow_plus (halt_alone_follows v w u y f.there c r) (by (part_at r (present v c)) (found_list (present v c) r))
-  where
-    by_class : (p : Fixed) (k : Class) → (is_list_group k ≡ true → is_list_in (present v c) r ≡ true) → Follows y (group_halt v w c r p k) (group_halt v u c r p k)
-    by_class p class.TokenGroup listed = follow_sum y (λ (m : Member). halt_alone v w c m.object) (λ (m : Member). halt_alone v u c m.object) (λ m. halt_alone_follows v w u y f.there c m.object) (members p)
-    by_class p class.ListGroup listed = all_halted v w u y f.there c r (f.items r (listed refl))
-    by_class p _ listed = follow_itself y Nothing
-
-    by : (m : Option Fixed) → ((p : Fixed) → m ≡ Some p → is_list_group p.class ≡ true → is_list_in (present v c) r ≡ true) → Follows y (option_map_or (λ (p : Fixed). group_halt v w c r p p.class) m Nothing) (option_map_or (λ (p : Fixed). group_halt v u c r p p.class) m Nothing)
-    by None listed = follow_itself y Nothing
-    by (Some p) listed = by_class p p.class (listed p refl)
+lists_follow : (v : Service) (w u : Flow) (c : Config) (y : Effect) → IsFocused v w u c y → NearLists (FollowsAt v y) (Follows y) (Keeps v y) (lists v w c) (lists v u c)
+lists_follow v w u c y f = record {
+  view = views_follow v w u c y f.there;
+  items = λ r p at listed. f.items r (found_list (present v c) r p at listed);
+  change = λ r kept.
+      change_near (FollowsAt v y) (Follows y) (Keeps v y) (passes_at v y) (passes y) (λ r p q h. h.0) (follow_sets v y)
+      (objects v w c) (objects v u c) (views_follow v w u c y f.there) r kept;
+}
 
 -- Groups
 
 enter_follows : (v : Service) (w u : Flow) (c : Config) (y : Effect) → IsFocused v w u c y → (g : List ℕ) → Follows y (enter v w c g) (enter v u c g)
 enter_follows v w u c y f g =
-    follow_step
-    (follow_plus (follow_itself y (group_effect v c g on_start_up))
-    (follow_plus (follow_sum y (λ (p : Fixed). run v w c p.key) (λ (p : Fixed). run v u c p.key) (λ p. run_follows v w u c y f p.key) (filter is_initially_active (group_parts v g)))
-    (emit_follows v w u y f.there c (group_ref g) event.IsRunning (Sure None))))
+    enter_near (FollowsAt v y) (Follows y) (Keeps v y) (passes_at v y) (passes y) (λ r p q h. h.0) (follow_sets v y)
+    (lists v w c) (lists v u c) (lists_follow v w u c y f) (group_effect v c g on_start_up) (group_effect v c g on_start_up) (follow_itself y (group_effect v c g on_start_up))
+    (group_ref g) (group_parts v g)
 
 exchange_follows : (v : Service) (w u : Flow) (c : Config) (y : Effect) (g : List ℕ) → reached u (exchanged v c g) ≡ true → (reached w (exchanged v c g) ≡ true → IsFocused v w u (exchanged v c g) y) → Follows y (exchange v w c g) (exchange v u c g)
 exchange_follows v w u c y g led f =
     follow_step (follow_where (reached w (exchanged v c g)) (reached u (exchanged v c g)) (λ e. led) (λ may. enter_follows v w u (exchanged v c g) y (f may) g))
 
-halts_follow : (v : Service) (w u : Flow) (c : Config) (y : Effect) → IsFocused v w u c y → (ps : List Fixed) → Follows y (sum_price (λ (p : Fixed). halt v w c p.key) ps) (sum_price (λ (p : Fixed). halt v u c p.key) ps)
-halts_follow v w u c y f ps = follow_sum y (λ (p : Fixed). halt v w c p.key) (λ (p : Fixed). halt v u c p.key) (λ p. halt_follows v w u c y f p.key) ps
-
-leave_scene_follows : (v : Service) (w u : Flow) (c : Config) (y : Effect) → IsFocused v w u c y → Follows y (leave_scene v w c) (leave_scene v u c)
-leave_scene_follows v w u c y f =
-    follow_plus (follow_itself y (scene_closes v c))
-    (follow_plus (halts_follow v w u c y f (filter (λ (p : Fixed). is_runnable p.class) (reverse (scene_parts v c.scene))))
-    (halts_follow v w u c y f (filter (λ (p : Fixed). is_runnable p.class && not (is_shared p)) (reverse (group_parts v c.app)))))
-
-leave_all_follows : (v : Service) (w u : Flow) (c : Config) (y : Effect) → IsFocused v w u c y → Follows y (leave_all v w c) (leave_all v u c)
-leave_all_follows v w u c y f =
-    follow_plus (follow_itself y (scene_closes v c)) (follow_plus (follow_itself y (group_effect v c c.app on_close_down))
-    (follow_plus (halts_follow v w u c y f (filter (λ (p : Fixed). is_runnable p.class) (reverse (scene_parts v c.scene))))
-    (halts_follow v w u c y f (filter (λ (p : Fixed). is_runnable p.class) (reverse (group_parts v c.app))))))
+leaves_follow : (v : Service) (w u : Flow) (c : Config) (y : Effect) → IsFocused v w u c y → (all : Bool) → Follows y (leaves v w c all) (leaves v u c all)
+leaves_follow v w u c y f false =
+    leave_scene_near (FollowsAt v y) (Follows y) (Keeps v y) (passes_at v y) (passes y) (λ r p q h. h.0) (follow_sets v y)
+    (lists v w c) (lists v u c) (lists_follow v w u c y f) (scene_closes v c) (scene_closes v c) (follow_itself y (scene_closes v c)) (scene_parts v c.scene) (group_parts v c.app)
+leaves_follow v w u c y f true =
+    leave_all_near (FollowsAt v y) (Follows y) (Keeps v y) (passes_at v y) (passes y) (λ r p q h. h.0) (follow_sets v y)
+    (lists v w c) (lists v u c) (lists_follow v w u c y f)
+    (scene_closes v c) (group_effect v c c.app on_close_down) (scene_closes v c) (group_effect v c c.app on_close_down)
+    (follow_itself y (scene_closes v c)) (follow_itself y (group_effect v c c.app on_close_down)) (scene_parts v c.scene) (group_parts v c.app)
 
 -- Actions
 
-named_kept : (v : Service) (w u : Flow) (c : Config) (y : Effect) (x : Argument) → ((r : ObjRef) (k : Option Kind) → x ≡ argument.Through r k → HasSources v w u y c r)
-    → (q : ObjRef) → is_source v y q ≡ true → list_any (same_ref q) (named w c x) ≡ true → list_any (same_ref q) (named u c x) ≡ true
-named_kept v w u c y (argument.Direct (value.Object r)) sources q source there = there
-named_kept v w u c y (argument.Through r k) sources q source there = sources r k refl q source there
-named_kept v w u c y _ sources q source there = there
-
-sends_follows : (v : Service) (w u : Flow) (c : Config) (y : Effect) → reached u y.config ≡ true → (xs : List Argument)
-    → ((r : ObjRef) (k : Option Kind) (more : List Argument) → xs ≡ argument.Through r k ∷ more → HasSources v w u y c r) → Follows y (sends v w c xs) (sends v u c xs)
-sends_follows v w u c y here (x ∷ argument.Direct (value.Int n) ∷ more) sources = by (event_numbered n)
-  where
-    rest : List Argument
-    rest = argument.Direct (value.Int n) ∷ more
-
-    of_first : (r : ObjRef) (k : Option Kind) → x ≡ argument.Through r k → HasSources v w u y c r
-    of_first r k e = sources r k rest (ap (λ (a : Argument). a ∷ rest) e)
-
-    by : (m : Option EventType) → Follows y (option_map_or (λ kind. most_price (λ q. emit v w c q kind (data_sent more)) (named w c x)) m Nothing) (option_map_or (λ kind. most_price (λ q. emit v u c q kind (data_sent more)) (named u c x)) m Nothing)
-    by None = follow_itself y Nothing
-    by (Some kind) =
-        follow_dearest y (λ (q : ObjRef). emit v w c q kind (data_sent more)) (λ (q : ObjRef). emit v u c q kind (data_sent more)) (named w c x) (named u c x)
-        (source_stays v y (λ (q : ObjRef). emit v w c q kind (data_sent more)) (λ (q : ObjRef). emit v u c q kind (data_sent more)) (λ q. emit_from v w c q kind (data_sent more)) (λ q. emit_follows v w u y here c q kind (data_sent more)) (named w c x) (named u c x)
-        (named_kept v w u c y x of_first))
-sends_follows v w u c y here _ sources = follow_itself y Nothing
-
-share_follows : (v : Service) (w u : Flow) (c : Config) (n : ActionName) (xs : List Argument) (t : ObjRef) (y : Effect) → Focuses v w u c n xs t y → (x : Share) → Follows y (share v w c xs t x) (share v u c xs t x)
-share_follows v w u c n xs t y f Prepares = follow_step (rise_follows v w u y f.there c t)
-share_follows v w u c n xs t y f Runs = run_follows v w u c y (focused_here f) t
-share_follows v w u c n xs t y f Halts = halt_follows v w u c y (focused_here f) t
-share_follows v w u c n xs t y f Drops = follow_step (emit_follows v w u y f.there c t event.IsDeleted (Sure None))
-share_follows v w u c n xs t y f (Tells kind d) = emit_follows v w u y f.there c t kind d
-share_follows v w u c n xs t y f Sends = sends_follows v w u c y f.there xs f.sent
-share_follows v w u c n xs t y f Changes = change_follows v w u y f.there c t f.own
-share_follows v w u c n xs t y f Slots = follow_itself y (option_map_or (slots c) (part_at t (present v c)) Nothing)
-
-put_follows : (v : Service) (w u : Flow) (c : Config) (n : ActionName) (xs : List Argument) (t : ObjRef) (y : Effect) → Focuses v w u c n xs t y → Follows y (most_price (sum_price (share v w c xs t)) (ways n xs)) (most_price (sum_price (share v u c xs t)) (ways n xs))
-put_follows v w u c n xs t y f =
-    follow_most y (λ (ps : List Share). sum_price (share v w c xs t) ps) (λ (ps : List Share). sum_price (share v u c xs t) ps)
-    (λ ps. follow_sum y (share v w c xs t) (share v u c xs t) (share_follows v w u c n xs t y f) ps) (ways n xs)
-
 done_follows : (v : Service) (w u : Flow) (c : Config) (n : ActionName) (xs : List Argument) (t : ObjRef) (y : Effect) → Focuses v w u c n xs t y → Follows y (done_to v w c n xs t) (done_to v u c n xs t)
-done_follows v w u c action.TransitionTo xs t y f = follow_plus (leave_scene_follows v w u c y (focused_here f)) (exchange_follows v w u c y t.group f.led (focused_led f refl))
-done_follows v w u c action.Launch xs t y f = follow_plus (leave_all_follows v w u c y (focused_here f)) (exchange_follows v w u c y t.group f.led (focused_led f refl))
-done_follows v w u c action.Quit xs t y f = follow_plus (leave_all_follows v w u c y (focused_here f)) (follow_itself y One)
-done_follows v w u c n xs t y f = put_follows v w u c n xs t y f
+done_follows v w u c n xs t y f =
+    done_near (FollowsAt v y) (Follows y) (Keeps v y) (passes_at v y) (passes y) (λ r p q h. h.0) (follow_sets v y) (around v w c) (around v u c) n xs t near
+  where
+    near : NearDone (FollowsAt v y) (Follows y) (Keeps v y) (around v w c) (around v u c) n xs t
+    near = record {
+      lists = lists_follow v w u c y (focused_here f);
+      leave = leaves_follow v w u c y (focused_here f);
+      exchange = λ leads. exchange_follows v w u c y t.group f.led (λ may. focused_led f leads may);
+      own = f.own;
+      sent = f.sent;
+    }
 
 -- what the action comes to, done to the object, counts the effect by the smaller flow too
 pub focused : (v : Service) (w u : Flow) (c : Config) (n : ActionName) (xs : List Argument) (t : ObjRef) (y : Effect) → Focuses v w u c n xs t y → counts y (done_to v w c n xs t) ≡ true → counts y (done_to v u c n xs t) ≡ true

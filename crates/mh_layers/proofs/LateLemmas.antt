@@ -1,5 +1,5 @@
--- Late scenes: what a loop over active actions makes is the most over all late scenes to which they lead.
-use Rattle.std.specs.Prelude.{◌≡◌, ℕ, ◌==◌, Bool, true, false, ◌&&◌, if◌then◌else◌, cond, List, [], ◌∷◌, ◌++◌, filter, fold, length, map, Result, Ok, refl}
+-- Late scenes: a loop over active actions goes over all late scenes to which they lead.
+use Rattle.std.specs.Prelude.{◌≡◌, ℕ, ◌==◌, Bool, true, false, ◌&&◌, cond, List, [], ◌∷◌, ◌++◌, filter, length, map, IfOk, Result, refl}
 use Rattle.std.specs.List.{flat_map}
 use Rattle.std.proofs.Common.{arith, ap, ◌∙◌, sym}
 use Rattle.std.proofs.Math.Bool.{and-false}
@@ -15,21 +15,11 @@ use Rattle.mh_model.specs.Service.{Service}
 use Rattle.mh_laws.specs.Active.{active_actions}
 use Rattle.mh_laws.specs.Costs.{can_lead_to_late, late_by, late_scenes, targets}
 use Rattle.mh_laws.specs.Flow.{Flow}
-use Rattle.mh_laws.specs.Price.{Nothing}
+use Rattle.mh_laws.specs.Price.{Price, most_price}
+use Rattle.mh_prices.specs.Meter.{Meter, raise}
 use Rattle.mh_flow.specs.Sites.{Site, sites_of}
 use Rattle.mh_flow.proofs.SiteLemmas.{through_active}
-use Rattle.mh_layers.specs.declared.node_key.NodeKey.{NodeKey}
-use Rattle.mh_layers.specs.Around as around
-use Rattle.mh_layers.specs.Known.{known_worth, larger}
-use Rattle.mh_layers.specs.Reading.{Spot, around_at, flow_read, known_at}
-use Rattle.mh_layers.specs.Sums.{most_from, mosted}
-use Rattle.mh_layers.specs.Taking.{change_worth, with_act, with_object}
-use Rattle.mh_layers.proofs.SumLemmas.{known_most}
-use Rattle.mh_layers.proofs.TakenReadLemmas.{mosted_more}
-
--- the late scenes to which an action of this name leads, done to these objects
-abbrev late_among : Service → ActionName → List ObjRef → List (List ℕ)
-late_among v n rs = map (λ (r : ObjRef). r.group) (filter (can_lead_to_late v n) rs)
+use Rattle.mh_layers.specs.Taking.{late_among}
 
 -- No scene is late
 
@@ -52,49 +42,30 @@ is_nothing : (gs : List (List ℕ)) → (length gs == 0) ≡ true → gs ≡ []
 is_nothing [] e = refl
 is_nothing (g ∷ gs) e = let no : length (g ∷ gs) ≡ 0 = (Decides-eqb (length (g ∷ gs)) 0).0 e in absurd (omega (arith, no))
 
-pub no_scenes : (s : Spot) (late : List (List ℕ)) → late ≡ s.reading.service.late → (length late == 0) ≡ true
-    → Ok 0 ≡ known_worth (known_at s) (most_from (around.scene_change (around_at s)) Nothing (late_scenes s.reading.service (flow_read s.reading) s.config))
-no_scenes s late all none =
-    ap (λ (gs : List (List ℕ)). known_worth (known_at s) (most_from (around.scene_change (around_at s)) Nothing gs))
-    (sym (none_by s.reading.service (sym all ∙ is_nothing late none) (flow_read s.reading) s.config (active_actions (present s.reading.service s.config))))
+pub no_scenes : (v : Service) (w : Flow) (c : Config) (late : List (List ℕ)) → late ≡ v.late → (length late == 0) ≡ true → late_scenes v w c ≡ []
+no_scenes v w c late all none = none_by v (sym all ∙ is_nothing late none) w c (active_actions (present v c))
 
 -- Some are
 
-object_comes : (s : Spot) (n : ActionName) (b : Result ℕ NodeKey) (r : ObjRef) (t : Bool) → can_lead_to_late s.reading.service n r ≡ t → with_object s n b r ≡ (if t then larger b (change_worth s r.group) else b)
-unfolding with_object
-object_comes s n b r t e = ap (λ (u : Bool). if u then larger b (change_worth s r.group) else b) e
-
-objects_come : (s : Spot) (n : ActionName) (b : Result ℕ NodeKey) (rs : List ObjRef) → fold (with_object s n) b rs ≡ mosted (change_worth s) b (late_among s.reading.service n rs)
-objects_come s n b [] = refl
-objects_come s n b (r ∷ rs) = objects_come s n (with_object s n b r) rs ∙ by (can_lead_to_late s.reading.service n r) refl
+pub one_late : {K S M : Type 0} (m : Meter K S M) (f : List ℕ → Price K) (v : Service) (n : ActionName) (r : ObjRef) (rs : List ObjRef) (b : M × S)
+    → raise m (most_price f (late_among v n (r ∷ rs))) b ≡ raise m (most_price f (late_among v n rs)) (raise m (most_price f (late_among v n (r ∷ []))) b)
+one_late {K} {S} {M} m f v n r rs b = by (can_lead_to_late v n r)
   where
-    with : (a : Result ℕ NodeKey) → with_object s n b r ≡ a → mosted (change_worth s) (with_object s n b r) (late_among s.reading.service n rs) ≡ mosted (change_worth s) a (late_among s.reading.service n rs)
-    with a e = ap (λ (x : Result ℕ NodeKey). mosted (change_worth s) x (late_among s.reading.service n rs)) e
+    groups : List ObjRef → List (List ℕ)
+    groups qs = map (λ (q : ObjRef). q.group) qs
 
-    by : (t : Bool) → can_lead_to_late s.reading.service n r ≡ t
-        → mosted (change_worth s) (with_object s n b r) (late_among s.reading.service n rs)
-        ≡ mosted (change_worth s) b (map (λ (q : ObjRef). q.group) (cond t (r ∷ filter (can_lead_to_late s.reading.service n) rs) (filter (can_lead_to_late s.reading.service n) rs)))
-    by true e = with (larger b (change_worth s r.group)) (object_comes s n b r true e)
-    by false e = with b (object_comes s n b r false e)
+    by : (t : Bool)
+        → raise m (most_price f (groups (cond t (r ∷ filter (can_lead_to_late v n) rs) (filter (can_lead_to_late v n) rs)))) b
+        ≡ raise m (most_price f (late_among v n rs)) (raise m (most_price f (groups (cond t (r ∷ []) []))) b)
+    by true = refl
+    by false = refl
 
-act_comes : (s : Spot) (b : Result ℕ NodeKey) (a : Act) → with_act s b a ≡ mosted (change_worth s) b (late_by s.reading.service (flow_read s.reading) s.config a)
-unfolding with_act
-act_comes s b a = objects_come s a.name b (targets (flow_read s.reading) s.config a.target)
+-- as sites tell them
+pub all_scenes : (v : Service) (w : Flow) (c : Config) (xs : List Site) → xs ≡ sites_of (present v c) → flat_map (λ (x : Site). late_by v w c x.act) xs ≡ late_scenes v w c
+all_scenes v w c xs are = ap (flat_map (λ (x : Site). late_by v w c x.act)) are ∙ through_active (late_by v w c) (present v c)
 
-sites_come : (s : Spot) (b : Result ℕ NodeKey) (xs : List Site) → fold (λ a x. with_act s a x.act) b xs ≡ mosted (change_worth s) b (flat_map (λ (x : Site). late_by s.reading.service (flow_read s.reading) s.config x.act) xs)
-sites_come s b [] = refl
-sites_come s b (x ∷ xs) =
-    sites_come s (with_act s b x.act) xs
-    ∙ ap (λ (a : Result ℕ NodeKey). mosted (change_worth s) a (flat_map (λ (y : Site). late s y.act) xs)) (act_comes s b x.act)
-    ∙ sym (mosted_more (change_worth s) b (late s x.act) (flat_map (λ (y : Site). late s y.act) xs))
-  where
-    late : Spot → Act → List (List ℕ)
-    late z a = late_by z.reading.service (flow_read z.reading) z.config a
+-- What a loop ends with
 
-pub all_scenes : (s : Spot) (xs ys : List Site) (total : Result ℕ NodeKey) → xs ≡ sites_of (present s.reading.service s.config) → ys ≡ xs → total ≡ fold (λ a x. with_act s a x.act) (Ok 0) ys
-    → total ≡ known_worth (known_at s) (most_from (around.scene_change (around_at s)) Nothing (late_scenes s.reading.service (flow_read s.reading) s.config))
-all_scenes s xs ys total are same is =
-    is ∙ sites_come s (Ok 0) ys
-    ∙ ap (λ (zs : List Site). mosted (change_worth s) (Ok 0) (flat_map (λ (x : Site). late_by s.reading.service (flow_read s.reading) s.config x.act) zs)) (same ∙ are)
-    ∙ ap (mosted (change_worth s) (Ok 0)) (through_active (late_by s.reading.service (flow_read s.reading) s.config) (present s.reading.service s.config))
-    ∙ sym (known_most (known_at s) (around.scene_change (around_at s)) Nothing (late_scenes s.reading.service (flow_read s.reading) s.config))
+-- where there is an answer, it is what is left of the largest, with the price behind it
+abbrev pub Raises : {K S M T N E : Type 0} → (N → M) → (T → S) → Meter K S M → Price K → M × S → Result (N × T) E → Type 0
+Raises {K} {S} {M} marked seen m p b r = IfOk r (λ x. ◌≡◌ {A = M × S} (marked x.0, seen x.1) (raise m p b))

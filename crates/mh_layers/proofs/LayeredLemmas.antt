@@ -24,7 +24,7 @@ use Rattle.mh_layers.specs.Layered.{active_keys, keys_active, keys_at, keys_of}
 use Rattle.mh_layers.specs.Layering.{AreLayers, CountsKept, NoneRanked, Places, is_laid}
 use Rattle.mh_layers.specs.Reading.{IsReading, Reading, config_number, flow_read, heard_read, kept, number, price}
 use Rattle.mh_laws.proofs.PriceLemmas.{nodes_both, nodes_map}
-use Rattle.mh_layers.specs.Around.{Key}
+use Rattle.mh_layers.specs.Key.{Key}
 use Rattle.mh_layers.specs.Keys.{Heard, IsKept, IsMet, price_of}
 use Rattle.mh_layers.specs.Known.{known_worth, told, told_of, top}
 use Rattle.mh_layers.specs.Numbered.{AreNamed}

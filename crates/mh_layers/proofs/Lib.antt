@@ -3,7 +3,8 @@ pub mod PlaceLemmas
 pub mod LayingLemmas
 pub mod ExactLemmas
 pub mod NamedLemmas
-pub mod SumLemmas
+pub mod OntoLemmas
+pub mod KnowingLemmas
 pub mod GroupedLemmas
 pub mod ReckonLemmas
 pub mod AgreeLemmas
@@ -25,7 +26,6 @@ pub mod ListeningLemmas
 pub mod ReadingLemmas
 pub mod SpotLemmas
 pub mod EffectLemmas
-pub mod PriceReadLemmas
 pub mod ServeLemmas
 pub mod BoundLemmas
 pub mod LayeredLemmas
@@ -36,7 +36,6 @@ pub mod AskedLemmas
 pub mod StandingLemmas
 pub mod GraphLemmas
 pub mod WalkLemmas
-pub mod TakenReadLemmas
 pub mod LateLemmas
 pub mod SetTimerLemmas
 pub mod RootLemmas
@@ -59,3 +58,4 @@ pub mod WayLemmas
 pub mod DoingLemmas
 pub mod NamingLemmas
 pub mod ActiveLemmas
+pub mod MostLemmas

@@ -10,7 +10,7 @@ use Rattle.mh_laws.specs.Flow.{Flow}
 use Rattle.mh_laws.specs.Layers.{IsOn, most_of}
 use Rattle.mh_laws.specs.Price.{Price, Nothing, counted_in, Nodes}
 use Rattle.mh_laws.proofs.PriceLemmas.{nodes_both, nodes_map, nodes_of, of_nodes}
-use Rattle.mh_layers.specs.Around.{Key, Effect, Fired, Entry, Change, Leave, Enter, Taken}
+use Rattle.mh_layers.specs.Key.{Key, Effect, Fired, Entry, Change, Leave, Enter, Taken}
 use Rattle.mh_layers.specs.Bridge.{IsHad, LayersAreRanks, RanksAreLayers, key_of, key_rank}
 use Rattle.mh_layers.specs.Keys.{Heard, IsKept, IsMet, level, price_of, stands_for}
 use Rattle.mh_layers.proofs.AgreeLemmas.{IsLow}

@@ -19,7 +19,7 @@ use Rattle.mh_model.specs.Variables.{same_value}
 use Rattle.mh_model.proofs.ListLemmas.{and_left, and_right}
 use Rattle.mh_laws.specs.Flow.{is_list_in, reached}
 use Rattle.mh_laws.proofs.NodeLemmas.{config_among}
-use Rattle.mh_layers.specs.Around.{Key, Effect, Fired, Entry, Change, Leave, Enter, Taken, Hearing, Plain, With, Any}
+use Rattle.mh_layers.specs.Key.{Key, Effect, Fired, Entry, Change, Leave, Enter, Taken, Hearing, Plain, With, Any}
 use Rattle.mh_layers.specs.Keys.{IsKept, is_named, values}
 use Rattle.mh_layers.specs.Listening.{ear_at, same_ear}
 use Rattle.std.specs.Map.{lookup}

@@ -17,7 +17,7 @@ use Rattle.mh_layers.specs.declared.bounds.InputKind.{InputKind}
 use Rattle.mh_layers.specs.declared.bounds.InputKind.TheVariants as kind
 use Rattle.mh_layers.specs.declared.node_key.NodeKey.{NodeKey}
 use Rattle.mh_layers.specs.declared.node_key.NodeKey.TheVariants as key
-use Rattle.mh_layers.specs.Around.{Taken}
+use Rattle.mh_layers.specs.Key.{Taken}
 use Rattle.mh_layers.specs.Bounding.{capped}
 use Rattle.mh_layers.specs.Keys.{takes}
 use Rattle.mh_layers.specs.Known.{top}

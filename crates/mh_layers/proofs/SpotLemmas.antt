@@ -1,42 +1,37 @@
 -- What is asked of a configuration of a net.
-use Rattle.std.specs.Prelude.{◌≡◌, ◌<◌, ◌^◌, ℕ, suc, Bool, true, false, ◌&&◌, ◌||◌, if◌then◌else◌, cond, List, [], ◌∷◌, ◌++◌, length, map, slice_get, position, unwrap_or, Option, Some, None, refl}
-use Rattle.std.specs.List.{list_all, list_any}
-use Rattle.std.specs.Option.{is_some, option_eq, option_map, option_map_or}
+use Rattle.std.specs.Prelude.{◌≡◌, ℕ, Bool, true, false, ◌&&◌, ◌||◌, if◌then◌else◌, cond, List, [], ◌∷◌, ◌++◌, length, map, slice_get, position, unwrap_or, Option, Some, None, refl}
+use Rattle.std.specs.List.{list_any}
+use Rattle.std.specs.Option.{is_some, option_eq, option_map}
 use Rattle.std.specs.Str.{bytes_eq}
-use Rattle.std.proofs.Common.{arith, inl, inr, ap, ◌∙◌, sym, leb-true}
+use Rattle.std.proofs.Common.{ap, ◌∙◌, sym}
 use Rattle.std.proofs.lemmas.Option.{get_or_from_slice_get}
 use Rattle.indexmap.specs.IndexSet.{insert_all, insert_key}
 use Rattle.mh_base.specs.declared.obj_ref.ObjRef.{ObjRef}
 use Rattle.mh_base.specs.declared.value.Value.{Value}
-use Rattle.mh_group.specs.Table.{is_application, is_link}
+use Rattle.mh_group.specs.Table.{is_application}
 use Rattle.mh_model.specs.declared.config.Config.{Config}
 use Rattle.mh_model.specs.declared.object.Fixed.{Fixed}
 use Rattle.mh_model.specs.Configuration.{is_group_of, present, same_config, same_scene, starting}
 use Rattle.mh_model.specs.Reference.{group_ref}
-use Rattle.mh_model.specs.Service.{Service, part_at}
-use Rattle.mh_model.proofs.ListLemmas.{and_left, and_right, some_same}
-use Rattle.mh_laws.specs.Each.{Among}
-use Rattle.mh_laws.specs.Flow.{Flow, reached}
+use Rattle.mh_model.specs.Service.{Service}
+use Rattle.mh_model.proofs.ListLemmas.{some_same}
+use Rattle.mh_laws.specs.Flow.{reached}
 use Rattle.mh_laws.specs.Safe.{exchanged}
-use Rattle.mh_laws.specs.Ways.{Sure, slots_of}
+use Rattle.mh_laws.specs.Ways.{Sure}
 use Rattle.mh_model.specs.Variables.{same_value}
-use Rattle.mh_layers.specs.Around.{Plain, With}
+use Rattle.mh_layers.specs.Key.{Plain, With}
 use Rattle.mh_laws.proofs.NodeLemmas.{config_among}
-use Rattle.mh_flow.specs.Chart.{all_parts}
 use Rattle.mh_flow.specs.Solved.{held_by, held_in}
 use Rattle.mh_flow.proofs.HeldLemmas.{get_mapped, held_is_set}
-use Rattle.mh_layers.specs.Around as around
-use Rattle.mh_layers.specs.Keys.{Heard, around_lists, hearing, net_around, slot_count}
-use Rattle.mh_layers.specs.Layering.{Places}
-use Rattle.mh_layers.specs.Reading.{IsReading, IsSpot, Reading, config_named, flow_read, has_few_slots, object_named, same_setting, setting, settings, spot_at, spot_in}
-use Rattle.mh_layers.proofs.ListeningLemmas.{present_among}
-use Rattle.mh_layers.proofs.MetLemmas.{found_among}
+use Rattle.mh_layers.specs.declared.node_key.Hears.TheVariants as hears
+use Rattle.mh_layers.specs.Keys.{hearing}
+use Rattle.mh_layers.specs.Reading.{IsReading, IsSpot, Reading, config_named, flow_read, hears_among, object_named, same_setting, setting, settings, spot_at, spot_in}
 use Rattle.mh_layers.proofs.PositionLemmas.{any_position, no_left, no_right, once_all, once_at, position_is, put_all}
 use Rattle.mh_layers.proofs.ReadingLemmas.{setting_itself, tells_settings}
 
-pub is_spot : (r : Reading) → IsReading r → (ts : Places) (n : ℕ) (c : Config) (ps : List Fixed) (lists : List (List ObjRef)) → slice_get (settings r) n ≡ Some c → slice_get (map (held_in r.service r.flow) (settings r)) n ≡ Some lists → ps ≡ present r.service c
-    → IsSpot (record { reading = r; places = ts; config = c }) n ps lists
-is_spot r read ts n c ps lists at held there = record {
+pub is_spot : (r : Reading) → IsReading r → (n : ℕ) (c : Config) (ps : List Fixed) (lists : List (List ObjRef)) → slice_get (settings r) n ≡ Some c → slice_get (map (held_in r.service r.flow) (settings r)) n ≡ Some lists → ps ≡ present r.service c
+    → IsSpot (record { reading = r; config = c }) n ps lists
+is_spot r read n c ps lists at held there = record {
   read = read;
   place = sym (ap (λ (o : Option ℕ). unwrap_or o (length (settings r))) (once_at same_setting tells_settings (settings r) (once_all same_setting [] (flow_read r).configs tt) n c at));
   there = there;
@@ -49,37 +44,10 @@ is_spot r read ts n c ps lists at held there = record {
     same : lists ≡ held_in r.service r.flow c
     same = some_same own
 
-pub named_spot : (r : Reading) (ts : Places) (n : ℕ) (c : Config) → slice_get (settings r) n ≡ Some c → record { reading = r; places = ts; config = c } ≡ spot_at r ts n
-named_spot r ts n c at =
+pub named_spot : (r : Reading) (n : ℕ) (c : Config) → slice_get (settings r) n ≡ Some c → spot_in r c ≡ spot_at r n
+named_spot r n c at =
     let same : c ≡ config_named r n = sym (get_or_from_slice_get (settings r) n c (starting r.service) at) in
-    λ i. record { reading = r; places = ts; config = same i }
-
--- slots are few where something is there
-
-passed : {X : Type 0} (t : X → Bool) (xs : List X) (x : X) → list_all t xs ≡ true → Among xs x → t x ≡ true
-passed t [] x all there = absurd cc
-passed t (y ∷ xs) x all (inl same) = ap t (sym same) ∙ and_left (t y) (list_all t xs) all
-passed t (y ∷ xs) x all (inr more) = passed t xs x (and_right (t y) (list_all t xs) all) more
-
-pub few_there : (r : Reading) → IsReading r → (c : Config) (o : ObjRef) (p : Fixed) → part_at o (present r.service c) ≡ Some p → has_few_slots p ≡ true
-few_there r read c o p at = passed has_few_slots (all_parts r.service) p read.few (present_among r.service c p (found_among o (present r.service c) p at).1)
-
-pub slots_few : (r : Reading) → IsReading r → (c : Config) (o : ObjRef) → option_map_or slot_count (part_at o (present r.service c)) 0 < 2 ^ 62
-slots_few r read c o = by (part_at o (present r.service c)) refl
-  where
-    cut : (b : Bool) (n : ℕ) → n < 2 ^ 62 → (if b then 0 else n) < 2 ^ 62
-    cut true n less = omega arith
-    cut false n less = less
-
-    by : (x : Option Fixed) → part_at o (present r.service c) ≡ x → option_map_or slot_count x 0 < 2 ^ 62
-    by None e = omega arith
-    by (Some p) e = cut (is_link p.class) (length (slots_of p)) (leb-true (suc (length (slots_of p))) (2 ^ 62) (few_there r read c o p e))
-
--- a change of what is no list
-
-pub change_lists : (v : Service) (w : Flow) (h : Heard) (c : Config) (r : ObjRef) → around.change (net_around v w h c) r ≡ around.change (around_lists v w h c) r
-unfolding around.change around.list_told around.run_alone around.halt_alone around.rise
-change_lists v w h c r = refl
+    λ i. record { reading = r; config = same i }
 
 -- what is reached has a number, and nothing else
 
@@ -124,18 +92,20 @@ reached_numbered r c = by (reached (flow_read r) c) refl ∙ any_position (same_
 pub got_there : (r : Reading) (n : ℕ) (o : ObjRef) → slice_get r.listeners.objects n ≡ Some o → o ≡ object_named r n
 got_there r n o at = sym (get_or_from_slice_get r.listeners.objects n o (group_ref []) at)
 
-pub named_in : (r : Reading) (ts : Places) (c : Config) (n : ℕ) → position (same_setting c) (settings r) ≡ Some n → spot_at r ts n ≡ spot_in r ts c
-named_in r ts c n at =
+pub named_in : (r : Reading) (c : Config) (n : ℕ) → position (same_setting c) (settings r) ≡ Some n → spot_at r n ≡ spot_in r c
+named_in r c n at =
     let same : config_named r n ≡ c = get_or_from_slice_get (settings r) n c (starting r.service) (position_is same_setting tells_settings (settings r) c n at) in
-    λ i. record { reading = r; places = ts; config = same i }
+    λ i. record { reading = r; config = same i }
 
 -- what is known of an event's data, by the number of the value
 
-pub not_named : (xs : List Value) (x : Value) → position (same_value x) xs ≡ None → hearing xs (Sure (Some x)) ≡ Plain
-not_named xs x e = ap (λ (b : Bool). if b then With x else Plain) (any_position (same_value x) xs ∙ ap is_some e)
+pub not_named : (xs : List Value) (x : Value) → position (same_value x) xs ≡ None → hears_among xs (hearing xs (Sure (Some x))) ≡ hears.Plain
+not_named xs x e = ap (λ (b : Bool). hears_among xs (if b then With x else Plain)) (any_position (same_value x) xs ∙ ap is_some e)
 
-pub named_there : (xs : List Value) (x : Value) (n : ℕ) → position (same_value x) xs ≡ Some n → hearing xs (Sure (Some x)) ≡ With x
-named_there xs x n e = ap (λ (b : Bool). if b then With x else Plain) (any_position (same_value x) xs ∙ ap is_some e)
+pub named_there : (xs : List Value) (x : Value) (n : ℕ) → position (same_value x) xs ≡ Some n → hears_among xs (hearing xs (Sure (Some x))) ≡ hears.With n
+named_there xs x n e =
+    ap (λ (b : Bool). hears_among xs (if b then With x else Plain)) (any_position (same_value x) xs ∙ ap is_some e)
+    ∙ ap (λ (o : Option ℕ). hears.With (unwrap_or o (length xs))) e
 
 -- where a group is entered from here
 

@@ -1,10 +1,11 @@
 -- The stages of a way: the dearest effect of those that a key puts to work, and its dearest action.
-use Rattle.std.specs.Prelude.{◌≡◌, ◌<◌, ◌≤◌, ◌+◌, ℕ, true, false, List, [], ◌∷◌, ◌++◌, map, min, slice_get, Option, Some, None, is_some, Result, Ok, refl}
+use Rattle.std.specs.Prelude.{◌≡◌, ◌<◌, ◌≤◌, ◌+◌, ℕ, true, false, List, [], ◌∷◌, ◌++◌, map, min, length, get_or, drop, slice_get, Option, Some, None, is_some, Result, Ok, refl}
 use Rattle.std.specs.List.{list_all}
 use Rattle.std.specs.Option.{option_map, option_map_or}
 use Rattle.std.specs.Ordering.{is_lt}
 use Rattle.std.proofs.Common.{arith, ap, ◌∙◌, sym, subst, append-nil, true≢false}
 use Rattle.std.proofs.Math.Seq.{append_snoc}
+use Rattle.std.proofs.lemmas.List.{drop_more}
 use Rattle.std.proofs.lemmas.Option.{slice_get-map}
 use Rattle.mh_model.specs.declared.act.Act.{Act}
 use Rattle.mh_model.specs.declared.config.Config.{Config}
@@ -27,7 +28,7 @@ use Rattle.mh_layers.specs.declared.node_key.NodeKey.TheVariants as key
 use Rattle.mh_layers.specs.declared.stages.Next.{Next}
 use Rattle.mh_layers.specs.declared.stages.Part.{Part}
 use Rattle.mh_layers.specs.declared.way.Stage.{Stage}
-use Rattle.mh_layers.specs.Around.{Key, Effect}
+use Rattle.mh_layers.specs.Key.{Key, Effect}
 use Rattle.mh_layers.specs.Bridge.{cost_by, key_cost, key_of}
 use Rattle.mh_layers.specs.Caused.{AreReached, CountsFrom, IsNamed}
 use Rattle.mh_layers.specs.Causing.{AreCaused, Counts}
@@ -38,7 +39,7 @@ use Rattle.mh_layers.specs.Deeds.{number_in}
 use Rattle.mh_layers.specs.Known.{known_worth, told, told_of, top}
 use Rattle.mh_layers.specs.Layered.{root_keys}
 use Rattle.mh_layers.specs.Layering.{AreLayers, Places, cost_of, is_laid, laid_in}
-use Rattle.mh_layers.specs.Reading.{IsReading, Reading, Spot, flow_read, heard_read, kept, known_by, name, number, price, spot_in, told_in}
+use Rattle.mh_layers.specs.Reading.{IsReading, Reading, Spot, flow_read, heard_read, kept, known_by, name, number, price, spot_in}
 use Rattle.mh_layers.specs.Staging.{AreStagesFrom, AreStagesTo, IsNext, IsPart, IsPartAt, IsStageBy, PutsFrom, act_worth, all_known}
 use Rattle.mh_layers.specs.Standings.{cause_named, effect_named}
 use Rattle.mh_layers.specs.Trails.{IsActive}
@@ -75,7 +76,6 @@ ok_same a b x h e = let both = sym h ∙ e in cc
 
 -- what is known of a key by its number is known by its name
 also_named : (r : Reading) (ts : Places) (k : Key) (a : ℕ) → known_by r ts k ≡ Ok a → told (cost_by ts (number r)) k ≡ Ok a
-unfolding told_in
 also_named r ts k a e = ap (told_of k) (told_some (number r k) (cost_by ts (number r) k) a e)
 
 -- what a price comes to over keys is its exact cost over effects, cut
@@ -96,7 +96,7 @@ told_exact r read ts layers f is n p q agrees c e =
 
 -- so an action's is
 act_exact : (r : Reading) → IsReading r → (ts : Places) → AreLayers (price r) (kept r) ts → (f : costs.Costing) → IsCost r.service (flow_read r) f → (c : Config) → reached (flow_read r) c ≡ true → (a : Act) (n : ℕ)
-    → act_worth (spot_in r ts c) a ≡ Ok n → n ≡ price_told f (act r.service (flow_read r) c a)
+    → act_worth r ts c a ≡ Ok n → n ≡ price_told f (act r.service (flow_read r) c a)
 act_exact r read ts layers f is c here a n e =
     told_exact r read ts layers f is 6 _ (act r.service (flow_read r) c a) (act_agrees (set by_worth f r.service (flow_read r) (heard_read r) (read_of r read)) c here a) n e
 
@@ -129,20 +129,20 @@ known_there : (o : Option ℕ) (w : Result ℕ NodeKey) → Some w ≡ option_ma
 known_there None w e = absurd cc
 known_there (Some c) w e = (c, refl, some_same e)
 
-part_exact : (r : Reading) → IsReading r → (ts : Places) → AreLayers (price r) (kept r) ts → (f : costs.Costing) → IsCost r.service (flow_read r) f → (c : Config) → reached (flow_read r) c ≡ true → (acts : List Act) (p : Part) → (is : IsPart (spot_in r ts c) acts p)
+part_exact : (r : Reading) → IsReading r → (ts : Places) → AreLayers (price r) (kept r) ts → (f : costs.Costing) → IsCost r.service (flow_read r) f → (c : Config) → reached (flow_read r) c ≡ true → (acts : List Act) (p : Part) → (is : IsPart r ts c acts p)
     → IsFirstLargest (λ (a : Act). price_told f (act r.service (flow_read r) c a)) acts p.offset is.act × (p.cost ≡ price_told f (act r.service (flow_read r) c is.act))
 part_exact r read ts layers f exact c here acts p is =
     first_of_list (λ (a : Act). price_told f (act r.service (flow_read r) c a)) acts is.costs p.offset p.cost is.act known is.first is.there
   where
     known : (m : ℕ) (a : Act) → slice_get acts m ≡ Some a → slice_get is.costs m ≡ Some (price_told f (act r.service (flow_read r) c a))
     known m a at =
-        let found = known_there (slice_get is.costs m) (act_worth (spot_in r ts c) a)
-        (ap (option_map (act_worth (spot_in r ts c))) (sym at) ∙ sym (slice_get-map (act_worth (spot_in r ts c)) acts m)
+        let found = known_there (slice_get is.costs m) (act_worth r ts c a)
+        (ap (option_map (act_worth r ts c)) (sym at) ∙ sym (slice_get-map (act_worth r ts c) acts m)
         ∙ ap (λ (ws : List (Result ℕ NodeKey)). slice_get ws m) is.known ∙ slice_get-map (λ (n : ℕ). Ok n) is.costs m) in
         found.1 ∙ ap (λ (n : ℕ). Some n) (act_exact r read ts layers f exact c here a found.0 found.2)
 
-pub part_found : (s : Spot) (acts : List Act) (costs seen : List ℕ) (n m : ℕ) (p : Part) → map (act_worth s) acts ≡ all_known costs → seen ≡ costs → IsLargest seen n → m ≡ number_at seen n → IsPartAt acts n m p → IsPart s acts p
-part_found s acts costs seen n m p known same largest is part = record {
+pub part_found : (r : Reading) (ts : Places) (c : Config) (acts : List Act) (costs seen : List ℕ) (n m : ℕ) (p : Part) → map (act_worth r ts c) acts ≡ all_known costs → seen ≡ costs → IsLargest seen n → m ≡ number_at seen n → IsPartAt acts n m p → IsPart r ts c acts p
+part_found r ts c acts costs seen n m p known same largest is part = record {
   costs = costs;
   known = known;
   first =
@@ -155,11 +155,11 @@ part_found s acts costs seen n m p known same largest is part = record {
 }
 
 -- the actions are those of the effect
-pub acts_found : (r : Reading) (ts us : Places) (k : NodeKey) (s : Spot) (p : Fixed) (n : ℕ) (acts : List Act) (part : Part) → us ≡ ts → s ≡ spot_in r us (effect_named r k).config → part_at (effect_named s.reading k).object (present s.reading.service s.config) ≡ Some p → n ≡ number_in k
-    → acts ≡ effect_at p n → IsPart s acts part → IsPart (spot_in r ts (effect_named r k).config) (acts_of r.service (effect_named r k)) part
+pub acts_found : (r : Reading) (ts us : Places) (k : NodeKey) (s : Spot) (p : Fixed) (n : ℕ) (acts : List Act) (part : Part) → us ≡ ts → s ≡ spot_in r (effect_named r k).config → part_at (effect_named s.reading k).object (present s.reading.service s.config) ≡ Some p → n ≡ number_in k
+    → acts ≡ effect_at p n → IsPart s.reading us s.config acts part → IsPart r ts (effect_named r k).config (acts_of r.service (effect_named r k)) part
 acts_found r ts us k s p n acts part laid spot found number are is =
-    subst (λ (xs : List Act). IsPart (spot_in r ts (effect_named r k).config) xs part) own
-    (subst (λ (vs : Places). IsPart (spot_in r vs (effect_named r k).config) acts part) laid (subst (λ (t : Spot). IsPart t acts part) spot is))
+    subst (λ (xs : List Act). IsPart r ts (effect_named r k).config xs part) own
+    (subst (λ (vs : Places). IsPart r vs (effect_named r k).config acts part) laid (subst (λ (t : Spot). IsPart t.reading us t.config acts part) spot is))
   where
     found_so : part_at (effect_named r k).object (present r.service (effect_named r k).config) ≡ Some p
     found_so = subst (λ (t : Spot). part_at (effect_named t.reading k).object (present t.reading.service t.config) ≡ Some p) spot found
@@ -252,8 +252,8 @@ stage_is r read ts layers all f exact js d best y on told n stage = record {
     own : effect_named r d.key ≡ y
     own = ap (effect_named r) (sym told) ∙ named_back r read y on
 
-    is : IsPart (spot_in r ts y.config) (acts_of r.service y) stage.part
-    is = subst (λ (x : costs.Effect). IsPart (spot_in r ts x.config) (acts_of r.service x) stage.part) own stage.is
+    is : IsPart r ts y.config (acts_of r.service y) stage.part
+    is = subst (λ (x : costs.Effect). IsPart r ts x.config (acts_of r.service x) stage.part) own stage.is
 
     here : reached (flow_read r) y.config ≡ true
     here = (on_is (set by_worth f r.service (flow_read r) (heard_read r) (read_of r read)) y on).here
@@ -338,3 +338,19 @@ stages_more r root k so_far new n are next now = record {
 
 pub stages_end : (r : Reading) (root k : NodeKey) (so_far : List Stage) → AreStagesTo r root so_far k → IsNext r k None → AreStagesFrom r root so_far
 stages_end r root k so_far are none = subst (AreStagesFrom r root) (append-nil so_far) (are.rest [] none)
+
+-- What actions cost
+
+known_last : {E : Type 0} (ns : List ℕ) (n : ℕ) (rest : List (Result ℕ E)) → map (λ (k : ℕ). Ok k) (ns ++ n ∷ []) ++ rest ≡ map (λ (k : ℕ). Ok k) ns ++ Ok n ∷ rest
+known_last [] n rest = refl
+known_last {E} (k ∷ ns) n rest = ap (λ (xs : List (Result ℕ E)). Ok k ∷ xs) (known_last ns n rest)
+
+-- one more is known
+pub one_known : (f : Act → Result ℕ NodeKey) (acts : List Act) (i : ℕ) (a : Act) (ns : List ℕ) (n : ℕ) (whole : List (Result ℕ NodeKey))
+    → i < length acts → a ≡ get_or acts i a → f a ≡ Ok n → all_known ns ++ map f (drop i acts) ≡ whole
+    → all_known (ns ++ n ∷ []) ++ map f (drop (i + 1) acts) ≡ whole
+one_known f acts i a ns n whole less is known before =
+    known_last ns n (map f (drop (i + 1) acts))
+    ∙ ap (λ (x : Result ℕ NodeKey). all_known ns ++ x ∷ map f (drop (i + 1) acts)) (sym known ∙ ap f is)
+    ∙ ap (λ (xs : List Act). all_known ns ++ map f xs) (sym (drop_more acts i a less))
+    ∙ before

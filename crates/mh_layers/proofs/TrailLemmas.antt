@@ -27,7 +27,7 @@ use Rattle.mh_layers.specs.declared.cycle.Best.{Best}
 use Rattle.mh_layers.specs.declared.node_key.NodeKey.{NodeKey}
 use Rattle.mh_layers.specs.declared.node_key.NodeKey.TheVariants as key
 use Rattle.mh_layers.specs.declared.trail.Stretch.{Stretch}
-use Rattle.mh_layers.specs.Around.{Key}
+use Rattle.mh_layers.specs.Key.{Key}
 use Rattle.mh_layers.specs.Arrows.{AreFirstArrows, AreGrantedBy, counts, goes_round, granted, is_action_in, is_action_of, is_waited_for, leads, leads_back, meets, puts}
 use Rattle.mh_layers.specs.Bridge.{key_of}
 use Rattle.mh_layers.specs.Causing as causing

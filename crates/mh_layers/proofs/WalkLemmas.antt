@@ -21,7 +21,7 @@ use Rattle.mh_laws.proofs.EachLemmas.{among_each, among_either, among_filtered, 
 use Rattle.mh_layers.specs.declared.cause.Cause.{Cause}
 use Rattle.mh_layers.specs.declared.cycle.Best.{Best}
 use Rattle.mh_layers.specs.declared.node_key.NodeKey.{NodeKey}
-use Rattle.mh_layers.specs.Around.{Key, Effect}
+use Rattle.mh_layers.specs.Key.{Key, Effect}
 use Rattle.mh_layers.specs.Bridge.{key_of}
 use Rattle.mh_layers.specs.Cycle as cycle
 use Rattle.mh_layers.specs.Cycle.{IsCycle, IsFirstCycle as IsFirst, AreFirstCycle, Leads, NoCycles, by_config, by_place, by_standing, cause_of}

@@ -16,7 +16,7 @@ use Rattle.mh_laws.specs.Layers.{Causes, IsOn}
 use Rattle.mh_laws.specs.Price.{Price, Nothing, One, Node, Plus, Most, counted_in}
 use Rattle.mh_laws.proofs.EachLemmas.{among_mapped, from_mapped, got_among}
 use Rattle.mh_layers.specs.declared.node_key.NodeKey.{NodeKey}
-use Rattle.mh_layers.specs.Around.{Key, Effect}
+use Rattle.mh_layers.specs.Key.{Key, Effect}
 use Rattle.mh_layers.specs.Bridge.{has_by, key_of, rank_by}
 use Rattle.mh_layers.specs.Causing as causing
 use Rattle.mh_layers.specs.Causing.{Counts, is_effect}

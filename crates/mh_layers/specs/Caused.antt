@@ -3,7 +3,7 @@ use Rattle.std.specs.Prelude.{◌≡◌, ◌<◌, ◌+◌, ℕ, false, List, sli
 use Rattle.indexmap.specs.IndexSet.{insert_all}
 use Rattle.mh_laws.specs.Each.{Among}
 use Rattle.mh_layers.specs.declared.node_key.NodeKey.{NodeKey}
-use Rattle.mh_layers.specs.Around.{Key}
+use Rattle.mh_layers.specs.Key.{Key}
 use Rattle.mh_layers.specs.Asked.{AreCounted}
 use Rattle.mh_layers.specs.Causing.{Counts}
 use Rattle.mh_layers.specs.NodeKeys.{same_key}

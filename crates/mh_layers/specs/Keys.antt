@@ -1,6 +1,6 @@
 -- The keys of a service: what each costs over other keys, and what it stands for over effects. A key is priced once,
 -- however often it is counted, so that prices stay small.
-use Rattle.std.specs.Prelude.{◌≡◌, ℕ, zero, suc, Bool, true, false, ◌&&◌, not, if◌then◌else◌, List, [], length, reverse, Option, Some, None, pos}
+use Rattle.std.specs.Prelude.{◌≡◌, ℕ, zero, suc, Bool, true, false, ◌&&◌, not, if◌then◌else◌, List, [], reverse, Option, Some, None, pos}
 use Rattle.std.specs.List.{list_any}
 use Rattle.std.specs.Option.{option_map_or}
 use Rattle.mh_base.specs.declared.obj_ref.ObjRef.{ObjRef}
@@ -26,15 +26,16 @@ use Rattle.mh_laws.specs.Costs as costs
 use Rattle.mh_laws.specs.Each.{Among}
 use Rattle.mh_laws.specs.Flow.{Flow, is_list_in, reached}
 use Rattle.mh_laws.specs.Layers.{IsOn}
-use Rattle.mh_laws.specs.Price.{Price, Nothing, One, Node, Plus, Most, sum_price, if_price}
+use Rattle.mh_laws.specs.Price.{Price, Nothing, One, Node, Plus, Most, sum_price, most_price, if_price}
 use Rattle.mh_laws.specs.Safe.{exchanged}
-use Rattle.mh_laws.specs.Ways.{Told, Sure, Unsure, slots_of}
-use Rattle.mh_layers.specs.Around as around
-use Rattle.mh_layers.specs.Around.{Around, Key, Effect, Fired, Entry, Change, Leave, Enter, Taken, Hearing, Plain, With, Any}
+use Rattle.mh_laws.specs.View as view
+use Rattle.mh_laws.specs.View.{Around, Lists, View}
+use Rattle.mh_laws.specs.Ways.{Told, Sure, Unsure}
+use Rattle.mh_layers.specs.Inputs as inputs
+use Rattle.mh_layers.specs.Key.{Key, Effect, Fired, Entry, Change, Leave, Enter, Taken, Hearing, Plain, With, Any}
 use Rattle.mh_layers.specs.declared.bounds.InputKind.{InputKind}
 use Rattle.mh_layers.specs.declared.bounds.InputKind.TheVariants as kind
 use Rattle.mh_layers.specs.Grouped.{has, is_plain}
-use Rattle.mh_layers.specs.Sums.{sum_from, most_from}
 
 -- What is heard
 
@@ -73,7 +74,7 @@ told_by Plain = Sure None
 told_by (With x) = Sure (Some x)
 told_by Any = Unsure
 
--- What is asked of a configuration, by keys
+-- A configuration where keys are counted
 
 -- what an event of this hearing sets going: each link has its data in one hearing
 abbrev pub fired_at : Config → ObjRef → EventType → Hearing → Price Key
@@ -90,35 +91,41 @@ heard_with v c r kind d None = if is_sync kind then Nothing else One
 heard_with v c r kind d (Some xs) =
     if is_sync kind then fired_if_there v c r kind (hearing xs d) else Node (Entry r kind (hearing xs d))
 
--- a link has no slots
-abbrev pub slot_count : Fixed → ℕ
-slot_count p = if is_link p.class then 0 else length (slots_of p)
+abbrev pub effect : Config → ℕ → Fixed → Price Key
+effect c n p = Node (Effect c p.key n)
 
--- without changes of lists
-abbrev pub around_lists : Service → Flow → Heard → Config → Around
-around_lists v w h c = record {
+abbrev pub objects : Service → Flow → Heard → Config → View Key
+objects v w h c = record {
   part = λ r. part_at r (present v c);
-  dealt_with = λ r kind d. heard_with v c r kind d (h r kind);
-  effect = λ r n. if_price (is_there r (present v c)) (Node (Effect c r n));
-  slots = λ r. option_map_or slot_count (part_at r (present v c)) 0;
   set = w.sets c;
-  change = λ r. Nothing;
+  dealt_with = λ r kind d. heard_with v c r kind d (h r kind);
+  slots = λ p. most_price (λ n. effect c n p) (costs.slot_numbers p);
+}
+
+-- a change has a key where it is a list's
+abbrev pub lists : Service → Flow → Heard → Config → Lists Key
+lists v w h c = record {
+  view = objects v w h c;
+  change = λ r. if is_list_in (present v c) r then Node (Change c r) else view.change (objects v w h c) r;
+}
+
+abbrev pub net_around : Service → Flow → Heard → Config → Around Key
+net_around v w h c = record {
+  lists = lists v w h c;
   leave = λ all. Node (Leave c all);
   exchange = λ g. Plus One (if_price (reached w (exchanged v c g)) (Node (Enter (exchanged v c g))));
 }
 
--- a change has a key where it is a list's
-abbrev pub net_around : Service → Flow → Heard → Config → Around
-net_around v w h c = record (around_lists v w h c) {
-  change = λ r. if is_list_in (present v c) r then Node (Change c r) else around.change (around_lists v w h c) r;
-}
+-- an effect of a group of the configuration
+abbrev pub group_effect : Service → Config → ℕ → List ℕ → Price Key
+group_effect v c n g = if_price (is_there (group_ref g) (present v c)) (Node (Effect c (group_ref g) n))
 
 -- What a key costs over other keys
 
 -- the links that wait for an event and whose data is so
 abbrev pub links_with : Service → Config → ObjRef → EventType → (Option Value → Bool) → Price Key
 links_with v c r kind is =
-    sum_from (λ (p : Fixed). if_price (waits_for r kind p && is (data_of p)) (Node (Effect c p.key costs.link_effect))) Nothing (present v c)
+    sum_price (λ (p : Fixed). if_price (waits_for r kind p && is (data_of p)) (effect c costs.link_effect p)) (present v c)
 
 abbrev pub values : Option (List Value) → List Value
 values None = []
@@ -128,22 +135,15 @@ abbrev pub fired_price : Service → Heard → Config → ObjRef → EventType �
 fired_price v h c r kind Plain = links_with v c r kind is_plain
 fired_price v h c r kind (With x) = links_with v c r kind (has same_value x)
 fired_price v h c r kind Any =
-    Plus (Node (Fired c r kind Plain)) (most_from (λ x. Node (Fired c r kind (With x))) Nothing (values (h r kind)))
+    Plus (Node (Fired c r kind Plain)) (most_price (λ x. Node (Fired c r kind (With x))) (values (h r kind)))
 
-abbrev pub scene_closes : Around → Option (List ℕ) → Price Key
-scene_closes a None = Nothing
-scene_closes a (Some g) = a.effect (group_ref g) costs.on_close_down
+abbrev pub scene_closes : Service → Config → Price Key
+scene_closes v c = option_map_or (group_effect v c costs.on_close_down) c.scene Nothing
 
 abbrev pub leave_price : Service → Flow → Heard → Config → Bool → Price Key
-leave_price v w h c false =
-    Plus (scene_closes (net_around v w h c) c.scene)
-    (Plus (around.all_halted (net_around v w h c) (scene_parts v c.scene))
-    (around.unshared_halted (net_around v w h c) (group_parts v c.app)))
+leave_price v w h c false = view.leave_scene (lists v w h c) (scene_closes v c) (scene_parts v c.scene) (group_parts v c.app)
 leave_price v w h c true =
-    Plus (scene_closes (net_around v w h c) c.scene)
-    (Plus ((net_around v w h c).effect (group_ref c.app) costs.on_close_down)
-    (Plus (around.all_halted (net_around v w h c) (scene_parts v c.scene))
-    (around.all_halted (net_around v w h c) (group_parts v c.app))))
+    view.leave_all (lists v w h c) (scene_closes v c) (group_effect v c costs.on_close_down c.app) (scene_parts v c.scene) (group_parts v c.app)
 
 -- what the links put that wait for such an event, whatever its data; nothing where none waits
 abbrev pub fired_of : Config → ObjRef → EventType → Option (List Value) → Price Key
@@ -162,15 +162,15 @@ every_timer v w = insert_all costs.same_timer [] (reverse (costs.set_timers v w)
 abbrev pub taken_price : Service → Flow → Heard → Config → InputKind → Price Key
 taken_price v w h c kind.Start = Node (Enter c)
 taken_price v w h c kind.Key =
-    Plus One (Most (heard_key h c c.scene) (most_from (around.pressed (net_around v w h c)) Nothing (present v c)))
+    Plus One (Most (heard_key h c c.scene) (most_price (inputs.pressed (objects v w h c)) (present v c)))
 taken_price v w h c kind.Tick =
-    Plus One (sum_from (around.timer_due (net_around v w h c) (costs.is_group_in c)) Nothing (every_timer v w))
-taken_price v w h c kind.Stream = Plus One (sum_from (around.stream_told (net_around v w h c)) Nothing (present v c))
+    Plus One (sum_price (inputs.timer_due (objects v w h c) (costs.is_group_in c)) (every_timer v w))
+taken_price v w h c kind.Stream = Plus One (sum_price (inputs.stream_told (objects v w h c)) (present v c))
 taken_price v w h c kind.Engine =
     Plus One (fired_of c (group_ref c.app) event.EngineEvent (h (group_ref c.app) event.EngineEvent))
 taken_price v w h c kind.Arrive =
-    Plus One (Most (sum_from (around.content_told (net_around v w h c)) Nothing (present v c))
-    (most_from (around.scene_change (net_around v w h c)) Nothing (costs.late_scenes v w c)))
+    Plus One (Most (sum_price (inputs.content_told (objects v w h c)) (present v c))
+    (most_price (inputs.scene_change (net_around v w h c)) (costs.late_scenes v w c)))
 
 -- the group that is entered when a configuration is
 abbrev pub entered : Config → Option (List ℕ) → List ℕ
@@ -179,16 +179,17 @@ entered c (Some g) = g
 
 -- an effect that is not active costs nothing
 abbrev pub effect_of : Service → Flow → Heard → Config → ℕ → Fixed → Price Key
-effect_of v w h c n p = if_price (is_active (present v c) p) (around.acts (net_around v w h c) (costs.effect_at p n))
+effect_of v w h c n p = if_price (is_active (present v c) p) (view.acts (net_around v w h c) (costs.effect_at p n))
 
 abbrev pub price_of : Service → Flow → Heard → Key → Price Key
 price_of v w h (Effect c r n) = option_map_or (effect_of v w h c n) (part_at r (present v c)) Nothing
 price_of v w h (Fired c r kind g) = fired_price v h c r kind g
-price_of v w h (Entry r kind g) = Plus One (most_from (λ c. fired_if_there v c r kind g) Nothing w.configs)
-price_of v w h (Change c r) = around.change (net_around v w h c) r
+price_of v w h (Entry r kind g) = Plus One (most_price (λ c. fired_if_there v c r kind g) w.configs)
+price_of v w h (Change c r) = view.change (objects v w h c) r
 price_of v w h (Leave c all) = leave_price v w h c all
 price_of v w h (Enter c) =
-    around.enter (net_around v w h c) (group_ref (entered c c.scene)) (group_parts v (entered c c.scene))
+    view.enter (lists v w h c) (group_effect v c costs.on_start_up (entered c c.scene)) (group_ref (entered c c.scene))
+    (group_parts v (entered c c.scene))
 price_of v w h (Taken c k) = taken_price v w h c k
 
 -- What a key stands for, over effects
@@ -201,10 +202,6 @@ abbrev pub fires : Service → Config → ObjRef → EventType → Hearing → P
 fires v c r kind Plain = costs.fired v c r kind (Sure None)
 fires v c r kind (With x) = bucket v c r kind x
 fires v c r kind Any = costs.fired v c r kind Unsure
-
-abbrev pub leaves : Service → Flow → Config → Bool → Price costs.Effect
-leaves v w c false = costs.leave_scene v w c
-leaves v w c true = costs.leave_all v w c
 
 abbrev pub takes : Service → Flow → Config → InputKind → Price costs.Effect
 takes v w c kind.Start = costs.enter v w c (entered c c.scene)
@@ -219,7 +216,7 @@ stands_for v w (Effect c r n) = Node (record { config = c; object = r; number = 
 stands_for v w (Fired c r kind g) = fires v c r kind g
 stands_for v w (Entry r kind g) = costs.entry v w r kind (told_by g)
 stands_for v w (Change c r) = costs.change v w c r
-stands_for v w (Leave c all) = leaves v w c all
+stands_for v w (Leave c all) = costs.leaves v w c all
 stands_for v w (Enter c) = costs.enter v w c (entered c c.scene)
 stands_for v w (Taken c k) = takes v w c k
 

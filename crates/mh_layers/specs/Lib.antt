@@ -3,8 +3,8 @@ pub mod NodeKeys
 pub mod NodeKeyLaws
 pub mod Layering
 pub mod Numbered
-pub mod Sums
-pub mod Around
+pub mod Key
+pub mod Inputs
 pub mod Grouped
 pub mod Keys
 pub mod Bridge

@@ -21,16 +21,15 @@ use Rattle.mh_model.specs.Variables.{same_value}
 use Rattle.mh_laws.specs.Costs as costs
 use Rattle.mh_laws.specs.Each.{Among}
 use Rattle.mh_laws.specs.Flow.{Flow}
-use Rattle.mh_laws.specs.Price.{Price, Nothing, Node}
+use Rattle.mh_laws.specs.Price.{Price, Node, Plus, sum_price}
 use Rattle.mh_flow.specs.Chart.{all_parts}
 use Rattle.mh_layers.specs.declared.node_key.NodeKey.{NodeKey}
 use Rattle.mh_layers.specs.declared.place.Ear.{Ear}
 use Rattle.mh_layers.specs.declared.place.Share.{Share}
 use Rattle.mh_layers.specs.declared.place.Place.{Place}
-use Rattle.mh_layers.specs.Around.{Key, Effect}
+use Rattle.mh_layers.specs.Key.{Key, Effect}
 use Rattle.mh_layers.specs.Keys.{Heard, HearsAll, data_of, links_with, waits_for}
 use Rattle.mh_layers.specs.Known.{known_worth}
-use Rattle.mh_layers.specs.Sums.{sum_from}
 
 -- What is named
 
@@ -201,7 +200,7 @@ link_node c p = Node (Effect c p.key costs.link_effect)
 
 abbrev pub waiting_links : Service → Config → (Fixed → Bool) → Price Key
 waiting_links v c t =
-    sum_from (link_node c) (sum_from (link_node c) Nothing (filter t (group_parts v c.app))) (filter t (scene_parts v c.scene))
+    Plus (sum_price (link_node c) (filter t (group_parts v c.app))) (sum_price (link_node c) (filter t (scene_parts v c.scene)))
 
 -- comes to what the sum over all that is present does, where the others add nothing
 abbrev pub SumsOverLinks : Type 0

@@ -1,6 +1,7 @@
 -- Keys by number and by name.
 use Rattle.std.specs.Prelude.{◌≡◌, ℕ, ◌<◌, Option, Some, Ok}
 use Rattle.mh_laws.specs.Price.{Price, Nothing, One, Node, Plus, Most, Nodes}
+use Rattle.mh_prices.specs.Meter.{Meter}
 use Rattle.mh_layers.specs.Known.{known_worth, told}
 
 -- a price over numbers
@@ -10,6 +11,10 @@ numbered g One = One
 numbered g (Node k) = Node (g k)
 numbered g (Plus p q) = Plus (numbered g p) (numbered g q)
 numbered g (Most p q) = Most (numbered g p) (numbered g q)
+
+-- a meter of numbers, as one of their names
+abbrev pub through : {K L S M : Type 0} → (K → L) → Meter L S M → Meter K S M
+through g m = record { one = m.one; node = λ k s. m.node (g k) s; aside = m.aside; next = m.next; close = m.close }
 
 -- costs and ranks by name: each key that has them costs what its price comes to, and its rank is above those that its
 -- price counts

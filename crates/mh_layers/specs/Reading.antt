@@ -1,8 +1,7 @@
 -- A service as it is read for its layers, and the numbers of its keys: a key is told by the places of its configuration, of
 -- its object and of its value, each among all of its kind.
-use Rattle.std.specs.Prelude.{◌≡◌, ◌^◌, nat_lt, ℕ, Bool, true, false, ◌&&◌, if◌then◌else◌, List, [], length, map, position, unwrap_or, get_or, Option, Result}
-use Rattle.std.specs.List.{list_all}
-use Rattle.std.specs.Option.{option_eq}
+use Rattle.std.specs.Prelude.{◌≡◌, ℕ, Bool, false, ◌&&◌, if◌then◌else◌, List, [], length, map, position, unwrap_or, get_or, Option, Result}
+use Rattle.std.specs.Option.{option_eq, option_map}
 use Rattle.std.specs.Str.{bytes_eq}
 use Rattle.indexmap.specs.IndexSet.{insert_all}
 use Rattle.mh_base.specs.declared.obj_ref.ObjRef.{ObjRef}
@@ -14,24 +13,24 @@ use Rattle.mh_model.specs.declared.config.Config.{Config}
 use Rattle.mh_model.specs.declared.object.Fixed.{Fixed}
 use Rattle.mh_model.specs.Configuration.{present, starting}
 use Rattle.mh_model.specs.Reference.{group_ref, same_key}
-use Rattle.mh_model.specs.Service.{Service}
+use Rattle.mh_model.specs.Service.{Service, is_there}
 use Rattle.mh_model.specs.Variables.{same_value}
 use Rattle.mh_laws.specs.Costs.{TimerKey}
 use Rattle.mh_laws.specs.Flow.{Flow}
-use Rattle.mh_laws.specs.Price.{Price, Node}
-use Rattle.mh_laws.specs.Ways.{slots_of}
-use Rattle.mh_flow.specs.Chart.{all_parts}
+use Rattle.mh_laws.specs.Price.{Price, Node, Plus, if_price}
+use Rattle.mh_laws.specs.View.{Around}
+use Rattle.mh_laws.specs.Ways.{Told}
 use Rattle.mh_flow.specs.Solved.{IsFlowOf, Solved, flow_in, held_by, held_in}
 use Rattle.mh_layers.specs.declared.node_key.Hears.{Hears}
 use Rattle.mh_layers.specs.declared.node_key.Hears.TheVariants as hears
 use Rattle.mh_layers.specs.declared.node_key.NodeKey.{NodeKey}
 use Rattle.mh_layers.specs.declared.node_key.NodeKey.TheVariants as key
-use Rattle.mh_layers.specs.Around.{Around, Key, Effect, Fired, Entry, Change, Leave, Enter, Taken, Hearing, Plain, With, Any}
+use Rattle.mh_layers.specs.Key.{Key, Effect, Fired, Entry, Change, Leave, Enter, Taken, Hearing, Plain, With, Any}
 use Rattle.mh_layers.specs.Bridge.{AreNumbers, KeptBy}
-use Rattle.mh_layers.specs.Keys.{Heard, around_lists, every_timer, fired_if_there, net_around, price_of, values}
-use Rattle.mh_layers.specs.Known.{known_worth, told}
+use Rattle.mh_layers.specs.Keys.{Heard, every_timer, hearing, net_around, price_of, values}
+use Rattle.mh_layers.specs.Known.{told}
 use Rattle.mh_layers.specs.Layering.{Places, cost_in}
-use Rattle.mh_layers.specs.Listening.{IsListening, Listeners, heard, link_node}
+use Rattle.mh_layers.specs.Listening.{IsListening, Listeners, heard}
 use Rattle.mh_layers.specs.Numbered.{numbered}
 
 pub record Reading : Type 0 where
@@ -45,15 +44,10 @@ flow_read r = flow_in r.service r.flow
 abbrev pub heard_read : Reading → Heard
 heard_read r = heard r.listeners
 
--- the slots of an object are few enough to be counted
-abbrev pub has_few_slots : Fixed → Bool
-has_few_slots p = nat_lt (length (slots_of p)) (2 ^ 62)
-
--- the flow is that of the service, the listeners are all of its links, and slots can be counted
+-- the flow is that of the service, and the listeners are all of its links
 pub record IsReading (r : Reading) : Type 0 where
   pub flow : IsFlowOf r.service r.flow
   pub listening : IsListening r.service r.listeners
-  pub few : list_all has_few_slots (all_parts r.service) ≡ true
 
 -- Places
 
@@ -85,10 +79,14 @@ config_number r c = place_among (same_setting c) (settings r)
 abbrev pub object_number : Reading → ObjRef → ℕ
 object_number r o = place_among (same_key o) r.listeners.objects
 
+-- a hearing, by the number of its value among those that are named
+abbrev pub hears_among : List Value → Hearing → Hears
+hears_among xs Plain = hears.Plain
+hears_among xs (With x) = hears.With (place_among (same_value x) xs)
+hears_among xs Any = hears.Any
+
 abbrev pub hears_number : Reading → ObjRef → EventType → Hearing → Hears
-hears_number r o kind Plain = hears.Plain
-hears_number r o kind (With x) = hears.With (place_among (same_value x) (values_read r o kind))
-hears_number r o kind Any = hears.Any
+hears_number r o kind g = hears_among (values_read r o kind) g
 
 -- the number of a key
 abbrev pub number : Reading → Key → NodeKey
@@ -147,61 +145,49 @@ pub record IsNet (r : Reading) (cs keys : List Config) (lists : List (List (List
   pub held : lists ≡ map (held_in r.service r.flow) keys
   pub timers : ts ≡ every_timer r.service (flow_read r)
 
--- a configuration of a net, where some costs are known
+-- a configuration of a net
 pub record Spot : Type 0 where
   pub reading : Reading
-  pub places : Places
   pub config : Config
 
-abbrev pub around_at : Spot → Around
+abbrev pub around_at : Spot → Around Key
 around_at s = net_around s.reading.service (flow_read s.reading) (heard_read s.reading) s.config
 
--- the same without changes of lists
-abbrev pub still_at : Spot → Around
-still_at s = around_lists s.reading.service (flow_read s.reading) (heard_read s.reading) s.config
-
--- what is told of a key, by its number
-unfoldable pub told_in : Places → NodeKey → Result ℕ NodeKey
-told_in ts n = told (cost_in ts) n
-
+-- what is known of a key, by its number
 abbrev pub known_by : Reading → Places → Key → Result ℕ NodeKey
-known_by r ts k = told_in ts (number r k)
+known_by r ts k = told (cost_in ts) (number r k)
 
-abbrev pub known_at : Spot → Key → Result ℕ NodeKey
-known_at s k = known_by s.reading s.places k
+-- a configuration by its number, and by its name
+abbrev pub spot_at : Reading → ℕ → Spot
+spot_at r n = record { reading = r; config = config_named r n }
 
--- a configuration by its number
-abbrev pub spot_at : Reading → Places → ℕ → Spot
-spot_at r ts n = record { reading = r; places = ts; config = config_named r n }
+abbrev pub spot_in : Reading → Config → Spot
+spot_in r c = record { reading = r; config = c }
 
--- the same by its name, and what an event of such a hearing sets going there
-abbrev pub spot_in : Reading → Places → Config → Spot
-spot_in r ts c = record { reading = r; places = ts; config = c }
+-- Numbers of keys of the configuration
 
-abbrev pub there_worth : Reading → Places → ObjRef → EventType → Hearing → Config → Result ℕ NodeKey
-there_worth r ts o kind g c = known_worth (known_by r ts) (fired_if_there r.service c o kind g)
+abbrev pub effect_key : Spot → ObjRef → ℕ → NodeKey
+effect_key s o n = key.Effect (config_number s.reading s.config) (object_number s.reading o) n
 
--- the number of what an event of a source sets going here, and of its entry
 abbrev pub fired_key : Spot → ObjRef → EventType → Hears → NodeKey
 fired_key s o kind g = key.Fired (config_number s.reading s.config) (object_number s.reading o) kind g
 
-abbrev pub entry_key : Spot → ObjRef → EventType → Hears → NodeKey
-entry_key s o kind g = key.Entry (object_number s.reading o) kind g
+-- what an event of a hearing with this number sets going, all of it, and if its source is there
+abbrev pub fired_by : Spot → ObjRef → EventType → Hears → Price NodeKey
+fired_by s o kind hears.Plain = Node (fired_key s o kind hears.Plain)
+fired_by s o kind (hears.With n) = Plus (Node (fired_key s o kind hears.Plain)) (Node (fired_key s o kind (hears.With n)))
+fired_by s o kind hears.Any = Node (fired_key s o kind hears.Any)
 
--- an event that links hear is dealt with at once, or waits
-abbrev pub dealt_at : Spot → ObjRef → EventType → Hearing → Price Key
-dealt_at s o kind g = if is_sync kind then fired_if_there s.reading.service s.config o kind g else Node (Entry o kind g)
+abbrev pub there_by : Spot → ObjRef → EventType → Hears → Price NodeKey
+there_by s o kind g = if_price (is_there o (present s.reading.service s.config)) (fired_by s o kind g)
 
--- what a key costs over others
-abbrev pub spot_price : Spot → Key → Price Key
-spot_price s k = price_read s.reading k
+-- such an event is dealt with at once, or waits
+abbrev pub dealt_by : Spot → ObjRef → EventType → Hears → Price NodeKey
+dealt_by s o kind g = if is_sync kind then there_by s o kind g else Node (key.Entry (object_number s.reading o) kind g)
 
--- what is told of a link's effect, and of the links with a value
-abbrev pub link_worth : Spot → Fixed → Result ℕ NodeKey
-link_worth s p = known_worth (known_at s) (link_node s.config p)
-
-abbrev pub value_worth : Spot → ObjRef → EventType → Value → Result ℕ NodeKey
-value_worth s o kind x = known_at s (Fired s.config o kind (With x))
+-- the number of the hearing of an event of which this is known, if a link hears it
+abbrev pub hears_told : Reading → ObjRef → EventType → Told → Option Hears
+hears_told r o kind d = option_map (λ xs. hears_among xs (hearing xs d)) (heard_read r o kind)
 
 -- the number is that of the configuration, and this is present and held there
 pub record IsSpot (s : Spot) (n : ℕ) (ps : List Fixed) (lists : List (List ObjRef)) : Type 0 where

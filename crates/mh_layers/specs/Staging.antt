@@ -4,6 +4,7 @@ use Rattle.mh_model.specs.declared.act.Act.{Act}
 use Rattle.mh_model.specs.declared.config.Config.{Config}
 use Rattle.mh_laws.specs.Costs.{Costing, Effect}
 use Rattle.mh_laws.specs.Layers.{IsCost}
+use Rattle.mh_laws.specs.View.{act}
 use Rattle.mh_layers.specs.declared.bounds.InputKind.{InputKind}
 use Rattle.mh_layers.specs.declared.dearest.Dearest.{Dearest}
 use Rattle.mh_layers.specs.declared.node_key.NodeKey.{NodeKey}
@@ -11,19 +12,18 @@ use Rattle.mh_layers.specs.declared.stages.Next.{Next}
 use Rattle.mh_layers.specs.declared.stages.Part.{Part}
 use Rattle.mh_layers.specs.declared.way.Stage.{Stage}
 use Rattle.mh_layers.specs.declared.way.Way.{Way}
-use Rattle.mh_layers.specs.Around as around
-use Rattle.mh_layers.specs.Around.{Taken}
+use Rattle.mh_layers.specs.Key.{Taken}
 use Rattle.mh_layers.specs.Bridge.{key_of}
 use Rattle.mh_layers.specs.Caused.{CountsFrom, IsNamed}
 use Rattle.mh_layers.specs.Dearest.{AreStages, IsFirstLargest, IsWay, acts_of}
 use Rattle.mh_layers.specs.Known.{known_worth}
 use Rattle.mh_layers.specs.Layering.{Places}
-use Rattle.mh_layers.specs.Reading.{Reading, Spot, around_at, flow_read, known_at, number, spot_in}
+use Rattle.mh_layers.specs.Reading.{Reading, around_at, flow_read, known_by, number, spot_in}
 use Rattle.mh_layers.specs.Standings.{effect_named}
 
 -- what is told of the cost of an action
-abbrev pub act_worth : Spot → Act → Result ℕ NodeKey
-act_worth s a = known_worth (known_at s) (around.act (around_at s) a)
+abbrev pub act_worth : Reading → Places → Config → Act → Result ℕ NodeKey
+act_worth r ts c a = known_worth (known_by r ts) (act (around_at (spot_in r c)) a)
 
 abbrev pub all_known : List ℕ → List (Result ℕ NodeKey)
 all_known ns = map (λ (n : ℕ). Ok n) ns
@@ -37,9 +37,9 @@ pub record IsPartAt (acts : List Act) (n m : ℕ) (p : Part) : Type 0 where
   pub name : p.action ≡ act.name
 
 -- this is the first of the actions that cost most, with its place among them and its cost
-pub record IsPart (s : Spot) (acts : List Act) (p : Part) : Type 0 where
+pub record IsPart (r : Reading) (ts : Places) (c : Config) (acts : List Act) (p : Part) : Type 0 where
   pub costs : List ℕ
-  pub known : map (act_worth s) acts ≡ all_known costs
+  pub known : map (act_worth r ts c) acts ≡ all_known costs
   pub first : IsFirstLargest (λ (n : ℕ). n) costs p.offset p.cost
   pub act : Act
   pub there : slice_get acts p.offset ≡ Some act
@@ -48,7 +48,7 @@ pub record IsPart (s : Spot) (acts : List Act) (p : Part) : Type 0 where
 -- the stage tells of the effect that was chosen, and of an action of it
 pub record IsStageBy (r : Reading) (ts : Places) (d : Dearest) (n : Next) : Type 0 where
   pub part : Part
-  pub is : IsPart (spot_in r ts (effect_named r d.key).config) (acts_of r.service (effect_named r d.key)) part
+  pub is : IsPart r ts (effect_named r d.key).config (acts_of r.service (effect_named r d.key)) part
   pub key : n.key ≡ d.key
   pub cause : n.stage.cause ≡ d.cause
   pub cost : n.stage.cost ≡ d.cost

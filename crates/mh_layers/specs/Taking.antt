@@ -1,44 +1,21 @@
--- What a loop adds for one object, one timer or one late scene, where an input is taken; and the bounds that are laid.
-use Rattle.std.specs.Prelude.{ℕ, if◌then◌else◌, List, [], ◌∷◌, fold, Option, Some, None, Result, max}
+-- The late scenes to which an action leads, and the bounds that are laid.
+use Rattle.std.specs.Prelude.{ℕ, List, [], ◌∷◌, filter, map, Option, Some, None, max}
 use Rattle.mh_base.specs.declared.obj_ref.ObjRef.{ObjRef}
 use Rattle.mh_group.specs.declared.action_name.ActionName.{ActionName}
-use Rattle.mh_model.specs.declared.act.Act.{Act}
 use Rattle.mh_model.specs.declared.config.Config.{Config}
-use Rattle.mh_model.specs.declared.object.Fixed.{Fixed}
 use Rattle.mh_model.specs.Configuration.{starting}
+use Rattle.mh_model.specs.Service.{Service}
 use Rattle.mh_laws.specs.Budget.{Bounds}
-use Rattle.mh_laws.specs.Costs.{TimerKey, can_lead_to_late, is_group_in, targets}
+use Rattle.mh_laws.specs.Costs.{can_lead_to_late}
 use Rattle.mh_layers.specs.declared.bounds.InputKind.{InputKind}
 use Rattle.mh_layers.specs.declared.bounds.InputKind.TheVariants as kind
-use Rattle.mh_layers.specs.declared.node_key.NodeKey.{NodeKey}
 use Rattle.mh_layers.specs.declared.node_key.NodeKey.TheVariants as key
-use Rattle.mh_layers.specs.Around as around
-use Rattle.mh_layers.specs.Known.{known_worth, larger}
 use Rattle.mh_layers.specs.Layering.{Places, cost_in}
-use Rattle.mh_layers.specs.Reading.{Reading, Spot, around_at, config_number, flow_read, known_at}
+use Rattle.mh_layers.specs.Reading.{Reading, config_number, flow_read}
 
-abbrev pub pressed_worth : Spot → Fixed → Result ℕ NodeKey
-pressed_worth s p = known_worth (known_at s) (around.pressed (around_at s) p)
-
-abbrev pub stream_worth : Spot → Fixed → Result ℕ NodeKey
-stream_worth s p = known_worth (known_at s) (around.stream_told (around_at s) p)
-
-abbrev pub content_worth : Spot → Fixed → Result ℕ NodeKey
-content_worth s p = known_worth (known_at s) (around.content_told (around_at s) p)
-
-abbrev pub timer_worth : Spot → TimerKey → Result ℕ NodeKey
-timer_worth s t = known_worth (known_at s) (around.timer_due (around_at s) (is_group_in s.config) t)
-
-abbrev pub change_worth : Spot → List ℕ → Result ℕ NodeKey
-change_worth s g = known_worth (known_at s) (around.scene_change (around_at s) g)
-
--- the larger of this and of what the transition costs, if an action of this name leads to a late scene, done to the object
-unfoldable pub with_object : Spot → ActionName → Result ℕ NodeKey → ObjRef → Result ℕ NodeKey
-with_object s n b r = if can_lead_to_late s.reading.service n r then larger b (change_worth s r.group) else b
-
--- the same for each object to which the action's target may come
-unfoldable pub with_act : Spot → Result ℕ NodeKey → Act → Result ℕ NodeKey
-with_act s b a = fold (with_object s a.name) b (targets (flow_read s.reading) s.config a.target)
+-- the late scenes to which an action of this name leads, done to these objects
+abbrev pub late_among : Service → ActionName → List ObjRef → List (List ℕ)
+late_among v n rs = map (λ (r : ObjRef). r.group) (filter (can_lead_to_late v n) rs)
 
 -- Bounds that are laid
 

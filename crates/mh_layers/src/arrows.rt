@@ -15,7 +15,6 @@ ghost use Rattle.mh_layers.specs.Trails.{IsActive, IsArrowOf, IsStep};
 use crate::arrow::{Arrow, By};
 use crate::at::At;
 use crate::cause::Cause;
-use crate::costs::Costs;
 use crate::deeds::{Doing, doing_of};
 use crate::effects::effect_acts;
 use crate::granting::held_for;
@@ -29,15 +28,15 @@ use mh_model::Fixed;
 use std::alloc::{AllocError, Global};
 
 /// The configuration of the effect.
-pub(crate) fn config_of<'a>(net: &'a Net<'_>, costs: &'a Costs, key: &NodeKey) -> At<'a>
+pub(crate) fn config_of<'a>(net: &'a Net<'_>, key: &NodeKey) -> At<'a>
     requires reading { IsReading net.now }
     requires active { IsActive net.now key.now }
-    ensures { result ≡ spot_in net.now costs.now (effect_named net.now key.now).config }
+    ensures { result ≡ spot_in net.now (effect_named net.now key.now).config }
 {
     let NodeKey::Effect(config, _, _) = key else {
         unreachable!();
     };
-    match At::of(net, costs, *config) {
+    match At::of(net, *config) {
         None => unreachable!(),
         Some(here) => here,
     }
@@ -114,7 +113,7 @@ fn arrow_between(
     requires reading { IsReading here.now.reading }
     requires step { IsStep here.now.reading from.now first.now to.now }
     requires here { here.now.config ≡ (effect_named here.now.reading from.now).config }
-    requires there { there.now ≡ spot_in here.now.reading there.now.places (effect_named here.now.reading to.now).config }
+    requires there { there.now ≡ spot_in here.now.reading (effect_named here.now.reading to.now).config }
     ensures { IfOk result (IsArrowOf here.now.reading from.now to.now) }
 {
     let aim = part_of(there, to);
@@ -122,7 +121,7 @@ fn arrow_between(
     let part = part_of(here, from);
     let cause = cause_at(here.net(), here.config(), &part.key, number_of(from))?;
     let acts = effect_acts(part, number_of(from));
-    match doing_of(alloc, here, acts, first)? {
+    match doing_of(here, acts, first)? {
         None => unreachable!(),
         Some(doing) => {
             let arrow = arrow_by(alloc, here, cause, &doing, aim, by)?;
@@ -143,8 +142,7 @@ pub(crate) fn arrow_for(
     requires step { IsStep net.now from.now first.now to.now }
     ensures { IfOk result (IsArrowOf net.now from.now to.now) }
 {
-    let costs = Costs::new(alloc)?;
-    let here = config_of(net, &costs, from);
-    let there = config_of(net, &costs, to);
+    let here = config_of(net, from);
+    let there = config_of(net, to);
     arrow_between(alloc, &here, &there, from, first, to)
 }

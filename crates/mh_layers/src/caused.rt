@@ -2,15 +2,14 @@
 //!
 //! Promise: each of them is found, and no other.
 ghost use Rattle.std.specs.Prelude.{◌≡◌, None, Some, false, slice_get, IfOk, OnOk};
-ghost use Rattle.mh_layers.specs.Asked.{NoneKnown};
 ghost use Rattle.mh_layers.specs.Caused.{AreReached, IsNamed, IsOpened, IsPut};
 ghost use Rattle.mh_layers.specs.Reading.{IsReading};
 ghost use Rattle.mh_layers.specs.Stretches.{is_effect_key};
 
-use crate::asked::{counted_keys, key_at, put_all};
-use crate::costs::Costs;
+use crate::asked::{key_at, put_all};
 use crate::net::Net;
 use crate::node_key::NodeKey;
+use crate::priced::counted_keys;
 use indexmap::IndexSet;
 use std::alloc::{AllocError, Global};
 
@@ -24,15 +23,12 @@ fn is_effect(key: &NodeKey) -> bool
 fn put_counted(
     alloc: Global,
     net: &Net<'_>,
-    costs: &mut Costs,
     found: &mut IndexSet<NodeKey>,
     key: &NodeKey,
 ) -> Result<(), AllocError>
-    requires { NoneKnown costs.old }
-    ensures none { OnOk result (NoneKnown costs.new) }
-    ensures put { OnOk result (IsPut net.now key.now found.old.keys found.new.keys) }
+    ensures { OnOk result (IsPut net.now key.now found.old.keys found.new.keys) }
 {
-    let row = counted_keys(alloc, net, costs, key)?;
+    let row = counted_keys(alloc, net, key)?;
     put_all(found, row.as_slice())?;
     Ok(())
 }
@@ -42,21 +38,18 @@ fn put_counted(
 fn open(
     alloc: Global,
     net: &Net<'_>,
-    costs: &mut Costs,
     found: &mut IndexSet<NodeKey>,
     place: usize,
     key: &NodeKey,
 ) -> Result<(), AllocError>
     requires reading { IsReading net.now }
-    requires none { NoneKnown costs.old }
     requires there { slice_get found.old.keys place ≡ Some key.now }
-    ensures none { OnOk result (NoneKnown costs.new) }
     ensures opened { OnOk result (IsOpened net.now place found.old.keys found.new.keys) }
 {
     if is_effect(key) {
         return Ok(());
     }
-    put_counted(alloc, net, costs, found, key)?;
+    put_counted(alloc, net, found, key)?;
     Ok(())
 }
 
@@ -65,27 +58,24 @@ fn open(
 fn open_at(
     alloc: Global,
     net: &Net<'_>,
-    costs: &mut Costs,
     found: &mut IndexSet<NodeKey>,
     place: usize,
 ) -> Result<bool, AllocError>
     requires reading { IsReading net.now }
-    requires none { NoneKnown costs.old }
-    ensures none { OnOk result (NoneKnown costs.new) }
     ensures opened { OnOk result (IsOpened net.now place found.old.keys found.new.keys) }
     ensures all { IfOk result (λ more. more ≡ false → slice_get found.new.keys place ≡ None) }
 {
     match key_at(found, place) {
         None => Ok(false),
         Some(key) => {
-            open(alloc, net, costs, found, place, &key)?;
+            open(alloc, net, found, place, &key)?;
             Ok(true)
         }
     }
 }
 
 /// All that the key counts, at once or by way of keys that are no effects.
-#[tactic(auto, using(crate::proofs::AskedLemmas::nothing_known, crate::proofs::CausedLemmas::opened_first, crate::proofs::CausedLemmas::all_opened))]
+#[tactic(auto, using(crate::proofs::CausedLemmas::opened_first, crate::proofs::CausedLemmas::all_opened))]
 pub(crate) fn reached_from(
     alloc: Global,
     net: &Net<'_>,
@@ -95,11 +85,10 @@ pub(crate) fn reached_from(
     requires root { IsNamed net.now root.now }
     ensures { IfOk result (λ found. AreReached net.now root.now found.keys) }
 {
-    let mut costs = Costs::new(alloc)?;
     let mut found = IndexSet::new(alloc);
-    put_counted(alloc, net, &mut costs, &mut found, root)?;
+    put_counted(alloc, net, &mut found, root)?;
     for place in 0..usize::MAX {
-        if !open_at(alloc, net, &mut costs, &mut found, place)? {
+        if !open_at(alloc, net, &mut found, place)? {
             return Ok(found);
         }
     }

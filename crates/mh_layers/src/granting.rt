@@ -11,7 +11,6 @@ ghost use Rattle.mh_laws.specs.Safe.{exchanged};
 ghost use Rattle.mh_layers.specs.Granting.{held_for, held_so, is_held_so, with_had, with_held, with_items, with_led, with_next, with_sent, with_source, with_target};
 ghost use Rattle.mh_layers.specs.Reading.{flow_read, spot_in};
 
-use crate::around::Around;
 use crate::arrow::Held;
 use crate::at::At;
 use crate::standing::copied_reference;
@@ -120,13 +119,13 @@ fn hold_lists(held: &mut Vec<Held>, here: &At<'_>, at: &ObjRef) -> Result<(), Al
 #[tactic(auto, using(crate::proofs::SpotLemmas::named_in, crate::proofs::SpotLemmas::reached_numbered))]
 fn beyond<'a>(here: &'a At<'_>, group: &GroupName) -> Option<At<'a>>
     ensures some { let s = here.now in let d = exchanged s.reading.service s.config group.now in
-        IfSome result (λ there. there ≡ spot_in s.reading s.places d) }
+        IfSome result (λ there. there ≡ spot_in s.reading d) }
     ensures reached { let s = here.now in let d = exchanged s.reading.service s.config group.now in
         is_some result ≡ reached (flow_read s.reading) d }
 {
     match here.exchanged(group) {
         None => None,
-        Some(number) => match At::of(here.net(), here.costs(), number) {
+        Some(number) => match At::of(here.net(), number) {
             None => unreachable!(),
             Some(there) => Some(there),
         },

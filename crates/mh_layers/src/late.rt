@@ -1,32 +1,28 @@
-//! What the file of a late scene costs that arrives: the transition that waits for it goes on.
+//! What the file of a late scene comes to that arrives: the transition that waits for it goes on.
 //!
-//! Promise: it is the most that such a transition costs, of all that active actions can begin; nothing, and no search, where
-//! no scene is late.
-ghost use Rattle.std.specs.Prelude.{◌≡◌, fold, IfOk, Ok};
+//! Promise: the largest is asked for of such transitions, of all that active actions can begin; nothing is searched where no scene
+//! is late.
+ghost use Rattle.std.specs.Prelude.{◌≡◌, ◌∷◌, [], IfOk};
+ghost use Rattle.std.specs.List.{flat_map};
 ghost use Rattle.mh_model.specs.Late.{is_late_scene};
-ghost use Rattle.mh_laws.specs.Costs.{can_lead_to_late, late_scenes};
-ghost use Rattle.mh_laws.specs.Price.{Nothing};
-ghost use Rattle.mh_layers.specs.Around as around_lem;
-ghost use Rattle.mh_layers.specs.Known.{known_worth};
-ghost use Rattle.mh_layers.specs.Reading.{around_at, flow_read, known_at};
-ghost use Rattle.mh_layers.specs.Sums.{most_from};
-ghost use Rattle.mh_layers.specs.Taking.{change_worth, with_act, with_object};
+ghost use Rattle.mh_laws.specs.Costs.{can_lead_to_late, late_by, late_scenes};
+ghost use Rattle.mh_laws.specs.Price.{most_price};
+ghost use Rattle.mh_prices.specs.Meter.{raise};
+ghost use Rattle.mh_layers.specs.Inputs as inputs;
+ghost use Rattle.mh_layers.specs.Numbered.{through};
+ghost use Rattle.mh_layers.specs.Reading.{around_at, flow_read, number as number_of};
+ghost use Rattle.mh_layers.specs.Taking.{late_among};
 
-use crate::around::Around;
 use crate::at::At;
-use crate::sums::{Worth, most, plus};
+use crate::inputs::scene_change;
+use crate::meter::Meter;
+use crate::walk::Walk;
 use mh_base::{GroupName, ObjRef};
 use mh_flow::Site;
 use mh_group::ActionName;
 use mh_model::{Act, Target};
+use mh_prices::Around;
 use std::alloc::AllocError;
-
-/// What a transition from here to the scene costs.
-fn scene_change(here: &At<'_>, scene: &GroupName) -> Worth
-    ensures { result ≡ change_worth here.now scene.now }
-{
-    plus(here.leave(false), here.exchange(scene))
-}
 
 fn is_late(scenes: &[GroupName], group: &GroupName) -> bool
     ensures { result ≡ is_late_scene group.now scenes.now }
@@ -46,60 +42,106 @@ fn leads_to_late(here: &At<'_>, name: ActionName, at: &ObjRef) -> bool
     }
 }
 
-/// The larger of this and of what the transition costs, if an action of this name leads to a late scene, done to the object.
-#[tactic(auto, unfolding(crate::specs::Taking::with_object))]
-fn with_object(here: &At<'_>, name: ActionName, at: &ObjRef, before: Worth) -> Worth
-    ensures { result ≡ with_object here.now name before at.now }
+/// What the transition comes to, if an action of this name leads to a late scene, done to the object.
+fn object_from<A: Around>(
+    around: &A,
+    here: &At<'_>,
+    name: ActionName,
+    at: &ObjRef,
+    mark: A::Mark,
+    sum: A::Sum,
+) -> Result<(A::Mark, A::Sum), A::Stop>
+    ensures { let late = late_among here.now.reading.service name (at.now ∷ []) in
+        let p = most_price (inputs.scene_change (A.around around.now)) late in
+        IfOk result (λ x. (A.marked x.0, A.seen x.1) ≡ raise (A.meter around.now) p (A.marked mark, A.seen sum)) }
 {
     if leads_to_late(here, name, at) {
-        most(before, scene_change(here, &at.group))
+        let sum = scene_change(around, &at.group, sum)?;
+        Ok(around.next(mark, sum))
     } else {
-        before
+        Ok((mark, sum))
     }
 }
 
-/// The same for each of these objects.
-fn with_objects(here: &At<'_>, name: ActionName, objects: &[ObjRef], before: Worth) -> Worth
-    ensures { result ≡ fold (with_object here.now name) before objects.now }
+/// The same of each of these objects.
+#[tactic(auto, using(crate::proofs::LateLemmas::one_late))]
+fn objects_from<A: Around>(
+    around: &A,
+    here: &At<'_>,
+    name: ActionName,
+    objects: &[ObjRef],
+    mark: A::Mark,
+    sum: A::Sum,
+) -> Result<(A::Mark, A::Sum), A::Stop>
+    ensures { let late = late_among here.now.reading.service name objects.now in
+        let p = most_price (inputs.scene_change (A.around around.now)) late in
+        IfOk result (λ x. (A.marked x.0, A.seen x.1) ≡ raise (A.meter around.now) p (A.marked mark, A.seen sum)) }
 {
-    let mut best = before;
+    let mut mark = mark;
+    let mut sum = sum;
     for at in objects {
-        best = with_object(here, name, at, best);
+        (mark, sum) = object_from(around, here, name, at, mark, sum)?;
     }
-    best
+    Ok((mark, sum))
 }
 
-/// The same for each object to which the action's target may come.
-#[tactic(auto, unfolding(crate::specs::Taking::with_act))]
-fn with_act(here: &At<'_>, act: &Act, before: Worth) -> Worth
-    ensures { result ≡ with_act here.now before act.now }
+/// The same of each object to which the action's target may come.
+fn act_from<A: Around>(
+    around: &A,
+    here: &At<'_>,
+    act: &Act,
+    mark: A::Mark,
+    sum: A::Sum,
+) -> Result<(A::Mark, A::Sum), A::Stop>
+    ensures { let s = here.now in
+        let late = late_by s.reading.service (flow_read s.reading) s.config act.now in
+        let p = most_price (inputs.scene_change (A.around around.now)) late in
+        IfOk result (λ x. (A.marked x.0, A.seen x.1) ≡ raise (A.meter around.now) p (A.marked mark, A.seen sum)) }
 {
     match &act.target {
-        Target::Direct(at) => with_object(here, act.name, at, before),
-        Target::Through(variable) => with_objects(here, act.name, here.set(variable), before),
+        Target::Direct(at) => object_from(around, here, act.name, at, mark, sum),
+        Target::Through(variable) => {
+            objects_from(around, here, act.name, here.set(variable), mark, sum)
+        }
     }
 }
 
-/// The most that a transition to a late scene costs which one of these actions begins.
-fn most_of(here: &At<'_>, sites: &[Site<'_>]) -> Worth
-    ensures { result ≡ fold (λ b x. with_act here.now b x.act) (Ok 0) sites.now }
+/// The same of each of these actions.
+fn sites_from<A: Around>(
+    around: &A,
+    here: &At<'_>,
+    sites: &[Site<'_>],
+    mark: A::Mark,
+    sum: A::Sum,
+) -> Result<(A::Mark, A::Sum), A::Stop>
+    ensures { let s = here.now in
+        let late = flat_map (λ x. late_by s.reading.service (flow_read s.reading) s.config x.act) sites.now in
+        let p = most_price (inputs.scene_change (A.around around.now)) late in
+        IfOk result (λ x. (A.marked x.0, A.seen x.1) ≡ raise (A.meter around.now) p (A.marked mark, A.seen sum)) }
 {
-    let mut best = Ok(0);
+    let mut mark = mark;
+    let mut sum = sum;
     for site in sites {
-        best = with_act(here, site.act, best);
+        (mark, sum) = act_from(around, here, site.act, mark, sum)?;
     }
-    best
+    Ok((mark, sum))
 }
 
-/// The most that a transition to a late scene costs which an active action begins here.
-#[tactic(auto, using(crate::proofs::LateLemmas::all_scenes))]
-pub(crate) fn all_changes(here: &At<'_>) -> Result<Worth, AllocError>
-    ensures { let s = here.now in let late = late_scenes s.reading.service (flow_read s.reading) s.config in
-        IfOk result (λ worth. worth ≡ known_worth (known_at s) (most_from (around_lem.scene_change (around_at s)) Nothing late)) }
+/// What a transition to a late scene comes to which an active action begins here: the largest of these.
+#[tactic(auto, using(crate::proofs::LateLemmas::no_scenes))]
+pub(crate) fn changes_from<M: Meter>(
+    walk: &Walk<'_, M>,
+    mark: M::Mark,
+    sum: M::Sum,
+) -> Result<(M::Mark, M::Sum), AllocError>
+    ensures { let s = walk.now.here.now in let m = through (number_of s.reading) (M.meter walk.now.meter.now) in
+        let late = late_scenes s.reading.service (flow_read s.reading) s.config in
+        let p = most_price (inputs.scene_change (around_at s)) late in
+        IfOk result (λ x. (M.marked x.0, M.seen x.1) ≡ raise m p (M.marked mark, M.seen sum)) }
 {
-    if here.net().service().late().is_empty() {
-        return Ok(Ok(0));
+    if walk.here.net().service().late().is_empty() {
+        return Ok((mark, sum));
     }
-    let sites = here.sites()?;
-    Ok(most_of(here, sites.as_slice()))
+    let sites = walk.here.sites()?;
+    sites_from(walk, walk.here, sites.as_slice(), mark, sum)
 }

@@ -3,12 +3,10 @@
 //!
 //! Promise: what is laid is the exact cost of each key, cut at the largest number of 64 bits, with a rank above those
 //! of all that its price counts; a cycle is told only where no ranks are. Keys are found on demand, from roots that the
-//! caller names. What an action costs is found over what is asked of a configuration (`Around`). Of the effects that
+//! caller names. What keys come to is walked by `mh_prices`, over a view of the configuration (`walk.rt`). Of the effects that
 //! put themselves to work the first is told, with the first of its shortest cycles.
 #![tactic(auto)]
 
-pub mod actions;
-pub mod around;
 pub mod arrow;
 mod arrows;
 mod asked;
@@ -22,19 +20,25 @@ pub mod cycle;
 mod dearest;
 mod deeds;
 mod effects;
+mod entries;
+mod fired;
 mod granting;
-pub mod inputs;
+mod inputs;
 mod late;
 pub mod laws;
 pub mod layers;
 pub mod laying;
-pub mod life;
+mod leaving;
 pub(crate) mod listening;
+mod meter;
+mod meters;
+mod named;
 pub(crate) mod net;
 pub mod node_key;
 mod order;
 mod place;
 mod price;
+mod priced;
 mod putting;
 mod roots;
 mod slots;
@@ -45,11 +49,11 @@ mod taken;
 pub(crate) mod timers;
 mod trail;
 mod values;
+mod walk;
 pub mod way;
 mod ways;
 pub(crate) mod web;
 
-pub use around::Around;
 pub use arrow::{Arrow, By, Held};
 pub use bounds::{Bounds, InputKind};
 pub use cause::Cause;

@@ -15,7 +15,6 @@ ghost use Rattle.mh_layers.specs.Reading.{IsReading, NumbersAreNames, config_num
 ghost use Rattle.mh_model.specs.Variables.{same_value};
 
 use crate::listening::Listeners;
-use crate::slots::have_few_slots;
 use crate::timers::{SetTimer, Timers};
 use crate::values::Values;
 use indexmap::IndexSet;
@@ -146,9 +145,6 @@ impl<'a> Net<'a> {
         ensures flow { IfOk result (λ net. net.flow ≡ flow.now) }
         ensures reading { IfOk result (λ net. IsReading net) }
     {
-        if !have_few_slots(service) {
-            return Err(AllocError);
-        }
         let listeners = Listeners::of(alloc, service)?;
         let all = flow.configs(alloc)?;
         let configs = each_once(alloc, &all)?;

@@ -7,23 +7,26 @@ ghost use Rattle.mh_layers.specs.Caused.{IsNamed};
 ghost use Rattle.mh_layers.specs.Dearest.{acts_of};
 ghost use Rattle.mh_layers.specs.Layered.{root_keys};
 ghost use Rattle.mh_layers.specs.Layering.{AreLayers, is_laid};
-ghost use Rattle.mh_layers.specs.Reading.{IsReading, kept, price, spot_in};
+ghost use Rattle.mh_layers.specs.Reading.{IsReading, kept, price};
 ghost use Rattle.mh_layers.specs.Staging.{AreStagesFrom, IsNext, IsPart, IsPartAt, IsStageBy, act_worth, all_known};
 ghost use Rattle.mh_layers.specs.Standings.{effect_named};
 ghost use Rattle.mh_layers.specs.Trails.{IsActive};
 
-use crate::actions::act;
 use crate::arrows::{config_of, number_of, part_of};
 use crate::at::At;
 use crate::caused::reached_from;
+use crate::costs::Costs;
 use crate::dearest::{Dearest, dearest_of, first_largest, number_at};
 use crate::effects::effect_acts;
 use crate::laying::Laying;
+use crate::meters::KnownCosts;
 use crate::net::Net;
 use crate::node_key::NodeKey;
+use crate::walk::Walk;
 use crate::way::Stage;
 use mh_group::ActionName;
 use mh_model::Act;
+use mh_prices::act;
 use std::alloc::{AllocError, Global};
 
 /// An action of an effect: its place there, and what it costs.
@@ -44,24 +47,36 @@ pub(crate) struct Next {
 // Actions
 
 /// What an action costs.
-fn act_cost(here: &At<'_>, each: &Act) -> Result<u64, AllocError>
-    ensures { IfOk result (λ cost. act_worth here.now each.now ≡ Ok cost) }
+#[tactic(auto, using(crate::proofs::KnowingLemmas::known_named))]
+fn act_cost(here: &At<'_>, costs: &Costs, each: &Act) -> Result<u64, AllocError>
+    ensures { let s = here.now in IfOk result (λ cost. act_worth s.reading costs.now s.config each.now ≡ Ok cost) }
 {
-    match act(here, each) {
+    let known = KnownCosts { costs };
+    let walk = Walk {
+        here,
+        meter: &known,
+    };
+    match act(&walk, each, Ok(0))? {
         Ok(cost) => Ok(cost),
         Err(_) => Err(AllocError),
     }
 }
 
 /// What each of these costs.
-fn act_costs(alloc: Global, here: &At<'_>, acts: &[Act]) -> Result<Vec<u64>, AllocError>
-    ensures { IfOk result (λ costs. map (act_worth here.now) acts.now ≡ all_known costs.items) }
+fn act_costs(
+    alloc: Global,
+    here: &At<'_>,
+    costs: &Costs,
+    acts: &[Act],
+) -> Result<Vec<u64>, AllocError>
+    ensures { let s = here.now in
+        IfOk result (λ found. map (act_worth s.reading costs.now s.config) acts.now ≡ all_known found.items) }
 {
-    let mut costs = Vec::new(alloc);
+    let mut found = Vec::new(alloc);
     for each in acts {
-        costs.push(act_cost(here, each)?)?;
+        found.push(act_cost(here, costs, each)?)?;
     }
-    Ok(costs)
+    Ok(found)
 }
 
 /// The action at this place, which costs so much.
@@ -79,11 +94,16 @@ fn part_at(acts: &[Act], offset: usize, cost: u64) -> Result<Part, AllocError>
 }
 
 /// The first of these actions that cost most.
-fn dearest_act(alloc: Global, here: &At<'_>, acts: &[Act]) -> Result<Part, AllocError>
-    ensures { IfOk result (λ part. IsPart here.now acts.now part) }
+fn dearest_act(
+    alloc: Global,
+    here: &At<'_>,
+    costs: &Costs,
+    acts: &[Act],
+) -> Result<Part, AllocError>
+    ensures { let s = here.now in IfOk result (IsPart s.reading costs.now s.config acts.now) }
 {
-    let costs = act_costs(alloc, here, acts)?;
-    let numbers = costs.as_slice();
+    let found = act_costs(alloc, here, costs, acts)?;
+    let numbers = found.as_slice();
     let offset = first_largest(numbers)?;
     let cost = number_at(numbers, offset);
     let part = part_at(acts, offset, cost)?;
@@ -100,14 +120,13 @@ fn dearest_part(
     requires reading { IsReading net.now }
     requires active { IsActive net.now key.now }
     ensures { let x = effect_named net.now key.now in
-        IfOk result (λ part. IsPart (spot_in net.now laying.now x.config) (acts_of net.now.service x) part) }
+        IfOk result (IsPart net.now laying.now x.config (acts_of net.now.service x)) }
 {
-    let costs = laying.costs();
-    let here = config_of(net, costs, key);
+    let here = config_of(net, key);
     let fixed = part_of(&here, key);
     let number = number_of(key);
     let acts = effect_acts(fixed, number);
-    let part = dearest_act(alloc, &here, acts)?;
+    let part = dearest_act(alloc, &here, laying.costs(), acts)?;
     Ok(part)
 }
 

@@ -1,130 +1,154 @@
-//! What an input costs that is taken in a configuration, as far as it is known.
+//! What an input comes to that is taken in a configuration.
 //!
-//! Promise: for each kind it is what its price comes to, over what is told of keys by their numbers.
-ghost use Rattle.std.specs.Prelude.{◌≡◌, false, IfOk, Ok};
-ghost use Rattle.std.specs.Option.{option_map_or};
+//! Promise: for each kind its price is added to the sum, by the numbers of keys.
+ghost use Rattle.std.specs.Prelude.{◌≡◌, false, IfOk};
+ghost use Rattle.std.specs.Option.{option_copied, option_map_or};
 ghost use Rattle.std.specs.Str.{bytes_eq};
 ghost use Rattle.mh_model.specs.Configuration.{present};
 ghost use Rattle.mh_laws.specs.Costs.{is_group_in as is_group_in_lem};
-ghost use Rattle.mh_laws.specs.Price.{Nothing};
+ghost use Rattle.mh_laws.specs.Price.{most_price, sum_price};
+ghost use Rattle.mh_prices.specs.Meter.{Adds, raise};
 ghost use Rattle.mh_layers.specs.declared.bounds.InputKind.TheVariants as kind_lem;
-ghost use Rattle.mh_layers.specs.Around as around_lem;
-ghost use Rattle.mh_layers.specs.Around.{Taken};
-ghost use Rattle.mh_layers.specs.Keys.{every_timer, fired_of as fired_of_lem, heard_key as heard_key_lem};
-ghost use Rattle.mh_layers.specs.Known.{known_worth};
-ghost use Rattle.mh_layers.specs.Reading.{around_at, flow_read, heard_read, known_at, spot_price};
-ghost use Rattle.mh_layers.specs.Sums.{most_from, mosted, sum_from, summed};
-ghost use Rattle.mh_layers.specs.Taking.{content_worth, pressed_worth, stream_worth, timer_worth};
+ghost use Rattle.mh_layers.specs.Inputs as inputs;
+ghost use Rattle.mh_layers.specs.Key.{Taken};
+ghost use Rattle.mh_layers.specs.Keys.{fired_of as fired_of_lem, heard_key as heard_key_lem};
+ghost use Rattle.mh_layers.specs.Numbered.{through};
+ghost use Rattle.mh_layers.specs.Reading.{around_at, heard_read, number as number_of, price_read};
 
-use crate::around::Around;
 use crate::at::At;
 use crate::bounds::InputKind;
 use crate::inputs::{content_told, pressed, stream_told};
-use crate::late::all_changes;
+use crate::late::changes_from;
+use crate::meter::Meter;
 use crate::node_key::Hears;
-use crate::sums::{Worth, most, plus};
 use crate::timers::SetTimer;
+use crate::walk::Walk;
 use mh_base::{EventType, GroupName, ObjRef, Value};
+use mh_model::FixedPart;
 use mh_model::parts::group_ref;
-use mh_model::{Config, FixedPart};
+use mh_prices::{Told, View};
 use std::alloc::AllocError;
 
 // Events that are dealt with at once
 
 /// What the links put that wait for such an event, whatever its data; nothing where none waits.
-fn fired_of(here: &At<'_>, source: &ObjRef, kind: EventType) -> Worth
-    ensures { let s = here.now in
-        result ≡ known_worth (known_at s) (fired_of_lem s.config source.now kind (heard_read s.reading source.now kind)) }
+fn fired_of<M: Meter>(
+    walk: &Walk<'_, M>,
+    source: &ObjRef,
+    kind: EventType,
+    sum: M::Sum,
+) -> Result<M::Sum, AllocError>
+    ensures { let s = walk.now.here.now in let m = through (number_of s.reading) (M.meter walk.now.meter.now) in
+        Adds M.seen m (fired_of_lem s.config source.now kind (heard_read s.reading source.now kind)) sum result }
 {
-    match here.net().values(source, kind) {
-        None => Ok(0),
-        Some(_) => here.fired(source, kind, Hears::Any),
+    match walk.here.net().values(source, kind) {
+        None => Ok(sum),
+        Some(_) => walk
+            .meter
+            .node(walk.here.fired_key(source, kind, Hears::Any), sum),
     }
 }
 
 /// What the links of the scene put that wait for keys.
-fn heard_key(here: &At<'_>) -> Result<Worth, AllocError>
-    ensures { let s = here.now in
-        IfOk result (λ worth. worth ≡ known_worth (known_at s) (heard_key_lem (heard_read s.reading) s.config s.config.scene)) }
+fn heard_key<M: Meter>(walk: &Walk<'_, M>, sum: M::Sum) -> Result<M::Sum, AllocError>
+    ensures { let s = walk.now.here.now in let m = through (number_of s.reading) (M.meter walk.now.meter.now) in
+        Adds M.seen m (heard_key_lem (heard_read s.reading) s.config s.config.scene) sum result }
 {
-    match &here.config().scene {
-        None => Ok(Ok(0)),
+    match walk.here.scene() {
+        None => Ok(sum),
         Some(scene) => {
             let source = group_ref(scene)?;
-            Ok(fired_of(here, &source, EventType::UserInput))
+            fired_of(walk, &source, EventType::UserInput, sum)
         }
     }
 }
 
 // Objects, one after another
 
-fn pressed_most(here: &At<'_>, parts: &[FixedPart], before: Worth) -> Worth
-    ensures { result ≡ mosted (pressed_worth here.now) before parts.now }
+fn pressed_from<V: View>(
+    view: &V,
+    parts: &[FixedPart],
+    mark: V::Mark,
+    sum: V::Sum,
+) -> Result<(V::Mark, V::Sum), V::Stop>
+    ensures { let m = V.meter view.now in
+        let p = most_price (inputs.pressed (V.around view.now).lists.view) parts.now in
+        IfOk result (λ x. (V.marked x.0, V.seen x.1) ≡ raise m p (V.marked mark, V.seen sum)) }
 {
-    let mut best = before;
+    let mut mark = mark;
+    let mut sum = sum;
     for part in parts {
-        best = most(best, pressed(here, part.get()));
+        sum = pressed(view, part.get(), sum)?;
+        (mark, sum) = view.next(mark, sum);
     }
-    best
+    Ok((mark, sum))
 }
 
-fn streams_sum(here: &At<'_>, parts: &[FixedPart], before: Worth) -> Worth
-    ensures { result ≡ summed (stream_worth here.now) before parts.now }
+fn streams<V: View>(view: &V, parts: &[FixedPart], sum: V::Sum) -> Result<V::Sum, V::Stop>
+    ensures { let m = V.meter view.now in
+        Adds V.seen m (sum_price (inputs.stream_told (V.around view.now).lists.view) parts.now) sum result }
 {
-    let mut sum = before;
+    let mut sum = sum;
     for part in parts {
-        sum = plus(sum, stream_told(here, part.get()));
+        sum = stream_told(view, part.get(), sum)?;
     }
-    sum
+    Ok(sum)
 }
 
-fn contents_sum(here: &At<'_>, parts: &[FixedPart], before: Worth) -> Worth
-    ensures { result ≡ summed (content_worth here.now) before parts.now }
+fn contents<V: View>(view: &V, parts: &[FixedPart], sum: V::Sum) -> Result<V::Sum, V::Stop>
+    ensures { let m = V.meter view.now in
+        Adds V.seen m (sum_price (inputs.content_told (V.around view.now).lists.view) parts.now) sum result }
 {
-    let mut sum = before;
+    let mut sum = sum;
     for part in parts {
-        sum = plus(sum, content_told(here, part.get()));
+        sum = content_told(view, part.get(), sum)?;
     }
-    sum
+    Ok(sum)
 }
 
 /// The most that a key makes one object put that is present.
-#[tactic(auto, using(crate::proofs::TakenReadLemmas::most_comes))]
-fn all_pressed(here: &At<'_>) -> Worth
-    ensures { let s = here.now in
-        result ≡ known_worth (known_at s) (most_from (around_lem.pressed (around_at s)) Nothing (present s.reading.service s.config)) }
+#[tactic(auto, using(crate::proofs::OntoLemmas::raise_joined))]
+fn all_pressed<V: View>(
+    view: &V,
+    here: &At<'_>,
+    mark: V::Mark,
+    sum: V::Sum,
+) -> Result<(V::Mark, V::Sum), V::Stop>
+    ensures { let s = here.now in let m = V.meter view.now in
+        let p = most_price (inputs.pressed (V.around view.now).lists.view) (present s.reading.service s.config) in
+        IfOk result (λ x. (V.marked x.0, V.seen x.1) ≡ raise m p (V.marked mark, V.seen sum)) }
 {
     let (application, scene) = here.parts();
-    let best = pressed_most(here, application, Ok(0));
-    pressed_most(here, scene, best)
+    let (mark, sum) = pressed_from(view, application, mark, sum)?;
+    pressed_from(view, scene, mark, sum)
 }
 
 /// What the streams have to tell that are present.
-#[tactic(auto, using(crate::proofs::TakenReadLemmas::sum_comes))]
-fn all_streams(here: &At<'_>) -> Worth
-    ensures { let s = here.now in
-        result ≡ known_worth (known_at s) (sum_from (around_lem.stream_told (around_at s)) Nothing (present s.reading.service s.config)) }
+#[tactic(auto, using(crate::proofs::OntoLemmas::onto_joined))]
+fn all_streams<V: View>(view: &V, here: &At<'_>, sum: V::Sum) -> Result<V::Sum, V::Stop>
+    ensures { let s = here.now in let m = V.meter view.now in
+        Adds V.seen m (sum_price (inputs.stream_told (V.around view.now).lists.view) (present s.reading.service s.config)) sum result }
 {
     let (application, scene) = here.parts();
-    let sum = streams_sum(here, application, Ok(0));
-    streams_sum(here, scene, sum)
+    let sum = streams(view, application, sum)?;
+    streams(view, scene, sum)
 }
 
 /// What is told when a file comes for which each waits that is present and can.
-#[tactic(auto, using(crate::proofs::TakenReadLemmas::sum_comes))]
-fn all_contents(here: &At<'_>) -> Worth
-    ensures { let s = here.now in
-        result ≡ known_worth (known_at s) (sum_from (around_lem.content_told (around_at s)) Nothing (present s.reading.service s.config)) }
+#[tactic(auto, using(crate::proofs::OntoLemmas::onto_joined))]
+fn all_contents<V: View>(view: &V, here: &At<'_>, sum: V::Sum) -> Result<V::Sum, V::Stop>
+    ensures { let s = here.now in let m = V.meter view.now in
+        Adds V.seen m (sum_price (inputs.content_told (V.around view.now).lists.view) (present s.reading.service s.config)) sum result }
 {
     let (application, scene) = here.parts();
-    let sum = contents_sum(here, application, Ok(0));
-    contents_sum(here, scene, sum)
+    let sum = contents(view, application, sum)?;
+    contents(view, scene, sum)
 }
 
 // Timers
 
-fn is_scene(scene: &Option<GroupName>, group: &GroupName) -> bool
-    ensures { result ≡ option_map_or (bytes_eq group.now) scene.now false }
+fn is_scene(scene: Option<&GroupName>, group: &GroupName) -> bool
+    ensures { result ≡ option_map_or (bytes_eq group.now) (option_copied scene.entry) false }
 {
     match scene {
         None => false,
@@ -133,96 +157,106 @@ fn is_scene(scene: &Option<GroupName>, group: &GroupName) -> bool
 }
 
 /// Whether the group is the configuration's application or scene.
-fn is_group_in(config: &Config, group: &GroupName) -> bool
-    ensures { result ≡ is_group_in_lem config.now group.now }
+fn is_group_in(here: &At<'_>, group: &GroupName) -> bool
+    ensures { result ≡ is_group_in_lem here.now.config group.now }
 {
-    *group == config.app || is_scene(&config.scene, group)
+    *group == here.config().app || is_scene(here.scene(), group)
 }
 
-fn timer_due(here: &At<'_>, timer: &SetTimer) -> Worth
-    ensures { result ≡ timer_worth here.now timer.now }
+fn timer_due<M: Meter>(
+    walk: &Walk<'_, M>,
+    timer: &SetTimer,
+    sum: M::Sum,
+) -> Result<M::Sum, AllocError>
+    ensures { let s = walk.now.here.now in let m = through (number_of s.reading) (M.meter walk.now.meter.now) in
+        Adds M.seen m (inputs.timer_due (around_at s).lists.view (is_group_in_lem s.config) timer.now) sum result }
 {
-    if is_group_in(here.config(), timer.group()) {
-        here.sure(
-            timer.source(),
-            EventType::TimerFired,
-            &Value::Int(timer.id()),
-        )
+    if is_group_in(walk.here, timer.group()) {
+        let id = Value::Int(timer.id());
+        let told = Told::sure(Some(&id));
+        walk.dealt_with(timer.source(), EventType::TimerFired, &told, sum)
     } else {
-        Ok(0)
+        Ok(sum)
     }
 }
 
-fn timers_sum(here: &At<'_>, timers: &[SetTimer]) -> Worth
-    ensures { result ≡ summed (timer_worth here.now) (Ok 0) timers.now }
+/// What is put where each of these timers is due that is of the configuration.
+fn timers_due<M: Meter>(
+    walk: &Walk<'_, M>,
+    timers: &[SetTimer],
+    sum: M::Sum,
+) -> Result<M::Sum, AllocError>
+    ensures { let s = walk.now.here.now in let m = through (number_of s.reading) (M.meter walk.now.meter.now) in
+        Adds M.seen m (sum_price (inputs.timer_due (around_at s).lists.view (is_group_in_lem s.config)) timers.now) sum result }
 {
-    let mut sum = Ok(0);
+    let mut sum = sum;
     for timer in timers {
-        sum = plus(sum, timer_due(here, timer));
+        sum = timer_due(walk, timer, sum)?;
     }
-    sum
-}
-
-/// What is put where each timer of the configuration is due that can be set.
-#[tactic(auto, using(crate::proofs::TakenReadLemmas::one_comes))]
-fn all_timers(here: &At<'_>) -> Worth
-    ensures { let s = here.now in let due = around_lem.timer_due (around_at s) (is_group_in_lem s.config) in
-        result ≡ known_worth (known_at s) (sum_from due Nothing (every_timer s.reading.service (flow_read s.reading))) }
-{
-    timers_sum(here, here.net().timers())
+    Ok(sum)
 }
 
 // Kinds of input
 
-fn start_input(here: &At<'_>) -> Worth
-    ensures { result ≡ known_worth (known_at here.now) (spot_price here.now (Taken here.now.config kind_lem.Start)) }
+fn key_input<M: Meter>(walk: &Walk<'_, M>, sum: M::Sum) -> Result<M::Sum, AllocError>
+    ensures { let s = walk.now.here.now in let m = through (number_of s.reading) (M.meter walk.now.meter.now) in
+        Adds M.seen m (price_read s.reading (Taken s.config kind_lem.Key)) sum result }
 {
-    here.entering()
+    let (mark, sum) = walk.meter.aside(walk.meter.one(sum));
+    let sum = heard_key(walk, sum)?;
+    let (mark, sum) = walk.meter.next(mark, sum);
+    let (mark, sum) = all_pressed(walk, walk.here, mark, sum)?;
+    Ok(walk.meter.close(mark, sum))
 }
 
-fn key_input(here: &At<'_>) -> Result<Worth, AllocError>
-    ensures { IfOk result (λ worth. worth ≡ known_worth (known_at here.now) (spot_price here.now (Taken here.now.config kind_lem.Key))) }
+fn tick_input<M: Meter>(walk: &Walk<'_, M>, sum: M::Sum) -> Result<M::Sum, AllocError>
+    ensures { let s = walk.now.here.now in let m = through (number_of s.reading) (M.meter walk.now.meter.now) in
+        Adds M.seen m (price_read s.reading (Taken s.config kind_lem.Tick)) sum result }
 {
-    let heard = heard_key(here)?;
-    Ok(plus(Ok(1), most(heard, all_pressed(here))))
+    timers_due(walk, walk.here.net().timers(), walk.meter.one(sum))
 }
 
-fn tick_input(here: &At<'_>) -> Worth
-    ensures { result ≡ known_worth (known_at here.now) (spot_price here.now (Taken here.now.config kind_lem.Tick)) }
+fn stream_input<M: Meter>(walk: &Walk<'_, M>, sum: M::Sum) -> Result<M::Sum, AllocError>
+    ensures { let s = walk.now.here.now in let m = through (number_of s.reading) (M.meter walk.now.meter.now) in
+        Adds M.seen m (price_read s.reading (Taken s.config kind_lem.Stream)) sum result }
 {
-    plus(Ok(1), all_timers(here))
+    all_streams(walk, walk.here, walk.meter.one(sum))
 }
 
-fn stream_input(here: &At<'_>) -> Worth
-    ensures { result ≡ known_worth (known_at here.now) (spot_price here.now (Taken here.now.config kind_lem.Stream)) }
+fn engine_input<M: Meter>(walk: &Walk<'_, M>, sum: M::Sum) -> Result<M::Sum, AllocError>
+    ensures { let s = walk.now.here.now in let m = through (number_of s.reading) (M.meter walk.now.meter.now) in
+        Adds M.seen m (price_read s.reading (Taken s.config kind_lem.Engine)) sum result }
 {
-    plus(Ok(1), all_streams(here))
+    let source = group_ref(&walk.here.config().app)?;
+    fired_of(walk, &source, EventType::EngineEvent, walk.meter.one(sum))
 }
 
-fn engine_input(here: &At<'_>) -> Result<Worth, AllocError>
-    ensures { IfOk result (λ worth. worth ≡ known_worth (known_at here.now) (spot_price here.now (Taken here.now.config kind_lem.Engine))) }
+fn arrive_input<M: Meter>(walk: &Walk<'_, M>, sum: M::Sum) -> Result<M::Sum, AllocError>
+    ensures { let s = walk.now.here.now in let m = through (number_of s.reading) (M.meter walk.now.meter.now) in
+        Adds M.seen m (price_read s.reading (Taken s.config kind_lem.Arrive)) sum result }
 {
-    let source = group_ref(&here.config().app)?;
-    Ok(plus(Ok(1), fired_of(here, &source, EventType::EngineEvent)))
+    let (mark, sum) = walk.meter.aside(walk.meter.one(sum));
+    let sum = all_contents(walk, walk.here, sum)?;
+    let (mark, sum) = walk.meter.next(mark, sum);
+    let (mark, sum) = changes_from(walk, mark, sum)?;
+    Ok(walk.meter.close(mark, sum))
 }
 
-fn arrive_input(here: &At<'_>) -> Result<Worth, AllocError>
-    ensures { IfOk result (λ worth. worth ≡ known_worth (known_at here.now) (spot_price here.now (Taken here.now.config kind_lem.Arrive))) }
-{
-    let changes = all_changes(here)?;
-    Ok(plus(Ok(1), most(all_contents(here), changes)))
-}
-
-/// What an input of this kind costs that is taken here.
-pub(crate) fn taken_worth(here: &At<'_>, kind: InputKind) -> Result<Worth, AllocError>
-    ensures { IfOk result (λ worth. worth ≡ known_worth (known_at here.now) (spot_price here.now (Taken here.now.config kind))) }
+/// What an input of this kind comes to that is taken here.
+pub(crate) fn taken<M: Meter>(
+    walk: &Walk<'_, M>,
+    kind: InputKind,
+    sum: M::Sum,
+) -> Result<M::Sum, AllocError>
+    ensures { let s = walk.now.here.now in let m = through (number_of s.reading) (M.meter walk.now.meter.now) in
+        Adds M.seen m (price_read s.reading (Taken s.config kind)) sum result }
 {
     match kind {
-        InputKind::Start => Ok(start_input(here)),
-        InputKind::Key => key_input(here),
-        InputKind::Tick => Ok(tick_input(here)),
-        InputKind::Stream => Ok(stream_input(here)),
-        InputKind::Engine => engine_input(here),
-        InputKind::Arrive => arrive_input(here),
+        InputKind::Start => walk.meter.node(walk.here.enter_key(), sum),
+        InputKind::Key => key_input(walk, sum),
+        InputKind::Tick => tick_input(walk, sum),
+        InputKind::Stream => stream_input(walk, sum),
+        InputKind::Engine => engine_input(walk, sum),
+        InputKind::Arrive => arrive_input(walk, sum),
     }
 }

@@ -1,4 +1,5 @@
 mod TurnedLemmas
 mod CostLemmas
-mod KeysLemmas
+pub mod KeysLemmas
 pub mod FoundLemmas
+pub mod NearLemmas

@@ -33,7 +33,7 @@ fn quits<A: Around>(around: &A, at: &ObjRef, sum: A::Sum) -> Result<A::Sum, A::S
 }
 
 /// What an action puts that is done to this object.
-fn done_to<A: Around>(
+pub fn done_to<A: Around>(
     around: &A,
     name: ActionName,
     arguments: &[Argument],
@@ -155,7 +155,7 @@ pub fn act<A: Around>(around: &A, act: &Act, sum: A::Sum) -> Result<A::Sum, A::S
 }
 
 /// What the actions of an effect come to.
-pub(crate) fn acts<A: Around>(around: &A, acts: &[Act], sum: A::Sum) -> Result<A::Sum, A::Stop>
+pub fn acts<A: Around>(around: &A, acts: &[Act], sum: A::Sum) -> Result<A::Sum, A::Stop>
     ensures { Adds A.seen (A.meter around.now) (spec.acts (A.around around.now) acts.now) sum result }
 {
     let mut sum = sum;

@@ -19,13 +19,13 @@ mod sending;
 mod told;
 mod view;
 
-pub use actions::act;
+pub use actions::{act, acts, done_to};
 pub use cost::{Costs, cost_of};
 pub use found::counts;
 pub use groups::{enter, leave_all, leave_scene};
 pub use keyed::Keyed;
 pub use keyed_price::KeyedPrice;
 pub use keys::keys_of;
-pub use life::change;
+pub use life::{change, plain_emit};
 pub use told::Told;
 pub use view::{Around, Groups, Lists, View};

@@ -31,7 +31,7 @@ pub(crate) fn emit<V: View>(
 }
 
 /// An event without data.
-pub(crate) fn plain_emit<V: View>(
+pub fn plain_emit<V: View>(
     view: &V,
     at: &ObjRef,
     kind: EventType,

@@ -3,5 +3,5 @@ use Rattle.mh_layers.proofs.AskedLemmas.{rows_more}
 use Rattle.mh_layers.proofs.asked.more.Goals as goal
 
 pub returns-clause-rows : goal.returns-clause-rows
-returns-clause-rows g c =
-    rows_more _ _ _ _ _ _ c.in-Some.key c.in_ok-row.row c.requires.counted c.requires.rows (search rules) c.in_ok-row.ensures.counted (search rules) (search rules)
+returns-clause-rows c =
+    rows_more _ _ _ _ _ _ c.in-Some.key c.in_ok-row.row c.requires.counted c.requires.rows (search rules) c.in_ok-row.ensures (search rules) (search rules)

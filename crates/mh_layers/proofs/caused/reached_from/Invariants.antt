@@ -1,6 +1,5 @@
-use Rattle.mh_layers.specs.Asked.{NoneKnown}
 use Rattle.mh_layers.specs.Caused.{AreOpened}
 use Rattle.mh_layers.proofs.caused.reached_from.Given as goal
 
 abbrev pub invariant-loop-place : goal.invariant-loop-place
-invariant-loop-place l = NoneKnown l.costs × AreOpened l.net l.root l.found.keys l.place
+invariant-loop-place l = AreOpened l.net l.root l.found.keys l.place

@@ -1,8 +1,6 @@
 use Rattle.std.proofs.Common.{take}
-use Rattle.mh_layers.specs.Asked.{NoneKnown}
 use Rattle.mh_layers.specs.Deeds.{NoneCounts}
 use Rattle.mh_layers.proofs.deeds.first_of.Given as goal
 
 abbrev pub invariant-loop-at : goal.invariant-loop-at
-invariant-loop-at l =
-    NoneKnown l.costs × NoneCounts l.here.reading l.here.config l.act (take l.at-index l.objects) l.key
+invariant-loop-at l = NoneCounts l.here.reading l.here.config l.act (take l.at-index l.objects) l.key

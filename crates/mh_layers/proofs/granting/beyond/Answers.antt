@@ -7,5 +7,5 @@ use Rattle.mh_layers.proofs.granting.beyond.Goals as goal
 pub returns-in-Some-of-clause-some : goal.returns-in-Some-of-clause-some
 returns-in-Some-of-clause-some c =
     let s = c.args.here.now in
-    c.in-Some-of.ensures.some ∙ (λ i. spot_at (c.net.ensures i) (c.costs.ensures i) c.in-Some.number)
-    ∙ named_in s.reading s.places (exchanged s.reading.service s.config c.args.group.now) c.in-Some.number (search rules)
+    c.in-Some-of.ensures.some ∙ (λ i. spot_at (c.net.ensures i) c.in-Some.number)
+    ∙ named_in s.reading (exchanged s.reading.service s.config c.args.group.now) c.in-Some.number (search rules)

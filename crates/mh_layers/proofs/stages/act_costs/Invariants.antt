@@ -4,4 +4,5 @@ use Rattle.mh_layers.proofs.stages.act_costs.Given as goal
 
 abbrev pub invariant-loop-each : goal.invariant-loop-each
 invariant-loop-each l =
-    all_known l.costs.items ++ map (act_worth l.here) (drop l.each-index l.acts) ≡ map (act_worth l.here) l.acts
+    all_known l.found.items ++ map (act_worth l.here.reading l.costs l.here.config) (drop l.each-index l.acts)
+    ≡ map (act_worth l.here.reading l.costs l.here.config) l.acts

@@ -1,9 +1,0 @@
-use Rattle.mh_laws.specs.Price.{if_price}
-use Rattle.mh_model.specs.declared.object.Fixed.{Fixed}
-use Rattle.mh_model.specs.Groups.{is_initially_active}
-use Rattle.mh_layers.specs.Around.{run}
-use Rattle.mh_layers.proofs.SumLemmas.{sum_ended}
-use Rattle.mh_layers.proofs.life.all_run.Goals as goal
-
-pub returns : goal.returns
-returns g c = sum_ended (g.A.Around.known c.args.around.now) (λ (p : Fixed). if_price (is_initially_active p) (run (g.A.Around.around c.args.around.now) p.key)) c.args.parts.now c.loop-part.sum c.loop-part.part-index c.loop-part-test.false c.loop-part.invariant
