@@ -90,7 +90,7 @@ on_kept {A} s x on = by (on_is s x on)
     )
 
 -- it is priced by the one object that has its key
-one_object : {A : Type 0} (s : Setting A) (c : Config) (p : Fixed) (n : ℕ) → Among (present s.service c) p → effects_come s (costs.acts_price s.service s.flow c (costs.effect_at p n)) ≡ effects_come s (costs.effect_price s.service s.flow (record { config = c; object = p.key; number = n }))
+pub one_object : {A : Type 0} (s : Setting A) (c : Config) (p : Fixed) (n : ℕ) → Among (present s.service c) p → effects_come s (costs.acts_price s.service s.flow c (costs.effect_at p n)) ≡ effects_come s (costs.effect_price s.service s.flow (record { config = c; object = p.key; number = n }))
 one_object {A} s c p n there = both_below s.way (of p) whole lower upper
   where
     price : Fixed → Price costs.Effect

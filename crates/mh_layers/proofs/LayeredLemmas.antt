@@ -1,7 +1,8 @@
--- All active effects are laid.
-use Rattle.std.specs.Prelude.{◌≡◌, ◌<◌, ◌+◌, ℕ, Bool, true, Ok, Err, Result, List, [], ◌∷◌, ◌++◌, map, filter, length, min, Option, Some}
+-- All active effects that have actions are laid.
+use Rattle.std.specs.Prelude.{◌≡◌, ◌⊎◌, ◌<◌, ◌+◌, ℕ, Bool, true, false, not, cond, Ok, Err, Result, List, [], ◌∷◌, ◌++◌, map, filter, length, min, Option, Some, None, is_some, refl}
 use Rattle.std.specs.List.{flat_map, range_with_len}
-use Rattle.std.proofs.Common.{ap, ◌∙◌, sym, subst, arith}
+use Rattle.std.proofs.Common.{ap, ◌∙◌, sym, subst, arith, inl, inr, true≢false}
+use Rattle.std.proofs.lemmas.List.{append-nil, map-id, map-append}
 use Rattle.std.proofs.lemmas.List.FromFn.{map-range_with_len_more}
 use Rattle.std.proofs.lemmas.List.Elements.{filter-append}
 use Rattle.std.proofs.lemmas.List.Concat.{flat_map-append}
@@ -9,21 +10,27 @@ use Rattle.mh_flow.proofs.SiteLemmas.{behind}
 use Rattle.mh_layers.specs.declared.node_key.NodeKey.TheVariants as key
 use Rattle.mh_model.specs.declared.config.Config.{Config}
 use Rattle.mh_model.specs.declared.object.Fixed.{Fixed}
+use Rattle.mh_model.specs.declared.act.Act.{Act}
 use Rattle.mh_model.specs.Configuration.{present}
+use Rattle.mh_model.specs.Step.{is_empty}
+use Rattle.mh_model.proofs.ListLemmas.{empty_is}
 use Rattle.mh_laws.specs.Active.{is_active}
 use Rattle.mh_laws.specs.Costs as costs
 use Rattle.mh_laws.specs.Each.{Among, Each}
-use Rattle.mh_laws.specs.Layers.{IsOn, IsCost, IsLayering, effects_in}
-use Rattle.mh_laws.proofs.EachLemmas.{among_each, among_joined, among_mapped, from_joined, from_mapped}
+use Rattle.mh_laws.specs.Layers.{Causes, IsOn, IsCost, IsLayering, effects_in}
+use Rattle.mh_laws.specs.Price.{worth}
+use Rattle.mh_laws.proofs.EachLemmas.{among_each, among_filtered, among_joined, among_mapped, from_joined, from_mapped}
 use Rattle.mh_laws.specs.Flow.{Flow}
 use Rattle.mh_model.specs.Service.{Service}
 use Rattle.mh_flow.specs.Solved.{Solved, flow_in}
 use Rattle.mh_layers.specs.declared.node_key.NodeKey.{NodeKey}
 use Rattle.mh_layers.specs.Bridge.{IsRead, cost_by, has_by, key_of, rank_by}
-use Rattle.mh_layers.specs.Layered.{active_keys, keys_active, keys_at, keys_of}
-use Rattle.mh_layers.specs.Layering.{AreLayers, CountsKept, NoneRanked, Places, is_laid}
+use Rattle.mh_layers.specs.Layered.{acting, active_keys, has_actions, keys_active, keys_at, keys_of}
+use Rattle.mh_layers.specs.Layering.{AreLayers, CountsKept, NoneRanked, Places, cost_of, is_laid, laid_in}
+use Rattle.mh_layers.specs.declared.costs.Laid.{Laid}
 use Rattle.mh_layers.specs.Reading.{IsReading, Reading, config_number, flow_read, heard_read, kept, number, price}
-use Rattle.mh_laws.proofs.PriceLemmas.{nodes_both, nodes_map}
+use Rattle.mh_layers.specs.Taking.{or_nothing}
+use Rattle.mh_laws.proofs.PriceLemmas.{nodes_both, nodes_map, of_nodes}
 use Rattle.mh_layers.specs.Key.{Key}
 use Rattle.mh_layers.specs.Keys.{Heard, IsKept, IsMet, price_of}
 use Rattle.mh_layers.specs.Known.{known_worth, told, told_of, top}
@@ -31,9 +38,9 @@ use Rattle.mh_layers.specs.Numbered.{AreNamed}
 use Rattle.mh_layers.specs.Bridge.{IsHad, key_cost}
 use Rattle.mh_layers.proofs.BridgeLemmas.{comes, comes_to, counted_is_met, keys_are_exact, set}
 use Rattle.mh_layers.proofs.ExactLemmas.{known_cut}
-use Rattle.mh_layers.proofs.KeyAgreeLemmas.{effect_agrees, on_kept}
+use Rattle.mh_layers.proofs.KeyAgreeLemmas.{effect_agrees, from_filtered, on_kept, one_object}
 use Rattle.mh_layers.proofs.KnownLemmas.{known_same}
-use Rattle.mh_layers.proofs.ReckonLemmas.{by_test, by_worth}
+use Rattle.mh_layers.proofs.ReckonLemmas.{Way, by_test, by_worth, pass_nodes, reckon, reckon_worth}
 use Rattle.mh_layers.proofs.ReadingLemmas.{numbers_are_names}
 use Rattle.mh_layers.proofs.ServeLemmas.{read_of, serves}
 
@@ -62,30 +69,79 @@ active_exact v w h read has cost rank named f exact x on here =
     known : (c : ℕ) × (cost (key_of x) ≡ Some c) × (known_worth (told cost) (price_of v w h (key_of x)) ≡ Ok c)
     known = named.comes (key_of x) (here, kept)
 
--- each active effect has its number among them
-pub on_listed : (r : Reading) (x : costs.Effect) → IsOn r.service (flow_read r) x → Among (active_keys r) (number r (key_of x))
-on_listed r x on =
+-- AN EFFECT WITHOUT ACTIONS
+
+-- it comes to nothing, and puts nothing to work
+pub record IsIdle (r : Reading) (x : costs.Effect) : Type 0 where
+  pub costs : (f : costs.Costing) → worth f (costs.effect_price r.service (flow_read r) x) ≡ 0
+  pub causes : (y : costs.Effect) → Causes r.service (flow_read r) x y → ⊥
+
+module _ (r : Reading) (read : IsReading r) (c : Config) (p : Fixed) (n : ℕ) (there : Among (present r.service c) p) (none : costs.effect_at p n ≡ []) where
+  comes_to_none : {A : Type 0} (y : Way A) (f : costs.Effect → A) → reckon y f (costs.effect_price r.service (flow_read r) (record { config = c; object = p.key; number = n })) ≡ y.none
+  comes_to_none y f =
+      sym (one_object (set y f r.service (flow_read r) (heard_read r) (read_of r read)) c p n there)
+      ∙ ap (λ (e : List Act). reckon y f (costs.acts_price r.service (flow_read r) c e)) none
+
+  causes_none : (z : costs.Effect) → Causes r.service (flow_read r) (record { config = c; object = p.key; number = n }) z → ⊥
+  causes_none z causes =
+      true≢false (sym (of_nodes (λ (k : costs.Effect). false ≡ true) (costs.effect_price r.service (flow_read r) (record { config = c; object = p.key; number = n }))
+      (pass_nodes (λ (k : costs.Effect). false) (costs.effect_price r.service (flow_read r) (record { config = c; object = p.key; number = n })) (comes_to_none by_test (λ (k : costs.Effect). false))) z causes))
+
+  idle : IsIdle r (record { config = c; object = p.key; number = n })
+  idle = record {
+    costs = λ f. sym (reckon_worth f (costs.effect_price r.service (flow_read r) (record { config = c; object = p.key; number = n }))) ∙ comes_to_none by_worth f;
+    causes = causes_none;
+  }
+
+told_empty : {P : Type 0} (p : Fixed) (n : ℕ) → (costs.effect_at p n ≡ [] → P) → (has_actions p n ≡ true → P) → P
+told_empty {P} p n none some = by (is_empty (costs.effect_at p n)) refl
+  where
+    by : (b : Bool) → is_empty (costs.effect_at p n) ≡ b → P
+    by true e = none (empty_is (costs.effect_at p n) e)
+    by false e = some (ap not e)
+
+-- an active effect that has actions has its number among them
+acting_listed : (r : Reading) (c : Config) (p : Fixed) (n : ℕ) → Among (flow_read r).configs c → Among (filter (is_active (present r.service c)) (present r.service c)) p → Among (range_with_len 0 (length (costs.effects p))) n → has_actions p n ≡ true
+    → Among (active_keys r) (number r (key_of (record { config = c; object = p.key; number = n })))
+acting_listed r c p n met active there acts =
+    among_joined (λ (c : Config). flat_map (keys_of r c) (filter (is_active (present r.service c)) (present r.service c))) (flow_read r).configs c (number r (key_of (record { config = c; object = p.key; number = n }))) met
+    (among_joined (keys_of r c) (filter (is_active (present r.service c)) (present r.service c)) p (number r (key_of (record { config = c; object = p.key; number = n }))) active
+    (among_mapped (λ (m : ℕ). number r (key_of (record { config = c; object = p.key; number = m }))) (acting p) n
+    (among_filtered (has_actions p) (range_with_len 0 (length (costs.effects p))) n acts there)))
+
+-- each active effect has, or is idle
+listed_or_idle : (r : Reading) → IsReading r → (x : costs.Effect) → IsOn r.service (flow_read r) x → Among (active_keys r) (number r (key_of x)) ⊎ IsIdle r x
+listed_or_idle r read x on =
     let at = from_joined (λ (c : Config). flat_map (effects_in c) (filter (is_active (present r.service c)) (present r.service c))) (flow_read r).configs x on in
     let own = from_joined (effects_in at.0) (filter (is_active (present r.service at.0)) (present r.service at.0)) x at.2 in
     let nth = from_mapped (λ (n : ℕ). place at.0 own.0 n) (range_with_len 0 (length (costs.effects own.0))) x own.2 in
-    subst (λ (y : costs.Effect). Among (active_keys r) (number r (key_of y))) nth.2
-    (among_joined (λ (c : Config). flat_map (keys_of r c) (filter (is_active (present r.service c)) (present r.service c))) (flow_read r).configs at.0 (number r (key_of (place at.0 own.0 nth.0))) at.1
-    (among_joined (keys_of r at.0) (filter (is_active (present r.service at.0)) (present r.service at.0)) own.0 (number r (key_of (place at.0 own.0 nth.0))) own.1
-    (among_mapped (λ (n : ℕ). number r (key_of (place at.0 own.0 n))) (range_with_len 0 (length (costs.effects own.0))) nth.0 nth.1)))
+    subst (λ (y : costs.Effect). Among (active_keys r) (number r (key_of y)) ⊎ IsIdle r y) nth.2
+    (told_empty own.0 nth.0
+    (λ none. inr (idle r read at.0 own.0 nth.0 (from_filtered (is_active (present r.service at.0)) (present r.service at.0) own.0 own.1).1 none))
+    (λ acts. inl (acting_listed r at.0 own.0 nth.0 at.1 own.1 nth.1 acts)))
   where
     place : Config → Fixed → ℕ → costs.Effect
     place c p n = record { config = c; object = p.key; number = n }
+
+-- so one that puts another to work has
+pub on_listed : (r : Reading) → IsReading r → (x y : costs.Effect) → IsOn r.service (flow_read r) x → Causes r.service (flow_read r) x y → Among (active_keys r) (number r (key_of x))
+on_listed r read x y on causes = by (listed_or_idle r read x on)
+  where
+    by : Among (active_keys r) (number r (key_of x)) ⊎ IsIdle r x → Among (active_keys r) (number r (key_of x))
+    by (inl there) = there
+    by (inr idle) = absurd (idle.causes y causes)
 
 -- and nothing else is among them
 pub listed_on : (r : Reading) (k : NodeKey) → Among (active_keys r) k → (x : costs.Effect) × IsOn r.service (flow_read r) x × (number r (key_of x) ≡ k)
 listed_on r k there =
     let at = from_joined (λ (c : Config). flat_map (keys_of r c) (filter (is_active (present r.service c)) (present r.service c))) (flow_read r).configs k there in
     let own = from_joined (keys_of r at.0) (filter (is_active (present r.service at.0)) (present r.service at.0)) k at.2 in
-    let nth = from_mapped (λ (n : ℕ). number r (key_of (place at.0 own.0 n))) (range_with_len 0 (length (costs.effects own.0))) k own.2 in (
+    let nth = from_mapped (λ (n : ℕ). number r (key_of (place at.0 own.0 n))) (acting own.0) k own.2 in (
       place at.0 own.0 nth.0,
       among_joined (λ (c : Config). flat_map (effects_in c) (filter (is_active (present r.service c)) (present r.service c))) (flow_read r).configs at.0 (place at.0 own.0 nth.0) at.1
           (among_joined (effects_in at.0) (filter (is_active (present r.service at.0)) (present r.service at.0)) own.0 (place at.0 own.0 nth.0) own.1
-          (among_mapped (λ (n : ℕ). place at.0 own.0 n) (range_with_len 0 (length (costs.effects own.0))) nth.0 nth.1)),
+          (among_mapped (λ (n : ℕ). place at.0 own.0 n) (range_with_len 0 (length (costs.effects own.0))) nth.0
+          (from_filtered (has_actions own.0) (range_with_len 0 (length (costs.effects own.0))) nth.0 nth.1).1)),
       nth.2,
     )
   where
@@ -103,14 +159,30 @@ listed_kept r read = among_each (kept r) (active_keys r) (λ k there. by k (list
 
 -- where their numbers are laid, ranks are a layering
 pub layering_of : (r : Reading) → IsReading r → (ts : Places) → AreLayers (price r) (kept r) ts → ((k : NodeKey) → Among (active_keys r) k → is_laid ts k ≡ true) → IsLayering r.service (flow_read r) (λ x. rank_by ts (number r) (key_of x))
-layering_of r read ts layers laid = (serves r read).layering ts layers (λ x y on causes. laid (number r (key_of x)) (on_listed r x on))
+layering_of r read ts layers laid = (serves r read).layering ts layers (λ x y on causes. laid (number r (key_of x)) (on_listed r read x y on causes))
 
 -- and costs are exact
+
+unlaid_costs : (o : Option Laid) → is_some o ≡ false → or_nothing (cost_of o) ≡ 0
+unlaid_costs None e = refl
+unlaid_costs (Some x) e = absurd cc
+
 pub costs_of : (r : Reading) → IsReading r → (ts : Places) → AreLayers (price r) (kept r) ts → ((k : NodeKey) → Among (active_keys r) k → is_laid ts k ≡ true)
-    → (cost : costs.Costing) → IsCost r.service (flow_read r) cost → (x : costs.Effect) → IsOn r.service (flow_read r) x → cost_by ts (number r) (key_of x) ≡ Some (min (cost x) top)
-costs_of r read ts layers laid cost is x on =
-    active_exact r.service (flow_read r) (heard_read r) (read_of r read) (has_by ts (number r)) (cost_by ts (number r)) (rank_by ts (number r))
-    ((serves r read).named ts layers) cost is x on (laid (number r (key_of x)) (on_listed r x on))
+    → (cost : costs.Costing) → IsCost r.service (flow_read r) cost → (x : costs.Effect) → IsOn r.service (flow_read r) x → or_nothing (cost_by ts (number r) (key_of x)) ≡ min (cost x) top
+costs_of r read ts layers laid cost is x on = by (listed_or_idle r read x on)
+  where
+    exact : is_laid ts (number r (key_of x)) ≡ true → or_nothing (cost_by ts (number r) (key_of x)) ≡ min (cost x) top
+    exact here =
+        ap or_nothing (active_exact r.service (flow_read r) (heard_read r) (read_of r read) (has_by ts (number r)) (cost_by ts (number r)) (rank_by ts (number r))
+        ((serves r read).named ts layers) cost is x on here)
+
+    none : IsIdle r x → (b : Bool) → is_laid ts (number r (key_of x)) ≡ b → or_nothing (cost_by ts (number r) (key_of x)) ≡ min (cost x) top
+    none idle true here = exact here
+    none idle false e = unlaid_costs (laid_in ts (number r (key_of x))) e ∙ sym (ap (λ (n : ℕ). min n top) (is x on ∙ idle.costs cost))
+
+    by : Among (active_keys r) (number r (key_of x)) ⊎ IsIdle r x → or_nothing (cost_by ts (number r) (key_of x)) ≡ min (cost x) top
+    by (inl there) = exact (laid (number r (key_of x)) there)
+    by (inr idle) = none idle (is_laid ts (number r (key_of x))) refl
 
 pub counted_kept : (r : Reading) → IsReading r → CountsKept (price r) (kept r)
 counted_kept r read = (serves r read).counted
@@ -121,11 +193,27 @@ none_layered r read = (serves r read).none
 
 -- Loops
 
-pub numbers_more : (c o n : ℕ) (old keys new : List NodeKey) → keys ≡ old ++ map (λ (m : ℕ). key.Effect c o m) (range_with_len 0 n) → new ≡ keys ++ key.Effect c o n ∷ [] → new ≡ old ++ map (λ (m : ℕ). key.Effect c o m) (range_with_len 0 (n + 1))
-numbers_more c o n old keys new so_far more =
-    more ∙ ap (λ (ks : List NodeKey). ks ++ key.Effect c o n ∷ []) so_far
-    ∙ behind old (map (λ (m : ℕ). key.Effect c o m) (range_with_len 0 n)) (key.Effect c o n ∷ [])
-    ∙ ap (λ (ks : List NodeKey). old ++ ks) (sym (map-range_with_len_more (λ (m : ℕ). key.Effect c o m) 0 n n (omega arith)))
+range_more : (n : ℕ) → range_with_len 0 (n + 1) ≡ range_with_len 0 n ++ n ∷ []
+range_more n =
+    sym (map-id (range_with_len 0 (n + 1))) ∙ map-range_with_len_more (λ (m : ℕ). m) 0 n n (omega arith)
+    ∙ ap (λ (ms : List ℕ). ms ++ n ∷ []) (map-id (range_with_len 0 n))
+
+-- with one number more, if it has the property
+numbers_more : (f : ℕ → NodeKey) (is : ℕ → Bool) (n : ℕ) (old keys new : List NodeKey) (b : Bool) → is n ≡ b → keys ≡ old ++ map f (filter is (range_with_len 0 n)) → new ≡ keys ++ map f (cond b (n ∷ []) []) → new ≡ old ++ map f (filter is (range_with_len 0 (n + 1)))
+numbers_more f is n old keys new b told so_far more =
+    more ∙ ap (λ (ks : List NodeKey). ks ++ map f (cond b (n ∷ []) [])) so_far
+    ∙ behind old (map f (filter is (range_with_len 0 n))) (map f (cond b (n ∷ []) []))
+    ∙ ap (λ (ks : List NodeKey). old ++ ks) (
+    ap (λ (d : Bool). map f (filter is (range_with_len 0 n)) ++ map f (cond d (n ∷ []) [])) (sym told)
+    ∙ sym (map-append f (filter is (range_with_len 0 n)) (filter is (n ∷ [])))
+    ∙ ap (map f) (sym (filter-append is (range_with_len 0 n) (n ∷ [])) ∙ ap (filter is) (sym (range_more n))))
+
+pub acting_more : (f : ℕ → NodeKey) (is : ℕ → Bool) (n : ℕ) (old keys new : List NodeKey) (k : NodeKey) → is n ≡ true → f n ≡ k → keys ≡ old ++ map f (filter is (range_with_len 0 n)) → new ≡ keys ++ k ∷ [] → new ≡ old ++ map f (filter is (range_with_len 0 (n + 1)))
+acting_more f is n old keys new k told same so_far more =
+    numbers_more f is n old keys new true told so_far (more ∙ ap (λ (j : NodeKey). keys ++ j ∷ []) (sym same))
+
+pub acting_same : (f : ℕ → NodeKey) (is : ℕ → Bool) (n : ℕ) (old keys : List NodeKey) → is n ≡ false → keys ≡ old ++ map f (filter is (range_with_len 0 n)) → keys ≡ old ++ map f (filter is (range_with_len 0 (n + 1)))
+acting_same f is n old keys told so_far = numbers_more f is n old keys keys false told so_far (sym (append-nil keys))
 
 pub config_pushed : (r : Reading) (c : Config) (n : ℕ) (ps xs ys : List Fixed) (old one two : List NodeKey) → n ≡ config_number r c → ps ≡ present r.service c → xs ++ ys ≡ ps
     → one ≡ old ++ flat_map (keys_at r n) (filter (is_active ps) xs) → two ≡ one ++ flat_map (keys_at r n) (filter (is_active ps) ys) → two ≡ old ++ keys_active r c

@@ -104,7 +104,7 @@ act_exact r read ts layers f is c here a n e =
 effect_exact : (r : Reading) → IsReading r → (ts : Places) → AreLayers (price r) (kept r) ts → list_all (is_laid ts) (root_keys r) ≡ true → (f : costs.Costing) → IsCost r.service (flow_read r) f → (x : costs.Effect) → IsOn r.service (flow_read r) x
     → effect_cost ts (effect_number r x) ≡ cost_told f x
 effect_exact r read ts layers all f is x on =
-    ap or_nothing (costs_of r read ts layers (λ k there. among_all (is_laid ts) (root_keys r) k all (active_rooted r k there)) f is x on)
+    costs_of r read ts layers (λ k there. among_all (is_laid ts) (root_keys r) k all (active_rooted r k there)) f is x on
 
 -- THE FIRST LARGEST
 

@@ -16,6 +16,7 @@ use Rattle.mh_model.specs.Service.{Service}
 use Rattle.mh_flow.specs.Solved.{Solved}
 use Rattle.mh_laws.specs.Costs as costs
 use Rattle.mh_laws.specs.Each.{Among, Each}
+use Rattle.mh_laws.specs.Flow.{Flow}
 use Rattle.mh_laws.specs.Layers.{Causes, IsOn}
 use Rattle.mh_laws.proofs.EachLemmas.{among_each, among_either, among_filtered, among_left, among_right, each_among}
 use Rattle.mh_layers.specs.declared.cause.Cause.{Cause}
@@ -145,6 +146,14 @@ labels_compare label cause P order (x ∷ xs) (y ∷ ys) h k =
 
 -- EFFECTS AND THEIR NUMBERS
 
+-- it puts another effect to work
+abbrev Puts : Service → Flow → costs.Effect → Type 0
+Puts v w x = (y : costs.Effect) × Causes v w x y
+
+puts_first : {v : Service} {w : Flow} (x : costs.Effect) (zs : List costs.Effect) (z : costs.Effect) → Leads v w x zs z → Puts v w x
+puts_first x zs z (cycle.once a b causes) = (z, causes)
+puts_first x zs z (cycle.onward a y ys b causes more) = (y, causes)
+
 module _ (r : Reading) (read : IsReading r) where
   pub named_back : (x : costs.Effect) → IsOn r.service (flow_read r) x → effect_named r (effect_number r x) ≡ x
   named_back x on =
@@ -167,6 +176,12 @@ module _ (r : Reading) (read : IsReading r) where
   all_on x zs z on (cycle.once a b causes) = (caused_on x z on causes, tt)
   all_on x zs z on (cycle.onward a y ys b causes more) =
       let here = caused_on x y on causes in (here, all_on y ys z here more)
+
+  -- and each of them puts another to work, if the last does
+  all_put : (x : costs.Effect) (zs : List costs.Effect) (z : costs.Effect) → IsOn r.service (flow_read r) x → Leads r.service (flow_read r) x zs z → Puts r.service (flow_read r) z → Each (λ (y : costs.Effect). IsOn r.service (flow_read r) y × Puts r.service (flow_read r) y) (zs ++ z ∷ [])
+  all_put x zs z on (cycle.once a b causes) last = ((caused_on x z on causes, last), tt)
+  all_put x zs z on (cycle.onward a y ys b causes more) last =
+      let here = caused_on x y on causes in ((here, puts_first y ys z more), all_put y ys z here more last)
 
   causes_back : (xs : List costs.Effect) → Each (IsOn r.service (flow_read r)) xs → map (cause_named r) (map (effect_number r) xs) ≡ map (cause_of r.service) xs
   causes_back [] on = refl
@@ -204,7 +219,9 @@ module _ (r : Reading) (read : IsReading r) (ts : Places) (layers : AreLayers (p
     where
       by : (b : Bool) → is_laid ts (effect_number r x) ≡ b → Among (unlaid ts (active_keys r)) (effect_number r x)
       by true e = absurd (no_laid_cycle r read ts layers x own.on e zs own.leads)
-      by false e = among_filtered (λ k. not (is_laid ts k)) (active_keys r) (effect_number r x) (ap not e) (on_listed r x own.on)
+      by false e =
+          let put = puts_first x zs x own.leads in
+          among_filtered (λ k. not (is_laid ts k)) (active_keys r) (effect_number r x) (ap not e) (on_listed r read x put.0 own.on put.1)
 
   node_there : (k : NodeKey) → Among (unlaid ts (active_keys r)) k → slice_get ks (node_in ks k) ≡ Some k
   node_there k there = node_found ks k (each_among (Among ks) (unlaid ts (active_keys r)) k web.listed there)
@@ -218,18 +235,23 @@ module _ (r : Reading) (read : IsReading r) (ts : Places) (layers : AreLayers (p
   pub none_found : AreBest r ks g (unlaid ts (active_keys r)) None → NoCycles r.service (flow_read r)
   none_found best x zs own = keys_on x zs own (best (effect_number r x) (on_left x zs own))
 
-  order : (x y : costs.Effect) → IsOn r.service (flow_read r) x → IsOn r.service (flow_read r) y → nat_cmp (label_in r web.standings (effect_number r x)) (label_in r web.standings (effect_number r y)) ≡ by_place (cause_of r.service x) (cause_of r.service y)
+  -- it is active, and puts another to work
+  abbrev IsAtWork : costs.Effect → Type 0
+  IsAtWork x = IsOn r.service (flow_read r) x × Puts r.service (flow_read r) x
+
+  order : (x y : costs.Effect) → IsAtWork x → IsAtWork y → nat_cmp (label_in r web.standings (effect_number r x)) (label_in r web.standings (effect_number r y)) ≡ by_place (cause_of r.service x) (cause_of r.service y)
   order x y on also =
-      labels_order r (active_keys r) web.standings web.are (effect_number r x) (effect_number r y) (on_listed r x on) (on_listed r y also)
-      ∙ (λ i. by_place (cause_back r read x on i) (cause_back r read y also i))
+      labels_order r (active_keys r) web.standings web.are (effect_number r x) (effect_number r y)
+      (on_listed r read x on.1.0 on.0 on.1.1) (on_listed r read y also.1.0 also.0 also.1.1)
+      ∙ (λ i. by_place (cause_back r read x on.0 i) (cause_back r read y also.0 i))
 
   long : (x : costs.Effect) (zs : List costs.Effect) → length (map (λ z. label_in r web.standings (effect_number r z)) (zs ++ x ∷ [])) ≡ length zs + 1
   long x zs = length-map (zs ++ x ∷ []) (λ z. label_in r web.standings (effect_number r z)) ∙ length-append zs (x ∷ [])
 
-  compared : (x : costs.Effect) (ys zs : List costs.Effect) → Each (IsOn r.service (flow_read r)) (ys ++ x ∷ []) → Each (IsOn r.service (flow_read r)) (zs ++ x ∷ []) → length ys ≡ length zs → slice_cmp by_place (map (cause_of r.service) ys) (map (cause_of r.service) zs) ≡ Less
+  compared : (x : costs.Effect) (ys zs : List costs.Effect) → Each IsAtWork (ys ++ x ∷ []) → Each IsAtWork (zs ++ x ∷ []) → length ys ≡ length zs → slice_cmp by_place (map (cause_of r.service) ys) (map (cause_of r.service) zs) ≡ Less
       → slice_cmp nat_cmp (map (λ z. label_in r web.standings (effect_number r z)) (ys ++ x ∷ [])) (map (λ z. label_in r web.standings (effect_number r z)) (zs ++ x ∷ [])) ≡ Less
   compared x ys zs on also same less =
-      labels_compare (λ z. label_in r web.standings (effect_number r z)) (cause_of r.service) (IsOn r.service (flow_read r)) order (ys ++ x ∷ []) (zs ++ x ∷ []) on also
+      labels_compare (λ z. label_in r web.standings (effect_number r z)) (cause_of r.service) IsAtWork order (ys ++ x ∷ []) (zs ++ x ∷ []) on also
       ∙ (λ i. slice_cmp by_place (map-append (cause_of r.service) ys (x ∷ []) i) (map-append (cause_of r.service) zs (x ∷ []) i))
       ∙ less_in_front by_place (map (cause_of r.service) ys) (map (cause_of r.service) zs) (cause_of r.service x ∷ []) (cause_of r.service x ∷ [])
       (length-map ys (cause_of r.service) ∙ same ∙ sym (length-map zs (cause_of r.service))) less
@@ -282,7 +304,7 @@ module _ (r : Reading) (read : IsReading r) (ts : Places) (layers : AreLayers (p
             best.first.first way.0 way.1
             (ap length way.2 ∙ long x ys ∙ ap (λ n. n + 1) same ∙ sym (long x zs) ∙ sym (ap length told.3))
             ((λ i. slice_cmp nat_cmp (way.2 i) (told.3 i))
-            ∙ compared x ys zs (all_on r read x ys x on also.leads) (all_on r read x zs x on told.1) same less);
+            ∙ compared x ys zs (all_put r read x ys x on also.leads (puts_first x ys x also.leads)) (all_put r read x zs x on told.1 (puts_first x zs x told.1)) same less);
       }
 
       along : causes_along r ks b.trail.items ≡ map (cause_of r.service) zs ++ cause_of r.service x ∷ []

@@ -128,7 +128,7 @@ fn unlaid(alloc: Global, laying: &Laying, keys: &[NodeKey]) -> Result<Vec<NodeKe
     Ok(left)
 }
 
-/// The keys of all active effects.
+/// The keys of all active effects that have actions.
 fn effects(alloc: Global, net: &Net<'_>) -> Result<Vec<NodeKey>, AllocError>
     ensures { IfOk result (λ keys. keys.items ≡ active_keys net.now) }
 {

@@ -63,13 +63,13 @@ impl<'a> Layers<'a> {
         }
     }
 
-    /// What the effect costs, if that is laid.
-    pub fn cost(&self, config: &Config, at: &ObjRef, number: usize) -> Option<u64>
+    /// What the effect costs; nothing, if it is not laid, since then it has no actions.
+    pub fn cost(&self, config: &Config, at: &ObjRef, number: usize) -> u64
         ensures { result ≡ cost_laid self.now (record { config = config.now; object = at.now; number = number }) }
     {
         match self.laying.costs().laid(&self.key(config, at, number)) {
-            None => None,
-            Some(laid) => Some(laid.cost),
+            None => 0,
+            Some(laid) => laid.cost,
         }
     }
 

@@ -1,4 +1,4 @@
-//! The keys that are laid first: of the start, of all inputs, and of all active effects.
+//! The keys that are laid first: of the start, of all inputs, and of all active effects that have actions.
 //!
 //! Promise: each of them is there, in the order of configurations and of what is present.
 ghost use Rattle.std.specs.Prelude.{◌≡◌, ◌++◌, length, map, filter, IfOk, IfSome, OnOk};
@@ -6,11 +6,12 @@ ghost use Rattle.std.specs.List.{flat_map, range_with_len};
 ghost use Rattle.mh_model.specs.Configuration.{starting as starting_lem};
 ghost use Rattle.mh_laws.specs.Active.{is_active};
 ghost use Rattle.mh_laws.specs.Costs.{effects};
-ghost use Rattle.mh_layers.specs.Layered.{active_keys, input_keys, keys_active, keys_at, kinds, root_keys};
-ghost use Rattle.mh_layers.specs.Reading.{config_number, flow_read};
+ghost use Rattle.mh_layers.specs.Layered.{active_keys, has_actions, input_keys, keys_active, keys_at, kinds, root_keys};
+ghost use Rattle.mh_layers.specs.Reading.{config_number, flow_read, object_number};
 ghost use Rattle.mh_layers.specs.declared.node_key.NodeKey.TheVariants as key;
 
 use crate::bounds::InputKind;
+use crate::effects::effect_acts;
 use crate::net::Net;
 use crate::node_key::NodeKey;
 use crate::slots::known_slots;
@@ -28,16 +29,32 @@ fn effect_count(part: &Fixed) -> Option<usize>
     }
 }
 
-fn push_numbers(
+/// Whether the object's effect with this number has actions: one without costs nothing, and puts nothing to work.
+fn has_actions(part: &Fixed, number: usize) -> bool
+    ensures { result ≡ has_actions part.now number }
+{
+    !effect_acts(part, number).is_empty()
+}
+
+/// Puts the keys of those of the object's first effects that have actions.
+fn push_acting(
     keys: &mut Vec<NodeKey>,
+    net: &Net<'_>,
     config: usize,
-    object: usize,
+    part: &Fixed,
     count: usize,
 ) -> Result<(), AllocError>
-    ensures { OnOk result (keys.new.items ≡ keys.old.items ++ map (λ n. key.Effect config object n) (range_with_len 0 count)) }
+    ensures { let acting = filter (has_actions part.now) (range_with_len 0 count) in
+        OnOk result (keys.new.items ≡ keys.old.items ++ map (λ n. key.Effect config (object_number net.now part.now.key) n) acting) }
 {
     for number in 0..count {
-        keys.push(NodeKey::Effect(config, object, number))?;
+        if has_actions(part, number) {
+            keys.push(NodeKey::Effect(
+                config,
+                net.object_number(&part.key),
+                number,
+            ))?;
+        }
     }
     Ok(())
 }
@@ -52,11 +69,11 @@ fn push_part(
 {
     match effect_count(part) {
         None => Err(AllocError),
-        Some(count) => push_numbers(keys, config, net.object_number(&part.key), count),
+        Some(count) => push_acting(keys, net, config, part, count),
     }
 }
 
-/// Puts the keys of those of these parts that are active.
+/// Puts the keys of the effects of those of these parts that are active.
 fn push_active(
     keys: &mut Vec<NodeKey>,
     net: &Net<'_>,
@@ -142,7 +159,7 @@ pub(crate) fn start_number(net: &Net<'_>) -> Result<usize, AllocError>
     Ok(net.config_number(&start))
 }
 
-/// The keys of the start, of all inputs and of all active effects.
+/// The keys of the start, of all inputs and of all active effects that have actions.
 pub(crate) fn roots(alloc: Global, net: &Net<'_>) -> Result<Vec<NodeKey>, AllocError>
     ensures { IfOk result (λ keys. keys.items ≡ root_keys net.now) }
 {
