@@ -97,6 +97,8 @@ impl<'a> View for Asked<'a> {
 
     type Mark = ();
 
+    type Cursor = usize;
+
     type Stop = Infallible;
 
     ghost Key = { Effect };

@@ -1,11 +1,10 @@
 -- What loops add to a sum is what their lists come to, and what is added by numbers is added by names.
-use Rattle.std.specs.Prelude.{◌≡◌, ◌&&◌, ◌<◌, ◌+◌, ◌-◌, ℕ, zero, suc, Bool, true, false, cond, if◌then◌else◌, filter, drop, List, [], ◌∷◌, ◌++◌, get_or, length, slice_get, Option, Some, None, Result, Ok, Err, refl}
+use Rattle.std.specs.Prelude.{◌≡◌, ◌&&◌, ◌<◌, ◌+◌, ◌-◌, ℕ, zero, suc, Bool, true, false, cond, if◌then◌else◌, filter, drop, List, [], ◌∷◌, ◌++◌, get_or, length, Option, Some, None, Result, Ok, Err, refl}
 use Rattle.std.specs.List.{flat_map, range_with_len}
 use Rattle.std.specs.Option.{option_map}
 use Rattle.std.proofs.Common.{arith, ap, ◌∙◌, sym}
 use Rattle.std.proofs.lemmas.List.{drop_more}
 use Rattle.std.proofs.lemmas.List.Elements.{filter-append}
-use Rattle.std.proofs.lemmas.Option.{get_or_from_slice_get, slice_get_within}
 use Rattle.mh_base.specs.declared.obj_ref.ObjRef.{ObjRef}
 use Rattle.mh_base.specs.declared.value.Value.{Value}
 use Rattle.mh_base.specs.declared.event.EventType.{EventType}
@@ -81,15 +80,6 @@ links_come {S} seen m v c o kind is ps qs s t r first second before h = adds_as 
         ∙ sym (onto_filtered m waits (link_node c) (group_parts v c.app ++ scene_parts v c.scene) (seen s))
 
 -- Sets and numbers
-
-pub got_next : {X : Type 0} (xs : List X) (n : ℕ) (x : X) → slice_get xs n ≡ Some x → drop n xs ≡ x ∷ drop (n + 1) xs
-got_next {X} xs n x at = drop_more xs n x (slice_get_within xs n x at) ∙ ap (λ (y : X). y ∷ drop (n + 1) xs) (get_or_from_slice_get xs n x x at)
-
-pub got_none : {X : Type 0} (xs : List X) (n : ℕ) → slice_get xs n ≡ None → drop n xs ≡ []
-got_none [] zero e = refl
-got_none [] (suc n) e = refl
-got_none (x ∷ xs) zero e = absurd cc
-got_none (x ∷ xs) (suc n) e = got_none xs n e
 
 one_less : (n : ℕ) → n ≡ suc n - 1
 one_less n = omega arith

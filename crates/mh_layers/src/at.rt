@@ -161,7 +161,7 @@ impl<'a> At<'a> {
     }
 
     /// To what a variable may refer, or which items a list may have.
-    pub fn set(&self, at: &ObjRef) -> &[ObjRef]
+    pub fn set(&self, at: &ObjRef) -> &'a [ObjRef]
         ensures { result.now ≡ (flow_read self.now.reading).sets self.now.config at.now }
     {
         self.held.of(&self.present, at)

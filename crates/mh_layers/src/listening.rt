@@ -3,9 +3,8 @@
 //!
 //! Promise: of each group exactly the links that wait for such an event are found, in their order, by their data; and
 //! the data that is named is each once in one list, which leaves none out.
-ghost use Rattle.std.specs.Prelude.{◌≡◌, ◌++◌, ◌∷◌, [], ◌&&◌, IfOk, OnOk, if◌then◌else◌, None, Some, filter, length, position, slice_get};
+ghost use Rattle.std.specs.Prelude.{◌≡◌, ◌∷◌, [], ◌&&◌, IfOk, OnOk, None, Some, filter, length, position, slice_get};
 ghost use Rattle.std.specs.List.{flat_map};
-ghost use Rattle.std.specs.Map.{lookup};
 ghost use Rattle.std.specs.Option.{option_copied};
 ghost use Rattle.indexmap.specs.IndexSet.{insert_all};
 ghost use Rattle.mh_model.specs.Reference.{same_key};
@@ -14,27 +13,21 @@ ghost use Rattle.mh_model.specs.Variables.{same_value};
 ghost use Rattle.mh_layers.specs.Grouped.{has, is_plain};
 ghost use Rattle.mh_layers.specs.Keys as keys;
 ghost use Rattle.mh_layers.specs.Listening as spec;
-ghost use Rattle.mh_layers.specs.Listening.{AllAreHeard, HeardIsNamed, IsListening, ObjectsAreNumbered, SumsOverLinks, ValuesAreNumbered, heard, is_ear, is_place, listed, lists_at, lists_from, lists_in, mentioned, named, named_by, same_ear, same_place, with_data, with_more};
+ghost use Rattle.mh_layers.specs.Listening.{AllAreHeard, HeardIsNamed, IsListening, ObjectsAreNumbered, SumsOverLinks, ValuesAreNumbered, heard, listed, mentioned};
 
-use crate::place::{Ear, Place, Share};
+use crate::ears::{Ears, ear_with, ears_of, source_of};
+use crate::lists::{Lists, lists_of, place_with};
+use crate::place::Place;
 use crate::values::Values;
 use indexmap::{IndexMap, IndexSet};
-use mh_base::{EventType, GroupName, ObjRef, Seq, Value};
+use mh_base::{EventType, GroupName, ObjRef, Seq};
 use mh_flow::Equipped;
-use mh_group::{Attribute, Class};
-use mh_model::held::{as_event, as_value};
 use mh_model::{Fixed, FixedPart};
 use std::alloc::{AllocError, Global};
 use std::marker::Model;
 
 /// The groups of a service, each with what its file says of its objects.
-type Groups = IndexMap<GroupName, Seq<FixedPart>>;
-
-/// What data is named of which events.
-type Ears = IndexMap<Ear, Values>;
-
-/// The links, by what they have in common.
-type Lists = IndexMap<Place, Seq<FixedPart>>;
+pub(crate) type Groups = IndexMap<GroupName, Seq<FixedPart>>;
 
 impl Model for Listeners {
     ghost use Rattle.mh_layers.specs.Listening.{Listeners as ListenersValue};
@@ -166,78 +159,7 @@ impl Listeners {
     }
 }
 
-/// The events of this type of a source that has a number.
-fn ear_with(objects: &IndexSet<ObjRef>, source: &ObjRef, kind: EventType) -> Option<Ear>
-    ensures { result ≡ spec.ear_with objects.now.keys source.now kind }
-{
-    match objects.get_index_of(source) {
-        None => None,
-        Some(source) => Some(Ear {
-            source,
-            kind: kind.number(),
-        }),
-    }
-}
-
-/// The links of the group with this number that wait for such events, and have no data, or the value with this number.
-fn place_with(
-    objects: &IndexSet<ObjRef>,
-    group: Option<usize>,
-    source: &ObjRef,
-    kind: EventType,
-    value: Option<usize>,
-) -> Option<Place>
-    ensures { result ≡ spec.place_with objects.now.keys group source.now kind value }
-{
-    match (ear_with(objects, source, kind), group) {
-        (Some(ear), Some(group)) => Some(place_at(ear, group, value)),
-        _ => None,
-    }
-}
-
-fn place_at(ear: Ear, group: usize, value: Option<usize>) -> Place
-    ensures { result ≡ spec.place_at ear group value }
-{
-    Place {
-        ear,
-        share: Share { group, value },
-    }
-}
-
-/// The source for whose events a link waits.
-pub(crate) fn source_of(part: &Fixed) -> Option<&ObjRef>
-    ensures { option_copied result ≡ spec.source_of part.now }
-{
-    if !matches!(part.class, Class::Link) {
-        return None;
-    }
-    match as_value(part.properties.get(Attribute::EventSource)) {
-        Some(Value::Object(source)) => Some(source),
-        _ => None,
-    }
-}
-
-/// The data that a link names.
-pub(crate) fn data_of(part: &Fixed) -> Option<&Value>
-    ensures { option_copied result ≡ keys.data_of part.now }
-{
-    as_value(part.properties.get(Attribute::EventData))
-}
-
-/// The events for which a link waits.
-fn ear_of(objects: &IndexSet<ObjRef>, part: &Fixed) -> Option<Ear>
-    ensures { result ≡ spec.ear_of objects.now.keys part.now }
-{
-    match source_of(part) {
-        None => None,
-        Some(source) => match as_event(part.properties.get(Attribute::EventType)) {
-            None => None,
-            Some(kind) => ear_with(objects, source, kind),
-        },
-    }
-}
-
-// The objects.
+// The objects
 
 fn put(objects: &mut IndexSet<ObjRef>, at: &ObjRef) -> Result<(), AllocError>
     ensures { OnOk result (objects.new.keys ≡ insert_all same_key objects.old.keys (at.now ∷ [])) }
@@ -278,238 +200,6 @@ fn objects_of(alloc: Global, groups: &Groups) -> Result<IndexSet<ObjRef>, AllocE
         put_parts(&mut objects, parts.as_slice())?;
     }
     Ok(objects)
-}
-
-// The data.
-
-/// Puts the data of a link, if it has any, to what is named of these events.
-fn hear(alloc: Global, ears: &mut Ears, ear: Ear, value: Option<&Value>) -> Result<(), AllocError>
-    ensures { let d = option_copied value.entry in OnOk result
-        ((q : _) →
-        let before = lookup (same_ear q) ears.old.entries in
-        lookup (same_ear q) ears.new.entries ≡ (if same_ear ear q then Some (with_more d before) else before)) }
-{
-    match ears.get_mut(&ear) {
-        Some(values) => {
-            values.add(value)?;
-            Ok(())
-        }
-        None => begin(alloc, ears, ear, value),
-    }
-}
-
-/// The data of the first link that waits for these events.
-fn begin(alloc: Global, ears: &mut Ears, ear: Ear, value: Option<&Value>) -> Result<(), AllocError>
-    ensures { let d = option_copied value.entry in OnOk result
-        ((q : _) →
-        lookup (same_ear q) ears.new.entries
-        ≡ (if same_ear ear q then Some (with_data [] d) else lookup (same_ear q) ears.old.entries)) }
-{
-    let mut values = Values::new(alloc);
-    values.add(value)?;
-    ears.insert(ear, values)?;
-    Ok(())
-}
-
-/// Puts the data of a link to what is named of the events for which it waits.
-fn hear_part(
-    alloc: Global,
-    objects: &IndexSet<ObjRef>,
-    ears: &mut Ears,
-    part: &Fixed,
-) -> Result<(), AllocError>
-    ensures { let os = objects.now.keys in OnOk result
-        ((q : _) →
-        lookup (same_ear q) ears.new.entries
-        ≡ named_by (λ p. is_ear q (spec.ear_of os p)) (lookup (same_ear q) ears.old.entries) part.now) }
-{
-    match ear_of(objects, part) {
-        None => Ok(()),
-        Some(ear) => {
-            hear(alloc, ears, ear, data_of(part))?;
-            Ok(())
-        }
-    }
-}
-
-/// The same for the links of a group.
-fn hear_parts(
-    alloc: Global,
-    objects: &IndexSet<ObjRef>,
-    ears: &mut Ears,
-    parts: &[FixedPart],
-) -> Result<(), AllocError>
-    ensures { let os = objects.now.keys in OnOk result
-        ((q : _) →
-        lookup (same_ear q) ears.new.entries
-        ≡ named (λ p. is_ear q (spec.ear_of os p)) (lookup (same_ear q) ears.old.entries) parts.now) }
-{
-    for part in parts {
-        hear_part(alloc, objects, ears, part.get())?;
-    }
-    Ok(())
-}
-
-/// What data the links of the groups name, by the events for which they wait.
-fn ears_of(alloc: Global, objects: &IndexSet<ObjRef>, groups: &Groups) -> Result<Ears, AllocError>
-    ensures { let os = objects.now.keys in IfOk result
-        (λ ears. (q : _) →
-        lookup (same_ear q) ears.entries
-        ≡ named (λ p. is_ear q (spec.ear_of os p)) None (flat_map (λ e. e.1) groups.now.entries)) }
-{
-    let mut ears = IndexMap::new(alloc);
-    for parts in groups.values() {
-        hear_parts(alloc, objects, &mut ears, parts.as_slice())?;
-    }
-    Ok(ears)
-}
-
-// The links.
-
-/// Which of the values that are named the data of a link is: none, where it has no data, or the value with this number.
-fn number_in(values: Option<&Values>, value: Option<&Value>) -> Option<Option<usize>>
-    ensures { result ≡ spec.number_in (option_copied values.entry) (option_copied value.entry) }
-{
-    match value {
-        None => Some(None),
-        Some(value) => match values {
-            None => None,
-            Some(values) => numbered(values, value),
-        },
-    }
-}
-
-fn numbered(values: &Values, value: &Value) -> Option<Option<usize>>
-    ensures { result ≡ spec.number_in (Some values.now) (Some value.now) }
-{
-    match values.number_of(value) {
-        None => None,
-        Some(number) => Some(Some(number)),
-    }
-}
-
-/// The place of a link of the group with this number.
-fn place_of(objects: &IndexSet<ObjRef>, ears: &Ears, group: usize, part: &Fixed) -> Option<Place>
-    ensures { result ≡ spec.place_of objects.now.keys ears.now.entries group part.now }
-{
-    match ear_of(objects, part) {
-        None => None,
-        Some(ear) => match number_in(ears.get(&ear), data_of(part)) {
-            None => None,
-            Some(value) => Some(place_at(ear, group, value)),
-        },
-    }
-}
-
-/// Puts a link to those at this place.
-fn list(alloc: Global, lists: &mut Lists, place: Place, part: &FixedPart) -> Result<(), AllocError>
-    ensures { OnOk result
-        ((q : _) →
-        listed q lists.new.entries
-        ≡ listed q lists.old.entries ++ (if same_place place q then part.now ∷ [] else [])) }
-{
-    let part = part.clone()?;
-    match lists.get_mut(&place) {
-        Some(parts) => {
-            parts.push(part)?;
-            Ok(())
-        }
-        None => start(alloc, lists, place, part),
-    }
-}
-
-/// Puts the first link to a place.
-fn start(alloc: Global, lists: &mut Lists, place: Place, part: FixedPart) -> Result<(), AllocError>
-    ensures { OnOk result
-        ((q : _) →
-        lookup (same_place q) lists.new.entries
-        ≡ (if same_place place q then Some (part ∷ []) else lookup (same_place q) lists.old.entries)) }
-{
-    let mut parts = Seq::new(alloc);
-    parts.push(part)?;
-    lists.insert(place, parts)?;
-    Ok(())
-}
-
-/// Puts a link to those at its place.
-fn list_part(
-    alloc: Global,
-    objects: &IndexSet<ObjRef>,
-    ears: &Ears,
-    lists: &mut Lists,
-    group: usize,
-    part: &FixedPart,
-) -> Result<(), AllocError>
-    ensures { let at = spec.place_of objects.now.keys ears.now.entries group part.now in OnOk result
-        ((q : _) →
-        listed q lists.new.entries ≡ listed q lists.old.entries ++ (if is_place q at then part.now ∷ [] else [])) }
-{
-    match place_of(objects, ears, group, part.get()) {
-        None => Ok(()),
-        Some(place) => {
-            list(alloc, lists, place, part)?;
-            Ok(())
-        }
-    }
-}
-
-/// The same for the links of a group.
-fn list_parts(
-    alloc: Global,
-    objects: &IndexSet<ObjRef>,
-    ears: &Ears,
-    lists: &mut Lists,
-    group: usize,
-    parts: &[FixedPart],
-) -> Result<(), AllocError>
-    ensures { let os = objects.now.keys in let es = ears.now.entries in OnOk result
-        ((q : _) →
-        listed q lists.new.entries ≡ listed q lists.old.entries ++ lists_in os es q group parts.now) }
-{
-    for part in parts {
-        list_part(alloc, objects, ears, lists, group, part)?;
-    }
-    Ok(())
-}
-
-/// The same for the group with this number.
-fn list_group(
-    alloc: Global,
-    objects: &IndexSet<ObjRef>,
-    ears: &Ears,
-    lists: &mut Lists,
-    group: usize,
-    groups: &Groups,
-) -> Result<(), AllocError>
-    ensures { let os = objects.now.keys in let es = ears.now.entries in OnOk result
-        ((q : _) →
-        listed q lists.new.entries
-        ≡ listed q lists.old.entries ++ lists_at os es q group (slice_get groups.now.entries group)) }
-{
-    match groups.get_index(group) {
-        None => Ok(()),
-        Some((_, parts)) => {
-            list_parts(alloc, objects, ears, lists, group, parts.as_slice())?;
-            Ok(())
-        }
-    }
-}
-
-/// The links of the groups, by what they have in common.
-fn lists_of(
-    alloc: Global,
-    objects: &IndexSet<ObjRef>,
-    ears: &Ears,
-    groups: &Groups,
-) -> Result<Lists, AllocError>
-    ensures { let os = objects.now.keys in let es = ears.now.entries in IfOk result
-        (λ lists. (q : _) → listed q lists.entries ≡ lists_from os es q 0 groups.now.entries) }
-{
-    let mut lists = IndexMap::new(alloc);
-    for group in 0..groups.len() {
-        list_group(alloc, objects, ears, &mut lists, group, groups)?;
-    }
-    Ok(lists)
 }
 
 /// What is heard is what links name that wait, so that none is left out, whatever flow; objects and values are told by

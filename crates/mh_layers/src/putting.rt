@@ -9,7 +9,7 @@ ghost use Rattle.mh_layers.specs.Arrows.{is_waited_for, number_by};
 ghost use Rattle.mh_layers.specs.Listening.{names_event};
 
 use crate::arrow::By;
-use crate::listening::{data_of, source_of};
+use crate::ears::{data_of, source_of};
 use crate::standing::copied_reference;
 use crate::values::copied;
 use mh_base::{EventType, ObjRef, Value};

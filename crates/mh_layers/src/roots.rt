@@ -49,11 +49,7 @@ fn push_acting(
 {
     for number in 0..count {
         if has_actions(part, number) {
-            keys.push(NodeKey::Effect(
-                config,
-                net.object_number(&part.key),
-                number,
-            ))?;
+            keys.push(NodeKey::Effect(config, net.object_number(&part.key), number))?;
         }
     }
     Ok(())

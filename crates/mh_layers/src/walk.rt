@@ -167,16 +167,17 @@ impl<'a, M: Meter> Walk<'a, M> {
 }
 
 impl<'a, M: Meter> View for Walk<'a, M> {
-    ghost use Rattle.std.specs.Prelude.{drop};
     ghost use Rattle.mh_laws.specs.Costs as costs;
     ghost use Rattle.mh_layers.specs.Key.{Key as KeyLem};
     ghost use Rattle.mh_layers.specs.Keys.{group_effect};
     ghost use Rattle.mh_layers.specs.Numbered.{through};
-    ghost use Rattle.mh_layers.specs.Reading.{around_at, flow_read, number as number_of};
+    ghost use Rattle.mh_layers.specs.Reading.{around_at, number as number_of};
 
     type Sum = M::Sum;
 
     type Mark = M::Mark;
+
+    type Cursor = &'a [ObjRef];
 
     type Stop = AllocError;
 
@@ -194,7 +195,7 @@ impl<'a, M: Meter> View for Walk<'a, M> {
 
     ghost around = { λ w. around_at w.here.now };
 
-    ghost left = { λ w r n. drop n ((flow_read w.here.now.reading).sets w.here.now.config r) };
+    ghost left = { λ w r c. c.now };
 
     ghost starts = { λ w g. group_effect w.here.now.reading.service w.here.now.config costs.on_start_up g };
 
@@ -220,15 +221,14 @@ impl<'a, M: Meter> View for Walk<'a, M> {
         self.here.find(at)
     }
 
-    fn begin(&self, _at: &ObjRef) -> usize {
-        0
+    fn begin(&self, at: &ObjRef) -> &'a [ObjRef] {
+        self.here.set(at)
     }
 
-    #[tactic(auto, using(crate::proofs::OntoLemmas::got_next, crate::proofs::OntoLemmas::got_none))]
-    fn item(&self, at: &ObjRef, place: usize) -> Option<(&ObjRef, usize)> {
-        match self.here.set(at).get(place) {
-            None => None,
-            Some(item) => Some((item, place + 1)),
+    fn item(&self, _at: &ObjRef, place: &'a [ObjRef]) -> Option<(&ObjRef, &'a [ObjRef])> {
+        match place {
+            [] => None,
+            [item, behind @ ..] => Some((item, behind)),
         }
     }
 

@@ -1,5 +1,4 @@
 mod TurnedLemmas
-mod CostLemmas
 pub mod KeysLemmas
 pub mod FoundLemmas
 pub mod NearLemmas

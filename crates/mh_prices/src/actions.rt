@@ -94,7 +94,7 @@ fn done_from<A: Around>(
     around: &A,
     act: &Act,
     variable: &ObjRef,
-    place: usize,
+    place: A::Cursor,
     mark: A::Mark,
     sum: A::Sum,
 ) -> Result<(A::Mark, A::Sum), A::Stop>

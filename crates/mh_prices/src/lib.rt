@@ -5,27 +5,15 @@
 #![tactic(auto)]
 
 mod actions;
-mod cost;
-mod found;
 mod groups;
-mod keyed;
-mod keyed_price;
-mod keys;
 mod life;
-mod meter;
-mod metered;
 mod putting;
 mod sending;
 mod told;
 mod view;
 
 pub use actions::{act, acts, done_to};
-pub use cost::{Costs, cost_of};
-pub use found::counts;
 pub use groups::{enter, leave_all, leave_scene};
-pub use keyed::Keyed;
-pub use keyed_price::KeyedPrice;
-pub use keys::keys_of;
 pub use life::{change, plain_emit};
 pub use told::Told;
 pub use view::{Around, Groups, Lists, View};

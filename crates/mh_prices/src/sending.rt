@@ -29,7 +29,7 @@ fn told_by(more: &[Argument]) -> Told<'_>
 fn sent_from<V: View>(
     view: &V,
     variable: &ObjRef,
-    place: usize,
+    place: V::Cursor,
     kind: EventType,
     told: &Told<'_>,
     mark: V::Mark,

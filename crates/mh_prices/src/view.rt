@@ -21,6 +21,9 @@ pub trait View {
     /// What is put aside while the largest of several prices is asked for.
     type Mark: Copy + Drop;
 
+    /// A place in a set.
+    type Cursor: Copy + Drop;
+
     /// Why there is no sum.
     type Stop: Drop;
 
@@ -40,7 +43,7 @@ pub trait View {
     ghost around: { Self → AroundLem Key };
 
     /// What a set has from a place on.
-    ghost left: { Self → ObjRefLem → ℕ → List ObjRefLem };
+    ghost left: { Self → ObjRefLem → Self.Cursor → List ObjRefLem };
 
     /// What the start-up of a group comes to, and its close-down. `Groups` asks for them.
     ghost starts: { Self → List ℕ → Price Key };
@@ -68,11 +71,11 @@ pub trait View {
         ensures { option_copied result ≡ (around self.now).lists.view.part at.now };
 
     /// The place at which the set begins of what a variable may refer to, or of the items that a list may have.
-    fn begin(&self, at: &ObjRef) -> usize
+    fn begin(&self, at: &ObjRef) -> Self::Cursor
         ensures { left self.now at.now result ≡ (around self.now).lists.view.set at.now };
 
     /// What the set has at the place or behind it, and the place that comes next.
-    fn item(&self, at: &ObjRef, place: usize) -> Option<(&ObjRef, usize)>
+    fn item(&self, at: &ObjRef, place: Self::Cursor) -> Option<(&ObjRef, Self::Cursor)>
         ensures some { IfSome result (λ x. left self.now at.now place ≡ x.0.now ∷ left self.now at.now x.1) }
         ensures none { IfNone result (left self.now at.now place ≡ []) };
 

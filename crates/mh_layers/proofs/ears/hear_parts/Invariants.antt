@@ -2,7 +2,7 @@ use Rattle.std.proofs.Common.{◌≡◌, drop}
 use Rattle.std.specs.Map.{lookup}
 use Rattle.mh_layers.specs.declared.place.Ear.{Ear}
 use Rattle.mh_layers.specs.Listening.{ear_of, is_ear, named, same_ear}
-use Rattle.mh_layers.proofs.listening.hear_parts.Given as goal
+use Rattle.mh_layers.proofs.ears.hear_parts.Given as goal
 
 abbrev pub invariant-loop-part : goal.invariant-loop-part
 invariant-loop-part l =

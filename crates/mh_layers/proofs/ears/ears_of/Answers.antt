@@ -4,7 +4,7 @@ use Rattle.std.specs.Map.{lookup}
 use Rattle.mh_model.specs.declared.object.Fixed.{Fixed}
 use Rattle.mh_layers.specs.Listening.{ear_of, is_ear, named, same_ear}
 use Rattle.mh_layers.proofs.ListeningLemmas.{joined}
-use Rattle.mh_layers.proofs.listening.ears_of.Goals as goal
+use Rattle.mh_layers.proofs.ears.ears_of.Goals as goal
 
 pub loop-parts-init : goal.loop-parts-init
 loop-parts-init c = λ q.

@@ -1,7 +1,7 @@
 use Rattle.std.proofs.Common.{◌≡◌, ◌++◌, drop}
 use Rattle.mh_layers.specs.declared.place.Place.{Place}
 use Rattle.mh_layers.specs.Listening.{listed, lists_in}
-use Rattle.mh_layers.proofs.listening.list_parts.Given as goal
+use Rattle.mh_layers.proofs.lists.list_parts.Given as goal
 
 abbrev pub invariant-loop-part : goal.invariant-loop-part
 invariant-loop-part l =

@@ -3,7 +3,7 @@ use Rattle.std.specs.List.{flat_map}
 use Rattle.std.specs.Map.{lookup}
 use Rattle.mh_layers.specs.declared.place.Ear.{Ear}
 use Rattle.mh_layers.specs.Listening.{ear_of, is_ear, named, same_ear}
-use Rattle.mh_layers.proofs.listening.ears_of.Given as goal
+use Rattle.mh_layers.proofs.ears.ears_of.Given as goal
 
 abbrev pub invariant-loop-parts : goal.invariant-loop-parts
 invariant-loop-parts l =

@@ -1,7 +1,7 @@
 use Rattle.std.proofs.Common.{◌≡◌, ◌++◌, drop}
 use Rattle.mh_layers.specs.declared.place.Place.{Place}
 use Rattle.mh_layers.specs.Listening.{listed, lists_from}
-use Rattle.mh_layers.proofs.listening.lists_of.Given as goal
+use Rattle.mh_layers.proofs.lists.lists_of.Given as goal
 
 abbrev pub invariant-loop-group : goal.invariant-loop-group
 invariant-loop-group l =

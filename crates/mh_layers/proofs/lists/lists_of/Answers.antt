@@ -1,7 +1,7 @@
 use Rattle.std.proofs.Common.{◌∙◌, arith}
 use Rattle.mh_layers.proofs.ListeningLemmas.{next_group}
 use Rattle.mh_layers.specs.Listening.{listed}
-use Rattle.mh_layers.proofs.listening.lists_of.Goals as goal
+use Rattle.mh_layers.proofs.lists.lists_of.Goals as goal
 
 pub loop-group-preserved : goal.loop-group-preserved
 loop-group-preserved c = λ q.
