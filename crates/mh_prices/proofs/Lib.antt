@@ -1,4 +1,5 @@
 mod TurnedLemmas
+mod ThroughLemmas
 pub mod KeysLemmas
 pub mod FoundLemmas
 pub mod NearLemmas

@@ -113,6 +113,7 @@ fn done_from<A: Around>(
 }
 
 /// It is done to what a variable may refer to.
+#[tactic(auto, using(crate::proofs::ThroughLemmas::most_through))]
 fn done_through<A: Around>(
     around: &A,
     act: &Act,
@@ -122,13 +123,12 @@ fn done_through<A: Around>(
     ensures { let a = A.around around.now in
         Adds A.seen (A.meter around.now) (most_price (spec.done_to a act.now.name act.now.arguments) (a.lists.view.set variable.now)) sum result }
 {
-    let Some((first, behind)) = around.item(variable, around.begin(variable)) else {
+    let begin = around.begin(variable);
+    if around.item(variable, begin).is_none() {
         return Ok(sum);
-    };
+    }
     let (mark, sum) = around.aside(sum);
-    let sum = done_to(around, act.name, act.arguments.as_slice(), first, sum)?;
-    let (mark, sum) = around.next(mark, sum);
-    let (mark, sum) = done_from(around, act, variable, behind, mark, sum)?;
+    let (mark, sum) = done_from(around, act, variable, begin, mark, sum)?;
     Ok(around.close(mark, sum))
 }
 

@@ -50,6 +50,7 @@ fn sent_from<V: View>(
 }
 
 /// What a variable may refer to sends it.
+#[tactic(auto, using(crate::proofs::ThroughLemmas::most_through))]
 fn sent_through<V: View>(
     view: &V,
     variable: &ObjRef,
@@ -60,13 +61,12 @@ fn sent_through<V: View>(
     ensures { let a = (V.around view.now).lists.view in
         Adds V.seen (V.meter view.now) (most_price (λ q. spec.emit a q kind told.now) (a.set variable.now)) sum result }
 {
-    let Some((first, behind)) = view.item(variable, view.begin(variable)) else {
+    let begin = view.begin(variable);
+    if view.item(variable, begin).is_none() {
         return Ok(sum);
-    };
+    }
     let (mark, sum) = view.aside(sum);
-    let sum = emit(view, first, kind, told, sum)?;
-    let (mark, sum) = view.next(mark, sum);
-    let (mark, sum) = sent_from(view, variable, behind, kind, told, mark, sum)?;
+    let (mark, sum) = sent_from(view, variable, begin, kind, told, mark, sum)?;
     Ok(view.close(mark, sum))
 }
 
