@@ -19,6 +19,7 @@ use Rattle.mh_machine.specs.declared.plan.Change.TheVariants as change
 use Rattle.mh_machine.specs.Plans.{Makes, change_at}
 use Rattle.mh_machine.specs.Holds.{Holds}
 use Rattle.mh_work.specs.Links.{IsIndex}
+use Rattle.mh_work.specs.Listening.{Index}
 
 -- what is known of the object may be used
 found_in : (f : Fixed → Body → Body) (r : ObjRef) (os : List Object) (o : Object) → object_at r os ≡ Some o → changed_in (λ p b. f o.fixed o.body) r os ≡ changed_in f r os
@@ -118,7 +119,7 @@ pub begun_own : (ps : List Fixed) (os : Objects) → os ≡ record { application
 begun_own ps os e = ap (λ (x : Objects). parts x.application) e ∙ parts-fresh ps
 
 -- what a machine keeps, when the scene has been exchanged
-pub exchanged : (v : Service) (app : List ℕ) (os after : Objects) (ps own : List Fixed) (links : List (ℕ × List ℕ)) (locks taken : ℕ)
+pub exchanged : (v : Service) (app : List ℕ) (os after : Objects) (ps own : List Fixed) (links : Index) (locks taken : ℕ)
     → after ≡ record os { scene = map fresh ps } → parts os.application ≡ group_parts v app → own ≡ group_parts v app → IsIndex links (own ++ ps)
     → locks ≤ taken → Holds v app after links locks taken
 exchanged v app os after ps own links locks taken e kept is_own index counted =
@@ -133,7 +134,7 @@ exchanged v app os after ps own links locks taken e kept is_own index counted =
     }
 
 -- and when the application has been exchanged
-pub launched : (v : Service) (app : List ℕ) (after : Objects) (ps : List Fixed) (links : List (ℕ × List ℕ)) (locks taken : ℕ)
+pub launched : (v : Service) (app : List ℕ) (after : Objects) (ps : List Fixed) (links : Index) (locks taken : ℕ)
     → after ≡ record { application = map fresh ps; scene = [] } → ps ≡ group_parts v app → IsIndex links (ps ++ []) → locks ≤ taken
     → Holds v app after links locks taken
 launched v app after ps links locks taken e own index counted = record {
@@ -143,7 +144,7 @@ launched v app after ps links locks taken e own index counted = record {
 }
 
 -- what a machine keeps, when bodies have changed
-pub holds_changed : (v : Service) (app : List ℕ) (os after : Objects) (links : List (ℕ × List ℕ)) (locks taken more : ℕ)
+pub holds_changed : (v : Service) (app : List ℕ) (os after : Objects) (links : Index) (locks taken more : ℕ)
     → parts after.application ≡ parts os.application → parts after.scene ≡ parts os.scene → locks ≤ more → Holds v app os links locks taken → Holds v app after links locks more
 holds_changed v app os after links locks taken more own others counted k = record {
   own = own ∙ k.own;

@@ -1,2 +1,3 @@
 pub mod PortionLemmas
 pub mod LinkLemmas
+pub mod BucketLemmas

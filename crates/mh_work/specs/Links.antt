@@ -1,9 +1,9 @@
 -- Links by what they wait for.
-use Rattle.std.specs.Prelude.{◌≡◌, ℕ, suc, Bool, false, ◌&&◌, if◌then◌else◌, List, [], ◌∷◌, ◌++◌, Option, None, unwrap_or, slice_get}
+use Rattle.std.specs.Prelude.{◌≡◌, ℕ, suc, Bool, ◌&&◌, if◌then◌else◌, List, [], ◌∷◌, ◌++◌, Option, Some, None, slice_get}
 use Rattle.std.specs.List.{flat_map}
-use Rattle.std.specs.Map.{lookup}
 use Rattle.std.specs.Option.{option_map_or}
-use Rattle.std.specs.Ordering.{is_eq, nat_cmp}
+use Rattle.mh_base.specs.Event.{number_of}
+use Rattle.mh_base.specs.declared.event.EventType.{EventType}
 use Rattle.mh_base.specs.declared.obj_ref.ObjRef.{ObjRef}
 use Rattle.mh_group.specs.declared.attribute.Attribute.TheVariants as attribute
 use Rattle.mh_group.specs.Table.{is_link}
@@ -13,38 +13,38 @@ use Rattle.mh_model.specs.declared.object.Fixed.{Fixed}
 use Rattle.mh_model.specs.declared.object.Object.{Object}
 use Rattle.mh_model.specs.Items.{hears_type, hears_source, hears_data, acts}
 use Rattle.mh_model.specs.Property.{as_reference, held, as_value, as_event, as_effect}
+use Rattle.mh_work.specs.Listening.{Index, place_in, waiting}
+use Rattle.mh_work.specs.declared.bucket.Listener.{Listener}
 
 -- the object whose events a link waits for
 abbrev pub source_of : Fixed → Option ObjRef
 source_of p = if is_link p.class then as_reference (as_value (held attribute.EventSource p.properties)) else None
 
--- whether two numbers are one, as the order of numbers tells
-abbrev pub same_number : ℕ → ℕ → Bool
-same_number a b = is_eq (nat_cmp a b)
+-- a link as the index knows it, at this place
+abbrev pub listener_at : ℕ → Option ObjRef → Option EventType → Option Listener
+listener_at here (Some source) (Some kind) = Some (record { source = source.number; kind = number_of kind; place = here })
+listener_at here _ _ = None
 
--- whether a link waits for an object of this number, in whichever group
-abbrev pub waits_for : ℕ → Fixed → Bool
-waits_for n p = option_map_or (λ source. same_number source.number n) (source_of p) false
+-- what is no link, and a link without a type, waits for nothing
+abbrev pub listener_of : ℕ → Fixed → Option Listener
+listener_of here p = listener_at here (source_of p) (as_event (held attribute.EventType p.properties))
 
--- this place, if its part is a link that waits for such an object
-abbrev pub place_of : ℕ → ℕ → Fixed → List ℕ
-place_of here n p = if waits_for n p then here ∷ [] else []
+-- this place, if its part is a link that waits for events of type t from an object of number n, in whichever group
+abbrev pub place_of : ℕ → ℕ → ℕ → Fixed → List ℕ
+place_of here n t p = option_map_or (place_in n t) (listener_of here p) []
 
--- the places, counted from here, of the links that wait for such an object
-abbrev pub places : ℕ → ℕ → List Fixed → List ℕ
-places here n [] = []
-places here n (p ∷ ps) = place_of here n p ++ places (suc here) n ps
+-- the places, counted from here, of the links that do
+abbrev pub places : ℕ → ℕ → ℕ → List Fixed → List ℕ
+places here n t [] = []
+places here n t (p ∷ ps) = place_of here n t p ++ places (suc here) n t ps
 
--- the places that an index holds for the number
-abbrev pub waiting : ℕ → List (ℕ × List ℕ) → List ℕ
-waiting n es = unwrap_or (lookup (same_number n) es) []
+-- the index holds for each number and each type the places of all links that wait for that type from an object of
+-- that number, in order
+unfoldable pub IsIndex : Index → List Fixed → Type 0
+IsIndex buckets ps = (n t : ℕ) → waiting n t buckets ≡ places 0 n t ps
 
--- the index holds for each number the places of all links that wait for an object of that number, in order
-unfoldable pub IsIndex : List (ℕ × List ℕ) → List Fixed → Type 0
-IsIndex es ps = (n : ℕ) → waiting n es ≡ places 0 n ps
-
--- A link that waits for an object of the right number is asked for the rest: whether it runs, and waits for the
--- event's type, source and data.
+-- A link that waits for the event's type from an object of the right number is asked for the rest: whether it runs, and
+-- waits for the event's source and data.
 abbrev pub is_awake : Event → Object → Bool
 is_awake e o =
     o.body.running && hears_type (as_event (held attribute.EventType o.fixed.properties)) e.kind

@@ -5,7 +5,9 @@
 #![tactic(auto)]
 
 pub mod batch;
+pub mod bucket;
 pub mod groups;
+pub mod hearing;
 pub mod lifecycle;
 pub mod links;
 pub mod portion;

@@ -1,42 +1,45 @@
-//! The links, found by the numbers of the objects whose events they wait for.
+//! The links, found by the numbers of the objects and the types of the events that they wait for.
 //!
-//! An event mostly has no link that waits for an object of its number, and then no name is looked at.
-ghost use Rattle.std.specs.Prelude.{◌≡◌, ◌++◌, ◌+◌, ◌^◌, ◌<◌, IfOk, OnOk, Some, length, true, [], ◌∷◌, if◌then◌else◌};
-ghost use Rattle.std.specs.Map.{lookup};
-ghost use Rattle.std.specs.Option.{option_copied};
-ghost use Rattle.mh_model.specs.Items.{hears_data, hears_source, hears_type, heard as heard_lem};
+//! An event mostly has no link that waits for its type from an object of its number, and then no name is looked at.
+ghost use Rattle.std.specs.Prelude.{◌≡◌, ◌++◌, ◌+◌, ◌%◌, ◌^◌, ◌<◌, IfOk, OnOk, length, true, []};
+ghost use Rattle.std.specs.Option.{option_copied, option_map_or};
+ghost use Rattle.mh_base.specs.Event.{number_of};
+ghost use Rattle.mh_model.specs.Items.{heard as heard_lem};
 ghost use Rattle.mh_model.specs.Service.{parts};
 ghost use Rattle.mh_model.specs.State.{all};
-ghost use Rattle.mh_work.specs.Links.{source_of, place_of, places, same_number, waiting, IsIndex, is_awake, answer, answers};
+ghost use Rattle.mh_work.specs.Listening.{bucket_for, place_in, waiting, waiting_in};
+ghost use Rattle.mh_work.specs.Links.{answers, listener_of, place_of, places, source_of, IsIndex};
 ghost use Rattle.mh_work.specs.Batches.{written};
 
 use crate::batch::Batch;
-use crate::groups::push_effect;
-use mh_base::{EventType, ObjRef, Seq, Value};
+use crate::bucket::{Bucket, Listener};
+use crate::hearing::put_answer;
+use mh_base::{ObjRef, Value};
 use mh_group::{Attribute, Class};
 use mh_model::held::{as_event, as_value};
-use mh_model::kinds::same_value;
-use mh_model::parts::same_ref;
-use mh_model::{Event, Fixed, FixedPart, Object};
+use mh_model::{Event, Fixed, FixedPart};
 use mh_store::Objects;
 use std::alloc::{AllocError, Global};
-use std::collections::BTreeMap;
 use std::marker::Model;
 
-/// The links among the objects that are present, by the numbers of the objects whose events they wait for.
-/// A contract sees the entries; `IsIndex` says of which parts they are the index.
+/// The links among the objects that are present, by what they wait for. A contract sees the buckets; `IsIndex`
+/// says of which parts they are the index.
 #[derive(Drop)]
 pub struct Links {
-    /// For each number the places of the links that wait for an object of that number, in order.
-    table: BTreeMap<u32, Seq<usize>>,
+    /// Each link is in the bucket of the number of its source, modulo their count. There are half as many as
+    /// objects that are present, so that the links of a few objects share one, however large a scene is.
+    buckets: Vec<Bucket>,
 }
 
 impl Model for Links {
-    ghost use Rattle.std.specs.Prelude.{ℕ, List};
+    ghost use Rattle.std.specs.Prelude.{◌<◌, length};
+    ghost use Rattle.mh_work.specs.Listening.{Index};
 
-    ghost Value = { List (ℕ × List ℕ) };
+    ghost Value = { Index };
 
-    ghost view = { λ links. links.table.entries };
+    ghost view = { λ links. links.buckets.items };
+
+    ghost invariant = { λ links. 0 < length links.buckets.items };
 }
 
 impl Links {
@@ -48,14 +51,14 @@ impl Links {
     ) -> Result<Links, AllocError>
         ensures { IfOk result (λ links. IsIndex links (application.now ++ scene.now)) }
     {
-        let mut table = BTreeMap::new(alloc);
-        add_parts(alloc, &mut table, 0, application)?;
-        add_parts(alloc, &mut table, application.len(), scene)?;
-        Ok(Links { table })
+        let mut links = Links::new(alloc, application.len() / 2 + scene.len() / 2 + 1)?;
+        links.add_parts(0, application)?;
+        links.add_parts(application.len(), scene)?;
+        Ok(links)
     }
 
     /// The effects of all links that hear the event, in the order of the objects. Only the links
-    /// that wait for an object of its source's number are asked.
+    /// that wait for its type from an object of its source's number are asked.
     pub fn heard(
         &self,
         alloc: Global,
@@ -66,59 +69,92 @@ impl Links {
         ensures { IfOk result
             (λ batches. written batches.items ≡ heard_lem event.now (all objects.now)) }
     {
-        heard_at(alloc, self.places_of(event.source.number), event, objects)
+        let listeners = self.bucket(event.source.number).as_slice();
+        heard_among(alloc, listeners, event, objects)
     }
 
-    /// Whether no link waits for an object of the number of the event's source, so that none hears it.
+    /// Whether no link waits for the event's type from an object of the number of its source, so that none hears it.
     pub fn hears_none(&self, event: &Event, objects: &Objects) -> bool
         requires { IsIndex self.now (parts (all objects.now)) }
         ensures { result ≡ true → heard_lem event.now (all objects.now) ≡ [] }
     {
-        self.places_of(event.source.number).is_empty()
+        self.bucket(event.source.number)
+            .has_none(event.kind.number())
     }
 
-    /// The places of the links that wait for an object of this number.
-    fn places_of(&self, number: u32) -> &[usize]
-        ensures { result.now ≡ waiting number self.now }
+    /// An index of no links, with so many buckets.
+    fn new(alloc: Global, count: usize) -> Result<Links, AllocError>
+        requires { 0 < count }
+        ensures { IfOk result (λ links. (n : _) → (t : _) → waiting n t links ≡ []) }
     {
-        match self.table.get(&number) {
-            Some(places) => places.as_slice(),
-            None => &[],
+        let mut buckets = Vec::with_capacity(alloc, count)?;
+        for _ in 0..count {
+            buckets.push(Bucket::new(alloc))?;
+        }
+        Ok(Links { buckets })
+    }
+
+    /// The bucket of the links whose sources have this number, among others.
+    fn bucket(&self, number: u32) -> &Bucket
+        ensures { result.now ≡ bucket_for number self.now }
+    {
+        &self.buckets[bucket_of(number, self.buckets.len())]
+    }
+
+    fn add_parts(&mut self, first: usize, parts: &[FixedPart]) -> Result<(), AllocError>
+        requires { first + length parts.now < 2 ^ 64 }
+        ensures { OnOk result
+            ((n : _) → (t : _) →
+            waiting n t self.new ≡ waiting n t self.old ++ places first n t parts.now) }
+    {
+        for (index, part) in parts.iter().enumerate() {
+            self.add_part(first + index, part.get())?;
+        }
+        Ok(())
+    }
+
+    fn add_part(&mut self, place: usize, part: &Fixed) -> Result<(), AllocError>
+        ensures { OnOk result
+            ((n : _) → (t : _) →
+            waiting n t self.new ≡ waiting n t self.old ++ place_of place n t part.now) }
+    {
+        match listener_of(place, part) {
+            Some(listener) => self.add(listener),
+            None => Ok(()),
         }
     }
+
+    fn add(&mut self, listener: Listener) -> Result<(), AllocError>
+        ensures { OnOk result
+            ((n : _) → (t : _) →
+            waiting n t self.new ≡ waiting n t self.old ++ place_in n t listener) }
+    {
+        let place = bucket_of(listener.source, self.buckets.len());
+        self.buckets[place].push(listener)?;
+        Ok(())
+    }
 }
 
-fn add_parts(
-    alloc: Global,
-    table: &mut BTreeMap<u32, Seq<usize>>,
-    first: usize,
-    parts: &[FixedPart],
-) -> Result<(), AllocError>
-    requires { first + length parts.now < 2 ^ 64 }
-    ensures { OnOk result
-        ((n : _) →
-        waiting n table.new.entries ≡ waiting n table.old.entries ++ places first n parts.now) }
+/// The place of the bucket for a number, of so many.
+fn bucket_of(number: u32, count: usize) -> usize
+    requires { 0 < count }
+    ensures place { result ≡ number % count }
+    ensures low { result < count }
 {
-    for (index, part) in parts.iter().enumerate() {
-        add_part(alloc, table, first + index, part.get())?;
-    }
-    Ok(())
+    number as usize % count
 }
 
-fn add_part(
-    alloc: Global,
-    table: &mut BTreeMap<u32, Seq<usize>>,
-    place: usize,
-    part: &Fixed,
-) -> Result<(), AllocError>
-    ensures { OnOk result
-        ((n : _) →
-        waiting n table.new.entries ≡ waiting n table.old.entries ++ place_of place n part.now) }
+/// What the index keeps of the part, if it is a link with a source and a type.
+fn listener_of(place: usize, part: &Fixed) -> Option<Listener>
+    ensures { result ≡ listener_of place part.now }
 {
-    match source_of(part) {
-        Some(source) => add_place(alloc, table, source.number, place),
-        None => Ok(()),
-    }
+    let source = source_of(part)?;
+    let kind = as_event(part.properties.get(Attribute::EventType))?;
+    Some(Listener {
+        source: source.number,
+        kind: kind.number(),
+        place,
+    })
 }
 
 /// The object whose events the part waits for, if it is a link.
@@ -134,111 +170,38 @@ fn source_of(part: &Fixed) -> Option<&ObjRef>
     }
 }
 
-fn add_place(
+/// What those of these links put that hear the event.
+fn heard_among(
     alloc: Global,
-    table: &mut BTreeMap<u32, Seq<usize>>,
-    number: u32,
-    place: usize,
-) -> Result<(), AllocError>
-    ensures { OnOk result
-        ((n : _) →
-        waiting n table.new.entries
-        ≡ waiting n table.old.entries ++ (if same_number number n then place ∷ [] else [])) }
-{
-    match table.get_mut(&number) {
-        Some(places) => places.push(place),
-        None => start(alloc, table, number, place),
-    }
-}
-
-/// Puts the first place for the number.
-fn start(
-    alloc: Global,
-    table: &mut BTreeMap<u32, Seq<usize>>,
-    number: u32,
-    place: usize,
-) -> Result<(), AllocError>
-    ensures { OnOk result
-        ((n : _) →
-        lookup (same_number n) table.new.entries
-        ≡ (if same_number number n then Some (place ∷ []) else lookup (same_number n) table.old.entries)) }
-{
-    let mut places = Seq::new(alloc);
-    places.push(place)?;
-    table.insert(number, places)?;
-    Ok(())
-}
-
-/// What the links at these places put.
-fn heard_at(
-    alloc: Global,
-    places: &[usize],
+    listeners: &[Listener],
     event: &Event,
     objects: &Objects,
 ) -> Result<Vec<Batch>, AllocError>
-    ensures { IfOk result
-        (λ batches. written batches.items ≡ answers event.now (all objects.now) places.now) }
+    ensures { let n = event.now.source.number in let t = number_of event.now.kind in
+        IfOk result (λ batches. written batches.items ≡ answers event.now (all objects.now) (waiting_in n t listeners.now)) }
 {
     let mut batches = Vec::new(alloc);
-    for place in places {
-        if let Some(object) = objects.at(*place) {
-            put_answer(&mut batches, event, object)?;
-        }
+    for listener in listeners {
+        put_heard(&mut batches, *listener, event, objects)?;
     }
     Ok(batches)
 }
 
-fn put_answer(batches: &mut Vec<Batch>, event: &Event, object: &Object) -> Result<(), AllocError>
-    ensures { OnOk result
-        (written batches.new.items ≡ written batches.old.items ++ answer event.now object.now) }
+/// What the link puts, if it waits for the event and hears it.
+fn put_heard(
+    batches: &mut Vec<Batch>,
+    listener: Listener,
+    event: &Event,
+    objects: &Objects,
+) -> Result<(), AllocError>
+    ensures { let n = event.now.source.number in let t = number_of event.now.kind in
+        OnOk result (written batches.new.items ≡ written batches.old.items ++ answers event.now (all objects.now) (place_in n t listener)) }
 {
-    if is_awake(event, object) {
-        push_effect(batches, object.fixed.get(), Attribute::LinkEffect)?;
+    if !listener.hears(event.source.number, event.kind.number()) {
+        return Ok(());
     }
-    Ok(())
-}
-
-/// Whether a link runs, and waits for the event's type, source and data.
-fn is_awake(event: &Event, link: &Object) -> bool
-    ensures { result ≡ is_awake event.now link.now }
-{
-    if !link.body.running {
-        return false;
-    }
-    let written = &link.fixed.get().properties;
-    if !hears_type(as_event(written.get(Attribute::EventType)), event.kind) {
-        return false;
-    }
-    if !hears_source(as_value(written.get(Attribute::EventSource)), &event.source) {
-        return false;
-    }
-    hears_data(as_value(written.get(Attribute::EventData)), &event.data)
-}
-
-fn hears_source(heard: Option<&Value>, source: &ObjRef) -> bool
-    ensures { result ≡ hears_source (option_copied heard.entry) source.now }
-{
-    match heard {
-        Some(Value::Object(at)) => same_ref(at, source),
-        _ => false,
-    }
-}
-
-fn hears_type(heard: Option<EventType>, kind: EventType) -> bool
-    ensures { result ≡ hears_type heard kind }
-{
-    match heard {
-        Some(heard) => heard.number() == kind.number(),
-        None => false,
-    }
-}
-
-fn hears_data(heard: Option<&Value>, given: &Option<Value>) -> bool
-    ensures { result ≡ hears_data (option_copied heard.entry) given.now }
-{
-    match (heard, given) {
-        (None, _) => true,
-        (Some(heard), Some(given)) => same_value(heard, given),
-        (Some(_), None) => false,
+    match objects.at(listener.place) {
+        Some(object) => put_answer(batches, event, object),
+        None => Ok(()),
     }
 }
