@@ -1,9 +1,10 @@
 //! What is present in a configuration, and where an action leads.
 //!
 //! Promise: each function answers what the definition of the same name says.
-ghost use Rattle.std.specs.Prelude.{◌≡◌, ◌<◌, ◌+◌, ◌++◌, IfOk, Some, length, slice_get};
-ghost use Rattle.std.specs.Option.{option_copied, option_map};
-ghost use Rattle.mh_flow.specs.Index.{indexed, is_entered};
+ghost use Rattle.std.specs.Prelude.{◌≡◌, ◌<◌, ◌+◌, ◌++◌, IfOk, Some, length, nat_lt, slice_get};
+ghost use Rattle.std.specs.Option.{option_copied};
+ghost use Rattle.mh_flow.specs.Index.{indexed};
+ghost use Rattle.mh_flow.specs.Likely.{has_number};
 ghost use Rattle.mh_flow.specs.Chart.{place_in};
 ghost use Rattle.mh_flow.specs.Solved.{is_holder_in};
 ghost use Rattle.mh_laws.specs.Active.{has_source, is_active, leads_to};
@@ -12,10 +13,10 @@ ghost use Rattle.mh_model.specs.Configuration.{present, same_scene, scene_parts}
 ghost use Rattle.mh_model.specs.Known.{class_at};
 ghost use Rattle.mh_model.specs.Property.{held, as_value};
 ghost use Rattle.mh_group.specs.Table.{is_list_group};
-ghost use Rattle.mh_model.specs.Service.{part_at};
+ghost use Rattle.mh_model.specs.Service.{group_parts, part_at};
 
 use crate::equipped::Equipped;
-use crate::index::{Home, Index, home_of};
+use crate::index::{Index, home_of};
 use mh_base::{GroupName, ObjRef, Value};
 use mh_group::{ActionName, Attribute, Class};
 use mh_model::held::as_value;
@@ -84,11 +85,55 @@ fn place_behind(before: &[FixedPart], parts: &[FixedPart], place: usize) -> usiz
     before.len() + place
 }
 
-/// Whether the group is the application or the scene.
-fn is_entered(config: &Config, group: &GroupName) -> bool
-    ensures { result ≡ is_entered config.now group.now }
+/// Whether the object at this place has the number.
+fn has_number(parts: &[FixedPart], place: usize, number: u32) -> bool
+    ensures { result ≡ has_number parts.now place number }
 {
-    *group == config.app || is_scene(&config.scene, group)
+    match parts.get(place) {
+        None => false,
+        Some(part) => part.get().key.number == number,
+    }
+}
+
+fn is_before(part: &FixedPart, number: u32) -> bool
+    ensures { result ≡ nat_lt part.now.key.number number }
+{
+    part.get().key.number < number
+}
+
+/// The place of the object with this number, where these stand in the order of their numbers. It is advice: who asks
+/// looks whether the object stands there.
+fn likely_place(parts: &[FixedPart], number: u32) -> usize {
+    // Where no number is left out, an object's number is its place.
+    let same = number as usize;
+    if has_number(parts, same, number) {
+        return same;
+    }
+    parts.partition_point(|part| is_before(part, number))
+}
+
+/// How many objects of its group stand before the one to which the reference leads: by its likely place, or else by the
+/// index.
+fn place_among(
+    service: &Equipped<'_>,
+    index: &Index,
+    parts: &[FixedPart],
+    at: &ObjRef,
+) -> Option<usize>
+    requires index { index.now.entries ≡ indexed service.now }
+    requires parts { parts.now ≡ group_parts service.now at.now.group }
+    ensures { result ≡ place_in parts.now at.now }
+{
+    // that no two of them have one key is known where there are groups
+    let _ = service.groups();
+    let likely = likely_place(parts, at.number);
+    if has_number(parts, likely, at.number) {
+        return Some(likely);
+    }
+    match home_of(index, at) {
+        None => None,
+        Some(home) => Some(home.place),
+    }
 }
 
 impl<'a> Present<'a> {
@@ -126,24 +171,13 @@ impl<'a> Present<'a> {
         }
     }
 
-    /// The home of the object to which the reference leads, if it is present.
-    fn home(&self, at: &ObjRef) -> Option<&Home>
-        ensures { option_map (λ h. h.part) (option_copied result) ≡ part_at at.now self.now }
-    {
-        if is_entered(self.config, &at.group) {
-            home_of(self.index, at)
-        } else {
-            None
-        }
-    }
-
     /// The part to which the reference leads, if it is present.
     pub fn find(&self, at: &ObjRef) -> Option<&Fixed>
         ensures { option_copied result ≡ part_at at.now self.now }
     {
-        match self.home(at) {
+        match self.place(at) {
             None => None,
-            Some(home) => Some(home.part.get()),
+            Some(place) => self.at(place),
         }
     }
 
@@ -151,18 +185,16 @@ impl<'a> Present<'a> {
     pub(crate) fn place(&self, at: &ObjRef) -> Option<usize>
         ensures { result ≡ place_in self.now at.now }
     {
-        match home_of(self.index, at) {
-            None => None,
-            Some(home) => {
-                if at.group == self.config.app {
-                    return Some(home.place);
-                }
-                if is_scene(&self.config.scene, &at.group) {
-                    return Some(place_behind(self.application, self.scene, home.place));
-                }
-                None
-            }
+        if at.group == self.config.app {
+            return place_among(self.service, self.index, self.application, at);
         }
+        if is_scene(&self.config.scene, &at.group) {
+            return match place_among(self.service, self.index, self.scene, at) {
+                None => None,
+                Some(place) => Some(place_behind(self.application, self.scene, place)),
+            };
+        }
+        None
     }
 
     /// Whether it is a variable of references or a list, and present.
