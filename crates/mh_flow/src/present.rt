@@ -1,10 +1,9 @@
 //! What is present in a configuration, and where an action leads.
 //!
 //! Promise: each function answers what the definition of the same name says.
-ghost use Rattle.std.specs.Prelude.{◌≡◌, ◌<◌, ◌+◌, ◌++◌, IfOk, Some, length, nat_lt, slice_get};
+ghost use Rattle.std.specs.Prelude.{◌≡◌, ◌<◌, ◌+◌, ◌++◌, IfOk, Some, length, slice_get};
 ghost use Rattle.std.specs.Option.{option_copied};
 ghost use Rattle.mh_flow.specs.Index.{indexed};
-ghost use Rattle.mh_flow.specs.Likely.{has_number};
 ghost use Rattle.mh_flow.specs.Chart.{place_in};
 ghost use Rattle.mh_flow.specs.Solved.{is_holder_in};
 ghost use Rattle.mh_laws.specs.Active.{has_source, is_active, leads_to};
@@ -13,10 +12,11 @@ ghost use Rattle.mh_model.specs.Configuration.{present, same_scene, scene_parts}
 ghost use Rattle.mh_model.specs.Known.{class_at};
 ghost use Rattle.mh_model.specs.Property.{held, as_value};
 ghost use Rattle.mh_group.specs.Table.{is_list_group};
-ghost use Rattle.mh_model.specs.Service.{group_parts, part_at};
+ghost use Rattle.mh_model.specs.Service.{part_at};
 
 use crate::equipped::Equipped;
-use crate::index::{Index, home_of};
+use crate::index::Index;
+use crate::likely::place_among;
 use mh_base::{GroupName, ObjRef, Value};
 use mh_group::{ActionName, Attribute, Class};
 use mh_model::held::as_value;
@@ -83,57 +83,6 @@ fn place_behind(before: &[FixedPart], parts: &[FixedPart], place: usize) -> usiz
     // that the sum is a number here is known by the lengths of both
     let _ = parts.len();
     before.len() + place
-}
-
-/// Whether the object at this place has the number.
-fn has_number(parts: &[FixedPart], place: usize, number: u32) -> bool
-    ensures { result ≡ has_number parts.now place number }
-{
-    match parts.get(place) {
-        None => false,
-        Some(part) => part.get().key.number == number,
-    }
-}
-
-fn is_before(part: &FixedPart, number: u32) -> bool
-    ensures { result ≡ nat_lt part.now.key.number number }
-{
-    part.get().key.number < number
-}
-
-/// The place of the object with this number, where these stand in the order of their numbers. It is advice: who asks
-/// looks whether the object stands there.
-fn likely_place(parts: &[FixedPart], number: u32) -> usize {
-    // Where no number is left out, an object's number is its place.
-    let same = number as usize;
-    if has_number(parts, same, number) {
-        return same;
-    }
-    parts.partition_point(|part| is_before(part, number))
-}
-
-/// How many objects of its group stand before the one to which the reference leads: by its likely place, or else by the
-/// index.
-fn place_among(
-    service: &Equipped<'_>,
-    index: &Index,
-    parts: &[FixedPart],
-    at: &ObjRef,
-) -> Option<usize>
-    requires index { index.now.entries ≡ indexed service.now }
-    requires parts { parts.now ≡ group_parts service.now at.now.group }
-    ensures { result ≡ place_in parts.now at.now }
-{
-    // that no two of them have one key is known where there are groups
-    let _ = service.groups();
-    let likely = likely_place(parts, at.number);
-    if has_number(parts, likely, at.number) {
-        return Some(likely);
-    }
-    match home_of(index, at) {
-        None => None,
-        Some(home) => Some(home.place),
-    }
 }
 
 impl<'a> Present<'a> {

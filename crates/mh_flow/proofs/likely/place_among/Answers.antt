@@ -1,7 +1,7 @@
 use Rattle.std.proofs.Common.{None, Some, ap, ◌∙◌, sym}
 use Rattle.std.specs.Option.{option_copied}
 use Rattle.mh_flow.proofs.LikelyLemmas.{likely_is, listed_is}
-use Rattle.mh_flow.proofs.present.place_among.Goals as goal
+use Rattle.mh_flow.proofs.likely.place_among.Goals as goal
 
 pub returns-then-has_number : goal.returns-then-has_number
 returns-then-has_number c =
