@@ -131,3 +131,33 @@ lent_past bs ws n q same less = ap (λ (t : List Bool). is_at t q) (sym same) �
 
 pub lent_length : (bs : List Bool) (ws : List ℕ) (n : ℕ) → bits_from ws 0 n ≡ bs → length bs ≡ n
 lent_length bs ws n same = ap (λ (t : List Bool). length t) (sym same) ∙ bits_length ws 0 n
+
+-- where no bit is set, nothing is found
+
+none_placed : (bs : List Bool) (i n : ℕ) (xs : List ℕ) → i + n ≤ length bs → ((j : ℕ) → i ≤ j → j < i + n → is_at bs j ≡ false) → xs ++ places_from (i + n) (drop (i + n) bs) ≡ xs ++ places_from i (drop i bs)
+none_placed bs i zero xs within none =
+    let same : i + 0 ≡ i = omega arith in
+    ap (λ (m : ℕ). xs ++ places_from m (drop m bs)) same
+none_placed bs i (suc n) xs within none =
+    let last : i + suc n ≡ suc i + n = omega arith in
+    let next : suc i ≡ i + 1 = omega arith in
+    ap (λ (m : ℕ). xs ++ places_from m (drop m bs)) last
+    ∙ none_placed bs (suc i) n xs (omega (arith, within)) (λ j above below. none j (omega (arith, above)) (omega (arith, below)))
+    ∙ ap (λ (m : ℕ). xs ++ places_from m (drop m bs)) next
+    ∙ place_none bs i xs (omega (arith, within)) (none i (omega arith) (omega arith))
+
+no_bit_of_word : (ws : List ℕ) (word j : ℕ) → slice_index ws word ≡ 0 → word * 64 ≤ j → j < word * 64 + 64 → is_bit ws j ≡ false
+no_bit_of_word ws word j e above below =
+    let same : j / 64 ≡ word = omega (arith, above, below) in
+    ap (λ (k : ℕ). bit_at (slice_index ws k) (j % 64) == 1) same
+    ∙ ap (λ (x : ℕ). bit_at x (j % 64) == 1) e
+    ∙ ap (λ (b : ℕ). b == 1) (bit_at-zero (j % 64))
+
+-- a word of which no bit is set is passed over
+pub word_passed : (bs : List Bool) (ws : List ℕ) (n word : ℕ) (xs : List ℕ) → bits_from ws 0 n ≡ bs → word * 64 + 64 ≤ length bs → slice_index ws word ≡ 0 → xs ++ places_from (word * 64 + 64) (drop (word * 64 + 64) bs) ≡ xs ++ places_from (word * 64) (drop (word * 64) bs)
+word_passed bs ws n word xs same within e = none_placed bs (word * 64) 64 xs within none
+  where
+    none : (j : ℕ) → word * 64 ≤ j → j < word * 64 + 64 → is_at bs j ≡ false
+    none j above below =
+        let wide : length bs ≡ n = lent_length bs ws n same in
+        sym (lent_has bs ws n j same (omega (arith, below, within, wide))) ∙ no_bit_of_word ws word j e above below

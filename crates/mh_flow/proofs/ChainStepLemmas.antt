@@ -21,7 +21,7 @@ use Rattle.mh_model.proofs.ServiceLemmas.{same_ref-same}
 use Rattle.mh_laws.specs.Active.{leads_to}
 use Rattle.mh_laws.specs.Describing.{Says, says}
 use Rattle.mh_laws.specs.Describing as saying
-use Rattle.mh_laws.specs.Flow.{Flow, fills, has, is_given, is_list_in, is_reference_in, reads_reference}
+use Rattle.mh_laws.specs.Flow.{Flow, fills, is_given, is_list_in, is_reference_in, reads_reference}
 use Rattle.mh_laws.specs.Least.{Fact, Derived, Reached, Held, Comes, Hands}
 use Rattle.mh_laws.specs.Least as least
 use Rattle.mh_flow.specs.declared.link.Link.{Link}

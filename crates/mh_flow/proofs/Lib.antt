@@ -34,3 +34,4 @@ pub mod ChainHoldLemmas
 pub mod ChainExactLemmas
 pub mod OriginLemmas
 pub mod NearestLemmas
+pub mod LikelyLemmas

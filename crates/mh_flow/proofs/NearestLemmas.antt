@@ -1,8 +1,6 @@
 -- The first of the moves of several references that lead to a place is the first of their chains.
-use Rattle.std.proofs.Common.{◌≡◌, List, [], ◌∷◌, Option, Some, None, Vec, Result, Ok, Err, IfOk, IfSome, IfNone, sym, subst, ◌∙◌}
+use Rattle.std.proofs.Common.{◌≡◌, List, [], ◌∷◌, sym, subst, ◌∙◌}
 use Rattle.std.specs.List.{Contains}
-use Rattle.std.specs.declared.alloc.Global.{Global}
-use Rattle.std.specs.declared.alloc.AllocError.{AllocError}
 use Rattle.std.specs.declared.cmp.Ordering.TheVariants.{Equal}
 use Rattle.std.specs.Cmp.Lexicographic.{slice_cmp}
 use Rattle.mh_base.specs.declared.obj_ref.ObjRef.{ObjRef}
@@ -17,7 +15,7 @@ use Rattle.mh_flow.specs.Chains.{Brings, by_spot}
 use Rattle.mh_flow.specs.Chart.{with_references}
 use Rattle.mh_flow.specs.Moves.{Follows, IsFirstOf}
 use Rattle.mh_flow.specs.Nearest.{IsNearest}
-use Rattle.mh_flow.specs.Origins.{AreOrigins, begun}
+use Rattle.mh_flow.specs.Origins.{AreOrigins}
 use Rattle.mh_flow.specs.Steps.{moves_of, place}
 use Rattle.mh_flow.proofs.ChainExactLemmas.{is_exact}
 use Rattle.mh_flow.proofs.ChainLemmas.{held_is_brought}

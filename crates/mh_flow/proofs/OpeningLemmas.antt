@@ -4,20 +4,16 @@ use Rattle.std.specs.List.{cons_option, filter_map, flat_map, list_any}
 use Rattle.std.specs.Option.{option_to_list}
 use Rattle.std.proofs.lemmas.List.Concat.{flat_map-append}
 use Rattle.mh_base.specs.declared.obj_ref.ObjRef.{ObjRef}
-use Rattle.mh_group.specs.declared.action_name.ActionName.{ActionName}
-use Rattle.mh_group.specs.declared.action_name.ActionName.TheVariants as action
 use Rattle.mh_model.specs.declared.act.Act.{Act}
-use Rattle.mh_model.specs.declared.act.Argument.{Argument}
 use Rattle.mh_model.specs.declared.config.Config.{Config}
 use Rattle.mh_model.specs.declared.object.Fixed.{Fixed}
 use Rattle.mh_model.specs.Configuration.{present}
 use Rattle.mh_model.specs.Reference.{same_ref}
 use Rattle.mh_model.specs.Service.{Service}
 use Rattle.mh_laws.specs.Active.{active_actions}
-use Rattle.mh_laws.specs.Describing.{says}
 use Rattle.mh_laws.specs.Flow.{is_reference_in}
 use Rattle.mh_flow.specs.declared.chart.Bases.{Bases}
-use Rattle.mh_flow.specs.Chart.{Chart, IsChart, argument_of, handed_argument}
+use Rattle.mh_flow.specs.Chart.{Chart, IsChart}
 use Rattle.mh_flow.specs.Opening.{by_variable, does_through}
 use Rattle.mh_flow.specs.Sites.{Site, sites_of}
 use Rattle.mh_flow.proofs.BridgeLemmas.{untargeted_opens_nothing}

@@ -109,6 +109,14 @@ keys_of : (v : Service) → has_keys v ≡ true → list_all (λ (e : List ℕ �
 unfolding has_keys
 keys_of v h = h
 
+-- no two objects of a group have one key
+pub group_apart : (v : Service) (g : List ℕ) → has_keys v ≡ true → are_apart (group_parts v g) ≡ true
+group_apart v g keys = by (find (λ (e : List ℕ × List Fixed). bytes_eq e.0 g) v.groups) refl
+  where
+    by : (o : Option (List ℕ × List Fixed)) → find (λ (e : List ℕ × List Fixed). bytes_eq e.0 g) v.groups ≡ o → are_apart (unwrap_or (option_map (λ (e : List ℕ × List Fixed). e.1) o) []) ≡ true
+    by None e = refl
+    by (Some x) e = all_of (λ (e : List ℕ × List Fixed). are_apart e.1) v.groups x (keys_of v keys) (found_member (λ (y : List ℕ × List Fixed). bytes_eq y.0 g) v.groups x e).1
+
 group_found : (v : Service) (g : List ℕ) (p : Fixed) → has_keys v ≡ true → Contains (group_parts v g) p → part_at p.key (group_parts v g) ≡ Some p
 group_found v g p keys m =
     let entry = group_entry v g p m in

@@ -4,6 +4,7 @@ pub mod Gathering
 pub mod Sets
 pub mod Equipment
 pub mod Index
+pub mod Likely
 pub mod Sites
 pub mod Chart
 pub mod Opening

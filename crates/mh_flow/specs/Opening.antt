@@ -18,7 +18,6 @@ use Rattle.mh_model.specs.Configuration.{present, starting}
 use Rattle.mh_model.specs.Reference.{same_ref}
 use Rattle.mh_model.specs.Service.{Service, group_parts}
 use Rattle.mh_laws.specs.Active.{active_actions, leads_to}
-use Rattle.mh_laws.specs.Describing.{Hands, Says, says}
 use Rattle.mh_laws.specs.Flow.{fills, is_given, is_holder, is_list_in, is_reference_in}
 use Rattle.mh_flow.specs.declared.chart.Set.{Set}
 use Rattle.mh_flow.specs.declared.chart.Set.TheVariants as set

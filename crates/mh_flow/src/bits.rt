@@ -1,7 +1,7 @@
 //! A row of bits, kept in words of 64.
 //!
 //! Promise: a row is seen as the list of its bits; it is empty until a width is given, and then has this many.
-ghost use Rattle.std.specs.Prelude.{◌≡◌, ◌<◌, ◌++◌, [], length, replicate, ◌*◌, IfOk, OnOk};
+ghost use Rattle.std.specs.Prelude.{◌≡◌, ◌<◌, ◌≤◌, ◌++◌, [], drop, length, replicate, ◌*◌, IfOk, OnOk};
 ghost use Rattle.mh_flow.specs.Rows.{is_at, is_bit, laid, set_at, places_from};
 
 use std::alloc::{AllocError, Global};
@@ -64,17 +64,39 @@ impl Bits {
         self.words[place / 64] |= 1 << (place % 64);
     }
 
-    /// The places of the bits that are set.
+    /// The places of the bits that are set. A word of which none is set is passed over at once.
     pub fn places(&self, alloc: Global) -> Result<Vec<usize>, AllocError>
         ensures { IfOk result (λ found. found.items ≡ places_from 0 self.now) }
     {
         let mut found = Vec::new(alloc);
-        for place in 0..self.width {
+        let whole = self.width / 64;
+        for word in 0..whole {
+            if self.words[word] != 0 {
+                self.put_between(&mut found, word * 64, word * 64 + 64)?;
+            }
+        }
+        self.put_between(&mut found, whole * 64, self.width)?;
+        Ok(found)
+    }
+
+    /// Puts the places from the first up to the end, of which the bits are set, behind those that were found.
+    fn put_between(
+        &self,
+        found: &mut Vec<usize>,
+        first: usize,
+        end: usize,
+    ) -> Result<(), AllocError>
+        requires order { first ≤ end }
+        requires within { end ≤ length self.now }
+        ensures { OnOk result (found.new.items ++ places_from end (drop end self.now)
+            ≡ found.old.items ++ places_from first (drop first self.now)) }
+    {
+        for place in first..end {
             if self.has(place) {
                 found.push(place)?;
             }
         }
-        Ok(found)
+        Ok(())
     }
 }
 

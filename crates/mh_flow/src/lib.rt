@@ -17,6 +17,7 @@ mod gathered;
 mod index;
 mod known;
 mod law;
+mod likely;
 mod link;
 mod moves;
 pub mod nearest;

@@ -1,7 +1,7 @@
 //! What a configuration opens, and what an action does there.
 //!
 //! Promise: each function puts behind what is there what the definition of the same name says.
-ghost use Rattle.std.specs.Prelude.{◌≡◌, ◌++◌, ◌&&◌, Some, IfOk, OnOk, filter, map, slice_get};
+ghost use Rattle.std.specs.Prelude.{◌≡◌, ◌++◌, ◌&&◌, Some, IfOk, OnOk, filter, map, option_and_then, slice_get};
 ghost use Rattle.std.specs.List.{flat_map, list_any};
 ghost use Rattle.std.specs.Option.{option_copied, option_map, option_to_list};
 ghost use Rattle.mh_model.specs.Arguments.{receiver_of, receivers};
@@ -102,11 +102,21 @@ fn received(argument: &Argument) -> Option<&ObjRef>
     }
 }
 
+/// The number of the set that stands so far behind this one.
+fn behind(base: usize, place: Option<usize>) -> Option<usize>
+    ensures { result ≡ option_and_then (numbers.sum_of base) place }
+{
+    match place {
+        None => None,
+        Some(place) => base.checked_add(place),
+    }
+}
+
 impl<'a> Place<'a> {
     fn node(&self, at: &ObjRef) -> Option<usize>
         ensures { let p = self.now in result ≡ numbers.node_from p.service p.config at.now p.bases }
     {
-        self.chart.node_from(self.config, at, self.bases)
+        behind(self.bases.application, self.present.place(at))
     }
 
     /// The same in another configuration.

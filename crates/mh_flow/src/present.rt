@@ -2,8 +2,8 @@
 //!
 //! Promise: each function answers what the definition of the same name says.
 ghost use Rattle.std.specs.Prelude.{◌≡◌, ◌<◌, ◌+◌, ◌++◌, IfOk, Some, length, slice_get};
-ghost use Rattle.std.specs.Option.{option_copied, option_map};
-ghost use Rattle.mh_flow.specs.Index.{indexed, is_entered};
+ghost use Rattle.std.specs.Option.{option_copied};
+ghost use Rattle.mh_flow.specs.Index.{indexed};
 ghost use Rattle.mh_flow.specs.Chart.{place_in};
 ghost use Rattle.mh_flow.specs.Solved.{is_holder_in};
 ghost use Rattle.mh_laws.specs.Active.{has_source, is_active, leads_to};
@@ -15,7 +15,8 @@ ghost use Rattle.mh_group.specs.Table.{is_list_group};
 ghost use Rattle.mh_model.specs.Service.{part_at};
 
 use crate::equipped::Equipped;
-use crate::index::{Home, Index, home_of};
+use crate::index::Index;
+use crate::likely::place_among;
 use mh_base::{GroupName, ObjRef, Value};
 use mh_group::{ActionName, Attribute, Class};
 use mh_model::held::as_value;
@@ -84,13 +85,6 @@ fn place_behind(before: &[FixedPart], parts: &[FixedPart], place: usize) -> usiz
     before.len() + place
 }
 
-/// Whether the group is the application or the scene.
-fn is_entered(config: &Config, group: &GroupName) -> bool
-    ensures { result ≡ is_entered config.now group.now }
-{
-    *group == config.app || is_scene(&config.scene, group)
-}
-
 impl<'a> Present<'a> {
     /// What is present in the configuration, where this is the index of the service.
     pub(crate) fn of(service: &'a Equipped<'a>, index: &'a Index, config: &'a Config) -> Present<'a>
@@ -126,24 +120,13 @@ impl<'a> Present<'a> {
         }
     }
 
-    /// The home of the object to which the reference leads, if it is present.
-    fn home(&self, at: &ObjRef) -> Option<&Home>
-        ensures { option_map (λ h. h.part) (option_copied result) ≡ part_at at.now self.now }
-    {
-        if is_entered(self.config, &at.group) {
-            home_of(self.index, at)
-        } else {
-            None
-        }
-    }
-
     /// The part to which the reference leads, if it is present.
     pub fn find(&self, at: &ObjRef) -> Option<&Fixed>
         ensures { option_copied result ≡ part_at at.now self.now }
     {
-        match self.home(at) {
+        match self.place(at) {
             None => None,
-            Some(home) => Some(home.part.get()),
+            Some(place) => self.at(place),
         }
     }
 
@@ -151,18 +134,16 @@ impl<'a> Present<'a> {
     pub(crate) fn place(&self, at: &ObjRef) -> Option<usize>
         ensures { result ≡ place_in self.now at.now }
     {
-        match home_of(self.index, at) {
-            None => None,
-            Some(home) => {
-                if at.group == self.config.app {
-                    return Some(home.place);
-                }
-                if is_scene(&self.config.scene, &at.group) {
-                    return Some(place_behind(self.application, self.scene, home.place));
-                }
-                None
-            }
+        if at.group == self.config.app {
+            return place_among(self.service, self.index, self.application, at);
         }
+        if is_scene(&self.config.scene, &at.group) {
+            return match place_among(self.service, self.index, self.scene, at) {
+                None => None,
+                Some(place) => Some(place_behind(self.application, self.scene, place)),
+            };
+        }
+        None
     }
 
     /// Whether it is a variable of references or a list, and present.

@@ -1,4 +1,4 @@
-use Rattle.std.proofs.Common.{◌≡◌, ◌∙◌, List, Option, Vec, IfNone, IfSome, subst}
+use Rattle.std.proofs.Common.{◌∙◌, List, Option, Vec, IfNone, IfSome, subst}
 use Rattle.std.specs.declared.alloc.Global.{Global}
 use Rattle.mh_flow.specs.declared.link.Link.{Link}
 use Rattle.mh_flow.specs.Moves.{Follows, IsFirstOf}

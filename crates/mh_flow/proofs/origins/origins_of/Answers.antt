@@ -1,4 +1,4 @@
-use Rattle.std.proofs.Common.{◌≡◌, ◌∙◌, List, IfOk, subst, sym, ap}
+use Rattle.std.proofs.Common.{◌≡◌, List, IfOk, subst, sym}
 use Rattle.std.specs.Prelude.{filter}
 use Rattle.mh_base.specs.declared.obj_ref.ObjRef.{ObjRef}
 use Rattle.mh_flow.specs.Steps.{is_one_of}
