@@ -42,5 +42,5 @@ pub use flow::{Flow, Held};
 pub use known::KnownWith;
 pub use law::{chains_say_what_is_held, moves_say_what_is_brought};
 pub use link::Link;
-pub use present::Present;
+pub use present::{Present, is_entered};
 pub use sites::Site;

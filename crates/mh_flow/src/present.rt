@@ -3,7 +3,7 @@
 //! Promise: each function answers what the definition of the same name says.
 ghost use Rattle.std.specs.Prelude.{◌≡◌, ◌<◌, ◌+◌, ◌++◌, IfOk, Some, length, slice_get};
 ghost use Rattle.std.specs.Option.{option_copied};
-ghost use Rattle.mh_flow.specs.Index.{indexed};
+ghost use Rattle.mh_flow.specs.Index.{indexed, is_entered};
 ghost use Rattle.mh_flow.specs.Chart.{place_in};
 ghost use Rattle.mh_flow.specs.Solved.{is_holder_in};
 ghost use Rattle.mh_laws.specs.Active.{has_source, is_active, leads_to};
@@ -73,6 +73,13 @@ pub(crate) fn is_scene(scene: &Option<GroupName>, group: &GroupName) -> bool
         None => false,
         Some(scene) => scene == group,
     }
+}
+
+/// Whether the group is the application or the scene.
+pub fn is_entered(config: &Config, group: &GroupName) -> bool
+    ensures { result ≡ is_entered config.now group.now }
+{
+    *group == config.app || is_scene(&config.scene, group)
 }
 
 /// How many stand before the one at this place of the parts, with those before them.

@@ -1,7 +1,8 @@
 -- What loops add to a sum is what their lists come to, and what is added by numbers is added by names.
 use Rattle.std.specs.Prelude.{◌≡◌, ◌&&◌, ◌<◌, ◌+◌, ◌-◌, ℕ, zero, suc, Bool, true, false, cond, if◌then◌else◌, filter, drop, List, [], ◌∷◌, ◌++◌, get_or, length, Option, Some, None, Result, Ok, Err, refl}
 use Rattle.std.specs.List.{flat_map, range_with_len}
-use Rattle.std.specs.Option.{option_map}
+use Rattle.std.specs.Map.{lookup}
+use Rattle.std.specs.Option.{option_map, option_map_or}
 use Rattle.std.proofs.Common.{arith, ap, ◌∙◌, sym}
 use Rattle.std.proofs.lemmas.List.{drop_more}
 use Rattle.std.proofs.lemmas.List.Elements.{filter-append}
@@ -13,7 +14,10 @@ use Rattle.mh_model.specs.declared.config.Config.{Config}
 use Rattle.mh_model.specs.declared.object.Fixed.{Fixed}
 use Rattle.mh_model.specs.Configuration.{present, scene_parts}
 use Rattle.mh_model.specs.Service.{Service, group_parts, is_there}
+use Rattle.mh_model.specs.Reference.{same_ref}
 use Rattle.mh_model.proofs.ListLemmas.{some_same}
+use Rattle.mh_flow.specs.Index.{Home, indexed, is_entered}
+use Rattle.mh_flow.proofs.IndexLemmas.{part_entered}
 use Rattle.mh_laws.specs.Price.{Price, Nothing, One, Node, Plus, Most, sum_price, most_price, if_price}
 use Rattle.mh_laws.specs.Ways.{Told}
 use Rattle.mh_prices.specs.Meter.{Adds, Meter, onto, raise}
@@ -23,7 +27,7 @@ use Rattle.mh_layers.specs.Key.{Key, Entry, Hearing, Plain, With, Any}
 use Rattle.mh_layers.specs.Keys.{data_of, fired_at, fired_if_there, heard_with, hearing, links_with, values, waits_for}
 use Rattle.mh_layers.specs.Listening.{link_node}
 use Rattle.mh_layers.specs.Numbered.{numbered, through}
-use Rattle.mh_layers.specs.Reading.{Reading, Spot, dealt_by, fired_by, heard_read, hears_among, hears_number, hears_told, number, spot_in, there_by}
+use Rattle.mh_layers.specs.Reading.{IsReading, Reading, Spot, dealt_by, fired_by, heard_read, hears_among, hears_number, hears_told, number, spot_in, there_by}
 
 -- one sum for another
 pub adds_as : {K L S M N T E : Type 0} (seen : T → S) (m : Meter K S M) (n : Meter L S N) (p : Price K) (q : Price L) (s t : T) (r : Result T E) → onto m p (seen t) ≡ onto n q (seen s) → Adds seen m p t r → Adds seen n q s r
@@ -198,3 +202,14 @@ entry_adds {S} {M} {T} {E} seen m r o kind g n cs s t x is one h =
     (ap (λ (y : Hears). onto m (most_price (λ c. there_by (spot_in r c) o kind y) cs) (seen t)) is
     ∙ (λ i. onto m (configs_numbered r o kind g cs i) (one i))
     ∙ sym (through_onto (number r) m (most_price (λ c. fired_if_there r.service c o kind g) cs) (m.one (seen s)))) h
+
+-- Where its group is not entered an object is not there, and an event of it sets nothing going
+
+absent : (r : Reading) → IsReading r → (c : Config) (o : ObjRef) → is_entered c o.group ≡ false → is_there o (present r.service c) ≡ false
+absent r read c o e =
+    ap (λ (p : Option Fixed). option_map_or (λ q. true) p false)
+    (sym (part_entered r.service c o read.flow.chart.named) ∙ ap (λ (b : Bool). option_map (λ (h : Home). h.part) (cond b (lookup (same_ref o) (indexed r.service)) None)) e)
+
+pub absent_adds : {S M : Type 0} (m : Meter NodeKey S M) (r : Reading) (c : Config) (o : ObjRef) (kind : EventType) (g : Hears) (s : S) (b : Bool) → IsReading r → b ≡ is_entered c o.group → b ≡ false → s ≡ onto m (there_by (spot_in r c) o kind g) s
+absent_adds m r c o kind g s b read entered none =
+    sym (ap (λ (d : Bool). onto m (if_price d (fired_by (spot_in r c) o kind g)) s) (absent r read c o (sym entered ∙ none)))

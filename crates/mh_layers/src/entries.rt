@@ -12,10 +12,13 @@ use crate::net::Net;
 use crate::node_key::Hears;
 use crate::walk::Walk;
 use mh_base::{EventType, ObjRef};
+use mh_flow::is_entered;
 use mh_model::Config;
 use std::alloc::AllocError;
 
-/// What such an event sets going that is taken in the configuration.
+/// What such an event sets going that is taken in the configuration: nothing where the group of its source is not there,
+/// and there no object is looked for.
+#[tactic(auto, using(crate::proofs::OntoLemmas::absent_adds))]
 fn fired_in<M: Meter>(
     net: &Net<'_>,
     meter: &M,
@@ -28,6 +31,10 @@ fn fired_in<M: Meter>(
     ensures { let p = there_by (spot_in net.now config.now) source.now kind hears in
         Adds M.seen (M.meter meter.now) p sum result }
 {
+    net.read();
+    if !is_entered(config, &source.group) {
+        return Ok(sum);
+    }
     let here = reached(net, config)?;
     let walk = Walk { here: &here, meter };
     walk.fired_if_there(source, kind, hears, sum)
