@@ -1,8 +1,8 @@
 -- All active effects that have actions are laid.
-use Rattle.std.specs.Prelude.{◌≡◌, ◌⊎◌, ◌<◌, ◌+◌, ℕ, Bool, true, false, not, cond, Ok, Err, Result, List, [], ◌∷◌, ◌++◌, map, filter, length, min, Option, Some, None, is_some, refl}
+use Rattle.std.specs.Prelude.{◌≡◌, ◌⊎◌, ◌<◌, ◌+◌, ℕ, Bool, true, false, not, Ok, Err, Result, List, [], ◌∷◌, ◌++◌, map, filter, length, min, Option, Some, None, is_some, refl}
 use Rattle.std.specs.List.{flat_map, range_with_len}
 use Rattle.std.proofs.Common.{ap, ◌∙◌, sym, subst, arith, inl, inr, true≢false}
-use Rattle.std.proofs.lemmas.List.{append-nil, map-id, map-append}
+use Rattle.std.proofs.lemmas.List.{map-id, map-append}
 use Rattle.std.proofs.lemmas.List.FromFn.{map-range_with_len_more}
 use Rattle.std.proofs.lemmas.List.Elements.{filter-append}
 use Rattle.std.proofs.lemmas.List.Concat.{flat_map-append}
@@ -73,7 +73,7 @@ active_exact v w h read has cost rank named f exact x on here =
 
 -- it comes to nothing, and puts nothing to work
 pub record IsIdle (r : Reading) (x : costs.Effect) : Type 0 where
-  pub costs : (f : costs.Costing) → worth f (costs.effect_price r.service (flow_read r) x) ≡ 0
+  pub free : (f : costs.Costing) → worth f (costs.effect_price r.service (flow_read r) x) ≡ 0
   pub causes : (y : costs.Effect) → Causes r.service (flow_read r) x y → ⊥
 
 module _ (r : Reading) (read : IsReading r) (c : Config) (p : Fixed) (n : ℕ) (there : Among (present r.service c) p) (none : costs.effect_at p n ≡ []) where
@@ -87,9 +87,9 @@ module _ (r : Reading) (read : IsReading r) (c : Config) (p : Fixed) (n : ℕ) (
       true≢false (sym (of_nodes (λ (k : costs.Effect). false ≡ true) (costs.effect_price r.service (flow_read r) (record { config = c; object = p.key; number = n }))
       (pass_nodes (λ (k : costs.Effect). false) (costs.effect_price r.service (flow_read r) (record { config = c; object = p.key; number = n })) (comes_to_none by_test (λ (k : costs.Effect). false))) z causes))
 
-  idle : IsIdle r (record { config = c; object = p.key; number = n })
-  idle = record {
-    costs = λ f. sym (reckon_worth f (costs.effect_price r.service (flow_read r) (record { config = c; object = p.key; number = n }))) ∙ comes_to_none by_worth f;
+  without_actions : IsIdle r (record { config = c; object = p.key; number = n })
+  without_actions = record {
+    free = λ f. sym (reckon_worth f (costs.effect_price r.service (flow_read r) (record { config = c; object = p.key; number = n }))) ∙ comes_to_none by_worth f;
     causes = causes_none;
   }
 
@@ -117,7 +117,7 @@ listed_or_idle r read x on =
     let nth = from_mapped (λ (n : ℕ). place at.0 own.0 n) (range_with_len 0 (length (costs.effects own.0))) x own.2 in
     subst (λ (y : costs.Effect). Among (active_keys r) (number r (key_of y)) ⊎ IsIdle r y) nth.2
     (told_empty own.0 nth.0
-    (λ none. inr (idle r read at.0 own.0 nth.0 (from_filtered (is_active (present r.service at.0)) (present r.service at.0) own.0 own.1).1 none))
+    (λ none. inr (without_actions r read at.0 own.0 nth.0 (from_filtered (is_active (present r.service at.0)) (present r.service at.0) own.0 own.1).1 none))
     (λ acts. inl (acting_listed r at.0 own.0 nth.0 at.1 own.1 nth.1 acts)))
   where
     place : Config → Fixed → ℕ → costs.Effect
@@ -178,7 +178,7 @@ costs_of r read ts layers laid cost is x on = by (listed_or_idle r read x on)
 
     none : IsIdle r x → (b : Bool) → is_laid ts (number r (key_of x)) ≡ b → or_nothing (cost_by ts (number r) (key_of x)) ≡ min (cost x) top
     none idle true here = exact here
-    none idle false e = unlaid_costs (laid_in ts (number r (key_of x))) e ∙ sym (ap (λ (n : ℕ). min n top) (is x on ∙ idle.costs cost))
+    none idle false e = unlaid_costs (laid_in ts (number r (key_of x))) e ∙ sym (ap (λ (n : ℕ). min n top) (is x on ∙ idle.free cost))
 
     by : Among (active_keys r) (number r (key_of x)) ⊎ IsIdle r x → or_nothing (cost_by ts (number r) (key_of x)) ≡ min (cost x) top
     by (inl there) = exact (laid (number r (key_of x)) there)
@@ -199,21 +199,13 @@ range_more n =
     ∙ ap (λ (ms : List ℕ). ms ++ n ∷ []) (map-id (range_with_len 0 n))
 
 -- with one number more, if it has the property
-numbers_more : (f : ℕ → NodeKey) (is : ℕ → Bool) (n : ℕ) (old keys new : List NodeKey) (b : Bool) → is n ≡ b → keys ≡ old ++ map f (filter is (range_with_len 0 n)) → new ≡ keys ++ map f (cond b (n ∷ []) []) → new ≡ old ++ map f (filter is (range_with_len 0 (n + 1)))
-numbers_more f is n old keys new b told so_far more =
-    more ∙ ap (λ (ks : List NodeKey). ks ++ map f (cond b (n ∷ []) [])) so_far
-    ∙ behind old (map f (filter is (range_with_len 0 n))) (map f (cond b (n ∷ []) []))
+pub numbers_more : (f : ℕ → NodeKey) (is : ℕ → Bool) (n : ℕ) (old keys new : List NodeKey) → keys ≡ old ++ map f (filter is (range_with_len 0 n)) → new ≡ keys ++ map f (filter is (n ∷ [])) → new ≡ old ++ map f (filter is (range_with_len 0 (n + 1)))
+numbers_more f is n old keys new so_far more =
+    more ∙ ap (λ (ks : List NodeKey). ks ++ map f (filter is (n ∷ []))) so_far
+    ∙ behind old (map f (filter is (range_with_len 0 n))) (map f (filter is (n ∷ [])))
     ∙ ap (λ (ks : List NodeKey). old ++ ks) (
-    ap (λ (d : Bool). map f (filter is (range_with_len 0 n)) ++ map f (cond d (n ∷ []) [])) (sym told)
-    ∙ sym (map-append f (filter is (range_with_len 0 n)) (filter is (n ∷ [])))
+    sym (map-append f (filter is (range_with_len 0 n)) (filter is (n ∷ [])))
     ∙ ap (map f) (sym (filter-append is (range_with_len 0 n) (n ∷ [])) ∙ ap (filter is) (sym (range_more n))))
-
-pub acting_more : (f : ℕ → NodeKey) (is : ℕ → Bool) (n : ℕ) (old keys new : List NodeKey) (k : NodeKey) → is n ≡ true → f n ≡ k → keys ≡ old ++ map f (filter is (range_with_len 0 n)) → new ≡ keys ++ k ∷ [] → new ≡ old ++ map f (filter is (range_with_len 0 (n + 1)))
-acting_more f is n old keys new k told same so_far more =
-    numbers_more f is n old keys new true told so_far (more ∙ ap (λ (j : NodeKey). keys ++ j ∷ []) (sym same))
-
-pub acting_same : (f : ℕ → NodeKey) (is : ℕ → Bool) (n : ℕ) (old keys : List NodeKey) → is n ≡ false → keys ≡ old ++ map f (filter is (range_with_len 0 n)) → keys ≡ old ++ map f (filter is (range_with_len 0 (n + 1)))
-acting_same f is n old keys told so_far = numbers_more f is n old keys keys false told so_far (sym (append-nil keys))
 
 pub config_pushed : (r : Reading) (c : Config) (n : ℕ) (ps xs ys : List Fixed) (old one two : List NodeKey) → n ≡ config_number r c → ps ≡ present r.service c → xs ++ ys ≡ ps
     → one ≡ old ++ flat_map (keys_at r n) (filter (is_active ps) xs) → two ≡ one ++ flat_map (keys_at r n) (filter (is_active ps) ys) → two ≡ old ++ keys_active r c

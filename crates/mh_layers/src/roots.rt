@@ -1,7 +1,7 @@
 //! The keys that are laid first: of the start, of all inputs, and of all active effects that have actions.
 //!
 //! Promise: each of them is there, in the order of configurations and of what is present.
-ghost use Rattle.std.specs.Prelude.{◌≡◌, ◌++◌, length, map, filter, IfOk, IfSome, OnOk};
+ghost use Rattle.std.specs.Prelude.{◌≡◌, ◌++◌, ◌∷◌, [], length, map, filter, IfOk, IfSome, OnOk};
 ghost use Rattle.std.specs.List.{flat_map, range_with_len};
 ghost use Rattle.mh_model.specs.Configuration.{starting as starting_lem};
 ghost use Rattle.mh_laws.specs.Active.{is_active};
@@ -36,6 +36,24 @@ fn has_actions(part: &Fixed, number: usize) -> bool
     !effect_acts(part, number).is_empty()
 }
 
+/// Puts the key of the object's effect with this number, if that has actions.
+fn push_if_acting(
+    keys: &mut Vec<NodeKey>,
+    net: &Net<'_>,
+    config: usize,
+    part: &Fixed,
+    number: usize,
+) -> Result<(), AllocError>
+    ensures { let acting = filter (has_actions part.now) (number ∷ []) in
+        OnOk result (keys.new.items ≡ keys.old.items ++ map (λ n. key.Effect config (object_number net.now part.now.key) n) acting) }
+{
+    if has_actions(part, number) {
+        let object = net.object_number(&part.key);
+        keys.push(NodeKey::Effect(config, object, number))?;
+    }
+    Ok(())
+}
+
 /// Puts the keys of those of the object's first effects that have actions.
 fn push_acting(
     keys: &mut Vec<NodeKey>,
@@ -48,9 +66,7 @@ fn push_acting(
         OnOk result (keys.new.items ≡ keys.old.items ++ map (λ n. key.Effect config (object_number net.now part.now.key) n) acting) }
 {
     for number in 0..count {
-        if has_actions(part, number) {
-            keys.push(NodeKey::Effect(config, net.object_number(&part.key), number))?;
-        }
+        push_if_acting(keys, net, config, part, number)?;
     }
     Ok(())
 }

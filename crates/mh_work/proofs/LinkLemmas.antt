@@ -1,9 +1,9 @@
 -- The index of links: that of two lists of parts, and that to ask the links that it holds for a source and a type is
 -- to ask all.
-use Rattle.std.specs.Prelude.{◌≡◌, ℕ, suc, ◌+◌, ◌%◌, ◌<◌, ◌==◌, Bool, true, false, ◌&&◌, if◌then◌else◌, List, [], ◌∷◌, ◌++◌, length, map, replicate, slice_get, Option, Some, None, refl}
+use Rattle.std.specs.Prelude.{◌≡◌, ℕ, suc, ◌+◌, ◌%◌, ◌<◌, ◌==◌, Bool, true, false, ◌&&◌, if◌then◌else◌, List, [], ◌∷◌, ◌++◌, drop, get_or, length, map, replicate, slice_get, Option, Some, None, refl}
 use Rattle.std.specs.Option.{option_map_or}
 use Rattle.std.proofs.Common.{ap, ◌∙◌, sym, subst, arith}
-use Rattle.std.proofs.lemmas.List.{append_assoc, append-nil, length-append, map-append}
+use Rattle.std.proofs.lemmas.List.{append_assoc, append-nil, drop_more, length-append, map-append}
 use Rattle.std.proofs.lemmas.List.Concat.{flat_map-append}
 use Rattle.mh_base.specs.Event.{number_of}
 use Rattle.mh_base.specs.declared.event.EventType.{EventType}
@@ -32,6 +32,17 @@ places-append here n t (p ∷ ps) qs =
     let further : suc here + length ps ≡ here + length (p ∷ ps) = omega arith in
     ap (λ (ks : List ℕ). place_of here n t p ++ ks) (places-append (suc here) n t ps qs ∙ ap (λ (k : ℕ). places (suc here) n t ps ++ places k n t qs) further)
     ∙ sym (append_assoc (place_of here n t p) (places (suc here) n t ps) (places (here + length (p ∷ ps)) n t qs))
+
+-- with the place of one part more
+pub places_more : (first index n t : ℕ) (ps : List Fixed) (p q : Fixed) (old new all : List ℕ) → index < length ps → p ≡ get_or ps index p → q ≡ p → new ≡ old ++ place_of (first + index) n t q
+    → old ++ places (first + index) n t (drop index ps) ≡ all → new ++ places (first + (index + 1)) n t (drop (index + 1) ps) ≡ all
+places_more first index n t ps p q old new all less at same added so_far =
+    let next : first + (index + 1) ≡ suc (first + index) = omega arith in
+    let front : places (first + index) n t (drop index ps) ≡ place_of (first + index) n t q ++ places (suc (first + index)) n t (drop (index + 1) ps)
+    = ap (places (first + index) n t) (drop_more ps index p less ∙ ap (λ (r : Fixed). r ∷ drop (index + 1) ps) (sym at ∙ sym same)) in
+    (λ i. added i ++ places (next i) n t (drop (index + 1) ps))
+    ∙ append_assoc old (place_of (first + index) n t q) (places (suc (first + index)) n t (drop (index + 1) ps))
+    ∙ ap (λ (ks : List ℕ). old ++ ks) (sym front) ∙ so_far
 
 pub index_of_two : (none application all : Index) (ps qs : List Fixed) → ((n t : ℕ) → waiting n t none ≡ [])
     → ((n t : ℕ) → waiting n t application ≡ waiting n t none ++ places 0 n t ps)
