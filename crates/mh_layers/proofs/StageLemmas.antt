@@ -44,7 +44,6 @@ use Rattle.mh_layers.specs.Staging.{AreStagesFrom, AreStagesTo, IsNext, IsPart, 
 use Rattle.mh_layers.specs.Standings.{cause_named, effect_named}
 use Rattle.mh_layers.specs.Trails.{IsActive}
 use Rattle.mh_layers.specs.Stretches.{is_effect_key}
-use Rattle.mh_layers.specs.Taking.{or_nothing}
 use Rattle.mh_layers.specs.Web.{effect_number}
 use Rattle.mh_layers.proofs.ActAgreeLemmas.{act_agrees}
 use Rattle.mh_layers.proofs.AgreeLemmas.{Agrees, IsLow}
