@@ -77,7 +77,7 @@ impl Chart {
     {
         let index = index_of(alloc, service)?;
         let configs = service.configurations(alloc)?;
-        let mut sets = first_sets(alloc, configs.as_slice())?;
+        let mut sets = first_sets(alloc, service, configs.as_slice())?;
         let configs = numbered(alloc, service, &mut sets, configs)?;
         let mut members = IndexSet::new(alloc);
         let mut targeted = IndexSet::new(alloc);

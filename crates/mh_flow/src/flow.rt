@@ -133,7 +133,7 @@ impl Flow {
     {
         let present = self.present(service, config);
         let (application, scene) = present.parts();
-        let mut lists = Vec::new(alloc);
+        let mut lists = Vec::with_capacity(alloc, application.len() + scene.len())?;
         self.push_held(alloc, &mut lists, service, &present, config, application)?;
         self.push_held(alloc, &mut lists, service, &present, config, scene)?;
         Ok(Held { lists })
@@ -199,7 +199,7 @@ impl Flow {
     fn references(&self, alloc: Global, numbers: &[usize]) -> Result<Vec<ObjRef>, AllocError>
         ensures { IfOk result (λ list. list.items ≡ named self.now.chart.members numbers.now) }
     {
-        let mut list = Vec::new(alloc);
+        let mut list = Vec::with_capacity(alloc, numbers.len())?;
         for number in numbers {
             if let Some(at) = self.chart.member_at(*number) {
                 list.push(at.clone()?)?;

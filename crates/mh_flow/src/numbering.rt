@@ -13,11 +13,27 @@ use indexmap::IndexMap;
 use mh_model::{Config, FixedPart};
 use std::alloc::{AllocError, Global};
 
-/// The sets of configurations: those that are reached, and those to which each leads.
-pub(crate) fn first_sets(alloc: Global, configs: &[Config]) -> Result<Vec<Set>, AllocError>
+/// How many sets there will be. It is room alone: what is put there does not depend on it.
+fn room_for(service: &Equipped<'_>, configs: &[Config]) -> usize {
+    let mut room = configs.len().saturating_add(1);
+    for config in configs {
+        let application = service.parts(&config.app).len();
+        let scene = scene_parts(service, &config.scene).len();
+        room = room.saturating_add(application).saturating_add(scene);
+    }
+    room
+}
+
+/// The sets of configurations: those that are reached, and those to which each leads. There is room for all others behind
+/// them.
+pub(crate) fn first_sets(
+    alloc: Global,
+    service: &Equipped<'_>,
+    configs: &[Config],
+) -> Result<Vec<Set>, AllocError>
     ensures { IfOk result (λ sets. sets.items ≡ spec.first_sets configs.now) }
 {
-    let mut sets = Vec::new(alloc);
+    let mut sets = Vec::with_capacity(alloc, room_for(service, configs))?;
     sets.push(Set::Reached)?;
     for number in 0..configs.len() {
         sets.push(Set::Led(number))?;

@@ -8,7 +8,7 @@ use Rattle.mh_flow.proofs.flow.Flow.held.Goals as goal
 pub returns-clause-each : goal.returns-clause-each
 returns-clause-each c =
     held_put c.args.service.now c.args.self.now c.args.config.now _ _ _ c.parts.result.0.now c.parts.result.1.now
-    (ap (map (λ l. l.items)) c.new-lists.ensures.items)
+    (ap (map (λ l. l.items)) c.in_ok-lists.ensures.items)
     c.in_ok-push_held.ensures
     c.in_ok-push_held-2.ensures
     (c.parts.ensures ∙ c.present-present.ensures)
