@@ -149,10 +149,17 @@ taken c a = if takes c a then misread.Twice c a else misread.NotTaken c a
 abbrev pub items_row : Class → Option Goal
 items_row c = if takes c attribute.Items then Some (goal.Value c attribute.Items) else None
 
+-- an action wants to stand in an effect
+abbrev pub effect_row : Class → Option Goal
+effect_row c =
+    if takes c attribute.LinkEffect then Some (goal.Value c attribute.LinkEffect)
+    else (if takes c attribute.OnStartUp then Some (goal.Value c attribute.OnStartUp) else None)
+
 unfoldable pub field_misread : List Piece → ℕ → Class → Sign → Misread
 field_misread ps start c sign.CloseBrace = ended c (lacking ps start c)
 field_misread ps start c (sign.Name (name.Attribute a)) = taken c a
 field_misread ps start c sign.OpenBrace = misread.Unwanted (goal.Fields c) (items_row c)
+field_misread ps start c (sign.Name (name.Action a)) = misread.Unwanted (goal.Fields c) (effect_row c)
 field_misread ps start c s = misread.Unwanted (goal.Fields c) None
 
 -- at a brace or the keyword of a field, and at a string, where this began at the offset and an action or a field is being read

@@ -1,7 +1,7 @@
 -- What an author is told of a misread text: what was found and what is wanted, and the mend. Neither has a full stop.
 use Rattle.std.specs.Prelude.{ℕ, ◌+◌, ◌-◌, ◌/◌, ◌%◌, ◌==◌, Bool, true, false, nat_le, nat_lt, if◌then◌else◌, ◌&&◌, List, [], ◌∷◌, ◌++◌, length, take, drop, codes, Option, Some, None}
 use Rattle.std.specs.Fmt.{decimal}
-use Rattle.std.specs.List.{filter}
+use Rattle.std.specs.List.{filter, prefix_len}
 use Rattle.std.specs.Option.{option_map_or}
 use Rattle.mh_group.specs.declared.class.Class.{Class}
 use Rattle.mh_group.specs.declared.attribute.Attribute.{Attribute}
@@ -50,10 +50,14 @@ written (name.Justification j) = marked (justification_word j)
 written (name.Truth b) = marked (word_of (name.Truth b))
 written n = keyword_written (word_of n)
 
+-- a word, if it is not too long to be shown
+abbrev pub word_shown : List ℕ → List ℕ
+word_shown word = if nat_lt 64 (length word) then told.THIS_WORD.now else marked word
+
 abbrev pub token_words : TokenKind → List ℕ → List ℕ
 token_words token_kind.Text word = told.THIS_STRING.now
 token_words token_kind.Quoted word = told.THIS_STRING.now
-token_words k word = marked word
+token_words k word = word_shown word
 
 abbrev pub found_words : Option (TokenKind × List ℕ) → List ℕ
 found_words (Some t) = token_words t.0 t.1
@@ -71,8 +75,21 @@ hex_digit d = if nat_lt d 10 then 48 + d else 55 + d
 unfoldable pub hex_byte : ℕ → List ℕ
 hex_byte b = hex_digit (b / 16) ∷ hex_digit (b % 16) ∷ []
 
-unfoldable pub escape : ℕ → List ℕ
-escape b = codes "`=" ++ hex_byte b ++ codes "`"
+abbrev pub escapes : List ℕ → List ℕ
+escapes [] = []
+escapes (b ∷ bs) = codes "=" ++ hex_byte b ++ escapes bs
+
+-- bytes as they are written in a string between `'`
+unfoldable pub escaped : List ℕ → List ℕ
+escaped bs = codes "`" ++ escapes bs ++ codes "`"
+
+-- a byte that goes on with a character of several bytes
+abbrev pub is_continuation : ℕ → Bool
+is_continuation b = nat_le 128 b && nat_lt b 192
+
+-- the bytes of the first character
+unfoldable pub character_of : List ℕ → List ℕ
+character_of bs = take (1 + prefix_len is_continuation (drop 1 bs)) bs
 
 -- the byte itself, if it can be seen
 unfoldable pub byte_words : ℕ → List ℕ
@@ -187,7 +204,7 @@ unfoldable pub slip_cause : List ℕ → ℕ → Slip → List ℕ
 slip_cause file offset (slip.Comment b) = comment_cause b
 slip_cause file offset (slip.Separator b) = separator_cause b
 slip_cause file offset (slip.OpenString mark) = string_cause file offset
-slip_cause file offset (slip.ByteInString mark b) = string_byte_cause b
+slip_cause file offset (slip.ByteInString mark b held) = string_byte_cause b
 slip_cause file offset slip.Escape = told.ESCAPE_CAUSE.now
 slip_cause file offset slip.Colon = told.COLON_CAUSE.now
 slip_cause file offset slip.Minus = told.MINUS_CAUSE.now
@@ -250,24 +267,28 @@ separator_mend b = codes "take " ++ byte_words b ++ codes " away"
 unfoldable pub string_mend : ℕ → List ℕ
 string_mend mark = codes "write " ++ marked (mark ∷ []) ++ told.WHERE_STRING_ENDS.now
 
-unfoldable pub escape_mend : ℕ → List ℕ
-escape_mend b = codes "write " ++ escape b ++ told.IN_ITS_PLACE.now
+unfoldable pub escape_mend : List ℕ → List ℕ
+escape_mend bs = codes "write " ++ escaped bs ++ told.IN_ITS_PLACE.now
 
-unfoldable pub quote_mend : ℕ → List ℕ
-quote_mend b = told.BETWEEN_APOSTROPHES.now ++ escape b ++ told.IN_PLACE_OF_BYTE.now
+unfoldable pub quote_mend : List ℕ → List ℕ
+quote_mend bs = told.BETWEEN_APOSTROPHES.now ++ escaped bs ++ told.IN_PLACE_OF_BYTE.now
 
-abbrev pub string_byte_mend : ℕ → ℕ → List ℕ
-string_byte_mend mark b = if mark == 39 then escape_mend b else quote_mend b
+abbrev pub character_mend : ℕ → List ℕ → List ℕ
+character_mend mark bs = if mark == 39 then escape_mend bs else quote_mend bs
 
-unfoldable pub slip_mend : Slip → List ℕ
-slip_mend (slip.Comment b) = told.COMMENT_MEND.now
-slip_mend (slip.Separator b) = separator_mend b
-slip_mend (slip.OpenString mark) = string_mend mark
-slip_mend (slip.ByteInString mark b) = string_byte_mend mark b
-slip_mend slip.Escape = told.ESCAPE_MEND.now
-slip_mend slip.Colon = told.COLON_MEND.now
-slip_mend slip.Minus = told.MINUS_MEND.now
-slip_mend (slip.Byte b) = told.BYTE_MEND.now
+-- a string that begins at the offset, and holds so many bytes in front of the character
+unfoldable pub string_byte_mend : List ℕ → ℕ → ℕ → ℕ → List ℕ
+string_byte_mend file offset mark held = character_mend mark (character_of (drop held (drop 1 (drop offset file))))
+
+unfoldable pub slip_mend : List ℕ → ℕ → Slip → List ℕ
+slip_mend file offset (slip.Comment b) = told.COMMENT_MEND.now
+slip_mend file offset (slip.Separator b) = separator_mend b
+slip_mend file offset (slip.OpenString mark) = string_mend mark
+slip_mend file offset (slip.ByteInString mark b held) = string_byte_mend file offset mark held
+slip_mend file offset slip.Escape = told.ESCAPE_MEND.now
+slip_mend file offset slip.Colon = told.COLON_MEND.now
+slip_mend file offset slip.Minus = told.MINUS_MEND.now
+slip_mend file offset (slip.Byte b) = told.BYTE_MEND.now
 
 unfoldable pub name_mend : Name → List ℕ
 name_mend n = codes "write " ++ written n
@@ -325,17 +346,17 @@ unfoldable pub range_mend : Goal → List ℕ
 range_mend g = codes "write " ++ limits_words (limits_of g)
 
 -- what is to be written
-unfoldable pub mend : List ℕ → Misread → List ℕ
-mend file (misread.Slip s) = slip_mend s
-mend file (misread.NoColon n) = name_mend n
-mend file (misread.Unknown g n) = unknown_mend g n
-mend file misread.Tight = told.TIGHT_MEND.now
-mend file misread.Behind = told.BEHIND_MEND.now
-mend file (misread.TextEnds start) = closing_mend file start
-mend file (misread.Unclosed start) = closing_mend file start
-mend file (misread.NotTaken c a) = not_taken_mend a
-mend file (misread.Twice c a) = told.TWICE_MEND.now
-mend file (misread.Lacks c a) = lacks_mend c a
-mend file misread.BareName = told.BARE_NAME_MEND.now
-mend file (misread.Unwanted g r) = unwanted_mend g r
-mend file (misread.OutOfRange g) = range_mend g
+unfoldable pub mend : List ℕ → ℕ → Misread → List ℕ
+mend file offset (misread.Slip s) = slip_mend file offset s
+mend file offset (misread.NoColon n) = name_mend n
+mend file offset (misread.Unknown g n) = unknown_mend g n
+mend file offset misread.Tight = told.TIGHT_MEND.now
+mend file offset misread.Behind = told.BEHIND_MEND.now
+mend file offset (misread.TextEnds start) = closing_mend file start
+mend file offset (misread.Unclosed start) = closing_mend file start
+mend file offset (misread.NotTaken c a) = not_taken_mend a
+mend file offset (misread.Twice c a) = told.TWICE_MEND.now
+mend file offset (misread.Lacks c a) = lacks_mend c a
+mend file offset misread.BareName = told.BARE_NAME_MEND.now
+mend file offset (misread.Unwanted g r) = unwanted_mend g r
+mend file offset (misread.OutOfRange g) = range_mend g

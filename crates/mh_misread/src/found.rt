@@ -1,11 +1,11 @@
 //! Words for what is found in a text: tokens, bytes, lines and brackets.
 ghost use Rattle.std.specs.Prelude.{◌≡◌, ◌++◌, ◌≤◌, ◌<◌, OnOk, length};
-ghost use Rattle.mh_misread.specs.Telling.{marked, keyword_written, written, token_words, found, hex_digit, hex_byte, escape, byte_words, lines_before, line_words, bracket_words};
+ghost use Rattle.std.specs.List.{prefix_len};
+ghost use Rattle.mh_misread.specs.Telling.{marked, keyword_written, written, word_shown, token_words, found, hex_digit, hex_byte, escapes, escaped, is_continuation, character_of, byte_words, lines_before, line_words, bracket_words};
 
-use crate::misread::behind;
 use crate::name::Name;
-use crate::phrases::THIS_STRING;
-use crate::syntax::front;
+use crate::phrases::{THIS_STRING, THIS_WORD};
+use crate::span::{behind, front};
 use crate::token::first_token;
 use mh_text::TokenKind;
 use mh_told::text::Text;
@@ -49,8 +49,18 @@ fn put_token_words(text: &mut Text, kind: TokenKind, word: &[u8]) -> Result<(), 
 {
     match kind {
         TokenKind::Text | TokenKind::Quoted => text.put(THIS_STRING),
-        _ => put_marked(text, word),
+        _ => put_word(text, word),
     }
+}
+
+/// Puts a word, if it is not too long to be shown.
+fn put_word(text: &mut Text, word: &[u8]) -> Result<(), AllocError>
+    ensures { OnOk result (text.new ≡ text.old ++ word_shown word.now) }
+{
+    if word.len() > 64 {
+        return text.put(THIS_WORD);
+    }
+    put_marked(text, word)
 }
 
 /// Puts words for the token that stands at the place.
@@ -84,14 +94,51 @@ pub(crate) fn put_hex_byte(text: &mut Text, byte: u8) -> Result<(), AllocError>
     text.put(&[hex_digit(byte / 16), hex_digit(byte % 16)])
 }
 
-/// Puts a byte as it is written in a string between `'`.
-#[tactic(auto, unfolding(crate::specs::Telling::escape))]
-pub(crate) fn put_escape(text: &mut Text, byte: u8) -> Result<(), AllocError>
-    ensures { OnOk result (text.new ≡ text.old ++ escape byte) }
+/// Puts bytes as they are written in a string between `'`.
+#[tactic(auto, unfolding(crate::specs::Telling::escaped))]
+pub(crate) fn put_escaped(text: &mut Text, bytes: &[u8]) -> Result<(), AllocError>
+    ensures { OnOk result (text.new ≡ text.old ++ escaped bytes.now) }
 {
-    text.put(b"`=")?;
-    put_hex_byte(text, byte)?;
+    text.put(b"`")?;
+    put_escapes(text, bytes)?;
     text.put(b"`")
+}
+
+fn put_escapes(text: &mut Text, bytes: &[u8]) -> Result<(), AllocError>
+    ensures { OnOk result (text.new ≡ text.old ++ escapes bytes.now) }
+{
+    let mut left = bytes;
+    while let [byte, behind @ ..] = left {
+        text.put(b"=")?;
+        put_hex_byte(text, *byte)?;
+        left = behind;
+    }
+    Ok(())
+}
+
+/// The bytes of the first character.
+#[tactic(auto, unfolding(crate::specs::Telling::character_of))]
+pub(crate) fn character_of(bytes: &[u8]) -> &[u8]
+    ensures { result.now ≡ character_of bytes.now }
+{
+    front(bytes, 1 + continuations(behind(bytes, 1)))
+}
+
+/// How many bytes at the front go on with a character of several bytes.
+fn continuations(bytes: &[u8]) -> usize
+    ensures exact { result ≡ prefix_len is_continuation bytes.now }
+    ensures within { result ≤ length bytes.now }
+{
+    bytes
+        .iter()
+        .take_while(|byte| is_continuation(**byte))
+        .count()
+}
+
+fn is_continuation(byte: u8) -> bool
+    ensures { result ≡ is_continuation byte }
+{
+    128 <= byte && byte < 192
 }
 
 /// Puts the byte itself, if it can be seen, or its number.

@@ -8,23 +8,25 @@
 
 mod cause;
 mod found;
+mod gap;
 pub mod goal;
 mod likeness;
-pub mod limits;
+mod limits;
 mod mend;
 pub mod misread;
 pub mod name;
-pub mod nearest;
+mod nearest;
 pub mod part;
-pub mod phrases;
-pub mod piece;
+mod phrases;
+mod piece;
 pub mod slip;
+mod span;
 mod stack;
 mod syntax;
 mod token;
 mod unknown;
 mod wanted;
-pub mod words;
+mod words;
 
 pub use cause::put_cause;
 pub use mend::put_mend;

@@ -1,11 +1,11 @@
 //! How a misread text is mended. What is told has no full stop.
 ghost use Rattle.std.specs.Prelude.{◌≡◌, ◌++◌, OnOk};
-ghost use Rattle.mh_misread.specs.Telling.{separator_mend, string_mend, escape_mend, quote_mend, string_byte_mend, slip_mend, name_mend, fields_mend, events_mend, plain_mend, is_event_shape, is_event_part, event_mend, wanted_mend, unknown_mend, closing, closing_mend, not_taken_mend, lacks_mend, unwanted_mend, range_mend, mend};
+ghost use Rattle.mh_misread.specs.Telling.{separator_mend, string_mend, escape_mend, quote_mend, character_mend, string_byte_mend, slip_mend, name_mend, fields_mend, events_mend, plain_mend, is_event_shape, is_event_part, event_mend, wanted_mend, unknown_mend, closing, closing_mend, not_taken_mend, lacks_mend, unwanted_mend, range_mend, mend};
 
-use crate::found::{put_byte_words, put_escape, put_marked, put_written};
+use crate::found::{character_of, put_byte_words, put_escaped, put_marked, put_written};
 use crate::goal::Goal;
 use crate::limits::limits_of;
-use crate::misread::{Misread, behind};
+use crate::misread::Misread;
 use crate::name::Name;
 use crate::part::{Part, part_at};
 use crate::phrases::{
@@ -14,6 +14,7 @@ use crate::phrases::{
     TAKE_AWAY_OR, TIGHT_MEND, TWICE_MEND, WHERE_IT_ENDS, WHERE_STRING_ENDS, WRITE_ITS,
 };
 use crate::slip::Slip;
+use crate::span::behind;
 use crate::wanted::{
     put_classes_taking, put_event_words, put_field_row, put_fields_of, put_row_written, put_wanted,
 };
@@ -44,44 +45,61 @@ fn put_string_mend(text: &mut Text, mark: u8) -> Result<(), AllocError>
 
 /// Puts how the byte is written.
 #[tactic(auto, unfolding(crate::specs::Telling::escape_mend))]
-fn put_escape_mend(text: &mut Text, byte: u8) -> Result<(), AllocError>
-    ensures { OnOk result (text.new ≡ text.old ++ escape_mend byte) }
+fn put_escape_mend(text: &mut Text, bytes: &[u8]) -> Result<(), AllocError>
+    ensures { OnOk result (text.new ≡ text.old ++ escape_mend bytes.now) }
 {
     text.put(b"write ")?;
-    put_escape(text, byte)?;
+    put_escaped(text, bytes)?;
     text.put(IN_ITS_PLACE)
 }
 
 /// Puts how the byte is written in another string.
 #[tactic(auto, unfolding(crate::specs::Telling::quote_mend))]
-fn put_quote_mend(text: &mut Text, byte: u8) -> Result<(), AllocError>
-    ensures { OnOk result (text.new ≡ text.old ++ quote_mend byte) }
+fn put_quote_mend(text: &mut Text, bytes: &[u8]) -> Result<(), AllocError>
+    ensures { OnOk result (text.new ≡ text.old ++ quote_mend bytes.now) }
 {
     text.put(BETWEEN_APOSTROPHES)?;
-    put_escape(text, byte)?;
+    put_escaped(text, bytes)?;
     text.put(IN_PLACE_OF_BYTE)
 }
 
-fn put_string_byte_mend(text: &mut Text, mark: u8, byte: u8) -> Result<(), AllocError>
-    ensures { OnOk result (text.new ≡ text.old ++ string_byte_mend mark byte) }
+fn put_character_mend(text: &mut Text, mark: u8, bytes: &[u8]) -> Result<(), AllocError>
+    ensures { OnOk result (text.new ≡ text.old ++ character_mend mark bytes.now) }
 {
     if mark == b'\'' {
-        put_escape_mend(text, byte)
+        put_escape_mend(text, bytes)
     } else {
-        put_quote_mend(text, byte)
+        put_quote_mend(text, bytes)
     }
+}
+
+/// Puts how a character is written in a string that begins at the offset, and holds so many bytes in front of it.
+#[tactic(auto, unfolding(crate::specs::Telling::string_byte_mend))]
+fn put_string_byte_mend(
+    text: &mut Text,
+    file: &[u8],
+    offset: usize,
+    mark: u8,
+    held: usize,
+) -> Result<(), AllocError>
+    ensures { OnOk result (text.new ≡ text.old ++ string_byte_mend file.now offset mark held) }
+{
+    let inner = behind(behind(file, offset), 1);
+    put_character_mend(text, mark, character_of(behind(inner, held)))
 }
 
 /// Puts the mend where no token begins.
 #[tactic(auto, unfolding(crate::specs::Telling::slip_mend))]
-fn put_slip_mend(text: &mut Text, slip: Slip) -> Result<(), AllocError>
-    ensures { OnOk result (text.new ≡ text.old ++ slip_mend slip) }
+fn put_slip_mend(text: &mut Text, file: &[u8], offset: usize, slip: Slip) -> Result<(), AllocError>
+    ensures { OnOk result (text.new ≡ text.old ++ slip_mend file.now offset slip) }
 {
     match slip {
         Slip::Comment(_) => text.put(COMMENT_MEND),
         Slip::Separator(byte) => put_separator_mend(text, byte),
         Slip::OpenString(mark) => put_string_mend(text, mark),
-        Slip::ByteInString { mark, byte } => put_string_byte_mend(text, mark, byte),
+        Slip::ByteInString { mark, held, .. } => put_string_byte_mend(
+            text, file, offset, mark, held,
+        ),
         Slip::Escape => text.put(ESCAPE_MEND),
         Slip::Colon => text.put(COLON_MEND),
         Slip::Minus => text.put(MINUS_MEND),
@@ -228,11 +246,16 @@ fn put_range_mend(text: &mut Text, goal: Goal) -> Result<(), AllocError>
 
 /// Puts what is to be written.
 #[tactic(auto, unfolding(crate::specs::Telling::mend))]
-pub fn put_mend(text: &mut Text, file: &[u8], misread: Misread) -> Result<(), AllocError>
-    ensures { OnOk result (text.new ≡ text.old ++ mend file.now misread) }
+pub fn put_mend(
+    text: &mut Text,
+    file: &[u8],
+    offset: usize,
+    misread: Misread,
+) -> Result<(), AllocError>
+    ensures { OnOk result (text.new ≡ text.old ++ mend file.now offset misread) }
 {
     match misread {
-        Misread::Slip(slip) => put_slip_mend(text, slip),
+        Misread::Slip(slip) => put_slip_mend(text, file, offset, slip),
         Misread::NoColon(name) => put_name_mend(text, name),
         Misread::Unknown(goal, near) => put_unknown_mend(text, goal, near),
         Misread::Tight => text.put(TIGHT_MEND),

@@ -10,6 +10,7 @@ use crate::goal::{Frame, Goal};
 use crate::name::Name;
 use crate::piece::pieces_before;
 use crate::slip::{Slip, slip_of};
+use crate::span::behind;
 use crate::stack::Stack;
 use crate::syntax::syntax;
 use crate::token::first_token;
@@ -65,13 +66,6 @@ pub fn misread_of(
         23 => out_of_range(alloc, file, offset),
         _ => Ok(None),
     }
-}
-
-/// What stands behind so many bytes.
-pub(crate) fn behind(file: &[u8], offset: usize) -> &[u8]
-    ensures { result.now ≡ drop offset file.now }
-{
-    file.get(offset..).unwrap_or(&[])
 }
 
 /// A name that no table has.

@@ -2,6 +2,8 @@
 
 pub const THIS_STRING: &[u8] = b"this string";
 
+pub const THIS_WORD: &[u8] = b"this long word";
+
 pub const A_FIELD_OF: &[u8] = b"a field of this ";
 
 pub const OR_ITS_BRACE: &[u8] = b", or the `}` that ends it";
@@ -63,11 +65,11 @@ pub const BARE_NAME_CAUSE: &[u8] = b"a name stands here without brackets of its 
 
 pub const WHERE_STRING_ENDS: &[u8] = b" where the string ends";
 
-pub const IN_ITS_PLACE: &[u8] = b" in its place";
+pub const IN_ITS_PLACE: &[u8] = b" in the place of this character";
 
 pub const BETWEEN_APOSTROPHES: &[u8] = b"write the string between `'`, and ";
 
-pub const IN_PLACE_OF_BYTE: &[u8] = b" in the place of the byte; a name holds no such byte";
+pub const IN_PLACE_OF_BYTE: &[u8] = b" in the place of this character; a name holds none such";
 
 pub const COMMENT_MEND: &[u8] = b"write `//` in front of the comment; it ends with its line";
 

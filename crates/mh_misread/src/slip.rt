@@ -13,8 +13,8 @@ pub enum Slip {
     Separator(u8),
     /// A string of this mark that does not end in its line.
     OpenString(u8),
-    /// A byte that stands for itself in no string, in a string of this mark.
-    ByteInString { mark: u8, byte: u8 },
+    /// A byte that stands for itself in no string, in a string of this mark, which holds so many bytes in front of it.
+    ByteInString { mark: u8, byte: u8, held: usize },
     /// An `=` without its two digits.
     Escape,
     /// A colon with no name behind it.
@@ -32,8 +32,8 @@ pub(crate) fn slip_of(bytes: &[u8]) -> Option<Slip>
 {
     let (first, rest) = bytes.split_first()?;
     Some(match *first {
-        b'"' => string_slip(b'"', &rest[text_length(rest)..]),
-        b'\'' => string_slip(b'\'', &rest[quoted_length(rest)..]),
+        b'"' => string_slip(b'"', text_length(rest), &rest[text_length(rest)..]),
+        b'\'' => string_slip(b'\'', quoted_length(rest), &rest[quoted_length(rest)..]),
         b':' => Slip::Colon,
         b'-' => Slip::Minus,
         b'#' | b'/' => Slip::Comment(*first),
@@ -42,14 +42,18 @@ pub(crate) fn slip_of(bytes: &[u8]) -> Option<Slip>
     })
 }
 
-/// What is wrong with a string of this mark, of which these bytes stand behind those that it may hold.
-fn string_slip(mark: u8, bytes: &[u8]) -> Slip
-    ensures { result ≡ string_slip mark bytes.now }
+/// What is wrong with a string of this mark, of which these bytes stand behind so many that it may hold.
+fn string_slip(mark: u8, held: usize, bytes: &[u8]) -> Slip
+    ensures { result ≡ string_slip mark held bytes.now }
 {
     match bytes {
         [] | [b'\n' | b'\r', ..] => Slip::OpenString(mark),
         [byte, ..] if *byte == mark => Slip::Escape,
-        [byte, ..] => Slip::ByteInString { mark, byte: *byte },
+        [byte, ..] => Slip::ByteInString {
+            mark,
+            byte: *byte,
+            held,
+        },
     }
 }
 

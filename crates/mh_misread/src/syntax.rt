@@ -3,15 +3,16 @@ ghost use Rattle.std.specs.Prelude.{◌≡◌, ◌&&◌, not, nat_lt, take, drop
 ghost use Rattle.std.specs.List.{find, list_any};
 ghost use Rattle.mh_group.specs.Table.{required_of};
 ghost use Rattle.mh_misread.specs.Goals.{wanted_behind};
-ghost use Rattle.mh_text.specs.Bytes.{is_letter_or_digit};
 ghost use Rattle.mh_misread.specs.Pieces.{is_keyword_of};
-ghost use Rattle.mh_misread.specs.Misreads.{first_sign, is_row, is_open, at_brace, at_string, taken, items_row, is_reference_shape, is_reference_part, is_reference, has_keyword, lacking, ended, field_misread, value_misread, goal_misread, open_at, row_of, is_bare, is_bare_byte, ends_bare, lacks_gap, syntax, syntax_at};
+ghost use Rattle.mh_misread.specs.Misreads.{first_sign, is_row, is_open, at_brace, at_string, taken, items_row, effect_row, is_reference_shape, is_reference_part, is_reference, has_keyword, lacking, ended, field_misread, value_misread, goal_misread, open_at, row_of, syntax, syntax_at};
 
+use crate::gap::lacks_gap;
 use crate::goal::{Frame, Goal};
-use crate::misread::{Misread, behind};
+use crate::misread::Misread;
 use crate::name::Name;
 use crate::part::{Part, Row, part_at};
 use crate::piece::{Piece, Sign, pieces_before};
+use crate::span::{behind, front};
 use crate::stack::Stack;
 use crate::token::first_sign;
 use mh_base::Kind;
@@ -119,6 +120,7 @@ fn field_misread(pieces: &[Piece], start: usize, class: Class, sign: Sign) -> Mi
     match sign {
         Sign::CloseBrace => ended(class, lacking(pieces, start, class)),
         Sign::Name(Name::Attribute(attribute)) => taken(class, attribute),
+        Sign::Name(Name::Action(_)) => { Misread::Unwanted(Goal::Fields(class), effect_row(class)) }
         Sign::OpenBrace => Misread::Unwanted(Goal::Fields(class), items_row(class)),
         _ => Misread::Unwanted(Goal::Fields(class), None),
     }
@@ -133,6 +135,19 @@ fn items_row(class: Class) -> Option<Goal>
     } else {
         None
     }
+}
+
+/// The field of the class in which actions stand.
+fn effect_row(class: Class) -> Option<Goal>
+    ensures { result ≡ effect_row class }
+{
+    if class.takes(Attribute::LinkEffect) {
+        return Some(Goal::Value(class, Attribute::LinkEffect));
+    }
+    if class.takes(Attribute::OnStartUp) {
+        return Some(Goal::Value(class, Attribute::OnStartUp));
+    }
+    None
 }
 
 /// What is wrong with a field of the class.
@@ -247,50 +262,4 @@ fn is_reference_part(part: Option<Part>) -> bool
         part,
         Some(Part::Object | Part::Target | Part::Need(Need::Ref | Need::Receiver(_)))
     )
-}
-
-/// Whether white space lacks between the bytes and the token behind them.
-fn lacks_gap(front: &[u8], sign: Option<Sign>) -> bool
-    ensures { result ≡ lacks_gap front.now sign }
-{
-    match sign {
-        Some(sign) => is_bare(sign) && ends_bare(front),
-        None => false,
-    }
-}
-
-/// Whether the token is a keyword, a word or an integer.
-fn is_bare(sign: Sign) -> bool
-    ensures { result ≡ is_bare sign }
-{
-    matches!(sign, Sign::Name(_) | Sign::Unknown | Sign::Integer)
-}
-
-/// Whether the bytes end with a letter or a digit.
-fn ends_bare(bytes: &[u8]) -> bool
-    ensures { result ≡ ends_bare bytes.now }
-{
-    is_bare_byte(bytes.last().copied())
-}
-
-fn is_bare_byte(byte: Option<u8>) -> bool
-    ensures { result ≡ is_bare_byte byte }
-{
-    match byte {
-        Some(byte) => is_letter_or_digit(byte),
-        None => false,
-    }
-}
-
-fn is_letter_or_digit(byte: u8) -> bool
-    ensures { result ≡ is_letter_or_digit byte }
-{
-    matches!(byte, b'A'..=b'Z' | b'a'..=b'z') || matches!(byte, b'0'..=b'9')
-}
-
-/// The first so many bytes.
-pub(crate) fn front(file: &[u8], length: usize) -> &[u8]
-    ensures { result.now ≡ take length file.now }
-{
-    file.get(..length).unwrap_or(file)
 }
