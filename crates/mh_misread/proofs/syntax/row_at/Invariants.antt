@@ -1,0 +1,9 @@
+use Rattle.std.proofs.Common.{◌≡◌, ◌∷◌, length}
+use Rattle.mh_misread.specs.Misreads.{row_of, with_top}
+use Rattle.mh_misread.proofs.syntax.row_at.Given as goal
+
+abbrev pub invariant-loop-next : goal.invariant-loop-next
+invariant-loop-next l = row_of (with_top l.next l.below) ≡ row_of (l.fn.frame ∷ l.fn.below)
+
+abbrev pub decreases-loop-next : goal.decreases-loop-next
+decreases-loop-next l = length (with_top l.next l.below)

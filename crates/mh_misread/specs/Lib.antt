@@ -1,0 +1,10 @@
+pub mod Likeness
+pub mod Names
+pub mod Nearest
+pub mod Slips
+pub mod Pieces
+pub mod Goals
+pub mod LimitsOf
+pub mod Words
+pub mod Misreads
+pub mod Telling

@@ -1,0 +1,271 @@
+//! How a misread text is mended. What is told has no full stop.
+ghost use Rattle.std.specs.Prelude.{◌≡◌, ◌++◌, OnOk};
+ghost use Rattle.mh_misread.specs.Telling.{separator_mend, string_mend, escape_mend, quote_mend, character_mend, string_byte_mend, slip_mend, name_mend, fields_mend, events_mend, plain_mend, is_event_shape, is_event_part, event_mend, wanted_mend, unknown_mend, closing, closing_mend, not_taken_mend, lacks_mend, unwanted_mend, range_mend, mend};
+
+use crate::found::{character_of, put_byte_words, put_escaped, put_marked, put_written};
+use crate::goal::Goal;
+use crate::limits::limits_of;
+use crate::misread::Misread;
+use crate::name::Name;
+use crate::part::{Part, part_at};
+use crate::phrases::{
+    BARE_NAME_MEND, BEHIND_MEND, BETWEEN_APOSTROPHES, BYTE_MEND, COLON_MEND, COMMENT_MEND,
+    ESCAPE_MEND, IN_ITS_PLACE, IN_PLACE_OF_BYTE, MINUS_MEND, ONE_OF_EVENTS, ONE_OF_FIELDS,
+    TAKE_AWAY_OR, TIGHT_MEND, TWICE_MEND, WHERE_IT_ENDS, WHERE_STRING_ENDS, WRITE_ITS,
+};
+use crate::slip::Slip;
+use crate::span::behind;
+use crate::wanted::{
+    put_classes_taking, put_event_words, put_field_row, put_fields_of, put_row_written, put_wanted,
+};
+use crate::words::limits_words;
+use mh_group::{Attribute, Class, Need, Shape};
+use mh_told::text::Text;
+use std::alloc::AllocError;
+
+/// Puts that the byte is taken away.
+#[tactic(auto, unfolding(crate::specs::Telling::separator_mend))]
+fn put_separator_mend(text: &mut Text, byte: u8) -> Result<(), AllocError>
+    ensures { OnOk result (text.new ≡ text.old ++ separator_mend byte) }
+{
+    text.put(b"take ")?;
+    put_byte_words(text, byte)?;
+    text.put(b" away")
+}
+
+/// Puts where the mark is written.
+#[tactic(auto, unfolding(crate::specs::Telling::string_mend))]
+fn put_string_mend(text: &mut Text, mark: u8) -> Result<(), AllocError>
+    ensures { OnOk result (text.new ≡ text.old ++ string_mend mark) }
+{
+    text.put(b"write ")?;
+    put_marked(text, &[mark])?;
+    text.put(WHERE_STRING_ENDS)
+}
+
+/// Puts how the byte is written.
+#[tactic(auto, unfolding(crate::specs::Telling::escape_mend))]
+fn put_escape_mend(text: &mut Text, bytes: &[u8]) -> Result<(), AllocError>
+    ensures { OnOk result (text.new ≡ text.old ++ escape_mend bytes.now) }
+{
+    text.put(b"write ")?;
+    put_escaped(text, bytes)?;
+    text.put(IN_ITS_PLACE)
+}
+
+/// Puts how the byte is written in another string.
+#[tactic(auto, unfolding(crate::specs::Telling::quote_mend))]
+fn put_quote_mend(text: &mut Text, bytes: &[u8]) -> Result<(), AllocError>
+    ensures { OnOk result (text.new ≡ text.old ++ quote_mend bytes.now) }
+{
+    text.put(BETWEEN_APOSTROPHES)?;
+    put_escaped(text, bytes)?;
+    text.put(IN_PLACE_OF_BYTE)
+}
+
+fn put_character_mend(text: &mut Text, mark: u8, bytes: &[u8]) -> Result<(), AllocError>
+    ensures { OnOk result (text.new ≡ text.old ++ character_mend mark bytes.now) }
+{
+    if mark == b'\'' {
+        put_escape_mend(text, bytes)
+    } else {
+        put_quote_mend(text, bytes)
+    }
+}
+
+/// Puts how a character is written in a string that begins at the offset, and holds so many bytes in front of it.
+#[tactic(auto, unfolding(crate::specs::Telling::string_byte_mend))]
+fn put_string_byte_mend(
+    text: &mut Text,
+    file: &[u8],
+    offset: usize,
+    mark: u8,
+    held: usize,
+) -> Result<(), AllocError>
+    ensures { OnOk result (text.new ≡ text.old ++ string_byte_mend file.now offset mark held) }
+{
+    let inner = behind(behind(file, offset), 1);
+    put_character_mend(text, mark, character_of(behind(inner, held)))
+}
+
+/// Puts the mend where no token begins.
+#[tactic(auto, unfolding(crate::specs::Telling::slip_mend))]
+fn put_slip_mend(text: &mut Text, file: &[u8], offset: usize, slip: Slip) -> Result<(), AllocError>
+    ensures { OnOk result (text.new ≡ text.old ++ slip_mend file.now offset slip) }
+{
+    match slip {
+        Slip::Comment(_) => text.put(COMMENT_MEND),
+        Slip::Separator(byte) => put_separator_mend(text, byte),
+        Slip::OpenString(mark) => put_string_mend(text, mark),
+        Slip::ByteInString { mark, held, .. } => put_string_byte_mend(
+            text, file, offset, mark, held,
+        ),
+        Slip::Escape => text.put(ESCAPE_MEND),
+        Slip::Colon => text.put(COLON_MEND),
+        Slip::Minus => text.put(MINUS_MEND),
+        Slip::Byte(_) => text.put(BYTE_MEND),
+    }
+}
+
+/// Puts which name is written.
+#[tactic(auto, unfolding(crate::specs::Telling::name_mend))]
+fn put_name_mend(text: &mut Text, name: Name) -> Result<(), AllocError>
+    ensures { OnOk result (text.new ≡ text.old ++ name_mend name) }
+{
+    text.put(b"write ")?;
+    put_written(text, name)
+}
+
+/// Puts the fields of the class.
+#[tactic(auto, unfolding(crate::specs::Telling::fields_mend))]
+fn put_fields_mend(text: &mut Text, class: Class) -> Result<(), AllocError>
+    ensures { OnOk result (text.new ≡ text.old ++ fields_mend class) }
+{
+    text.put(ONE_OF_FIELDS)?;
+    put_fields_of(text, class)
+}
+
+/// Puts the types of events.
+#[tactic(auto, unfolding(crate::specs::Telling::events_mend))]
+fn put_events_mend(text: &mut Text) -> Result<(), AllocError>
+    ensures { OnOk result (text.new ≡ text.old ++ events_mend) }
+{
+    text.put(ONE_OF_EVENTS)?;
+    put_event_words(text)
+}
+
+/// Puts what is written.
+#[tactic(auto, unfolding(crate::specs::Telling::plain_mend))]
+fn put_plain_mend(text: &mut Text, goal: Goal) -> Result<(), AllocError>
+    ensures { OnOk result (text.new ≡ text.old ++ plain_mend goal) }
+{
+    text.put(b"write ")?;
+    put_wanted(text, goal)
+}
+
+fn is_event_shape(shape: Shape) -> bool
+    ensures { result ≡ is_event_shape shape }
+{
+    matches!(shape, Shape::Event)
+}
+
+fn is_event_part(part: Option<Part>) -> bool
+    ensures { result ≡ is_event_part part }
+{
+    matches!(part, Some(Part::Need(Need::Event)))
+}
+
+fn put_event_mend(text: &mut Text, is_event: bool, goal: Goal) -> Result<(), AllocError>
+    ensures { OnOk result (text.new ≡ text.old ++ event_mend is_event goal) }
+{
+    if is_event {
+        put_events_mend(text)
+    } else {
+        put_plain_mend(text, goal)
+    }
+}
+
+/// Puts what may be written where this is wanted; of some tables all their words.
+fn put_wanted_mend(text: &mut Text, goal: Goal) -> Result<(), AllocError>
+    ensures { OnOk result (text.new ≡ text.old ++ wanted_mend goal) }
+{
+    match goal {
+        Goal::Fields(class) => put_fields_mend(text, class),
+        Goal::Value(class, attribute) => {
+            put_event_mend(text, is_event_shape(class.shape(attribute)), goal)
+        }
+        Goal::Part(row, before) => put_event_mend(text, is_event_part(part_at(row, before)), goal),
+        _ => put_plain_mend(text, goal),
+    }
+}
+
+fn put_unknown_mend(text: &mut Text, goal: Goal, near: Option<Name>) -> Result<(), AllocError>
+    ensures { OnOk result (text.new ≡ text.old ++ unknown_mend goal near) }
+{
+    match near {
+        Some(name) => put_name_mend(text, name),
+        None => put_wanted_mend(text, goal),
+    }
+}
+
+/// The byte that closes what the first of these opens.
+fn closing(bytes: &[u8]) -> &'static [u8]
+    ensures { result.now ≡ closing bytes.now }
+{
+    match bytes {
+        [b'{', ..] => b"}",
+        _ => b")",
+    }
+}
+
+/// Puts how what stands open is closed.
+#[tactic(auto, unfolding(crate::specs::Telling::closing_mend))]
+fn put_closing_mend(text: &mut Text, file: &[u8], start: usize) -> Result<(), AllocError>
+    ensures { OnOk result (text.new ≡ text.old ++ closing_mend file.now start) }
+{
+    text.put(WRITE_ITS)?;
+    put_marked(text, closing(behind(file, start)))?;
+    text.put(WHERE_IT_ENDS)
+}
+
+/// Puts which classes take the field.
+#[tactic(auto, unfolding(crate::specs::Telling::not_taken_mend))]
+fn put_not_taken_mend(text: &mut Text, attribute: Attribute) -> Result<(), AllocError>
+    ensures { OnOk result (text.new ≡ text.old ++ not_taken_mend attribute) }
+{
+    text.put(TAKE_AWAY_OR)?;
+    put_classes_taking(text, attribute)
+}
+
+/// Puts the field that lacks.
+#[tactic(auto, unfolding(crate::specs::Telling::lacks_mend))]
+fn put_lacks_mend(text: &mut Text, class: Class, attribute: Attribute) -> Result<(), AllocError>
+    ensures { OnOk result (text.new ≡ text.old ++ lacks_mend class attribute) }
+{
+    text.put(b"write ")?;
+    put_field_row(text, class, attribute)
+}
+
+/// Puts all that is being read.
+#[tactic(auto, unfolding(crate::specs::Telling::unwanted_mend))]
+fn put_unwanted_mend(text: &mut Text, goal: Goal, row: Option<Goal>) -> Result<(), AllocError>
+    ensures { OnOk result (text.new ≡ text.old ++ unwanted_mend goal row) }
+{
+    text.put(b"write ")?;
+    put_row_written(text, goal, row)
+}
+
+/// Puts between which limits a value lies.
+#[tactic(auto, unfolding(crate::specs::Telling::range_mend))]
+fn put_range_mend(text: &mut Text, goal: Goal) -> Result<(), AllocError>
+    ensures { OnOk result (text.new ≡ text.old ++ range_mend goal) }
+{
+    text.put(b"write ")?;
+    text.put(limits_words(limits_of(goal)))
+}
+
+/// Puts what is to be written.
+#[tactic(auto, unfolding(crate::specs::Telling::mend))]
+pub fn put_mend(
+    text: &mut Text,
+    file: &[u8],
+    offset: usize,
+    misread: Misread,
+) -> Result<(), AllocError>
+    ensures { OnOk result (text.new ≡ text.old ++ mend file.now offset misread) }
+{
+    match misread {
+        Misread::Slip(slip) => put_slip_mend(text, file, offset, slip),
+        Misread::NoColon(name) => put_name_mend(text, name),
+        Misread::Unknown(goal, near) => put_unknown_mend(text, goal, near),
+        Misread::Tight => text.put(TIGHT_MEND),
+        Misread::Behind => text.put(BEHIND_MEND),
+        Misread::TextEnds(start) | Misread::Unclosed(start) => put_closing_mend(text, file, start),
+        Misread::NotTaken(_, attribute) => put_not_taken_mend(text, attribute),
+        Misread::Twice(_, _) => text.put(TWICE_MEND),
+        Misread::Lacks(class, attribute) => put_lacks_mend(text, class, attribute),
+        Misread::BareName => text.put(BARE_NAME_MEND),
+        Misread::Unwanted(goal, row) => put_unwanted_mend(text, goal, row),
+        Misread::OutOfRange(goal) => put_range_mend(text, goal),
+    }
+}

@@ -1,0 +1,114 @@
+//! `Misread`: what is wrong with a text that is not read, case by case.
+ghost use Rattle.std.specs.Prelude.{◌≡◌, ◌∷◌, [], List, take, drop, IfOk};
+ghost use Rattle.std.specs.List.{find};
+ghost use Rattle.std.specs.Option.{option_map};
+ghost use Rattle.mh_misread.specs.Goals.{wanted_behind};
+ghost use Rattle.mh_misread.specs.Pieces.{pieces_before};
+ghost use Rattle.mh_misread.specs.Misreads.{misread_of, syntax, syntax_at, unknown_name, unknown_at, out_of_range, range_at, first_token, top_of};
+
+use crate::goal::{Frame, Goal};
+use crate::name::Name;
+use crate::piece::pieces_before;
+use crate::slip::{Slip, slip_of};
+use crate::span::behind;
+use crate::stack::Stack;
+use crate::syntax::syntax;
+use crate::token::first_token;
+use crate::unknown::unknown;
+use mh_group::{Attribute, Class};
+use std::alloc::{AllocError, Global};
+
+/// What is wrong with a text at the place where reading stopped.
+#[derive(Clone, Copy)]
+pub enum Misread {
+    /// No token begins there.
+    Slip(Slip),
+    /// A word that is a keyword without its colon.
+    NoColon(Name),
+    /// A keyword or a word that no table has, where this is wanted; and the name that is most like it.
+    Unknown(Goal, Option<Name>),
+    /// No white space stands in front of the token.
+    Tight,
+    /// A token behind the group.
+    Behind,
+    /// The text ends while the bracket at this offset is open.
+    TextEnds(usize),
+    /// A brace that ends an object, or a field, while the bracket at this offset is open.
+    Unclosed(usize),
+    /// A field that the class does not take.
+    NotTaken(Class, Attribute),
+    /// A field that stands there already.
+    Twice(Class, Attribute),
+    /// An object that ends without this field.
+    Lacks(Class, Attribute),
+    /// A name that wants brackets of its own.
+    BareName,
+    /// Another token than what is wanted, and the action or the field that is being read.
+    Unwanted(Goal, Option<Goal>),
+    /// A value outside the limits of what is wanted.
+    OutOfRange(Goal),
+}
+
+/// What is wrong with a file that is refused at the offset by the number; none where no case is known.
+#[tactic(auto, unfolding(crate::specs::Misreads::misread_of))]
+pub fn misread_of(
+    alloc: Global,
+    file: &[u8],
+    offset: usize,
+    number: u32,
+) -> Result<Option<Misread>, AllocError>
+    ensures { IfOk result (λ misread. misread ≡ misread_of file.now offset number) }
+{
+    match number {
+        20 => Ok(slip_of(behind(file, offset)).map(Misread::Slip)),
+        21 => Ok(Some(syntax(alloc, file, offset)?)),
+        22 => unknown_name(alloc, file, offset),
+        23 => out_of_range(alloc, file, offset),
+        _ => Ok(None),
+    }
+}
+
+/// A name that no table has.
+#[tactic(auto, unfolding(crate::specs::Misreads::unknown_name))]
+fn unknown_name(alloc: Global, file: &[u8], offset: usize) -> Result<Option<Misread>, AllocError>
+    ensures { IfOk result (λ misread. misread ≡ unknown_name file.now offset) }
+{
+    let top = top_at(alloc, file, offset)?;
+    Ok(unknown_at(top, behind(file, offset)))
+}
+
+/// A name that no table has, at the front of these bytes, where this is wanted.
+fn unknown_at(top: Option<Frame>, bytes: &[u8]) -> Option<Misread>
+    ensures { result ≡ unknown_at top (first_token bytes.now) }
+{
+    let frame = top?;
+    let token = first_token(bytes)?;
+    Some(unknown(frame.goal, token.kind, token.text))
+}
+
+/// A value outside its limits.
+#[tactic(auto, unfolding(crate::specs::Misreads::out_of_range))]
+fn out_of_range(alloc: Global, file: &[u8], offset: usize) -> Result<Option<Misread>, AllocError>
+    ensures { IfOk result (λ misread. misread ≡ out_of_range file.now offset) }
+{
+    let top = top_at(alloc, file, offset)?;
+    Ok(range_at(top))
+}
+
+fn range_at(top: Option<Frame>) -> Option<Misread>
+    ensures { result ≡ range_at top }
+{
+    match top {
+        Some(frame) => Some(Misread::OutOfRange(frame.goal)),
+        None => None,
+    }
+}
+
+/// What is wanted at the offset.
+fn top_at(alloc: Global, file: &[u8], offset: usize) -> Result<Option<Frame>, AllocError>
+    ensures { IfOk result (λ top. top ≡ top_of (wanted_behind (pieces_before file.now offset))) }
+{
+    let pieces = pieces_before(alloc, file, offset)?;
+    let mut stack = Stack::behind(alloc, pieces.as_slice())?;
+    Ok(stack.top())
+}
