@@ -13,11 +13,13 @@ use Rattle.mh_layers.specs.declared.bounds.InputKind.TheVariants as kind
 use Rattle.mh_layers.specs.declared.way.Stage.{Stage}
 use Rattle.mh_layers.specs.declared.way.Way.{Way}
 use Rattle.mh_text.specs.Landmarks.{Through}
-use Rattle.mh_look.specs.Advice.{row_with, bounds, refusals, files, services, tags, faults, readings}
+use Rattle.mh_misread.specs.declared.misread.Misread.{Misread}
+use Rattle.mh_look.specs.Advice.{advice, row_with, bounds, refusals, files, services, tags, faults, readings}
 use Rattle.mh_look.specs.Keywords.{keyword_of}
-use Rattle.mh_look.specs.LineWords.{first_word, behind_first, last_word, before_last}
+use Rattle.mh_look.specs.LineWords.{first_word, behind_first, last_word, before_last, number_in}
+use Rattle.mh_look.specs.Misreading.{case_in, case_or, case_text, file_advice, told_or}
 use Rattle.mh_look.specs.Places.{IsHarmless}
-use Rattle.mh_look.specs.Sources.{NamedFile, Source, in_source, shown_object, shown_offset, shown_refused}
+use Rattle.mh_look.specs.Sources.{NamedFile, Source, in_source, shown_object, shown_offset, shown_refused, source_named}
 use Rattle.mh_look.specs.Circles.{arrow_text}
 use Rattle.mh_look.specs.Spots.{Spot, spot}
 use Rattle.mh_look.specs.Through.{holder_text, is_held, is_variable, last_link, own_text, reached_by, through_at, through_by, through_numbered, through_told}
@@ -161,9 +163,27 @@ unfolding spec.cause
 cause_put g [] s = harmless_paragraph _ ⌢ spot_put g.sources s
 cause_put g (a ∷ more) s = arrow_put g.sources a _
 
+case_put : (file : List ℕ) (offset : ℕ) (m : Misread) → IsHarmless (case_text file offset m)
+unfolding case_text
+case_put file offset m = harmless_paragraph _ ⌢ harmless_paragraph _
+
+or_other : {X : Type 0} (f : X → List ℕ) → ((x : X) → IsHarmless (f x)) → (o : Option X) (other : List ℕ) → IsHarmless other → IsHarmless (option_map_or f o other)
+or_other f each None other h = h
+or_other f each (Some x) other h = each x
+
+told_or_put : (other : List ℕ) → IsHarmless other → (ss : List Source) (name : List ℕ) (offset number : Option ℕ) → IsHarmless (told_or other ss name offset number)
+told_or_put other h ss name (Some offset) (Some number) =
+    or_other (case_or other offset number) (λ s. or_other (case_text s.text offset) (case_put s.text offset) (case_in s offset number) other h) (source_named ss name) other h
+told_or_put other h ss name (Some offset) None = h
+told_or_put other h ss name None number = h
+
+file_advice_put : (ss : List Source) (s : Spot) → IsHarmless (file_advice ss s)
+unfolding file_advice
+file_advice_put ss s = told_or_put (advice files s.object) (advice_put files s.object) ss s.group (number_in s.index) (number_in s.object)
+
 file_put : (ss : List Source) (s : Spot) → IsHarmless (spec.file ss s)
 unfolding spec.file
-file_put ss s = harmless_paragraph _ ⌢ by_number_put (shown_offset ss s.group) (offset_put ss s.group) s.index ⌢ advice_put files s.object
+file_put ss s = harmless_paragraph _ ⌢ by_number_put (shown_offset ss s.group) (offset_put ss s.group) s.index ⌢ file_advice_put ss s
 
 group_put : (g : Ground) (ws : List ℕ) → IsHarmless (spec.service g ws)
 unfolding spec.service

@@ -25,5 +25,6 @@ pub mod Circles
 pub mod Through
 pub mod Missing
 pub mod Keywords
+pub mod Misreading
 pub mod Why
 pub mod Places

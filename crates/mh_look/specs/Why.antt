@@ -9,12 +9,13 @@ use Rattle.mh_layers.specs.declared.arrow.Arrow.{Arrow}
 use Rattle.mh_layers.specs.declared.way.Way.{Way}
 use Rattle.mh_told.specs.Reading.{Source as File}
 use Rattle.mh_look.specs.declared.why_line.TheConstants.{STANDS_IN, MEMBERS_OF, SO_IT_IS, SHOWS_NONE, SHOWS_SCENE, THE_ACTION, WAS_STUCK, LEADS_TO, CIRCLE_THROUGH, COMES_BY, EFFECT_WITH, PUTS_ITSELF, HANDS_ON, WRITES_IT, IS_BYTE, OF_FILE, TOLD_OF, IS_LINE, IS_CONTEXT, CONTEXTS}
-use Rattle.mh_look.specs.Advice.{advice, cell, row_with, refusals, files, services, tags, faults, objects, readings}
+use Rattle.mh_look.specs.Advice.{advice, cell, row_with, refusals, services, tags, faults, objects, readings}
 use Rattle.mh_look.specs.declared.why_keyword.Keyword.{Keyword}
 use Rattle.mh_look.specs.declared.why_keyword.Keyword.TheVariants as keyword
 use Rattle.mh_look.specs.Circles.{arrow_text, at_words, next_in}
 use Rattle.mh_look.specs.Keywords.{keyword_of}
 use Rattle.mh_look.specs.LineWords.{first_word, behind_first, last_word, before_last}
+use Rattle.mh_look.specs.Misreading.{file_advice}
 use Rattle.mh_look.specs.Missing.{missing}
 use Rattle.mh_look.specs.Places.{plain, IsHarmless}
 use Rattle.mh_look.specs.Services.{shown_service}
@@ -165,7 +166,7 @@ cause_told g (a ∷ more) s = arrow_text g.sources a (next_in a more g.cycle)
 unfoldable pub file : List Source → Spot → List ℕ
 file ss s =
     paragraph (IS_BYTE.now ++ s.index ++ OF_FILE.now ++ s.group ++ codes ".") ++ by_number (shown_offset ss s.group) s.index
-    ++ advice files s.object
+    ++ file_advice ss s
 
 -- a line of the file that names late scenes, which 37 tells
 abbrev pub shown_late : Option NamedFile → List ℕ → List ℕ → List ℕ

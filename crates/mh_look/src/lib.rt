@@ -47,6 +47,7 @@ mod why_ground;
 mod why_keyword;
 mod why_line;
 mod why_marked;
+mod why_misread;
 mod why_missing;
 mod why_more;
 mod why_object;

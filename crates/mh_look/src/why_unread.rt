@@ -5,10 +5,11 @@ ghost use Rattle.mh_look.specs.Sources.{shown_line, shown_offset, by_number};
 ghost use Rattle.mh_look.specs.Why as spec;
 ghost use Rattle.mh_look.specs.Why.{shown_late, shown_script, shown_tags, tag_words};
 
-use crate::advice::{files, put_advice, readings, services, tags};
+use crate::advice::{put_advice, readings, services, tags};
 use crate::named_file::{NamedFile, put_numbered_line, put_written_line};
 use crate::why_ground::Ground;
 use crate::why_line::{CONTEXTS, IS_BYTE, IS_CONTEXT, IS_LINE, OF_FILE, TOLD_OF};
+use crate::why_misread::put_file_advice;
 use crate::why_missing::put_missing;
 use crate::why_place::put_offset;
 use crate::why_service::put_service as put_group;
@@ -38,7 +39,7 @@ pub(crate) fn put_file(
     sentence.put(b".")?;
     put_paragraph(alloc, text, sentence.as_slice())?;
     put_byte_shown(alloc, text, sources, spot.group(), spot.index())?;
-    put_advice(alloc, text, files(), spot.object())
+    put_file_advice(alloc, text, sources, spot)
 }
 
 /// Puts where the byte stands, if the word is a number and it is found.
