@@ -13,7 +13,7 @@ use Rattle.mh_group.specs.declared.shape.Need.TheVariants as need
 use Rattle.mh_group.specs.Table.{shape_of, takes, required_of}
 use Rattle.mh_text.specs.declared.token_kind.TokenKind.{TokenKind}
 use Rattle.mh_text.specs.declared.token_kind.TokenKind.TheVariants as token_kind
-use Rattle.mh_text.specs.Left.{Lexed, finished, bad, token, lexed}
+use Rattle.mh_text.specs.Left.{Lexed, token, lexed}
 use Rattle.mh_misread.specs.declared.name.Name.{Name}
 use Rattle.mh_misread.specs.declared.name.Name.TheVariants as name
 use Rattle.mh_misread.specs.declared.nearest.Table.{Table}
@@ -21,7 +21,6 @@ use Rattle.mh_misread.specs.declared.unknown.TheConstants.{CLASSES_FIRST, ATTRIB
 use Rattle.mh_misread.specs.declared.piece.Sign.{Sign}
 use Rattle.mh_misread.specs.declared.piece.Sign.TheVariants as sign
 use Rattle.mh_misread.specs.declared.piece.Piece.{Piece}
-use Rattle.mh_misread.specs.declared.part.Row.{Row}
 use Rattle.mh_misread.specs.declared.part.Row.TheVariants as row
 use Rattle.mh_misread.specs.declared.part.Listed.TheVariants as listed
 use Rattle.mh_misread.specs.declared.part.Part.{Part}
