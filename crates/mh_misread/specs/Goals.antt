@@ -2,16 +2,13 @@
 -- are read. The tokens are taken to be right, as they are in front of the place where reading stops.
 use Rattle.std.specs.Prelude.{ℕ, ◌+◌, ◌-◌, ◌==◌, Bool, true, false, nat_lt, if◌then◌else◌, List, [], ◌∷◌, Option, Some, None, slice_get}
 use Rattle.std.specs.Option.{option_map}
-use Rattle.mh_base.specs.declared.value.Kind.{Kind}
 use Rattle.mh_group.specs.declared.class.Class.{Class}
 use Rattle.mh_group.specs.declared.attribute.Attribute.{Attribute}
 use Rattle.mh_group.specs.declared.action_name.ActionName.{ActionName}
 use Rattle.mh_group.specs.declared.shape.Shape.{Shape}
 use Rattle.mh_group.specs.declared.shape.Shape.TheVariants as shape
-use Rattle.mh_group.specs.declared.shape.Need.{Need}
 use Rattle.mh_group.specs.declared.shape.Need.TheVariants as need
 use Rattle.mh_group.specs.Table.{shape_of, needs_of}
-use Rattle.mh_misread.specs.declared.name.Name.{Name}
 use Rattle.mh_misread.specs.declared.name.Name.TheVariants as name
 use Rattle.mh_misread.specs.declared.piece.Sign.{Sign}
 use Rattle.mh_misread.specs.declared.piece.Sign.TheVariants as sign

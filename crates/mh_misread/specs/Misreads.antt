@@ -13,15 +13,14 @@ use Rattle.mh_group.specs.declared.shape.Need.TheVariants as need
 use Rattle.mh_group.specs.Table.{shape_of, takes, required_of}
 use Rattle.mh_text.specs.declared.token_kind.TokenKind.{TokenKind}
 use Rattle.mh_text.specs.declared.token_kind.TokenKind.TheVariants as token_kind
-use Rattle.mh_text.specs.Left.{Lexed, finished, bad, token, lexed}
+use Rattle.mh_text.specs.Left.{Lexed, token, lexed}
 use Rattle.mh_misread.specs.declared.name.Name.{Name}
 use Rattle.mh_misread.specs.declared.name.Name.TheVariants as name
 use Rattle.mh_misread.specs.declared.nearest.Table.{Table}
-use Rattle.mh_misread.specs.declared.unknown.TheConstants.{CLASSES_FIRST, ATTRIBUTES_FIRST, ACTIONS_FIRST, KINDS_FIRST, EVENTS_ALONE, JUSTIFICATIONS_ALONE, TRUTHS_ALONE}
+use Rattle.mh_misread.specs.declared.nearest.Table.TheVariants as table
 use Rattle.mh_misread.specs.declared.piece.Sign.{Sign}
 use Rattle.mh_misread.specs.declared.piece.Sign.TheVariants as sign
 use Rattle.mh_misread.specs.declared.piece.Piece.{Piece}
-use Rattle.mh_misread.specs.declared.part.Row.{Row}
 use Rattle.mh_misread.specs.declared.part.Row.TheVariants as row
 use Rattle.mh_misread.specs.declared.part.Listed.TheVariants as listed
 use Rattle.mh_misread.specs.declared.part.Part.{Part}
@@ -92,41 +91,48 @@ is_reference _ = false
 
 -- NAMES THAT NO TABLE HAS (22)
 
--- the tables in which a keyword is looked for, by what is wanted
-abbrev pub keyword_tables : Goal → List Table
-keyword_tables goal.GroupClass = CLASSES_FIRST.now
-keyword_tables goal.ItemClass = CLASSES_FIRST.now
-keyword_tables (goal.Fields c) = ATTRIBUTES_FIRST.now
-keyword_tables (goal.Members listed.Actions) = ACTIONS_FIRST.now
-keyword_tables _ = KINDS_FIRST.now
+-- a value that has its kind in front, or else one that a variable or a file may hold
+abbrev pub part_keywords : Option Part → Table
+part_keywords (Some (part.Need need.Typed)) = table.Kinds
+part_keywords p = table.Marks
 
-abbrev pub shape_tables : Goal → Shape → List Table
-shape_tables g shape.Event = EVENTS_ALONE.now
-shape_tables g shape.Justification = JUSTIFICATIONS_ALONE.now
-shape_tables g shape.Bool = TRUTHS_ALONE.now
-shape_tables g shape.Data = TRUTHS_ALONE.now
-shape_tables g s = keyword_tables g
+-- the table in which a keyword is looked for, by what is wanted
+abbrev pub keyword_table : Goal → Table
+keyword_table goal.GroupClass = table.Classes
+keyword_table goal.ItemClass = table.Classes
+keyword_table (goal.Fields c) = table.Attributes
+keyword_table (goal.Members listed.Actions) = table.Actions
+keyword_table (goal.Members listed.Arguments) = table.Kinds
+keyword_table (goal.Part r n) = part_keywords (part_at r n)
+keyword_table _ = table.Marks
 
-abbrev pub part_tables : Goal → Option Part → List Table
-part_tables g (Some (part.Need need.Event)) = EVENTS_ALONE.now
-part_tables g (Some (part.Need need.Bool)) = TRUTHS_ALONE.now
-part_tables g (Some (part.Need need.Data)) = TRUTHS_ALONE.now
-part_tables g p = keyword_tables g
+abbrev pub shape_words_table : Shape → Table
+shape_words_table shape.Event = table.Events
+shape_words_table shape.Justification = table.Justifications
+shape_words_table shape.Bool = table.Truths
+shape_words_table shape.Data = table.Truths
+shape_words_table s = table.Marks
 
--- the tables in which a word is looked for: where no word is wanted it may be a keyword without its colon
-abbrev pub word_tables : Goal → List Table
-word_tables (goal.Value c a) = shape_tables (goal.Value c a) (shape_of c a)
-word_tables (goal.Part r n) = part_tables (goal.Part r n) (part_at r n)
-word_tables (goal.OfKind kind.Bool) = TRUTHS_ALONE.now
-word_tables g = keyword_tables g
+abbrev pub part_words_table : Option Part → Table
+part_words_table (Some (part.Need need.Event)) = table.Events
+part_words_table (Some (part.Need need.Bool)) = table.Truths
+part_words_table (Some (part.Need need.Data)) = table.Truths
+part_words_table p = part_keywords p
+
+-- the table in which a word is looked for: where no word is wanted it may be a keyword without its colon
+abbrev pub word_table : Goal → Table
+word_table (goal.Value c a) = shape_words_table (shape_of c a)
+word_table (goal.Part r n) = part_words_table (part_at r n)
+word_table (goal.OfKind kind.Bool) = table.Truths
+word_table g = keyword_table g
 
 abbrev pub unknown_word : Goal → List ℕ → Option Name → Misread
 unknown_word g text (Some n) = misread.NoColon n
-unknown_word g text None = misread.Unknown g (nearest (word_tables g) text)
+unknown_word g text None = misread.Unknown g (nearest (word_table g) text)
 
 abbrev pub unknown : Goal → TokenKind → List ℕ → Misread
 unknown g token_kind.Word text = unknown_word g text (keyword_named text)
-unknown g k text = misread.Unknown g (nearest (keyword_tables g) (drop 1 text))
+unknown g k text = misread.Unknown g (nearest (keyword_table g) (drop 1 text))
 
 -- TOKENS THAT ARE NOT WANTED (21)
 

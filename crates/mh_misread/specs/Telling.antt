@@ -1,8 +1,7 @@
 -- What an author is told of a misread text: what was found and what is wanted, and the mend. Neither has a full stop.
-use Rattle.std.specs.Prelude.{ℕ, ◌+◌, ◌-◌, ◌/◌, ◌%◌, ◌==◌, Bool, true, false, nat_le, nat_lt, if◌then◌else◌, ◌&&◌, List, [], ◌∷◌, ◌++◌, length, take, drop, codes, Option, Some, None}
+use Rattle.std.specs.Prelude.{ℕ, ◌+◌, ◌/◌, ◌%◌, ◌==◌, Bool, true, false, nat_le, nat_lt, if◌then◌else◌, ◌&&◌, List, [], ◌∷◌, ◌++◌, length, take, drop, codes, Option, Some, None}
 use Rattle.std.specs.Fmt.{decimal}
 use Rattle.std.specs.List.{filter, prefix_len}
-use Rattle.std.specs.Option.{option_map_or}
 use Rattle.mh_group.specs.declared.class.Class.{Class}
 use Rattle.mh_group.specs.declared.attribute.Attribute.{Attribute}
 use Rattle.mh_group.specs.declared.action_name.ActionName.{ActionName}
@@ -18,7 +17,6 @@ use Rattle.mh_text.specs.declared.token_kind.TokenKind.{TokenKind}
 use Rattle.mh_text.specs.declared.token_kind.TokenKind.TheVariants as token_kind
 use Rattle.mh_misread.specs.declared.name.Name.{Name}
 use Rattle.mh_misread.specs.declared.name.Name.TheVariants as name
-use Rattle.mh_misread.specs.declared.part.Row.{Row}
 use Rattle.mh_misread.specs.declared.part.Row.TheVariants as row
 use Rattle.mh_misread.specs.declared.part.Part.{Part}
 use Rattle.mh_misread.specs.declared.goal.Goal.{Goal}
@@ -32,7 +30,7 @@ use Rattle.mh_misread.specs.Names.{word_of}
 use Rattle.mh_misread.specs.Goals.{part_at}
 use Rattle.mh_misread.specs.LimitsOf.{limits_of}
 use Rattle.mh_misread.specs.Misreads.{first_token}
-use Rattle.mh_misread.specs.Words.{shape_words, second_words, need_words, need_name, part_words, member_words, kind_words, open_words, limits_words}
+use Rattle.mh_misread.specs.Words.{shape_words, second_words, need_name, part_words, member_words, kind_words, open_words, limits_words}
 
 -- WORDS FOR WHAT IS FOUND
 

@@ -1,6 +1,6 @@
 //! Names that no table has.
 ghost use Rattle.std.specs.Prelude.{◌≡◌, drop};
-ghost use Rattle.mh_misread.specs.Misreads.{keyword_tables, word_tables, shape_tables, part_tables, unknown_word, unknown};
+ghost use Rattle.mh_misread.specs.Misreads.{part_keywords, keyword_table, shape_words_table, part_words_table, word_table, unknown_word, unknown};
 
 use crate::goal::Goal;
 use crate::misread::Misread;
@@ -11,87 +11,60 @@ use mh_base::Kind;
 use mh_group::{Need, Shape};
 use mh_text::TokenKind;
 
-// The tables in which a name is looked for, the one first that fits best.
-pub const CLASSES_FIRST: &[Table] = &[
-    Table::Classes,
-    Table::Attributes,
-    Table::Actions,
-    Table::Kinds,
-    Table::Marks,
-];
-
-pub const ATTRIBUTES_FIRST: &[Table] = &[
-    Table::Attributes,
-    Table::Actions,
-    Table::Kinds,
-    Table::Marks,
-    Table::Classes,
-];
-
-pub const ACTIONS_FIRST: &[Table] = &[
-    Table::Actions,
-    Table::Attributes,
-    Table::Kinds,
-    Table::Marks,
-    Table::Classes,
-];
-
-pub const KINDS_FIRST: &[Table] = &[
-    Table::Kinds,
-    Table::Marks,
-    Table::Actions,
-    Table::Attributes,
-    Table::Classes,
-];
-
-pub const EVENTS_ALONE: &[Table] = &[Table::Events];
-
-pub const JUSTIFICATIONS_ALONE: &[Table] = &[Table::Justifications];
-
-pub const TRUTHS_ALONE: &[Table] = &[Table::Truths];
-
-/// The tables in which a keyword is looked for, by what is wanted.
-fn keyword_tables(goal: Goal) -> &'static [Table]
-    ensures { result.now ≡ keyword_tables goal }
+/// The table in which a keyword is looked for, by what is wanted.
+fn keyword_table(goal: Goal) -> Table
+    ensures { result ≡ keyword_table goal }
 {
     match goal {
-        Goal::GroupClass | Goal::ItemClass => CLASSES_FIRST,
-        Goal::Fields(_) => ATTRIBUTES_FIRST,
-        Goal::Members(Listed::Actions) => ACTIONS_FIRST,
-        _ => KINDS_FIRST,
+        Goal::GroupClass | Goal::ItemClass => Table::Classes,
+        Goal::Fields(_) => Table::Attributes,
+        Goal::Members(Listed::Actions) => Table::Actions,
+        Goal::Members(Listed::Arguments) => Table::Kinds,
+        Goal::Part(row, before) => part_keywords(part_at(row, before)),
+        _ => Table::Marks,
     }
 }
 
-/// The tables in which a word is looked for. Where no word is wanted it may be a keyword without its colon.
-fn word_tables(goal: Goal) -> &'static [Table]
-    ensures { result.now ≡ word_tables goal }
-{
-    match goal {
-        Goal::Value(class, attribute) => shape_tables(goal, class.shape(attribute)),
-        Goal::Part(row, before) => part_tables(goal, part_at(row, before)),
-        Goal::OfKind(Kind::Bool) => TRUTHS_ALONE,
-        _ => keyword_tables(goal),
-    }
-}
-
-fn shape_tables(goal: Goal, shape: Shape) -> &'static [Table]
-    ensures { result.now ≡ shape_tables goal shape }
-{
-    match shape {
-        Shape::Event => EVENTS_ALONE,
-        Shape::Justification => JUSTIFICATIONS_ALONE,
-        Shape::Bool | Shape::Data => TRUTHS_ALONE,
-        _ => keyword_tables(goal),
-    }
-}
-
-fn part_tables(goal: Goal, part: Option<Part>) -> &'static [Table]
-    ensures { result.now ≡ part_tables goal part }
+/// The keywords of a value that has its kind in front, or else of one that a variable or a file may hold.
+fn part_keywords(part: Option<Part>) -> Table
+    ensures { result ≡ part_keywords part }
 {
     match part {
-        Some(Part::Need(Need::Event)) => EVENTS_ALONE,
-        Some(Part::Need(Need::Bool | Need::Data)) => TRUTHS_ALONE,
-        _ => keyword_tables(goal),
+        Some(Part::Need(Need::Typed)) => Table::Kinds,
+        _ => Table::Marks,
+    }
+}
+
+/// The table in which a word is looked for. Where no word is wanted it may be a keyword without its colon.
+fn word_table(goal: Goal) -> Table
+    ensures { result ≡ word_table goal }
+{
+    match goal {
+        Goal::Value(class, attribute) => shape_words_table(class.shape(attribute)),
+        Goal::Part(row, before) => part_words_table(part_at(row, before)),
+        Goal::OfKind(Kind::Bool) => Table::Truths,
+        _ => keyword_table(goal),
+    }
+}
+
+fn shape_words_table(shape: Shape) -> Table
+    ensures { result ≡ shape_words_table shape }
+{
+    match shape {
+        Shape::Event => Table::Events,
+        Shape::Justification => Table::Justifications,
+        Shape::Bool | Shape::Data => Table::Truths,
+        _ => Table::Marks,
+    }
+}
+
+fn part_words_table(part: Option<Part>) -> Table
+    ensures { result ≡ part_words_table part }
+{
+    match part {
+        Some(Part::Need(Need::Event)) => Table::Events,
+        Some(Part::Need(Need::Bool | Need::Data)) => Table::Truths,
+        _ => part_keywords(part),
     }
 }
 
@@ -101,7 +74,7 @@ pub(crate) fn unknown(goal: Goal, kind: TokenKind, text: &[u8]) -> Misread
 {
     match kind {
         TokenKind::Word => unknown_word(goal, text, keyword_named(text)),
-        _ => Misread::Unknown(goal, nearest(keyword_tables(goal), behind_colon(text))),
+        _ => Misread::Unknown(goal, nearest(keyword_table(goal), behind_colon(text))),
     }
 }
 
@@ -111,7 +84,7 @@ fn unknown_word(goal: Goal, text: &[u8], keyword: Option<Name>) -> Misread
 {
     match keyword {
         Some(name) => Misread::NoColon(name),
-        None => Misread::Unknown(goal, nearest(word_tables(goal), text)),
+        None => Misread::Unknown(goal, nearest(word_table(goal), text)),
     }
 }
 

@@ -1,5 +1,5 @@
-use Rattle.std.proofs.Common.{◌≡◌, ◌+◌, ◌-◌, ◌++◌, length, Option, None, Some, sym, ap, ◌∙◌, arith, append-nil}
-use Rattle.mh_misread.specs.Pieces.{pieces_from, with_piece}
+use Rattle.std.proofs.Common.{◌+◌, ◌-◌, ◌++◌, length, None, Some, sym, ap, ◌∙◌, arith, append-nil}
+use Rattle.mh_misread.specs.Pieces.{pieces_from}
 use Rattle.mh_misread.proofs.PieceLemmas.{pieces_more, pushed}
 use Rattle.mh_misread.proofs.piece.pieces_before.Goals as goal
 
