@@ -152,7 +152,7 @@ pub static FILES: [[&[u8]; 3]; 19] = [
     [
         b"21",
         b"another token is wanted here; or the class does not take the field, or has it already; or, at a closing bracket, a field is missing",
-        b"look at the token at the offset",
+        b"write what is wanted there: of a folder, `redlook why DIR` tells it",
     ],
     [
         b"22",

@@ -74,6 +74,8 @@ mod looking;
 #[cfg(test)]
 mod marks;
 #[cfg(test)]
+mod misread;
+#[cfg(test)]
 mod notations;
 #[cfg(test)]
 mod objects;

@@ -73,7 +73,7 @@ fn told(alloc: Global, task: &str, files: &str) -> Option<Vec<u8>> {
 }
 
 /// A task, as a block tells it, and what is explained of it.
-struct Explained;
+pub struct Explained;
 
 impl Question for Explained {
     fn answer(alloc: Global, asked: &str, _: &[u8]) -> Option<Vec<u8>> {
@@ -219,30 +219,6 @@ scene s.|object s 7|  The program that is called is object 7 of s.|  s, line 2, 
 6 :OrigValue true } {:ResidentPrg 7 :Name 'ABC' }|    \7c\                                     ^|"#;
 
 static FILES: &str = r#"
-text: no token
-check
-@a {:Application ("~/a" 0)\0d\|  :OnStartUp ( ? ) }
-=> file a 20 40|  It is byte 40 of the file a.|  a, line 2, column 16|  2 \7c\   :OnStartUp ( ? ) }|   
-\7c\                ^|  Cause: a byte begins no token, a string is open, or an `=XX` is wrong.| 
-Mend: close the string, or mend what stands there.|;;
-text: another token
-check
-@a {:Application ("~/a" 0) :OnStartUp ( ( (
-=> file a 21 37|  It is byte 37 of the file a.|  a, line 1, column 38|  1 \7c\ {:Application ("~/a" 0)
-:OnStartUp ( ( (|    \7c\                                      ^|  Cause: another token is wanted
-here; or the class does not take the field, or|    has it already; or, at a closing bracket, a field
-is missing.|  Mend: look at the token at the offset.|;;
-text: no such keyword
-check
-@a {:Applicatoin ("~/a" 0) }
-=> file a 22 1|  It is byte 1 of the file a.|  a, line 1, column 2|  1 \7c\ {:Applicatoin ("~/a" 0) }|   
-\7c\  ^^^^^^^^^^^^|  Cause: no table has this keyword or word.|  Mend: mend the spelling.|;;
-text: a large number
-check
-@a {:Application ("~/a" 0) :Items ( {:IntegerVar 1 :OrigValue|2147483648 } ) }
-=> file a 23 59|  It is byte 59 of the file a.|  a, line 2, column 1|  2 \7c\ 2147483648 } ) }|    \7c\
-^^^^^^^^^^|  Cause: a number is past 32 bits, or a value outside what the table allows.|  Mend:
-write a smaller number, or a value that is allowed.|;;
 octets that end
 check
 @a \a0 1b 30 08 04 03 7e 2f 61\
@@ -601,9 +577,8 @@ octets.|  Mend: make it smaller.|;;
 file a 23 21|file a 23 x
 @a // é\0d\|{:Scene ("~/a" 99999999999) }
 => file a 23 21|  It is byte 21 of the file a.|  a, line 2, column 15|  2 \7c\ {:Scene ("~/a"
-99999999999) }|    \7c\               ^^^^^^^^^^^^|  Cause: a number is past 32 bits, or a value
-outside what the table allows.|  Mend: write a smaller number, or a value that is allowed.|file a 23
-x|  It is byte x of the file a.|  Cause: a number is past 32 bits, or a value outside what the table
+99999999999) }|    \7c\               ^^^^^^^^^^^^|  Cause: `99999999999` is not 0, the number of every
+group.|  Mend: write 0, the number of every group.|file a 23 x|  It is byte x of the file a.|  Cause: a number is past 32 bits, or a value outside what the table
 allows.|  Mend: write a smaller number, or a value that is allowed.|;;
 service 36 s|service 34 s|service 30 s
 @s {:Scene ("~/s" 0)|  :Items ({:Link 11 :EventSource 0 :EventType UserInput :LinkEffect (:Run

@@ -159,13 +159,7 @@ a line that is cut behind
 ^^^^|  Cause: an object or a variable that is named is absent in that configuration;|    so is a
 member of a TokenGroup, whose line has number 0 and `-` for the|    action.|  Mend: name one that is
 there, or move the action.|config a -|  So it is while application a shows no scene.|object a 9| 
-What is named there is object 9 of a, which is absent then.|;;
-a string that is no token here
-@a {:Application ("~/a" 0) :OnStartUp ( :Run "nine and more" ) }|
-=> file a 21 42|  It is byte 42 of the file a.|  a, line 1, column 43|  1 \7c\ … ("~/a" 0) :OnStartUp (
-:Run "nine and more" ) }|    \7c\                               ^^^^^^^^^^^^^^^|  Cause: another
-token is wanted here; or the class does not take the field, or|    has it already; or, at a closing
-bracket, a field is missing.|  Mend: look at the token at the offset.|"#;
+What is named there is object 9 of a, which is absent then.|"#;
 
 #[test]
 fn explains_circles(rt: HostRuntime) {
