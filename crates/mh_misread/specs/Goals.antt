@@ -28,7 +28,7 @@ use Rattle.mh_misread.specs.declared.goal.Next.{Next}
 
 -- the parts of a row that has always the same
 abbrev pub parts_of : Row → List Part
-parts_of (row.Identifier c) = part.Name ∷ part.Zero ∷ []
+parts_of row.Identifier = part.Name ∷ part.Zero ∷ []
 parts_of row.Reference = part.Name ∷ part.Number ∷ []
 parts_of row.ContentName = part.Name ∷ []
 parts_of row.Position = part.Integer ∷ part.Integer ∷ []
@@ -113,7 +113,7 @@ abbrev pub and_within : Goal → Option Goal → Next
 and_within here inner = record { here = Some here; within = inner }
 
 abbrev pub behind_group_class : Sign → Next
-behind_group_class (sign.Name (name.Class c)) = and_within (goal.Open (row.Identifier c)) None
+behind_group_class (sign.Name (name.Class c)) = and_within (goal.Fields c) (Some (goal.Open row.Identifier))
 behind_group_class s = then_within None
 
 abbrev pub behind_item_class : Sign → Next
@@ -133,11 +133,6 @@ abbrev pub behind_value : Class → Attribute → Sign → Next
 behind_value c a sign.Integer = behind_integer c a (is_pair (shape_of c a))
 behind_value c a s = then_within (inside (opened_by_shape (shape_of c a)) s)
 
--- behind the identifier of a group its fields stand
-abbrev pub behind_row : Row → Next
-behind_row (row.Identifier c) = and_within (goal.Fields c) None
-behind_row r = then_within None
-
 -- no row has as many parts as are counted
 abbrev pub one_more : ℕ → ℕ
 one_more n = if nat_lt n 9 then n + 1 else n
@@ -147,7 +142,7 @@ within_part (Some p) s = inside (opened_by_part p) s
 within_part None s = None
 
 abbrev pub behind_part : Row → ℕ → Sign → Next
-behind_part r n sign.Close = behind_row r
+behind_part r n sign.Close = then_within None
 behind_part r n s = and_within (goal.Part r (one_more n)) (within_part (part_at r n) s)
 
 abbrev pub behind_member : Listed → Sign → Next

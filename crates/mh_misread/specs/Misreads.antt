@@ -10,7 +10,7 @@ use Rattle.mh_group.specs.declared.attribute.Attribute.TheVariants as attribute
 use Rattle.mh_group.specs.declared.shape.Shape.{Shape}
 use Rattle.mh_group.specs.declared.shape.Shape.TheVariants as shape
 use Rattle.mh_group.specs.declared.shape.Need.TheVariants as need
-use Rattle.mh_group.specs.Table.{shape_of, takes, required_of}
+use Rattle.mh_group.specs.Table.{shape_of, takes, required_of, is_group_class}
 use Rattle.mh_text.specs.declared.token_kind.TokenKind.{TokenKind}
 use Rattle.mh_text.specs.declared.token_kind.TokenKind.TheVariants as token_kind
 use Rattle.mh_text.specs.Left.{Lexed, token, lexed}
@@ -161,8 +161,13 @@ effect_row c =
     if takes c attribute.LinkEffect then Some (goal.Value c attribute.LinkEffect)
     else (if takes c attribute.OnStartUp then Some (goal.Value c attribute.OnStartUp) else None)
 
+-- a bracket that ends a list, in which the item's brace is open; a group stands in no list
+abbrev pub at_close : Class → ℕ → Misread
+at_close c start = if is_group_class c then misread.Unwanted (goal.Fields c) None else misread.Unclosed start
+
 unfoldable pub field_misread : List Piece → ℕ → Class → Sign → Misread
 field_misread ps start c sign.CloseBrace = ended c (lacking ps start c)
+field_misread ps start c sign.Close = at_close c start
 field_misread ps start c (sign.Name (name.Attribute a)) = taken c a
 field_misread ps start c sign.OpenBrace = misread.Unwanted (goal.Fields c) (items_row c)
 field_misread ps start c (sign.Name (name.Action a)) = misread.Unwanted (goal.Fields c) (effect_row c)

@@ -1,7 +1,7 @@
 //! `Goal`: what reading wants next, and what it wants behind a token. The tokens are taken to be right, as they are in
 //! front of the place where reading stops.
 ghost use Rattle.std.specs.Prelude.{◌≡◌};
-ghost use Rattle.mh_misread.specs.Goals.{inside, reference, opened_by_part, opened_by_shape, opened_by_member, is_pair, then_within, and_within, behind_group_class, behind_item_class, behind_field, behind_integer, behind_value, behind_row, one_more, within_part, behind_part, behind_member, behind_goal};
+ghost use Rattle.mh_misread.specs.Goals.{inside, reference, opened_by_part, opened_by_shape, opened_by_member, is_pair, then_within, and_within, behind_group_class, behind_item_class, behind_field, behind_integer, behind_value, one_more, within_part, behind_part, behind_member, behind_goal};
 
 use crate::name::Name;
 use crate::part::{Listed, Part, Row, part_at};
@@ -90,7 +90,10 @@ fn behind_group_class(sign: Sign) -> Next
     ensures { result ≡ behind_group_class sign }
 {
     match sign {
-        Sign::Name(Name::Class(class)) => and_within(Goal::Open(Row::Identifier(class)), None),
+        Sign::Name(Name::Class(class)) => and_within(
+            Goal::Fields(class),
+            Some(Goal::Open(Row::Identifier)),
+        ),
         _ => then_within(None),
     }
 }
@@ -140,20 +143,11 @@ fn behind_part(row: Row, before: usize, sign: Sign) -> Next
     ensures { result ≡ behind_part row before sign }
 {
     match sign {
-        Sign::Close => behind_row(row),
+        Sign::Close => then_within(None),
         _ => and_within(
             Goal::Part(row, one_more(before)),
             within_part(part_at(row, before), sign),
         ),
-    }
-}
-
-fn behind_row(row: Row) -> Next
-    ensures { result ≡ behind_row row }
-{
-    match row {
-        Row::Identifier(class) => and_within(Goal::Fields(class), None),
-        _ => then_within(None),
     }
 }
 

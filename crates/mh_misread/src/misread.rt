@@ -33,7 +33,7 @@ pub enum Misread {
     Behind,
     /// The text ends while the bracket at this offset is open.
     TextEnds(usize),
-    /// A brace that ends an object, or a field, while the bracket at this offset is open.
+    /// A bracket, a brace or a field, while the brace or the bracket at this offset is open.
     Unclosed(usize),
     /// A field that the class does not take.
     NotTaken(Class, Attribute),

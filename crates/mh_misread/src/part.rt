@@ -2,13 +2,13 @@
 ghost use Rattle.std.specs.Prelude.{◌≡◌};
 ghost use Rattle.mh_misread.specs.Goals.{parts_of, member_part, action_part, part_at};
 
-use mh_group::{ActionName, Class, Need};
+use mh_group::{ActionName, Need};
 
 /// What stands in brackets with one part behind the other.
 #[derive(Clone, Copy)]
 pub enum Row {
-    /// The identifier of a group of this class.
-    Identifier(Class),
+    /// The identifier of a group.
+    Identifier,
     Reference,
     /// The name of a content file.
     ContentName,
@@ -61,7 +61,7 @@ fn parts_of(row: Row) -> &'static [Part]
     ensures { result.now ≡ parts_of row }
 {
     match row {
-        Row::Identifier(_) => &[Part::Name, Part::Zero],
+        Row::Identifier => &[Part::Name, Part::Zero],
         Row::Reference => &[Part::Name, Part::Number],
         Row::ContentName => &[Part::Name],
         Row::Position => &[Part::Integer, Part::Integer],

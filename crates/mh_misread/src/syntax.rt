@@ -4,7 +4,7 @@ ghost use Rattle.std.specs.List.{find, list_any};
 ghost use Rattle.mh_group.specs.Table.{required_of};
 ghost use Rattle.mh_misread.specs.Goals.{wanted_behind};
 ghost use Rattle.mh_misread.specs.Pieces.{is_keyword_of};
-ghost use Rattle.mh_misread.specs.Misreads.{first_sign, is_row, is_open, at_brace, at_string, taken, items_row, effect_row, is_reference_shape, is_reference_part, is_reference, has_keyword, lacking, ended, field_misread, value_misread, goal_misread, open_at, row_of, syntax, syntax_at};
+ghost use Rattle.mh_misread.specs.Misreads.{first_sign, is_row, is_open, at_brace, at_string, taken, at_close, items_row, effect_row, is_reference_shape, is_reference_part, is_reference, has_keyword, lacking, ended, field_misread, value_misread, goal_misread, open_at, row_of, syntax, syntax_at};
 
 use crate::gap::lacks_gap;
 use crate::goal::{Frame, Goal};
@@ -119,10 +119,22 @@ fn field_misread(pieces: &[Piece], start: usize, class: Class, sign: Sign) -> Mi
 {
     match sign {
         Sign::CloseBrace => ended(class, lacking(pieces, start, class)),
+        Sign::Close => at_close(class, start),
         Sign::Name(Name::Attribute(attribute)) => taken(class, attribute),
         Sign::Name(Name::Action(_)) => { Misread::Unwanted(Goal::Fields(class), effect_row(class)) }
         Sign::OpenBrace => Misread::Unwanted(Goal::Fields(class), items_row(class)),
         _ => Misread::Unwanted(Goal::Fields(class), None),
+    }
+}
+
+/// What is wrong with a bracket that ends a list, in which the item's brace is open. A group stands in no list.
+fn at_close(class: Class, start: usize) -> Misread
+    ensures { result ≡ at_close class start }
+{
+    if class.is_group() {
+        Misread::Unwanted(Goal::Fields(class), None)
+    } else {
+        Misread::Unclosed(start)
     }
 }
 

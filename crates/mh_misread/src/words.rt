@@ -138,7 +138,7 @@ pub(crate) fn open_words(row: Row) -> &'static [u8]
     ensures { result.now ≡ open_words row }
 {
     match row {
-        Row::Identifier(_) => AN_IDENTIFIER,
+        Row::Identifier => AN_IDENTIFIER,
         Row::ContentName => A_FILE_NAME,
         _ => b"`(`",
     }
