@@ -128,7 +128,7 @@ a text that ends
 check
 @a {:Application ("~/a" 0) :OnStartUp (| :Run (1) )
 => file a 21 48|  It is byte 48 of the file a.|  a, line 2, column 12|  2 \7c\  :Run (1) )|   
-\7c\            ^|  Cause: the text ends, and the `(` of line 1 is open.|  Mend: write its `)`
+\7c\            ^|  Cause: the text ends, and the `{` of line 1 is open.|  Mend: write its `}`
 where it ends.|;;
 a brace too many
 check
