@@ -98,14 +98,16 @@ counted_more : (test : ℕ → Bool) (n : ℕ) → count_by test (range_with_len
 counted_more test n =
     ap (λ (ks : List ℕ). count_by test ks) (range_more 0 n) ∙ sum_by-append (λ (k : ℕ). counts (test k)) (range_with_len 0 n) ((0 + n) ∷ [])
 
+none_plus : (n : ℕ) → 0 + n ≡ n
+none_plus n = omega arith
+
+counted_as : (test : ℕ → Bool) (n : ℕ) (b : Bool) → test n ≡ b → count_by test (range_with_len 0 (n + 1)) ≡ count_by test (range_with_len 0 n) + counts b
+counted_as test n b is =
+    counted_more test n
+    ∙ ap (λ (k : ℕ). count_by test (range_with_len 0 n) + k) (none_plus (counts (test (0 + n))) ∙ ap (λ (k : ℕ). counts (test k)) (none_plus n) ∙ ap counts is)
+
 pub count_found : (test : ℕ → Bool) (n : ℕ) → test n ≡ true → count_by test (range_with_len 0 (n + 1)) ≡ count_by test (range_with_len 0 n) + 1
-count_found test n is =
-    let there : 0 + n ≡ n = omega arith in
-    let one : counts (test (0 + n)) ≡ 1 = ap (λ (k : ℕ). counts (test k)) there ∙ ap counts is in
-    omega (arith, counted_more test n, one)
+count_found test n is = counted_as test n true is
 
 pub count_passed : (test : ℕ → Bool) (n : ℕ) → test n ≡ false → count_by test (range_with_len 0 (n + 1)) ≡ count_by test (range_with_len 0 n)
-count_passed test n is =
-    let there : 0 + n ≡ n = omega arith in
-    let nothing : counts (test (0 + n)) ≡ 0 = ap (λ (k : ℕ). counts (test k)) there ∙ ap counts is in
-    omega (arith, counted_more test n, nothing)
+count_passed test n is = counted_as test n false is

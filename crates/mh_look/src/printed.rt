@@ -1,7 +1,5 @@
 //! What `redplay` prints where it plays nothing, told from a report.
-ghost use Rattle.std.specs.Prelude.{◌≡◌};
-ghost use Rattle.std.specs.List.{list_any};
-ghost use Rattle.mh_look.specs.Painting.{begins_with as begins_lem};
+ghost use Rattle.std.specs.Prelude.{◌≡◌, map};
 ghost use Rattle.mh_look.specs.Printed.{is_verdict, beginnings};
 
 use crate::paint::begins_with;
@@ -21,18 +19,19 @@ pub static BEGINNINGS: [&[u8]; 7] = [
 pub(crate) fn is_verdict(bytes: &[u8]) -> bool
     ensures { result ≡ is_verdict bytes.now }
 {
-    begins_with_one(beginnings(), bytes)
-}
-
-fn begins_with_one(words: &[&[u8]], bytes: &[u8]) -> bool
-    ensures { result ≡ list_any (λ word. begins_lem word.now bytes.now) words.now }
-{
-    words.iter().any(|word| begins_with(word, bytes))
+    let mut left = beginnings();
+    while let [word, behind @ ..] = left {
+        if begins_with(word, bytes) {
+            return true;
+        }
+        left = behind;
+    }
+    false
 }
 
 #[tactic(auto, unfolding(crate::specs::Printed::beginnings))]
 fn beginnings() -> &'static [&'static [u8]]
-    ensures { result.now ≡ beginnings }
+    ensures { map (λ word. word.now) result.now ≡ beginnings }
 {
     &BEGINNINGS
 }

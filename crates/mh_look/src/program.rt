@@ -8,7 +8,8 @@ ghost use Rattle.clap.specs.declared.builder.command.Command.TheViews.{out-Comma
 ghost use Rattle.mh_look.specs.CommandLine as spec;
 
 use crate::arguments::{
-    color, costs, folder, frame, late, lines, other, output, path, plain, report, script, start, tags,
+    color, costs, folder, frame, late, lines, other, output, path, plain, report, script, start,
+    tags,
 };
 use clap::Command;
 use std::alloc::{AllocError, Global};
