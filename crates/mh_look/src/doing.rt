@@ -135,10 +135,10 @@ fn put_images<R: Runtime + AllocGlobal>(
     folder: &str,
     name: &str,
 ) -> Result<(), Failure> {
-    let mut number = 0;
+    let mut number: u64 = 0;
     for part in &report.parts {
         if let Part::Frame(picture) = part {
-            number += 1;
+            number = number.saturating_add(1);
             put_image(rt, picture, folder, name, number)?;
         }
     }
