@@ -103,7 +103,8 @@ none_plus n = omega arith
 
 counted_as : (test : ℕ → Bool) (n : ℕ) (b : Bool) → test n ≡ b → count_by test (range_with_len 0 (n + 1)) ≡ count_by test (range_with_len 0 n) + counts b
 counted_as test n b is =
-    counted_more test n
+    let next : n + 1 ≡ suc n = omega arith in
+    ap (λ (k : ℕ). count_by test (range_with_len 0 k)) next ∙ counted_more test n
     ∙ ap (λ (k : ℕ). count_by test (range_with_len 0 n) + k) (none_plus (counts (test (0 + n))) ∙ ap (λ (k : ℕ). counts (test k)) (none_plus n) ∙ ap counts is)
 
 pub count_found : (test : ℕ → Bool) (n : ℕ) → test n ≡ true → count_by test (range_with_len 0 (n + 1)) ≡ count_by test (range_with_len 0 n) + 1
