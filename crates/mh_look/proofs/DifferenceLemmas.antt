@@ -98,6 +98,9 @@ counted_more : (test : ℕ → Bool) (n : ℕ) → count_by test (range_with_len
 counted_more test n =
     ap (λ (ks : List ℕ). count_by test ks) (range_more 0 n) ∙ sum_by-append (λ (k : ℕ). counts (test k)) (range_with_len 0 n) ((0 + n) ∷ [])
 
+plus_none : (n : ℕ) → n + 0 ≡ n
+plus_none n = omega arith
+
 none_plus : (n : ℕ) → 0 + n ≡ n
 none_plus n = omega arith
 
@@ -111,4 +114,4 @@ pub count_found : (test : ℕ → Bool) (n : ℕ) → test n ≡ true → count_
 count_found test n is = counted_as test n true is
 
 pub count_passed : (test : ℕ → Bool) (n : ℕ) → test n ≡ false → count_by test (range_with_len 0 (n + 1)) ≡ count_by test (range_with_len 0 n)
-count_passed test n is = counted_as test n false is
+count_passed test n is = counted_as test n false is ∙ plus_none (count_by test (range_with_len 0 n))

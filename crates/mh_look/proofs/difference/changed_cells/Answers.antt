@@ -12,11 +12,11 @@ loop-place-preserved c =
     let before = c.loop-place.invariant in
     elim c.if-differs_at.branch [
       | then-differs_at w ↦ record {
-        counted = w.count-is ∙ ap (λ (n : ℕ). n + 1) before.counted ∙ sym (count_found test c.loop-place.place (sym c.differs_at.ensures ∙ w.if-differs_at));
+        counted = w.count-is ∙ ap (λ (n : ℕ). n + 1) before.counted ∙ sym (count_found test c.loop-place.place (sym c.differs_at.ensures ∙ w.if-differs_at.true));
         within = omega (arith, w.count-is, before.within);
       }
       | else-differs_at w ↦ record {
-        counted = w.count-is ∙ before.counted ∙ sym (count_passed test c.loop-place.place (sym c.differs_at.ensures ∙ w.if-differs_at));
+        counted = w.count-is ∙ before.counted ∙ sym (count_passed test c.loop-place.place (sym c.differs_at.ensures ∙ w.if-differs_at.false));
         within = omega (arith, w.count-is, before.within);
       }
     ]
