@@ -1,8 +1,9 @@
 -- The first cell in which two pictures differ.
-use Rattle.std.specs.Prelude.{◌≡◌, ℕ, suc, zero, ◌+◌, ◌<◌, ◌≤◌, ◌≢◌, ◌==◌, eqb, ◌⊎◌, Bool, true, false, cond, not, ◌&&◌, Option, Some, None, refl}
-use Rattle.std.specs.List.{find, range_with_len}
+use Rattle.std.specs.Prelude.{◌≡◌, ℕ, suc, zero, ◌+◌, ◌<◌, ◌≤◌, ◌≢◌, ◌==◌, eqb, ◌⊎◌, Bool, true, false, cond, not, ◌&&◌, List, [], ◌∷◌, ◌++◌, Option, Some, None, refl}
+use Rattle.std.specs.List.{count_by, find, range_with_len}
 use Rattle.std.proofs.Common.{ap, arith, inl, inr, sym, subst, ◌∙◌}
 use Rattle.std.proofs.lemmas.Bool.{eqb-true}
+use Rattle.std.proofs.lemmas.List.Sums.{sum_by-append}
 use Rattle.std.proofs.lemmas.Bool.Decides.{Decides-eqb, eqb_tells}
 use Rattle.mh_model.specs.declared.cell.Cell.{Cell}
 use Rattle.mh_model.specs.Planes.{Planes, IsWhole}
@@ -81,3 +82,36 @@ find_at test a zero at low high none here = absurd (omega arith)
 find_at test a (suc n) at low high none here =
     here_or_behind test a at (find test (range_with_len (a + 1) n)) (at_or_behind a at low) (λ before. none a (omega arith) before)
     (λ before. find_at test (a + 1) n at (omega arith) (omega arith) (λ c from to. none c (omega arith) to) here) here
+
+-- how many numbers pass a test, among one more
+
+range_more : (a n : ℕ) → range_with_len a (suc n) ≡ range_with_len a n ++ (a + n) ∷ []
+range_more a zero = let same : a ≡ a + 0 = omega arith in ap (λ (k : ℕ). k ∷ []) same
+range_more a (suc n) =
+    let same : a + 1 + n ≡ a + suc n = omega arith in
+    ap (λ (ks : List ℕ). a ∷ ks) (range_more (a + 1) n ∙ ap (λ (k : ℕ). range_with_len (a + 1) n ++ k ∷ []) same)
+
+abbrev counts : Bool → ℕ
+counts b = cond b 1 0
+
+counted_more : (test : ℕ → Bool) (n : ℕ) → count_by test (range_with_len 0 (suc n)) ≡ count_by test (range_with_len 0 n) + (0 + counts (test (0 + n)))
+counted_more test n =
+    ap (λ (ks : List ℕ). count_by test ks) (range_more 0 n) ∙ sum_by-append (λ (k : ℕ). counts (test k)) (range_with_len 0 n) ((0 + n) ∷ [])
+
+plus_none : (n : ℕ) → n + 0 ≡ n
+plus_none n = omega arith
+
+none_plus : (n : ℕ) → 0 + n ≡ n
+none_plus n = omega arith
+
+counted_as : (test : ℕ → Bool) (n : ℕ) (b : Bool) → test n ≡ b → count_by test (range_with_len 0 (n + 1)) ≡ count_by test (range_with_len 0 n) + counts b
+counted_as test n b is =
+    let next : n + 1 ≡ suc n = omega arith in
+    ap (λ (k : ℕ). count_by test (range_with_len 0 k)) next ∙ counted_more test n
+    ∙ ap (λ (k : ℕ). count_by test (range_with_len 0 n) + k) (none_plus (counts (test (0 + n))) ∙ ap (λ (k : ℕ). counts (test k)) (none_plus n) ∙ ap counts is)
+
+pub count_found : (test : ℕ → Bool) (n : ℕ) → test n ≡ true → count_by test (range_with_len 0 (n + 1)) ≡ count_by test (range_with_len 0 n) + 1
+count_found test n is = counted_as test n true is
+
+pub count_passed : (test : ℕ → Bool) (n : ℕ) → test n ≡ false → count_by test (range_with_len 0 (n + 1)) ≡ count_by test (range_with_len 0 n)
+count_passed test n is = counted_as test n false is ∙ plus_none (count_by test (range_with_len 0 n))

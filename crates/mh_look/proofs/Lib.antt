@@ -3,6 +3,7 @@ pub mod EscapeLemmas
 pub mod ImageLemmas
 pub mod HarmlessLemmas
 pub mod DifferenceLemmas
+pub mod StepsLemmas
 pub mod CommandLemmas
 pub mod BeginningLemmas
 pub mod CellLemmas
@@ -30,6 +31,8 @@ pub mod StepLemmas
 pub mod TailLemmas
 pub mod AdviceLemmas
 pub mod PlacedLemmas
+pub mod ScriptLemmas
+pub mod PostLemmas
 pub mod WhyLemmas
 pub mod PaintLemmas
 pub mod FileLineLemmas

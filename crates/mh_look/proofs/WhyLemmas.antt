@@ -31,6 +31,7 @@ use Rattle.mh_look.specs.Why as spec
 use Rattle.mh_look.specs.Why.{Ground, Past, shown_spot, shown_from, or_else, cause_told, circle_place, circle_spot, refused_by, refused_spot, refused_at, unless_known, stuck, told, with_line, explained, explained_all, past_behind, why, ExplanationsAreHarmless}
 use Rattle.mh_look.proofs.HarmlessLemmas.{◌⌢◌, harmless_codes, harmless_plain, harmless_paragraph}
 use Rattle.mh_look.proofs.PlacedLemmas.{none, optional, either, joined, advice_put, by_number_put, by_numbers_put, in_source_put, action_put, refused_put, actions_put, object_put, offset_put, service_put, missing_put, late_put, tag_line_put, script_put, spot_put}
+use Rattle.mh_look.proofs.ScriptLemmas.{posts_told_put, script_told_put}
 
 -- Bounds
 
@@ -99,11 +100,11 @@ refused_at_put : (g : Ground) (number action group object index : List ℕ)
 refused_at_put g number action [] object index = none
 refused_at_put g number action (b ∷ bs) object index = refused_by_put g number action (record { group = b ∷ bs; object = object; index = index })
 
-refusal_put : (g : Ground) (ws : List ℕ) → IsHarmless (spec.refused g ws)
+refusal_put : (g : Ground) (p : Past) (ws : List ℕ) → IsHarmless (spec.refused g p ws)
 unfolding spec.refused
-refusal_put g ws =
+refusal_put g p ws =
     let s = spot (before_last (behind_first ws)) in
-    refused_at_put g (first_word ws) (last_word (behind_first ws)) s.group s.object s.index ⌢ advice_put refusals (first_word ws) ⌢ bound_put g.sources g.ways (behind_first ws) []
+    refused_at_put g (first_word ws) (last_word (behind_first ws)) s.group s.object s.index ⌢ posts_told_put g.script p.script (first_word ws) ⌢ advice_put refusals (first_word ws) ⌢ bound_put g.sources g.ways (behind_first ws) []
 
 config_put : (ws : List ℕ) → IsHarmless (spec.config ws)
 unfolding spec.config
@@ -197,9 +198,9 @@ tags_put file ws =
     either (bytes_eq (first_word ws) (codes "60")) _ _ (harmless_paragraph _) (harmless_paragraph _)
     ⌢ tag_line_put file (first_word ws) (behind_first ws) ⌢ advice_put tags (first_word ws)
 
-line_of_script_put : (script : Option NamedFile) (ws : List ℕ) → IsHarmless (spec.script script ws)
+line_of_script_put : (ss : List Source) (script : Option NamedFile) (ws : List ℕ) → IsHarmless (spec.script ss script ws)
 unfolding spec.script
-line_of_script_put script ws = harmless_paragraph _ ⌢ script_put script ws ⌢ advice_put readings (codes "script")
+line_of_script_put ss script ws = harmless_paragraph _ ⌢ script_put script ws ⌢ script_told_put ss script ws
 
 unread_put : (ws : List ℕ) → IsHarmless (spec.unread ws)
 unfolding spec.unread
@@ -229,7 +230,7 @@ told_put g p keyword.Tick ws = bound_told_put g.sources g.ways (codes "tick") ws
 told_put g p keyword.Stream ws = bound_told_put g.sources g.ways (codes "stream") ws
 told_put g p keyword.Engine ws = bound_told_put g.sources g.ways (codes "engine") ws
 told_put g p keyword.Arrive ws = bound_told_put g.sources g.ways (codes "arrive") ws
-told_put g p keyword.Refused ws = refusal_put g ws
+told_put g p keyword.Refused ws = refusal_put g p ws
 told_put g p keyword.Config ws = config_put ws
 told_put g p keyword.Object ws = named_object_put g p.refusal ws
 told_put g p keyword.By ws = by_put g.sources p (spot ws)
@@ -237,7 +238,7 @@ told_put g p keyword.Cause ws = cause_put g p.cycle (spot ws)
 told_put g p keyword.File ws = file_put g.sources (spot ws)
 told_put g p keyword.Service ws = group_put g ws
 told_put g p keyword.Tags ws = tags_put g.tags ws
-told_put g p keyword.Script ws = line_of_script_put g.script ws
+told_put g p keyword.Script ws = line_of_script_put g.sources g.script ws
 told_put g p keyword.Read ws = unread_put ws
 told_put g p keyword.Fault ws = fault_put g.sources ws
 

@@ -51,11 +51,16 @@ last_frame = 1000000000
 abbrev pub frame : Rule
 frame = record (named (codes "frame")) { parser = Some (parser.Unsigned 0 last_frame) }
 
-abbrev pub frame_required : Rule
-frame_required = record frame { required = true }
+-- the folder that images are written into
+abbrev pub output : Rule
+output = named (codes "output")
 
 abbrev pub plain : Rule
 plain = flag (codes "plain")
+
+-- whether lines are compared, too
+abbrev pub lines : Rule
+lines = flag (codes "lines")
 
 -- the application to start with
 abbrev pub start : Rule
@@ -86,13 +91,13 @@ abbrev pub show : App
 show = with_rule (with_rule (with_rule (new_app (codes "show")) report) frame) plain
 
 abbrev pub page : App
-page = with_rule (new_app (codes "page")) report
+page = with_rule (with_rule (new_app (codes "page")) report) script
 
 abbrev pub image : App
-image = with_rule (with_rule (new_app (codes "image")) report) frame_required
+image = with_rule (with_rule (with_rule (new_app (codes "image")) report) frame) output
 
 abbrev pub diff : App
-diff = with_rule (with_rule (new_app (codes "diff")) report) other
+diff = with_rule (with_rule (with_rule (new_app (codes "diff")) report) other) lines
 
 -- what is explained, what may be said of the service, and then of the rest
 
@@ -119,9 +124,9 @@ program = with_subcommand (with_subcommand (with_subcommand with_views image.top
 
 pub data Asked : Type 0 where
   shown : (report : Text) (frame : Option ℕ) (plain : Bool) → Asked
-  paged : (report : Text) → Asked
-  drawn : (report : Text) (frame : Option ℕ) → Asked
-  compared : (first second : Text) → Asked
+  paged : (report : Text) (script : Option Text) → Asked
+  drawn : (report : Text) (frame : Option ℕ) (folder : Option Text) → Asked
+  compared : (first second : Text) (lines : Bool) → Asked
   explained : (output : Option Text) (folder start : Text) (late tags script : Option Text) (costs : Bool) (color : Text) → Asked
 
 -- the value of an argument; each that is read here is required or has a default
@@ -143,11 +148,14 @@ frame_of rows = option_map number_in (first_of (codes "frame") rows)
 abbrev pub showing : List Row → Asked
 showing rows = shown (text_of (codes "REPORT") rows) (frame_of rows) (is_set (codes "plain") rows)
 
+abbrev pub paging : List Row → Asked
+paging rows = paged (text_of (codes "REPORT") rows) (first_of (codes "script") rows)
+
 abbrev pub drawing : List Row → Asked
-drawing rows = drawn (text_of (codes "REPORT") rows) (frame_of rows)
+drawing rows = drawn (text_of (codes "REPORT") rows) (frame_of rows) (first_of (codes "output") rows)
 
 abbrev pub comparing : List Row → Asked
-comparing rows = compared (text_of (codes "REPORT") rows) (text_of (codes "OTHER") rows)
+comparing rows = compared (text_of (codes "REPORT") rows) (text_of (codes "OTHER") rows) (is_set (codes "lines") rows)
 
 -- of two paths the first is of an output, and the other the folder; one is the folder
 
@@ -168,19 +176,19 @@ asked_under name rows =
     if bytes_eq name (codes "show") then showing rows
     else (if bytes_eq name (codes "image") then drawing rows
     else (if bytes_eq name (codes "diff") then comparing rows
-    else (if bytes_eq name (codes "why") then explaining rows else paged (text_of (codes "REPORT") rows))))
+    else (if bytes_eq name (codes "why") then explaining rows else paging rows)))
 
 -- one subcommand is required
 abbrev pub asked_by : Option (Text × List Row) → Asked
 asked_by (Some given) = asked_under given.0 given.1
-asked_by None = paged []
+asked_by None = paged [] None
 
 -- what a task says
 abbrev pub said : Task → Asked
 said (task.Show report frame plain) = shown report.now frame plain
-said (task.Page report) = paged report.now
-said (task.Image report frame) = drawn report.now frame
-said (task.Diff first second) = compared first.now second.now
+said (task.Page report script) = paged report.now (option_map (λ s. s.now) script)
+said (task.Image report frame folder) = drawn report.now frame (option_map (λ s. s.now) folder)
+said (task.Diff first second lines) = compared first.now second.now lines
 said (task.Why e) =
     explained (option_map (λ s. s.now) e.output) e.folder.now e.start.now (option_map (λ s. s.now) e.given.late)
     (option_map (λ s. s.now) e.given.tags) (option_map (λ s. s.now) e.given.script) e.costs e.color.now

@@ -1,6 +1,6 @@
 -- The frames of a report, one after the other, and where two reports differ.
-use Rattle.std.specs.Prelude.{ℕ, ◌+◌, ◌-◌, ◌<◌, ◌==◌, ◌≡◌, ◌≢◌, Bool, not, if◌then◌else◌, List, [], ◌∷◌, Option, Some, None, slice_get}
-use Rattle.std.specs.List.{find, range_with_len}
+use Rattle.std.specs.Prelude.{ℕ, ◌+◌, ◌-◌, ◌<◌, ◌==◌, ◌≡◌, ◌≢◌, Bool, true, false, not, if◌then◌else◌, List, [], ◌∷◌, Option, Some, None, slice_get}
+use Rattle.std.specs.List.{count_by, find, range_with_len}
 use Rattle.mh_model.specs.Planes.{Planes}
 use Rattle.mh_model.specs.Picture.{cell_of}
 use Rattle.mh_told.specs.Frame.{same_cell}
@@ -34,6 +34,10 @@ abbrev pub IsFirstDifference : Planes → Planes → Option ℕ → Type 0
 IsFirstDifference p q None = p ≡ q
 IsFirstDifference p q (Some at) = (at < 2160) × (cell_of p at ≢ cell_of q at) × ((c : ℕ) → c < at → cell_of p c ≡ cell_of q c)
 
+-- how many cells of two pictures differ
+unfoldable pub changed_cells : Planes → Planes → ℕ
+changed_cells p q = count_by (differs_at p q) (range_with_len 0 2160)
+
 -- the first frame that differs, behind so many that are the same
 abbrev pub at_frame : ℕ → Option ℕ → Difference → Difference
 at_frame passed (Some cell) behind = difference.At (passed + 1) cell
@@ -48,3 +52,10 @@ difference_behind passed (p ∷ ps) (q ∷ qs) = at_frame passed (first_differen
 -- where the frames of two reports differ
 abbrev pub difference_of : List Part → List Part → Difference
 difference_of ps qs = difference_behind 0 (pictures ps) (pictures qs)
+
+-- the frames of two reports differ
+abbrev pub is_somewhere : Difference → Bool
+is_somewhere (difference.Nowhere frames) = false
+is_somewhere (difference.At number at) = true
+is_somewhere (difference.FirstHasMore frames) = true
+is_somewhere (difference.SecondHasMore frames) = true

@@ -1,7 +1,8 @@
 -- The page that a browser shows: what stands in it, and how what comes from a report is written so that it is text.
-use Rattle.std.specs.Prelude.{ℕ, ◌+◌, ◌-◌, ◌*◌, ◌==◌, Bool, ◌&&◌, ◌||◌, not, if◌then◌else◌, List, [], ◌∷◌, ◌++◌, codes, slice_index}
+use Rattle.std.specs.Prelude.{ℕ, ◌+◌, ◌-◌, ◌*◌, ◌==◌, Bool, true, false, ◌&&◌, ◌||◌, not, if◌then◌else◌, List, [], ◌∷◌, ◌++◌, codes, slice_index}
 use Rattle.std.specs.List.{flat_map, range_with_len}
 use Rattle.std.specs.Fmt.{decimal}
+use Rattle.bstr.specs.Text.{lines_of, without_terminator}
 use Rattle.mh_model.specs.Planes.{Planes, blank}
 use Rattle.mh_told.specs.Printing.{character, hex_colour}
 use Rattle.mh_told.specs.Told.{total_line}
@@ -9,6 +10,7 @@ use Rattle.mh_look.specs.declared.report.Part.{Part}
 use Rattle.mh_look.specs.declared.report.Part.TheVariants as part
 use Rattle.mh_look.specs.Report.{Report}
 use Rattle.mh_look.specs.Frames.{differs_at}
+use Rattle.mh_look.specs.Posts.{behind_stop, up_to_stop}
 use Rattle.mh_look.specs.Shown.{harmless, turns, line_of, passed}
 use Rattle.mh_look.specs.declared.outline.TheConstants.{HEAD, FOOT, STYLE, BACKGROUND, ROW_END, FRAME_BEGIN, FRAME_TITLE_END, FRAME_END}
 
@@ -82,9 +84,34 @@ shown_behind before (part.Fault f) = before
 shown_behind before (part.Refused n) = before
 shown_behind before (part.Did n left) = before
 
-abbrev pub steps_from : ℕ → Planes → List Part → ℕ → List ℕ
-steps_from k before [] total = escaped (total_line total)
-steps_from k before (p ∷ ps) total = step_part k before p ++ steps_from (passed k p) (shown_behind before p) ps total
+-- What was posted: the lines of a script stand before what the report tells of them.
+
+unfoldable pub posted_line : List ℕ → List ℕ
+posted_line l = codes "&gt; " ++ escaped (without_terminator l) ++ 10 ∷ []
+
+-- the lines up to the next of which the report tells
+unfoldable pub posted_lines : List ℕ → List ℕ
+posted_lines left = flat_map posted_line (lines_of (up_to_stop left))
+
+-- where faults and refusals were told of them, they stand there already
+abbrev pub posted : Bool → List ℕ → List ℕ
+posted told left = if told then [] else posted_lines left
+
+abbrev pub left_behind : Bool → List ℕ → List ℕ
+left_behind told left = if told then left else behind_stop left
+
+-- more is told of the same lines behind a part
+abbrev pub tells_more : Part → Bool
+tells_more (part.Fault f) = true
+tells_more (part.Refused n) = true
+tells_more (part.Did n left) = false
+tells_more (part.Frame p) = false
+
+-- the parts, where so much is left of the script
+abbrev pub steps_from : ℕ → Planes → Bool → List ℕ → List Part → ℕ → List ℕ
+steps_from k before told left [] total = posted told left ++ escaped (total_line total)
+steps_from k before told left (p ∷ ps) total =
+    posted told left ++ step_part k before p ++ steps_from (passed k p) (shown_behind before p) (tells_more p) (left_behind told left) ps total
 
 -- what every page begins and ends with
 unfoldable pub head : List ℕ
@@ -93,6 +120,6 @@ head = HEAD.now
 unfoldable pub foot : List ℕ
 foot = FOOT.now
 
--- the page of a report
-unfoldable pub page_of : Report → List ℕ
-page_of r = head ++ steps_from 0 blank r.parts r.total ++ foot
+-- the page of a report, with the lines of the script that was played; without one there are none
+unfoldable pub page_of : Report → List ℕ → List ℕ
+page_of r script = head ++ steps_from 0 blank false script r.parts r.total ++ foot

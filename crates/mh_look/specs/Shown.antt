@@ -52,8 +52,16 @@ unfoldable pub turn : Bool → Planes → ℕ → ℕ → List ℕ
 turn plain p row column =
     if plain then [] else (if turns p row column then colour_orders (slice_index p.fores (row * 60 + column)) (slice_index p.backs (row * 60 + column)) else [])
 
+-- without colours a sign stands for a cell that has a colour and no character: U+2591
+abbrev pub is_bare : ℕ → ℕ → Bool
+is_bare scalar back = scalar == 32 && not (back == 0)
+
+abbrev pub sign : Bool → ℕ → ℕ → ℕ
+sign plain scalar back = if plain then (if is_bare scalar back then 9617 else scalar) else scalar
+
 unfoldable pub shown_cell : Bool → Planes → ℕ → ℕ → List ℕ
-shown_cell plain p row column = turn plain p row column ++ character (harmless (slice_index p.scalars (row * 60 + column)))
+shown_cell plain p row column =
+    turn plain p row column ++ character (harmless (sign plain (slice_index p.scalars (row * 60 + column)) (slice_index p.backs (row * 60 + column))))
 
 -- a row ends with the order to go back to the colours that the terminal had
 unfoldable pub row_end : Bool → List ℕ

@@ -18,6 +18,8 @@ use Rattle.mh_look.specs.LineWords.{first_word, behind_first, last_word, before_
 use Rattle.mh_look.specs.Misreading.{file_advice}
 use Rattle.mh_look.specs.Missing.{missing}
 use Rattle.mh_look.specs.Places.{plain, IsHarmless}
+use Rattle.mh_look.specs.Posts.{posts_told, script_behind, script_bytes}
+use Rattle.mh_look.specs.ScriptTexts.{script_told}
 use Rattle.mh_look.specs.Services.{shown_service}
 use Rattle.mh_look.specs.Sources.{NamedFile, Source, by_number, by_numbers, shown_action, shown_actions, shown_line, shown_object, shown_offset, shown_refused, shown_written, source_of, table_by}
 use Rattle.mh_look.specs.Spots.{Spot, spot, object_words, action_words}
@@ -48,13 +50,14 @@ pub record Ground : Type 0 where
   pub tags : Option NamedFile
   pub script : Option NamedFile
 
--- what was told before a line, and what is still to come: the words behind the last `refused`, the line before, and the links and the
--- arrows of which no line told yet
+-- what was told before a line, and what is still to come: the words behind the last `refused`, the line before, the links and the
+-- arrows of which no line told yet, and the lines of the script
 pub record Past : Type 0 where
   pub refusal : List ℕ
   pub before : List ℕ
   pub chain : List Link
   pub cycle : List Arrow
+  pub script : List ℕ
 
 -- where the action or the members stand
 abbrev pub shown_spot : List Source → Spot → List ℕ
@@ -96,10 +99,11 @@ refused_at g number action s = told s.group
     told [] = []
     told (b ∷ bs) = refused_by g number action s
 
--- for a bound that is too large the kind of input is told
-unfoldable pub refused : Ground → List ℕ → List ℕ
-refused g ws =
-    refused_at g (first_word ws) (last_word (behind_first ws)) (spot (before_last (behind_first ws))) ++ advice refusals (first_word ws)
+-- for a bound that is too large the kind of input is told, and for a post the line of the script
+unfoldable pub refused : Ground → Past → List ℕ → List ℕ
+refused g p ws =
+    refused_at g (first_word ws) (last_word (behind_first ws)) (spot (before_last (behind_first ws)))
+    ++ posts_told g.script p.script (first_word ws) ++ advice refusals (first_word ws)
     ++ bound_text g.sources g.ways (behind_first ws) []
 
 -- Lines that tell more of what is refused
@@ -197,8 +201,8 @@ tagged f ws =
 abbrev pub shown_script : Option NamedFile → List ℕ → List ℕ
 shown_script script word = option_map_or (λ s. by_number (shown_line s) word) script []
 
-unfoldable pub script : Option NamedFile → List ℕ → List ℕ
-script s ws = paragraph (IS_LINE.now ++ ws ++ codes " of the script.") ++ shown_script s ws ++ advice readings (codes "script")
+unfoldable pub script : List Source → Option NamedFile → List ℕ → List ℕ
+script ss s ws = paragraph (IS_LINE.now ++ ws ++ codes " of the script.") ++ shown_script s ws ++ script_told ss s ws
 
 unfoldable pub unread : List ℕ → List ℕ
 unread ws = paragraph (TOLD_OF.now ++ ws ++ codes ".") ++ advice readings (codes "read")
@@ -226,7 +230,7 @@ told g p keyword.Tick ws = bound_told g.sources g.ways (codes "tick") ws
 told g p keyword.Stream ws = bound_told g.sources g.ways (codes "stream") ws
 told g p keyword.Engine ws = bound_told g.sources g.ways (codes "engine") ws
 told g p keyword.Arrive ws = bound_told g.sources g.ways (codes "arrive") ws
-told g p keyword.Refused ws = refused g ws
+told g p keyword.Refused ws = refused g p ws
 told g p keyword.Config ws = config ws
 told g p keyword.Object ws = object g p.refusal ws
 told g p keyword.By ws = by g.sources p (spot ws)
@@ -234,7 +238,7 @@ told g p keyword.Cause ws = cause_told g p.cycle (spot ws)
 told g p keyword.File ws = file g.sources (spot ws)
 told g p keyword.Service ws = service g ws
 told g p keyword.Tags ws = tagged g.tags ws
-told g p keyword.Script ws = script g.script ws
+told g p keyword.Script ws = script g.sources g.script ws
 told g p keyword.Read ws = unread ws
 told g p keyword.Fault ws = fault g.sources ws
 
@@ -261,6 +265,7 @@ past_behind p line = record {
   before = line;
   chain = chain_behind p.chain line;
   cycle = cycle_behind p.cycle line;
+  script = script_behind p.script line;
 }
 
 abbrev pub explained_all : Ground → Past → List (List ℕ) → List ℕ
@@ -268,7 +273,7 @@ explained_all g p [] = []
 explained_all g p (line ∷ lines) = explained g p line ++ explained_all g (past_behind p line) lines
 
 abbrev pub first_past : Ground → Past
-first_past g = record { refusal = []; before = []; chain = g.chain; cycle = g.cycle }
+first_past g = record { refusal = []; before = []; chain = g.chain; cycle = g.cycle; script = script_bytes g.script }
 
 abbrev pub ground : Known → Ground
 ground k = record { sources = map (source_of (table_by k.tags)) k.files; ways = k.ways; chain = k.chain; cycle = k.cycle; late = k.late; tags = k.tags; script = k.script }

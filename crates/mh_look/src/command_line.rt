@@ -2,15 +2,16 @@
 //!
 //! What the words mean, which are refused and why are `clap`'s rules over `program`; the texts on a
 //! wrong command line are left to it too. Where memory was refused there is no text.
-ghost use Rattle.std.specs.Prelude.{◌≡◌, map, true, option_map, IfOk, IfErr};
+ghost use Rattle.std.specs.Prelude.{◌≡◌, [], None, map, true, option_map, IfOk, IfErr};
 ghost use Rattle.clap.specs.Words.{FailsBy, fault_of, first_of, found_of, kind_of, rows_of, subcommand_of, subcommand_rows_of, takes};
 ghost use Rattle.clap.specs.declared.error.kind.ErrorKind.TheVariants.{OutOfMemory};
-ghost use Rattle.mh_look.specs.CommandLine.{IsApart, IsRefusedBy, asked_by, asked_under, folder_of, number_in, frame_of, is_set, output_of, said, text_of};
+ghost use Rattle.mh_look.specs.CommandLine.{IsApart, IsRefusedBy, asked_by, asked_under, folder_of, number_in, frame_of, is_set, output_of, paged, said, text_of};
 ghost use Rattle.mh_look.specs.CommandLine as spec;
 ghost use Rattle.mh_look.specs.declared.command_line_error.CommandLineError.TheVariants.{NoMemory};
 
+use crate::arguments::LAST_FRAME;
 use crate::command_line_error::CommandLineError;
-use crate::program::{LAST_FRAME, program};
+use crate::program::program;
 use clap::{ArgMatches, Error};
 use std::alloc::Global;
 use std::convert::AsStr;
@@ -24,19 +25,22 @@ pub enum Task<'a> {
         frame: Option<u64>,
         plain: bool,
     },
-    /// The report as a page.
+    /// The report as a page, with the script that was played where that is known.
     Page {
         report: &'a str,
+        script: Option<&'a str>,
     },
-    /// A frame as an image. Its number is required, and so it is there.
+    /// A frame as an image, or all of them, in a folder where one is named.
     Image {
         report: &'a str,
         frame: Option<u64>,
+        folder: Option<&'a str>,
     },
     /// Where two reports differ.
     Diff {
         first: &'a str,
         second: &'a str,
+        lines: bool,
     },
     /// Why a service is refused, or what `redplay` printed of it.
     Why(Explain<'a>),
@@ -96,7 +100,7 @@ fn task_of<'a>(matches: &ArgMatches<'a>) -> Task<'a>
 {
     match matches.subcommand() {
         Some((name, given)) => task_under(name, given),
-        None => Task::Page { report: "" },
+        None => nothing(),
     }
 }
 
@@ -109,9 +113,23 @@ fn task_under<'a>(name: &str, given: &ArgMatches<'a>) -> Task<'a>
         "image" => drawing(given),
         "diff" => comparing(given),
         "why" => explaining(given),
-        _ => Task::Page {
-            report: text_of(given, "REPORT"),
-        },
+        _ => paging(given),
+    }
+}
+
+fn nothing<'a>() -> Task<'a>
+    ensures { said result ≡ paged [] None }
+{
+    let script = None;
+    Task::Page { report: "", script }
+}
+
+fn paging<'a>(given: &ArgMatches<'a>) -> Task<'a>
+    ensures { said result ≡ spec.paging (rows_of (found_of given.now)) }
+{
+    Task::Page {
+        report: text_of(given, "REPORT"),
+        script: named(given, "script"),
     }
 }
 
@@ -131,6 +149,7 @@ fn drawing<'a>(given: &ArgMatches<'a>) -> Task<'a>
     Task::Image {
         report: text_of(given, "REPORT"),
         frame: frame_of(given),
+        folder: named(given, "output"),
     }
 }
 
@@ -140,6 +159,7 @@ fn comparing<'a>(given: &ArgMatches<'a>) -> Task<'a>
     Task::Diff {
         first: text_of(given, "REPORT"),
         second: text_of(given, "OTHER"),
+        lines: is_set(given, "lines"),
     }
 }
 

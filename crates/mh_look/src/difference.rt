@@ -1,6 +1,6 @@
 //! Where two reports differ: the first frame, and its first cell.
 ghost use Rattle.std.specs.Prelude.{◌≡◌, ◌<◌};
-ghost use Rattle.mh_look.specs.Frames.{IsFirstDifference, difference_of, differs_at, first_difference};
+ghost use Rattle.mh_look.specs.Frames.{IsFirstDifference, changed_cells, difference_of, differs_at, first_difference, is_somewhere};
 
 use crate::frames::next_frame;
 use crate::report::Part;
@@ -18,6 +18,15 @@ pub enum Difference {
     FirstHasMore(u64),
     /// The other way round.
     SecondHasMore(u64),
+}
+
+impl Difference {
+    /// Whether the frames differ.
+    pub fn is_somewhere(self) -> bool
+        ensures { result ≡ is_somewhere self }
+    {
+        !matches!(self, Difference::Nowhere(_))
+    }
 }
 
 /// Where the frames of two reports differ.
@@ -56,6 +65,19 @@ pub fn first_difference(one: &Picture, other: &Picture) -> Option<usize>
         }
     }
     None
+}
+
+/// How many cells of two pictures differ.
+pub fn changed_cells(one: &Picture, other: &Picture) -> u64
+    ensures { result ≡ changed_cells one.now other.now }
+{
+    let mut count = 0;
+    for place in 0..CELLS {
+        if differs_at(one, other, place) {
+            count += 1;
+        }
+    }
+    count
 }
 
 /// Whether two pictures differ in a cell.

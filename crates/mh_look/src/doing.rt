@@ -1,19 +1,19 @@
 //! What is done for each subcommand: a report is read whole, and then what is asked for is written.
 use crate::command_line::Task;
-use crate::difference::{Difference, compare};
+use crate::comparison::compared;
 use crate::explaining::explained;
 use crate::frames::frame_at;
 use crate::image::image_of;
 use crate::page::page_of;
-use crate::report::Report;
+use crate::report::{Part, Report};
 use crate::show::{put_frame, put_report};
-use crate::source::{Failure, report_of};
-use crate::telling::told;
+use crate::source::{Failure, output_of, report_of, unwritable};
 use mh_model::Picture;
 use mh_told::text::Text;
-use std::io;
+use std::alloc::{AllocError, Global};
 use std::io::Write;
 use std::rt::Runtime;
+use std::{fs, io};
 
 /// What came of a task that was done.
 #[derive(Clone, Copy)]
@@ -40,9 +40,17 @@ pub fn done<R: Runtime + AllocGlobal>(
             frame,
             plain,
         } => shown(rt, report, *frame, *plain),
-        Task::Page { report } => paged(rt, report),
-        Task::Image { report, frame } => drawn(rt, report, frame.unwrap_or(0)),
-        Task::Diff { first, second } => compared(rt, first, second),
+        Task::Page { report, script } => paged(rt, report, *script),
+        Task::Image {
+            report,
+            frame,
+            folder,
+        } => drawn(rt, report, *frame, *folder),
+        Task::Diff {
+            first,
+            second,
+            lines,
+        } => held(rt, first, second, *lines),
         Task::Why(asked) => explained(rt, asked, is_terminal),
     }
 }
@@ -65,32 +73,124 @@ fn shown<R: Runtime + AllocGlobal>(
     written(rt, &text, Outcome::Written)
 }
 
-fn paged<R: Runtime + AllocGlobal>(rt: &R, name: &str) -> Result<Outcome, Failure> {
+fn paged<R: Runtime + AllocGlobal>(
+    rt: &R,
+    name: &str,
+    script: Option<&str>,
+) -> Result<Outcome, Failure> {
     let report = report_of(rt, name)?;
-    let page = page_of(rt.alloc(), &report)?;
+    let script = match script {
+        Some(name) => output_of(rt, name)?,
+        None => Vec::new(rt.alloc()),
+    };
+    let page = page_of(rt.alloc(), &report, script.as_slice())?;
     written(rt, &page, Outcome::Written)
 }
 
-fn drawn<R: Runtime + AllocGlobal>(rt: &R, name: &str, number: u64) -> Result<Outcome, Failure> {
+/// Writes a frame as an image, or all frames into a folder.
+fn drawn<R: Runtime + AllocGlobal>(
+    rt: &R,
+    name: &str,
+    frame: Option<u64>,
+    folder: Option<&str>,
+) -> Result<Outcome, Failure> {
     let report = report_of(rt, name)?;
-    let file = image_of(rt.alloc(), picture_of(&report, number)?)?;
+    match folder {
+        Some(folder) => drawn_into(rt, &report, frame, folder, name),
+        None => drawn_out(rt, &report, frame.ok_or(Failure::NoFolder)?),
+    }
+}
+
+/// Writes the image of a frame to standard output.
+fn drawn_out<R: Runtime + AllocGlobal>(
+    rt: &R,
+    report: &Report,
+    number: u64,
+) -> Result<Outcome, Failure> {
+    let file = image_of(rt.alloc(), picture_of(report, number)?)?;
     written(rt, &file, Outcome::Written)
 }
 
-fn compared<R: Runtime + AllocGlobal>(
+/// Writes the images of a frame, or of all frames, into a folder, which is made if it is not there.
+fn drawn_into<R: Runtime + AllocGlobal>(
+    rt: &R,
+    report: &Report,
+    frame: Option<u64>,
+    folder: &str,
+    name: &str,
+) -> Result<Outcome, Failure> {
+    if let Err(error) = fs::create_dir_all(rt, folder) {
+        return Err(unwritable(rt.alloc(), &error, folder));
+    }
+    match frame {
+        Some(number) => put_image(rt, picture_of(report, number)?, folder, name, number)?,
+        None => put_images(rt, report, folder, name)?,
+    }
+    Ok(Outcome::Written)
+}
+
+fn put_images<R: Runtime + AllocGlobal>(
+    rt: &R,
+    report: &Report,
+    folder: &str,
+    name: &str,
+) -> Result<(), Failure> {
+    let mut number: u64 = 0;
+    for part in &report.parts {
+        if let Part::Frame(picture) = part {
+            number = number.saturating_add(1);
+            put_image(rt, picture, folder, name, number)?;
+        }
+    }
+    Ok(())
+}
+
+fn put_image<R: Runtime + AllocGlobal>(
+    rt: &R,
+    picture: &Picture,
+    folder: &str,
+    name: &str,
+    number: u64,
+) -> Result<(), Failure> {
+    let file = image_of(rt.alloc(), picture)?;
+    let path = image_path(rt.alloc(), folder, name, number)?;
+    match fs::write(rt, path.as_str(), file.as_slice()) {
+        Ok(()) => Ok(()),
+        Err(error) => Err(unwritable(rt.alloc(), &error, path.as_str())),
+    }
+}
+
+/// The path of the image of a frame: in the folder, under the name of the report's file.
+fn image_path(
+    alloc: Global,
+    folder: &str,
+    report: &str,
+    number: u64,
+) -> Result<String, AllocError> {
+    let name = match report.rsplit_once('/') {
+        Some((_, name)) => name,
+        None if report == "-" => "report",
+        None => report,
+    };
+    format!(in alloc; "{folder}/{name}-{number}.png")
+}
+
+/// Writes what is said of two reports.
+fn held<R: Runtime + AllocGlobal>(
     rt: &R,
     first: &str,
     second: &str,
+    lines: bool,
 ) -> Result<Outcome, Failure> {
     let first = report_of(rt, first)?;
     let second = report_of(rt, second)?;
-    let difference = compare(first.parts.as_slice(), second.parts.as_slice());
-    let text = told(rt.alloc(), &first, &second, difference)?;
-    let outcome = match difference {
-        Difference::Nowhere(_) => Outcome::Written,
-        _ => Outcome::Different,
+    let comparison = compared(rt.alloc(), &first, &second, lines)?;
+    let outcome = if comparison.differs {
+        Outcome::Different
+    } else {
+        Outcome::Written
     };
-    written(rt, &text, outcome)
+    written(rt, &comparison.text, outcome)
 }
 
 /// The picture of the frame with this number.

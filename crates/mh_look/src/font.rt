@@ -1,6 +1,10 @@
 //! The characters of pictures: a font of 6 by 8 dots, drawn twice as large.
-ghost use Rattle.std.specs.Prelude.{◌≡◌, ◌<◌};
-ghost use Rattle.mh_look.specs.Image.{glyph_row, is_inked};
+ghost use Rattle.std.specs.Prelude.{◌≡◌, ◌<◌, nat_eq};
+ghost use Rattle.std.specs.List.{position};
+ghost use Rattle.std.specs.Option.{option_copied};
+ghost use Rattle.mh_look.specs.Image.{glyph_row, is_inked, mark_glyph, mark_glyphs, mark_row, marks};
+
+use crate::latin::{LATIN, MARK_GLYPHS, MARKS};
 
 /// The rows of what is drawn for a character that the font has not: a box.
 pub static BOX: [u8; 8] = [0x3e, 0x22, 0x22, 0x22, 0x22, 0x22, 0x3e, 0x00];
@@ -106,13 +110,15 @@ pub static GLYPHS: [[u8; 8]; 95] = [
     [0x00, 0x00, 0x12, 0x2a, 0x24, 0x00, 0x00, 0x00], // ~
 ];
 
-/// Whether a point of a character's cell of 12 by 16 is drawn in the character's colour.
+/// Whether a point of a character's cell of 12 by 16 is drawn in the character's colour: its dots stand
+/// in the middle, with a free point on each side.
 pub fn is_inked(scalar: u32, x: usize, y: usize) -> bool
     requires x { x < 12 }
     requires y { y < 16 }
     ensures { result ≡ is_inked scalar x y }
 {
-    (glyph_row(scalar, y / 2) >> (5 - x / 2)) % 2 == 1
+    let column = (x + 11) % 12 / 2;
+    (glyph_row(scalar, y / 2) >> (5 - column)) % 2 == 1
 }
 
 /// The dots of a row of a character, six bits of them.
@@ -123,6 +129,46 @@ fn glyph_row(scalar: u32, row: usize) -> u8
 {
     match scalar {
         32..=126 => GLYPHS[scalar as usize - 32][row],
-        _ => BOX[row],
+        160..=255 => LATIN[scalar as usize - 160][row],
+        _ => mark_row(scalar, row),
     }
+}
+
+/// The dots of a row of a mark, or of a box.
+fn mark_row(scalar: u32, row: usize) -> u8
+    requires { row < 8 }
+    ensures { result ≡ mark_row scalar row }
+{
+    match mark_glyph(scalar) {
+        Some(glyph) => glyph[row],
+        None => BOX[row],
+    }
+}
+
+/// The dots of a mark.
+fn mark_glyph(scalar: u32) -> Option<&'static [u8; 8]>
+    ensures { option_copied result ≡ mark_glyph scalar }
+{
+    let place = mark_place(scalar)?;
+    mark_glyphs().get(place)
+}
+
+fn mark_place(scalar: u32) -> Option<usize>
+    ensures { result ≡ position (nat_eq scalar) marks }
+{
+    marks().iter().position(|mark| scalar == *mark)
+}
+
+#[tactic(auto, unfolding(crate::specs::Image::marks))]
+fn marks() -> &'static [u32]
+    ensures { result.now ≡ marks }
+{
+    &MARKS
+}
+
+#[tactic(auto, unfolding(crate::specs::Image::mark_glyphs))]
+fn mark_glyphs() -> &'static [[u8; 8]]
+    ensures { result.now ≡ mark_glyphs }
+{
+    &MARK_GLYPHS
 }

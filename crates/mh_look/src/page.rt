@@ -1,6 +1,6 @@
 //! A report as a page for a browser, with nothing from outside: a step for each frame, with the
 //! lines that were told before it, and a last one for the lines that are left.
-ghost use Rattle.std.specs.Prelude.{◌≡◌, ◌<◌, ◌-◌, ◌^◌, ◌++◌, ◌==◌, OnOk, IfOk, [], codes, if◌then◌else◌};
+ghost use Rattle.std.specs.Prelude.{◌≡◌, ◌<◌, ◌-◌, ◌^◌, ◌++◌, ◌==◌, OnOk, IfOk, [], codes, if◌then◌else◌, false};
 ghost use Rattle.mh_model.specs.Planes.{blank};
 ghost use Rattle.mh_look.specs.Page.{begins_run, run_tag, cell_tag, cell_text, page_cell, page_row, page_rows, page_frame, step_part, shown_behind, steps_from, page_of, escaped};
 ghost use Rattle.mh_look.specs.Shown.{line_of};
@@ -10,6 +10,7 @@ use crate::escape::{put_escaped, put_escaped_character};
 use crate::outline::{
     BACKGROUND, FRAME_BEGIN, FRAME_END, FRAME_TITLE_END, ROW_END, STYLE, foot, head,
 };
+use crate::posted::{left_behind, put_posted, tells_more};
 use crate::report::{Part, Report};
 use crate::show::{frames_up_to, harmless, put_line, turns};
 use mh_model::picture::{COLUMNS, ROWS};
@@ -18,29 +19,40 @@ use mh_told::text::Text;
 use mh_told::told::put_total;
 use std::alloc::{AllocError, Global};
 
-/// The page of a report.
+/// The page of a report, with the lines of the script that was played; without one they are none.
 #[tactic(auto, unfolding(crate::specs::Page::page_of))]
-pub fn page_of(alloc: Global, report: &Report) -> Result<Text, AllocError>
-    ensures { IfOk result (λ page. page ≡ page_of report.now) }
+pub fn page_of(alloc: Global, report: &Report, script: &[u8]) -> Result<Text, AllocError>
+    ensures { IfOk result (λ page. page ≡ page_of report.now script.now) }
 {
     let mut text = Text::new(alloc);
     text.put(head())?;
-    put_steps(alloc, &mut text, report)?;
+    put_steps(alloc, &mut text, report, script)?;
     text.put(foot())?;
     Ok(text)
 }
 
 /// Puts a step for each frame, and the last one.
-fn put_steps(alloc: Global, text: &mut Text, report: &Report) -> Result<(), AllocError>
-    ensures { OnOk result (text.new ≡ text.old ++ steps_from 0 blank report.now.parts report.now.total) }
+fn put_steps(
+    alloc: Global,
+    text: &mut Text,
+    report: &Report,
+    script: &[u8],
+) -> Result<(), AllocError>
+    ensures { OnOk result (text.new ≡ text.old ++ steps_from 0 blank false script.now report.now.parts report.now.total) }
 {
     let mut passed = 0;
     let mut shown = Picture::black(alloc)?;
+    let mut told = false;
+    let mut left = script;
     for part in &report.parts {
+        put_posted(text, told, left)?;
         put_part(alloc, text, passed, &shown, part)?;
         passed = frames_up_to(passed, part);
         follow(&mut shown, part);
+        left = left_behind(told, left);
+        told = tells_more(part);
     }
+    put_posted(text, told, left)?;
     let mut line = Text::new(alloc);
     put_total(&mut line, report.total)?;
     put_escaped(text, line.as_slice())

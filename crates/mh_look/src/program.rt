@@ -1,26 +1,30 @@
-//! The program as `clap` sees it: its subcommands and options, with the texts of its help.
+//! The program as `clap` sees it: its subcommands, with the texts of their help. What they take is left to
+//! `arguments`.
 //!
 //! Promise: each function makes what the definition of its name in `specs/CommandLine` says.
 ghost use Rattle.std.specs.Prelude.{◌≡◌, false, IfOk};
-ghost use Rattle.clap.specs.Words.{app_of, new_app, rule_of};
+ghost use Rattle.clap.specs.Words.{app_of, new_app};
 ghost use Rattle.clap.specs.declared.builder.command.Command.TheViews.{out-Command as fields_of};
 ghost use Rattle.mh_look.specs.CommandLine as spec;
 
-use clap::builder::ValueParser;
-use clap::{Arg, ArgAction, Command};
+use crate::arguments::{
+    color, costs, folder, frame, late, lines, other, output, path, plain, report, script, start,
+    tags,
+};
+use clap::Command;
 use std::alloc::{AllocError, Global};
 
 /// The version that `--version` prints.
 const VERSION: &str = "0.1.0";
 
-/// The application that a service starts with where none is named.
-const START: &str = "a";
+/// What is told behind the help of `diff`.
+const DIFF_EXAMPLES: &str = "Exit status:
+  0  nothing differs
+  1  something does
+  2  a report or the command line cannot be read
 
-/// When an explanation is written in colours where nothing is said of it.
-const WHEN: &str = "auto";
-
-/// The largest number that a frame can be asked for under.
-pub const LAST_FRAME: u64 = 1_000_000_000;
+Example:
+  redlook diff examples/page/report other --lines";
 
 /// What is told behind the help of `why`.
 const WHY_EXAMPLES: &str = "Exit status of `why DIR`:
@@ -85,9 +89,10 @@ fn page<'a>(alloc: Global) -> Result<Command<'a>, AllocError>
         alloc,
         "page",
         "Writes a page for a browser, which steps through the frames",
-        "Example:\n  redlook page examples/clock/report > clock.html",
+        "Example:\n  redlook page examples/clock/report --script examples/clock/script > clock.html",
     )
-    .arg(report(alloc))
+    .arg(report(alloc))?
+    .arg(script(alloc))
 }
 
 fn image<'a>(alloc: Global) -> Result<Command<'a>, AllocError>
@@ -97,11 +102,12 @@ fn image<'a>(alloc: Global) -> Result<Command<'a>, AllocError>
     described(
         alloc,
         "image",
-        "Writes a frame as an image of 720 by 576 points, in the form PNG",
-        "Example:\n  redlook image examples/vote/report --frame 1 > vote.png",
+        "Writes a frame, or all of them, as images of 720 by 576 points, in the form PNG",
+        "Examples:\n  redlook image examples/vote/report --frame 1 > vote.png\n  redlook image examples/vote/report --output pictures",
     )
     .arg(report(alloc))?
-    .arg(frame_required(alloc))
+    .arg(frame(alloc))?
+    .arg(output(alloc))
 }
 
 fn diff<'a>(alloc: Global) -> Result<Command<'a>, AllocError>
@@ -111,11 +117,12 @@ fn diff<'a>(alloc: Global) -> Result<Command<'a>, AllocError>
     described(
         alloc,
         "diff",
-        "Says in which frame and cell two reports first differ; the status is 1 if they do",
-        "Example:\n  redlook diff examples/page/report other",
+        "Says in which frames two reports differ, and in how many cells",
+        DIFF_EXAMPLES,
     )
     .arg(report(alloc))?
-    .arg(other(alloc))
+    .arg(other(alloc))?
+    .arg(lines(alloc))
 }
 
 fn why<'a>(alloc: Global) -> Result<Command<'a>, AllocError>
@@ -160,144 +167,4 @@ fn described<'a>(alloc: Global, name: &'a str, about: &'a str, example: &'a str)
     ensures local { (fields_of result).has_globals ≡ false }
 {
     Command::new(alloc, name).about(about).after_help(example)
-}
-
-fn report<'a>(alloc: Global) -> Arg<'a>
-    ensures rule { rule_of result ≡ spec.report }
-    ensures local { result.global ≡ false }
-{
-    file(alloc, "REPORT", "The file with the report, or `-`")
-}
-
-fn other<'a>(alloc: Global) -> Arg<'a>
-    ensures rule { rule_of result ≡ spec.other }
-    ensures local { result.global ≡ false }
-{
-    file(alloc, "OTHER", "The file with the report, or `-`")
-}
-
-fn path<'a>(alloc: Global) -> Arg<'a>
-    ensures rule { rule_of result ≡ spec.path }
-    ensures local { result.global ≡ false }
-{
-    file(
-        alloc,
-        "PATH",
-        "The folder of the service; in front of DIR the file with what `redplay` printed of it, or `-`",
-    )
-}
-
-fn folder<'a>(alloc: Global) -> Arg<'a>
-    ensures rule { rule_of result ≡ spec.folder }
-    ensures local { result.global ≡ false }
-{
-    Arg::new(alloc, "DIR")
-        .action(ArgAction::Set)
-        .help("The folder of the service of which PATH was printed")
-}
-
-/// A file or folder that has to be named.
-fn file<'a>(alloc: Global, name: &'a str, help: &'a str) -> Arg<'a>
-    ensures rule { rule_of result ≡ spec.file name.entry.now }
-    ensures local { result.global ≡ false }
-{
-    Arg::new(alloc, name)
-        .required(true)
-        .action(ArgAction::Set)
-        .help(help)
-}
-
-fn frame<'a>(alloc: Global) -> Arg<'a>
-    ensures rule { rule_of result ≡ spec.frame }
-    ensures local { result.global ≡ false }
-{
-    named(alloc, "frame", "K")
-        .value_parser(ValueParser::unsigned(0, LAST_FRAME))
-        .help("The number of a frame, from 1")
-}
-
-fn frame_required<'a>(alloc: Global) -> Arg<'a>
-    ensures rule { rule_of result ≡ spec.frame_required }
-    ensures local { result.global ≡ false }
-{
-    frame(alloc).required(true)
-}
-
-fn plain<'a>(alloc: Global) -> Arg<'a>
-    ensures rule { rule_of result ≡ spec.plain }
-    ensures local { result.global ≡ false }
-{
-    flag(alloc, "plain", "Show characters without colours")
-}
-
-fn start<'a>(alloc: Global) -> Arg<'a>
-    ensures rule { rule_of result ≡ spec.start }
-    ensures local { result.global ≡ false }
-{
-    named(alloc, "start", "NAME")
-        .default_value(START)
-        .help("The path of the application to start with")
-}
-
-fn late<'a>(alloc: Global) -> Arg<'a>
-    ensures rule { rule_of result ≡ spec.late }
-    ensures local { result.global ≡ false }
-{
-    named(alloc, "late", "FILE").help("The scenes whose files come late, a name a line")
-}
-
-fn tags<'a>(alloc: Global) -> Arg<'a>
-    ensures rule { rule_of result ≡ spec.tags }
-    ensures local { result.global ≡ false }
-{
-    named(alloc, "tags", "FILE").help("The tags of the binary notation, a line each")
-}
-
-fn script<'a>(alloc: Global) -> Arg<'a>
-    ensures rule { rule_of result ≡ spec.script }
-    ensures local { result.global ≡ false }
-{
-    named(alloc, "script", "FILE").help("The script that was played")
-}
-
-fn costs<'a>(alloc: Global) -> Arg<'a>
-    ensures rule { rule_of result ≡ spec.costs }
-    ensures local { result.global ≡ false }
-{
-    flag(
-        alloc,
-        "costs",
-        "Tell what makes the start and each kind of input dear",
-    )
-}
-
-fn color<'a>(alloc: Global) -> Arg<'a>
-    ensures rule { rule_of result ≡ spec.color }
-    ensures local { result.global ≡ false }
-{
-    named(alloc, "color", "WHEN").default_value(WHEN).help(
-        "Write in colours: auto, where a terminal reads it; always; or never",
-    )
-}
-
-/// An option with a value.
-fn named<'a>(alloc: Global, name: &'a str, value: &'a str) -> Arg<'a>
-    ensures rule { rule_of result ≡ spec.named name.entry.now }
-    ensures local { result.global ≡ false }
-{
-    Arg::new(alloc, name)
-        .long(name)
-        .action(ArgAction::Set)
-        .value_name(value)
-}
-
-/// An option without a value.
-fn flag<'a>(alloc: Global, name: &'a str, help: &'a str) -> Arg<'a>
-    ensures rule { rule_of result ≡ spec.flag name.entry.now }
-    ensures local { result.global ≡ false }
-{
-    Arg::new(alloc, name)
-        .long(name)
-        .action(ArgAction::SetTrue)
-        .help(help)
 }

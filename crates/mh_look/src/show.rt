@@ -4,7 +4,7 @@
 //! as U+FFFD.
 ghost use Rattle.std.specs.Prelude.{◌≡◌, ◌<◌, ◌≤◌, ◌+◌, ◌-◌, ◌^◌, ◌++◌, OnOk, false};
 ghost use Rattle.mh_told.specs.Printing.{character};
-ghost use Rattle.mh_look.specs.Shown.{is_order, harmless, turns, colour_order, colour_parts, colour_orders, turn, row_end, shown_cell, shown_row, shown_rows, shown_frame, shown_part, shown_from, line_of, passed as passed_lem};
+ghost use Rattle.mh_look.specs.Shown.{is_bare, is_order, harmless, sign, turns, colour_order, colour_parts, colour_orders, turn, row_end, shown_cell, shown_row, shown_rows, shown_frame, shown_part, shown_from, line_of, passed as passed_lem};
 
 use crate::report::{Part, Report};
 use mh_model::picture::{COLUMNS, ROWS};
@@ -15,6 +15,9 @@ use std::alloc::AllocError;
 
 /// The order that makes a terminal take its usual colours again, and the end of a line.
 const USUAL_COLOURS: &[u8] = b"\x1b[0m\n";
+
+/// What is shown without colours for a cell that has a colour and no character.
+const SHADE: u32 = 0x2591;
 
 /// What is shown for a character that is an order to terminals.
 const REPLACEMENT: u32 = 0xFFFD;
@@ -126,7 +129,25 @@ fn put_cell(
     ensures { OnOk result (text.new ≡ text.old ++ shown_cell plain picture.now row column) }
 {
     put_turn(text, picture, row, column, plain)?;
-    put_character(text, harmless(picture.cell(row * COLUMNS + column).scalar))
+    let cell = picture.cell(row * COLUMNS + column);
+    put_character(text, harmless(sign(plain, cell.scalar, cell.back)))
+}
+
+/// What stands for a character: without colours a sign for a cell that has a colour and no character.
+fn sign(plain: bool, scalar: u32, back: u32) -> u32
+    ensures { result ≡ sign plain scalar back }
+{
+    if plain && is_bare(scalar, back) {
+        SHADE
+    } else {
+        scalar
+    }
+}
+
+fn is_bare(scalar: u32, back: u32) -> bool
+    ensures { result ≡ is_bare scalar back }
+{
+    scalar == 32 && back != 0
 }
 
 /// Puts the colours of a cell where they have to be said.

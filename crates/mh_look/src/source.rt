@@ -1,4 +1,5 @@
 //! Reports and other output, read from files or from standard input.
+use crate::printed::is_verdict;
 use crate::report::{ReadError, Report, read_report};
 use std::alloc::{AllocError, AllocFailed, Global};
 use std::io::Read;
@@ -15,6 +16,9 @@ pub enum Failure {
     /// What the file that this names has in a line, counted from 1, is no report's.
     #[error("line {1} of {0} is not of a report")]
     NoReport(String, usize),
+    /// The file that this names has no report, but what is printed where there is none.
+    #[error("{0} has a verdict, as `redplay check` prints it, and no report of `redplay play`")]
+    Verdict(String),
     /// What the file that this names has is nothing that can be explained.
     #[error("no line of {0} is one that can be explained")]
     NothingKnown(String),
@@ -24,6 +28,12 @@ pub enum Failure {
     /// There is no frame with this number.
     #[error("there is no frame {0}")]
     NoFrame(u64),
+    /// Neither a frame is named nor a folder for the images of all.
+    #[error("--frame names a frame, or --output the folder for the images of all")]
+    NoFolder,
+    /// What this names could not be written.
+    #[error("cannot write {0}")]
+    Unwritable(String),
     /// Memory or writing failed.
     #[error("memory or writing failed")]
     Failed,
@@ -52,11 +62,17 @@ pub fn report_of<R: Runtime + AllocGlobal>(rt: &R, name: &str) -> Result<Report,
     let bytes = output_of(rt, name)?;
     match read_report(rt.alloc(), bytes.as_slice()) {
         Ok(report) => Ok(report),
-        Err(ReadError::Line(line)) => {
-            let name = String::from_str(rt.alloc(), called(name))?;
-            Err(Failure::NoReport(name, line))
-        }
+        Err(ReadError::Line(line)) => Err(no_report(rt.alloc(), name, bytes.as_slice(), line)),
         Err(ReadError::NoMemory) => Err(Failure::Failed),
+    }
+}
+
+/// What is called by this name, and has these bytes, is no report, as is found in a line.
+fn no_report(alloc: Global, name: &str, bytes: &[u8], line: usize) -> Failure {
+    match String::from_str(alloc, called(name)) {
+        Ok(name) if is_verdict(bytes) => Failure::Verdict(name),
+        Ok(name) => Failure::NoReport(name, line),
+        Err(_) => Failure::Failed,
     }
 }
 
@@ -89,6 +105,17 @@ fn unreadable(alloc: Global, error: &io::Error, name: &str) -> Failure {
         return Failure::Failed;
     }
     unread(alloc, name)
+}
+
+/// What is called by this name cannot be written.
+pub(crate) fn unwritable(alloc: Global, error: &io::Error, name: &str) -> Failure {
+    if error.kind() == io::ErrorKind::OutOfMemory {
+        return Failure::Failed;
+    }
+    match String::from_str(alloc, name) {
+        Ok(name) => Failure::Unwritable(name),
+        Err(_) => Failure::Failed,
+    }
 }
 
 /// What is called by this name cannot be read.

@@ -1,15 +1,14 @@
-//! What is said of two reports.
-ghost use Rattle.std.specs.Prelude.{◌≡◌, ◌++◌, OnOk, IfOk};
-ghost use Rattle.std.specs.Fmt.{decimal};
-ghost use Rattle.mh_look.specs.Frames.{frame_at};
-ghost use Rattle.mh_look.specs.Telling.{mark, colours_line, cell_line, cell_in, place_line, cells_line, said, told};
+//! What is said of two reports that differ in frames: a line for each frame that both have.
+ghost use Rattle.std.specs.Prelude.{◌≡◌, ◌<◌, ◌++◌, OnOk, IfOk};
+ghost use Rattle.mh_look.specs.Frames.{pictures};
+ghost use Rattle.mh_look.specs.Telling.{mark, colours_line, cell_line, place_line, cells_line, counted_line, differ_words, frame_line, changed_frame, changed_frames, numbered, told};
 
-use crate::difference::Difference;
-use crate::frames::frame_at;
-use crate::report::Report;
+use crate::difference::{Difference, changed_cells, first_difference};
+use crate::frames::next_frame;
+use crate::report::{Part, Report};
 use crate::show::harmless;
-use mh_model::Cell;
 use mh_model::picture::{CELLS, COLUMNS};
+use mh_model::{Cell, Picture};
 use mh_told::text::Text;
 use std::alloc::{AllocError, Global};
 
@@ -22,85 +21,130 @@ pub const FIRST_HAS_MORE: &[u8] = b"the first has more frames than ";
 /// The other way round.
 pub const SECOND_HAS_MORE: &[u8] = b"the second has more frames than ";
 
-/// The line on where two reports differ.
-#[tactic(auto, unfolding(crate::specs::Telling::told))]
+/// What is said between the number of cells and the row of the first of them, where there is one.
+pub const ONE_DIFFERS: &[u8] = b" cell differs, in row ";
+
+/// The same of more than one.
+pub const MORE_DIFFER: &[u8] = b" cells differ, the first in row ";
+
+/// The lines on the frames in which two reports differ.
 pub fn told(
     alloc: Global,
     first: &Report,
     second: &Report,
     difference: Difference,
 ) -> Result<Text, AllocError>
-    ensures { IfOk result (λ line. line ≡ told first.now second.now difference) }
+    ensures { IfOk result (λ lines. lines ≡ told first.now second.now difference) }
 {
     let mut text = Text::new(alloc);
-    put_said(&mut text, first, second, difference)?;
-    text.put(b"\n")?;
+    match difference {
+        Difference::Nowhere(frames) => put_numbered(&mut text, SAME, frames)?,
+        _ => put_changed_frames(&mut text, first.parts.as_slice(), second.parts.as_slice())?,
+    }
     Ok(text)
 }
 
-fn put_said(
-    text: &mut Text,
-    first: &Report,
-    second: &Report,
-    difference: Difference,
-) -> Result<(), AllocError>
-    ensures { OnOk result (text.new ≡ text.old ++ said first.now second.now difference) }
+#[tactic(auto, unfolding(crate::specs::Telling::numbered))]
+fn put_numbered(text: &mut Text, words: &[u8], frames: u64) -> Result<(), AllocError>
+    ensures { OnOk result (text.new ≡ text.old ++ numbered words.now frames) }
 {
-    match difference {
-        Difference::Nowhere(frames) => put_counted(text, SAME, frames),
-        Difference::FirstHasMore(frames) => put_counted(text, FIRST_HAS_MORE, frames),
-        Difference::SecondHasMore(frames) => put_counted(text, SECOND_HAS_MORE, frames),
-        Difference::At(number, at) => put_cells(text, first, second, number, at),
+    text.put(words)?;
+    text.put_number(frames)?;
+    text.put(b"\n")
+}
+
+/// Puts a line for each frame that differs, and whether one of the reports has more.
+fn put_changed_frames(text: &mut Text, first: &[Part], second: &[Part]) -> Result<(), AllocError>
+    ensures { OnOk result (text.new ≡ text.old ++ changed_frames 0 (pictures first.now) (pictures second.now)) }
+{
+    let mut passed = 0;
+    let mut ones = first;
+    let mut others = second;
+    while let Some((one, ones_behind)) = next_frame(ones) {
+        let Some((other, others_behind)) = next_frame(others) else {
+            return put_numbered(text, FIRST_HAS_MORE, passed);
+        };
+        passed += 1;
+        put_changed_frame(text, passed, one, other)?;
+        ones = ones_behind;
+        others = others_behind;
+    }
+    match next_frame(others) {
+        Some(_) => put_numbered(text, SECOND_HAS_MORE, passed),
+        None => Ok(()),
     }
 }
 
-fn put_counted(text: &mut Text, words: &[u8], frames: u64) -> Result<(), AllocError>
-    ensures { OnOk result (text.new ≡ text.old ++ (words.now ++ decimal frames)) }
+/// Puts the line of a frame, if it differs.
+fn put_changed_frame(
+    text: &mut Text,
+    number: u64,
+    one: &Picture,
+    other: &Picture,
+) -> Result<(), AllocError>
+    ensures { OnOk result (text.new ≡ text.old ++ changed_frame number one.now other.now) }
 {
-    text.put(words)?;
-    text.put_number(frames)
+    match first_difference(one, other) {
+        Some(at) => put_frame_line(text, number, one, other, at),
+        None => Ok(()),
+    }
 }
 
-/// Puts a place, and what two reports have there.
-#[tactic(auto, unfolding(crate::specs::Telling::cells_line))]
-fn put_cells(
+#[tactic(auto, unfolding(crate::specs::Telling::frame_line))]
+fn put_frame_line(
     text: &mut Text,
-    first: &Report,
-    second: &Report,
     number: u64,
+    one: &Picture,
+    other: &Picture,
     at: usize,
 ) -> Result<(), AllocError>
-    ensures { OnOk result (text.new ≡ text.old ++ cells_line first.now second.now number at) }
+    requires { at < 2160 }
+    ensures { OnOk result (text.new ≡ text.old ++ frame_line number one.now other.now at) }
 {
-    put_place(text, number, at)?;
+    put_counted(text, number, changed_cells(one, other))?;
+    put_place(text, at)?;
     text.put(b": ")?;
-    put_cell_of(text, first, number, at)?;
-    text.put(b" and ")?;
-    put_cell_of(text, second, number, at)
+    put_cells(text, one, other, at)?;
+    text.put(b"\n")
 }
 
-/// Puts the frame, and the row and the column of the cell, as reports count them.
-#[tactic(auto, unfolding(crate::specs::Telling::place_line))]
-fn put_place(text: &mut Text, number: u64, at: usize) -> Result<(), AllocError>
-    ensures { OnOk result (text.new ≡ text.old ++ place_line number at) }
+/// Puts the number of a frame, and how many cells differ there.
+#[tactic(auto, unfolding(crate::specs::Telling::counted_line))]
+fn put_counted(text: &mut Text, number: u64, cells: u64) -> Result<(), AllocError>
+    ensures { OnOk result (text.new ≡ text.old ++ counted_line number cells) }
 {
     text.put(b"frame ")?;
     text.put_number(number)?;
-    text.put(b" row ")?;
+    text.put(b": ")?;
+    text.put_number(cells)?;
+    text.put(differ_words(cells))
+}
+
+fn differ_words(cells: u64) -> &'static [u8]
+    ensures { result.now ≡ differ_words cells }
+{
+    if cells == 1 { ONE_DIFFERS } else { MORE_DIFFER }
+}
+
+/// Puts the row and the column of a cell, as reports count them.
+#[tactic(auto, unfolding(crate::specs::Telling::place_line))]
+fn put_place(text: &mut Text, at: usize) -> Result<(), AllocError>
+    ensures { OnOk result (text.new ≡ text.old ++ place_line at) }
+{
     text.put_number((at / COLUMNS) as u64)?;
     text.put(b" column ")?;
     text.put_number((at % COLUMNS) as u64)
 }
 
-/// Puts the cell of a frame, if the report has it.
-#[tactic(auto, unfolding(crate::specs::Telling::cell_in))]
-fn put_cell_of(text: &mut Text, report: &Report, number: u64, at: usize) -> Result<(), AllocError>
-    ensures { OnOk result (text.new ≡ text.old ++ cell_in (frame_at number report.now.parts) at) }
+/// Puts a cell as both reports have it.
+#[tactic(auto, unfolding(crate::specs::Telling::cells_line))]
+fn put_cells(text: &mut Text, one: &Picture, other: &Picture, at: usize) -> Result<(), AllocError>
+    requires { at < 2160 }
+    ensures { OnOk result (text.new ≡ text.old ++ cells_line one.now other.now at) }
 {
-    match frame_at(report.parts.as_slice(), number) {
-        Some(picture) if at < CELLS => put_cell(text, picture.cell(at)),
-        _ => Ok(()),
-    }
+    put_cell(text, one.cell(at))?;
+    text.put(b" and ")?;
+    put_cell(text, other.cell(at))
 }
 
 /// Puts a cell as reports print it.

@@ -133,7 +133,7 @@ fn put_told(
             b"arrive",
             words,
         ),
-        Keyword::Refused => put_refused(alloc, text, ground, words),
+        Keyword::Refused => put_refused(alloc, text, ground, past, words),
         Keyword::Config => put_config(alloc, text, words),
         Keyword::Object => put_named(alloc, text, ground, past.refusal, words),
         Keyword::By => put_by(alloc, text, ground.sources, past, &Spot::of_words(words)),
@@ -141,7 +141,7 @@ fn put_told(
         Keyword::File => put_file(alloc, text, ground.sources, &Spot::of_words(words)),
         Keyword::Service => put_service(alloc, text, ground, words),
         Keyword::Tags => put_tags(alloc, text, ground.tags, words),
-        Keyword::Script => put_script(alloc, text, ground.script, words),
+        Keyword::Script => put_script(alloc, text, ground.sources, ground.script, words),
         Keyword::Read => put_unread(alloc, text, words),
         Keyword::Fault => put_fault(alloc, text, ground.sources, words),
     }

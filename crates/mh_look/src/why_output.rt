@@ -11,6 +11,7 @@ use crate::named_file::NamedFile;
 use crate::why_ground::Ground;
 use crate::why_line::put_explained;
 use crate::why_past::Past;
+use crate::why_posts::{script_behind, script_bytes};
 use crate::why_source::{Source, table_by};
 use crate::why_words::{behind_first, first_word};
 use bstr::ByteSlice;
@@ -103,18 +104,21 @@ fn put_all(
     let mut before: &[u8] = &[];
     let mut chain = ground.chain;
     let mut cycle = ground.cycle;
+    let mut script = script_bytes(ground.script);
     for line in output.lines() {
         let past = Past {
             refusal,
             before,
             chain,
             cycle,
+            script,
         };
         put_explained(alloc, text, ground, &past, line)?;
         refusal = refusal_behind(refusal, line);
         before = line;
         chain = chain_behind(chain, line);
         cycle = cycle_behind(cycle, line);
+        script = script_behind(script, line);
     }
     Ok(())
 }

@@ -14,6 +14,8 @@ pub(crate) struct Past<'t, 'g> {
     pub(crate) chain: &'g [Link],
     /// The effects of the circle that are still to come, where it is known.
     pub(crate) cycle: &'g [Arrow],
+    /// The lines of the script of which the output does not tell yet, where it is known.
+    pub(crate) script: &'g [u8],
 }
 
 impl<'t, 'g> Model for Past<'t, 'g> {
@@ -21,5 +23,5 @@ impl<'t, 'g> Model for Past<'t, 'g> {
 
     ghost Value = { Past };
 
-    ghost view = { λ p. record { refusal = p.refusal.now; before = p.before.now; chain = p.chain.now; cycle = p.cycle.now } };
+    ghost view = { λ p. record { refusal = p.refusal.now; before = p.before.now; chain = p.chain.now; cycle = p.cycle.now; script = p.script.now } };
 }

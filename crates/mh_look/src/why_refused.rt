@@ -6,6 +6,8 @@ ghost use Rattle.mh_look.specs.Why.{circle_place, circle_spot, circle_words, ref
 use crate::advice::{put_advice, refusals};
 use crate::why_ground::Ground;
 use crate::why_line::{EFFECT_WITH, MEMBERS_OF, PUTS_ITSELF, STANDS_IN};
+use crate::why_past::Past;
+use crate::why_posts::put_posts;
 use crate::why_source::Source;
 use crate::why_spot::Spot;
 use crate::why_way::put_bound;
@@ -21,9 +23,10 @@ pub(crate) fn put_refused(
     alloc: Global,
     text: &mut Text,
     ground: &Ground<'_>,
+    past: &Past<'_, '_>,
     words: &[u8],
 ) -> Result<(), AllocError>
-    ensures { OnOk result (text.new ≡ text.old ++ spec.refused ground.now words.now) }
+    ensures { OnOk result (text.new ≡ text.old ++ spec.refused ground.now past.now words.now) }
 {
     let behind = behind_first(words);
     let spot = Spot::of_words(before_last(behind));
@@ -35,6 +38,7 @@ pub(crate) fn put_refused(
         last_word(behind),
         &spot,
     )?;
+    put_posts(alloc, text, ground.script, past.script, first_word(words))?;
     put_advice(alloc, text, refusals(), first_word(words))?;
     put_bound(alloc, text, ground.sources, ground.ways, behind, b"")
 }

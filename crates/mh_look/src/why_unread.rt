@@ -12,6 +12,7 @@ use crate::why_line::{CONTEXTS, IS_BYTE, IS_CONTEXT, IS_LINE, OF_FILE, TOLD_OF};
 use crate::why_misread::put_file_advice;
 use crate::why_missing::put_missing;
 use crate::why_place::put_offset;
+use crate::why_script::put_script_told;
 use crate::why_service::put_service as put_group;
 use crate::why_source::Source;
 use crate::why_spot::Spot;
@@ -157,19 +158,20 @@ fn put_line_by(
     }
 }
 
-/// Puts which line of the script is wrong.
+/// Puts which line of the script is wrong, and why.
 #[tactic(auto, unfolding(crate::specs::Why::script))]
 pub(crate) fn put_script(
     alloc: Global,
     text: &mut Text,
+    sources: &[Source<'_>],
     script: Option<&NamedFile<'_>>,
     words: &[u8],
 ) -> Result<(), AllocError>
-    ensures { OnOk result (text.new ≡ text.old ++ spec.script (option_copied script.entry) words.now) }
+    ensures { OnOk result (text.new ≡ text.old ++ spec.script sources.now (option_copied script.entry) words.now) }
 {
     put_sentence(alloc, text, IS_LINE, words, b" of the script.")?;
     put_script_shown(alloc, text, script, words)?;
-    put_advice(alloc, text, readings(), b"script")
+    put_script_told(alloc, text, sources, script, words)
 }
 
 /// Puts the line of the script, if that is known, the word is a number and the line is found.

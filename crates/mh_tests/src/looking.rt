@@ -2,8 +2,8 @@
 //! shown.
 use bstr::ByteSlice;
 use mh_look::{
-    Adler, Crc, Difference, Report, compare, frame_at, image_of, is_inked, page_of, put_escaped,
-    put_frame, put_report, read_report, told,
+    Adler, Crc, Difference, Report, compare, compared, frame_at, image_of, is_inked, page_of,
+    put_escaped, put_frame, put_report, read_report,
 };
 use mh_model::Picture;
 use mh_told::text::Text;
@@ -15,7 +15,14 @@ const ONE: &str =
 
 /// A report with one frame, which has one more cell than the first frame of the other.
 const OTHER: &str =
-    "frame 1\nrow 00: 0-0 ffffff/0000ff \"<\"\nrow 35: 59-59 ff0000/000000 \"a\"\ntotal 1\n";
+    "did 1 idle\nframe 1\nrow 00: 0-0 ffffff/0000ff \"<\"\nrow 35: 59-59 ff0000/000000 \"a\"\ntotal 1\n";
+
+/// The same with other lines.
+const LINES: &str =
+    "did 2 idle\nframe 1\nrow 00: 0-0 ffffff/0000ff \"<\"\nrow 35: 59-59 ff0000/000000 \"a\"\nrefused 51\ntotal 3\n";
+
+/// A report with a frame in which coloured cells hold no character.
+const COLOURED: &str = "frame 1\nrow 00: 1-3 ffffff/00ff00 \"a\"\ntotal 0\n";
 
 /// A report with a frame in which two orders to a terminal stand, and a character of two bytes.
 const ORDERS: &str = "frame 1\nrow 00: 0-2 ffffff/000000 \"\x1b\x07é\"\ntotal 0\n";
@@ -55,12 +62,30 @@ fn an_image_has_its_chunks(rt: HostRuntime) {
     assert!(rt; bytes.ends_with(b"\0\0\0\0IEND\xae\x42\x60\x82"));
 }
 
+/// Points of characters, and whether they are drawn: the bar of a T and the stem below it, a box for
+/// what is not there, an accent, and a dash that takes all of its cell.
+static POINTS: [(u32, usize, usize, bool); 14] = [
+    (84, 0, 0, false),
+    (84, 1, 0, true),
+    (84, 10, 1, true),
+    (84, 11, 0, false),
+    (84, 4, 13, false),
+    (84, 5, 13, true),
+    (84, 7, 13, false),
+    (0x2603, 1, 5, true),
+    (0x2603, 4, 5, false),
+    (32, 4, 4, false),
+    (0xE9, 7, 0, true),
+    (0xE9, 1, 0, false),
+    (0x2014, 0, 6, true),
+    (0x2014, 11, 7, true),
+];
+
 #[test]
 fn letters_look_like_letters(rt: HostRuntime) {
-    // the bar of a T, the stem below it, and the box for what is not there
-    assert!(rt; is_inked(84, 0, 0) && is_inked(84, 9, 1) && !is_inked(84, 0, 2));
-    assert!(rt; is_inked(84, 4, 13) && !is_inked(84, 6, 13));
-    assert!(rt; is_inked(0x2603, 0, 5) && !is_inked(0x2603, 4, 5) && !is_inked(32, 4, 4));
+    for (scalar, x, y, is) in &POINTS {
+        assert!(rt; is_inked(*scalar, *x, *y) == *is, "at {scalar} {x} {y}");
+    }
 }
 
 #[test]
@@ -95,6 +120,12 @@ fn a_frame_is_shown_alone(rt: HostRuntime) {
     assert!(rt;
         text.as_slice().starts_with(b"frame 1\n<   ") && text.as_slice().len() == 8 + 36 * 61
     );
+    let Some(report) = read(rt.alloc(), COLOURED) else {
+        panic!(rt; "no report");
+    };
+    let mut text = Text::new(rt.alloc());
+    assert!(rt; put_report(&mut text, &report, true).is_ok());
+    assert!(rt; contains(&text, "frame 1\n a\u{2591}\u{2591}  ".as_bytes()));
 }
 
 #[test]
@@ -102,20 +133,68 @@ fn a_page_has_text_and_no_tags_of_a_report(rt: HostRuntime) {
     let Some(report) = read(rt.alloc(), ONE) else {
         panic!(rt; "no report");
     };
-    let Ok(page) = page_of(rt.alloc(), &report) else {
+    let Ok(page) = page_of(rt.alloc(), &report, b"key <\nrun\n# behind\nshow\n") else {
         panic!(rt; "no memory");
     };
     let cell =
         b"<div><span class=c style=\"color:#ffffff;background:#0000ff\">&lt;</span><span style=";
     assert!(rt; contains(&page, cell));
-    assert!(rt; contains(&page, b"<pre>did 1 idle\n</pre>\n<h2>frame 1</h2>"));
+    let told =
+        b"<pre>&gt; key &lt;\n&gt; run\ndid 1 idle\n&gt; # behind\n&gt; show\n</pre>\n<h2>frame 1</h2>";
+    assert!(rt; contains(&page, told));
     let mut text = Text::new(rt.alloc());
     assert!(rt; put_escaped(&mut text, b"<a b=\"c\" d='&'>").is_ok());
     assert!(rt; text.as_slice() == b"&lt;a b=&quot;c&quot; d=&#39;&amp;&#39;&gt;".as_slice());
 }
 
+/// What is said of the first report and the other, with lines and without.
+static DIFFERENCES: &[(&str, &str, bool, &str)] = &[
+    (ONE, ONE, false, "the same frames: 2\n"),
+    (ONE, ONE, true, "the same frames: 2\nthe same lines\n"),
+    (
+        ONE,
+        OTHER,
+        false,
+        "frame 1: 1 cell differs, in row 35 column 59: 000000/000000 \" \" and ff0000/000000 \"a\"\nthe first has more frames than 1\n",
+    ),
+    (
+        OTHER,
+        ORDERS,
+        false,
+        "frame 1: 4 cells differ, the first in row 0 column 0: ffffff/0000ff \"<\" and ffffff/000000 \"\u{fffd}\"\n",
+    ),
+    (
+        OTHER,
+        LINES,
+        true,
+        "the same frames: 1\nthe first before frame 1: did 1 idle\nthe second before frame 1: did 2 idle\nthe second behind frame 1: refused 51\nthe first: total 1\nthe second: total 3\n",
+    ),
+];
+
+/// What is said of two reports, and whether they differ.
+fn said(alloc: Global, first: &str, second: &str, lines: bool) -> Option<(Text, bool)> {
+    let first = read(alloc, first)?;
+    let second = read(alloc, second)?;
+    let comparison = compared(alloc, &first, &second, lines).ok()?;
+    Some((comparison.text, comparison.differs))
+}
+
 #[test]
 fn differences_are_told(rt: HostRuntime) {
+    for (first, second, lines, wanted) in DIFFERENCES {
+        let Some((text, differs)) = said(rt.alloc(), first, second, *lines) else {
+            panic!(rt; "no report");
+        };
+        assert!(rt; text.as_slice() == wanted.as_bytes(), "{wanted}");
+        assert!(rt;
+            differs != wanted.starts_with("the same frames: 2"),
+            "{wanted}"
+        );
+    }
+}
+
+#[test]
+fn the_first_difference_is_found(rt: HostRuntime) {
     let (Some(one), Some(other)) = (read(rt.alloc(), ONE), read(rt.alloc(), OTHER)) else {
         panic!(rt; "no report");
     };
@@ -123,9 +202,4 @@ fn differences_are_told(rt: HostRuntime) {
     assert!(rt; matches!(same, Difference::Nowhere(2)));
     let found = compare(one.parts.as_slice(), other.parts.as_slice());
     assert!(rt; matches!(found, Difference::At(1, 2159)));
-    let Ok(text) = told(rt.alloc(), &one, &other, found) else {
-        panic!(rt; "no memory");
-    };
-    let line = b"frame 1 row 35 column 59: 000000/000000 \" \" and ff0000/000000 \"a\"\n";
-    assert!(rt; text.as_slice() == line.as_slice());
 }

@@ -3,7 +3,7 @@
 //!
 //! A case is a block of lines as those of `playing`: what it shows, what is done, and the files; the answer is
 //! what is explained of what is written.
-use crate::cases::{Question, all_hold, bytes};
+use crate::cases::{Question, all_hold, bytes, said};
 use crate::playing::{File, outcome, sources};
 use mh_flow::Link;
 use mh_layers::Arrow;
@@ -343,35 +343,35 @@ lenient tick 0|tick 60001|run|
 @a {:Application ("~/a" 0) :OnStartUp ( :TransitionTo (("~/s" 0)) ) }
 @s {:Scene ("~/s" 0) :InputEventReg 3|  :Items ( {:Rectangle 10 :OrigBoxSize 24 32 :OrigPosition 12 16
 :OrigLineWidth 0 :OrigRefFillColour '=FF=00=00=00' } ) }|
-=> refused 54|  Cause: a tick is not of 1 to 60,000 milliseconds.|  Mend: write several ticks.|refused
-54|  Cause: a tick is not of 1 to 60,000 milliseconds.|  Mend: write several ticks.|;;
+=> refused 54|  It is one of these lines of the script, which were posted then.|  script, line 1, column 1|  1
+\7c\ tick 0|    \7c\ ^^^^^^|  A tick of 0 milliseconds is refused.|  script, line 2, column 1|  2
+\7c\ tick 60001|    \7c\ ^^^^^^^^^^|  Cause: a tick is not of 1 to 60,000 milliseconds.|  Mend: write
+several ticks.|refused 54|  It is one of these lines of the script, which were posted then.|  script, line
+1, column 1|  1 \7c\ tick 0|    \7c\ ^^^^^^|  A tick of 0 milliseconds is refused.|  script, line 2,
+column 1|  2 \7c\ tick 60001|    \7c\ ^^^^^^^^^^|  Cause: a tick is not of 1 to 60,000 milliseconds.| 
+Mend: write several ticks.|;;
 the application has quit
 lenient run|key red|
 @a {:Application ("~/a" 0) :Items ( {:Link 1 :EventSource 0 :EventType IsRunning|  :LinkEffect ( :Quit
 (0) ) } ) }
-=> refused 52|  Cause: the application has quit.|  Mend: post nothing any more.|;;
+=> refused 52|  It is this line of the script.|  script, line 2, column 1|  2 \7c\ key red|    \7c\
+^^^^^^^|  Cause: the application has quit.|  Mend: post nothing any more.|;;
 a wrong line
 play run||key purple|run|
 @a {:Application ("~/a" 0) :OnStartUp ( :TransitionTo (("~/s" 0)) ) }
 @s {:Scene ("~/s" 0) :InputEventReg 3|  :Items ( {:Rectangle 10 :OrigBoxSize 24 32 :OrigPosition 12 16
 :OrigLineWidth 0 :OrigRefFillColour '=FF=00=00=00' } ) }|
 => script 3|  It is line 3 of the script.|  script, line 3, column 1|  3 \7c\ key purple|    \7c\
-^^^^^^^^^^|  Cause: that line of the script is wrong.|  Mend: write `key NAME`, `tick N`, `stream
-N`, `engine N`, `file NAME HEX`,|    `scene NAME`, `scene NAME HEX`, `step N`, `run` or `show`, one
-space between|    words; N is decimal digits, up to 4,294,967,295, behind `stream` and|    `engine`
-up to 2,147,483,647; `scene NAME` has the name of a group of the|    service, and in `scene NAME
-HEX` the octets write a group.|;;
+^^^^^^^^^^|  Cause: `purple` is no key.|  Mend: write `key NAME`, where NAME is up, down, left, right, 0
+to 9, select,|    cancel, red, green, yellow, blue or text.|;;
 a wrong line at the end
 play run|stop
 @a {:Application ("~/a" 0) :OnStartUp ( :TransitionTo (("~/s" 0)) ) }
 @s {:Scene ("~/s" 0) :InputEventReg 3|  :Items ( {:Rectangle 10 :OrigBoxSize 24 32 :OrigPosition 12 16
 :OrigLineWidth 0 :OrigRefFillColour '=FF=00=00=00' } ) }|
 => script 2|  It is line 2 of the script.|  script, line 2, column 1|  2 \7c\ stop|    \7c\ ^^^^| 
-Cause: that line of the script is wrong.|  Mend: write `key NAME`, `tick N`, `stream N`, `engine N`,
-`file NAME HEX`,|    `scene NAME`, `scene NAME HEX`, `step N`, `run` or `show`, one space between|   
-words; N is decimal digits, up to 4,294,967,295, behind `stream` and|    `engine` up to
-2,147,483,647; `scene NAME` has the name of a group of the|    service, and in `scene NAME HEX` the
-octets write a group.|"#;
+Cause: `stop` is no command.|  The nearest is `step`.|  Mend: write `step N`, where N is the number of steps, from 0 to
+4,294,967,295, in|    decimal digits.|"#;
 
 static BOUNDS: &str = r#"
 a red box
@@ -715,4 +715,47 @@ there, or move the action.|"#;
 #[test]
 fn explains_tags(rt: HostRuntime) {
     all_hold::<Tagged>(&rt, rt.alloc(), TAGGED);
+}
+
+/// A line of a script that says nothing, and files behind `@`: what is told of it.
+struct Scripted;
+
+impl Question for Scripted {
+    fn answer(alloc: Global, asked: &str, _: &[u8]) -> Option<Vec<u8>> {
+        let (line, files) = asked.split_once('@').unwrap_or((asked, "x nothing"));
+        let script = bytes(alloc, line.trim_end())?;
+        let files = sources(alloc, files)?;
+        let told = explanation(alloc, b"script 1", files, None, Some(script))?;
+        let (_, cause) = str::from_utf8(told.as_slice())
+            .ok()?
+            .split_once("  Cause: ")?;
+        said(alloc, cause.as_bytes())
+    }
+}
+
+static SCRIPTS: &str = r#"
+kye up => `kye` is no command.|  The nearest is `key`.|  Mend: write `key NAME`, where NAME is up, down, left, right, 0 to 9, select,|    cancel, red, green, yellow, blue or text.|;;
+KEY up => `KEY` is no command.|  The nearest is `key`.|  Mend: write `key NAME`, where NAME is up, down, left, right, 0 to 9, select,|    cancel, red, green, yellow, blue or text.|;;
+foo => `foo` is no command.|  Mend: begin the line with `key`, `tick`, `stream`, `engine`, `file`, `scene`,|    `step`, `run` or `show`; a comment begins with `#`.|;;
+\20\key up => `key up` has a space in front of it.|  Mend: begin the line with the command.|;;
+key blu => `blu` is no key.|  The nearest is `blue`.|  Mend: write `key NAME`, where NAME is up, down, left, right, 0 to 9, select,|    cancel, red, green, yellow, blue or text.|;;
+key => `key` has nothing behind it.|  Mend: write `key NAME`, where NAME is up, down, left, right, 0 to 9, select,|    cancel, red, green, yellow, blue or text.|;;
+key  up => `key` has a space too much behind it.|  Mend: write `key NAME`, where NAME is up, down, left, right, 0 to 9, select,|    cancel, red, green, yellow, blue or text.|;;
+key up down => `key` has a space too much behind it.|  Mend: write `key NAME`, where NAME is up, down, left, right, 0 to 9, select,|    cancel, red, green, yellow, blue or text.|;;
+key up => `key` stands in a line that can be played: the output is of another script.|;;
+tick 5x => `5x` is no number in decimal digits.|  Mend: write `tick N`, where N is 1 to 60,000 milliseconds, in decimal digits;|    a tick of 0 milliseconds is refused.|;;
+tick 4294967296 => `4294967296` is too large.|  Mend: write `tick N`, where N is 1 to 60,000 milliseconds, in decimal digits;|    a tick of 0 milliseconds is refused.|;;
+stream 2147483648 => `2147483648` is too large.|  Mend: write `stream N`, where N is a number from 0 to 2,147,483,647, in|    decimal digits.|;;
+run\20\ => `run` has something behind it, if only a space.|  Mend: write `run`, where nothing stands behind it.|;;
+run\0d\| => the line ends with a carriage return, which is part of no command.|  Mend: end each line with a line feed alone.|;;
+file a => `a` has no octets behind it.|  Mend: write `file NAME HEX`, where NAME is the path of a content file, without|    `~/`, and HEX its octets, two hexadecimal digits each, at least one octet.|;;
+file a 0g => `a` has something else than hexadecimal digits behind it.|  Mend: write `file NAME HEX`, where NAME is the path of a content file, without|    `~/`, and HEX its octets, two hexadecimal digits each, at least one octet.|;;
+file a 012 => `a` has an odd number of hexadecimal digits behind it.|  Mend: write `file NAME HEX`, where NAME is the path of a content file, without|    `~/`, and HEX its octets, two hexadecimal digits each, at least one octet.|;;
+file a//b 01 => `a//b` is no path.|  Mend: write `file NAME HEX`, where NAME is the path of a content file, without|    `~/`, and HEX its octets, two hexadecimal digits each, at least one octet.|;;
+scene t @s {:Scene ("~/s" 0) } => `t` is no group of the service.|  Mend: write `scene NAME` or `scene NAME HEX`, where NAME is the path of a|    scene of the service, without `~/`, and HEX octets that write its group, two|    hexadecimal digits each.|;;
+scene s 01 => `s` has octets behind it that write no group.|  Mend: write `scene NAME` or `scene NAME HEX`, where NAME is the path of a|    scene of the service, without `~/`, and HEX octets that write its group, two|    hexadecimal digits each.|"#;
+
+#[test]
+fn explains_lines_of_scripts(rt: HostRuntime) {
+    all_hold::<Scripted>(&rt, rt.alloc(), SCRIPTS);
 }

@@ -6,5 +6,5 @@ use Rattle.mh_look.proofs.why_output.put_all.Given as goal
 
 abbrev pub invariant-loop-line : goal.invariant-loop-line
 invariant-loop-line l =
-    l.text ++ explained_all l.ground (record { refusal = l.refusal; before = l.before; chain = l.chain; cycle = l.cycle }) l.line-iterator
+    l.text ++ explained_all l.ground (record { refusal = l.refusal; before = l.before; chain = l.chain; cycle = l.cycle; script = l.script }) l.line-iterator
     ≡ l.initial.text ++ explained_all l.ground (first_past l.ground) (map without_terminator (lines_of l.fn.output))
