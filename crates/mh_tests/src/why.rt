@@ -371,7 +371,7 @@ play run|stop
 :OrigLineWidth 0 :OrigRefFillColour '=FF=00=00=00' } ) }|
 => script 2|  It is line 2 of the script.|  script, line 2, column 1|  2 \7c\ stop|    \7c\ ^^^^| 
 Cause: `stop` is no command.|  The nearest is `step`.|  Mend: write `step N`, where N is the number of steps, from 0 to
-4,294,967,295, in|    decimal digits.|"#;
+4,294,967,295,|    in decimal digits.|"#;
 
 static BOUNDS: &str = r#"
 a red box
@@ -742,7 +742,7 @@ key blu => `blu` is no key.|  The nearest is `blue`.|  Mend: write `key NAME`, w
 key => `key` has nothing behind it.|  Mend: write `key NAME`, where NAME is up, down, left, right, 0 to 9, select,|    cancel, red, green, yellow, blue or text.|;;
 key  up => `key` has a space too much behind it.|  Mend: write `key NAME`, where NAME is up, down, left, right, 0 to 9, select,|    cancel, red, green, yellow, blue or text.|;;
 key up down => `key` has a space too much behind it.|  Mend: write `key NAME`, where NAME is up, down, left, right, 0 to 9, select,|    cancel, red, green, yellow, blue or text.|;;
-key up => `key` stands in a line that can be played: the output is of another script.|;;
+key up => `key` stands in a line that can be played: the output is of another|    script.|;;
 tick 5x => `5x` is no number in decimal digits.|  Mend: write `tick N`, where N is 1 to 60,000 milliseconds, in decimal digits;|    a tick of 0 milliseconds is refused.|;;
 tick 4294967296 => `4294967296` is too large.|  Mend: write `tick N`, where N is 1 to 60,000 milliseconds, in decimal digits;|    a tick of 0 milliseconds is refused.|;;
 stream 2147483648 => `2147483648` is too large.|  Mend: write `stream N`, where N is a number from 0 to 2,147,483,647, in|    decimal digits.|;;
