@@ -109,7 +109,7 @@ uint32_t redplay_version(void);
 
 /* A service is the files of a folder, in any order. One that begins as a group does is a group, in text or in the binary
    notation with the profile's tags; every other one is content. `start` is the path of the application to start with.
-   `late` names the scenes whose files come later, a path a line; its length is 0 where none does.
+   `late` is kept for the scenes whose files come later, a path a line. No call takes these files yet: give it the length 0.
 
    Starts a session on a modified Julian day, 1,000,000 at most, in a handle that has none. The content files that the service
    names are there from the start; the picture that redplay_changed() compares with is black. No step is made yet.
