@@ -1,0 +1,5 @@
+mod AnswerLemmas
+mod AsBox
+mod BitLemmas
+mod Full
+mod PostLemmas

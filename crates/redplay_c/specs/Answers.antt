@@ -1,0 +1,47 @@
+-- What a call answers: 0, the engine's number of why it refuses, or a number of the library's own.
+use Rattle.std.specs.Prelude.{◌≡◌, ℕ, ◌<◌, Bool, false, true, unwrap_or}
+use Rattle.mh_engine.specs.Answer.{refusal_number}
+use Rattle.mh_engine.specs.declared.refusal.RefusedWhy.{RefusedWhy}
+use Rattle.mh_model.specs.declared.rest.Rest.{Rest}
+use Rattle.mh_model.specs.declared.rest.Rest.TheVariants as rest
+
+abbrev pub good : ℕ
+good = 0
+
+abbrev pub no_memory : ℕ
+no_memory = 100
+
+abbrev pub no_session : ℕ
+no_session = 101
+
+abbrev pub unaccepted : ℕ
+unaccepted = 102
+
+abbrev pub unreadable : ℕ
+unreadable = 103
+
+abbrev pub no_key : ℕ
+no_key = 104
+
+abbrev pub no_path : ℕ
+no_path = 105
+
+abbrev pub in_use : ℕ
+in_use = 106
+
+abbrev pub out_of_range : ℕ
+out_of_range = 107
+
+-- the number under which a refusal is told; the engine has none for want of memory
+abbrev pub why_number : RefusedWhy → ℕ
+why_number why = unwrap_or (refusal_number why) no_memory
+
+-- what is left to do
+abbrev pub rest_number : Rest → ℕ
+rest_number rest.More = 0
+rest_number rest.Idle = 1
+rest_number rest.Ended = 2
+
+-- 0 is answered, and the one holds; or memory was refused, and the other does
+abbrev pub IsDone : ℕ → Type 0 → Type 0 → Type 0
+IsDone n P Q = (n ≡ good → P) × (0 < n → (n ≡ no_memory) × Q)

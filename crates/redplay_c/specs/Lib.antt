@@ -1,0 +1,9 @@
+pub mod Answers
+pub mod Calls
+pub mod Cells
+pub mod Keys
+pub mod Lent
+pub mod OnSession
+pub mod Owned
+pub mod Playing
+pub mod Rows

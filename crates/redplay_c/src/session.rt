@@ -1,0 +1,80 @@
+//! `Session`: an engine that plays, and the picture that its caller saw last.
+ghost use Rattle.std.specs.Prelude.{◌≡◌};
+ghost use Rattle.mh_machine.specs.Rest.{rest_of};
+ghost use Rattle.redplay_c.specs.Answers.{rest_number};
+ghost use Rattle.redplay_c.specs.Calls.{IsPosted, IsAdvanced, counts_of};
+
+use crate::answer::{GOOD, NO_MEMORY, number_of};
+use crate::crossing::Counts;
+use mh_engine::{Engine, Refused, RefusedWhy, Rest};
+use mh_model::{Input, Picture};
+use std::alloc::Global;
+use std::marker::Model;
+
+/// An engine, and the picture against which its caller asks what changed. A contract sees both.
+#[derive(Drop)]
+pub struct Session {
+    pub(crate) alloc: Global,
+    pub(crate) engine: Engine,
+    pub(crate) seen: Picture,
+}
+
+impl Model for Session {
+    ghost use Rattle.redplay_c.specs.Playing.{Playing};
+
+    ghost Value = { Playing };
+
+    ghost view = { λ s. record { engine = s.engine; seen = s.seen } };
+}
+
+impl Session {
+    /// Posts an input, and answers 0 or why it is refused.
+    pub fn post(&mut self, input: Input) -> u32
+        ensures { IsPosted input self.old self.new result }
+    {
+        match self.engine.post(input) {
+            Ok(()) => GOOD,
+            Err(refused) => number_of(why_refused(refused)),
+        }
+    }
+
+    /// Makes so many steps, or as many as there is something to do, and paints once.
+    pub fn advance(&mut self, most: u32) -> u32
+        ensures { IsAdvanced most self.old self.new result }
+    {
+        match self.engine.advance(most) {
+            Ok(()) => GOOD,
+            Err(_) => NO_MEMORY,
+        }
+    }
+
+    /// What is left to do, as a number.
+    pub fn rest(&self) -> u32
+        ensures { result ≡ rest_number (rest_of self.now.engine.state) }
+    {
+        match self.engine.rest() {
+            Rest::More => 0,
+            Rest::Idle => 1,
+            Rest::Ended => 2,
+        }
+    }
+
+    /// How many steps were taken, how many may be, and how many faults were met.
+    pub fn counts(&self) -> Counts
+        ensures { result ≡ counts_of self.now.engine }
+    {
+        Counts {
+            taken: self.engine.taken(),
+            budget: self.engine.budget(),
+            faults: self.engine.faults().len() as u64,
+        }
+    }
+}
+
+/// Why an input was refused, without the input.
+fn why_refused(refused: Refused) -> RefusedWhy
+    ensures { result ≡ refused.why }
+{
+    let Refused { why, input: _ } = refused;
+    why
+}

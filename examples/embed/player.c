@@ -1,0 +1,208 @@
+/*
+ * player FOLDER SCRIPT [START]: plays a script on the service of a folder, and prints what `redplay play` prints of it.
+ *
+ * The commands of the script: run, step N, show, key NAME, tick N, stream N, engine N; empty lines and lines that begin with
+ * `#` are passed over. A receiver reads keys and a clock in the place of a script (docs/EMBEDDING_C.md has that loop).
+ */
+#define _DEFAULT_SOURCE
+#include "../../include/redplay.h"
+#include <dirent.h>
+#include <inttypes.h>
+#include <stdio.h>
+#include <stdlib.h>
+#include <string.h>
+#include <sys/stat.h>
+
+/* ---- Files ---- */
+
+typedef struct { redplay_source *files; size_t count, room; } folder;
+
+static void fail(const char *what, const char *which) {
+    fprintf(stderr, "player: %s %s\n", what, which);
+    exit(2);
+}
+
+/* A whole file, with its length. One byte is put behind it, so that an empty file has an address too. */
+static uint8_t *read_whole(const char *path, size_t *length) {
+    FILE *file = fopen(path, "rb");
+    if (!file || fseek(file, 0, SEEK_END)) fail("cannot read", path);
+    long size = ftell(file);
+    rewind(file);
+    uint8_t *bytes = size < 0 ? NULL : malloc((size_t)size + 1);
+    if (!bytes || fread(bytes, 1, (size_t)size, file) != (size_t)size) fail("cannot read", path);
+    fclose(file);
+    bytes[size] = 0;
+    *length = (size_t)size;
+    return bytes;
+}
+
+static void add_file(folder *all, const char *path, const char *name) {
+    if (all->count == all->room) {
+        all->room = all->room ? 2 * all->room : 16;
+        all->files = realloc(all->files, all->room * sizeof *all->files);
+        if (!all->files) fail("no memory for", path);
+    }
+    redplay_source *file = &all->files[all->count++];
+    file->name = (const uint8_t *)strdup(name);
+    file->name_length = strlen(name);
+    file->content = read_whole(path, &file->content_length);
+}
+
+/* Adds the files of a folder and of those in it. `below` is the path so far, with a slash at its end. */
+static void gather(folder *all, const char *root, const char *below) {
+    char path[4096], name[2048];
+    snprintf(path, sizeof path, "%s/%s", root, below);
+    DIR *open = opendir(path);
+    if (!open) fail("cannot read", path);
+    for (struct dirent *entry; (entry = readdir(open));) {
+        struct stat is;
+        if (entry->d_name[0] == '.') continue;
+        snprintf(name, sizeof name, "%s%s", below, entry->d_name);
+        snprintf(path, sizeof path, "%s/%s", root, name);
+        if (stat(path, &is)) fail("cannot read", path);
+        if (S_ISDIR(is.st_mode)) {
+            strncat(name, "/", sizeof name - strlen(name) - 1);
+            gather(all, root, name);
+        } else {
+            add_file(all, path, name);
+        }
+    }
+    closedir(open);
+}
+
+static void let_go(folder *all) {
+    for (size_t at = 0; at < all->count; at++) {
+        free((void *)all->files[at].name);
+        free((void *)all->files[at].content);
+    }
+    free(all->files);
+}
+
+/* ---- Frames ---- */
+
+/* A character between quotation marks, in UTF-8. */
+static void put_character(uint32_t c) {
+    if (c == '"' || c == '\\') putchar('\\');
+    if (c < 0x80) {
+        putchar((int)c);
+    } else if (c < 0x800) {
+        printf("%c%c", 0xC0 | c >> 6, 0x80 | (c & 63));
+    } else if (c < 0x10000) {
+        printf("%c%c%c", 0xE0 | c >> 12, 0x80 | (c >> 6 & 63), 0x80 | (c & 63));
+    } else {
+        printf("%c%c%c%c", 0xF0 | c >> 18, 0x80 | (c >> 12 & 63), 0x80 | (c >> 6 & 63), 0x80 | (c & 63));
+    }
+}
+
+/* Cells of one pair of colours, which lie side by side. Black spaces on black are not printed, nor are spaces at the end. */
+static void put_run(const redplay_cell *cells, unsigned first, unsigned behind) {
+    unsigned end = behind;
+    while (end > first && cells[end - 1].scalar == 32) end--;
+    if (end == first && cells[first].fore == 0 && cells[first].back == 0) return;
+    printf(" %u-%u %06" PRIx32 "/%06" PRIx32 " \"", first, behind - 1, cells[first].fore, cells[first].back);
+    for (unsigned at = first; at < end; at++) put_character(cells[at].scalar);
+    putchar('"');
+}
+
+static void put_row(unsigned row, const redplay_cell *cells) {
+    printf("row %02u:", row);
+    unsigned first = 0;
+    for (unsigned at = 1; at <= REDPLAY_COLUMNS; at++) {
+        if (at < REDPLAY_COLUMNS && cells[at].fore == cells[first].fore && cells[at].back == cells[first].back) continue;
+        put_run(cells, first, at);
+        first = at;
+    }
+    putchar('\n');
+}
+
+/* The rows that differ from the frame before. */
+static void show(redplay *session, unsigned frame) {
+    uint64_t rows = 0;
+    redplay_cell cells[REDPLAY_COLUMNS] = {{0, 0, 0}};
+    redplay_changed(session, &rows);
+    printf("frame %u\n", frame);
+    for (unsigned row = 0; row < REDPLAY_ROWS; row++) {
+        if (!(rows >> row & 1)) continue;
+        redplay_cells(session, row, cells, REDPLAY_COLUMNS);
+        put_row(row, cells);
+    }
+}
+
+/* ---- The script ---- */
+
+static uint32_t key_named(const char *name) {
+    static const struct { const char *name; uint32_t key; } keys[] = {
+        {"up", REDPLAY_KEY_UP}, {"down", REDPLAY_KEY_DOWN}, {"left", REDPLAY_KEY_LEFT}, {"right", REDPLAY_KEY_RIGHT},
+        {"select", REDPLAY_KEY_SELECT}, {"cancel", REDPLAY_KEY_CANCEL}, {"red", REDPLAY_KEY_RED},
+        {"green", REDPLAY_KEY_GREEN}, {"yellow", REDPLAY_KEY_YELLOW}, {"blue", REDPLAY_KEY_BLUE},
+        {"text", REDPLAY_KEY_TEXT},
+    };
+    if (name[0] >= '0' && name[0] <= '9' && !name[1]) return REDPLAY_KEY_0 + (uint32_t)(name[0] - '0');
+    for (size_t at = 0; at < sizeof keys / sizeof keys[0]; at++) {
+        if (!strcmp(keys[at].name, name)) return keys[at].key;
+    }
+    fail("no key is called", name);
+    return 0;
+}
+
+/* Makes steps, and tells how many, and what is left to do. A service that the verifier accepts is never at fault. */
+static void advance(redplay *session, uint32_t most) {
+    static const char *const left[] = {"more", "idle", "ended"};
+    redplay_totals before = {0, 0, 0}, after = {0, 0, 0};
+    redplay_counts(session, &before);
+    if (redplay_advance(session, most) == REDPLAY_NO_MEMORY) fail("no memory for", "a step");
+    redplay_counts(session, &after);
+    printf("did %" PRIu64 " %s\n", after.taken - before.taken, left[redplay_rest(session)]);
+}
+
+/* Tells why a post is refused, if it is. */
+static void posted(uint32_t answer) {
+    if (answer == REDPLAY_NO_MEMORY) fail("no memory for", "a post");
+    if (answer) printf("refused %" PRIu32 "\n", answer);
+}
+
+/* Does a command. */
+static void obey(redplay *session, char *line, unsigned *frames) {
+    char *rest = strchr(line, ' ');
+    if (rest) *rest++ = 0;
+    long long number = rest ? atoll(rest) : 0;
+    if (!strcmp(line, "run")) advance(session, UINT32_MAX);
+    else if (!strcmp(line, "show")) show(session, ++*frames);
+    else if (rest && !strcmp(line, "step")) advance(session, (uint32_t)number);
+    else if (rest && !strcmp(line, "key")) posted(redplay_key(session, key_named(rest)));
+    else if (rest && !strcmp(line, "tick")) posted(redplay_tick(session, (uint32_t)number));
+    else if (rest && !strcmp(line, "stream")) posted(redplay_stream(session, (int32_t)number));
+    else if (rest && !strcmp(line, "engine")) posted(redplay_event(session, (int32_t)number));
+    else fail("no such command:", line);
+}
+
+static void play(redplay *session, char *script) {
+    redplay_totals totals = {0, 0, 0};
+    unsigned frames = 0;
+    for (char *line = strtok(script, "\n"); line; line = strtok(NULL, "\n")) {
+        if (line[0] != '#') obey(session, line, &frames);
+    }
+    redplay_counts(session, &totals);
+    printf("total %" PRIu64 "\n", totals.taken);
+}
+
+/* ---- The whole ---- */
+
+int main(int count, char **words) {
+    if (count < 3) fail("usage:", "player FOLDER SCRIPT [START]");
+    const char *start = count > 3 ? words[3] : "a";
+    size_t length;
+    uint8_t *script = read_whole(words[2], &length);
+    folder all = {NULL, 0, 0};
+    gather(&all, words[1], "");
+    redplay session = REDPLAY_NONE;
+    if (!all.count) fail("no files in", words[1]);
+    uint32_t answer = redplay_start(&session, all.files, all.count, (const uint8_t *)start, strlen(start),
+                                    (const uint8_t *)start, 0, 60000, false);
+    if (answer == REDPLAY_GOOD) play(&session, (char *)script);
+    else fprintf(stderr, "player: not started: %" PRIu32 "\n", answer);
+    redplay_free(&session);
+    let_go(&all);
+    free(script);
+    return answer == REDPLAY_GOOD ? 0 : 1;
+}

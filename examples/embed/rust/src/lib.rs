@@ -1,0 +1,172 @@
+//! The engine of redplay, safe to use from Rust: an `Engine` owns its handle and frees it.
+//!
+//! A slice of Rust is aligned and never null, a `&mut` has no second user, and a handle lives in one `Engine`, which is
+//! neither `Send` nor `Sync`: so what `redplay.h` asks of its callers holds here by the types.
+
+mod raw;
+
+pub use raw::{Cell, Totals};
+use raw::{Handle, Source};
+use std::marker::PhantomData;
+
+pub const ROWS: usize = 36;
+pub const COLUMNS: usize = 60;
+
+/// A file: its path in the folder of the service, and its bytes.
+pub type File<'a> = (&'a [u8], &'a [u8]);
+
+/// Why a call does nothing: the number that `redplay.h` names.
+#[derive(Clone, Copy, Debug, PartialEq, Eq)]
+pub struct Refused(pub u32);
+
+impl std::fmt::Display for Refused {
+    fn fmt(&self, to: &mut std::fmt::Formatter<'_>) -> std::fmt::Result {
+        write!(to, "refused {}", self.0)
+    }
+}
+
+impl std::error::Error for Refused {}
+
+/// What comes from outside.
+#[derive(Clone, Copy, Debug)]
+pub enum Input {
+    /// A key, by its number: `redplay.h` has them.
+    Key(u32),
+    /// So many milliseconds passed, 1 to 60,000.
+    Tick(u32),
+    Stream(i32),
+    Event(i32),
+}
+
+/// What is left to do.
+#[derive(Clone, Copy, Debug, PartialEq, Eq)]
+pub enum Rest {
+    More,
+    Idle,
+    Ended,
+}
+
+/// What is to be played: files, the path of the application to start with, and the late scenes, a path a line.
+#[derive(Clone, Copy)]
+pub struct Service<'a> {
+    pub files: &'a [File<'a>],
+    pub start: &'a [u8],
+    pub late: &'a [u8],
+}
+
+fn told(answer: u32) -> Result<(), Refused> {
+    match answer {
+        0 => Ok(()),
+        number => Err(Refused(number)),
+    }
+}
+
+fn sources(files: &[File<'_>]) -> Vec<Source> {
+    let source = |(name, content): &File<'_>| Source {
+        name: name.as_ptr(),
+        name_length: name.len(),
+        content: content.as_ptr(),
+        content_length: content.len(),
+    };
+    files.iter().map(source).collect()
+}
+
+/// The form of the calls of the archive that is linked.
+pub fn version() -> u32 {
+    // SAFETY: the call takes nothing.
+    unsafe { raw::redplay_version() }
+}
+
+/// A session. It stays on the thread that started it.
+pub struct Engine {
+    handle: Handle,
+    on_this_thread: PhantomData<*const ()>,
+}
+
+impl Engine {
+    /// A session of the service on this modified Julian day, 1,000,000 at most.
+    pub fn start(service: Service<'_>, day: u32, lenient: bool) -> Result<Engine, Refused> {
+        let (s, start, late) = (sources(service.files), service.start, service.late);
+        let handle = Handle {
+            at: std::ptr::null_mut(),
+        };
+        let mut engine = Engine {
+            handle,
+            on_this_thread: PhantomData,
+        };
+        // SAFETY: as above; the handle has no session.
+        told(unsafe {
+            raw::redplay_start(
+                &mut engine.handle,
+                s.as_ptr(),
+                s.len(),
+                start.as_ptr(),
+                start.len(),
+                late.as_ptr(),
+                late.len(),
+                day,
+                lenient,
+            )
+        })?;
+        Ok(engine)
+    }
+
+    /// Posts an input, which waits until steps are made.
+    pub fn post(&mut self, input: Input) -> Result<(), Refused> {
+        let handle = &mut self.handle;
+        // SAFETY: the handle is written by these calls alone, and is in one of them at a time; slices have their lengths.
+        told(unsafe {
+            match input {
+                Input::Key(key) => raw::redplay_key(handle, key),
+                Input::Tick(milliseconds) => raw::redplay_tick(handle, milliseconds),
+                Input::Stream(tag) => raw::redplay_stream(handle, tag),
+                Input::Event(number) => raw::redplay_event(handle, number),
+            }
+        })
+    }
+
+    /// Makes so many steps, or as many as there is something to do.
+    pub fn advance(&mut self, most: u32) -> Result<(), Refused> {
+        // SAFETY: as above.
+        told(unsafe { raw::redplay_advance(&mut self.handle, most) })
+    }
+
+    pub fn rest(&mut self) -> Rest {
+        // SAFETY: as above.
+        match unsafe { raw::redplay_rest(&mut self.handle) } {
+            0 => Rest::More,
+            1 => Rest::Idle,
+            _ => Rest::Ended,
+        }
+    }
+
+    pub fn totals(&mut self) -> Totals {
+        let mut totals = Totals::default();
+        // SAFETY: as above.
+        unsafe { raw::redplay_counts(&mut self.handle, &mut totals) };
+        totals
+    }
+
+    /// The rows that differ from the picture of the last call, from the top.
+    pub fn changed_rows(&mut self) -> Vec<usize> {
+        let mut rows = 0u64;
+        // SAFETY: as above.
+        unsafe { raw::redplay_changed(&mut self.handle, &mut rows) };
+        (0..ROWS).filter(|row| rows >> row & 1 == 1).collect()
+    }
+
+    /// The cells of a row, 0 the top one.
+    pub fn row(&mut self, row: usize) -> Result<[Cell; COLUMNS], Refused> {
+        let mut cells = [Cell::default(); COLUMNS];
+        // SAFETY: as above.
+        told(unsafe { raw::redplay_cells(&mut self.handle, row, cells.as_mut_ptr(), COLUMNS) })?;
+        Ok(cells)
+    }
+}
+
+impl Drop for Engine {
+    fn drop(&mut self) {
+        // SAFETY: as above; a handle without a session is left as it is.
+        unsafe { raw::redplay_free(&mut self.handle) };
+    }
+}

@@ -1,0 +1,164 @@
+/*
+ * redplay.h - the engine and the verifier of redplay for programs in C11, C++17 and whatever calls C.
+ *
+ * A session plays one service of MHEG-5 (ISO/IEC 13522-5): keys, ticks of the clock, events and files are posted, steps are
+ * made when they are asked for, and a picture of 36 rows of 60 cells is there behind each call. Nothing here reads a file,
+ * draws, or knows any time but the ticks that it is given. docs/EMBEDDING_C.md shows a whole receiver.
+ *
+ * Link libredplay_c.a, and liblibc_c.a of the Rattle kit behind it. What the archive does is proved against the clauses of
+ * crates/redplay_c; this file repeats them in words, and nothing compares the two.
+ *
+ * WHAT A CALLER OWES. No call can see any of this:
+ *   1. A pointer with a length behind it is the start of so many bytes, or values, of which nothing else is written while the
+ *      call lasts. It is aligned and never null: where the length is 0, pass any address that is aligned and not null.
+ *   2. A pointer without a length is aligned, never null, and points to one value of its type that was filled in.
+ *   3. What a call writes does not overlap anything else that it is passed.
+ *   4. A `bool` is 0 or 1.
+ *   5. A handle begins as REDPLAY_NONE and is written by these calls alone. It may be moved, but there is never a second
+ *      copy of it that is used. It stays on the thread that started it.
+ *   6. A handle is in one call at a time, and no call is made from a signal handler, nor from the forked child of a process
+ *      with threads.
+ *   7. malloc, realloc and free come from one allocator, which aligns a block to each power of two up to 16 that divides its
+ *      size.
+ *
+ * WHAT EACH CALL ANSWERS. 0, or a number that says why not. Where it is not 0 nothing has changed, in the session or behind a
+ * pointer, unless the call says otherwise here. Numbers below 100 are the engine's own; docs/PROFILE.md has them all.
+ *
+ * MEMORY. "Takes no memory" means that the call never asks for any. Every other call may answer REDPLAY_NO_MEMORY, has then
+ * kept nothing, and may be made again.
+ */
+#ifndef REDPLAY_H
+#define REDPLAY_H
+
+#include <stdbool.h>
+#include <stddef.h>
+#include <stdint.h>
+
+#ifdef __cplusplus
+extern "C" {
+#endif
+
+/* The form of these calls, which redplay_version() answers for the archive that is linked. */
+#define REDPLAY_VERSION 1
+
+/* The picture. A cell is 12 units wide and 16 high, of the 720 by 576 units of the standard's screen. */
+enum { REDPLAY_ROWS = 36, REDPLAY_COLUMNS = 60, REDPLAY_CELLS = 2160 };
+
+/* What a call answers. */
+enum {
+    REDPLAY_GOOD = 0,
+
+    REDPLAY_FILE_TOO_LARGE = 40,  /* a content file has more than 65,535 octets */
+    REDPLAY_TOO_MANY_FILES = 41,  /* with the names that wait, there would be more than 1,024 content files */
+    REDPLAY_QUEUE_FULL = 51,      /* 256 inputs wait: make steps, and post again */
+    REDPLAY_HAS_ENDED = 52,       /* the application has quit: nothing changes any more */
+    REDPLAY_CLOCK_FULL = 53,      /* with the ticks that wait, the present would be past 4,294,967,295 milliseconds */
+    REDPLAY_TICK_RANGE = 54,      /* a tick is not of 1 to 60,000 milliseconds */
+
+    REDPLAY_NO_MEMORY = 100,      /* memory was refused */
+    REDPLAY_NO_SESSION = 101,     /* the handle has no session: it was not started, or it was freed */
+    REDPLAY_UNACCEPTED = 102,     /* the verifier does not accept the service */
+    REDPLAY_UNREADABLE = 103,     /* a file cannot be read, or the files make no service */
+    REDPLAY_NO_KEY = 104,         /* no key has the number */
+    REDPLAY_NO_PATH = 105,        /* the name of a file is no path */
+    REDPLAY_IN_USE = 106,         /* the handle has a session already: free it first */
+    REDPLAY_OUT_OF_RANGE = 107    /* there is no such row or day */
+};
+
+/* What redplay_rest() answers. */
+enum { REDPLAY_MORE = 0, REDPLAY_IDLE = 1, REDPLAY_ENDED = 2 };
+
+/* Keys of the remote control. */
+enum {
+    REDPLAY_KEY_UP = 1, REDPLAY_KEY_DOWN = 2, REDPLAY_KEY_LEFT = 3, REDPLAY_KEY_RIGHT = 4,
+    REDPLAY_KEY_0 = 5, /* and so on: the digit d is REDPLAY_KEY_0 + d */
+    REDPLAY_KEY_SELECT = 15, REDPLAY_KEY_CANCEL = 16,
+    REDPLAY_KEY_RED = 100, REDPLAY_KEY_GREEN = 101, REDPLAY_KEY_YELLOW = 102, REDPLAY_KEY_BLUE = 103,
+    REDPLAY_KEY_TEXT = 104
+};
+
+/* A session, or none. The address is the library's: look at nothing behind it. */
+typedef struct redplay { void *at; } redplay;
+#define REDPLAY_NONE { NULL }
+
+/* A file: its path in the folder of the service, with single slashes and none in front, and its bytes. Both are the
+   caller's, and are looked at during the call alone. */
+typedef struct redplay_source {
+    const uint8_t *name;
+    size_t name_length;
+    const uint8_t *content;
+    size_t content_length;
+} redplay_source;
+
+/* How many steps were taken; how many may be taken for what was posted so far, which is never fewer; how many faults were
+   met. Of a service that is played leniently nothing is known: its budget is the largest number of 64 bits. */
+typedef struct redplay_totals {
+    uint64_t taken, budget, faults;
+} redplay_totals;
+
+/* A cell: its character, a code point of Unicode, a space (32) where there is none; the colour of the character; the colour
+   behind it. Colours are 24 bits, red in the highest eight, then green, then blue. */
+typedef struct redplay_cell {
+    uint32_t scalar, fore, back;
+} redplay_cell;
+
+/* Answers REDPLAY_VERSION of the archive. Takes no memory. */
+uint32_t redplay_version(void);
+
+/* ---- A session ---------------------------------------------------------------------------------------------------------- */
+
+/* A service is the files of a folder, in any order. One that begins as a group does is a group, in text or in the binary
+   notation with the profile's tags; every other one is content. `start` is the path of the application to start with.
+   `late` is kept for the scenes whose files come later, a path a line. No call takes these files yet: give it the length 0.
+
+   Starts a session on a modified Julian day, 1,000,000 at most, in a handle that has none. The content files that the service
+   names are there from the start; the picture that redplay_changed() compares with is black. No step is made yet.
+   Unless `lenient`, the verifier has to accept the service, and then no action of it is ever at fault, and no more steps are
+   ever taken than redplay_counts() has as the budget. Leniently, an action that cannot be done is skipped and noted. */
+uint32_t redplay_start(redplay *handle, const redplay_source *files, size_t files_length, const uint8_t *start,
+                       size_t start_length, const uint8_t *late, size_t late_length, uint32_t day, bool lenient);
+
+/* Ends the session and gives all its memory back; the handle has none behind it. Takes no memory. */
+uint32_t redplay_free(redplay *handle);
+
+/* ---- What comes from outside --------------------------------------------------------------------------------------------
+   A post waits in the queue until steps are made. It adds the bound of its kind to the budget. */
+
+/* A key was pressed: one of REDPLAY_KEY_..; REDPLAY_NO_KEY, 51, 52. */
+uint32_t redplay_key(redplay *handle, uint32_t key);
+
+/* So many milliseconds passed, 1 to 60,000: 51 to 54. */
+uint32_t redplay_tick(redplay *handle, uint32_t milliseconds);
+
+/* A stream event with this tag (ISO/IEC 13522-5, StreamEvent): 51, 52. */
+uint32_t redplay_stream(redplay *handle, int32_t tag);
+
+/* An event of the engine with this number (ISO/IEC 13522-5, EngineEvent): 51, 52. */
+uint32_t redplay_event(redplay *handle, int32_t number);
+
+/* ---- Steps, and what comes of them -------------------------------------------------------------------------------------- */
+
+/* Makes `most` steps, or as many as there is something to do, and paints once, behind the last of them. Of a service that the
+   verifier accepted, UINT32_MAX always comes to an end, within the budget. Behind REDPLAY_NO_MEMORY some of the steps were
+   made and there is more to do: call it again. */
+uint32_t redplay_advance(redplay *handle, uint32_t most);
+
+/* Answers what is left to do: REDPLAY_MORE, REDPLAY_IDLE (post something), REDPLAY_ENDED; or REDPLAY_NO_SESSION. Takes no
+   memory. */
+uint32_t redplay_rest(redplay *handle);
+
+/* Writes the counts. Takes no memory. */
+uint32_t redplay_counts(redplay *handle, redplay_totals *totals);
+
+/* Writes which rows differ from the picture of the last call, a bit a row, the top row the lowest; the picture that is shown
+   now is what the next call compares with. Takes no memory. */
+uint32_t redplay_changed(redplay *handle, uint64_t *rows);
+
+/* Copies cells from the beginning of this row on, 0 the top row, as many as there are places for; 60 a row.
+   REDPLAY_OUT_OF_RANGE where the picture has fewer. Takes no memory. */
+uint32_t redplay_cells(redplay *handle, size_t row, redplay_cell *cells, size_t cells_length);
+
+#ifdef __cplusplus
+}
+#endif
+#endif
