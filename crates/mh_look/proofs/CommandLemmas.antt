@@ -14,8 +14,8 @@ use Rattle.clap.specs.declared.parser.matches.Found.{Found}
 use Rattle.clap.proofs.WalkLemmas.{first_value-rows}
 use Rattle.clap.proofs.ValueTestLemmas.{accepts-Accepts, Accepts-accepts}
 use Rattle.mh_look.specs.CommandLine.{IsToldAs, number_in, last_frame}
-use Rattle.mh_look.specs.declared.command_line_error.CommandLineError.{CommandLineError}
-use Rattle.mh_look.specs.declared.command_line_error.CommandLineError.TheVariants as error
+use Rattle.mh_look.specs.declared.command_line.error.CommandLineError.{CommandLineError}
+use Rattle.mh_look.specs.declared.command_line.error.CommandLineError.TheVariants as error
 
 -- the first value of an argument, as the getter lends it
 pub lent : (f : Found) (id : Text) (answer : Option (Bor Text)) → option_map (λ s. s.now) answer ≡ first_value f id → first_of id (rows_of f) ≡ option_map (λ s. s.now) answer

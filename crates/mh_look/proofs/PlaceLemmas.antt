@@ -4,7 +4,7 @@ use Rattle.std.specs.Fmt.{decimal}
 use Rattle.std.proofs.Common.{ap, ◌∙◌, sym, arith, get_or, append_assoc}
 use Rattle.std.proofs.lemmas.List.{length-append}
 use Rattle.mh_told.specs.Printing.{hex_colour}
-use Rattle.mh_look.specs.declared.run.Place.{Place}
+use Rattle.mh_look.specs.declared.report.run.Place.{Place}
 use Rattle.mh_look.specs.Cells.{place_text, place_length, colours_text}
 use Rattle.mh_look.specs.Reading.{EndsNumber}
 use Rattle.mh_look.proofs.OptionLemmas.{firsts, seconds}

@@ -6,7 +6,7 @@ use Rattle.std.proofs.lemmas.List.Folds.{list_all-append}
 use lib.Utf8.{scalar}
 use Rattle.mh_model.specs.declared.cell.Cell.{Cell}
 use Rattle.mh_model.specs.Picture.{black}
-use Rattle.mh_look.specs.declared.run.Place.{Place}
+use Rattle.mh_look.specs.declared.report.run.Place.{Place}
 use Rattle.mh_look.specs.Report.{is_shown}
 use Rattle.mh_look.specs.Reading.{AreCharactersFound, quoted_text}
 use Rattle.mh_look.specs.Cells.{AreColours, FitInto, IsPlaceBehindFound, IsRunFound, StandsBehind, coloured, filled, place_length, place_text, with_run}

@@ -7,7 +7,7 @@ use Rattle.mh_model.specs.declared.cell.Cell.{Cell}
 use Rattle.mh_told.specs.Frame.{Run, behind, place, characters, runs}
 use Rattle.mh_model.specs.Picture.{black}
 use Rattle.mh_told.specs.Stretch.{runs_at}
-use Rattle.mh_look.specs.declared.run.Place.{Place}
+use Rattle.mh_look.specs.declared.report.run.Place.{Place}
 use Rattle.mh_look.specs.Report.{is_shown}
 use Rattle.mh_look.specs.Reading.{IsRow, quoted_text}
 use Rattle.mh_look.specs.Cells.{AreCellsFound, FitInto, IsRunFound, StandsBehind, coloured, filled, place_text, place_length}

@@ -4,8 +4,8 @@ use Rattle.std.specs.Str.{bytes_eq}
 use Rattle.std.specs.Option.{option_map_or}
 use Rattle.bstr.specs.Text.{lines_of, without_terminator}
 use Rattle.mh_look.specs.Advice.{Row, advice, readings, row_with}
-use Rattle.mh_look.specs.declared.script_fault.LineFault.{LineFault}
-use Rattle.mh_look.specs.declared.script_fault.LineFault.TheVariants as fault
+use Rattle.mh_look.specs.declared.script.fault.LineFault.{LineFault}
+use Rattle.mh_look.specs.declared.script.fault.LineFault.TheVariants as fault
 use Rattle.mh_look.specs.LineWords.{first_word, behind_first}
 use Rattle.mh_look.specs.Places.{IsHarmless}
 use Rattle.mh_look.specs.Posts.{post_text, posts_from, posts_text, posts_told, some_posts, zero_text}

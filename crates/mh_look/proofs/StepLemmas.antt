@@ -10,7 +10,7 @@ use Rattle.mh_model.specs.declared.cell.Cell.{Cell}
 use Rattle.mh_told.specs.Frame.{Run, begun, behind, is_space, last, place, characters}
 use Rattle.mh_model.specs.Picture.{black}
 use Rattle.mh_told.specs.Stretch.{runs_at}
-use Rattle.mh_look.specs.declared.run.Place.{Place}
+use Rattle.mh_look.specs.declared.report.run.Place.{Place}
 use Rattle.mh_look.specs.Report.{is_shown}
 use Rattle.mh_look.specs.Reading.{quoted_text}
 use Rattle.mh_look.specs.Cells.{AreColours, FitInto, StandsBehind, coloured, filled, place_text, with_run}

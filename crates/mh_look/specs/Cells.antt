@@ -7,7 +7,7 @@ use Rattle.mh_model.specs.declared.cell.Cell.{Cell}
 use Rattle.mh_told.specs.Frame.{runs}
 use Rattle.mh_model.specs.Picture.{black}
 use Rattle.mh_told.specs.Printing.{hex_colour}
-use Rattle.mh_look.specs.declared.run.Place.{Place}
+use Rattle.mh_look.specs.declared.report.run.Place.{Place}
 use Rattle.mh_look.specs.Reading.{EndsNumber, IsRow, quoted_text}
 
 -- a character in these colours

@@ -13,8 +13,8 @@ use Rattle.clap.specs.declared.error.Error.{Error}
 use Rattle.clap.specs.declared.error.kind.ErrorKind.TheVariants as kind
 use Rattle.mh_look.specs.declared.command_line.Task.{Task}
 use Rattle.mh_look.specs.declared.command_line.Task.TheVariants as task
-use Rattle.mh_look.specs.declared.command_line_error.CommandLineError.{CommandLineError}
-use Rattle.mh_look.specs.declared.command_line_error.CommandLineError.TheVariants as error
+use Rattle.mh_look.specs.declared.command_line.error.CommandLineError.{CommandLineError}
+use Rattle.mh_look.specs.declared.command_line.error.CommandLineError.TheVariants as error
 
 -- The arguments.
 

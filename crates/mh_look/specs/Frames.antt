@@ -6,8 +6,8 @@ use Rattle.mh_model.specs.Picture.{cell_of}
 use Rattle.mh_told.specs.Frame.{same_cell}
 use Rattle.mh_look.specs.declared.report.Part.{Part}
 use Rattle.mh_look.specs.declared.report.Part.TheVariants as part
-use Rattle.mh_look.specs.declared.difference.Difference.{Difference}
-use Rattle.mh_look.specs.declared.difference.Difference.TheVariants as difference
+use Rattle.mh_look.specs.declared.comparison.difference.Difference.{Difference}
+use Rattle.mh_look.specs.declared.comparison.difference.Difference.TheVariants as difference
 
 -- what was shown, frame by frame
 abbrev pub pictures : List Part → List Planes

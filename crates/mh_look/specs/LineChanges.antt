@@ -5,7 +5,7 @@ use Rattle.std.specs.Fmt.{decimal}
 use Rattle.std.specs.List.{flat_map, slice_split}
 use Rattle.std.specs.Str.{bytes_eq}
 use Rattle.mh_told.specs.Told.{total_line}
-use Rattle.mh_look.specs.declared.line_changes.TheConstants.{FIRST, SECOND, IN_FRONT, BEHIND, SAME_LINES}
+use Rattle.mh_look.specs.declared.comparison.line_changes.TheConstants.{FIRST, SECOND, IN_FRONT, BEHIND, SAME_LINES}
 use Rattle.mh_look.specs.declared.report.Part.{Part}
 use Rattle.mh_look.specs.declared.report.Part.TheVariants as part
 use Rattle.mh_look.specs.Frames.{difference_of, is_somewhere}

@@ -12,7 +12,7 @@ use Rattle.mh_look.specs.Report.{Report}
 use Rattle.mh_look.specs.Frames.{differs_at}
 use Rattle.mh_look.specs.Posts.{behind_stop, up_to_stop}
 use Rattle.mh_look.specs.Shown.{harmless, turns, line_of, passed}
-use Rattle.mh_look.specs.declared.outline.TheConstants.{HEAD, FOOT, STYLE, BACKGROUND, ROW_END, FRAME_BEGIN, FRAME_TITLE_END, FRAME_END}
+use Rattle.mh_look.specs.declared.page.outline.TheConstants.{HEAD, FOOT, STYLE, BACKGROUND, ROW_END, FRAME_BEGIN, FRAME_TITLE_END, FRAME_END}
 
 -- Text in a page.
 

@@ -5,9 +5,9 @@ use Rattle.std.specs.List.{flat_map}
 use Rattle.std.specs.Option.{option_map_or}
 use Rattle.std.specs.Str.{bytes_eq}
 use Rattle.bstr.specs.Text.{lines_of, without_terminator}
-use Rattle.mh_look.specs.declared.script_fault.Command.{Command}
-use Rattle.mh_look.specs.declared.script_fault.Command.TheVariants as command
-use Rattle.mh_look.specs.declared.why_posts.TheConstants.{FIRST_OF, IS_THIS, IS_ZERO, ONE_OF}
+use Rattle.mh_look.specs.declared.script.fault.Command.{Command}
+use Rattle.mh_look.specs.declared.script.fault.Command.TheVariants as command
+use Rattle.mh_look.specs.declared.script.posts.TheConstants.{FIRST_OF, IS_THIS, IS_ZERO, ONE_OF}
 use Rattle.mh_look.specs.LineWords.{first_word, behind_first, number_in}
 use Rattle.mh_look.specs.Places.{shown_place}
 use Rattle.mh_look.specs.ScriptFaults.{command_of}

@@ -5,10 +5,10 @@ use Rattle.std.specs.List.{find, list_all, list_any}
 use Rattle.std.specs.Option.{option_map_or}
 use Rattle.std.specs.Str.{bytes_eq}
 use Rattle.mh_base.specs.Path.{is_path}
-use Rattle.mh_look.specs.declared.script_fault.Command.{Command}
-use Rattle.mh_look.specs.declared.script_fault.Command.TheVariants as command
-use Rattle.mh_look.specs.declared.script_fault.LineFault.{LineFault}
-use Rattle.mh_look.specs.declared.script_fault.LineFault.TheVariants as fault
+use Rattle.mh_look.specs.declared.script.fault.Command.{Command}
+use Rattle.mh_look.specs.declared.script.fault.Command.TheVariants as command
+use Rattle.mh_look.specs.declared.script.fault.LineFault.{LineFault}
+use Rattle.mh_look.specs.declared.script.fault.LineFault.TheVariants as fault
 use Rattle.mh_look.specs.LineWords.{first_word, behind_first, number_in}
 use Rattle.mh_look.specs.ScriptForms.{is_key}
 

@@ -3,9 +3,9 @@ use Rattle.std.specs.Prelude.{ℕ, ◌-◌, ◌==◌, Bool, if◌then◌else◌,
 use Rattle.std.specs.Option.{option_and_then, option_map_or}
 use Rattle.bstr.specs.Text.{lines_of, without_terminator}
 use Rattle.mh_look.specs.Advice.{Row, advice, cell, readings, row_with}
-use Rattle.mh_look.specs.declared.script_fault.LineFault.{LineFault}
-use Rattle.mh_look.specs.declared.script_fault.LineFault.TheVariants as fault
-use Rattle.mh_look.specs.declared.why_script.TheConstants.{ANY_COMMAND, BEGINS_WITH_COMMAND, ENDS_IN_FEED, ENDS_IN_RETURN, HAS_NOTHING, HAS_SPACE, IN_FRONT, IS_NO_COMMAND, IS_NO_GROUP, IS_NO_KEY, IS_NO_NUMBER, IS_NO_PATH, IS_TOO_LARGE, MEND_WRITE, NO_HEX, NO_OCTETS, NO_SCENE, NOT_ALONE, ODD_DIGITS, SAYS_SOMETHING}
+use Rattle.mh_look.specs.declared.script.fault.LineFault.{LineFault}
+use Rattle.mh_look.specs.declared.script.fault.LineFault.TheVariants as fault
+use Rattle.mh_look.specs.declared.script.line.TheConstants.{ANY_COMMAND, BEGINS_WITH_COMMAND, ENDS_IN_FEED, ENDS_IN_RETURN, HAS_NOTHING, HAS_SPACE, IN_FRONT, IS_NO_COMMAND, IS_NO_GROUP, IS_NO_KEY, IS_NO_NUMBER, IS_NO_PATH, IS_TOO_LARGE, MEND_WRITE, NO_HEX, NO_OCTETS, NO_SCENE, NOT_ALONE, ODD_DIGITS, SAYS_SOMETHING}
 use Rattle.mh_look.specs.LineWords.{first_word, behind_first, number_in}
 use Rattle.mh_look.specs.Missing.{missing}
 use Rattle.mh_look.specs.ScriptFaults.{line_fault}

@@ -6,9 +6,9 @@ use Rattle.mh_model.specs.declared.cell.Cell.{Cell}
 use Rattle.mh_model.specs.Planes.{Planes}
 use Rattle.mh_model.specs.Picture.{cell_of}
 use Rattle.mh_told.specs.Printing.{hex_colour, quoted}
-use Rattle.mh_look.specs.declared.difference.Difference.{Difference}
-use Rattle.mh_look.specs.declared.difference.Difference.TheVariants as difference
-use Rattle.mh_look.specs.declared.telling.TheConstants.{SAME, FIRST_HAS_MORE, SECOND_HAS_MORE, ONE_DIFFERS, MORE_DIFFER}
+use Rattle.mh_look.specs.declared.comparison.difference.Difference.{Difference}
+use Rattle.mh_look.specs.declared.comparison.difference.Difference.TheVariants as difference
+use Rattle.mh_look.specs.declared.comparison.telling.TheConstants.{SAME, FIRST_HAS_MORE, SECOND_HAS_MORE, ONE_DIFFERS, MORE_DIFFER}
 use Rattle.mh_look.specs.Frames.{changed_cells, first_difference, pictures}
 use Rattle.mh_look.specs.Report.{Report}
 use Rattle.mh_look.specs.Shown.{harmless}

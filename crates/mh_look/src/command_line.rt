@@ -2,16 +2,21 @@
 //!
 //! What the words mean, which are refused and why are `clap`'s rules over `program`; the texts on a
 //! wrong command line are left to it too. Where memory was refused there is no text.
+
+pub(crate) mod arguments;
+pub(crate) mod error;
+pub(crate) mod program;
+
 ghost use Rattle.std.specs.Prelude.{◌≡◌, [], None, map, true, option_map, IfOk, IfErr};
 ghost use Rattle.clap.specs.Words.{FailsBy, fault_of, first_of, found_of, kind_of, rows_of, subcommand_of, subcommand_rows_of, takes};
 ghost use Rattle.clap.specs.declared.error.kind.ErrorKind.TheVariants.{OutOfMemory};
 ghost use Rattle.mh_look.specs.CommandLine.{IsApart, IsRefusedBy, asked_by, asked_under, folder_of, number_in, frame_of, is_set, output_of, paged, said, text_of};
 ghost use Rattle.mh_look.specs.CommandLine as spec;
-ghost use Rattle.mh_look.specs.declared.command_line_error.CommandLineError.TheVariants.{NoMemory};
+ghost use Rattle.mh_look.specs.declared.command_line.error.CommandLineError.TheVariants.{NoMemory};
 
-use crate::arguments::LAST_FRAME;
-use crate::command_line_error::CommandLineError;
-use crate::program::program;
+use crate::command_line::arguments::LAST_FRAME;
+use crate::command_line::error::CommandLineError;
+use crate::command_line::program::program;
 use clap::{ArgMatches, Error};
 use std::alloc::Global;
 use std::convert::AsStr;

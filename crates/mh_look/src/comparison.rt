@@ -1,11 +1,16 @@
 //! What is said of two reports, and whether they differ: in frames, and where that is asked for in lines.
+
+pub(crate) mod difference;
+pub(crate) mod line_changes;
+pub(crate) mod telling;
+
 ghost use Rattle.std.specs.Prelude.{◌≡◌, ◌||◌, ◌++◌, IfOk};
 ghost use Rattle.mh_look.specs.LineChanges.{changed_lines, comparison, differ, is_some_line, or_same};
 
-use crate::difference::compare;
-use crate::line_changes::{SAME_LINES, put_changed_lines};
+use crate::comparison::difference::compare;
+use crate::comparison::line_changes::{SAME_LINES, put_changed_lines};
+use crate::comparison::telling::told;
 use crate::report::Report;
-use crate::telling::told;
 use mh_told::text::Text;
 use std::alloc::{AllocError, Global};
 

@@ -1,13 +1,16 @@
 //! What is done for each subcommand: a report is read whole, and then what is asked for is written.
+
+pub(crate) mod explaining;
+
 use crate::command_line::Task;
 use crate::comparison::compared;
-use crate::explaining::explained;
-use crate::frames::frame_at;
+use crate::doing::explaining::explained;
+use crate::files::source::{Failure, output_of, report_of, unwritable};
 use crate::image::image_of;
 use crate::page::page_of;
+use crate::report::frames::frame_at;
 use crate::report::{Part, Report};
 use crate::show::{put_frame, put_report};
-use crate::source::{Failure, output_of, report_of, unwritable};
 use mh_model::Picture;
 use mh_told::text::Text;
 use std::alloc::{AllocError, Global};

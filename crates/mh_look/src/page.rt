@@ -1,16 +1,21 @@
 //! A report as a page for a browser, with nothing from outside: a step for each frame, with the
 //! lines that were told before it, and a last one for the lines that are left.
+
+pub(crate) mod escape;
+pub(crate) mod outline;
+pub(crate) mod posted;
+
 ghost use Rattle.std.specs.Prelude.{◌≡◌, ◌<◌, ◌-◌, ◌^◌, ◌++◌, ◌==◌, OnOk, IfOk, [], codes, if◌then◌else◌, false};
 ghost use Rattle.mh_model.specs.Planes.{blank};
 ghost use Rattle.mh_look.specs.Page.{begins_run, run_tag, cell_tag, cell_text, page_cell, page_row, page_rows, page_frame, step_part, shown_behind, steps_from, page_of, escaped};
 ghost use Rattle.mh_look.specs.Shown.{line_of};
 
-use crate::difference::differs_at;
-use crate::escape::{put_escaped, put_escaped_character};
-use crate::outline::{
+use crate::comparison::difference::differs_at;
+use crate::page::escape::{put_escaped, put_escaped_character};
+use crate::page::outline::{
     BACKGROUND, FRAME_BEGIN, FRAME_END, FRAME_TITLE_END, ROW_END, STYLE, foot, head,
 };
-use crate::posted::{left_behind, put_posted, tells_more};
+use crate::page::posted::{left_behind, put_posted, tells_more};
 use crate::report::{Part, Report};
 use crate::show::{frames_up_to, harmless, put_line, turns};
 use mh_model::picture::{COLUMNS, ROWS};

@@ -3,13 +3,16 @@
 //!
 //! What stands in the file never tells the terminal what to do: each character that would is shown
 //! as U+FFFD.
+
+pub(crate) mod window;
+
 ghost use Rattle.std.specs.Prelude.{◌≡◌, ◌≤◌, ◌<◌, ◌^◌, ◌++◌, OnOk, IfOk, length, take, drop, replicate};
 ghost use Rattle.bstr.specs.Text.{without_terminator};
 ghost use Rattle.bstr.specs.Utf8.{lossy_chars};
 ghost use Rattle.mh_look.specs.Places.{characters_of, plain, PlacesAreHarmless, line_at, spaced, place_words, shown_at, shown_place};
 
+use crate::place::window::{first_shown, put_window};
 use crate::show::{harmless, put_character};
-use crate::window::{first_shown, put_window};
 use crate::wrap::put_paragraph;
 use bstr::ByteSlice;
 use mh_told::text::Text;

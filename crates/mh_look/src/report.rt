@@ -1,10 +1,24 @@
 //! `Report`: what a play printed, read back.
+
+pub(crate) mod characters;
+pub(crate) mod fault;
+pub(crate) mod frame;
+pub(crate) mod frames;
+pub(crate) mod front;
+pub(crate) mod last;
+pub(crate) mod line;
+pub(crate) mod number;
+pub(crate) mod printed;
+pub(crate) mod row;
+pub(crate) mod run;
+pub(crate) mod shown;
+
 ghost use Rattle.std.specs.Prelude.{◌≡◌, ◌==◌, ◌+◌, ◌≤◌, ◌++◌, ◌∷◌, [], count_by, length, take, IfOk, IfErr, OnOk};
 ghost use Rattle.mh_look.specs.Report.{Report as Printed};
 ghost use Rattle.mh_look.specs.Reading.{IsReportOf, IsRight};
 
-use crate::last::Last;
-use crate::line::read_total;
+use crate::report::last::Last;
+use crate::report::line::read_total;
 use mh_model::{Fault, Picture, Rest};
 use std::alloc::{AllocError, Global};
 use std::marker::Model;

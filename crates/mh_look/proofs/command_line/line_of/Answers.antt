@@ -3,7 +3,7 @@ use Rattle.std.proofs.Common.{sym, subst}
 use Rattle.std.proofs.lemmas.Result.{err_from_is_err_and}
 use Rattle.clap.specs.Words.{takes}
 use Rattle.mh_look.specs.CommandLine as spec
-use Rattle.mh_look.specs.declared.command_line_error.CommandLineError.TheVariants.{NoMemory}
+use Rattle.mh_look.specs.declared.command_line.error.CommandLineError.TheVariants.{NoMemory}
 use Rattle.mh_look.proofs.CommandLemmas.{passes_as}
 use Rattle.mh_look.proofs.command_line.line_of.Goals as goal
 

@@ -1,0 +1,170 @@
+//! The program as `clap` sees it: its subcommands, with the texts of their help. What they take is left to
+//! `arguments`.
+//!
+//! Promise: each function makes what the definition of its name in `specs/CommandLine` says.
+ghost use Rattle.std.specs.Prelude.{◌≡◌, false, IfOk};
+ghost use Rattle.clap.specs.Words.{app_of, new_app};
+ghost use Rattle.clap.specs.declared.builder.command.Command.TheViews.{out-Command as fields_of};
+ghost use Rattle.mh_look.specs.CommandLine as spec;
+
+use crate::command_line::arguments::{
+    color, costs, folder, frame, late, lines, other, output, path, plain, report, script, start,
+    tags,
+};
+use clap::Command;
+use std::alloc::{AllocError, Global};
+
+/// The version that `--version` prints.
+const VERSION: &str = "0.1.0";
+
+/// What is told behind the help of `diff`.
+const DIFF_EXAMPLES: &str = "Exit status:
+  0  nothing differs
+  1  something does
+  2  a report or the command line cannot be read
+
+Example:
+  redlook diff examples/page/report other --lines";
+
+/// What is told behind the help of `why`.
+const WHY_EXAMPLES: &str = "Exit status of `why DIR`:
+  0  the service is accepted
+  1  the verifier refuses it
+  2  a file, the service or the command line cannot be read
+
+Examples:
+  redlook why examples/broken/service
+  redlook why examples/late/service --late examples/late/late --costs
+  redplay play examples/first/service --script script | redlook why - examples/first/service --script script";
+
+/// The program with all its subcommands.
+pub fn program<'a>(alloc: Global) -> Result<Command<'a>, AllocError>
+    ensures { IfOk result (λ c. app_of c ≡ spec.program) }
+{
+    with_views(alloc)?
+        .subcommand(image(alloc)?)?
+        .subcommand(diff(alloc)?)?
+        .subcommand(why(alloc)?)
+}
+
+/// The program with the subcommands that show all of a report.
+fn with_views<'a>(alloc: Global) -> Result<Command<'a>, AllocError>
+    ensures { IfOk result (λ c. app_of c ≡ spec.with_views) }
+{
+    bare(alloc)
+        .subcommand(show(alloc)?)?
+        .subcommand(page(alloc)?)
+}
+
+/// The program without its subcommands.
+fn bare<'a>(alloc: Global) -> Command<'a>
+    ensures { app_of result ≡ spec.bare }
+{
+    Command::new(alloc, "redlook")
+        .version(VERSION)
+        .about("Shows what `redplay` printed; a file `-` is read from standard input")
+        .subcommand_required(true)
+}
+
+fn show<'a>(alloc: Global) -> Result<Command<'a>, AllocError>
+    ensures app { IfOk result (λ c. app_of c ≡ spec.show) }
+    ensures local { IfOk result (λ c. (fields_of c).has_globals ≡ false) }
+{
+    described(
+        alloc,
+        "show",
+        "Shows the frames and lines of a report in the terminal",
+        "Example:\n  redlook show examples/page/report --frame 2",
+    )
+    .arg(report(alloc))?
+    .arg(frame(alloc))?
+    .arg(plain(alloc))
+}
+
+fn page<'a>(alloc: Global) -> Result<Command<'a>, AllocError>
+    ensures app { IfOk result (λ c. app_of c ≡ spec.page) }
+    ensures local { IfOk result (λ c. (fields_of c).has_globals ≡ false) }
+{
+    described(
+        alloc,
+        "page",
+        "Writes a page for a browser, which steps through the frames",
+        "Example:\n  redlook page examples/clock/report --script examples/clock/script > clock.html",
+    )
+    .arg(report(alloc))?
+    .arg(script(alloc))
+}
+
+fn image<'a>(alloc: Global) -> Result<Command<'a>, AllocError>
+    ensures app { IfOk result (λ c. app_of c ≡ spec.image) }
+    ensures local { IfOk result (λ c. (fields_of c).has_globals ≡ false) }
+{
+    described(
+        alloc,
+        "image",
+        "Writes a frame, or all of them, as images of 720 by 576 points, in the form PNG",
+        "Examples:\n  redlook image examples/vote/report --frame 1 > vote.png\n  redlook image examples/vote/report --output pictures",
+    )
+    .arg(report(alloc))?
+    .arg(frame(alloc))?
+    .arg(output(alloc))
+}
+
+fn diff<'a>(alloc: Global) -> Result<Command<'a>, AllocError>
+    ensures app { IfOk result (λ c. app_of c ≡ spec.diff) }
+    ensures local { IfOk result (λ c. (fields_of c).has_globals ≡ false) }
+{
+    described(
+        alloc,
+        "diff",
+        "Says in which frames two reports differ, and in how many cells",
+        DIFF_EXAMPLES,
+    )
+    .arg(report(alloc))?
+    .arg(other(alloc))?
+    .arg(lines(alloc))
+}
+
+fn why<'a>(alloc: Global) -> Result<Command<'a>, AllocError>
+    ensures app { IfOk result (λ c. app_of c ≡ spec.why) }
+    ensures local { IfOk result (λ c. (fields_of c).has_globals ≡ false) }
+{
+    why_service(alloc)?
+        .arg(script(alloc))?
+        .arg(costs(alloc))?
+        .arg(color(alloc))
+}
+
+/// The subcommand with what is explained, and what may be said of the service.
+fn why_service<'a>(alloc: Global) -> Result<Command<'a>, AllocError>
+    ensures app { IfOk result (λ c. app_of c ≡ spec.why_service) }
+    ensures local { IfOk result (λ c. (fields_of c).has_globals ≡ false) }
+{
+    why_paths(alloc)?
+        .arg(start(alloc))?
+        .arg(late(alloc))?
+        .arg(tags(alloc))
+}
+
+/// The subcommand with what is explained.
+fn why_paths<'a>(alloc: Global) -> Result<Command<'a>, AllocError>
+    ensures app { IfOk result (λ c. app_of c ≡ spec.why_paths) }
+    ensures local { IfOk result (λ c. (fields_of c).has_globals ≡ false) }
+{
+    described(
+        alloc,
+        "why",
+        "Checks a service, and explains why it is refused, with the places in its files, and how to mend it; of an accepted one its bounds",
+        WHY_EXAMPLES,
+    )
+    .arg(path(alloc))?
+    .arg(folder(alloc))
+}
+
+/// A subcommand with its texts, before it has arguments.
+fn described<'a>(alloc: Global, name: &'a str, about: &'a str, example: &'a str) -> Command<'a>
+    ensures app { app_of result ≡ new_app name.entry.now }
+    ensures local { (fields_of result).has_globals ≡ false }
+{
+    Command::new(alloc, name).about(about).after_help(example)
+}
