@@ -1,10 +1,8 @@
-pub mod ScriptLemmas
 pub mod SinkLemmas
 pub mod SourceLemmas
 pub mod ChangeLemmas
 pub mod PostLemmas
 pub mod PresetLemmas
-pub mod ContentLemmas
 pub mod PlayLemmas
 pub mod OpenedLemmas
 pub mod PlainLemmas

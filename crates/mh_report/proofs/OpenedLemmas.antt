@@ -3,7 +3,7 @@ use Rattle.std.specs.Prelude.{◌≡◌, List, ℕ, Option, Result, Ok, Err, IfO
 use Rattle.std.proofs.Common.{subst, sym, ap, ◌∙◌}
 use Rattle.std.specs.Io.KnownBytes.{Appends}
 use Rattle.mh_report.specs.declared.play_error.PlayError.{PlayError}
-use Rattle.mh_report.specs.declared.script.Command.{Command}
+use Rattle.mh_script.specs.declared.script.Command.{Command}
 use Rattle.mh_report.specs.declared.status.Status.{Status}
 use Rattle.mh_report.specs.declared.status.Status.TheVariants as status
 use Rattle.mh_told.specs.declared.unplayable.Unplayable.{Unplayable}

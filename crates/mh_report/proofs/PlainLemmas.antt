@@ -11,12 +11,13 @@ use Rattle.mh_service.specs.Resolved.{resolved}
 use Rattle.mh_flow.specs.Equipment.{equipped}
 use Rattle.mh_verify.specs.Free.{IsVerified, Verified, most_cost}
 use Rattle.mh_report.specs.declared.material.Material.{Material}
-use Rattle.mh_report.specs.declared.script.Command.{Command}
+use Rattle.mh_script.specs.declared.script.Command.{Command}
 use Rattle.mh_told.specs.declared.unplayable.Unplayable.{Unplayable}
 use Rattle.mh_told.specs.Reading.{◌>>=◌, Source, late_lines, names_no_scene, read_files, refusal_for, service_of, service_read, service_tagged, table_of, unless_no_scene, unless_refused, with_late, with_names}
 use Rattle.mh_codec.specs.Tags.{Tags}
 use Rattle.mh_report.specs.declared.options.Options.{Options}
-use Rattle.mh_report.specs.Reading.{chosen_service, commands_of, contents, late_of, readied, readied_with, service_with, tags_of}
+use Rattle.mh_script.specs.Contents.{contents}
+use Rattle.mh_report.specs.Reading.{chosen_service, commands_of, late_of, readied, readied_with, service_with, tags_of}
 
 made : (o : Option ServiceRefusal) (x s : Service) → x.programs ≡ [] → unless_refused o x ≡ Ok s → s.programs ≡ []
 made None x s none e =

@@ -2,8 +2,8 @@
 use Rattle.std.specs.Prelude.{◌≡◌, ℕ, ◌+◌, ◌≤◌, ◌<◌, List, [], ◌∷◌, ◌++◌, length, drop, Option, Result, Ok, Err, OnErr, refl}
 use Rattle.std.proofs.Common.{ap, ◌∙◌, sym, subst, arith, append_assoc, append-nil, add-one, get_or, drop-cons}
 use Rattle.std.proofs.Math.ListN.{drop_of_length-le}
-use Rattle.mh_report.specs.declared.script.Command.{Command}
-use Rattle.mh_report.specs.declared.script.Command.TheVariants.{Post, Step, Show}
+use Rattle.mh_script.specs.declared.script.Command.{Command}
+use Rattle.mh_script.specs.declared.script.Command.TheVariants.{Post, Step, Show}
 use Rattle.mh_report.specs.declared.status.Status.{Status}
 use Rattle.std.specs.Io.KnownBytes.{Appends}
 use Rattle.mh_report.specs.Sink.{IsBeginning}

@@ -13,7 +13,7 @@ use Rattle.mh_engine.specs.Answer.{post_refusal, refusal_for}
 use Rattle.mh_engine.specs.declared.refusal.Refused.{Refused}
 use Rattle.mh_engine.specs.declared.refusal.RefusedWhy.{RefusedWhy}
 use Rattle.mh_engine.specs.declared.refusal.RefusedWhy.TheVariants as refused
-use Rattle.mh_report.specs.declared.script.Command.TheVariants as command
+use Rattle.mh_script.specs.declared.script.Command.TheVariants as command
 use Rattle.mh_report.specs.Report.{Session, why_line, post_lines, played}
 
 -- what an engine in this state answers to a post, in the words of its contract

@@ -1,4 +1,3 @@
-pub mod Script
 pub mod Sink
 pub mod Source
 pub mod Report

@@ -9,7 +9,7 @@ use Rattle.mh_verify.specs.declared.refusal.Refusal.{Refusal}
 use Rattle.mh_verify.specs.Free.{IsVerified, Verified, most_cost}
 use Rattle.mh_verify.specs.Order.{Names}
 use Rattle.mh_report.specs.declared.material.Material.{Material}
-use Rattle.mh_report.specs.declared.script.Command.{Command}
+use Rattle.mh_script.specs.declared.script.Command.{Command}
 use Rattle.mh_report.specs.declared.status.Status.{Status}
 use Rattle.mh_report.specs.declared.status.Status.TheVariants as status
 use Rattle.mh_told.specs.declared.unplayable.Unplayable.{Unplayable}

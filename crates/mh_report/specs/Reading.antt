@@ -12,8 +12,9 @@ use Rattle.mh_codec.specs.Tags.{Tags}
 use Rattle.mh_told.specs.Reading.{◌>>=◌, Source, is_group_file, service_read, service_tagged, table_of}
 use Rattle.mh_report.specs.declared.material.Material.{Material}
 use Rattle.mh_report.specs.declared.options.Options.{Options}
-use Rattle.mh_report.specs.declared.script.Command.{Command}
-use Rattle.mh_report.specs.Script.{lines, first_wrong, commands}
+use Rattle.mh_script.specs.declared.script.Command.{Command}
+use Rattle.mh_script.specs.Contents.{contents}
+use Rattle.mh_script.specs.Script.{lines, first_wrong, commands}
 
 abbrev pub unless_wrong : {A : Type 0} → Option ℕ → A → Result A Unplayable
 unless_wrong None x = Ok x
@@ -22,21 +23,6 @@ unless_wrong (Some line) x = Err (unplayable.Script line)
 -- the commands of a script that is played on a service with these files
 unfoldable pub commands_of : Tags → List File → List ℕ → Result (List Command) Unplayable
 commands_of tags files script = unless_wrong (first_wrong tags files 1 (lines script)) (commands tags files (lines script))
-
--- a file that is no group, and that a group of the service names
-abbrev pub is_content : Tags → Service → Source → Bool
-is_content tags service f = not (is_group_file tags f.1.items) && names_file service f.0
-
--- a file as content
-abbrev pub content_of : Source → Content
-content_of f = record { name = f.0; content = f.1.items }
-
-abbrev pub content_in : Tags → Service → Source → Option Content
-content_in tags service f = if is_content tags service f then Some (content_of f) else None
-
--- the content files that the service names, in order
-abbrev pub contents : Tags → Service → List Source → List Content
-contents tags service files = filter_map (content_in tags service) files
 
 -- the bytes of the file that names late scenes, if there is one
 abbrev pub late_of : Options → Option (List ℕ)

@@ -10,8 +10,8 @@ use Rattle.mh_model.specs.Step.{advanced, posted}
 use Rattle.mh_machine.specs.Rest.{rest_of}
 use Rattle.mh_engine.specs.Answer.{post_refusal, refusal_number}
 use Rattle.mh_engine.specs.declared.refusal.RefusedWhy.{RefusedWhy}
-use Rattle.mh_report.specs.declared.script.Command.{Command}
-use Rattle.mh_report.specs.declared.script.Command.TheVariants as command
+use Rattle.mh_script.specs.declared.script.Command.{Command}
+use Rattle.mh_script.specs.declared.script.Command.TheVariants as command
 use Rattle.mh_report.specs.declared.status.Status.{Status}
 use Rattle.mh_report.specs.declared.status.Status.TheVariants as status
 use Rattle.mh_told.specs.Frame.{frame_text}

@@ -7,7 +7,6 @@
 #![tactic(auto)]
 
 mod check;
-mod contents;
 mod convert;
 mod material;
 mod options;
@@ -17,8 +16,6 @@ mod player;
 mod preset;
 mod reading;
 mod report;
-mod scene_line;
-mod script;
 pub mod sink;
 pub mod source;
 mod status;
@@ -26,7 +23,6 @@ mod tally;
 mod telling;
 mod unread;
 mod verdict;
-mod words;
 
 pub use check::check_bytes;
 pub use convert::{Notation, convert_bytes};

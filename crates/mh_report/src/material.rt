@@ -1,7 +1,7 @@
 //! What a play is made of, once everything is read.
-use crate::script::Command;
 use mh_base::Seq;
 use mh_model::File;
+use mh_script::Command;
 use mh_service::Service;
 
 /// What a play is made of.

@@ -5,12 +5,11 @@
 ghost use Rattle.mh_told.specs.Reading.{Gives};
 ghost use Rattle.mh_report.specs.Reading.{chosen_service, readied, readied_with, service_with, commands_of};
 
-use crate::contents::read_contents;
 use crate::material::Material;
 use crate::options::Options;
-use crate::script::{Command, ScriptError, read_script};
 use mh_base::{GroupName, Seq};
 use mh_codec::TagTable;
+use mh_script::{Command, ScriptError, read_contents, read_script};
 use mh_service::Service;
 use mh_told::reading::{read_service, read_tagged_service};
 use mh_told::tags::table_of;

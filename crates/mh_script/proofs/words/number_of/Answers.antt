@@ -1,6 +1,6 @@
 use Rattle.std.proofs.Common.{◌∙◌, sym, arith}
-use Rattle.mh_report.proofs.ScriptLemmas.{number_full, read_stuck}
-use Rattle.mh_report.proofs.words.number_of.Goals as goal
+use Rattle.mh_script.proofs.ScriptLemmas.{number_full, read_stuck}
+use Rattle.mh_script.proofs.words.number_of.Goals as goal
 
 pub returns-in-None : goal.returns-in-None
 returns-in-None c =

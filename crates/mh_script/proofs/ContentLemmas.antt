@@ -5,7 +5,7 @@ use Rattle.mh_model.specs.declared.file.File.{File}
 use Rattle.mh_model.specs.Service.{Service}
 use Rattle.mh_codec.specs.Tags.{Tags}
 use Rattle.mh_told.specs.Reading.{Source}
-use Rattle.mh_report.specs.Reading.{contents, content_in}
+use Rattle.mh_script.specs.Contents.{contents, content_in}
 
 -- the list of what may be there
 abbrev one : Option File → List File

@@ -5,7 +5,7 @@
 ghost use Rattle.std.specs.Prelude.{◌≡◌, ◌<◌, ◌==◌, ◌∷◌, true, false, drop, IfOk, IfErr, IfSome, OnOk, MatchOption, None, length};
 ghost use Rattle.std.specs.List.{position};
 ghost use Rattle.std.specs.Option.{option_copied};
-ghost use Rattle.mh_report.specs.Script.{begins, lines, line_of, is_comment, plain_line, command_line, input_line, commands, first_wrong, key_named, key_line, step_line, tick_line, stream_line, engine_line, file_line, named_line, content_line, octets_of, integer_of, lines_behind, number_of, IsWrongAt};
+ghost use Rattle.mh_script.specs.Script.{begins, lines, line_of, is_comment, plain_line, command_line, input_line, commands, first_wrong, key_named, key_line, step_line, tick_line, stream_line, engine_line, file_line, named_line, content_line, octets_of, integer_of, lines_behind, number_of, IsWrongAt};
 
 use crate::scene_line::scene_line;
 use crate::words::{integer_of, key_named, number_of, octets_of};
@@ -51,7 +51,7 @@ pub enum ScriptError {
 
 impl From<AllocError> for ScriptError {
     ghost use Rattle.std.specs.Prelude.{◌≡◌};
-    ghost use Rattle.mh_report.specs.declared.script.ScriptError.TheVariants.{NoMemory};
+    ghost use Rattle.mh_script.specs.declared.script.ScriptError.TheVariants.{NoMemory};
 
     ghost from_gives = { λ _ e. e ≡ NoMemory };
 

@@ -5,7 +5,7 @@ ghost use Rattle.std.specs.Str.{bytes_eq};
 ghost use Rattle.mh_model.specs.Service.{Service};
 ghost use Rattle.mh_service.specs.Contents.{AreFilesOf};
 ghost use Rattle.mh_told.specs.Reading.{is_group_file};
-ghost use Rattle.mh_report.specs.Reading.{contents, content_of, content_in};
+ghost use Rattle.mh_script.specs.Contents.{contents, content_of, content_in};
 
 use mh_base::{GroupName, Octets, Seq};
 use mh_codec::TagTable;

@@ -1,6 +1,6 @@
 use Rattle.std.proofs.Common.{◌∙◌, sym}
-use Rattle.mh_report.proofs.ScriptLemmas.{scene_parted}
-use Rattle.mh_report.proofs.scene_line.scene_line.Goals as goal
+use Rattle.mh_script.proofs.ScriptLemmas.{scene_parted}
+use Rattle.mh_script.proofs.scene_line.scene_line.Goals as goal
 
 pub returns-in-Some : goal.returns-in-Some
 returns-in-Some c =

@@ -6,10 +6,10 @@ use Rattle.std.proofs.Common.{ap, ◌∙◌, sym, subst, add-one, get_or}
 use Rattle.std.proofs.lemmas.List.{take_rest}
 use Rattle.mh_base.proofs.PathLemmas.{slice_split-uncut, slice_split-cut, position-some, position-none}
 use Rattle.std.proofs.Math.Seq.{drop-cons}
-use Rattle.mh_report.specs.declared.script.Line.{Line}
+use Rattle.mh_script.specs.declared.script.Line.{Line}
 use Rattle.mh_codec.specs.Tags.{Tags}
 use Rattle.mh_service.specs.Refusals.{File}
-use Rattle.mh_report.specs.Script.{lines, read_digits, with_digit, number_of, named_line, parted_line, file_line, brought_line, parted_scene, scene_line}
+use Rattle.mh_script.specs.Script.{lines, read_digits, with_digit, number_of, named_line, parted_line, file_line, brought_line, parted_scene, scene_line}
 
 -- bytes without a line feed are one line
 pub lines_uncut : (bs : List ℕ) → position (λ b. b == 10) bs ≡ None → lines bs ≡ bs ∷ []

@@ -1,9 +1,9 @@
 use Rattle.std.proofs.Common.{List, ◌++◌, ◌+◌, drop, ap, sym, ◌∙◌}
 use Rattle.mh_model.specs.declared.file.File.{File}
-use Rattle.mh_report.specs.Reading.{contents, content_in}
-use Rattle.mh_report.proofs.ContentLemmas.{one_more, none_more}
-use Rattle.mh_report.proofs.contents.read_contents.Goals as goal
-use Rattle.mh_report.proofs.contents.read_contents.Goals.{in-Some+in_ok-push, in_default}
+use Rattle.mh_script.specs.Contents.{contents, content_in}
+use Rattle.mh_script.proofs.ContentLemmas.{one_more, none_more}
+use Rattle.mh_script.proofs.contents.read_contents.Goals as goal
+use Rattle.mh_script.proofs.contents.read_contents.Goals.{in-Some+in_ok-push, in_default}
 
 pub loop-file-preserved : goal.loop-file-preserved
 loop-file-preserved c =

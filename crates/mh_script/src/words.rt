@@ -1,6 +1,6 @@
 //! Words: what the names, numbers and octets in a line of a script stand for.
 ghost use Rattle.std.specs.Prelude.{◌≡◌, IfOk};
-ghost use Rattle.mh_report.specs.Script.{key_name, key_named, integer_of, with_digit, number_of, octets_of};
+ghost use Rattle.mh_script.specs.Script.{key_name, key_named, integer_of, with_digit, number_of, octets_of};
 
 use hex::FromHexError;
 use mh_base::Octets;

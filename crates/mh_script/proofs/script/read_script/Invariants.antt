@@ -1,7 +1,7 @@
 use Rattle.std.proofs.Common.{◌≡◌, ◌+◌, ◌≤◌, ◌++◌, length}
 use Rattle.std.specs.Option.{option_map_or, option_copied}
-use Rattle.mh_report.specs.Script.{lines, lines_behind, commands, first_wrong}
-use Rattle.mh_report.proofs.script.read_script.Given as goal
+use Rattle.mh_script.specs.Script.{lines, lines_behind, commands, first_wrong}
+use Rattle.mh_script.proofs.script.read_script.Given as goal
 
 abbrev pub invariant-loop-rest : goal.invariant-loop-rest
 invariant-loop-rest l =

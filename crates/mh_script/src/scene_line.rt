@@ -4,7 +4,7 @@
 ghost use Rattle.std.specs.Prelude.{◌≡◌, IfOk, Some};
 ghost use Rattle.mh_model.specs.Late.{written_at};
 ghost use Rattle.mh_told.specs.Reading.{group_in};
-ghost use Rattle.mh_report.specs.Script.{scene_line, own_line, brought_line, sent_line, as_group, written_by, octets_of};
+ghost use Rattle.mh_script.specs.Script.{scene_line, own_line, brought_line, sent_line, as_group, written_by, octets_of};
 
 use crate::script::{Command, Line, first_space};
 use crate::words::octets_of;

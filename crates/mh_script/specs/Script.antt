@@ -17,12 +17,12 @@ use Rattle.mh_model.specs.declared.key.Key.TheVariants.{Up, Down, Left, Right, D
 use Rattle.mh_service.specs.Refusals.{File}
 use Rattle.mh_told.specs.declared.unplayable.Unplayable.{Unplayable}
 use Rattle.mh_told.specs.Reading.{group_in}
-use Rattle.mh_report.specs.declared.script.Command.{Command}
-use Rattle.mh_report.specs.declared.script.Command.TheVariants as command
-use Rattle.mh_report.specs.declared.script.Line.{Line}
-use Rattle.mh_report.specs.declared.script.Line.TheVariants as line
-use Rattle.mh_report.specs.declared.script.ScriptError.{ScriptError}
-use Rattle.mh_report.specs.declared.script.ScriptError.TheVariants as script_error
+use Rattle.mh_script.specs.declared.script.Command.{Command}
+use Rattle.mh_script.specs.declared.script.Command.TheVariants as command
+use Rattle.mh_script.specs.declared.script.Line.{Line}
+use Rattle.mh_script.specs.declared.script.Line.TheVariants as line
+use Rattle.mh_script.specs.declared.script.ScriptError.{ScriptError}
+use Rattle.mh_script.specs.declared.script.ScriptError.TheVariants as script_error
 
 -- the lines: what stands before, between and after the line feeds
 abbrev pub lines : List ℕ → List (List ℕ)
