@@ -1,0 +1,10 @@
+//! The verifier: what it accepts and refuses, what it shows, and what it counts.
+
+pub(crate) mod arrows;
+pub(crate) mod chains;
+pub(crate) mod claims;
+pub(crate) mod evidence;
+pub(crate) mod families;
+pub(crate) mod flows;
+pub(crate) mod settling;
+pub(crate) mod verify;
