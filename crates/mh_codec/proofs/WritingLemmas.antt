@@ -4,6 +4,9 @@ use Rattle.std.specs.List.{list_all}
 use Rattle.std.proofs.lemmas.List.Folds.{list_all_at}
 use Rattle.std.proofs.lemmas.List.{at_drop_more}
 use Rattle.mh_base.specs.Limits.{largest_file}
+use Rattle.mh_der.specs.declared.tag.Tag.{Tag}
+use Rattle.mh_der.specs.Element.{element, begun, ended}
+use Rattle.mh_der.proofs.WritingLemmas.{ended_begun}
 use Rattle.mh_group.specs.declared.written.Written.{Written}
 use Rattle.mh_group.specs.Holdable.{is_holdable}
 use Rattle.mh_codec.specs.declared.codec_error.CodecError.{CodecError}
@@ -46,3 +49,20 @@ unfolding Spells
 none_spells_large tags g octets e large other s =
     let same : length other ≡ length octets = ap (λ l. length l) (s.0 ∙ sym e) in
     omega (arith, same, s.1)
+
+-- an element that was begun, and ended behind its contents
+pub ended_with : {t : Tag} {start : ℕ} {first last new : List ℕ} (old : List ℕ) (wanted : Tag) (contents : List ℕ) → t ≡ wanted
+    → first ≡ old ++ begun t → start ≡ length first → last ≡ first ++ contents → new ≡ ended start last → new ≡ old ++ element wanted contents
+ended_with {t} {start} {first} {last} {new} old wanted contents same begin at put end =
+    end
+    ∙ ap (λ (n : ℕ). ended n last) (at ∙ ap length begin)
+    ∙ ap (λ (l : List ℕ). ended (length (old ++ begun t)) l) (put ∙ ap (λ (l : List ℕ). l ++ contents) begin)
+    ∙ ended_begun old t contents
+    ∙ ap (λ (u : Tag). old ++ element u contents) same
+
+pub two_written : {mid last a b : List ℕ} (first front behind : List ℕ) → mid ≡ first ++ a → a ≡ front → last ≡ mid ++ b → b ≡ behind → last ≡ first ++ (front ++ behind)
+two_written {mid} {last} {a} {b} first front behind e same f too =
+    f
+    ∙ ap (λ (l : List ℕ). l ++ b) (e ∙ ap (λ (l : List ℕ). first ++ l) same)
+    ∙ append_assoc first front b
+    ∙ ap (λ (l : List ℕ). first ++ (front ++ l)) too

@@ -12,9 +12,8 @@ ghost use Rattle.mh_codec.specs.Unwritable.{Refuses};
 use crate::tag_table::TagTable;
 use crate::{CodecError, Why};
 use mh_base::{LONGEST_LIST, Seq};
-use mh_der::{SEQUENCE, Tag, TagClass, write_element};
+use mh_der::{SEQUENCE, Tag, TagClass, begin_element, end_element};
 use mh_group::{Generic, Ref};
-use std::alloc::Global;
 
 /// The refusal of what the notation cannot hold.
 pub(crate) const PAST_LIMIT: CodecError = CodecError::At {
@@ -31,7 +30,7 @@ pub(crate) trait Writable {
 
     ghost is_good: { Self → Bool };
 
-    fn write(&self, alloc: Global, tags: &TagTable, out: &mut Vec<u8>) -> Result<(), CodecError>
+    fn write(&self, tags: &TagTable, out: &mut Vec<u8>) -> Result<(), CodecError>
         ensures written { OnOk result (out.new.items ≡ out.old.items ++ spelling tags.now self.now) }
         ensures fits { OnOk result (is_good self.now ≡ true) }
         ensures limit { IfErr result (Refuses (is_good self.now)) };
@@ -46,8 +45,8 @@ impl<T: Writable> Writable for Seq<T> {
 
     ghost is_good = { is_list T.is_good };
 
-    fn write(&self, alloc: Global, tags: &TagTable, out: &mut Vec<u8>) -> Result<(), CodecError> {
-        write_list(alloc, tags, out, self.as_slice())
+    fn write(&self, tags: &TagTable, out: &mut Vec<u8>) -> Result<(), CodecError> {
+        write_list(tags, out, self.as_slice())
     }
 }
 
@@ -60,14 +59,13 @@ impl<T: Writable> Writable for Generic<T> {
 
     ghost is_good = { is_generic T.is_good };
 
-    fn write(&self, alloc: Global, tags: &TagTable, out: &mut Vec<u8>) -> Result<(), CodecError> {
-        write_generic(alloc, tags, out, self)
+    fn write(&self, tags: &TagTable, out: &mut Vec<u8>) -> Result<(), CodecError> {
+        write_generic(tags, out, self)
     }
 }
 
 #[tactic(auto, unfolding(crate::specs::Spelling::generic))]
 fn write_generic<T: Writable>(
-    alloc: Global,
     tags: &TagTable,
     out: &mut Vec<u8>,
     value: &Generic<T>,
@@ -77,32 +75,26 @@ fn write_generic<T: Writable>(
     ensures limit { IfErr result (Refuses (is_generic T.is_good value.now)) }
 {
     match value {
-        Generic::Direct(value) => value.write(alloc, tags, out),
-        Generic::Indirect(variable) => write_variable(alloc, tags, out, variable),
+        Generic::Direct(value) => value.write(tags, out),
+        Generic::Indirect(variable) => write_variable(tags, out, variable),
     }
 }
 
 /// Writes the reference of a variable that holds a value.
-fn write_variable(
-    alloc: Global,
-    tags: &TagTable,
-    out: &mut Vec<u8>,
-    variable: &Ref,
-) -> Result<(), CodecError>
+fn write_variable(tags: &TagTable, out: &mut Vec<u8>, variable: &Ref) -> Result<(), CodecError>
     ensures written { OnOk result (out.new.items ≡ out.old.items ++ element (own (variable_tag tags.now)) (reference variable.now)) }
     ensures fits { OnOk result (is_reference variable.now ≡ true) }
     ensures limit { IfErr result (Refuses (is_reference variable.now)) }
 {
-    let mut contents = Vec::new(alloc);
-    variable.write(alloc, tags, &mut contents)?;
-    write_element(out, own(tags.variable_tag()), contents.as_slice())?;
+    let start = begin_element(out, own(tags.variable_tag()))?;
+    variable.write(tags, out)?;
+    end_element(out, start)?;
     Ok(())
 }
 
 /// Writes the members in one sequence.
 #[tactic(auto, unfolding(crate::specs::Spelling::list))]
 pub(crate) fn write_list<T: Writable>(
-    alloc: Global,
     tags: &TagTable,
     out: &mut Vec<u8>,
     members: &[T],
@@ -114,15 +106,14 @@ pub(crate) fn write_list<T: Writable>(
     if members.len() > LONGEST_LIST {
         return Err(PAST_LIMIT);
     }
-    let mut contents = Vec::new(alloc);
-    write_several(alloc, tags, &mut contents, members)?;
-    write_element(out, SEQUENCE, contents.as_slice())?;
+    let start = begin_element(out, SEQUENCE)?;
+    write_several(tags, out, members)?;
+    end_element(out, start)?;
     Ok(())
 }
 
 /// Writes the members one after the other.
 pub(crate) fn write_several<T: Writable>(
-    alloc: Global,
     tags: &TagTable,
     out: &mut Vec<u8>,
     members: &[T],
@@ -132,7 +123,7 @@ pub(crate) fn write_several<T: Writable>(
     ensures limit { IfErr result (Refuses (list_all T.is_good members.now)) }
 {
     for member in members {
-        member.write(alloc, tags, out)?;
+        member.write(tags, out)?;
     }
     Ok(())
 }

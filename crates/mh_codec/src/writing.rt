@@ -13,7 +13,7 @@ use crate::tag_table::TagTable;
 use crate::writable::{PAST_LIMIT, Writable, own, write_list, write_several};
 use crate::writing_value::{write_integer, write_named, write_natural};
 use mh_base::{LARGEST_FILE, Seq};
-use mh_der::write_element;
+use mh_der::{begin_element, end_element};
 use mh_group::group::before_items;
 use mh_group::{Attribute, Field, Group, Ingredient, Setting, Written};
 use std::alloc::Global;
@@ -25,7 +25,7 @@ pub fn encode_group(alloc: Global, tags: &TagTable, group: &Group) -> Result<Vec
     ensures limit { IfErr result (λ e. e ≢ CodecError.NoMemory → (e ≡ CodecError.At Why.Limit 0) × HasNoSpelling tags.now group.now) }
 {
     let mut octets = Vec::new(alloc);
-    write_group(alloc, tags, &mut octets, group.written())?;
+    write_group(tags, &mut octets, group.written())?;
     if octets.len() > LARGEST_FILE {
         return Err(PAST_LIMIT);
     }
@@ -33,33 +33,21 @@ pub fn encode_group(alloc: Global, tags: &TagTable, group: &Group) -> Result<Vec
 }
 
 #[tactic(auto, unfolding(crate::specs::Spelling::group, mh_group::specs::Holdable::is_holdable))]
-fn write_group(
-    alloc: Global,
-    tags: &TagTable,
-    out: &mut Vec<u8>,
-    group: &Written,
-) -> Result<(), CodecError>
+fn write_group(tags: &TagTable, out: &mut Vec<u8>, group: &Written) -> Result<(), CodecError>
     ensures written { OnOk result (out.new.items ≡ out.old.items ++ group_lem tags.now group.now) }
     ensures fits { OnOk result (is_holdable group.now ≡ true) }
     ensures limit { IfErr result (Refuses (is_holdable group.now)) }
 {
-    let mut contents = Vec::new(alloc);
-    write_named(alloc, &mut contents, &group.identifier, 0)?;
-    write_body(
-        alloc,
-        tags,
-        &mut contents,
-        &group.items,
-        group.fields.as_slice(),
-    )?;
-    write_element(out, own(tags.class_tag(group.class)), contents.as_slice())?;
+    let start = begin_element(out, own(tags.class_tag(group.class)))?;
+    write_named(out, &group.identifier, 0)?;
+    write_body(tags, out, &group.items, group.fields.as_slice())?;
+    end_element(out, start)?;
     Ok(())
 }
 
 /// Writes the fields, and the items at their place among them.
 #[tactic(auto, unfolding(crate::specs::Spelling::body))]
 fn write_body(
-    alloc: Global,
     tags: &TagTable,
     out: &mut Vec<u8>,
     items: &Option<Seq<Ingredient>>,
@@ -71,34 +59,25 @@ fn write_body(
     ensures limit { IfErr result (Refuses (has_settings fields.now && is_list is_ingredient (written_items items.now))) }
 {
     match items {
-        None => write_several(alloc, tags, out, fields),
+        None => write_several(tags, out, fields),
         Some(items) => {
             let count = before_items(fields);
-            write_several(alloc, tags, out, &fields[..count])?;
-            write_items(alloc, tags, out, items.as_slice())?;
-            write_several(alloc, tags, out, &fields[count..])
+            write_several(tags, out, &fields[..count])?;
+            write_items(tags, out, items.as_slice())?;
+            write_several(tags, out, &fields[count..])
         }
     }
 }
 
 #[tactic(auto, unfolding(crate::specs::Spelling::items))]
-fn write_items(
-    alloc: Global,
-    tags: &TagTable,
-    out: &mut Vec<u8>,
-    items: &[Ingredient],
-) -> Result<(), CodecError>
+fn write_items(tags: &TagTable, out: &mut Vec<u8>, items: &[Ingredient]) -> Result<(), CodecError>
     ensures written { OnOk result (out.new.items ≡ out.old.items ++ items_lem tags.now items.now) }
     ensures fits { OnOk result (is_list is_ingredient items.now ≡ true) }
     ensures limit { IfErr result (Refuses (is_list is_ingredient items.now)) }
 {
-    let mut contents = Vec::new(alloc);
-    write_list(alloc, tags, &mut contents, items)?;
-    write_element(
-        out,
-        own(tags.attribute_tag(Attribute::Items)),
-        contents.as_slice(),
-    )?;
+    let start = begin_element(out, own(tags.attribute_tag(Attribute::Items)))?;
+    write_list(tags, out, items)?;
+    end_element(out, start)?;
     Ok(())
 }
 
@@ -111,11 +90,11 @@ impl Writable for Ingredient {
     ghost is_good = { is_good_lem };
 
     #[tactic(auto, unfolding(crate::specs::Spelling::ingredient))]
-    fn write(&self, alloc: Global, tags: &TagTable, out: &mut Vec<u8>) -> Result<(), CodecError> {
-        let mut contents = Vec::new(alloc);
-        write_natural(&mut contents, self.number.get())?;
-        write_several(alloc, tags, &mut contents, self.fields.as_slice())?;
-        write_element(out, own(tags.class_tag(self.class)), contents.as_slice())?;
+    fn write(&self, tags: &TagTable, out: &mut Vec<u8>) -> Result<(), CodecError> {
+        let start = begin_element(out, own(tags.class_tag(self.class)))?;
+        write_natural(out, self.number.get())?;
+        write_several(tags, out, self.fields.as_slice())?;
+        end_element(out, start)?;
         Ok(())
     }
 }
@@ -129,14 +108,10 @@ impl Writable for Field {
     ghost is_good = { λ f. is_good_lem f.setting };
 
     #[tactic(auto, unfolding(crate::specs::Spelling::field))]
-    fn write(&self, alloc: Global, tags: &TagTable, out: &mut Vec<u8>) -> Result<(), CodecError> {
-        let mut contents = Vec::new(alloc);
-        self.setting.write(alloc, tags, &mut contents)?;
-        write_element(
-            out,
-            own(tags.attribute_tag(self.attribute)),
-            contents.as_slice(),
-        )?;
+    fn write(&self, tags: &TagTable, out: &mut Vec<u8>) -> Result<(), CodecError> {
+        let start = begin_element(out, own(tags.attribute_tag(self.attribute)))?;
+        self.setting.write(tags, out)?;
+        end_element(out, start)?;
         Ok(())
     }
 }
@@ -151,28 +126,28 @@ impl Writable for Setting {
     ghost is_good = { is_good_lem };
 
     #[tactic(auto, unfolding(crate::specs::Spelling::value))]
-    fn write(&self, alloc: Global, tags: &TagTable, out: &mut Vec<u8>) -> Result<(), CodecError> {
+    fn write(&self, tags: &TagTable, out: &mut Vec<u8>) -> Result<(), CodecError> {
         match self {
-            Setting::Bool(truth) => truth.write(alloc, tags, out),
-            Setting::Int(value) => value.write(alloc, tags, out),
+            Setting::Bool(truth) => truth.write(tags, out),
+            Setting::Int(value) => value.write(tags, out),
             Setting::Pair(first, second) => {
                 write_integer(out, *first)?;
                 write_integer(out, *second)?;
                 Ok(())
             }
-            Setting::Octets(octets) => octets.write(alloc, tags, out),
-            Setting::Colour(colour) => colour.write(alloc, tags, out),
-            Setting::Ref(reference) => reference.write(alloc, tags, out),
-            Setting::Content(content) => content.write(alloc, tags, out),
-            Setting::ContentRef(name) => name.write(alloc, tags, out),
+            Setting::Octets(octets) => octets.write(tags, out),
+            Setting::Colour(colour) => colour.write(tags, out),
+            Setting::Ref(reference) => reference.write(tags, out),
+            Setting::Content(content) => content.write(tags, out),
+            Setting::ContentRef(name) => name.write(tags, out),
             Setting::Event(event) => Ok(write_natural(out, event.number())?),
-            Setting::Data(event_data) => event_data.write(alloc, tags, out),
+            Setting::Data(event_data) => event_data.write(tags, out),
             Setting::Justification(side) => Ok(write_natural(out, side.number())?),
-            Setting::Effect(actions) => actions.write(alloc, tags, out),
-            Setting::MovementTable(rows) => rows.write(alloc, tags, out),
-            Setting::Members(members) => members.write(alloc, tags, out),
-            Setting::Positions(positions) => positions.write(alloc, tags, out),
-            Setting::NextScenes(scenes) => scenes.write(alloc, tags, out),
+            Setting::Effect(actions) => actions.write(tags, out),
+            Setting::MovementTable(rows) => rows.write(tags, out),
+            Setting::Members(members) => members.write(tags, out),
+            Setting::Positions(positions) => positions.write(tags, out),
+            Setting::NextScenes(scenes) => scenes.write(tags, out),
         }
     }
 }

@@ -1,12 +1,17 @@
 //! Writers of elementary actions and their parameters.
+ghost use Rattle.std.specs.Prelude.{◌≡◌, ◌++◌, true, OnOk, IfErr};
+ghost use Rattle.mh_der.specs.Element.{element};
+ghost use Rattle.mh_codec.specs.Spelling.{own};
+ghost use Rattle.mh_codec.specs.Tags.{value_tag};
+ghost use Rattle.mh_codec.specs.Unwritable.{Refuses};
+
 use crate::CodecError;
 use crate::tag_table::TagTable;
 use crate::writable::{Writable, own, write_several};
 use crate::writing_value::write_natural;
-use mh_base::Kind as ValueKind;
-use mh_der::write_element;
+use mh_base::Kind;
+use mh_der::{begin_element, end_element};
 use mh_group::{Action, Parameter, Typed};
-use std::alloc::Global;
 
 /// A value behind the tag of its kind.
 impl Writable for Typed {
@@ -18,33 +23,32 @@ impl Writable for Typed {
     ghost is_good = { is_good_lem };
 
     #[tactic(auto, unfolding(crate::specs::Spelling::typed_value))]
-    fn write(&self, alloc: Global, tags: &TagTable, out: &mut Vec<u8>) -> Result<(), CodecError> {
-        let mut contents = Vec::new(alloc);
-        let kind = match self {
-            Typed::Bool(value) => {
-                value.write(alloc, tags, &mut contents)?;
-                ValueKind::Bool
-            }
-            Typed::Int(value) => {
-                value.write(alloc, tags, &mut contents)?;
-                ValueKind::Int
-            }
-            Typed::Octets(value) => {
-                value.write(alloc, tags, &mut contents)?;
-                ValueKind::Octets
-            }
-            Typed::Ref(value) => {
-                value.write(alloc, tags, &mut contents)?;
-                ValueKind::Object
-            }
-            Typed::ContentRef(value) => {
-                value.write(alloc, tags, &mut contents)?;
-                ValueKind::Content
-            }
-        };
-        write_element(out, own(tags.value_tag(kind)), contents.as_slice())?;
-        Ok(())
+    fn write(&self, tags: &TagTable, out: &mut Vec<u8>) -> Result<(), CodecError> {
+        match self {
+            Typed::Bool(value) => write_behind(tags, out, Kind::Bool, value),
+            Typed::Int(value) => write_behind(tags, out, Kind::Int, value),
+            Typed::Octets(value) => write_behind(tags, out, Kind::Octets, value),
+            Typed::Ref(value) => write_behind(tags, out, Kind::Object, value),
+            Typed::ContentRef(value) => write_behind(tags, out, Kind::Content, value),
+        }
     }
+}
+
+/// Writes a value behind the tag of this kind.
+fn write_behind<T: Writable>(
+    tags: &TagTable,
+    out: &mut Vec<u8>,
+    kind: Kind,
+    value: &T,
+) -> Result<(), CodecError>
+    ensures written { OnOk result (out.new.items ≡ out.old.items ++ element (own (value_tag tags.now kind)) (T.spelling tags.now value.now)) }
+    ensures fits { OnOk result (T.is_good value.now ≡ true) }
+    ensures limit { IfErr result (Refuses (T.is_good value.now)) }
+{
+    let start = begin_element(out, own(tags.value_tag(kind)))?;
+    value.write(tags, out)?;
+    end_element(out, start)?;
+    Ok(())
 }
 
 impl Writable for Parameter {
@@ -55,18 +59,18 @@ impl Writable for Parameter {
 
     ghost is_good = { is_good_lem };
 
-    fn write(&self, alloc: Global, tags: &TagTable, out: &mut Vec<u8>) -> Result<(), CodecError> {
+    fn write(&self, tags: &TagTable, out: &mut Vec<u8>) -> Result<(), CodecError> {
         match self {
-            Parameter::Bool(value) => value.write(alloc, tags, out),
-            Parameter::Int(value) => value.write(alloc, tags, out),
-            Parameter::Octets(value) => value.write(alloc, tags, out),
-            Parameter::Ref(value) => value.write(alloc, tags, out),
-            Parameter::Content(value) => value.write(alloc, tags, out),
-            Parameter::Data(value) => value.write(alloc, tags, out),
+            Parameter::Bool(value) => value.write(tags, out),
+            Parameter::Int(value) => value.write(tags, out),
+            Parameter::Octets(value) => value.write(tags, out),
+            Parameter::Ref(value) => value.write(tags, out),
+            Parameter::Content(value) => value.write(tags, out),
+            Parameter::Data(value) => value.write(tags, out),
             Parameter::Event(event) => Ok(write_natural(out, event.number())?),
-            Parameter::Receiver(variable) => variable.write(alloc, tags, out),
-            Parameter::Typed(value) => value.write(alloc, tags, out),
-            Parameter::Arguments(values) => values.write(alloc, tags, out),
+            Parameter::Receiver(variable) => variable.write(tags, out),
+            Parameter::Typed(value) => value.write(tags, out),
+            Parameter::Arguments(values) => values.write(tags, out),
         }
     }
 }
@@ -80,11 +84,11 @@ impl Writable for Action {
     ghost is_good = { is_good_lem };
 
     #[tactic(auto, unfolding(crate::specs::Spelling::action))]
-    fn write(&self, alloc: Global, tags: &TagTable, out: &mut Vec<u8>) -> Result<(), CodecError> {
-        let mut contents = Vec::new(alloc);
-        self.target.write(alloc, tags, &mut contents)?;
-        write_several(alloc, tags, &mut contents, self.parameters.as_slice())?;
-        write_element(out, own(tags.action_tag(self.name)), contents.as_slice())?;
+    fn write(&self, tags: &TagTable, out: &mut Vec<u8>) -> Result<(), CodecError> {
+        let start = begin_element(out, own(tags.action_tag(self.name)))?;
+        self.target.write(tags, out)?;
+        write_several(tags, out, self.parameters.as_slice())?;
+        end_element(out, start)?;
         Ok(())
     }
 }

@@ -5,9 +5,8 @@ use crate::tag_table::TagTable;
 use crate::writable::{PAST_LIMIT, Writable, write_several};
 use crate::writing_value::{write_integer, write_name};
 use mh_base::LONGEST_LIST;
-use mh_der::{SEQUENCE, write_element};
+use mh_der::{SEQUENCE, begin_element, end_element};
 use mh_group::{Member, NextScene, Position};
-use std::alloc::Global;
 
 impl Writable for Member {
     ghost use Rattle.mh_codec.specs.Spelling.{member as spelling_lem};
@@ -18,14 +17,14 @@ impl Writable for Member {
     ghost is_good = { is_good_lem };
 
     #[tactic(auto, unfolding(crate::specs::Spelling::member))]
-    fn write(&self, alloc: Global, tags: &TagTable, out: &mut Vec<u8>) -> Result<(), CodecError> {
+    fn write(&self, tags: &TagTable, out: &mut Vec<u8>) -> Result<(), CodecError> {
         if self.slots.len() > LONGEST_LIST {
             return Err(PAST_LIMIT);
         }
-        let mut contents = Vec::new(alloc);
-        self.object.write(alloc, tags, &mut contents)?;
-        write_several(alloc, tags, &mut contents, self.slots.as_slice())?;
-        write_element(out, SEQUENCE, contents.as_slice())?;
+        let start = begin_element(out, SEQUENCE)?;
+        self.object.write(tags, out)?;
+        write_several(tags, out, self.slots.as_slice())?;
+        end_element(out, start)?;
         Ok(())
     }
 }
@@ -39,11 +38,11 @@ impl Writable for Position {
     ghost is_good = { is_good_lem };
 
     #[tactic(auto, unfolding(crate::specs::Spelling::position))]
-    fn write(&self, alloc: Global, _tags: &TagTable, out: &mut Vec<u8>) -> Result<(), CodecError> {
-        let mut contents = Vec::new(alloc);
-        write_integer(&mut contents, self.x)?;
-        write_integer(&mut contents, self.y)?;
-        write_element(out, SEQUENCE, contents.as_slice())?;
+    fn write(&self, _tags: &TagTable, out: &mut Vec<u8>) -> Result<(), CodecError> {
+        let start = begin_element(out, SEQUENCE)?;
+        write_integer(out, self.x)?;
+        write_integer(out, self.y)?;
+        end_element(out, start)?;
         Ok(())
     }
 }
@@ -57,11 +56,11 @@ impl Writable for NextScene {
     ghost is_good = { is_good_lem };
 
     #[tactic(auto, unfolding(crate::specs::Spelling::next_scene))]
-    fn write(&self, alloc: Global, _tags: &TagTable, out: &mut Vec<u8>) -> Result<(), CodecError> {
-        let mut contents = Vec::new(alloc);
-        write_name(&mut contents, &self.name)?;
-        write_integer(&mut contents, self.weight)?;
-        write_element(out, SEQUENCE, contents.as_slice())?;
+    fn write(&self, _tags: &TagTable, out: &mut Vec<u8>) -> Result<(), CodecError> {
+        let start = begin_element(out, SEQUENCE)?;
+        write_name(out, &self.name)?;
+        write_integer(out, self.weight)?;
+        end_element(out, start)?;
         Ok(())
     }
 }

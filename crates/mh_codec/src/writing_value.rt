@@ -9,26 +9,29 @@ use crate::CodecError;
 use crate::tag_table::TagTable;
 use crate::writable::Writable;
 use mh_base::{Colour, Octets};
-use mh_der::{OCTET_STRING, SEQUENCE, Tag, TagClass, write_bool, write_element, write_int};
+use mh_der::{
+    OCTET_STRING, SEQUENCE, Tag, TagClass, begin_element, end_element, write_bool, write_element,
+    write_int,
+};
 use mh_group::{Content, EventData, Ref, WrittenName};
-use std::alloc::{AllocError, Global};
+use std::alloc::AllocError;
 
 /// Writes a name and a number as one sequence.
 #[tactic(auto, unfolding(crate::specs::Spelling::named))]
 pub(crate) fn write_named(
-    alloc: Global,
     out: &mut Vec<u8>,
     name: &WrittenName,
     number: u32,
 ) -> Result<(), AllocError>
     requires small { number < 2 ^ 31 }
     ensures written { OnOk result (out.new.items ≡ out.old.items ++ named name.now number) }
-    ensures fits { list_all is_name_byte name.now ≡ true }
+    ensures fits { OnOk result (list_all is_name_byte name.now ≡ true) }
 {
-    let mut contents = Vec::new(alloc);
-    write_name(&mut contents, name)?;
-    write_natural(&mut contents, number)?;
-    write_element(out, SEQUENCE, contents.as_slice())
+    let start = begin_element(out, SEQUENCE)?;
+    write_name(out, name)?;
+    write_natural(out, number)?;
+    end_element(out, start)?;
+    Ok(())
 }
 
 /// Writes the name of a group.
@@ -85,7 +88,7 @@ impl Writable for bool {
     ghost is_good = { is_good_lem };
 
     #[tactic(auto, unfolding(crate::specs::Spelling::boolean))]
-    fn write(&self, _alloc: Global, _tags: &TagTable, out: &mut Vec<u8>) -> Result<(), CodecError> {
+    fn write(&self, _tags: &TagTable, out: &mut Vec<u8>) -> Result<(), CodecError> {
         write_bool(out, *self)?;
         Ok(())
     }
@@ -99,7 +102,7 @@ impl Writable for i32 {
 
     ghost is_good = { is_good_lem };
 
-    fn write(&self, _alloc: Global, _tags: &TagTable, out: &mut Vec<u8>) -> Result<(), CodecError> {
+    fn write(&self, _tags: &TagTable, out: &mut Vec<u8>) -> Result<(), CodecError> {
         write_integer(out, *self)?;
         Ok(())
     }
@@ -113,7 +116,7 @@ impl Writable for Octets {
 
     ghost is_good = { is_good_lem };
 
-    fn write(&self, _alloc: Global, _tags: &TagTable, out: &mut Vec<u8>) -> Result<(), CodecError> {
+    fn write(&self, _tags: &TagTable, out: &mut Vec<u8>) -> Result<(), CodecError> {
         write_octets(out, self.as_slice())?;
         Ok(())
     }
@@ -127,7 +130,7 @@ impl Writable for Colour {
 
     ghost is_good = { λ c. is_octets_lem (colour_octets c) };
 
-    fn write(&self, _alloc: Global, _tags: &TagTable, out: &mut Vec<u8>) -> Result<(), CodecError> {
+    fn write(&self, _tags: &TagTable, out: &mut Vec<u8>) -> Result<(), CodecError> {
         let octets = [self.red, self.green, self.blue, self.transparency];
         write_octets(out, &octets)?;
         Ok(())
@@ -142,10 +145,10 @@ impl Writable for Ref {
 
     ghost is_good = { is_good_lem };
 
-    fn write(&self, alloc: Global, _tags: &TagTable, out: &mut Vec<u8>) -> Result<(), CodecError> {
+    fn write(&self, _tags: &TagTable, out: &mut Vec<u8>) -> Result<(), CodecError> {
         match self {
             Ref::Here(number) => write_natural(out, number.get())?,
-            Ref::In(name, number) => write_named(alloc, out, name, number.get())?,
+            Ref::In(name, number) => write_named(out, name, number.get())?,
         }
         Ok(())
     }
@@ -161,7 +164,7 @@ impl Writable for WrittenName {
     ghost is_good = { is_good_lem };
 
     #[tactic(auto, unfolding(crate::specs::Spelling::content_name))]
-    fn write(&self, _alloc: Global, tags: &TagTable, out: &mut Vec<u8>) -> Result<(), CodecError> {
+    fn write(&self, tags: &TagTable, out: &mut Vec<u8>) -> Result<(), CodecError> {
         write_element(out, content_tag(tags), self.as_bytes())?;
         Ok(())
     }
@@ -175,10 +178,10 @@ impl Writable for Content {
 
     ghost is_good = { is_good_lem };
 
-    fn write(&self, alloc: Global, tags: &TagTable, out: &mut Vec<u8>) -> Result<(), CodecError> {
+    fn write(&self, tags: &TagTable, out: &mut Vec<u8>) -> Result<(), CodecError> {
         match self {
-            Content::Included(octets) => octets.write(alloc, tags, out),
-            Content::Referenced(name) => name.write(alloc, tags, out),
+            Content::Included(octets) => octets.write(tags, out),
+            Content::Referenced(name) => name.write(tags, out),
         }
     }
 }
@@ -191,10 +194,10 @@ impl Writable for EventData {
 
     ghost is_good = { is_good_lem };
 
-    fn write(&self, alloc: Global, tags: &TagTable, out: &mut Vec<u8>) -> Result<(), CodecError> {
+    fn write(&self, tags: &TagTable, out: &mut Vec<u8>) -> Result<(), CodecError> {
         match self {
-            EventData::Bool(truth) => truth.write(alloc, tags, out),
-            EventData::Int(value) => value.write(alloc, tags, out),
+            EventData::Bool(truth) => truth.write(tags, out),
+            EventData::Int(value) => value.write(tags, out),
         }
     }
 }

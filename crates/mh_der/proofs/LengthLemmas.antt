@@ -31,11 +31,11 @@ pub drop_seam : (xs ys : List ℕ) → drop (length xs) (xs ++ ys) ≡ ys
 drop_seam [] ys = refl
 drop_seam (x ∷ xs) ys = drop_seam xs ys
 
-octets_short : (n : ℕ) → n < 128 → length_octets n ≡ n ∷ []
+pub octets_short : (n : ℕ) → n < 128 → length_octets n ≡ n ∷ []
 unfolding length_octets
 octets_short n h = rw (test_less n 128 h) refl
 
-octets_long : (n : ℕ) → 128 ≤ n → length_octets n ≡ (128 + length (digits_of 256 n)) ∷ digits_of 256 n
+pub octets_long : (n : ℕ) → 128 ≤ n → length_octets n ≡ (128 + length (digits_of 256 n)) ∷ digits_of 256 n
 unfolding length_octets
 octets_long n h = rw (test_above n 128 h) refl
 

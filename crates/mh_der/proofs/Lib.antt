@@ -4,3 +4,4 @@ pub mod BeginningLemmas
 pub mod LengthLemmas
 pub mod ElementLaws
 pub mod IntegerLaws
+pub mod WritingLemmas

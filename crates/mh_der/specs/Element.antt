@@ -1,6 +1,6 @@
 -- Elements as the distinguished encoding rules write them (ITU-T X.690, 8.1 and 10.1): octets that
 -- name the tag, octets that tell the length, and the contents.
-use Rattle.std.specs.Prelude.{ℕ, ◌+◌, ◌/◌, ◌%◌, ◌==◌, Bool, true, false, nat_lt, if◌then◌else◌, List, [], ◌∷◌, ◌++◌, length, map}
+use Rattle.std.specs.Prelude.{ℕ, ◌+◌, ◌/◌, ◌%◌, ◌==◌, ◌-◌, ◌||◌, Bool, true, false, nat_lt, if◌then◌else◌, List, [], ◌∷◌, ◌++◌, length, map, take, drop}
 use Rattle.std.specs.Int.Digits.{digits_of}
 use Rattle.std.specs.List.{starts_with}
 use Rattle.mh_der.specs.declared.tag.Tag.{Tag}
@@ -40,3 +40,14 @@ length_octets n =
 -- the element with this tag and these contents
 unfoldable pub element : Tag → List ℕ → List ℕ
 element t contents = identifier t ++ (length_octets (length contents) ++ contents)
+
+-- what stands in front of contents that are still to come: the identifier octets, and one octet in place of
+-- those of the length
+unfoldable pub begun : Tag → List ℕ
+begun t = identifier t ++ 0 ∷ []
+
+-- the octets where the one in front of the offset gave way to the length of all that stands from there on
+unfoldable pub ended : ℕ → List ℕ → List ℕ
+ended start octets =
+    if start == 0 || nat_lt (length octets) start then octets
+    else take (start - 1) octets ++ (length_octets (length octets - start) ++ drop start octets)

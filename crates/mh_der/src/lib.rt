@@ -19,4 +19,4 @@ pub use header::begins_with;
 pub use reader::Reader;
 pub use tag::{BOOLEAN, INTEGER, OCTET_STRING, SEQUENCE, Tag, TagClass};
 pub use value::{bool_of, int_of};
-pub use writing::{write_bool, write_element, write_int};
+pub use writing::{begin_element, end_element, write_bool, write_element, write_int};
