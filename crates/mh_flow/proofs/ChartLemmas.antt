@@ -24,18 +24,18 @@ use Rattle.mh_model.specs.Effects.{actions}
 use Rattle.mh_model.specs.Reference.{same_key, same_ref}
 use Rattle.mh_model.specs.Service.{Service, group_parts}
 use Rattle.mh_laws.specs.Describing.{says}
-use Rattle.mh_laws.specs.Flow.{refers, reads_reference}
+use Rattle.mh_laws.specs.Flow.{is_holder, refers, reads_reference}
 use Rattle.mh_group.specs.Table.{is_list_group}
 use Rattle.mh_model.specs.Property.{as_reference, value_held}
 use Rattle.mh_model.specs.Service.{fresh}
 use Rattle.mh_model.specs.Tokens.{members}
 use Rattle.mh_model.proofs.ServiceLemmas.{same_ref-same}
 use Rattle.mh_flow.proofs.SiteLemmas.{behind}
-use Rattle.mh_flow.proofs.IndexLemmas.{place_in_group, place_in_scene, position_next}
+use Rattle.mh_flow.proofs.IndexLemmas.{holder_place, holder_place_in_scene, position_next}
 use Rattle.mh_flow.specs.declared.chart.Bases.{Bases}
 use Rattle.mh_flow.specs.declared.chart.Set.{Set}
 use Rattle.mh_flow.specs.declared.chart.Set.TheVariants as set
-use Rattle.mh_flow.specs.Index.{AreNamed, Home, indexed}
+use Rattle.mh_flow.specs.Index.{AreNamed, Home, held_index, holders}
 use Rattle.mh_flow.specs.Chart.{Chart, IsChart, argument_of, based, bases_of, first_items, first_sets, first_value, firsts, handed, handed_argument, handed_by, held_of, led_from, node_at, node_from, place_in, read_by, sets_from, sets_in, sum_of, with_reference, with_references, written_reference}
 
 -- References as keys.
@@ -104,47 +104,41 @@ held_put qs p = with_more qs (firsts p) (flat_map handed (actions p))
 
 -- Sets one behind the other.
 
--- the set of an object, and those of the others
-pub held_behind : (k base : ℕ) (old : List Set) (p : Fixed) (ps : List Fixed) → base ≤ length old → (old ++ set.Held k (length old - base) ∷ []) ++ sets_in k (length (old ++ set.Held k (length old - base) ∷ []) - base) ps ≡ old ++ sets_in k (length old - base) (p ∷ ps)
-held_behind k base old p ps within =
-    behind old (set.Held k (length old - base) ∷ []) _
-    ∙ ap (λ (n : ℕ). old ++ set.Held k (length old - base) ∷ sets_in k n ps) next
-  where
-    next : length (old ++ set.Held k (length old - base) ∷ []) - base ≡ suc (length old - base)
-    next = omega (arith, within, length-append old (set.Held k (length old - base) ∷ []))
-
 sets_split : (k j : ℕ) (ps qs : List Fixed) → sets_in k j (ps ++ qs) ≡ sets_in k j ps ++ sets_in k (j + length ps) qs
 sets_split k j [] qs = ap (λ (n : ℕ). sets_in k n qs) same
   where
     same : j ≡ j + 0
     same = omega arith
-sets_split k j (p ∷ ps) qs = ap (λ (t : List Set). set.Held k j ∷ t) (sets_split k (suc j) ps qs ∙ ap (λ (n : ℕ). sets_in k (suc j) ps ++ sets_in k n qs) next)
+sets_split k j (p ∷ ps) qs = by (is_holder p.class) (sets_split k (suc j) ps qs ∙ ap (λ (n : ℕ). sets_in k (suc j) ps ++ sets_in k n qs) next)
   where
     next : suc j + length ps ≡ j + suc (length ps)
     next = omega arith
 
-sets_length : (k j : ℕ) (ps : List Fixed) → length (sets_in k j ps) ≡ length ps
+    by : (b : Bool) → sets_in k (suc j) (ps ++ qs) ≡ sets_in k (suc j) ps ++ sets_in k (j + suc (length ps)) qs → cond b (set.Held k j ∷ sets_in k (suc j) (ps ++ qs)) (sets_in k (suc j) (ps ++ qs)) ≡ cond b (set.Held k j ∷ sets_in k (suc j) ps) (sets_in k (suc j) ps) ++ sets_in k (j + suc (length ps)) qs
+    by true ih = ap (λ (t : List Set). set.Held k j ∷ t) ih
+    by false ih = ih
+
+pub sets_length : (k j : ℕ) (ps : List Fixed) → length (sets_in k j ps) ≡ length (holders ps)
 sets_length k j [] = refl
-sets_length k j (p ∷ ps) = ap suc (sets_length k (suc j) ps)
+sets_length k j (p ∷ ps) = by (is_holder p.class) (sets_length k (suc j) ps)
+  where
+    by : (b : Bool) → length (sets_in k (suc j) ps) ≡ length (holders ps) → length (cond b (set.Held k j ∷ sets_in k (suc j) ps) (sets_in k (suc j) ps)) ≡ length (cond b (p ∷ holders ps) (holders ps))
+    by true ih = ap suc ih
+    by false ih = ih
 
 -- those of the application, and those of the scene
-pub sets_joined : (k : ℕ) (old new : List Set) (ps qs : List Fixed) → new ≡ old ++ sets_in k (length old - length old) ps → new ++ sets_in k (length new - length old) qs ≡ old ++ sets_in k 0 (ps ++ qs)
-sets_joined k old new ps qs e =
-    ap (λ (t : List Set). t ++ sets_in k (length t - length old) qs) made
+pub sets_joined : (k : ℕ) (old mid new : List Set) (ps qs : List Fixed) → mid ≡ old ++ sets_in k 0 ps → new ≡ mid ++ sets_in k (length ps) qs → new ≡ old ++ sets_in k 0 (ps ++ qs)
+sets_joined k old mid new ps qs e f =
+    f
+    ∙ ap (λ (t : List Set). t ++ sets_in k (length ps) qs) e
     ∙ behind old (sets_in k 0 ps) _
     ∙ ap (λ (n : ℕ). old ++ (sets_in k 0 ps ++ sets_in k n qs)) count
     ∙ ap (λ (t : List Set). old ++ t) (sym (sets_split k 0 ps qs))
   where
-    made : new ≡ old ++ sets_in k 0 ps
-    made = e ∙ ap (λ (n : ℕ). old ++ sets_in k n ps) nothing
-      where
-        nothing : length old - length old ≡ 0
-        nothing = omega arith
+    count : length ps ≡ 0 + length ps
+    count = omega arith
 
-    count : length (old ++ sets_in k 0 ps) - length old ≡ 0 + length ps
-    count = omega (arith, length-append old (sets_in k 0 ps), sets_length k 0 ps)
-
-pub held_length : (k j : ℕ) (old new : List Set) (ps : List Fixed) → new ≡ old ++ sets_in k j ps → length new ≡ length old + length ps
+pub held_length : (k j : ℕ) (old new : List Set) (ps : List Fixed) → new ≡ old ++ sets_in k j ps → length new ≡ length old + length (holders ps)
 held_length k j old new ps e = ap length e ∙ length-append old (sets_in k j ps) ∙ ap (λ (n : ℕ). length old + n) (sets_length k j ps)
 
 led_next : (k n : ℕ) (cs : List Config) → n < length cs → led_from k (drop n cs) ≡ set.Led k ∷ led_from (suc k) (drop (suc n) cs)
@@ -224,20 +218,20 @@ none_before (b ∷ cs) c ds once = rw (config_symm c b, apart cs (IsDistinct-hea
 
 based_names : (v : Service) (n : ℕ) (cs : List Config) → map (λ e. e.0) (based v n cs) ≡ cs
 based_names v n [] = refl
-based_names v n (c ∷ cs) = ap (λ (t : List Config). c ∷ t) (based_names v (n + length (present v c)) cs)
+based_names v n (c ∷ cs) = ap (λ (t : List Config). c ∷ t) (based_names v (n + length (holders (present v c))) cs)
 
 pub numbered_once : (v : Service) (es : List (Config × Bases)) (n m : ℕ) (c : Config) (cs all : List Config) → es ++ based v n (c ∷ cs) ≡ based v m all → IsDistinct same_config all → list_any (same_config c) (map (λ e. e.0) es) ≡ false
 numbered_once v es n m c cs all e once = none_before (map (λ x. x.0) es) c cs (subst (λ (t : List Config). IsDistinct same_config t) names once)
   where
     names : all ≡ map (λ x. x.0) es ++ c ∷ cs
-    names = sym (based_names v m all) ∙ ap (map (λ x. x.0)) (sym e) ∙ map-append (λ x. x.0) es (based v n (c ∷ cs)) ∙ ap (λ (t : List Config). map (λ x. x.0) es ++ c ∷ t) (based_names v (n + length (present v c)) cs)
+    names = sym (based_names v m all) ∙ ap (map (λ x. x.0)) (sym e) ∙ map-append (λ x. x.0) es (based v n (c ∷ cs)) ∙ ap (λ (t : List Config). map (λ x. x.0) es ++ c ∷ t) (based_names v (n + length (holders (present v c))) cs)
 
 -- one configuration more
 pub numbered_next : (v : Service) (es new : List (Config × Bases)) (old sets : List Set) (c : Config) (b : Bases) (k : ℕ) (cs : List Config) → new ≡ es ++ (c, b) ∷ [] → b ≡ bases_of v (length old) c → sets ≡ old ++ sets_in k 0 (present v c) → new ++ based v (length sets) cs ≡ es ++ based v (length old) (c ∷ cs)
 numbered_next v es new old sets c b k cs e f g =
     (λ i. e i ++ based v (held_length k 0 old sets (present v c) g i) cs)
     ∙ behind es ((c, b) ∷ []) _
-    ∙ ap (λ (x : Bases). es ++ (c, x) ∷ based v (length old + length (present v c)) cs) f
+    ∙ ap (λ (x : Bases). es ++ (c, x) ∷ based v (length old + length (holders (present v c))) cs) f
 
 pub sets_next : (v : Service) (es new : List (Config × Bases)) (old sets : List Set) (c : Config) (b : Bases) (k : ℕ) (cs : List Config) → new ≡ es ++ (c, b) ∷ [] → k ≡ length es → sets ≡ old ++ sets_in k 0 (present v c) → sets ++ sets_from v (length new) cs ≡ old ++ sets_from v (length es) (c ∷ cs)
 sets_next v es new old sets c b k cs e f g =
@@ -256,11 +250,11 @@ sets_next v es new old sets c b k cs e f g =
 abbrev pub node_there : Bool → ℕ → Option Home → Option ℕ
 node_there t base h = cond t (option_and_then (λ x. sum_of base x.place) h) None
 
-pub node_is : (v : Service) (c : Config) (r : ObjRef) (b : Bases) → AreNamed v → node_from v c r b ≡ option_or (node_there (bytes_eq r.group c.app) b.application (lookup (same_ref r) (indexed v))) (node_there (same_scene c.scene (Some r.group)) b.scene (lookup (same_ref r) (indexed v)))
-node_is v c r b named = λ i. option_or (there b.application (group_parts v c.app) (bytes_eq r.group c.app) (place_in_group v r c.app named) i) (there b.scene (scene_parts v c.scene) (same_scene c.scene (Some r.group)) (place_in_scene v r c.scene named) i)
+pub node_is : (v : Service) (c : Config) (r : ObjRef) (b : Bases) → AreNamed v → node_from v c r b ≡ option_or (node_there (bytes_eq r.group c.app) b.application (lookup (same_ref r) (held_index v))) (node_there (same_scene c.scene (Some r.group)) b.scene (lookup (same_ref r) (held_index v)))
+node_is v c r b named = λ i. option_or (there b.application (group_parts v c.app) (bytes_eq r.group c.app) (holder_place v r c.app named) i) (there b.scene (scene_parts v c.scene) (same_scene c.scene (Some r.group)) (holder_place_in_scene v r c.scene named) i)
   where
-    there : (base : ℕ) (ps : List Fixed) (t : Bool) → place_in ps r ≡ cond t (option_map (λ x. x.place) (lookup (same_ref r) (indexed v))) None → node_at base ps r ≡ node_there t base (lookup (same_ref r) (indexed v))
-    there base ps t e = ap (option_and_then (sum_of base)) e ∙ by t (lookup (same_ref r) (indexed v))
+    there : (base : ℕ) (ps : List Fixed) (t : Bool) → place_in (holders ps) r ≡ cond t (option_map (λ x. x.place) (lookup (same_ref r) (held_index v))) None → node_at base ps r ≡ node_there t base (lookup (same_ref r) (held_index v))
+    there base ps t e = ap (option_and_then (sum_of base)) e ∙ by t (lookup (same_ref r) (held_index v))
       where
         by : (b : Bool) (h : Option Home) → option_and_then (sum_of base) (cond b (option_map (λ x. x.place) h) None) ≡ node_there b base h
         by true None = refl
@@ -277,7 +271,7 @@ no_node false false a b = refl
 
 configs_fewer : (v : Service) (n : ℕ) (cs : List Config) → length (based v n cs) ≡ length cs
 configs_fewer v n [] = refl
-configs_fewer v n (c ∷ cs) = ap suc (configs_fewer v (n + length (present v c)) cs)
+configs_fewer v n (c ∷ cs) = ap suc (configs_fewer v (n + length (holders (present v c))) cs)
 
 -- each configuration has a set of those to which it leads
 pub led_fits : (v : Service) (ch : Chart) (k : ℕ) (e : Config × Bases) → IsChart v ch → slice_get ch.configs k ≡ Some e → k + 1 < 2 ^ 64

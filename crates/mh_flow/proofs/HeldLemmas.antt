@@ -1,18 +1,23 @@
 -- What is held, object by object.
-use Rattle.std.proofs.Common.{◌≡◌, ℕ, zero, suc, Bool, true, false, cond, List, [], ◌∷◌, ◌++◌, map, slice_get, Option, Some, None, refl, ap, sym, ◌∙◌}
+use Rattle.std.proofs.Common.{◌≡◌, ℕ, zero, suc, Bool, true, false, cond, List, [], ◌∷◌, ◌++◌, map, slice_get, Option, Some, None, refl, ap, sym, subst, ◌∙◌}
 use Rattle.std.specs.Prelude.{option_and_then, unwrap_or}
-use Rattle.std.specs.Option.{option_map}
+use Rattle.std.specs.List.{Contains}
+use Rattle.std.specs.Option.{option_map, option_map_or}
+use Rattle.std.proofs.lemmas.List.Elements.{Contains-append_left, Contains-append_right}
 use Rattle.std.proofs.lemmas.List.{map-append}
 use Rattle.mh_base.specs.declared.obj_ref.ObjRef.{ObjRef}
 use Rattle.mh_model.specs.declared.config.Config.{Config}
 use Rattle.mh_model.specs.declared.object.Fixed.{Fixed}
-use Rattle.mh_model.specs.Configuration.{present}
+use Rattle.mh_model.specs.Configuration.{has_keys, present}
 use Rattle.mh_model.specs.Reference.{same_ref}
 use Rattle.mh_model.specs.Service.{Service, part_at}
 use Rattle.mh_model.proofs.ServiceLemmas.{same_ref-same}
+use Rattle.mh_laws.specs.Flow.{is_holder}
 use Rattle.mh_flow.specs.Chart.{place_in}
-use Rattle.mh_flow.specs.Solved.{Solved, held_by, held_in, set_of}
+use Rattle.mh_flow.specs.Index.{Home, IsPresent}
+use Rattle.mh_flow.specs.Solved.{Solved, held_by, held_in, is_holder_in, set_of}
 use Rattle.mh_flow.proofs.IndexLemmas.{position_next}
+use Rattle.mh_flow.proofs.PresentLemmas.{present_found}
 
 pub get_mapped : {X Y : Type 0} (f : X → Y) (xs : List X) (n : ℕ) → slice_get (map f xs) n ≡ option_map f (slice_get xs n)
 get_mapped f [] n = refl
@@ -45,3 +50,19 @@ held_put v f c none one two ps qs empty first second whole =
     ∙ (λ i. (first ∙ ap (λ (t : List (List ObjRef)). t ++ map (λ p. set_of v f.chart f.rows c p.key) ps) empty) i ++ map (λ p. set_of v f.chart f.rows c p.key) qs)
     ∙ sym (map-append (λ p. set_of v f.chart f.rows c p.key) ps qs)
     ∙ ap (map (λ p. set_of v f.chart f.rows c p.key)) whole
+
+-- whether one that is present is a variable or a list is said by its class
+pub part_holds : (v : Service) (c : Config) (es : List (ObjRef × Home)) (ps qs all : List Fixed) (p : Fixed) → IsPresent v c es ps qs → ps ++ qs ≡ all → has_keys v ≡ true → Contains all p → is_holder_in all p.key ≡ is_holder p.class
+part_holds v c es ps qs all p k whole keys m =
+    ap (λ (o : Option Fixed). option_map_or is_holder (option_map (λ (x : Fixed). x.class) o) false)
+    (ap (part_at p.key) (sym there) ∙ present_found v c p k.named.service keys (subst (λ (xs : List Fixed). Contains xs p) (sym there) m))
+  where
+    there : present v c ≡ all
+    there = (λ i. sym k.application i ++ sym k.scene i) ∙ whole
+
+-- what is of the application or of the scene is present
+pub in_application : (ps qs all : List Fixed) (p : Fixed) → ps ++ qs ≡ all → Contains ps p → Contains all p
+in_application ps qs all p whole m = subst (λ (xs : List Fixed). Contains xs p) whole (Contains-append_left ps qs p m)
+
+pub in_scene : (ps qs all : List Fixed) (p : Fixed) → ps ++ qs ≡ all → Contains qs p → Contains all p
+in_scene ps qs all p whole m = subst (λ (xs : List Fixed). Contains xs p) whole (Contains-append_right ps qs p m)

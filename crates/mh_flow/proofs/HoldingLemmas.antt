@@ -82,6 +82,11 @@ reference_part ps r e =
     let found = in_class ps r refers (part_at r ps) e in
     (found.0, found.1, left_holds (refers found.0.class) (is_list_group found.0.class) found.2)
 
+-- what holds a reference at first is a variable of references or a list
+first_holder : (p : Fixed) (q : ObjRef) → HoldsFirst p q → is_holder p.class ≡ true
+first_holder p q (inl (is, e)) = left_holds (refers p.class) (is_list_group p.class) is
+first_holder p q (inr (is, e)) = right_holds (refers p.class) (is_list_group p.class) is
+
 -- What holds a reference is a variable of references or a list.
 
 abbrev WhereHolder : Service → least.Fact → Type 0
@@ -254,7 +259,7 @@ start_known v ch rows is s =
 first_known : (v : Service) (ch : Chart) (rows : List (List Bool)) (c : Config) (p : Fixed) (q : ObjRef) → IsChart v ch → AreLeast v ch rows → IsReachedIn ch rows c → Contains (present v c) p → HoldsFirst p q → HeldWhere v ch rows c p.key q
 first_known v ch rows c p q is s reached among holds k b number =
     let part = present_found v c p is.service is.keys among in
-    let node = has_node v ch k c b p.key p is number.at part in
+    let node = has_node v ch k c b p.key p is number.at part (first_holder p q holds) in
     let first = first_of p q holds in
     let name = first_number v ch c p q is among first in
     let of_part : Contains (opening.held_first v ch c b p) (member node.0 name.0) = in_joined (λ (y : ObjRef). member_at (node_from v c p.key b) (member_of ch y)) (firsts p) q (member node.0 name.0) first (in_member_at (node_from v c p.key b) (member_of ch q) node.0 name.0 node.1 name.1) in
@@ -274,7 +279,7 @@ given_known v ch rows c a n y r q is s reached active says_it e comes takes read
     part = given_part (present v c) a.name r takes
 
     node : (u : ℕ) × (node_from v c r b ≡ Some u)
-    node = has_node v ch k c b r part.0 is number.at part.1
+    node = has_node v ch k c b r part.0 is number.at part.1 part.2
 
     there : (z : Argument) (x : Item) → slice_get a.arguments n ≡ Some z → reads_reference z a.name ≡ true → Contains (opening.handed_on v ch c b r z) x → IsThere rows s.edges x
     there z x at reads m = does_there v ch rows k c b a r x is s number (reached_at ch rows c k b reached number) active comes (handed_does v ch k c b a r n z x takes says_it at reads m)
@@ -306,7 +311,7 @@ filled_known : (v : Service) (ch : Chart) (rows : List (List Bool)) (c : Config)
 filled_known v ch rows c a r w q is s reached active fill comes list receives refers holds k b number =
     let held = holds k b number in
     let part = reference_part (present v c) w refers in
-    let node = has_node v ch k c b w part.0 is number.at part.1 in
+    let node = has_node v ch k c b w part.0 is number.at part.1 part.2 in
     let edge = filled_does v ch k c b a r w (item.Edge held.node node.0) fill list receives refers (in_edge_at (node_from v c r b) (node_from v c w b) held.node node.0 held.is_node node.1) in
     record {
       node = node.0;
@@ -334,7 +339,7 @@ passed_known v ch rows c d a r g p q is s reached active comes e scene among hol
     let held = holds reached.number reached.bases reached.is in
     let own : Contains (group_parts v d.app) p = subst (λ (app : List ℕ). Contains (group_parts v app) p) (same_application v c d a.name r g e scene) among in
     let part = own_found v d p is.keys own in
-    let node = has_node v ch n d f p.key p is number.at part in
+    let node = has_node v ch n d f p.key p is number.at part holder in
     let led = led_known v ch rows c d a r reached.number n reached.bases is s reached reached.is active comes e number.number in
     let holders = filter (λ (x : Fixed). is_holder x.class) (group_parts v c.app) in
     let all : Contains (flat_map (opening.taken_along v c reached.bases d f) holders) (item.Edge held.node node.0) = in_joined (opening.taken_along v c reached.bases d f) holders p (item.Edge held.node node.0) (passing (λ (x : Fixed). is_holder x.class) (group_parts v c.app) p holder among) (in_edge_at (node_from v c p.key reached.bases) (node_from v d p.key f) held.node node.0 held.is_node node.1) in

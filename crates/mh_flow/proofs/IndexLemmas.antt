@@ -1,5 +1,5 @@
 -- What is found under a reference is the object to which it leads, and where it stands in its group.
-use Rattle.std.proofs.Common.{◌≡◌, ℕ, suc, ◌+◌, ◌<◌, Bool, true, false, ◌&&◌, ◌||◌, not, cond, ◌==◌, nat_lt, List, [], ◌∷◌, ◌++◌, length, map, Option, Some, None, refl, ap, sym, ◌∙◌, subst, arith}
+use Rattle.std.proofs.Common.{◌≡◌, ℕ, suc, ◌+◌, ◌<◌, Bool, true, false, ◌&&◌, ◌||◌, not, cond, ◌==◌, nat_lt, List, [], ◌∷◌, ◌++◌, filter, length, map, Option, Some, None, refl, ap, sym, ◌∙◌, subst, arith}
 use Rattle.std.specs.List.{AllByRecursion, IsDistinct, find, list_all, position, position_or_len}
 use Rattle.std.specs.Map.{lookup}
 use Rattle.std.specs.Option.{is_some, option_map, option_or}
@@ -20,10 +20,11 @@ use Rattle.mh_model.specs.declared.object.Fixed.{Fixed}
 use Rattle.mh_model.specs.Configuration.{is_group_list, is_ingredient_of, present, same_scene, scene_parts}
 use Rattle.mh_model.specs.Reference.{same_key, same_ref}
 use Rattle.mh_model.specs.Service.{Service, group_parts, is_in, part_at}
+use Rattle.mh_laws.specs.Flow.{is_holder}
 use Rattle.mh_model.proofs.ListLemmas.{all_follow, and_left, and_right}
 use Rattle.mh_model.proofs.ServiceLemmas.{group_parts_in, of_service, same_ref-same}
 use Rattle.mh_flow.specs.Chart.{place_in}
-use Rattle.mh_flow.specs.Index.{AreNamed, Home, IsPresent, indexed, is_entered, with_groups, with_home, with_homes}
+use Rattle.mh_flow.specs.Index.{AreNamed, Home, IsPresent, held_index, holders, indexed, is_entered, with_groups, with_home, with_homes}
 
 -- An entry more.
 
@@ -120,35 +121,42 @@ no_home r g n (p ∷ ps) h other = by (same_ref r p.key) refl (no_home r g (suc 
 abbrev AreOthers : List ℕ → List (List ℕ × List Fixed) → Type 0
 AreOthers g gs = AllByRecursion (λ m. bytes_eq g m ≡ false) (map (λ e. e.0) gs)
 
-none_of_others : (r : ObjRef) (g : List ℕ) (gs : List (List ℕ × List Fixed)) → g ≡ r.group → list_all (λ e. is_group_list e.0 e.1) gs ≡ true → AreOthers g gs → first_home r gs ≡ None
+-- all have the name of their group in their references
+abbrev AreOwn : List (List ℕ × List Fixed) → Bool
+AreOwn gs = list_all (λ e. list_all (is_in e.0) e.1) gs
+
+own_parts : (gs : List (List ℕ × List Fixed)) → list_all (λ e. is_group_list e.0 e.1) gs ≡ true → AreOwn gs ≡ true
+own_parts gs h = all_follow (λ (e : List ℕ × List Fixed). is_group_list e.0 e.1) (λ (e : List ℕ × List Fixed). list_all (is_in e.0) e.1) (λ e is. own_part e.0 e.1 is) gs h
+
+none_of_others : (r : ObjRef) (g : List ℕ) (gs : List (List ℕ × List Fixed)) → g ≡ r.group → AreOwn gs ≡ true → AreOthers g gs → first_home r gs ≡ None
 none_of_others r g [] same h other = refl
 none_of_others r g (e ∷ gs) same h other =
-    let own = own_part e.0 e.1 (and_left (is_group_list e.0 e.1) _ h) in
+    let own = and_left (list_all (is_in e.0) e.1) (AreOwn gs) h in
     let apart : bytes_eq e.0 r.group ≡ false = subst (λ (m : List ℕ). bytes_eq e.0 m ≡ false) same (turned g e.0 other.0) in
     ap (λ (o : Option Home). option_or o (first_home r gs)) (no_home r e.0 0 e.1 own apart)
-    ∙ none_of_others r g gs same (and_right (is_group_list e.0 e.1) _ h) other.1
+    ∙ none_of_others r g gs same (and_right (list_all (is_in e.0) e.1) (AreOwn gs) h) other.1
   where
     turned : (a b : List ℕ) → bytes_eq a b ≡ false → bytes_eq b a ≡ false
     turned a b h = nat_list_eq_equiv.symm b a ∙ h
 
-first_of_own : (r : ObjRef) (gs : List (List ℕ × List Fixed)) → list_all (λ e. is_group_list e.0 e.1) gs ≡ true → IsDistinct bytes_eq (map (λ e. e.0) gs) → first_home r gs ≡ home_in r 0 (unwrap_or (option_map (λ e. e.1) (find (λ e. bytes_eq e.0 r.group) gs)) [])
+first_of_own : (r : ObjRef) (gs : List (List ℕ × List Fixed)) → AreOwn gs ≡ true → IsDistinct bytes_eq (map (λ e. e.0) gs) → first_home r gs ≡ home_in r 0 (unwrap_or (option_map (λ e. e.1) (find (λ e. bytes_eq e.0 r.group) gs)) [])
 first_of_own r [] h once = refl
-first_of_own r (g ∷ gs) h once = by (bytes_eq g.0 r.group) refl (first_of_own r gs (and_right (is_group_list g.0 g.1) _ h) (IsDistinct-tail bytes_eq g.0 (map (λ x. x.0) gs) once))
+first_of_own r (g ∷ gs) h once = by (bytes_eq g.0 r.group) refl (first_of_own r gs behind (IsDistinct-tail bytes_eq g.0 (map (λ x. x.0) gs) once))
   where
-    behind : list_all (λ e. is_group_list e.0 e.1) gs ≡ true
-    behind = and_right (is_group_list g.0 g.1) _ h
+    behind : AreOwn gs ≡ true
+    behind = and_right (list_all (is_in g.0) g.1) (AreOwn gs) h
 
     by : (b : Bool) → bytes_eq g.0 r.group ≡ b → first_home r gs ≡ home_in r 0 (unwrap_or (option_map (λ e. e.1) (find (λ e. bytes_eq e.0 r.group) gs)) []) → option_or (home_in r 0 g.1) (first_home r gs) ≡ home_in r 0 (unwrap_or (option_map (λ e. e.1) (cond b (Some g) (find (λ e. bytes_eq e.0 r.group) gs))) [])
     by true e ih =
         ap (λ (o : Option Home). option_or (home_in r 0 g.1) o) (none_of_others r g.0 gs ((bytes_eq-Decides g.0 r.group).0 e) behind (IsDistinct-head bytes_eq g.0 (map (λ x. x.0) gs) once))
         ∙ sym (none_behind (home_in r 0 g.1))
     by false e ih =
-        ap (λ (o : Option Home). option_or o (first_home r gs)) (no_home r g.0 0 g.1 (own_part g.0 g.1 (and_left (is_group_list g.0 g.1) _ h)) e)
+        ap (λ (o : Option Home). option_or o (first_home r gs)) (no_home r g.0 0 g.1 (and_left (list_all (is_in g.0) g.1) (AreOwn gs) h) e)
         ∙ ih
 
 -- the home of an object is its place in the group of its name
 pub found_home : (v : Service) (r : ObjRef) → AreNamed v → lookup (same_ref r) (indexed v) ≡ home_in r 0 (group_parts v r.group)
-found_home v r named = lookup_groups r [] v.groups ∙ first_of_own r v.groups (of_service v named.service).lists named.once
+found_home v r named = lookup_groups r [] v.groups ∙ first_of_own r v.groups (own_parts v.groups (of_service v named.service).lists) named.once
 
 -- The object, and its place.
 
@@ -246,6 +254,71 @@ place_in_group v r g named =
 pub place_in_scene : (v : Service) (r : ObjRef) (g : Option (List ℕ)) → AreNamed v → place_in (scene_parts v g) r ≡ cond (same_scene g (Some r.group)) (option_map (λ h. h.place) (lookup (same_ref r) (indexed v))) None
 place_in_scene v r None named = refl
 place_in_scene v r (Some g) named = place_in_group v r g named ∙ ap (λ (b : Bool). cond b (option_map (λ h. h.place) (lookup (same_ref r) (indexed v))) None) (nat_list_eq_equiv.symm r.group g)
+
+-- Those that have a set.
+
+-- groups with these alone
+abbrev of_holders : List (List ℕ × List Fixed) → List (List ℕ × List Fixed)
+of_holders gs = map (λ e. (e.0, holders e.1)) gs
+
+holders_lists : (gs : List (List ℕ × List Fixed)) → map (λ e. holders e.1) gs ≡ map (λ e. e.1) (of_holders gs)
+holders_lists [] = refl
+holders_lists (g ∷ gs) = ap (λ (t : List (List Fixed)). holders g.1 ∷ t) (holders_lists gs)
+
+holders_names : (gs : List (List ℕ × List Fixed)) → map (λ e. e.0) gs ≡ map (λ e. e.0) (of_holders gs)
+holders_names [] = refl
+holders_names (g ∷ gs) = ap (λ (t : List (List ℕ)). g.0 ∷ t) (holders_names gs)
+
+kept_all : (p q : Fixed → Bool) (ps : List Fixed) → list_all p ps ≡ true → list_all p (filter q ps) ≡ true
+kept_all p q [] h = refl
+kept_all p q (x ∷ ps) h = by (q x) (kept_all p q ps (and_right (p x) (list_all p ps) h))
+  where
+    by : (b : Bool) → list_all p (filter q ps) ≡ true → list_all p (cond b (x ∷ filter q ps) (filter q ps)) ≡ true
+    by true ih = rw (and_left (p x) (list_all p ps) h, ih) refl
+    by false ih = ih
+
+holders_own : (gs : List (List ℕ × List Fixed)) → AreOwn gs ≡ true → AreOwn (of_holders gs) ≡ true
+holders_own [] h = refl
+holders_own (g ∷ gs) h = rw (kept_all (is_in g.0) (λ p. is_holder p.class) g.1 (and_left (list_all (is_in g.0) g.1) (AreOwn gs) h), holders_own gs (and_right (list_all (is_in g.0) g.1) (AreOwn gs) h)) refl
+
+holders_found : (g : List ℕ) (gs : List (List ℕ × List Fixed)) → unwrap_or (option_map (λ e. e.1) (find (λ e. bytes_eq e.0 g) (of_holders gs))) [] ≡ holders (unwrap_or (option_map (λ e. e.1) (find (λ e. bytes_eq e.0 g) gs)) [])
+holders_found g [] = refl
+holders_found g (e ∷ gs) = by (bytes_eq e.0 g) (holders_found g gs)
+  where
+    by : (b : Bool) → unwrap_or (option_map (λ x. x.1) (find (λ x. bytes_eq x.0 g) (of_holders gs))) [] ≡ holders (unwrap_or (option_map (λ x. x.1) (find (λ x. bytes_eq x.0 g) gs)) []) → unwrap_or (option_map (λ x. x.1) (cond b (Some (e.0, holders e.1)) (find (λ x. bytes_eq x.0 g) (of_holders gs)))) [] ≡ holders (unwrap_or (option_map (λ x. x.1) (cond b (Some e) (find (λ x. bytes_eq x.0 g) gs))) [])
+    by true ih = refl
+    by false ih = ih
+
+-- those of each group, taken apart first
+pub holders_mapped : (gs : List (List ℕ × List Fixed)) → map holders (map (λ e. e.1) gs) ≡ map (λ e. holders e.1) gs
+holders_mapped [] = refl
+holders_mapped (g ∷ gs) = ap (λ (t : List (List Fixed)). holders g.1 ∷ t) (holders_mapped gs)
+
+found_holder : (v : Service) (r : ObjRef) → AreNamed v → lookup (same_ref r) (held_index v) ≡ home_in r 0 (holders (group_parts v r.group))
+found_holder v r named =
+    ap (λ (t : List (List Fixed)). lookup (same_ref r) (with_groups [] t)) (holders_lists v.groups)
+    ∙ lookup_groups r [] (of_holders v.groups)
+    ∙ first_of_own r (of_holders v.groups) (holders_own v.groups (own_parts v.groups (of_service v named.service).lists)) (subst (λ (t : List (List ℕ)). IsDistinct bytes_eq t) (holders_names v.groups) named.once)
+    ∙ ap (home_in r 0) (holders_found r.group v.groups)
+
+holder_in_group : (v : Service) (r : ObjRef) (g : List ℕ) → AreNamed v → home_in r 0 (holders (group_parts v g)) ≡ cond (bytes_eq r.group g) (lookup (same_ref r) (held_index v)) None
+holder_in_group v r g named = by (bytes_eq r.group g) refl
+  where
+    by : (b : Bool) → bytes_eq r.group g ≡ b → home_in r 0 (holders (group_parts v g)) ≡ cond b (lookup (same_ref r) (held_index v)) None
+    by true e = ap (λ (m : List ℕ). home_in r 0 (holders (group_parts v m))) (sym ((bytes_eq-Decides r.group g).0 e)) ∙ sym (found_holder v r named)
+    by false e = no_home r g 0 (holders (group_parts v g)) (kept_all (is_in g) (λ p. is_holder p.class) (group_parts v g) (group_parts_in v g named.service)) (nat_list_eq_equiv.symm g r.group ∙ e)
+
+pub holder_place : (v : Service) (r : ObjRef) (g : List ℕ) → AreNamed v → place_in (holders (group_parts v g)) r ≡ cond (bytes_eq r.group g) (option_map (λ h. h.place) (lookup (same_ref r) (held_index v))) None
+holder_place v r g named =
+    sym (place_of_home r (holders (group_parts v g))) ∙ ap (option_map (λ h. h.place)) (holder_in_group v r g named) ∙ by (bytes_eq r.group g)
+  where
+    by : (b : Bool) → option_map (λ h. h.place) (cond b (lookup (same_ref r) (held_index v)) None) ≡ cond b (option_map (λ h. h.place) (lookup (same_ref r) (held_index v))) None
+    by true = refl
+    by false = refl
+
+pub holder_place_in_scene : (v : Service) (r : ObjRef) (g : Option (List ℕ)) → AreNamed v → place_in (holders (scene_parts v g)) r ≡ cond (same_scene g (Some r.group)) (option_map (λ h. h.place) (lookup (same_ref r) (held_index v))) None
+holder_place_in_scene v r None named = refl
+holder_place_in_scene v r (Some g) named = holder_place v r g named ∙ ap (λ (b : Bool). cond b (option_map (λ h. h.place) (lookup (same_ref r) (held_index v))) None) (nat_list_eq_equiv.symm r.group g)
 
 -- The place among those that are present.
 

@@ -1,13 +1,11 @@
 -- An object is where it is likely to be: what stands at a place under the number of a reference is the one to which it leads.
-use Rattle.std.specs.Prelude.{◌≡◌, ℕ, zero, suc, ◌+◌, ◌^◌, ◌<◌, ◌==◌, Bool, true, false, not, cond, List, [], ◌∷◌, ◌++◌, length, slice_get, Option, Some, None, option_and_then, refl}
+use Rattle.std.specs.Prelude.{◌≡◌, ℕ, zero, suc, ◌+◌, ◌==◌, Bool, true, false, not, cond, List, [], ◌∷◌, ◌++◌, length, slice_get, Option, Some, None, option_and_then, refl}
 use Rattle.std.specs.List.{find, list_all}
 use Rattle.std.specs.Map.{lookup}
 use Rattle.std.specs.Option.{option_map, option_map_or}
 use Rattle.std.specs.Str.{bytes_eq}
 use Rattle.std.specs.Cmp.Lexicographic.{nat_list_eq_equiv}
 use Rattle.std.proofs.Common.{ap, ◌∙◌, sym, subst, arith}
-use Rattle.std.proofs.lemmas.Bool.{lt-ltb}
-use Rattle.std.proofs.lemmas.Option.{slice_get_within}
 use Rattle.std.proofs.lemmas.Slice.Eq.{bytes_eq-Decides}
 use Rattle.mh_base.specs.declared.obj_ref.ObjRef.{ObjRef}
 use Rattle.mh_model.specs.declared.config.Config.{Config}
@@ -17,14 +15,11 @@ use Rattle.mh_model.specs.Reference.{same_ref}
 use Rattle.mh_model.specs.Service.{Service, group_parts, is_in, part_at}
 use Rattle.mh_model.proofs.ListLemmas.{some_same}
 use Rattle.mh_model.proofs.ServiceLemmas.{group_parts_in, same_ref-same}
-use Rattle.mh_flow.specs.declared.chart.Bases.{Bases}
-use Rattle.mh_flow.specs.declared.chart.Set.TheVariants as set
-use Rattle.mh_flow.specs.Chart.{Chart, IsChart, node_from, place_in, sum_of}
+use Rattle.mh_flow.specs.Chart.{place_in}
 use Rattle.mh_flow.specs.Index.{AreNamed, Home, IsPresent, indexed}
 use Rattle.mh_flow.specs.Likely.{has_number}
 use Rattle.mh_flow.proofs.ContainsLemmas.{all_of, both, halves}
 use Rattle.mh_flow.proofs.IndexLemmas.{place_given, place_in_group, position_next, standing}
-use Rattle.mh_flow.proofs.NumberLemmas.{IsAt, is_set_of, node_sum, place_of_key}
 use Rattle.mh_flow.proofs.PlaceLemmas.{any_member, get_member, place, placed, position_place}
 use Rattle.mh_flow.proofs.PresentLemmas.{group_apart, same_itself}
 
@@ -134,26 +129,3 @@ at_place_found ps r o e = by o (sym (position_place (λ p. same_ref r p.key) ps)
     by : (m : Option ℕ) → place (λ (p : Fixed). same_ref r p.key) ps ≡ m → option_and_then (slice_get ps) m ≡ part_at r ps
     by None is = none_found (λ (p : Fixed). same_ref r p.key) ps is
     by (Some i) is = let one = placed (λ (p : Fixed). same_ref r p.key) ps i is in one.at ∙ sym one.found
-
--- The number of a set, by the place of its object.
-
-fitting : (a b : ℕ) → a + b < 2 ^ 64 → sum_of a b ≡ Some (a + b)
-fitting a b less = ap (λ (t : Bool). cond t (Some (a + b)) None) (lt-ltb (a + b) (2 ^ 64) less)
-
-pub node_placed : (v : Service) (ch : Chart) (k : ℕ) (c : Config) (b : Bases) (ps : List Fixed) (r : ObjRef) → IsChart v ch → IsAt ch k c b → ps ≡ present v c → option_and_then (sum_of b.application) (place_in ps r) ≡ node_from v c r b
-node_placed v ch k c b ps r is at whole =
-    ap (λ (qs : List Fixed). option_and_then (sum_of b.application) (place_in qs r)) whole
-    ∙ ap (option_and_then (sum_of b.application)) (position_place (λ (p : Fixed). same_ref r p.key) (present v c))
-    ∙ by (place_of_key v c r) refl
-    ∙ sym (node_sum v ch k c b r is at)
-  where
-    fits : (j : ℕ) → place_of_key v c r ≡ Some j → b.application + j < 2 ^ 64
-    fits j e =
-        let found = placed (λ (p : Fixed). same_ref r p.key) (present v c) j e in
-        let within : b.application + j < length ch.sets = slice_get_within ch.sets (b.application + j) (set.Held k j) ((is_set_of v ch k c b is at).at j found.member found.at) in
-        let all : length ch.sets < 2 ^ 64 = is.fits in
-        omega (arith, within, all)
-
-    by : (o : Option ℕ) → place_of_key v c r ≡ o → option_and_then (sum_of b.application) o ≡ option_map (λ (j : ℕ). b.application + j) o
-    by None e = refl
-    by (Some j) e = fitting b.application j (fits j e)

@@ -1,5 +1,6 @@
 -- What is put behind what is there.
-use Rattle.std.proofs.Common.{◌≡◌, ℕ, Bool, true, false, ◌&&◌, List, [], ◌∷◌, ◌++◌, Option, Some, None, refl, ap, sym, ◌∙◌, append-nil}
+use Rattle.std.proofs.Common.{◌≡◌, ℕ, Bool, true, false, ◌&&◌, ◌||◌, List, [], ◌∷◌, ◌++◌, map, Option, Some, None, refl, ap, sym, ◌∙◌, append-nil}
+use Rattle.std.specs.Prelude.{if◌then◌else◌}
 use Rattle.std.specs.List.{cons_option, filter_map, flat_map, list_any}
 use Rattle.std.specs.Option.{option_to_list}
 use Rattle.std.proofs.lemmas.List.Concat.{flat_map-append}
@@ -9,12 +10,15 @@ use Rattle.mh_model.specs.declared.config.Config.{Config}
 use Rattle.mh_model.specs.declared.object.Fixed.{Fixed}
 use Rattle.mh_model.specs.Configuration.{present}
 use Rattle.mh_model.specs.Reference.{same_ref}
-use Rattle.mh_model.specs.Service.{Service}
+use Rattle.mh_model.specs.Property.{as_reference, value_held}
+use Rattle.mh_model.specs.Service.{Service, fresh}
+use Rattle.mh_model.specs.Tokens.{members}
+use Rattle.mh_group.specs.Table.{is_list_group}
 use Rattle.mh_laws.specs.Active.{active_actions}
-use Rattle.mh_laws.specs.Flow.{is_reference_in}
+use Rattle.mh_laws.specs.Flow.{is_holder, is_reference_in, refers}
 use Rattle.mh_flow.specs.declared.chart.Bases.{Bases}
-use Rattle.mh_flow.specs.Chart.{Chart, IsChart}
-use Rattle.mh_flow.specs.Opening.{by_variable, does_through}
+use Rattle.mh_flow.specs.Chart.{Chart, IsChart, member_of, node_from}
+use Rattle.mh_flow.specs.Opening.{by_variable, does_through, held_first, member_at}
 use Rattle.mh_flow.specs.Sites.{Site, sites_of}
 use Rattle.mh_flow.proofs.BridgeLemmas.{untargeted_opens_nothing}
 use Rattle.mh_flow.proofs.SiteLemmas.{behind, through_active}
@@ -57,3 +61,12 @@ walked v ch k c b w r xs h sites =
     by : (t : Bool) → (t && is_reference_in (present v c) w) ≡ true → flat_map (λ (a : Act). does_through v ch k c b w r a a.target) (active_actions (present v c)) ≡ by_variable v ch k c b w (Some r)
     by true h = rw h refl
     by false h = cc
+
+-- what is no variable of references and no list holds nothing at first
+pub nothing_first : (v : Service) (ch : Chart) (c : Config) (b : Bases) (p : Fixed) → is_holder p.class ≡ false → [] ≡ held_first v ch c b p
+nothing_first v ch c b p e = by (refers p.class) (is_list_group p.class) e
+  where
+    by : (x y : Bool) → (x || y) ≡ false → [] ≡ flat_map (λ q. member_at (node_from v c p.key b) (member_of ch q)) ((if x then option_to_list (as_reference (value_held p (fresh p).body)) else []) ++ (if y then map (λ m. m.object) (members p) else []))
+    by false false e = refl
+    by true y e = cc
+    by false true e = cc

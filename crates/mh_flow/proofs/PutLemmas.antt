@@ -1,8 +1,8 @@
 -- Putting one by one.
-use Rattle.std.specs.Prelude.{◌≡◌, ◌⊎◌, ℕ, ◌+◌, ◌<◌, true, List, [], ◌∷◌, length, take, slice_index_or}
-use Rattle.std.specs.List.{Contains}
-use Rattle.std.proofs.Common.{inl, inr, sym, subst}
-use Rattle.std.proofs.lemmas.List.{take_more}
+use Rattle.std.specs.Prelude.{◌≡◌, ◌⊎◌, ℕ, ◌+◌, ◌<◌, true, List, [], ◌∷◌, ◌++◌, length, take, drop, slice_index_or}
+use Rattle.std.specs.List.{Contains, flat_map}
+use Rattle.std.proofs.Common.{inl, inr, ap, sym, subst, ◌∙◌}
+use Rattle.std.proofs.lemmas.List.{append_assoc, at_drop_more, take_more}
 use Rattle.std.proofs.lemmas.List.Elements.{Contains-append_cases}
 use Rattle.mh_flow.specs.declared.net.Fact.{Fact}
 use Rattle.mh_flow.specs.declared.net.Item.{Item}
@@ -52,3 +52,11 @@ derived_fits net k x (begun y h) = k.starts y h
 derived_fits net k x (opened f y d h) = k.opened f y h
 derived_fits net k x (along u v q e d) =
     ((derived_fits net k (item.Edge u v) e).1, (derived_fits net k (item.Member (record { node = u; member = q })) d).1)
+
+-- what one more of a list puts behind what the ones before it did
+pub one_put : {X A : Type 0} (f : X → List A) (xs : List X) (i : ℕ) (x : X) (all before now : List A) → i < length xs → x ≡ slice_index_or xs i x → now ≡ before ++ f x → before ++ flat_map f (drop i xs) ≡ all
+    → now ++ flat_map f (drop (i + 1) xs) ≡ all
+one_put {X} {A} f xs i x all before now within is put so =
+    ap (λ (t : List A). t ++ flat_map f (drop (i + 1) xs)) put ∙ append_assoc before (f x) (flat_map f (drop (i + 1) xs))
+    ∙ ap (λ (y : X). before ++ (f y ++ flat_map f (drop (i + 1) xs))) is
+    ∙ sym (at_drop_more (λ (ys : List X). before ++ flat_map f ys) xs i x within) ∙ so

@@ -1,6 +1,6 @@
 -- The numbers of a service: of its configurations, of the references that its variables and lists may hold, and of the sets.
 -- The configurations that are reached are the members of one set, those to which a configuration leads of another; and
--- each object has a set in each configuration in which it is present, which stays empty where it holds nothing.
+-- each variable of references and each list has a set in each configuration in which it is present.
 use Rattle.std.specs.Prelude.{false, Bool, ◌≡◌, ◌<◌, true, slice_get, ℕ, suc, ◌+◌, ◌^◌, nat_lt, if◌then◌else◌, List, [], ◌∷◌, ◌++◌, length, map, position, Option, Some, None, option_and_then}
 use Rattle.std.specs.List.{IsDistinct, flat_map, list_any}
 use Rattle.std.specs.Map.{lookup}
@@ -25,15 +25,15 @@ use Rattle.mh_model.specs.Reference.{same_ref}
 use Rattle.mh_model.specs.Service.{Service, fresh, group_parts}
 use Rattle.mh_model.specs.Tokens.{members}
 use Rattle.mh_laws.specs.Describing.{Hands, Says, says}
-use Rattle.mh_laws.specs.Flow.{refers, reads_reference}
+use Rattle.mh_laws.specs.Flow.{is_holder, refers, reads_reference}
 use Rattle.mh_laws.specs.Least.{are_ascending}
-use Rattle.mh_flow.specs.Index.{AreNamed, Home, indexed}
+use Rattle.mh_flow.specs.Index.{AreNamed, Home, held_index, holders, indexed}
 use Rattle.mh_flow.specs.declared.chart.Bases.{Bases}
 use Rattle.mh_flow.specs.declared.chart.Set.{Set}
 use Rattle.mh_flow.specs.declared.chart.Set.TheVariants as set
 
 pub record Chart : Type 0 where
-  -- each configuration, with the numbers of the sets of the first object of its application and of its scene
+  -- each configuration, with the numbers of the first sets of its application and of its scene
   pub configs : List (Config × Bases)
   -- the references that may be held
   pub members : List ObjRef
@@ -43,6 +43,8 @@ pub record Chart : Type 0 where
   pub sets : List Set
   -- the objects of the service under their references
   pub index : List (ObjRef × Home)
+  -- those that have a set
+  pub holders : List (ObjRef × Home)
 
 -- References that may be held
 
@@ -132,7 +134,7 @@ all_targeted v = flat_map targeted_of (all_parts v)
 -- those of the objects of a configuration, by its number and their places
 abbrev pub sets_in : ℕ → ℕ → List Fixed → List Set
 sets_in k j [] = []
-sets_in k j (p ∷ ps) = set.Held k j ∷ sets_in k (suc j) ps
+sets_in k j (p ∷ ps) = if is_holder p.class then set.Held k j ∷ sets_in k (suc j) ps else sets_in k (suc j) ps
 
 -- of all configurations, from this number on
 abbrev pub sets_from : Service → ℕ → List Config → List Set
@@ -149,12 +151,12 @@ first_sets cs = set.Reached ∷ led_from 0 cs
 
 -- the numbers of the sets of a configuration, from this number on
 abbrev pub bases_of : Service → ℕ → Config → Bases
-bases_of v n c = record { application = n; scene = n + length (group_parts v c.app) }
+bases_of v n c = record { application = n; scene = n + length (holders (group_parts v c.app)) }
 
 -- the configurations with the numbers of their sets, from this number on
 abbrev pub based : Service → ℕ → List Config → List (Config × Bases)
 based v n [] = []
-based v n (c ∷ cs) = (c, bases_of v n c) ∷ based v (n + length (present v c)) cs
+based v n (c ∷ cs) = (c, bases_of v n c) ∷ based v (n + length (holders (present v c))) cs
 
 abbrev pub all_sets : Service → List Set
 all_sets v = first_sets (configurations v) ++ sets_from v 0 (configurations v)
@@ -163,6 +165,7 @@ all_sets v = first_sets (configurations v) ++ sets_from v 0 (configurations v)
 pub record IsChart (v : Service) (ch : Chart) : Type 0 where
   pub service : is_service v ≡ true
   pub index : ch.index ≡ indexed v
+  pub holders : ch.holders ≡ held_index v
   pub configs : ch.configs ≡ based v (suc (length (configurations v))) (configurations v)
   pub sets : ch.sets ≡ all_sets v
   pub members : (q : ObjRef) → list_any (same_ref q) ch.members ≡ list_any (same_ref q) (all_held v)
@@ -187,11 +190,11 @@ sum_of a b = if nat_lt (a + b) (2 ^ 64) then Some (a + b) else None
 abbrev pub place_in : List Fixed → ObjRef → Option ℕ
 place_in ps r = position (λ p. same_ref r p.key) ps
 
--- behind this number, which is that of the first
+-- the number of an object's set, where this is that of the first among these, if it has one
 abbrev pub node_at : ℕ → List Fixed → ObjRef → Option ℕ
-node_at b ps r = option_and_then (sum_of b) (place_in ps r)
+node_at b ps r = option_and_then (sum_of b) (place_in (holders ps) r)
 
--- the number of an object's set in a configuration, if it is present there
+-- the number of an object's set in a configuration, if it has one there
 abbrev pub node_from : Service → Config → ObjRef → Bases → Option ℕ
 node_from v c r b = option_or (node_at b.application (group_parts v c.app) r) (node_at b.scene (scene_parts v c.scene) r)
 

@@ -1,5 +1,5 @@
 -- The objects of a service under their references, each with its place in its group.
-use Rattle.std.specs.Prelude.{◌≡◌, ℕ, suc, Bool, true, ◌||◌, if◌then◌else◌, List, [], ◌∷◌, ◌++◌, map, Some}
+use Rattle.std.specs.Prelude.{◌≡◌, ℕ, suc, Bool, true, ◌||◌, if◌then◌else◌, List, [], ◌∷◌, ◌++◌, filter, map, Some}
 use Rattle.std.specs.List.{IsDistinct}
 use Rattle.std.specs.Map.{lookup}
 use Rattle.std.specs.Option.{is_some}
@@ -10,6 +10,7 @@ use Rattle.mh_model.specs.declared.object.Fixed.{Fixed}
 use Rattle.mh_model.specs.Reference.{same_ref}
 use Rattle.mh_model.specs.Configuration.{is_service, same_scene, scene_parts}
 use Rattle.mh_model.specs.Service.{Service, group_parts}
+use Rattle.mh_laws.specs.Flow.{is_holder}
 
 -- what is said of an object, and how many stand before it in its group
 pub record Home : Type 0 where
@@ -31,6 +32,14 @@ with_groups es (ps ∷ groups) = with_groups (with_homes es 0 ps) groups
 
 abbrev pub indexed : Service → List (ObjRef × Home)
 indexed v = with_groups [] (map (λ e. e.1) v.groups)
+
+-- those that have a set: variables of references, and lists
+abbrev pub holders : List Fixed → List Fixed
+holders ps = filter (λ p. is_holder p.class) ps
+
+-- they alone, each with its place among those of its group
+abbrev pub held_index : Service → List (ObjRef × Home)
+held_index v = with_groups [] (map (λ e. holders e.1) v.groups)
 
 -- whether the group is the application or the scene
 abbrev pub is_entered : Config → List ℕ → Bool

@@ -14,7 +14,6 @@ use Rattle.mh_model.specs.declared.config.Config.{Config}
 use Rattle.mh_model.specs.declared.object.Fixed.{Fixed}
 use Rattle.mh_model.specs.Arguments.{receivers}
 use Rattle.mh_model.specs.Configuration.{present}
-use Rattle.mh_model.specs.Known.{Known}
 use Rattle.mh_model.specs.Reference.{same_ref}
 use Rattle.mh_model.specs.Service.{Service, group_parts}
 use Rattle.mh_laws.specs.Active.{leads_to}
@@ -25,6 +24,7 @@ use Rattle.mh_flow.specs.declared.moves.Spot.{Spot}
 use Rattle.mh_flow.specs.declared.moves.Move.{Move}
 use Rattle.mh_flow.specs.Chart.{firsts, handed_argument}
 use Rattle.mh_flow.specs.Sites.{Site, sites_of}
+use Rattle.mh_flow.specs.Solved.{held_by}
 
 abbrev pub place : Config → ObjRef → Place
 place c r = record { config = c; at = r }
@@ -58,9 +58,16 @@ pub record Ground : Type 0 where
   pub sets : Sets
   pub sought : List ObjRef
 
--- with what is known there
-abbrev pub ground_of : Service → Config → List Fixed → Known → List ObjRef → Ground
-ground_of v c ps k qs = record { service = v; config = c; present = ps; sets = k.refers; sought = qs }
+-- the same with a list for each that is present
+pub record HeldGround : Type 0 where
+  pub service : Service
+  pub config : Config
+  pub present : List Fixed
+  pub held : List (List ObjRef)
+  pub sought : List ObjRef
+
+abbrev pub ground_of : HeldGround → Ground
+ground_of h = record { service = h.service; config = h.config; present = h.present; sets = held_by h.present h.held; sought = h.sought }
 
 -- a place there
 abbrev pub there : Ground → ObjRef → Place

@@ -9,12 +9,11 @@ ghost use Rattle.mh_flow.specs.Steps.{ground, moves_in, moves_of};
 
 use crate::equipped::Equipped;
 use crate::flow::Flow;
-use crate::known::KnownWith;
+use crate::ground::{Ground, place};
 use crate::link::Link;
 use crate::moves::Move;
 use crate::search::first_links;
 use crate::sought::alone;
-use crate::steps::{Ground, place};
 use indexmap::IndexSet;
 use mh_base::ObjRef;
 use mh_model::Config;
@@ -35,16 +34,11 @@ fn push_config<'a>(
 {
     let present = flow.present(service, config);
     let held = flow.held(alloc, service, config)?;
-    let known = KnownWith {
-        service,
-        present: &present,
-        held: &held,
-    };
     let here = Ground {
         service,
         config,
         present: &present,
-        known: &known,
+        held: &held,
         sought,
     };
     here.push_moves(alloc, moves)?;

@@ -3,16 +3,17 @@
 //! Promise: the numbers are those of the definitions.
 ghost use Rattle.std.specs.Prelude.{◌≡◌, None, if◌then◌else◌, length, IfOk, slice_get};
 ghost use Rattle.std.specs.List.{list_any};
+ghost use Rattle.std.specs.Map.{lookup};
 ghost use Rattle.std.specs.Option.{option_copied, option_map, option_or};
 ghost use Rattle.mh_model.specs.Configuration.{present};
 ghost use Rattle.mh_model.specs.Reference.{same_ref};
 ghost use Rattle.mh_flow.specs.Chart as spec;
 ghost use Rattle.mh_flow.specs.Chart.{IsChart};
-ghost use Rattle.mh_flow.specs.Index.{AreNamed, indexed};
+ghost use Rattle.mh_flow.specs.Index.{AreNamed, held_index, indexed};
 ghost use Rattle.mh_flow.specs.Solved.{is_reached, reached_configs};
 
 use crate::equipped::Equipped;
-use crate::index::{Index, home_of, index_of};
+use crate::index::{Home, Index, holders_of, home_of, index_of};
 use crate::numbering::{first_sets, numbered};
 use crate::present::{Present, is_scene};
 use crate::references::{put_in_order, put_service};
@@ -34,6 +35,7 @@ impl Model for Chart {
       targeted = c.targeted.keys;
       sets = c.sets.items;
       index = c.index.entries;
+      holders = c.holders.entries;
     } };
 }
 
@@ -49,7 +51,7 @@ pub(crate) enum Set {
     Held(usize, usize),
 }
 
-/// The number of the set of the first object of the application, and that of the first of the scene.
+/// The numbers of the first sets: of the variables and lists of the application, and of those of the scene.
 #[derive(Clone, Copy)]
 pub(crate) struct Bases {
     pub application: usize,
@@ -68,6 +70,8 @@ pub(crate) struct Chart {
     sets: Vec<Set>,
     /// The objects of the service.
     index: Index,
+    /// Those of them that have a set.
+    holders: Index,
 }
 
 impl Chart {
@@ -76,6 +80,7 @@ impl Chart {
         ensures { IfOk result (λ chart. IsChart service.now chart) }
     {
         let index = index_of(alloc, service)?;
+        let holders = holders_of(alloc, service)?;
         let configs = service.configurations(alloc)?;
         let mut sets = first_sets(alloc, service, configs.as_slice())?;
         let configs = numbered(alloc, service, &mut sets, configs)?;
@@ -92,6 +97,7 @@ impl Chart {
             targeted,
             sets,
             index,
+            holders,
         })
     }
 
@@ -190,12 +196,34 @@ impl Chart {
         Present::of(service, &self.index, config)
     }
 
-    /// The number of the set of the object, if it is present in the configuration with these sets.
+    /// Where the object stands among those of its group that have a set, if it is one of them.
+    pub fn holder(&self, at: &ObjRef) -> Option<&Home>
+        ensures { option_copied result ≡ lookup (same_ref at.now) self.now.holders }
+    {
+        home_of(&self.holders, at)
+    }
+
+    /// The number of the set of the object, if it has one in the configuration with these sets.
     pub fn node_from(&self, config: &Config, at: &ObjRef, bases: &Bases) -> Option<usize>
-        ensures { (v : _) → AreNamed v → self.now.index ≡ indexed v
+        ensures { (v : _) → AreNamed v → self.now.holders ≡ held_index v
             → result ≡ spec.node_from v config.now at.now bases.now }
     {
-        match home_of(&self.index, at) {
+        self.node_with(config, at, bases, self.holder(at))
+    }
+
+    /// The same, where it is known where the object stands.
+    pub fn node_with(
+        &self,
+        config: &Config,
+        at: &ObjRef,
+        bases: &Bases,
+        holder: Option<&Home>,
+    ) -> Option<usize>
+        requires { option_copied holder ≡ lookup (same_ref at.now) self.now.holders }
+        ensures { (v : _) → AreNamed v → self.now.holders ≡ held_index v
+            → result ≡ spec.node_from v config.now at.now bases.now }
+    {
+        match holder {
             None => None,
             Some(home) => first_of(
                 node_at(at.group == config.app, bases.application, home.place),
@@ -204,9 +232,9 @@ impl Chart {
         }
     }
 
-    /// The number of the set of the object, if it is present in the configuration.
+    /// The number of the set of the object, if it has one in the configuration.
     pub fn node_of(&self, config: &Config, at: &ObjRef) -> Option<usize>
-        ensures { (v : _) → AreNamed v → self.now.index ≡ indexed v
+        ensures { (v : _) → AreNamed v → self.now.holders ≡ held_index v
             → result ≡ spec.node_of v self.now config.now at.now }
     {
         match self.configs.get(config) {

@@ -3,6 +3,7 @@
 //!
 //! Promise: it is the least solution; what a set has is what finite chains derive, and nothing else.
 ghost use Rattle.std.specs.Prelude.{◌≡◌, ◌++◌, ◌∷◌, [], false, ◌↔◌, IfOk, IsTrue, OnOk, map, slice_get, unwrap_or};
+ghost use Rattle.std.specs.List.{Contains};
 ghost use Rattle.std.specs.Option.{option_map_or};
 ghost use Rattle.mh_model.specs.Configuration.{present as present_there};
 ghost use Rattle.mh_flow.specs.Rows.{has};
@@ -17,7 +18,7 @@ use crate::equipped::Equipped;
 use crate::present::Present;
 use crate::sets::Sets;
 use mh_base::ObjRef;
-use mh_model::{Config, FixedPart};
+use mh_model::{Config, Fixed, FixedPart};
 use std::alloc::{AllocError, Global};
 use std::marker::Model;
 
@@ -150,32 +151,34 @@ impl Flow {
     ) -> Result<(), AllocError>
         requires flow { IsFlowOf service.now self.now }
         requires present { present.now ≡ present_there service.now config.now }
+        requires among { (p : _) → Contains parts.now p → Contains present.now p }
         ensures { OnOk result (map (λ l. l.items) lists.new.items ≡ map (λ l. l.items) lists.old.items
             ++ map (λ p. set_of service.now self.now.chart self.now.rows config.now p.key) parts.now) }
     {
         for part in parts {
-            let list = self.set_of(alloc, service, present, config, &part.get().key)?;
+            let list = self.set_of(alloc, service, present, config, part.get())?;
             lists.push(list)?;
         }
         Ok(())
     }
 
-    /// What the object holds, which is a variable of references or a list where these are present.
+    /// What the object holds, which is present.
     fn set_of(
         &self,
         alloc: Global,
         service: &Equipped<'_>,
         present: &Present<'_>,
         config: &Config,
-        holder: &ObjRef,
+        part: &Fixed,
     ) -> Result<Vec<ObjRef>, AllocError>
         requires flow { IsFlowOf service.now self.now }
         requires present { present.now ≡ present_there service.now config.now }
+        requires among { Contains present.now part.now }
         ensures { IfOk result (λ set. set.items
-            ≡ set_of service.now self.now.chart self.now.rows config.now holder.now) }
+            ≡ set_of service.now self.now.chart self.now.rows config.now part.now.key) }
     {
-        if present.is_holder(holder) {
-            self.list_of(alloc, self.chart.node_of(config, holder))
+        if present.is_holder(part) {
+            self.list_of(alloc, self.chart.node_of(config, &part.key))
         } else {
             Ok(Vec::new(alloc))
         }

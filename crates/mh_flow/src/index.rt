@@ -6,9 +6,18 @@ ghost use Rattle.std.specs.Prelude.{◌≡◌, ◌++◌, ◌∷◌, [], IfOk, On
 ghost use Rattle.std.specs.Map.{lookup};
 ghost use Rattle.std.specs.Option.{option_copied, is_some};
 ghost use Rattle.mh_model.specs.Reference.{same_ref};
-ghost use Rattle.mh_flow.specs.Index.{indexed, with_home, with_homes, with_groups};
+ghost use Rattle.mh_laws.specs.Flow.{is_holder};
+ghost use Rattle.mh_flow.specs.Index.{
+  held_index,
+  holders,
+  indexed,
+  with_home,
+  with_homes,
+  with_groups,
+};
 
 use crate::equipped::Equipped;
+use crate::present::is_holder;
 use indexmap::IndexMap;
 use mh_base::ObjRef;
 use mh_model::FixedPart;
@@ -85,6 +94,32 @@ pub(crate) fn index_of(alloc: Global, service: &Equipped<'_>) -> Result<Index, A
     let mut index = IndexMap::new(alloc);
     for parts in service.groups().values() {
         put_group(&mut index, parts.as_slice())?;
+    }
+    Ok(index)
+}
+
+/// Puts the variables of references and the lists of a group under their references.
+fn put_holders(index: &mut Index, parts: &[FixedPart]) -> Result<(), AllocError>
+    ensures { OnOk result (index.new.entries ≡ with_homes index.old.entries 0 (holders parts.now)) }
+{
+    let mut count = 0;
+    for place in 0..parts.len() {
+        if is_holder(parts[place].get().class) {
+            put(index, count, &parts[place])?;
+            count += 1;
+        }
+    }
+    Ok(())
+}
+
+/// The variables of references and the lists of the service under their references, each with how many of them stand
+/// before it in its group.
+pub(crate) fn holders_of(alloc: Global, service: &Equipped<'_>) -> Result<Index, AllocError>
+    ensures { IfOk result (λ index. index.entries ≡ held_index service.now) }
+{
+    let mut index = IndexMap::new(alloc);
+    for parts in service.groups().values() {
+        put_holders(&mut index, parts.as_slice())?;
     }
     Ok(index)
 }

@@ -7,16 +7,20 @@
 #![tactic(auto)]
 
 mod bits;
+mod bringing;
 pub mod chain;
 mod chart;
+mod doing;
 mod equipped;
 mod finding;
 mod fixpoint;
 mod flow;
 mod gathered;
+mod ground;
 mod index;
 mod known;
 mod law;
+mod leading;
 mod likely;
 mod link;
 mod moves;
@@ -27,6 +31,7 @@ mod opening;
 mod origins;
 mod place;
 mod present;
+mod reaching;
 mod references;
 mod routes;
 mod rows;

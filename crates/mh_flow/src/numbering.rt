@@ -8,17 +8,28 @@ ghost use Rattle.mh_flow.specs.Chart as spec;
 
 use crate::chart::{Bases, Set};
 use crate::equipped::Equipped;
-use crate::present::scene_parts;
+use crate::present::{is_holder, place_behind, scene_parts};
 use indexmap::IndexMap;
 use mh_model::{Config, FixedPart};
 use std::alloc::{AllocError, Global};
+
+/// How many of these objects have a set.
+fn count_holders(parts: &[FixedPart]) -> usize {
+    let mut count: usize = 0;
+    for part in parts {
+        if is_holder(part.get().class) {
+            count = count.saturating_add(1);
+        }
+    }
+    count
+}
 
 /// How many sets there will be. It is room alone: what is put there does not depend on it.
 fn room_for(service: &Equipped<'_>, configs: &[Config]) -> usize {
     let mut room = configs.len().saturating_add(1);
     for config in configs {
-        let application = service.parts(&config.app).len();
-        let scene = scene_parts(service, &config.scene).len();
+        let application = count_holders(service.parts(&config.app));
+        let scene = count_holders(scene_parts(service, &config.scene));
         room = room.saturating_add(application).saturating_add(scene);
     }
     room
@@ -41,28 +52,25 @@ pub(crate) fn first_sets(
     Ok(sets)
 }
 
-/// Puts the sets of these objects of a configuration behind those that are there, of which its own begin at this
-/// number.
-#[tactic(auto, using(crate::proofs::ChartLemmas::held_behind))]
+/// Puts the sets of these objects of a configuration behind those that are there; of what is present, these stand
+/// before them.
 fn push_held(
     sets: &mut Vec<Set>,
     config: usize,
-    base: usize,
+    before: &[FixedPart],
     parts: &[FixedPart],
 ) -> Result<(), AllocError>
-    requires { base ≤ vec_len sets.old }
-    ensures { let place = length sets.old.items - base in
-        OnOk result (sets.new.items ≡ sets.old.items ++ spec.sets_in config place parts.now) }
+    ensures { OnOk result (sets.new.items ≡ sets.old.items ++ spec.sets_in config (length before.now) parts.now) }
 {
-    for _ in parts {
-        let place = sets.len() - base;
-        sets.push(Set::Held(config, place))?;
+    for place in 0..parts.len() {
+        if is_holder(parts[place].get().class) {
+            sets.push(Set::Held(config, place_behind(before, parts, place)))?;
+        }
     }
     Ok(())
 }
 
 /// Puts the sets of a configuration behind those that are there, and says where they begin.
-#[tactic(auto, using(crate::proofs::ChartLemmas::sets_joined))]
 fn push_config(
     sets: &mut Vec<Set>,
     service: &Equipped<'_>,
@@ -75,14 +83,10 @@ fn push_config(
         IfOk result (λ bases. bases ≡ spec.bases_of service.now first config.now) }
 {
     let application = sets.len();
-    push_held(sets, number, application, service.parts(&config.app))?;
+    let parts = service.parts(&config.app);
+    push_held(sets, number, &[], parts)?;
     let scene = sets.len();
-    push_held(
-        sets,
-        number,
-        application,
-        scene_parts(service, &config.scene),
-    )?;
+    push_held(sets, number, parts, scene_parts(service, &config.scene))?;
     Ok(Bases { application, scene })
 }
 

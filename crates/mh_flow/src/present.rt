@@ -2,6 +2,7 @@
 //!
 //! Promise: each function answers what the definition of the same name says.
 ghost use Rattle.std.specs.Prelude.{◌≡◌, ◌<◌, ◌+◌, ◌++◌, IfOk, Some, length, slice_get};
+ghost use Rattle.std.specs.List.{Contains};
 ghost use Rattle.std.specs.Option.{option_copied};
 ghost use Rattle.mh_flow.specs.Index.{indexed, is_entered};
 ghost use Rattle.mh_flow.specs.Chart.{place_in};
@@ -83,7 +84,7 @@ pub fn is_entered(config: &Config, group: &GroupName) -> bool
 }
 
 /// How many stand before the one at this place of the parts, with those before them.
-fn place_behind(before: &[FixedPart], parts: &[FixedPart], place: usize) -> usize
+pub(crate) fn place_behind(before: &[FixedPart], parts: &[FixedPart], place: usize) -> usize
     requires { place < length parts.now }
     ensures { result ≡ length before.now + place }
 {
@@ -153,14 +154,14 @@ impl<'a> Present<'a> {
         None
     }
 
-    /// Whether it is a variable of references or a list, and present.
-    pub(crate) fn is_holder(&self, at: &ObjRef) -> bool
-        ensures { result ≡ is_holder_in self.now at.now }
+    /// Whether this one, which is present, is a variable of references or a list.
+    pub(crate) fn is_holder(&self, part: &Fixed) -> bool
+        requires { Contains self.now part.now }
+        ensures { result ≡ is_holder_in self.now part.now.key }
     {
-        match self.class_of(at) {
-            None => false,
-            Some(class) => is_holder(class),
-        }
+        // that no two of them have one key is known where there are groups
+        let _ = self.service.groups();
+        is_holder(part.class)
     }
 
     /// The class of the object to which the reference leads, if it is present.

@@ -1,7 +1,15 @@
-use Rattle.std.proofs.Common.{rules, ◌≡◌, List, ◌+◌, length, ap, ◌∙◌}
+use Rattle.std.proofs.Common.{rules, ◌≡◌, List, ◌+◌, ◌++◌, length, ap, ◌∙◌}
 use Rattle.mh_model.specs.declared.object.Fixed.{Fixed}
-use Rattle.mh_flow.proofs.ChartLemmas.{held_length}
+use Rattle.mh_flow.specs.Chart.{sets_in}
+use Rattle.mh_flow.specs.Index.{holders}
+use Rattle.mh_flow.proofs.ChartLemmas.{held_length, sets_joined}
 use Rattle.mh_flow.proofs.numbering.push_config.Goals as goal
+
+pub returns-clause-sets : goal.returns-clause-sets
+returns-clause-sets c =
+    let old = c.args.sets.now.items in
+    sets_joined c.args.number old c.push_held.new.sets.items c.push_held-2.new.sets.items c.parts-parts.result.now c.scene_parts.result.now c.in_ok-push_held.ensures c.in_ok-push_held-2.ensures
+    ∙ (λ i. old ++ sets_in c.args.number 0 (c.parts-parts.ensures i ++ c.scene_parts.ensures i))
 
 pub returns-clause-bases : goal.returns-clause-bases
 returns-clause-bases c =
@@ -10,6 +18,6 @@ returns-clause-bases c =
     let second : c.len-scene.result ≡ length c.push_held.new.sets.items = search rules in
     let scene =
     second
-    ∙ held_length c.args.number _ old c.push_held.new.sets.items c.parts.result.now c.in_ok-push_held.ensures
-    ∙ ap (λ (ps : List Fixed). length old + length ps) c.parts.ensures in
+    ∙ held_length c.args.number _ old c.push_held.new.sets.items c.parts-parts.result.now c.in_ok-push_held.ensures
+    ∙ ap (λ (ps : List Fixed). length old + length (holders ps)) c.parts-parts.ensures in
     λ i. record { application = first i; scene = scene i }

@@ -15,6 +15,7 @@ returns c =
     record {
       service = c.groups.ensures.named.service;
       index = c.in_ok-index.ensures;
+      holders = c.in_ok-holders.ensures;
       configs = c.in_ok-configs-2.ensures.configs ∙ (λ i. based v (first_length c.in_ok-sets.sets.items (configurations v) made i) (each i));
       sets = c.in_ok-configs-2.ensures.sets ∙ (λ i. made i ++ sets_from v 0 (each i));
       members = λ q. c.in_ok-put_in_order.ensures.same q ∙ ap (list_any (same_ref q)) c.in_ok-put_service.ensures.held ∙ any_references q c.new-members.result.keys (all_held v) ∙ ap (λ (qs : List ObjRef). list_any (same_ref q) qs || list_any (same_ref q) (all_held v)) c.new-members.ensures.empty;

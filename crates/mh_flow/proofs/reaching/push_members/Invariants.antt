@@ -2,7 +2,7 @@ use Rattle.std.proofs.Common.{◌≡◌, ◌++◌, drop, map}
 use Rattle.std.specs.List.{flat_map}
 use Rattle.mh_flow.specs.Chart.{member_of}
 use Rattle.mh_flow.specs.Opening.{member_at}
-use Rattle.mh_flow.proofs.place.push_members.Given as goal
+use Rattle.mh_flow.proofs.reaching.push_members.Given as goal
 
 abbrev pub invariant-loop-member : goal.invariant-loop-member
 invariant-loop-member l =
