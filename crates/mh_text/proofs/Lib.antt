@@ -28,3 +28,4 @@ pub mod MarksLemmas
 pub mod LandmarkLemmas
 pub mod CountLemmas
 pub mod VariableLemmas
+pub mod DecimalLemmas

@@ -1,6 +1,6 @@
 -- The printed form of a group: its words in the order of the grammar, the first at the beginning, each other
 -- behind one space, and a line feed at the end. Every part below stands behind its space.
-use Rattle.std.specs.Prelude.{◌≡◌, ◌≢◌, ℕ, ◌+◌, ◌/◌, ◌%◌, ℤ, pos, Bool, true, false, ◌&&◌, ◌||◌, not, ◌==◌, nat_lt, if◌then◌else◌, List, [], ◌∷◌, ◌++◌, length, take, drop, Option, Some, None, Result, Ok, Err, codes}
+use Rattle.std.specs.Prelude.{◌≡◌, ◌≢◌, ℕ, ◌+◌, ◌/◌, ◌%◌, ℤ, pos, int_lt, Bool, true, false, ◌&&◌, ◌||◌, not, ◌==◌, nat_lt, if◌then◌else◌, List, [], ◌∷◌, ◌++◌, length, take, drop, Option, Some, None, Result, Ok, Err, codes}
 use Rattle.std.specs.List.{flat_map}
 use Rattle.std.specs.Fmt.{signed_decimal}
 use Rattle.mh_base.specs.declared.colour.Colour.{Colour}
@@ -60,6 +60,10 @@ truth b = word (truth_word b)
 -- without leading zeros, and without a plus
 unfoldable pub integer : ℤ → List ℕ
 integer x = 32 ∷ signed_decimal x
+
+-- the space in front of an integer, and its sign where it has one
+abbrev pub sign : ℤ → List ℕ
+sign x = if int_lt x (pos 0) then 32 ∷ 45 ∷ [] else 32 ∷ []
 
 abbrev pub natural : ℕ → List ℕ
 natural n = integer (pos n)

@@ -227,6 +227,7 @@ fn is_named(sign: Sign, name: &[u8]) -> bool
 }
 
 /// What the name of a keyword means, table by table.
+#[inline(never)]
 #[tactic(auto, unfolding(crate::specs::Signs::name_sign))]
 fn searched(name: &[u8]) -> Option<Sign>
     ensures { result ≡ name_sign name.now }

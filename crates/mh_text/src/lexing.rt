@@ -16,7 +16,11 @@ pub(crate) fn is_space(byte: u8) -> bool
 pub(crate) fn is_letter(byte: u8) -> bool
     ensures { result ≡ is_letter byte }
 {
-    matches!(byte, b'A'..=b'Z' | b'a'..=b'z')
+    if byte < b'a' {
+        matches!(byte, b'A'..=b'Z')
+    } else {
+        byte <= b'z'
+    }
 }
 
 pub(crate) fn is_digit(byte: u8) -> bool

@@ -20,7 +20,7 @@ enum Escape {
 pub(crate) fn unescaped(alloc: Global, inner: &[u8]) -> Result<Vec<u8>, AllocError>
     ensures { IfOk result (λ octets. octets.items ≡ unescaped Escape.Outside inner.now) }
 {
-    let mut octets = Vec::new(alloc);
+    let mut octets = Vec::with_capacity(alloc, inner.len())?;
     let mut escape = Escape::Outside;
     for byte in inner {
         match escape {

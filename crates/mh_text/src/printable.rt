@@ -9,7 +9,7 @@ ghost use Rattle.mh_text.specs.Printed.{opening, closing, keyword, word, list, g
 use crate::{TextError, Why};
 use mh_base::{LONGEST_LIST, Seq};
 use mh_group::{Generic, Ref};
-use std::alloc::{AllocError, Global};
+use std::alloc::AllocError;
 
 /// The refusal of what is too long.
 pub(crate) const PAST_LIMIT: TextError = TextError::At {
@@ -25,7 +25,7 @@ pub(crate) trait Printable {
 
     ghost is_good: { Self → Bool };
 
-    fn print(&self, alloc: Global, out: &mut Vec<u8>) -> Result<(), TextError>
+    fn print(&self, out: &mut Vec<u8>) -> Result<(), TextError>
         ensures { Puts result out.old.items out.new.items (printed self.now) (is_good self.now) };
 }
 
@@ -38,8 +38,8 @@ impl<T: Printable> Printable for Seq<T> {
 
     ghost is_good = { is_list T.is_good };
 
-    fn print(&self, alloc: Global, out: &mut Vec<u8>) -> Result<(), TextError> {
-        print_list(alloc, out, self.as_slice())
+    fn print(&self, out: &mut Vec<u8>) -> Result<(), TextError> {
+        print_list(out, self.as_slice())
     }
 }
 
@@ -52,33 +52,29 @@ impl<T: Printable> Printable for Generic<T> {
 
     ghost is_good = { is_generic T.is_good };
 
-    fn print(&self, alloc: Global, out: &mut Vec<u8>) -> Result<(), TextError> {
-        print_generic(alloc, out, self)
+    fn print(&self, out: &mut Vec<u8>) -> Result<(), TextError> {
+        print_generic(out, self)
     }
 }
 
 #[tactic(auto, unfolding(crate::specs::Printed::generic))]
-fn print_generic<T: Printable>(
-    alloc: Global,
-    out: &mut Vec<u8>,
-    value: &Generic<T>,
-) -> Result<(), TextError>
+fn print_generic<T: Printable>(out: &mut Vec<u8>, value: &Generic<T>) -> Result<(), TextError>
     ensures { Puts result out.old.items out.new.items
         (generic T.printed value.now) (is_generic T.is_good value.now) }
 {
     match value {
-        Generic::Direct(value) => value.print(alloc, out),
-        Generic::Indirect(variable) => print_variable(alloc, out, variable),
+        Generic::Direct(value) => value.print(out),
+        Generic::Indirect(variable) => print_variable(out, variable),
     }
 }
 
 /// Prints the reference of a variable that holds a value.
-fn print_variable(alloc: Global, out: &mut Vec<u8>, variable: &Ref) -> Result<(), TextError>
+fn print_variable(out: &mut Vec<u8>, variable: &Ref) -> Result<(), TextError>
     ensures { Puts result out.old.items out.new.items
         (keyword indirect_word ++ reference variable.now) (is_reference variable.now) }
 {
     put_keyword(out, indirect_word())?;
-    variable.print(alloc, out)
+    variable.print(out)
 }
 
 #[tactic(auto, unfolding(crate::specs::Printed::indirect_word))]
@@ -90,11 +86,7 @@ fn indirect_word() -> &'static [u8]
 
 /// Prints the members between parentheses.
 #[tactic(auto, unfolding(crate::specs::Printed::list))]
-pub(crate) fn print_list<T: Printable>(
-    alloc: Global,
-    out: &mut Vec<u8>,
-    members: &[T],
-) -> Result<(), TextError>
+pub(crate) fn print_list<T: Printable>(out: &mut Vec<u8>, members: &[T]) -> Result<(), TextError>
     ensures { Puts result out.old.items out.new.items
         (list T.printed members.now) (is_list T.is_good members.now) }
 {
@@ -102,22 +94,18 @@ pub(crate) fn print_list<T: Printable>(
         return Err(PAST_LIMIT);
     }
     put_opening(out)?;
-    print_several(alloc, out, members)?;
+    print_several(out, members)?;
     put_closing(out)?;
     Ok(())
 }
 
 /// Prints the members one after the other.
-pub(crate) fn print_several<T: Printable>(
-    alloc: Global,
-    out: &mut Vec<u8>,
-    members: &[T],
-) -> Result<(), TextError>
+pub(crate) fn print_several<T: Printable>(out: &mut Vec<u8>, members: &[T]) -> Result<(), TextError>
     ensures { Puts result out.old.items out.new.items
         (flat_map T.printed members.now) (list_all T.is_good members.now) }
 {
     for member in members {
-        member.print(alloc, out)?;
+        member.print(out)?;
     }
     Ok(())
 }

@@ -24,7 +24,7 @@ pub fn print_group(alloc: Global, group: &Group) -> Result<Vec<u8>, TextError>
     ensures limit { IfErr result (λ e. e ≢ TextError.NoMemory → (e ≡ TextError.At Why.Limit 0) × (passes_limit group.now ≡ true)) }
 {
     let mut out = Vec::new(alloc);
-    print_written(alloc, &mut out, group.written())?;
+    print_written(&mut out, group.written())?;
     if out.len() > LARGEST_FILE {
         return Err(PAST_LIMIT);
     }
@@ -32,13 +32,13 @@ pub fn print_group(alloc: Global, group: &Group) -> Result<Vec<u8>, TextError>
 }
 
 #[tactic(auto, unfolding(crate::specs::Printed::printed, mh_group::specs::Holdable::is_holdable))]
-fn print_written(alloc: Global, out: &mut Vec<u8>, group: &Written) -> Result<(), TextError>
+fn print_written(out: &mut Vec<u8>, group: &Written) -> Result<(), TextError>
     ensures { Puts result out.old.items out.new.items (printed group.now) (is_holdable group.now) }
 {
     out.extend_from_slice(b"{")?;
     put_keyword(out, group.class.word())?;
-    put_named(alloc, out, &group.identifier, 0)?;
-    print_body(alloc, out, &group.items, group.fields.as_slice())?;
+    put_named(out, &group.identifier, 0)?;
+    print_body(out, &group.items, group.fields.as_slice())?;
     out.extend_from_slice(b" }\n")?;
     Ok(())
 }
@@ -46,7 +46,6 @@ fn print_written(alloc: Global, out: &mut Vec<u8>, group: &Written) -> Result<()
 /// Prints the fields, and the items at their place among them.
 #[tactic(auto, unfolding(crate::specs::Printed::body))]
 fn print_body(
-    alloc: Global,
     out: &mut Vec<u8>,
     items: &Option<Seq<Ingredient>>,
     fields: &[Field],
@@ -57,23 +56,23 @@ fn print_body(
     ensures limit { IfErr result (Refuses (has_settings fields.now && is_list is_ingredient (written_items items.now))) }
 {
     match items {
-        None => print_several(alloc, out, fields),
+        None => print_several(out, fields),
         Some(items) => {
             let count = group::before_items(fields);
-            print_several(alloc, out, &fields[..count])?;
-            print_items(alloc, out, items.as_slice())?;
-            print_several(alloc, out, &fields[count..])
+            print_several(out, &fields[..count])?;
+            print_items(out, items.as_slice())?;
+            print_several(out, &fields[count..])
         }
     }
 }
 
 #[tactic(auto, unfolding(crate::specs::Printed::items))]
-fn print_items(alloc: Global, out: &mut Vec<u8>, items: &[Ingredient]) -> Result<(), TextError>
+fn print_items(out: &mut Vec<u8>, items: &[Ingredient]) -> Result<(), TextError>
     ensures { Puts result out.old.items out.new.items
         (items_lem items.now) (is_list is_ingredient items.now) }
 {
     put_keyword(out, Attribute::Items.word())?;
-    print_list(alloc, out, items)
+    print_list(out, items)
 }
 
 impl Printable for Ingredient {
@@ -85,11 +84,11 @@ impl Printable for Ingredient {
     ghost is_good = { is_good_lem };
 
     #[tactic(auto, unfolding(crate::specs::Printed::ingredient))]
-    fn print(&self, alloc: Global, out: &mut Vec<u8>) -> Result<(), TextError> {
+    fn print(&self, out: &mut Vec<u8>) -> Result<(), TextError> {
         out.extend_from_slice(b" {")?;
         put_keyword(out, self.class.word())?;
-        put_natural(alloc, out, self.number.get())?;
-        print_several(alloc, out, self.fields.as_slice())?;
+        put_natural(out, self.number.get())?;
+        print_several(out, self.fields.as_slice())?;
         out.extend_from_slice(b" }")?;
         Ok(())
     }
@@ -104,9 +103,9 @@ impl Printable for Field {
     ghost is_good = { λ f. is_good_lem f.setting };
 
     #[tactic(auto, unfolding(crate::specs::Printed::field))]
-    fn print(&self, alloc: Global, out: &mut Vec<u8>) -> Result<(), TextError> {
+    fn print(&self, out: &mut Vec<u8>) -> Result<(), TextError> {
         put_keyword(out, self.attribute.word())?;
-        self.setting.print(alloc, out)
+        self.setting.print(out)
     }
 }
 
@@ -120,28 +119,28 @@ impl Printable for Setting {
     ghost is_good = { is_good_lem };
 
     #[tactic(auto, unfolding(crate::specs::Printed::value))]
-    fn print(&self, alloc: Global, out: &mut Vec<u8>) -> Result<(), TextError> {
+    fn print(&self, out: &mut Vec<u8>) -> Result<(), TextError> {
         match self {
-            Setting::Bool(truth) => truth.print(alloc, out),
-            Setting::Int(value) => value.print(alloc, out),
+            Setting::Bool(truth) => truth.print(out),
+            Setting::Int(value) => value.print(out),
             Setting::Pair(first, second) => {
-                put_integer(alloc, out, *first)?;
-                put_integer(alloc, out, *second)?;
+                put_integer(out, *first)?;
+                put_integer(out, *second)?;
                 Ok(())
             }
-            Setting::Octets(octets) => octets.print(alloc, out),
-            Setting::Colour(colour) => colour.print(alloc, out),
-            Setting::Ref(reference) => reference.print(alloc, out),
-            Setting::Content(content) => content.print(alloc, out),
-            Setting::ContentRef(name) => name.print(alloc, out),
+            Setting::Octets(octets) => octets.print(out),
+            Setting::Colour(colour) => colour.print(out),
+            Setting::Ref(reference) => reference.print(out),
+            Setting::Content(content) => content.print(out),
+            Setting::ContentRef(name) => name.print(out),
             Setting::Event(event) => Ok(put_word(out, event_word(*event))?),
-            Setting::Data(value) => value.print(alloc, out),
+            Setting::Data(value) => value.print(out),
             Setting::Justification(side) => Ok(put_word(out, side.word())?),
-            Setting::Effect(actions) => actions.print(alloc, out),
-            Setting::MovementTable(rows) => rows.print(alloc, out),
-            Setting::Members(members) => members.print(alloc, out),
-            Setting::Positions(positions) => positions.print(alloc, out),
-            Setting::NextScenes(scenes) => scenes.print(alloc, out),
+            Setting::Effect(actions) => actions.print(out),
+            Setting::MovementTable(rows) => rows.print(out),
+            Setting::Members(members) => members.print(out),
+            Setting::Positions(positions) => positions.print(out),
+            Setting::NextScenes(scenes) => scenes.print(out),
         }
     }
 }

@@ -8,7 +8,6 @@ use crate::printable::{
 use crate::printing_value::{put_integer, put_name};
 use mh_base::LONGEST_LIST;
 use mh_group::{Action, Member, NextScene, Parameter, Position, Typed, event_word, kind_word};
-use std::alloc::Global;
 
 /// A value behind the keyword of its kind.
 impl Printable for Typed {
@@ -20,14 +19,14 @@ impl Printable for Typed {
     ghost is_good = { is_good_lem };
 
     #[tactic(auto, unfolding(crate::specs::Printed::typed_value))]
-    fn print(&self, alloc: Global, out: &mut Vec<u8>) -> Result<(), TextError> {
+    fn print(&self, out: &mut Vec<u8>) -> Result<(), TextError> {
         put_keyword(out, kind_word(self.kind()))?;
         match self {
-            Typed::Bool(value) => value.print(alloc, out),
-            Typed::Int(value) => value.print(alloc, out),
-            Typed::Octets(value) => value.print(alloc, out),
-            Typed::Ref(value) => value.print(alloc, out),
-            Typed::ContentRef(value) => value.print(alloc, out),
+            Typed::Bool(value) => value.print(out),
+            Typed::Int(value) => value.print(out),
+            Typed::Octets(value) => value.print(out),
+            Typed::Ref(value) => value.print(out),
+            Typed::ContentRef(value) => value.print(out),
         }
     }
 }
@@ -40,18 +39,18 @@ impl Printable for Parameter {
 
     ghost is_good = { is_good_lem };
 
-    fn print(&self, alloc: Global, out: &mut Vec<u8>) -> Result<(), TextError> {
+    fn print(&self, out: &mut Vec<u8>) -> Result<(), TextError> {
         match self {
-            Parameter::Bool(value) => value.print(alloc, out),
-            Parameter::Int(value) => value.print(alloc, out),
-            Parameter::Octets(value) => value.print(alloc, out),
-            Parameter::Ref(value) => value.print(alloc, out),
-            Parameter::Content(value) => value.print(alloc, out),
-            Parameter::Data(value) => value.print(alloc, out),
+            Parameter::Bool(value) => value.print(out),
+            Parameter::Int(value) => value.print(out),
+            Parameter::Octets(value) => value.print(out),
+            Parameter::Ref(value) => value.print(out),
+            Parameter::Content(value) => value.print(out),
+            Parameter::Data(value) => value.print(out),
             Parameter::Event(event) => Ok(put_word(out, event_word(*event))?),
-            Parameter::Receiver(variable) => variable.print(alloc, out),
-            Parameter::Typed(value) => value.print(alloc, out),
-            Parameter::Arguments(values) => values.print(alloc, out),
+            Parameter::Receiver(variable) => variable.print(out),
+            Parameter::Typed(value) => value.print(out),
+            Parameter::Arguments(values) => values.print(out),
         }
     }
 }
@@ -65,11 +64,11 @@ impl Printable for Action {
     ghost is_good = { is_good_lem };
 
     #[tactic(auto, unfolding(crate::specs::Printed::action))]
-    fn print(&self, alloc: Global, out: &mut Vec<u8>) -> Result<(), TextError> {
+    fn print(&self, out: &mut Vec<u8>) -> Result<(), TextError> {
         put_keyword(out, self.name.word())?;
         put_opening(out)?;
-        self.target.print(alloc, out)?;
-        print_several(alloc, out, self.parameters.as_slice())?;
+        self.target.print(out)?;
+        print_several(out, self.parameters.as_slice())?;
         put_closing(out)?;
         Ok(())
     }
@@ -84,13 +83,13 @@ impl Printable for Member {
     ghost is_good = { is_good_lem };
 
     #[tactic(auto, unfolding(crate::specs::Printed::member))]
-    fn print(&self, alloc: Global, out: &mut Vec<u8>) -> Result<(), TextError> {
+    fn print(&self, out: &mut Vec<u8>) -> Result<(), TextError> {
         if self.slots.len() > LONGEST_LIST {
             return Err(PAST_LIMIT);
         }
         put_opening(out)?;
-        self.object.print(alloc, out)?;
-        print_several(alloc, out, self.slots.as_slice())?;
+        self.object.print(out)?;
+        print_several(out, self.slots.as_slice())?;
         put_closing(out)?;
         Ok(())
     }
@@ -105,10 +104,10 @@ impl Printable for Position {
     ghost is_good = { is_good_lem };
 
     #[tactic(auto, unfolding(crate::specs::Printed::position))]
-    fn print(&self, alloc: Global, out: &mut Vec<u8>) -> Result<(), TextError> {
+    fn print(&self, out: &mut Vec<u8>) -> Result<(), TextError> {
         put_opening(out)?;
-        put_integer(alloc, out, self.x)?;
-        put_integer(alloc, out, self.y)?;
+        put_integer(out, self.x)?;
+        put_integer(out, self.y)?;
         put_closing(out)?;
         Ok(())
     }
@@ -123,10 +122,10 @@ impl Printable for NextScene {
     ghost is_good = { is_good_lem };
 
     #[tactic(auto, unfolding(crate::specs::Printed::next_scene))]
-    fn print(&self, alloc: Global, out: &mut Vec<u8>) -> Result<(), TextError> {
+    fn print(&self, out: &mut Vec<u8>) -> Result<(), TextError> {
         put_opening(out)?;
         put_name(out, &self.name)?;
-        put_integer(alloc, out, self.weight)?;
+        put_integer(out, self.weight)?;
         put_closing(out)?;
         Ok(())
     }

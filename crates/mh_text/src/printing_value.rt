@@ -1,14 +1,15 @@
 //! Printers of values that are a word or a few: truth values, numbers, octets, names, references.
-ghost use Rattle.std.specs.Prelude.{◌≡◌, ◌<◌, ◌^◌, ◌++◌, true, OnOk};
+ghost use Rattle.std.specs.Prelude.{◌≡◌, ◌<◌, ◌^◌, ◌++◌, ◌∷◌, [], true, OnOk};
+ghost use Rattle.std.specs.Fmt.{decimal};
 ghost use Rattle.std.specs.List.{flat_map};
 ghost use Rattle.mh_group.specs.Holdable.{is_name, is_octets};
-ghost use Rattle.mh_text.specs.Printed.{integer, natural, name as name_lem, named, octets, quoted, hexadecimal_digit};
+ghost use Rattle.mh_text.specs.Printed.{integer, sign, natural, name as name_lem, named, octets, quoted, hexadecimal_digit};
 
 use crate::TextError;
 use crate::printable::{Printable, put_closing, put_keyword, put_opening, put_word};
 use mh_base::{Colour, Octets};
 use mh_group::{Content, EventData, Ref, WrittenName};
-use std::alloc::{AllocError, Global};
+use std::alloc::AllocError;
 
 impl Printable for bool {
     ghost use Rattle.mh_text.specs.Printed.{truth as printed_lem};
@@ -19,7 +20,7 @@ impl Printable for bool {
     ghost is_good = { is_good_lem };
 
     #[tactic(auto, unfolding(crate::specs::Printed::truth))]
-    fn print(&self, _alloc: Global, out: &mut Vec<u8>) -> Result<(), TextError> {
+    fn print(&self, out: &mut Vec<u8>) -> Result<(), TextError> {
         put_word(out, if *self { b"true" } else { b"false" })?;
         Ok(())
     }
@@ -33,8 +34,8 @@ impl Printable for i32 {
 
     ghost is_good = { is_good_lem };
 
-    fn print(&self, alloc: Global, out: &mut Vec<u8>) -> Result<(), TextError> {
-        put_integer(alloc, out, *self)?;
+    fn print(&self, out: &mut Vec<u8>) -> Result<(), TextError> {
+        put_integer(out, *self)?;
         Ok(())
     }
 }
@@ -47,7 +48,7 @@ impl Printable for Octets {
 
     ghost is_good = { is_good_lem };
 
-    fn print(&self, _alloc: Global, out: &mut Vec<u8>) -> Result<(), TextError> {
+    fn print(&self, out: &mut Vec<u8>) -> Result<(), TextError> {
         put_octets(out, self.as_slice())?;
         Ok(())
     }
@@ -62,7 +63,7 @@ impl Printable for Colour {
 
     ghost is_good = { λ c. is_octets (colour_octets c) };
 
-    fn print(&self, _alloc: Global, out: &mut Vec<u8>) -> Result<(), TextError> {
+    fn print(&self, out: &mut Vec<u8>) -> Result<(), TextError> {
         put_octets(out, &[self.red, self.green, self.blue, self.transparency])?;
         Ok(())
     }
@@ -76,10 +77,10 @@ impl Printable for Ref {
 
     ghost is_good = { is_good_lem };
 
-    fn print(&self, alloc: Global, out: &mut Vec<u8>) -> Result<(), TextError> {
+    fn print(&self, out: &mut Vec<u8>) -> Result<(), TextError> {
         match self {
-            Ref::Here(number) => put_natural(alloc, out, number.get())?,
-            Ref::In(name, number) => put_named(alloc, out, name, number.get())?,
+            Ref::Here(number) => put_natural(out, number.get())?,
+            Ref::In(name, number) => put_named(out, name, number.get())?,
         }
         Ok(())
     }
@@ -95,7 +96,7 @@ impl Printable for WrittenName {
     ghost is_good = { is_good_lem };
 
     #[tactic(auto, unfolding(crate::specs::Printed::content_name))]
-    fn print(&self, _alloc: Global, out: &mut Vec<u8>) -> Result<(), TextError> {
+    fn print(&self, out: &mut Vec<u8>) -> Result<(), TextError> {
         put_keyword(out, b"ContentRef")?;
         put_opening(out)?;
         put_name(out, self)?;
@@ -112,10 +113,10 @@ impl Printable for Content {
 
     ghost is_good = { is_good_lem };
 
-    fn print(&self, alloc: Global, out: &mut Vec<u8>) -> Result<(), TextError> {
+    fn print(&self, out: &mut Vec<u8>) -> Result<(), TextError> {
         match self {
-            Content::Included(octets) => octets.print(alloc, out),
-            Content::Referenced(name) => name.print(alloc, out),
+            Content::Included(octets) => octets.print(out),
+            Content::Referenced(name) => name.print(out),
         }
     }
 }
@@ -128,10 +129,10 @@ impl Printable for EventData {
 
     ghost is_good = { is_good_lem };
 
-    fn print(&self, alloc: Global, out: &mut Vec<u8>) -> Result<(), TextError> {
+    fn print(&self, out: &mut Vec<u8>) -> Result<(), TextError> {
         match self {
-            EventData::Bool(truth) => truth.print(alloc, out),
-            EventData::Int(value) => value.print(alloc, out),
+            EventData::Bool(truth) => truth.print(out),
+            EventData::Int(value) => value.print(out),
         }
     }
 }
@@ -139,7 +140,6 @@ impl Printable for EventData {
 /// Puts a name and a number between parentheses.
 #[tactic(auto, unfolding(crate::specs::Printed::named))]
 pub(crate) fn put_named(
-    alloc: Global,
     out: &mut Vec<u8>,
     name: &WrittenName,
     number: u32,
@@ -150,7 +150,7 @@ pub(crate) fn put_named(
 {
     put_opening(out)?;
     put_name(out, name)?;
-    put_natural(alloc, out, number)?;
+    put_natural(out, number)?;
     put_closing(out)
 }
 
@@ -167,20 +167,47 @@ pub(crate) fn put_name(out: &mut Vec<u8>, name: &WrittenName) -> Result<(), Allo
 }
 
 /// Puts an integer from 0.
-pub(crate) fn put_natural(alloc: Global, out: &mut Vec<u8>, number: u32) -> Result<(), AllocError>
+pub(crate) fn put_natural(out: &mut Vec<u8>, number: u32) -> Result<(), AllocError>
     requires { number < 2 ^ 31 }
     ensures { OnOk result (out.new.items ≡ out.old.items ++ natural number) }
 {
-    put_integer(alloc, out, number as i32)
+    put_integer(out, number as i32)
 }
 
-#[tactic(auto, unfolding(crate::specs::Printed::integer))]
-pub(crate) fn put_integer(alloc: Global, out: &mut Vec<u8>, number: i32) -> Result<(), AllocError>
+pub(crate) fn put_integer(out: &mut Vec<u8>, number: i32) -> Result<(), AllocError>
     ensures { OnOk result (out.new.items ≡ out.old.items ++ integer number) }
 {
-    let digits = format!(in alloc; "{number}")?;
-    out.push(b' ')?;
-    out.extend_from_slice(digits.as_bytes())
+    put_sign(out, number)?;
+    put_decimal(out, number.unsigned_abs())
+}
+
+/// Puts the space in front of an integer, and its sign where it has one.
+fn put_sign(out: &mut Vec<u8>, number: i32) -> Result<(), AllocError>
+    ensures { OnOk result (out.new.items ≡ out.old.items ++ sign number) }
+{
+    if number < 0 {
+        out.extend_from_slice(b" -")
+    } else {
+        put_byte(out, b' ')
+    }
+}
+
+/// Puts a number in decimal digits.
+fn put_decimal(out: &mut Vec<u8>, number: u32) -> Result<(), AllocError>
+    ensures { OnOk result (out.new.items ≡ out.old.items ++ decimal number) }
+{
+    if number < 10 {
+        return put_byte(out, b'0' + number as u8);
+    }
+    put_decimal(out, number / 10)?;
+    put_byte(out, b'0' + (number % 10) as u8)
+}
+
+fn put_byte(out: &mut Vec<u8>, byte: u8) -> Result<(), AllocError>
+    ensures { OnOk result (out.new.items ≡ out.old.items ++ byte ∷ []) }
+{
+    out.push(byte)?;
+    Ok(())
 }
 
 #[tactic(auto, using(mh_group::proofs::WritingLemmas::bytes_are_octets), unfolding(crate::specs::Printed::octets))]

@@ -100,6 +100,7 @@ fn keyword_sign(text: &[u8]) -> Option<Sign>
     }
 }
 
+#[inline(never)]
 #[tactic(auto, unfolding(crate::specs::Signs::word_sign))]
 fn word_sign(text: &[u8]) -> Option<Sign>
     ensures { result ≡ word_sign text.now }
