@@ -8,3 +8,4 @@ pub mod WidgetLemmas
 pub mod ByClassLemmas
 pub mod SumLemmas
 pub mod TestLemmas
+pub mod TurnLemmas

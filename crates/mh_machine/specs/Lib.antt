@@ -8,3 +8,4 @@ pub mod Working
 pub mod ByClass
 pub mod Sums
 pub mod Tests
+pub mod Turns

@@ -29,6 +29,7 @@ mod summing;
 mod taking;
 mod testing;
 mod transitions;
+mod turning;
 pub mod unstarted;
 mod widgets;
 mod works;

@@ -48,9 +48,9 @@ impl Works {
         Ok(Plan::of(change, stacking, awaiting, batches))
     }
 
-    /// An object runs.
+    /// An object runs, with what it loads and the others that it runs.
     #[inline(never)]
-    pub(crate) fn do_run(&mut self, at: &ObjRef) -> Result<(), AllocError>
+    pub(crate) fn run_with_others(&mut self, at: &ObjRef) -> Result<(), AllocError>
         requires { self.old.state.taken + 1 < 2 ^ 64 }
         ensures done { OnOk result (self.new.state ≡ done (Item.Run at.now) self.old.state) }
         ensures kept { OnErr result (self.new.state ≡ self.old.state) }
@@ -99,9 +99,9 @@ impl Works {
         })
     }
 
-    /// An object stops.
+    /// An object stops, with the others that it stops.
     #[inline(never)]
-    pub(crate) fn do_halt(&mut self, at: &ObjRef) -> Result<(), AllocError>
+    pub(crate) fn halt_with_others(&mut self, at: &ObjRef) -> Result<(), AllocError>
         requires { self.old.state.taken + 1 < 2 ^ 64 }
         ensures done { OnOk result (self.new.state ≡ done (Item.Halt at.now) self.old.state) }
         ensures kept { OnErr result (self.new.state ≡ self.old.state) }
