@@ -121,3 +121,7 @@ rows_more price kept ks new rows more k row counts are at told now pushed = reco
 
 pub no_rows : (price : NodeKey → Price NodeKey) (kept : NodeKey → Type 0) (ks : List NodeKey) (rows : List (Vec NodeKey Global)) → Each kept ks → rows ≡ [] → AreRows price kept ks rows
 no_rows price kept ks rows each e = subst (λ (rs : List (Vec NodeKey Global)). AreRows price kept ks rs) (sym e) (record { holds = each; each = λ n row at. absurd cc })
+
+-- the key that has no row yet is kept
+pub next_kept : (price : NodeKey → Price NodeKey) (kept : NodeKey → Type 0) (ks : List NodeKey) (rows : List (Vec NodeKey Global)) (k : NodeKey) → AreRows price kept ks rows → slice_get ks (length rows) ≡ Some k → kept k
+next_kept price kept ks rows k are at = each_among kept ks k are.holds (got_among ks (length rows) k at)

@@ -14,7 +14,7 @@ use Rattle.mh_layers.specs.Causing.{Counts, is_effect}
 use Rattle.mh_layers.specs.Keys.{IsKept}
 use Rattle.mh_layers.specs.NodeKeys.{same_key}
 use Rattle.mh_layers.specs.NodeKeyLaws.{key_itself}
-use Rattle.mh_layers.specs.Reading.{IsReading, Reading, flow_read, heard_read, name, number}
+use Rattle.mh_layers.specs.Reading.{IsReading, Reading, flow_read, heard_read, kept, name, number}
 use Rattle.mh_layers.specs.Stretches.{is_effect_key}
 use Rattle.mh_layers.specs.Web.{counted}
 use Rattle.mh_layers.proofs.AskedLemmas.{among_got, any_among, each_put, stays_all, stays_among}
@@ -154,6 +154,14 @@ opened_none r n old past = record {
     opened = λ m k less at quiet j there. are.opened m k (got_below old m n k at past) at quiet j there;
   };
 }
+
+-- what was found so far is kept, and all that was found
+
+pub opened_kept : (r : Reading) → IsReading r → (root : NodeKey) (js : List NodeKey) (n : ℕ) → IsNamed r root → AreOpened r root js n → Each (kept r) js
+opened_kept r read root js n named are = among_each (kept r) js (λ j there. (counted_named r read root j named (are.each j there)).has)
+
+pub reached_kept : (r : Reading) → IsReading r → (root : NodeKey) (js : List NodeKey) → IsNamed r root → AreReached r root js → Each (kept r) js
+reached_kept r read root js named are = among_each (kept r) js (λ j there. (counted_named r read root j named (are.each j there)).has)
 
 -- ALL
 

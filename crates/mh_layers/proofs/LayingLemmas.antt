@@ -10,7 +10,7 @@ use Rattle.mh_laws.proofs.PriceLemmas.{nodes_any, nodes_both, nodes_map}
 use Rattle.mh_layers.specs.declared.costs.Laid.{Laid}
 use Rattle.mh_layers.specs.declared.node_key.NodeKey.{NodeKey}
 use Rattle.mh_layers.specs.Known.{known_worth, told, told_of}
-use Rattle.mh_layers.specs.Layering.{Places, AreBelow, AreLayers, AreWaiting, CountsKept, Grows, IsLower, IsNoted, IsPlaced, IsSettled, IsStep, IsWaiting, IsWaitingAt, NoneRanked, Waits, cost_in, cost_of, has_place, held, is_laid, key_at, laid_in, left, free, place_in}
+use Rattle.mh_layers.specs.Layering.{Places, AreBelow, AreLayers, AreWaiting, CountsKept, Grows, HasRoom, IsLower, IsNoted, IsPlaced, IsSettled, IsStep, IsWaiting, IsWaitingAt, NoneRanked, Waits, cost_in, cost_of, has_place, held, is_laid, key_at, laid_in, left, free, place_in}
 use Rattle.mh_layers.specs.NodeKeys.{same_key}
 use Rattle.mh_model.proofs.ListLemmas.{and_left, and_right}
 use Rattle.mh_layers.proofs.KnownLemmas.{all_known, known_also, known_same, one_waits}
@@ -109,6 +109,17 @@ pub placed_given : (ts us : Places) (k : NodeKey) (len : ℕ) (o : Option (Optio
 placed_given ts us k len o e none now long short =
     placed_now ts us k (not_some o (place_in ts k) e none) now (subst (λ (n : ℕ). n < 2 ^ 63) long short)
 
+-- what is not laid is one more
+pub room_given : (ts us : Places) (k : NodeKey) (next : ℕ) (o : Option (Option Laid)) → o ≡ place_in ts k → is_some o ≡ false → us ≡ insert_entry same_key ts k None → HasRoom ts next → HasRoom us next
+room_given ts us k next o e none now room =
+    let put = put_new ts k None (not_some o (place_in ts k) e none) in
+    let long : length us ≡ suc (length ts) = ap (λ (zs : Places). length zs) now ∙ put.0 in
+    let more : free us ≡ 1 + free ts = ap (λ (zs : Places). free zs) now ∙ put.1 in
+    more_room (length ts) (length us) (free ts) (free us) next long more room
+  where
+    more_room : (a b c d n : ℕ) → b ≡ suc a → d ≡ 1 + c → n + c ≤ a → n + d ≤ b
+    more_room a b c d n long more room = omega (arith, long, more, room)
+
 -- and then one more of these has a place
 pub placed_more : (xs : List NodeKey) (old new : Places) (n : ℕ) (d : NodeKey) (given : Bool) → n < length xs → list_all (has_place old) (take n xs) ≡ true → IsPlaced old new (slice_index_or xs n d) given → list_all (has_place new) (take (n + 1) xs) ≡ true
 placed_more xs old new n d given less all placed =
@@ -138,6 +149,31 @@ below_noted ts k cost next below = record { each = λ j y e. by j y e (put_cases
 pub below_now : (ts us : Places) (k : NodeKey) (cost next after : ℕ) → AreBelow ts next → us ≡ insert_entry same_key ts k (Some (record { cost = cost; rank = next })) → after ≡ next + 1 → AreBelow us after
 below_now ts us k cost next after below now is =
     subst (λ (n : ℕ). AreBelow us n) (sym is) (subst (λ (zs : Places). AreBelow zs (next + 1)) (sym now) (below_noted ts k cost next below))
+
+-- the rank that is given next is no larger than there are keys
+pub room_noted : (ts us : Places) (k : NodeKey) (cost next : ℕ) → HasRoom ts next → laid_in ts k ≡ None → us ≡ insert_entry same_key ts k (Some (record { cost = cost; rank = next })) → HasRoom us (next + 1)
+room_noted ts us k cost next room none now = by (place_in ts k) refl none
+  where
+    x : Laid
+    x = record { cost = cost; rank = next }
+
+    long : (n : ℕ) → length (insert_entry same_key ts k (Some x)) ≡ n → length us ≡ n
+    long n e = ap (λ (zs : Places). length zs) now ∙ e
+
+    by : (o : Option (Option Laid)) → place_in ts k ≡ o → held o ≡ None → HasRoom us (next + 1)
+    by None e h =
+        let put = put_new ts k (Some x) e in
+        new (length ts) (length us) (free ts) (free us) (long (suc (length ts)) put.0) (ap (λ (zs : Places). free zs) now ∙ put.1) room
+      where
+        new : (a b c d : ℕ) → b ≡ suc a → d ≡ 0 + c → next + c ≤ a → next + 1 + d ≤ b
+        new a b c d long same room = omega (arith, long, same, room)
+    by (Some None) e h =
+        let put = put_old ts k None (Some x) e in
+        old (length ts) (length us) (free ts) (free us) (long (length ts) put.0) (ap (λ (n : ℕ). 1 + n) (ap (λ (zs : Places). free zs) now) ∙ put.1) room
+      where
+        old : (a b c d : ℕ) → b ≡ a → 1 + d ≡ 0 + c → next + c ≤ a → next + 1 + d ≤ b
+        old a b c d long less room = omega (arith, long, less, room)
+    by (Some (Some y)) e h = absurd cc
 
 pub noted_grows : (old new : Places) (k : NodeKey) (cost : ℕ) → laid_in old k ≡ None → IsNoted old new k cost → Grows old new
 noted_grows old new k cost none noted =

@@ -59,3 +59,7 @@ pub mod DoingLemmas
 pub mod NamingLemmas
 pub mod ActiveLemmas
 pub mod MostLemmas
+pub mod NamesLemmas
+pub mod WorthLemmas
+pub mod LoopLemmas
+pub mod RoundLemmas

@@ -7,13 +7,12 @@ use Rattle.std.proofs.lemmas.Option.{get_or_from_slice_get}
 use Rattle.std.proofs.lemmas.Slice.Eq.{bytes_eq-Decides}
 use Rattle.mh_base.specs.declared.obj_ref.ObjRef.{ObjRef}
 use Rattle.mh_base.specs.declared.value.Value.{Value}
-use Rattle.mh_base.specs.declared.value.Value.TheVariants as value
 use Rattle.mh_base.specs.declared.event.EventType.{EventType}
 use Rattle.mh_group.specs.Table.{is_list_group}
 use Rattle.mh_model.specs.declared.config.Config.{Config}
 use Rattle.mh_model.specs.declared.object.Fixed.{Fixed}
-use Rattle.mh_model.specs.Configuration.{present, starting}
-use Rattle.mh_model.specs.Reference.{group_ref, same_key}
+use Rattle.mh_model.specs.Configuration.{present}
+use Rattle.mh_model.specs.Reference.{same_key}
 use Rattle.mh_model.specs.Service.{is_there, part_at}
 use Rattle.mh_model.specs.Variables.{same_value}
 use Rattle.mh_model.proofs.ListLemmas.{and_left, and_right}
@@ -23,7 +22,7 @@ use Rattle.mh_layers.specs.Key.{Key, Effect, Fired, Entry, Change, Leave, Enter,
 use Rattle.mh_layers.specs.Keys.{IsKept, is_named, values}
 use Rattle.mh_layers.specs.Listening.{ear_at, same_ear}
 use Rattle.std.specs.Map.{lookup}
-use Rattle.mh_layers.specs.Reading.{IsReading, NumbersAreNames, Reading, config_named, config_number, flow_read, heard_read, hearing_named, hears_number, name, number, object_named, object_number, place_among, same_setting, settings}
+use Rattle.mh_layers.specs.Reading.{IsReading, NumbersAreNames, Reading, config_named, config_number, flow_read, heard_read, hearing_named, hears_number, name, no_config, no_object, no_value, number, object_named, object_number, place_among, same_setting, settings, value_named}
 use Rattle.mh_layers.proofs.ListeningLemmas.{objects_numbered, present_among, tells_objects, tells_values}
 use Rattle.mh_layers.proofs.MetLemmas.{found_among, there_found}
 use Rattle.mh_layers.proofs.PositionLemmas.{TellsOne, position_is, position_there, put_all}
@@ -65,7 +64,7 @@ tells_settings = record { itself = setting_itself; one = setting_one }
 config_back : (r : Reading) (c : Config) → reached (flow_read r) c ≡ true → config_named r (config_number r c) ≡ c
 config_back r c here =
     let at = position_there (same_setting c) (settings r) (put_all same_setting setting_itself [] (flow_read r).configs c (config_among (flow_read r).configs c here)) in
-    back_at same_setting tells_settings (settings r) c (starting r.service) at.0 at.1
+    back_at same_setting tells_settings (settings r) c (no_config (settings r)) at.0 at.1
 
 -- objects
 
@@ -73,7 +72,7 @@ tells_keys : TellsOne same_key
 tells_keys = tells_objects
 
 object_at : (r : Reading) (o : ObjRef) (n : ℕ) → position (same_key o) r.listeners.objects ≡ Some n → object_named r (object_number r o) ≡ o
-object_at r o n at = back_at same_key tells_keys r.listeners.objects o (group_ref []) n at
+object_at r o n at = back_at same_key tells_keys r.listeners.objects o (no_object r.listeners.objects) n at
 
 object_back : (r : Reading) → IsReading r → (c : Config) (o : ObjRef) → is_there o (present r.service c) ≡ true → object_named r (object_number r o) ≡ o
 object_back r read c o there =
@@ -91,7 +90,7 @@ source_back r o kind g named = by (position (same_key o) r.listeners.objects) re
     by (Some n) e h = object_at r o n e
 
 -- a list is there
-list_there : (r : Reading) (c : Config) (o : ObjRef) → is_list_in (present r.service c) o ≡ true → is_there o (present r.service c) ≡ true
+pub list_there : (r : Reading) (c : Config) (o : ObjRef) → is_list_in (present r.service c) o ≡ true → is_there o (present r.service c) ≡ true
 list_there r c o list = by (part_at o (present r.service c)) list
   where
     by : (p : Option Fixed) → option_map_or is_list_group (option_map (λ (x : Fixed). x.class) p) false ≡ true → option_map_or (λ (x : Fixed). true) p false ≡ true
@@ -105,11 +104,11 @@ hearing_back r o kind Plain named = refl
 hearing_back r o kind Any named = refl
 hearing_back r o kind (With x) named = by (heard_read r o kind) named
   where
-    by : (h : Option (List Value)) → is_named h (With x) ≡ true → With (get_or (values h) (place_among (same_value x) (values h)) (value.Bool false)) ≡ With x
+    by : (h : Option (List Value)) → is_named h (With x) ≡ true → With (value_named (values h) (place_among (same_value x) (values h))) ≡ With x
     by None e = absurd cc
     by (Some xs) e =
         let at = position_there (same_value x) xs e in
-        ap With (back_at same_value tells_values xs x (value.Bool false) at.0 at.1)
+        ap With (back_at same_value tells_values xs x (no_value xs) at.0 at.1)
 
 hears_back : (r : Reading) (o : ObjRef) (kind : EventType) (g : Hearing) → object_named r (object_number r o) ≡ o → is_named (heard_read r o kind) g ≡ true
     → hearing_named r (object_named r (object_number r o)) kind (hears_number r o kind g) ≡ g

@@ -1,8 +1,9 @@
 -- Timers that are set where variables refer to what the flow holds.
-use Rattle.std.specs.Prelude.{◌≡◌, ℕ, List, ◌++◌, map, slice_get, position, option_and_then, Option, Some, None, refl}
-use Rattle.std.specs.List.{flat_map}
+use Rattle.std.specs.Prelude.{◌≡◌, ℕ, true, List, [], ◌++◌, map, slice_get, position, option_and_then, Option, Some, None, refl}
+use Rattle.std.specs.List.{flat_map, list_any}
 use Rattle.std.specs.Option.{option_map}
-use Rattle.std.proofs.Common.{ap, ◌∙◌, sym}
+use Rattle.std.proofs.Common.{ap, ◌∙◌, sym, subst}
+use Rattle.indexmap.specs.IndexSet.{insert_all}
 use Rattle.mh_base.specs.declared.obj_ref.ObjRef.{ObjRef}
 use Rattle.mh_model.specs.declared.act.Act.{Act}
 use Rattle.mh_model.specs.declared.act.Target.{Target}
@@ -14,6 +15,7 @@ use Rattle.mh_model.specs.Service.{Service}
 use Rattle.mh_model.proofs.ListLemmas.{some_same}
 use Rattle.mh_laws.specs.Active.{active_actions}
 use Rattle.mh_laws.specs.Costs.{TimerKey, set_by, set_with, targets}
+use Rattle.mh_laws.specs.Each.{Among}
 use Rattle.mh_laws.specs.Flow.{Flow}
 use Rattle.mh_flow.specs.Sites.{Site, sites_of}
 use Rattle.mh_flow.specs.Solved.{Solved, flow_in, held_by, held_in}
@@ -21,8 +23,8 @@ use Rattle.mh_flow.proofs.HeldLemmas.{get_mapped, held_is_set}
 use Rattle.mh_flow.proofs.SiteLemmas.{through_active}
 use Rattle.mh_layers.specs.Reading.{same_setting}
 use Rattle.mh_layers.specs.SetTimers.{set_here, set_in, sets_there, targets_here}
-use Rattle.mh_layers.proofs.PositionLemmas.{position_is}
-use Rattle.mh_layers.proofs.ReadingLemmas.{tells_settings}
+use Rattle.mh_layers.proofs.PositionLemmas.{position_is, position_there, put_all}
+use Rattle.mh_layers.proofs.ReadingLemmas.{setting_itself, tells_settings}
 
 targets_are : (w : Flow) (c : Config) (t : Target) → targets w c t ≡ targets_here (w.sets c) t
 targets_are w c (target.Direct r) = refl
@@ -61,3 +63,13 @@ held_found v f known lists c h are found = by (position (same_setting c) known) 
         ∙ ap (option_map (held_in v f)) (position_is same_setting tells_settings known c n at) in
         some_same own
     by None at e = absurd cc
+
+-- of each of these configurations it is known what is held
+pub held_known : (f : Config → List (List ObjRef)) (all known : List Config) (lists : List (List (List ObjRef))) (c : Config)
+    → Among all c → known ≡ insert_all same_setting [] all → lists ≡ map f known → option_and_then (slice_get lists) (position (same_setting c) known) ≡ None → ⊥
+held_known f all known lists c there is are none =
+    let at = position_there (same_setting c) known (subst (λ (ks : List Config). list_any (same_setting c) ks ≡ true) (sym is) (put_all same_setting setting_itself [] all c there)) in
+    let got : slice_get lists at.0 ≡ Some (f c) =
+    ap (λ (ls : List (List (List ObjRef))). slice_get ls at.0) are ∙ get_mapped f known at.0 ∙ ap (option_map f) (position_is same_setting tells_settings known c at.0 at.1) in
+    let never : None ≡ Some (f c) = sym none ∙ ap (option_and_then (slice_get lists)) at.1 ∙ got in
+    absurd cc

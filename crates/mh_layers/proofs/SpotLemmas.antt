@@ -11,8 +11,7 @@ use Rattle.mh_base.specs.declared.value.Value.{Value}
 use Rattle.mh_group.specs.Table.{is_application}
 use Rattle.mh_model.specs.declared.config.Config.{Config}
 use Rattle.mh_model.specs.declared.object.Fixed.{Fixed}
-use Rattle.mh_model.specs.Configuration.{is_group_of, present, same_config, same_scene, starting}
-use Rattle.mh_model.specs.Reference.{group_ref}
+use Rattle.mh_model.specs.Configuration.{is_group_of, present, same_config, same_scene}
 use Rattle.mh_model.specs.Service.{Service}
 use Rattle.mh_model.proofs.ListLemmas.{some_same}
 use Rattle.mh_laws.specs.Flow.{reached}
@@ -25,7 +24,7 @@ use Rattle.mh_flow.specs.Solved.{held_by, held_in}
 use Rattle.mh_flow.proofs.HeldLemmas.{get_mapped, held_is_set}
 use Rattle.mh_layers.specs.declared.node_key.Hears.TheVariants as hears
 use Rattle.mh_layers.specs.Keys.{hearing}
-use Rattle.mh_layers.specs.Reading.{IsReading, IsSpot, Reading, config_named, flow_read, hears_among, object_named, same_setting, setting, settings, spot_at, spot_in}
+use Rattle.mh_layers.specs.Reading.{IsReading, IsSpot, Reading, config_named, flow_read, hears_among, no_config, no_object, object_named, same_setting, setting, settings, spot_at, spot_in}
 use Rattle.mh_layers.proofs.PositionLemmas.{any_position, no_left, no_right, once_all, once_at, position_is, put_all}
 use Rattle.mh_layers.proofs.ReadingLemmas.{setting_itself, tells_settings}
 
@@ -46,7 +45,7 @@ is_spot r read n c ps lists at held there = record {
 
 pub named_spot : (r : Reading) (n : ℕ) (c : Config) → slice_get (settings r) n ≡ Some c → spot_in r c ≡ spot_at r n
 named_spot r n c at =
-    let same : c ≡ config_named r n = sym (get_or_from_slice_get (settings r) n c (starting r.service) at) in
+    let same : c ≡ config_named r n = sym (get_or_from_slice_get (settings r) n c (no_config (settings r)) at) in
     λ i. record { reading = r; config = same i }
 
 -- what is reached has a number, and nothing else
@@ -90,11 +89,11 @@ reached_numbered r c = by (reached (flow_read r) c) refl ∙ any_position (same_
 -- what stands at a number has its name
 
 pub got_there : (r : Reading) (n : ℕ) (o : ObjRef) → slice_get r.listeners.objects n ≡ Some o → o ≡ object_named r n
-got_there r n o at = sym (get_or_from_slice_get r.listeners.objects n o (group_ref []) at)
+got_there r n o at = sym (get_or_from_slice_get r.listeners.objects n o (no_object r.listeners.objects) at)
 
 pub named_in : (r : Reading) (c : Config) (n : ℕ) → position (same_setting c) (settings r) ≡ Some n → spot_at r n ≡ spot_in r c
 named_in r c n at =
-    let same : config_named r n ≡ c = get_or_from_slice_get (settings r) n c (starting r.service) (position_is same_setting tells_settings (settings r) c n at) in
+    let same : config_named r n ≡ c = get_or_from_slice_get (settings r) n c (no_config (settings r)) (position_is same_setting tells_settings (settings r) c n at) in
     λ i. record { reading = r; config = same i }
 
 -- what is known of an event's data, by the number of the value

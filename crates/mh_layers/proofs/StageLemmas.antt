@@ -5,8 +5,8 @@ use Rattle.std.specs.Option.{option_map, option_map_or}
 use Rattle.std.specs.Ordering.{is_lt}
 use Rattle.std.proofs.Common.{arith, ap, ◌∙◌, sym, subst, append-nil, true≢false}
 use Rattle.std.proofs.Math.Seq.{append_snoc}
-use Rattle.std.proofs.lemmas.List.{drop_more}
-use Rattle.std.proofs.lemmas.Option.{slice_get-map}
+use Rattle.std.proofs.lemmas.List.{drop_more, length-map}
+use Rattle.std.proofs.lemmas.Option.{slice_get-map, slice_get_within}
 use Rattle.mh_model.specs.declared.act.Act.{Act}
 use Rattle.mh_model.specs.declared.config.Config.{Config}
 use Rattle.mh_model.specs.declared.object.Fixed.{Fixed}
@@ -353,3 +353,13 @@ one_known f acts i a ns n whole less is known before =
     ∙ ap (λ (x : Result ℕ NodeKey). all_known ns ++ x ∷ map f (drop (i + 1) acts)) (sym known ∙ ap f is)
     ∙ ap (λ (xs : List Act). all_known ns ++ map f xs) (sym (drop_more acts i a less))
     ∙ before
+
+pub known_length : (f : Act → Result ℕ NodeKey) (acts : List Act) (ns : List ℕ) → map f acts ≡ all_known ns → length acts ≡ length ns
+known_length f acts ns known = sym (length-map acts f) ∙ ap (λ (ws : List (Result ℕ NodeKey)). length ws) known ∙ length-map ns (λ (n : ℕ). Ok n)
+
+pub some_numbers : (f : Act → Result ℕ NodeKey) (acts : List Act) (ns seen : List ℕ) → map f acts ≡ all_known ns → seen ≡ ns → 0 < length acts → 0 < length seen
+some_numbers f acts ns seen known same some = subst (λ (n : ℕ). 0 < n) (known_length f acts ns known ∙ ap (λ (ms : List ℕ). length ms) (sym same)) some
+
+pub act_there : (f : Act → Result ℕ NodeKey) (acts : List Act) (ns seen : List ℕ) (n : ℕ) → map f acts ≡ all_known ns → seen ≡ ns → IsLargest seen n → n < length acts
+act_there f acts ns seen n known same largest =
+    subst (λ (m : ℕ). n < m) (ap (λ (ms : List ℕ). length ms) same ∙ sym (known_length f acts ns known)) (slice_get_within seen n (number_at seen n) largest.place)

@@ -16,8 +16,7 @@ use Rattle.indexmap.specs.IndexSet.{insert_all}
 use Rattle.mh_base.specs.declared.obj_ref.ObjRef.{ObjRef}
 use Rattle.mh_model.specs.declared.act.Act.{Act}
 use Rattle.mh_model.specs.declared.config.Config.{Config}
-use Rattle.mh_model.specs.Configuration.{starting}
-use Rattle.mh_model.specs.Reference.{group_ref, same_key as same_ref_key}
+use Rattle.mh_model.specs.Reference.{same_key as same_ref_key}
 use Rattle.mh_model.proofs.ListLemmas.{and_left, and_right, some_same}
 use Rattle.mh_laws.specs.Each.{Among}
 use Rattle.mh_laws.specs.Least.{by_reference}
@@ -28,7 +27,7 @@ use Rattle.mh_layers.specs.declared.node_key.NodeKey.TheVariants as key
 use Rattle.mh_layers.specs.declared.standing.Standing.{Standing}
 use Rattle.mh_layers.specs.Web.{label_to}
 use Rattle.mh_layers.specs.Cycle.{by_place, cause_of}
-use Rattle.mh_layers.specs.Reading.{Reading, config_named, object_named, settings}
+use Rattle.mh_layers.specs.Reading.{Reading, config_named, no_config, no_object, object_named, settings}
 use Rattle.mh_layers.specs.Standings.{AreStandings, cause_by, cause_named, label_in, same_standing, standing_cmp, standing_named, standing_number}
 use Rattle.mh_layers.proofs.ListeningLemmas.{tells_objects}
 use Rattle.mh_layers.proofs.PositionLemmas.{TellsOne, position_is, position_there, put_all}
@@ -59,8 +58,8 @@ acts_more xs n m is =
 pub cause_found : (r : Reading) (c o n : ℕ) (config : Config) (at : ObjRef) (cause : Cause) → slice_get (settings r) c ≡ Some config → slice_get r.listeners.objects o ≡ Some at
     → cause ≡ cause_of r.service (record { config = config; object = at; number = n }) → cause ≡ cause_by r c o n
 cause_found r c o n config at cause found there is =
-    let named : config_named r c ≡ config = get_or_from_slice_get (settings r) c config (starting r.service) found in
-    let object : object_named r o ≡ at = get_or_from_slice_get r.listeners.objects o at (group_ref []) there in
+    let named : config_named r c ≡ config = get_or_from_slice_get (settings r) c config (no_config (settings r)) found in
+    let object : object_named r o ≡ at = get_or_from_slice_get r.listeners.objects o at (no_object r.listeners.objects) there in
     is ∙ sym (λ i. cause_of r.service (record { config = named i; object = object i; number = n }))
 
 -- PLACES

@@ -55,13 +55,13 @@ use Rattle.mh_layers.proofs.WebLemmas.{Kept, active_kept, counted_numbered}
 -- KEYS ONE BEHIND THE OTHER
 
 -- one that another counts
-record Follows (r : Reading) (k j : NodeKey) : Type 0 where
+pub record Follows (r : Reading) (k j : NodeKey) : Type 0 where
   pub counts : Among (counted_in (price_read r (name r k))) (name r j)
   pub met : IsMet r.service (flow_read r) (heard_read r) (name r j)
   pub keeps : kept r j
   pub back : number r (name r j) ≡ j
 
-follows : (r : Reading) → IsReading r → (k j : NodeKey) → kept r k → Among (counted r k) j → Follows r k j
+pub follows : (r : Reading) → IsReading r → (k j : NodeKey) → kept r k → Among (counted r k) j → Follows r k j
 follows r read k j keeps there =
     let from = from_mapped (number r) (counted_in (price_read r (name r k))) j (subst (λ (ns : List NodeKey). Among ns j) (counted_numbered (number r) (price_read r (name r k))) there) in
     let met = counted_met r.service (flow_read r) (heard_read r) (read_of r read) (name r k) from.0 keeps from.1 in

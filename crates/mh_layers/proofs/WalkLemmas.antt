@@ -28,7 +28,9 @@ use Rattle.mh_layers.specs.Cycle as cycle
 use Rattle.mh_layers.specs.Cycle.{IsCycle, IsFirstCycle as IsFirst, AreFirstCycle, Leads, NoCycles, by_config, by_place, by_standing, cause_of}
 use Rattle.mh_layers.specs.Layered.{active_keys}
 use Rattle.mh_layers.specs.Layering.{AreLayers, Places, is_laid}
+use Rattle.mh_layers.specs.Named.{IsEffectKept}
 use Rattle.mh_layers.specs.Reading.{IsReading, Reading, flow_read, heard_read, kept, number, price}
+use Rattle.mh_layers.specs.Stretches.{is_effect_key}
 use Rattle.mh_layers.specs.Standings.{cause_named, causes_to, effect_named, label_in, node_in}
 use Rattle.mh_layers.specs.Walk.{AreBest, IsBest, IsTried, IsWebOf, causes_along, unlaid}
 use Rattle.mh_layers.specs.Web.{CyclesAreTold, effect_number, effect_to, effects_along}
@@ -340,3 +342,15 @@ some_of r read ts layers all left xs ys ks g best b cs every is same also web tr
 -- of the service and the flow that were read
 pub turned : (P : Service → Solved → Type 0) (r : Reading) (v : Service) (f : Solved) → r.service ≡ v → r.flow ≡ f → P r.service r.flow → P v f
 turned P r v f service flow h = subst (λ (g : Solved). P v g) flow (subst (λ (u : Service). P u r.flow) service h)
+
+-- all of them are effects that are kept
+pub listed_effects : (r : Reading) → IsReading r → Each (IsEffectKept r) (active_keys r)
+listed_effects r read = among_each (IsEffectKept r) (active_keys r) (λ k there. (each_among (kept r) (active_keys r) k (listed_kept r read) there, by k (listed_on r k there)))
+  where
+    by : (k : NodeKey) → (x : costs.Effect) × IsOn r.service (flow_read r) x × (number r (key_of x) ≡ k) → is_effect_key k ≡ true
+    by k (x, on, same) = subst (λ (j : NodeKey). is_effect_key j ≡ true) same refl
+
+pub left_effects : (r : Reading) → IsReading r → (ts : Places) (all left xs : List NodeKey) → all ≡ active_keys r → left ≡ unlaid ts all → xs ≡ left → Each (IsEffectKept r) xs
+left_effects r read ts all left xs every is same =
+    subst (λ (zs : List NodeKey). Each (IsEffectKept r) zs) (sym (same ∙ is ∙ ap (unlaid ts) every))
+    (among_each (IsEffectKept r) (unlaid ts (active_keys r)) (λ k there. each_among (IsEffectKept r) (active_keys r) k (listed_effects r read) (from_filtered (λ j. not (is_laid ts j)) (active_keys r) k there)))

@@ -3,8 +3,8 @@ use Rattle.std.specs.Prelude.{◌≡◌, ◌<◌, ◌≤◌, ◌+◌, ℕ, true,
 use Rattle.std.specs.List.{list_all}
 use Rattle.std.specs.Option.{option_map}
 use Rattle.std.proofs.Common.{arith, inl, inr, ap, ◌∙◌, sym, subst}
-use Rattle.std.proofs.lemmas.List.{take_all, take_more}
-use Rattle.std.proofs.lemmas.Option.{slice_get-map}
+use Rattle.std.proofs.lemmas.List.{length-map, take_all, take_more}
+use Rattle.std.proofs.lemmas.Option.{slice_get-map, slice_get_within}
 use Rattle.mh_model.specs.declared.config.Config.{Config}
 use Rattle.mh_model.specs.Configuration.{starting}
 use Rattle.mh_model.proofs.ListLemmas.{some_same}
@@ -13,6 +13,7 @@ use Rattle.mh_laws.specs.Each.{Among}
 use Rattle.mh_laws.specs.Flow.{reached}
 use Rattle.mh_laws.specs.Layers.{IsCost}
 use Rattle.mh_laws.proofs.EachLemmas.{among_all, got_among}
+use Rattle.mh_laws.proofs.NodeLemmas.{config_among}
 use Rattle.mh_layers.specs.declared.bounds.InputKind.{InputKind}
 use Rattle.mh_layers.specs.declared.bounds.InputKind.TheVariants as kind
 use Rattle.mh_layers.specs.declared.way.Way.{Way}
@@ -169,3 +170,26 @@ ways_more r ks i k y old new less are way now =
 
 pub ways_all : (r : Reading) (ks : List InputKind) (i : ℕ) (ys : List Way) → length ks ≤ i → AreWays r (take i ks) ys → AreWays r ks ys
 ways_all r ks i ys far are = subst (λ (js : List InputKind). AreWays r js ys) (take_all i ks far) are
+
+-- there is a configuration in which it costs most
+
+among_some : {X : Type 0} (xs : List X) (x : X) → Among xs x → 0 < length xs
+among_some [] x there = absurd cc
+among_some (y ∷ xs) x there = omega arith
+
+some_configs : (r : Reading) → IsReading r → (k : InputKind) → 0 < length (configs_for r.service (flow_read r) k)
+some_configs r read kind.Start = omega arith
+some_configs r read kind.Key = among_some (flow_read r).configs (starting r.service) (config_among (flow_read r).configs (starting r.service) (start_reached r read))
+some_configs r read kind.Tick = among_some (flow_read r).configs (starting r.service) (config_among (flow_read r).configs (starting r.service) (start_reached r read))
+some_configs r read kind.Stream = among_some (flow_read r).configs (starting r.service) (config_among (flow_read r).configs (starting r.service) (start_reached r read))
+some_configs r read kind.Engine = among_some (flow_read r).configs (starting r.service) (config_among (flow_read r).configs (starting r.service) (start_reached r read))
+some_configs r read kind.Arrive = among_some (flow_read r).configs (starting r.service) (config_among (flow_read r).configs (starting r.service) (start_reached r read))
+
+pub some_costs : (r : Reading) → IsReading r → (k : InputKind) (f : Config → ℕ) (cs : List Config) (ns : List ℕ) → cs ≡ configs_for r.service (flow_read r) k → ns ≡ map f cs → 0 < length ns
+some_costs r read k f cs ns are costs_are =
+    subst (λ (n : ℕ). 0 < n) (sym (ap (λ (ms : List ℕ). length ms) costs_are ∙ length-map cs f))
+    (subst (λ (ds : List Config). 0 < length ds) (sym are) (some_configs r read k))
+
+pub place_there : (f : Config → ℕ) (cs : List Config) (ns : List ℕ) (n : ℕ) → ns ≡ map f cs → IsLargest ns n → n < length cs
+place_there f cs ns n costs_are largest =
+    subst (λ (m : ℕ). n < m) (ap (λ (ms : List ℕ). length ms) costs_are ∙ length-map cs f) (slice_get_within ns n (number_at ns n) largest.place)

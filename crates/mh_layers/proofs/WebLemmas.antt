@@ -99,7 +99,7 @@ effect_at_end : (r : Reading) (ks : List NodeKey) (a : Arrow) (k : Key) → lead
 effect_at_end r ks a k at = ap (λ (o : Option NodeKey). option_map_or if_effect o []) at
 
 -- what an active effect causes is active
-caused_on : (r : Reading) → IsReading r → (x y : costs.Effect) → IsActive r x → Causes r.service (flow_read r) x y → IsActive r y
+pub caused_on : (r : Reading) → IsReading r → (x y : costs.Effect) → IsActive r x → Causes r.service (flow_read r) x y → IsActive r y
 caused_on r read x y on causes =
     (counts_met r.service (flow_read r) (heard_read r) (read_of r read) (key_of x) (key_of y) (active_kept r read x on)
     ((keys_cause r.service (flow_read r) (heard_read r) (read_of r read) x on).counted y causes)).0

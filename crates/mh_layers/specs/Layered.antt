@@ -52,7 +52,7 @@ active_keys r = flat_map (keys_active r) (flow_read r).configs
 abbrev pub rank_laid : Layered → costs.Effect → ℕ
 rank_laid l x = rank_by l.places (number l.reading) (key_of x)
 
--- what is not laid has no actions, and costs nothing
+-- what is not laid costs nothing; an active effect is not laid only if it has no actions
 abbrev pub cost_laid : Layered → costs.Effect → ℕ
 cost_laid l x = or_nothing (cost_by l.places (number l.reading) (key_of x))
 

@@ -48,6 +48,16 @@ rank_in ts k = rank_of (laid_in ts k)
 abbrev pub key_at : Places → ℕ → Option NodeKey
 key_at ts n = option_map (λ e. e.0) (slice_get ts n)
 
+-- how many have a place and are not laid
+
+abbrev pub is_free : Option Laid → ℕ
+is_free None = 1
+is_free (Some x) = 0
+
+abbrev pub free : Places → ℕ
+free [] = 0
+free (e ∷ es) = is_free e.1 + free es
+
 -- WHAT IS LAID
 
 -- it is laid, with a rank below this
@@ -64,6 +74,10 @@ pub record AreLayers (price : NodeKey → Price NodeKey) (kept : NodeKey → Typ
 -- all ranks are below the next one
 pub record AreBelow (ts : Places) (next : ℕ) : Type 0 where
   pub each : (k : NodeKey) (x : Laid) → laid_in ts k ≡ Some x → x.rank < next
+
+-- so many ranks are given, one for each key that is laid
+abbrev pub HasRoom : Places → ℕ → Type 0
+HasRoom ts next = next + free ts ≤ length ts
 
 -- what was laid stays as it was, and what had a place has one
 pub record Grows (old new : Places) : Type 0 where
@@ -107,15 +121,6 @@ CostsExist price kept =
     IsCost price kept (counted_to price (suc most))
 
 -- STEPS
-
-abbrev pub is_free : Option Laid → ℕ
-is_free None = 1
-is_free (Some x) = 0
-
--- how many have a place and are not laid
-abbrev pub free : Places → ℕ
-free [] = 0
-free (e ∷ es) = is_free e.1 + free es
 
 -- twice the places that are left, and what is not laid: it falls with each place that is given and each cost that is laid
 abbrev pub left : Places → ℕ

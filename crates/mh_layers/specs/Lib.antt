@@ -32,3 +32,5 @@ pub mod Dearest
 pub mod Caused
 pub mod Choosing
 pub mod Staging
+pub mod Looping
+pub mod Named

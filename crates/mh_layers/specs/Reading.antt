@@ -1,6 +1,7 @@
 -- A service as it is read for its layers, and the numbers of its keys: a key is told by the places of its configuration, of
 -- its object and of its value, each among all of its kind.
-use Rattle.std.specs.Prelude.{◌≡◌, ℕ, Bool, false, ◌&&◌, if◌then◌else◌, List, [], length, map, position, unwrap_or, get_or, Option, Result}
+use Rattle.std.specs.Prelude.{◌≡◌, ℕ, Bool, true, ◌&&◌, if◌then◌else◌, List, [], ◌∷◌, length, map, position, slice_get, unwrap_or, get_or, is_some, Option, None, Result}
+use Rattle.std.specs.List.{flat_map}
 use Rattle.std.specs.Option.{option_eq, option_map}
 use Rattle.std.specs.Str.{bytes_eq}
 use Rattle.indexmap.specs.IndexSet.{insert_all}
@@ -11,7 +12,7 @@ use Rattle.mh_base.specs.declared.event.EventType.{EventType}
 use Rattle.mh_base.specs.Event.{is_sync}
 use Rattle.mh_model.specs.declared.config.Config.{Config}
 use Rattle.mh_model.specs.declared.object.Fixed.{Fixed}
-use Rattle.mh_model.specs.Configuration.{present, starting}
+use Rattle.mh_model.specs.Configuration.{present}
 use Rattle.mh_model.specs.Reference.{group_ref, same_key}
 use Rattle.mh_model.specs.Service.{Service, is_there}
 use Rattle.mh_model.specs.Variables.{same_value}
@@ -98,18 +99,59 @@ number r (Leave c all) = key.Leave (config_number r c) all
 number r (Enter c) = key.Enter (config_number r c)
 number r (Taken c k) = key.Taken (config_number r c) k
 
--- Names: where there is none, any
+-- Names: where there is none, one that is not among those that have a number
+
+-- a name that is longer than each of these
+unfoldable pub longer : List (List ℕ) → List ℕ
+longer names = 0 ∷ flat_map (λ g. g) names
+
+abbrev pub octets_in : Value → List ℕ
+octets_in (value.Octets octets) = octets
+octets_in _ = []
+
+abbrev pub no_config : List Config → Config
+no_config cs = record { app = longer (map (λ c. c.app) cs); scene = None }
+
+abbrev pub no_object : List ObjRef → ObjRef
+no_object os = group_ref (longer (map (λ o. o.group) os))
+
+abbrev pub no_value : List Value → Value
+no_value xs = value.Octets (longer (map octets_in xs))
 
 abbrev pub config_named : Reading → ℕ → Config
-config_named r n = get_or (settings r) n (starting r.service)
+config_named r n = get_or (settings r) n (no_config (settings r))
 
 abbrev pub object_named : Reading → ℕ → ObjRef
-object_named r n = get_or r.listeners.objects n (group_ref [])
+object_named r n = get_or r.listeners.objects n (no_object r.listeners.objects)
+
+abbrev pub value_named : List Value → ℕ → Value
+value_named xs n = get_or xs n (no_value xs)
 
 abbrev pub hearing_named : Reading → ObjRef → EventType → Hears → Hearing
 hearing_named r o kind hears.Plain = Plain
-hearing_named r o kind (hears.With n) = With (get_or (values_read r o kind) n (value.Bool false))
+hearing_named r o kind (hears.With n) = With (value_named (values_read r o kind) n)
 hearing_named r o kind hears.Any = Any
+
+-- whether there is one
+
+abbrev pub has_config : Reading → ℕ → Bool
+has_config r n = is_some (slice_get (settings r) n)
+
+abbrev pub has_object : Reading → ℕ → Bool
+has_object r n = is_some (slice_get r.listeners.objects n)
+
+abbrev pub has_hearing : Reading → ObjRef → EventType → Hears → Bool
+has_hearing r o kind (hears.With n) = is_some (slice_get (values_read r o kind) n)
+has_hearing r o kind _ = true
+
+abbrev pub has_names : Reading → NodeKey → Bool
+has_names r (key.Effect c o n) = has_config r c && has_object r o
+has_names r (key.Fired c o kind g) = has_config r c && (has_object r o && has_hearing r (object_named r o) kind g)
+has_names r (key.Entry o kind g) = has_object r o && has_hearing r (object_named r o) kind g
+has_names r (key.Change c o) = has_config r c && has_object r o
+has_names r (key.Leave c all) = has_config r c
+has_names r (key.Enter c) = has_config r c
+has_names r (key.Taken c k) = has_config r c
 
 -- the key with a number
 abbrev pub name : Reading → NodeKey → Key

@@ -1,5 +1,5 @@
 -- The stages of a way, by numbers: what the actions of an effect cost, and the effect that comes next.
-use Rattle.std.specs.Prelude.{◌≡◌, ◌+◌, ℕ, false, true, List, [], ◌∷◌, ◌++◌, map, slice_get, Option, Some, None, Result, Ok}
+use Rattle.std.specs.Prelude.{◌≡◌, ◌<◌, ◌+◌, ℕ, false, true, List, [], ◌∷◌, ◌++◌, map, slice_get, Option, Some, None, Result, Ok}
 use Rattle.mh_model.specs.declared.act.Act.{Act}
 use Rattle.mh_model.specs.declared.config.Config.{Config}
 use Rattle.mh_laws.specs.Costs.{Costing, Effect}
@@ -15,11 +15,12 @@ use Rattle.mh_layers.specs.declared.way.Way.{Way}
 use Rattle.mh_layers.specs.Key.{Taken}
 use Rattle.mh_layers.specs.Bridge.{key_of}
 use Rattle.mh_layers.specs.Caused.{CountsFrom, IsNamed}
+use Rattle.mh_layers.specs.Choosing.{effect_cost}
 use Rattle.mh_layers.specs.Dearest.{AreStages, IsFirstLargest, IsWay, acts_of}
 use Rattle.mh_layers.specs.Known.{known_worth}
 use Rattle.mh_layers.specs.Layering.{Places}
 use Rattle.mh_layers.specs.Reading.{Reading, around_at, flow_read, known_by, number, spot_in}
-use Rattle.mh_layers.specs.Standings.{effect_named}
+use Rattle.mh_layers.specs.Standings.{cause_named, effect_named}
 
 -- what is told of the cost of an action
 abbrev pub act_worth : Reading → Places → Config → Act → Result ℕ NodeKey
@@ -27,6 +28,17 @@ act_worth r ts c a = known_worth (known_by r ts) (act (around_at (spot_in r c)) 
 
 abbrev pub all_known : List ℕ → List (Result ℕ NodeKey)
 all_known ns = map (λ (n : ℕ). Ok n) ns
+
+-- it is told
+pub record IsKnown (w : Result ℕ NodeKey) : Type 0 where
+  pub cost : ℕ
+  pub is : w ≡ Ok cost
+
+-- the effect costs something, which is laid, and has its own cause
+pub record IsCostly (r : Reading) (ts : Places) (d : Dearest) : Type 0 where
+  pub cause : d.cause ≡ cause_named r d.key
+  pub cost : d.cost ≡ effect_cost ts d.key
+  pub costs : 0 < d.cost
 
 -- the action with this place
 pub record IsPartAt (acts : List Act) (n m : ℕ) (p : Part) : Type 0 where

@@ -2,7 +2,7 @@
 //!
 //! Promise: the arrow is one of an action of the first effect that puts the other to work, as the flow allows; there is one for
 //! each step.
-ghost use Rattle.std.specs.Prelude.{◌≡◌, ◌+◌, Some, IfOk};
+ghost use Rattle.std.specs.Prelude.{◌≡◌, Some, IfOk};
 ghost use Rattle.mh_model.specs.Configuration.{present};
 ghost use Rattle.mh_model.specs.Service.{part_at};
 ghost use Rattle.mh_layers.specs.Deeds.{number_in};
@@ -21,6 +21,7 @@ use crate::effects::effect_acts;
 use crate::granting::held_for;
 use crate::net::Net;
 use crate::node_key::NodeKey;
+use crate::numbering::number_behind;
 use crate::putting::by_of;
 use crate::standing::cause_at;
 use mh_base::Seq;
@@ -77,20 +78,18 @@ fn arrow_by(
     alloc: Global,
     here: &At<'_>,
     cause: Cause,
+    index: usize,
     doing: &Doing<'_>,
     aim: &Fixed,
     by: By,
 ) -> Result<Arrow, AllocError>
     ensures cause { IfOk result (λ arrow. arrow.cause ≡ cause) }
-    ensures index { IfOk result (λ arrow. arrow.index ≡ cause.index + doing.now.offset) }
+    ensures index { IfOk result (λ arrow. arrow.index ≡ index) }
     ensures action { IfOk result (λ arrow. arrow.action ≡ doing.now.act.name) }
     ensures held { let s = here.now in let held = held_for s.reading.service (flow_read s.reading) s.config doing.now.act doing.now.at (source_of_lem aim.now) in
         IfOk result (λ arrow. arrow.held ≡ held) }
     ensures by { IfOk result (λ arrow. arrow.by ≡ by) }
 {
-    let Some(index) = cause.index.checked_add(doing.offset) else {
-        return Err(AllocError);
-    };
     let held = held_for(alloc, here, doing.act, doing.at, source_of(aim))?;
     Ok(Arrow {
         cause,
@@ -124,7 +123,8 @@ fn arrow_between(
     match doing_of(here, acts, first)? {
         None => unreachable!(),
         Some(doing) => {
-            let arrow = arrow_by(alloc, here, cause, &doing, aim, by)?;
+            let index = number_behind(alloc, part, number_of(from), doing.offset)?;
+            let arrow = arrow_by(alloc, here, cause, index, &doing, aim, by)?;
             Ok(arrow)
         }
     }

@@ -1,7 +1,7 @@
 //! All keys that are met on from some keys, each with those that it counts.
 //!
 //! Promise: each key that is counted is told, and no other.
-ghost use Rattle.std.specs.Prelude.{◌≡◌, None, false, length, slice_get, IfOk, OnOk};
+ghost use Rattle.std.specs.Prelude.{◌≡◌, ◌<◌, ◌-◌, ◌^◌, None, true, false, length, slice_get, IfOk, OnOk};
 ghost use Rattle.indexmap.specs.IndexSet.{insert_all};
 ghost use Rattle.mh_laws.specs.Each.{Each};
 ghost use Rattle.mh_layers.specs.Asked.{AreRows, Stays};
@@ -48,6 +48,7 @@ fn more(
     ensures rows { OnOk result (AreRows (price net.now) (kept net.now) keys.new.keys rows.new.items) }
     ensures stays { OnOk result (Stays keys.old.keys keys.new.keys) }
     ensures all { IfOk result (λ more. more ≡ false → slice_get keys.new.keys (length rows.new.items) ≡ None) }
+    ensures less { IfOk result (λ more. more ≡ true → 2 ^ 64 - length rows.new.items < 2 ^ 64 - length rows.old.items) }
 {
     let Some(key) = key_at(keys, rows.len()) else {
         return Ok(false);
@@ -72,10 +73,9 @@ pub(crate) fn rows_of(
     ensures all { IfOk result (λ rows. slice_get keys.new.keys (length rows.items) ≡ None) }
 {
     let mut rows = Vec::new(alloc);
-    for _ in 0..u64::MAX {
+    loop {
         if !more(alloc, net, keys, &mut rows)? {
             return Ok(rows);
         }
     }
-    Err(AllocError)
 }

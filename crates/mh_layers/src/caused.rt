@@ -1,9 +1,10 @@
 //! The keys that a key counts, at once or by way of keys that are no effects.
 //!
 //! Promise: each of them is found, and no other.
-ghost use Rattle.std.specs.Prelude.{◌≡◌, None, Some, false, slice_get, IfOk, OnOk};
+ghost use Rattle.std.specs.Prelude.{◌≡◌, ◌<◌, ◌^◌, None, Some, true, false, slice_get, IfOk, OnOk};
+ghost use Rattle.mh_laws.specs.Each.{Each};
 ghost use Rattle.mh_layers.specs.Caused.{AreReached, IsNamed, IsOpened, IsPut};
-ghost use Rattle.mh_layers.specs.Reading.{IsReading};
+ghost use Rattle.mh_layers.specs.Reading.{IsReading, kept};
 ghost use Rattle.mh_layers.specs.Stretches.{is_effect_key};
 
 use crate::asked::{key_at, put_all};
@@ -26,6 +27,7 @@ fn put_counted(
     found: &mut IndexSet<NodeKey>,
     key: &NodeKey,
 ) -> Result<(), AllocError>
+    requires { kept net.now key.now }
     ensures { OnOk result (IsPut net.now key.now found.old.keys found.new.keys) }
 {
     let row = counted_keys(alloc, net, key)?;
@@ -44,6 +46,7 @@ fn open(
 ) -> Result<(), AllocError>
     requires reading { IsReading net.now }
     requires there { slice_get found.old.keys place ≡ Some key.now }
+    requires kept { kept net.now key.now }
     ensures opened { OnOk result (IsOpened net.now place found.old.keys found.new.keys) }
 {
     if is_effect(key) {
@@ -62,9 +65,12 @@ fn open_at(
     place: usize,
 ) -> Result<bool, AllocError>
     requires reading { IsReading net.now }
+    requires kept { Each (kept net.now) found.old.keys }
     ensures opened { OnOk result (IsOpened net.now place found.old.keys found.new.keys) }
     ensures all { IfOk result (λ more. more ≡ false → slice_get found.new.keys place ≡ None) }
+    ensures within { IfOk result (λ more. more ≡ true → place < 2 ^ 63) }
 {
+    let _ = found.len();
     match key_at(found, place) {
         None => Ok(false),
         Some(key) => {
@@ -87,10 +93,11 @@ pub(crate) fn reached_from(
 {
     let mut found = IndexSet::new(alloc);
     put_counted(alloc, net, &mut found, root)?;
-    for place in 0..usize::MAX {
+    let mut place: usize = 0;
+    loop {
         if !open_at(alloc, net, &mut found, place)? {
             return Ok(found);
         }
+        place += 1;
     }
-    Err(AllocError)
 }

@@ -7,10 +7,12 @@ ghost use Rattle.std.specs.Option.{option_map_or};
 ghost use Rattle.std.specs.Ordering.{is_lt};
 ghost use Rattle.mh_flow.specs.Solved.{IsFlowOf, flow_in};
 ghost use Rattle.mh_paths.specs.Chains.{IsFirstCycle, NoCycle};
+ghost use Rattle.mh_laws.specs.Each.{Each};
 ghost use Rattle.mh_layers.specs.Arrows.{AreFirstArrows};
 ghost use Rattle.mh_layers.specs.Cycle.{NoCycles, by_standing};
 ghost use Rattle.mh_layers.specs.Layered.{active_keys};
 ghost use Rattle.mh_layers.specs.Layering.{AreLayers};
+ghost use Rattle.mh_layers.specs.Named.{IsEffectKept};
 ghost use Rattle.mh_layers.specs.Ranked.{IsOrder};
 ghost use Rattle.mh_layers.specs.Reading.{IsReading, flow_read, kept, price};
 ghost use Rattle.mh_layers.specs.Walk.{AreBest, IsTried, unlaid};
@@ -81,7 +83,8 @@ fn try_key(
     best: &mut Option<Best>,
     key: &NodeKey,
 ) -> Result<(), AllocError>
-    requires { IsOrder web.now.graph order.now.places.items order.now.behind }
+    requires order { IsOrder web.now.graph order.now.places.items order.now.behind }
+    requires effect { IsEffectKept net.now key.now }
     ensures { OnOk result (IsTried net.now web.now.keys.keys web.now.graph key.now best.old best.new) }
 {
     let cause = cause_of(net, key)?;
@@ -105,6 +108,7 @@ fn first_of(
     web: &Web,
     keys: &[NodeKey],
 ) -> Result<Option<Best>, AllocError>
+    requires { Each (IsEffectKept net.now) keys.now }
     ensures { IfOk result (λ best. AreBest net.now web.now.keys.keys web.now.graph keys.now best) }
 {
     let order = Order::of(alloc, &web.graph)?;

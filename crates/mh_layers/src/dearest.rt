@@ -2,9 +2,11 @@
 //!
 //! Promise: of effects that cost as much the first is told, by its place and then by its configuration; and none only where
 //! none costs anything.
-ghost use Rattle.std.specs.Prelude.{◌≡◌, nat_lt, true, Some, IfOk, OnOk};
+ghost use Rattle.std.specs.Prelude.{◌≡◌, ◌<◌, length, nat_lt, true, Some, IfOk, OnOk};
 ghost use Rattle.std.specs.Option.{option_map_or};
+ghost use Rattle.mh_laws.specs.Each.{Each};
 ghost use Rattle.mh_layers.specs.Layering.{cost_in};
+ghost use Rattle.mh_layers.specs.Reading.{kept};
 ghost use Rattle.mh_layers.specs.Taking.{or_nothing};
 ghost use Rattle.mh_layers.specs.Choosing.{AreChosen, IsLargest, IsSeen, effect_cost, is_dearer, number_at};
 
@@ -72,6 +74,7 @@ fn see(
     best: &mut Option<Dearest>,
     key: &NodeKey,
 ) -> Result<(), AllocError>
+    requires { kept net.now key.now }
     ensures { OnOk result (IsSeen net.now laying.now key.now best.old best.new) }
 {
     let cost = effect_cost(laying, key);
@@ -93,6 +96,7 @@ pub(crate) fn dearest_of(
     laying: &Laying,
     keys: &[NodeKey],
 ) -> Result<Option<Dearest>, AllocError>
+    requires { Each (kept net.now) keys.now }
     ensures { IfOk result (λ best. AreChosen net.now laying.now keys.now best) }
 {
     let mut best = None;
@@ -120,19 +124,17 @@ fn is_larger(numbers: &[u64], place: usize, best: usize) -> bool
     number_at(numbers, best) < number_at(numbers, place)
 }
 
-/// The place of the first of these that is largest; an error where there is none.
+/// The place of the first of these that is largest.
 #[tactic(auto, using(crate::proofs::DearestLemmas::largest_begins, crate::proofs::DearestLemmas::largest_new, crate::proofs::DearestLemmas::largest_same, crate::proofs::DearestLemmas::largest_all))]
-pub(crate) fn first_largest(numbers: &[u64]) -> Result<usize, AllocError>
-    ensures { IfOk result (λ place. IsLargest numbers.now place) }
+pub(crate) fn first_largest(numbers: &[u64]) -> usize
+    requires { 0 < length numbers.now }
+    ensures { IsLargest numbers.now result }
 {
-    if numbers.is_empty() {
-        return Err(AllocError);
-    }
     let mut best = 0;
     for place in 1..numbers.len() {
         if is_larger(numbers, place, best) {
             best = place;
         }
     }
-    Ok(best)
+    best
 }

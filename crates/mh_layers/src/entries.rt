@@ -1,7 +1,9 @@
 //! What an event comes to that waits: the largest over the configurations in which it can be taken.
 //!
 //! Promise: the price is added to the sum, by the numbers of keys.
-ghost use Rattle.std.specs.Prelude.{◌≡◌, IfOk};
+ghost use Rattle.std.specs.Prelude.{◌≡◌, true, IfOk};
+ghost use Rattle.std.specs.List.{list_all};
+ghost use Rattle.mh_laws.specs.Flow.{reached};
 ghost use Rattle.mh_laws.specs.Price.{most_price};
 ghost use Rattle.mh_prices.specs.Meter.{Adds, raise};
 ghost use Rattle.mh_layers.specs.Reading.{flow_read, spot_in, there_by};
@@ -28,6 +30,7 @@ fn fired_in<M: Meter>(
     hears: Hears,
     sum: M::Sum,
 ) -> Result<M::Sum, AllocError>
+    requires { reached (flow_read net.now) config.now ≡ true }
     ensures { let p = there_by (spot_in net.now config.now) source.now kind hears in
         Adds M.seen (M.meter meter.now) p sum result }
 {
@@ -35,7 +38,7 @@ fn fired_in<M: Meter>(
     if !is_entered(config, &source.group) {
         return Ok(sum);
     }
-    let here = reached(net, config)?;
+    let here = reached(net, config);
     let walk = Walk { here: &here, meter };
     walk.fired_if_there(source, kind, hears, sum)
 }
@@ -51,6 +54,7 @@ fn configs_from<M: Meter>(
     mark: M::Mark,
     sum: M::Sum,
 ) -> Result<(M::Mark, M::Sum), AllocError>
+    requires { list_all (reached (flow_read net.now)) configs.now ≡ true }
     ensures { let r = net.now in
         let p = most_price (λ c. there_by (spot_in r c) source.now kind hears) configs.now in
         IfOk result (λ x. (M.marked x.0, M.seen x.1) ≡ raise (M.meter meter.now) p (M.marked mark, M.seen sum)) }

@@ -1,7 +1,7 @@
 //! What an event sets going in a configuration: the effects of the links that wait for it.
 //!
 //! Promise: what the key of such an event comes to is added to the sum, by the numbers of keys.
-ghost use Rattle.std.specs.Prelude.{◌≡◌, ◌&&◌, filter, slice_get, IfOk, Some};
+ghost use Rattle.std.specs.Prelude.{◌≡◌, ◌&&◌, filter, slice_get, true, IfOk, Some};
 ghost use Rattle.mh_model.specs.Configuration.{scene_parts as scene_parts_lem};
 ghost use Rattle.mh_model.specs.Variables.{same_value};
 ghost use Rattle.mh_laws.specs.Price.{Node, most_price, sum_price};
@@ -11,11 +11,10 @@ ghost use Rattle.mh_layers.specs.Key.{Any, Fired, With};
 ghost use Rattle.mh_layers.specs.Keys.{data_of, links_with as links_with_lem, waits_for};
 ghost use Rattle.mh_layers.specs.Listening.{link_node};
 ghost use Rattle.mh_layers.specs.Numbered.{through};
-ghost use Rattle.mh_layers.specs.Reading.{hearing_named, number as number_of, price_read, values_read};
+ghost use Rattle.mh_layers.specs.Reading.{has_hearing, hearing_named, number as number_of, price_read, values_read};
 
 use crate::at::At;
 use crate::meter::Meter;
-use crate::named::value;
 use crate::node_key::Hears;
 use crate::values::Datum;
 use crate::walk::Walk;
@@ -185,15 +184,13 @@ pub(crate) fn fired<M: Meter>(
     hears: Hears,
     sum: M::Sum,
 ) -> Result<M::Sum, AllocError>
+    requires { has_hearing walk.now.here.now.reading source.now kind hears ≡ true }
     ensures { let s = walk.now.here.now in let m = through (number_of s.reading) (M.meter walk.now.meter.now) in
         Adds M.seen m (price_read s.reading (Fired s.config source.now kind (hearing_named s.reading source.now kind hears))) sum result }
 {
     match hears {
         Hears::Plain => plain(walk, source, kind, sum),
-        Hears::With(number) => {
-            let _ = value(walk.here.net(), source, kind, number)?;
-            with(walk, source, kind, number, sum)
-        }
+        Hears::With(number) => with(walk, source, kind, number, sum),
         Hears::Any => any(walk, source, kind, sum),
     }
 }

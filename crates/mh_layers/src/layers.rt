@@ -9,6 +9,7 @@ ghost use Rattle.mh_laws.specs.Layers.{IsLayering};
 ghost use Rattle.mh_flow.specs.Solved.{IsFlowOf, flow_in};
 ghost use Rattle.mh_layers.specs.declared.node_key.NodeKey.TheVariants as key;
 ghost use Rattle.mh_layers.specs.Bridge.{key_of};
+ghost use Rattle.mh_layers.specs.Cycle.{NoCycles};
 ghost use Rattle.mh_layers.specs.Layered.{AreLayersOf, cost_laid, rank_laid};
 ghost use Rattle.mh_layers.specs.Layering.{cost_in};
 ghost use Rattle.mh_layers.specs.Reading.{config_number, number as number_of_key};
@@ -53,7 +54,8 @@ impl<'a> Layers<'a> {
         self.bounds
     }
 
-    /// The rank of an effect: the object's effects are start-up, close-down, what a link does, and then slots.
+    /// The rank of an effect, and 0 of one that is not laid: the object's effects are start-up, close-down, what a link does, and
+    /// then slots.
     pub fn rank(&self, config: &Config, at: &ObjRef, number: usize) -> usize
         ensures { result ≡ rank_laid self.now (record { config = config.now; object = at.now; number = number }) }
     {
@@ -63,7 +65,8 @@ impl<'a> Layers<'a> {
         }
     }
 
-    /// What the effect costs; nothing, if it is not laid, since then it has no actions.
+    /// What the effect costs; nothing, if it is not laid. An active effect is not laid only if it has no actions; of one that is
+    /// active nowhere this says nothing.
     pub fn cost(&self, config: &Config, at: &ObjRef, number: usize) -> u64
         ensures { result ≡ cost_laid self.now (record { config = config.now; object = at.now; number = number }) }
     {
@@ -178,6 +181,7 @@ pub fn lay_service<'a>(
     requires { IsFlowOf service.now flow.now }
     ensures layers { IfOk result (AreLayersOf service.now flow.now) }
     ensures cycle { IsErrOf result LayersError.Cycle → (rank : _) → IsLayering service.now (flow_in service.now flow.now) rank → ⊥ }
+    ensures looped { IsErrOf result LayersError.Cycle → NoCycles service.now (flow_in service.now flow.now) → ⊥ }
 {
     let net = Net::of(alloc, service, flow)?;
     net.read();

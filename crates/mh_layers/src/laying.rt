@@ -3,6 +3,7 @@ ghost use Rattle.std.specs.Prelude.{◌≡◌, [], None, true, false, length, On
 ghost use Rattle.std.specs.List.{list_all};
 ghost use Rattle.mh_laws.specs.Each.{Each};
 ghost use Rattle.mh_layers.specs.Layering.{AreLayers, AreWaiting, CountsKept, Grows, IsNoted, IsPlaced, IsSettled, IsStep, IsWaiting, IsWaitingAt, NoneRanked, has_place, is_laid, laid_in};
+ghost use Rattle.mh_layers.specs.Looping.{HasLoop};
 
 use crate::costs::{Costs, Laid};
 use crate::node_key::NodeKey;
@@ -60,20 +61,13 @@ impl Model for Laying {
     ghost use Rattle.std.specs.Prelude.{List, Option};
     ghost use Rattle.mh_layers.specs.declared.costs.Laid.{Laid as LaidLem};
     ghost use Rattle.mh_layers.specs.declared.node_key.NodeKey.{NodeKey as NodeKeyLem};
-    ghost use Rattle.mh_layers.specs.Layering.{AreBelow};
+    ghost use Rattle.mh_layers.specs.Layering.{AreBelow, HasRoom};
 
     ghost Value = { List (NodeKeyLem × Option LaidLem) };
 
     ghost view = { λ l. l.costs };
 
-    ghost invariant = { λ l. AreBelow l.costs l.next };
-}
-
-/// A key on the path of a dive: it is looked at for the first time, or again once what it waited for was.
-#[derive(Clone, Copy)]
-struct Step {
-    key: NodeKey,
-    again: bool,
+    ghost invariant = { λ l. AreBelow l.costs l.next × HasRoom l.costs l.next };
 }
 
 impl Laying {
@@ -89,6 +83,10 @@ impl Laying {
         })
     }
 
+    pub(crate) fn allocator(&self) -> Global {
+        self.alloc
+    }
+
     /// What is known so far.
     pub fn costs(&self) -> &Costs
         ensures { result.now ≡ self.now }
@@ -98,21 +96,20 @@ impl Laying {
 
     /// Lays a key with this cost.
     fn note(&mut self, key: NodeKey, cost: u64) -> Result<(), AllocError>
+        requires { laid_in self.old key ≡ None }
         ensures noted { OnOk result (IsNoted self.old self.new key cost) }
         ensures kept { OnErr result (self.new ≡ self.old) }
     {
         let rank = self.next;
-        let Some(next) = rank.checked_add(1) else {
-            return Err(AllocError);
-        };
+        let _ = self.costs.len();
         self.costs.set(key, Some(Laid { cost, rank }))?;
-        self.next = next;
+        self.next = rank + 1;
         Ok(())
     }
 
     /// Gives a key a place, if it has none: whether it had none.
     #[tactic(auto, using(crate::proofs::LayingLemmas::placed_before))]
-    fn place(&mut self, key: NodeKey) -> Result<bool, AllocError>
+    pub(crate) fn place(&mut self, key: NodeKey) -> Result<bool, AllocError>
         ensures placed { IfOk result (λ given. IsPlaced self.old self.new key given) }
         ensures kept { OnErr result (self.new ≡ self.old) }
     {
@@ -127,7 +124,7 @@ impl Laying {
 
     /// Lays a key that is not laid, if all that it counts is: else what it waits for.
     #[tactic(auto, using(crate::proofs::LayingLemmas::noted_layers, crate::proofs::LayingLemmas::noted_grows, crate::proofs::LayingLemmas::settled_noted, crate::proofs::LayingLemmas::settled_waits, crate::proofs::LayingLemmas::grows_same, crate::proofs::LayingLemmas::grows_equal))]
-    fn settle<P: Prices>(
+    pub(crate) fn settle<P: Prices>(
         &mut self,
         prices: &P,
         key: &NodeKey,
@@ -222,93 +219,6 @@ impl Laying {
         }
     }
 
-    /// Lays what can be, each key behind those that it counts, from this one on. What is left to the rounds is no
-    /// matter of promises.
-    #[tactic(auto, using(crate::proofs::LayingLemmas::grows_on, crate::proofs::LayingLemmas::grows_same))]
-    fn dive<P: Prices>(
-        &mut self,
-        prices: &P,
-        path: &mut Vec<Step>,
-        root: NodeKey,
-    ) -> Result<(), AllocError>
-        requires layers { AreLayers (P.price prices.now) (P.kept prices.now) self.old }
-        ensures layers { AreLayers (P.price prices.now) (P.kept prices.now) self.new }
-        ensures grows { Grows self.old self.new }
-    {
-        path.push(Step {
-            key: root,
-            again: false,
-        })?;
-        for _ in 0..u64::MAX {
-            let Some(step) = path.pop() else {
-                break;
-            };
-            if !self.is_passed(&step) {
-                self.visit(prices, path, step.key)?;
-            }
-        }
-        Ok(())
-    }
-
-    /// Whether there is nothing to do: the key was looked at, and does not come again.
-    fn is_passed(&self, step: &Step) -> bool {
-        match self.costs.at(&step.key) {
-            None => false,
-            Some(_) => !step.again,
-        }
-    }
-
-    /// Lays a key, or has those looked at first that it waits for.
-    #[tactic(auto, using(crate::proofs::LayingLemmas::placed_layers, crate::proofs::LayingLemmas::placed_grows, crate::proofs::LayingLemmas::grows_on, crate::proofs::LayingLemmas::grows_same))]
-    fn visit<P: Prices>(
-        &mut self,
-        prices: &P,
-        path: &mut Vec<Step>,
-        key: NodeKey,
-    ) -> Result<(), AllocError>
-        requires layers { AreLayers (P.price prices.now) (P.kept prices.now) self.old }
-        ensures layers { AreLayers (P.price prices.now) (P.kept prices.now) self.new }
-        ensures grows { Grows self.old self.new }
-    {
-        if self.costs.laid(&key).is_some() {
-            return Ok(());
-        }
-        self.costs.forget();
-        if self.settle(prices, &key)?.is_some() {
-            self.place(key)?;
-            self.open(path, key)?;
-        }
-        Ok(())
-    }
-
-    /// What was asked for and has no place goes on the path, in front of the key that waits for it.
-    fn open(&self, path: &mut Vec<Step>, key: NodeKey) -> Result<(), AllocError> {
-        let wanted = self.costs.wanted();
-        if wanted == 0 {
-            return Ok(());
-        }
-        path.push(Step { key, again: true })?;
-        for place in 0..wanted {
-            if let Some(key) = self.costs.want_at(place) {
-                path.push(Step { key, again: false })?;
-            }
-        }
-        Ok(())
-    }
-
-    #[tactic(auto, using(crate::proofs::LayingLemmas::grows_on, crate::proofs::LayingLemmas::grows_same))]
-    fn dives<P: Prices>(&mut self, prices: &P, roots: &[NodeKey]) -> Result<(), AllocError>
-        requires layers { AreLayers (P.price prices.now) (P.kept prices.now) self.old }
-        ensures layers { AreLayers (P.price prices.now) (P.kept prices.now) self.new }
-        ensures grows { Grows self.old self.new }
-    {
-        let mut path = Vec::new(self.alloc);
-        for root in roots {
-            self.dive(prices, &mut path, *root)?;
-        }
-        Ok(())
-    }
-
     /// Gives each of these a place.
     #[tactic(auto, using(crate::proofs::LayingLemmas::placed_layers, crate::proofs::LayingLemmas::placed_grows, crate::proofs::LayingLemmas::grows_on, crate::proofs::LayingLemmas::grows_same))]
     fn places<P: Prices>(&mut self, prices: &P, roots: &[NodeKey]) -> Result<(), AllocError>
@@ -347,6 +257,7 @@ impl Laying {
         ensures grows { Grows self.old self.new }
         ensures laid { OnOk result (list_all (is_laid self.new) roots.now ≡ true) }
         ensures cycle { IsErrOf result LayersError.Cycle → NoneRanked (P.price prices.now) (P.kept prices.now) }
+        ensures looped { IsErrOf result LayersError.Cycle → HasLoop (P.price prices.now) (P.kept prices.now) }
     {
         self.dives(prices, roots)?;
         if self.has_all(roots) {
@@ -370,6 +281,7 @@ pub fn lay<P: Prices>(alloc: Global, prices: &P, roots: &[NodeKey]) -> Result<La
     ensures layers { IfOk result (λ laying. AreLayers (P.price prices.now) (P.kept prices.now) laying) }
     ensures laid { IfOk result (λ laying. list_all (is_laid laying) roots.now ≡ true) }
     ensures cycle { IsErrOf result LayersError.Cycle → NoneRanked (P.price prices.now) (P.kept prices.now) }
+    ensures looped { IsErrOf result LayersError.Cycle → HasLoop (P.price prices.now) (P.kept prices.now) }
 {
     let mut laying = Laying::new(alloc)?;
     laying.reach(prices, roots)?;

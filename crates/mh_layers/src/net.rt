@@ -15,7 +15,9 @@ ghost use Rattle.mh_layers.specs.Reading.{IsReading, NumbersAreNames, config_num
 ghost use Rattle.mh_model.specs.Variables.{same_value};
 
 use crate::listening::Listeners;
-use crate::timers::{SetTimer, Timers};
+use crate::set_timer::SetTimer;
+use crate::settings::{each_once, held_in_each, is_setting, setting};
+use crate::timers::Timers;
 use crate::values::Values;
 use indexmap::IndexSet;
 use mh_base::{EventType, GroupName, ObjRef, Value};
@@ -54,59 +56,6 @@ impl<'a> Model for Net<'a> {
         IsNet (record { service = n.service.now; flow = n.flow.now; listeners = n.listeners }) n.all.items n.configs.keys n.held.items n.timers };
 }
 
-fn copied(config: &Config) -> Result<Config, AllocError>
-    ensures { IfOk result (λ copy. copy ≡ config.now) }
-{
-    config.clone()
-}
-
-fn put(configs: &mut IndexSet<Config>, config: &Config) -> Result<(), AllocError>
-    ensures { OnOk result (configs.new.keys ≡ insert_all same_setting configs.old.keys (config.now ∷ [])) }
-{
-    configs.insert(copied(config)?)?;
-    Ok(())
-}
-
-/// These, each once.
-fn each_once(alloc: Global, all: &[Config]) -> Result<IndexSet<Config>, AllocError>
-    ensures { IfOk result (λ configs. configs.keys ≡ insert_all same_setting [] all.now) }
-{
-    let mut configs = IndexSet::new(alloc);
-    for config in all {
-        put(&mut configs, config)?;
-    }
-    Ok(configs)
-}
-
-fn setting(app: &GroupName, scene: Option<&GroupName>) -> Result<Config, AllocError>
-    ensures { IfOk result (λ config. config ≡ spec_setting app.now (option_copied scene.entry)) }
-{
-    let scene = match scene {
-        None => None,
-        Some(scene) => Some(scene.clone()?),
-    };
-    Ok(Config {
-        app: app.clone()?,
-        scene,
-    })
-}
-
-fn is_same_scene(first: Option<&GroupName>, second: &Option<GroupName>) -> bool
-    ensures { result ≡ option_eq bytes_eq (option_copied first.entry) second.now }
-{
-    match (first, second) {
-        (None, None) => true,
-        (Some(first), Some(second)) => *first == *second,
-        _ => false,
-    }
-}
-
-fn is_setting(app: &GroupName, scene: Option<&GroupName>, config: &Config) -> bool
-    ensures { result ≡ same_setting (spec_setting app.now (option_copied scene.entry)) config.now }
-{
-    *app == config.app && is_same_scene(scene, &config.scene)
-}
-
 fn value_place(values: &Values, value: &Value) -> usize
     ensures { result ≡ place_among (same_value value.now) values.now }
 {
@@ -114,23 +63,6 @@ fn value_place(values: &Values, value: &Value) -> usize
         None => values.len(),
         Some(number) => number,
     }
-}
-
-/// What is held in each of these configurations.
-fn held_in_each(
-    alloc: Global,
-    service: &Equipped<'_>,
-    flow: &Flow,
-    configs: &[Config],
-) -> Result<Vec<Held>, AllocError>
-    requires { IsFlowOf service.now flow.now }
-    ensures { IfOk result (λ held. held.items ≡ map (held_in service.now flow.now) configs.now) }
-{
-    let mut held = Vec::new(alloc);
-    for config in configs {
-        held.push(flow.held(alloc, service, config)?)?;
-    }
-    Ok(held)
 }
 
 impl<'a> Net<'a> {

@@ -1,11 +1,12 @@
 //! What each key of a net comes to.
 //!
 //! Promise: the price of the key is added to the sum, by the numbers of keys.
+ghost use Rattle.std.specs.Prelude.{◌≡◌, true};
 ghost use Rattle.mh_prices.specs.Meter.{Adds};
 ghost use Rattle.mh_layers.specs.declared.node_key.NodeKey.TheVariants as key_lem;
 ghost use Rattle.mh_layers.specs.Key.{Effect, Enter, Fired, Leave};
 ghost use Rattle.mh_layers.specs.Numbered.{through};
-ghost use Rattle.mh_layers.specs.Reading.{name, number as number_of, price_read};
+ghost use Rattle.mh_layers.specs.Reading.{has_config, has_hearing, has_names, has_object, name, number as number_of, object_named, price_read};
 
 use crate::bounds::InputKind;
 use crate::effects::effect_acts;
@@ -56,11 +57,13 @@ fn effect_key<M: Meter>(
     number: usize,
     sum: M::Sum,
 ) -> Result<M::Sum, AllocError>
+    requires config { has_config net.now config ≡ true }
+    requires object { has_object net.now at ≡ true }
     ensures { let r = net.now in let m = through (number_of r) (M.meter meter.now) in
         Adds M.seen m (price_read r (name r (key_lem.Effect config at number))) sum result }
 {
-    let here = standing(net, config)?;
-    let at = object(net, at)?;
+    let here = standing(net, config);
+    let at = object(net, at);
     let walk = Walk { here: &here, meter };
     effect(&walk, at, number, sum)
 }
@@ -74,11 +77,14 @@ fn fired_key<M: Meter>(
     hears: Hears,
     sum: M::Sum,
 ) -> Result<M::Sum, AllocError>
+    requires config { has_config net.now config ≡ true }
+    requires object { has_object net.now source ≡ true }
+    requires hearing { has_hearing net.now (object_named net.now source) kind hears ≡ true }
     ensures { let r = net.now in let m = through (number_of r) (M.meter meter.now) in
         Adds M.seen m (price_read r (name r (key_lem.Fired config source kind hears))) sum result }
 {
-    let here = standing(net, config)?;
-    let source = object(net, source)?;
+    let here = standing(net, config);
+    let source = object(net, source);
     let walk = Walk { here: &here, meter };
     fired(&walk, source, kind, hears, sum)
 }
@@ -92,11 +98,13 @@ fn entry_key<M: Meter>(
     hears: Hears,
     sum: M::Sum,
 ) -> Result<M::Sum, AllocError>
+    requires object { has_object net.now source ≡ true }
+    requires hearing { has_hearing net.now (object_named net.now source) kind hears ≡ true }
     ensures { let r = net.now in let m = through (number_of r) (M.meter meter.now) in
         Adds M.seen m (price_read r (name r (key_lem.Entry source kind hears))) sum result }
 {
-    let source = object(net, source)?;
-    let hears = hearing(net, source, kind, hears)?;
+    let source = object(net, source);
+    let hears = hearing(net, source, kind, hears);
     configs_most(net, meter, source, kind, hears, meter.one(sum))
 }
 
@@ -107,11 +115,13 @@ fn change_key<M: Meter>(
     list: usize,
     sum: M::Sum,
 ) -> Result<M::Sum, AllocError>
+    requires config { has_config net.now config ≡ true }
+    requires object { has_object net.now list ≡ true }
     ensures { let r = net.now in let m = through (number_of r) (M.meter meter.now) in
         Adds M.seen m (price_read r (name r (key_lem.Change config list))) sum result }
 {
-    let here = standing(net, config)?;
-    let list = object(net, list)?;
+    let here = standing(net, config);
+    let list = object(net, list);
     change(&Walk { here: &here, meter }, list, sum)
 }
 
@@ -122,10 +132,11 @@ fn leave_key<M: Meter>(
     all: bool,
     sum: M::Sum,
 ) -> Result<M::Sum, AllocError>
+    requires config { has_config net.now config ≡ true }
     ensures { let r = net.now in let m = through (number_of r) (M.meter meter.now) in
         Adds M.seen m (price_read r (name r (key_lem.Leave config all))) sum result }
 {
-    let here = standing(net, config)?;
+    let here = standing(net, config);
     leave(&Walk { here: &here, meter }, all, sum)
 }
 
@@ -135,10 +146,11 @@ fn enter_key<M: Meter>(
     config: usize,
     sum: M::Sum,
 ) -> Result<M::Sum, AllocError>
+    requires config { has_config net.now config ≡ true }
     ensures { let r = net.now in let m = through (number_of r) (M.meter meter.now) in
         Adds M.seen m (price_read r (name r (key_lem.Enter config))) sum result }
 {
-    let here = standing(net, config)?;
+    let here = standing(net, config);
     entering(&Walk { here: &here, meter }, sum)
 }
 
@@ -149,10 +161,11 @@ fn taken_key<M: Meter>(
     kind: InputKind,
     sum: M::Sum,
 ) -> Result<M::Sum, AllocError>
+    requires config { has_config net.now config ≡ true }
     ensures { let r = net.now in let m = through (number_of r) (M.meter meter.now) in
         Adds M.seen m (price_read r (name r (key_lem.Taken config kind))) sum result }
 {
-    let here = standing(net, config)?;
+    let here = standing(net, config);
     taken(&Walk { here: &here, meter }, kind, sum)
 }
 
@@ -163,6 +176,7 @@ pub(crate) fn price<M: Meter>(
     key: &NodeKey,
     sum: M::Sum,
 ) -> Result<M::Sum, AllocError>
+    requires { has_names net.now key.now ≡ true }
     ensures { let r = net.now in let m = through (number_of r) (M.meter meter.now) in
         Adds M.seen m (price_read r (name r key.now)) sum result }
 {

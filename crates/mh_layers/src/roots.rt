@@ -1,7 +1,7 @@
 //! The keys that are laid first: of the start, of all inputs, and of all active effects that have actions.
 //!
 //! Promise: each of them is there, in the order of configurations and of what is present.
-ghost use Rattle.std.specs.Prelude.{◌≡◌, ◌++◌, ◌∷◌, [], length, map, filter, IfOk, IfSome, OnOk};
+ghost use Rattle.std.specs.Prelude.{◌≡◌, ◌++◌, ◌∷◌, [], length, map, filter, IfOk, OnOk};
 ghost use Rattle.std.specs.List.{flat_map, range_with_len};
 ghost use Rattle.mh_model.specs.Configuration.{starting as starting_lem};
 ghost use Rattle.mh_laws.specs.Active.{is_active};
@@ -14,19 +14,17 @@ use crate::bounds::InputKind;
 use crate::effects::effect_acts;
 use crate::net::Net;
 use crate::node_key::NodeKey;
-use crate::slots::known_slots;
+use crate::slots::slot_count;
 use mh_flow::{Equipped, Present};
 use mh_model::{Config, Fixed, FixedPart};
 use std::alloc::{AllocError, Global};
 
-/// How many effects an object has, if a number can tell.
-fn effect_count(part: &Fixed) -> Option<usize>
-    ensures { IfSome result (λ n. n ≡ length (effects part.now)) }
+/// How many effects an object has.
+fn effect_count(alloc: Global, part: &Fixed) -> Result<usize, AllocError>
+    ensures { IfOk result (λ n. n ≡ length (effects part.now)) }
 {
-    match known_slots(part) {
-        None => None,
-        Some(slots) => slots.checked_add(3),
-    }
+    let slots = slot_count(alloc, part)?;
+    Ok(slots + 3)
 }
 
 /// Whether the object's effect with this number has actions: one without costs nothing, and puts nothing to work.
@@ -79,10 +77,8 @@ fn push_part(
 ) -> Result<(), AllocError>
     ensures { OnOk result (keys.new.items ≡ keys.old.items ++ keys_at net.now config part.now) }
 {
-    match effect_count(part) {
-        None => Err(AllocError),
-        Some(count) => push_acting(keys, net, config, part, count),
-    }
+    let count = effect_count(net.allocator(), part)?;
+    push_acting(keys, net, config, part, count)
 }
 
 /// Puts the keys of the effects of those of these parts that are active.

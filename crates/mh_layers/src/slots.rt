@@ -1,31 +1,41 @@
 //! How many slots an object has.
 //!
-//! Promise: slots are counted as they are written.
-ghost use Rattle.std.specs.Prelude.{◌≡◌, length, IfSome};
+//! Promise: slots are counted as they are written. They are counted by a list of them, since lists of slots can be shared:
+//! nothing but memory bounds how many there are.
+ghost use Rattle.std.specs.Prelude.{◌≡◌, ◌+◌, ◌<◌, ◌^◌, length, IfOk, OnOk};
 ghost use Rattle.std.specs.List.{flat_map};
 ghost use Rattle.mh_laws.specs.Ways.{slots_of};
 
 use crate::effects::members;
-use mh_model::{Fixed, Member};
+use mh_model::{Effect, Fixed, Member};
+use std::alloc::{AllocError, Global};
 
-/// How many slots these members have, if a number can tell.
-fn count(members: &[Member]) -> Option<usize>
-    ensures { IfSome result (λ n. n ≡ length (flat_map (λ m. m.slots) members.now)) }
+/// Puts these slots behind those.
+fn push_slots<'a>(slots: &mut Vec<&'a Effect>, more: &'a [Effect]) -> Result<(), AllocError>
+    ensures { OnOk result (length slots.new.items ≡ length slots.old.items + length more.now) }
 {
-    let mut count: usize = 0;
-    for member in members {
-        let slots = member.slots.as_slice().len();
-        match count.checked_add(slots) {
-            None => return None,
-            Some(sum) => count = sum,
-        }
+    for slot in more {
+        slots.push(slot)?;
     }
-    Some(count)
+    Ok(())
 }
 
-/// How many slots the object has, if a number can tell.
-pub(crate) fn known_slots(part: &Fixed) -> Option<usize>
-    ensures { IfSome result (λ n. n ≡ length (slots_of part.now)) }
+/// The slots of these members.
+fn slots_in(alloc: Global, members: &[Member]) -> Result<Vec<&Effect>, AllocError>
+    ensures { IfOk result (λ slots. length slots.items ≡ length (flat_map (λ m. m.slots) members.now)) }
 {
-    count(members(part))
+    let mut slots = Vec::new(alloc);
+    for member in members {
+        push_slots(&mut slots, member.slots.as_slice())?;
+    }
+    Ok(slots)
+}
+
+/// How many slots the object has.
+pub(crate) fn slot_count(alloc: Global, part: &Fixed) -> Result<usize, AllocError>
+    ensures count { IfOk result (λ n. n ≡ length (slots_of part.now)) }
+    ensures small { IfOk result (λ n. n < 2 ^ 63) }
+{
+    let slots = slots_in(alloc, members(part))?;
+    Ok(slots.len())
 }

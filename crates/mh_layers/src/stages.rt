@@ -1,15 +1,17 @@
 //! The stages of a way: the dearest effect that a key puts to work, the dearest that this one does, and so on.
 //!
 //! Promise: each tells of its effect, what that costs, and the first of its actions that cost most.
-ghost use Rattle.std.specs.Prelude.{◌≡◌, ◌+◌, true, map, Ok, Some, IfOk};
+ghost use Rattle.std.specs.Prelude.{◌≡◌, ◌<◌, ◌+◌, length, true, map, Ok, IfOk};
 ghost use Rattle.std.specs.List.{list_all};
+ghost use Rattle.mh_laws.specs.Each.{Each};
 ghost use Rattle.mh_layers.specs.Caused.{IsNamed};
+ghost use Rattle.mh_layers.specs.Choosing.{effect_cost};
 ghost use Rattle.mh_layers.specs.Dearest.{acts_of};
 ghost use Rattle.mh_layers.specs.Layered.{root_keys};
 ghost use Rattle.mh_layers.specs.Layering.{AreLayers, is_laid};
 ghost use Rattle.mh_layers.specs.Reading.{IsReading, kept, price};
-ghost use Rattle.mh_layers.specs.Staging.{AreStagesFrom, IsNext, IsPart, IsPartAt, IsStageBy, act_worth, all_known};
-ghost use Rattle.mh_layers.specs.Standings.{effect_named};
+ghost use Rattle.mh_layers.specs.Staging.{AreStagesFrom, IsCostly, IsKnown, IsNext, IsPart, IsPartAt, IsStageBy, act_worth, all_known};
+ghost use Rattle.mh_layers.specs.Standings.{cause_named, effect_named};
 ghost use Rattle.mh_layers.specs.Trails.{IsActive};
 
 use crate::arrows::{config_of, number_of, part_of};
@@ -22,6 +24,7 @@ use crate::laying::Laying;
 use crate::meters::KnownCosts;
 use crate::net::Net;
 use crate::node_key::NodeKey;
+use crate::numbering::number_behind;
 use crate::walk::Walk;
 use crate::way::Stage;
 use mh_group::ActionName;
@@ -49,6 +52,7 @@ pub(crate) struct Next {
 /// What an action costs.
 #[tactic(auto, using(crate::proofs::KnowingLemmas::known_named))]
 fn act_cost(here: &At<'_>, costs: &Costs, each: &Act) -> Result<u64, AllocError>
+    requires { let s = here.now in IsKnown (act_worth s.reading costs.now s.config each.now) }
     ensures { let s = here.now in IfOk result (λ cost. act_worth s.reading costs.now s.config each.now ≡ Ok cost) }
 {
     let known = KnownCosts { costs };
@@ -58,7 +62,7 @@ fn act_cost(here: &At<'_>, costs: &Costs, each: &Act) -> Result<u64, AllocError>
     };
     match act(&walk, each, Ok(0))? {
         Ok(cost) => Ok(cost),
-        Err(_) => Err(AllocError),
+        Err(_) => unreachable!(),
     }
 }
 
@@ -69,6 +73,7 @@ fn act_costs(
     costs: &Costs,
     acts: &[Act],
 ) -> Result<Vec<u64>, AllocError>
+    requires { let s = here.now in Each (λ a. IsKnown (act_worth s.reading costs.now s.config a)) acts.now }
     ensures { let s = here.now in
         IfOk result (λ found. map (act_worth s.reading costs.now s.config) acts.now ≡ all_known found.items) }
 {
@@ -80,16 +85,14 @@ fn act_costs(
 }
 
 /// The action at this place, which costs so much.
-fn part_at(acts: &[Act], offset: usize, cost: u64) -> Result<Part, AllocError>
-    ensures { IfOk result (λ part. IsPartAt acts.now offset cost part) }
+fn part_at(acts: &[Act], offset: usize, cost: u64) -> Part
+    requires { offset < length acts.now }
+    ensures { IsPartAt acts.now offset cost result }
 {
-    match acts.get(offset) {
-        None => Err(AllocError),
-        Some(act) => Ok(Part {
-            offset,
-            action: act.name,
-            cost,
-        }),
+    Part {
+        offset,
+        action: acts[offset].name,
+        cost,
     }
 }
 
@@ -100,14 +103,15 @@ fn dearest_act(
     costs: &Costs,
     acts: &[Act],
 ) -> Result<Part, AllocError>
+    requires known { let s = here.now in Each (λ a. IsKnown (act_worth s.reading costs.now s.config a)) acts.now }
+    requires some { 0 < length acts.now }
     ensures { let s = here.now in IfOk result (IsPart s.reading costs.now s.config acts.now) }
 {
     let found = act_costs(alloc, here, costs, acts)?;
     let numbers = found.as_slice();
-    let offset = first_largest(numbers)?;
+    let offset = first_largest(numbers);
     let cost = number_at(numbers, offset);
-    let part = part_at(acts, offset, cost)?;
-    Ok(part)
+    Ok(part_at(acts, offset, cost))
 }
 
 /// The first action of the effect that costs most.
@@ -119,6 +123,8 @@ fn dearest_part(
 ) -> Result<Part, AllocError>
     requires reading { IsReading net.now }
     requires active { IsActive net.now key.now }
+    requires layers { AreLayers (price net.now) (kept net.now) laying.now }
+    requires costs { 0 < effect_cost laying.now key.now }
     ensures { let x = effect_named net.now key.now in
         IfOk result (IsPart net.now laying.now x.config (acts_of net.now.service x)) }
 {
@@ -132,14 +138,17 @@ fn dearest_part(
 
 // Stages
 
-/// The number of an action so far behind the first.
-fn index_at(first: usize, offset: usize) -> Result<usize, AllocError>
-    ensures { IfOk result (λ index. index ≡ first + offset) }
+/// The number of the action of the effect that stands so far behind its first.
+fn index_of(alloc: Global, net: &Net<'_>, key: &NodeKey, offset: usize) -> Result<usize, AllocError>
+    requires reading { IsReading net.now }
+    requires active { IsActive net.now key.now }
+    requires within { offset < length (acts_of net.now.service (effect_named net.now key.now)) }
+    ensures { IfOk result (λ index. index ≡ (cause_named net.now key.now).index + offset) }
 {
-    match first.checked_add(offset) {
-        None => Err(AllocError),
-        Some(index) => Ok(index),
-    }
+    let here = config_of(net, key);
+    let fixed = part_of(&here, key);
+    let index = number_behind(alloc, fixed, number_of(key), offset)?;
+    Ok(index)
 }
 
 /// The stage of this effect.
@@ -151,10 +160,12 @@ fn stage_of(
 ) -> Result<Next, AllocError>
     requires reading { IsReading net.now }
     requires active { IsActive net.now dearest.key }
+    requires layers { AreLayers (price net.now) (kept net.now) laying.now }
+    requires chosen { IsCostly net.now laying.now dearest }
     ensures { IfOk result (λ next. IsStageBy net.now laying.now dearest next) }
 {
     let part = dearest_part(alloc, net, laying, &dearest.key)?;
-    let index = index_at(dearest.cause.index, part.offset)?;
+    let index = index_of(alloc, net, &dearest.key, part.offset)?;
     Ok(Next {
         key: dearest.key,
         stage: Stage {
@@ -207,7 +218,8 @@ pub(crate) fn stages_from(
 {
     let mut stages = Vec::new(alloc);
     let mut key = root;
-    for _ in 0..u64::MAX {
+    loop {
+        let _ = stages.len();
         match next_stage(alloc, net, laying, &key)? {
             None => return Ok(stages),
             Some(next) => {
@@ -216,5 +228,4 @@ pub(crate) fn stages_from(
             }
         }
     }
-    Err(AllocError)
 }

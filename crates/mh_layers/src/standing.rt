@@ -1,14 +1,17 @@
 //! Effects by their numbers, as causes; and labels for their places.
 //!
 //! Promise: a cause is that of the effect with the number, and labels are in the order of places.
-ghost use Rattle.std.specs.Prelude.{◌≡◌, ◌∷◌, [], map, slice_get, None, IfOk, OnOk};
+ghost use Rattle.std.specs.Prelude.{◌≡◌, ◌∷◌, [], map, slice_get, None, true, IfOk, OnOk};
 ghost use Rattle.std.specs.Option.{option_cmp, option_copied, option_map, option_map_or};
 ghost use Rattle.std.specs.Ordering.{nat_cmp};
 ghost use Rattle.std.specs.Cmp.Lexicographic.{slice_cmp};
 ghost use Rattle.indexmap.specs.IndexSet.{insert_all};
 ghost use Rattle.mh_laws.specs.Costs.{effect_at};
 ghost use Rattle.mh_laws.specs.Least.{by_reference};
+ghost use Rattle.mh_laws.specs.Each.{Each};
 ghost use Rattle.mh_layers.specs.Cycle as spec;
+ghost use Rattle.mh_layers.specs.Named.{IsEffectKept};
+ghost use Rattle.mh_layers.specs.Reading.{has_config, has_object, kept};
 ghost use Rattle.mh_layers.specs.Standings.{AreStandings, cause_by, cause_named, label_in, same_standing, standing_cmp, standing_named, standing_number};
 ghost use Rattle.mh_layers.specs.Web.{label_to};
 
@@ -16,6 +19,7 @@ use crate::cause::Cause;
 use crate::effects::effect_acts;
 use crate::net::Net;
 use crate::node_key::NodeKey;
+use crate::numbering::first_number;
 use indexmap::IndexSet;
 use mh_base::{GroupName, ObjRef};
 use mh_group::ActionName;
@@ -32,27 +36,13 @@ pub struct Standing {
 
 // Causes
 
-/// The number of the first action of the object's effect with this number, from 1 on.
-fn first_number(part: &Fixed, number: usize) -> Result<usize, AllocError>
-    ensures { IfOk result (λ index. index ≡ spec.first_number number part.now) }
-{
-    let mut index: usize = 1;
-    for place in 0..number {
-        match index.checked_add(effect_acts(part, place).len()) {
-            None => return Err(AllocError),
-            Some(sum) => index = sum,
-        }
-    }
-    Ok(index)
-}
-
-/// The same of the object that is present, if one is.
-fn index_in(part: Option<&Fixed>, number: usize) -> Result<usize, AllocError>
+/// The number of the first action of the effect with this number, of the object that is present, if one is.
+fn index_in(alloc: Global, part: Option<&Fixed>, number: usize) -> Result<usize, AllocError>
     ensures { IfOk result (λ index. index ≡ option_map_or (spec.first_number number) (option_copied part.entry) 1) }
 {
     match part {
         None => Ok(1),
-        Some(part) => first_number(part, number),
+        Some(part) => first_number(alloc, part, number),
     }
 }
 
@@ -99,7 +89,7 @@ pub(crate) fn cause_at(
     let present = net.present(config);
     let part = present.find(at);
     let action = action_in(part, number);
-    let index = index_in(part, number)?;
+    let index = index_in(net.allocator(), part, number)?;
     let config = copied_config(config)?;
     let at = copied_reference(at)?;
     Ok(Cause {
@@ -113,10 +103,15 @@ pub(crate) fn cause_at(
 /// The effect with these numbers as a cause.
 #[tactic(auto, using(crate::proofs::StandingLemmas::cause_found))]
 fn cause_by(net: &Net<'_>, config: usize, object: usize, number: usize) -> Result<Cause, AllocError>
+    requires config { has_config net.now config ≡ true }
+    requires object { has_object net.now object ≡ true }
     ensures { IfOk result (λ cause. cause ≡ cause_by net.now config object number) }
 {
-    let (Some(config), Some(at)) = (net.config_at(config), net.object_at(object)) else {
-        return Err(AllocError);
+    let Some(config) = net.config_at(config) else {
+        unreachable!();
+    };
+    let Some(at) = net.object_at(object) else {
+        unreachable!();
     };
     let cause = cause_at(net, config, at, number)?;
     Ok(cause)
@@ -124,11 +119,13 @@ fn cause_by(net: &Net<'_>, config: usize, object: usize, number: usize) -> Resul
 
 /// The effect with this number as a cause.
 pub(crate) fn cause_of(net: &Net<'_>, key: &NodeKey) -> Result<Cause, AllocError>
+    requires { IsEffectKept net.now key.now }
     ensures { IfOk result (λ cause. cause ≡ cause_named net.now key.now) }
 {
+    net.read();
     match key {
         NodeKey::Effect(config, object, number) => cause_by(net, *config, *object, *number),
-        _ => Err(AllocError),
+        _ => unreachable!(),
     }
 }
 
@@ -186,6 +183,7 @@ fn by_order(first: &Standing, second: &Standing) -> Ordering
 
 /// Where the effect with this number stands.
 fn place_of(net: &Net<'_>, key: &NodeKey) -> Result<Standing, AllocError>
+    requires { IsEffectKept net.now key.now }
     ensures { IfOk result (λ standing. standing ≡ standing_named net.now key.now) }
 {
     let cause = cause_of(net, key)?;
@@ -197,6 +195,7 @@ fn place_of(net: &Net<'_>, key: &NodeKey) -> Result<Standing, AllocError>
 
 /// Puts where it stands among these.
 fn put(standings: &mut IndexSet<Standing>, net: &Net<'_>, key: &NodeKey) -> Result<(), AllocError>
+    requires { IsEffectKept net.now key.now }
     ensures { OnOk result (standings.new.keys ≡ insert_all same_standing standings.old.keys (standing_named net.now key.now ∷ [])) }
 {
     standings.insert(place_of(net, key)?)?;
@@ -205,6 +204,7 @@ fn put(standings: &mut IndexSet<Standing>, net: &Net<'_>, key: &NodeKey) -> Resu
 
 /// Where these effects stand, as they come.
 fn met(alloc: Global, net: &Net<'_>, keys: &[NodeKey]) -> Result<IndexSet<Standing>, AllocError>
+    requires { Each (IsEffectKept net.now) keys.now }
     ensures { IfOk result (λ standings. standings.keys ≡ insert_all same_standing [] (map (standing_named net.now) keys.now)) }
 {
     let mut standings = IndexSet::new(alloc);
@@ -220,6 +220,7 @@ pub(crate) fn standings_of(
     net: &Net<'_>,
     keys: &[NodeKey],
 ) -> Result<IndexSet<Standing>, AllocError>
+    requires { Each (IsEffectKept net.now) keys.now }
     ensures { IfOk result (λ standings. AreStandings net.now keys.now standings.keys) }
 {
     let mut standings = met(alloc, net, keys)?;
@@ -236,6 +237,7 @@ fn number_of(standings: &IndexSet<Standing>, standing: &Standing) -> usize
 
 /// The label of an arrow to an effect: the number of its place.
 fn label_of(net: &Net<'_>, standings: &IndexSet<Standing>, key: &NodeKey) -> Result<u64, AllocError>
+    requires { IsEffectKept net.now key.now }
     ensures { IfOk result (λ label. label ≡ label_in net.now standings.now.keys key.now) }
 {
     let place = place_of(net, key)?;
@@ -249,6 +251,7 @@ fn label_to(
     standings: &IndexSet<Standing>,
     key: &NodeKey,
 ) -> Result<Option<u64>, AllocError>
+    requires { kept net.now key.now }
     ensures { IfOk result (λ label. label ≡ label_to (label_in net.now standings.now.keys) key.now) }
 {
     match key {
@@ -264,6 +267,7 @@ pub(crate) fn labels_of(
     standings: &IndexSet<Standing>,
     keys: &[NodeKey],
 ) -> Result<Vec<Option<u64>>, AllocError>
+    requires { Each (kept net.now) keys.now }
     ensures { IfOk result (λ labels. labels.items ≡ map (label_to (label_in net.now standings.now.keys)) keys.now) }
 {
     let mut labels = Vec::new(alloc);

@@ -21,7 +21,7 @@ use crate::inputs::{content_told, pressed, stream_told};
 use crate::late::changes_from;
 use crate::meter::Meter;
 use crate::node_key::Hears;
-use crate::timers::SetTimer;
+use crate::set_timer::SetTimer;
 use crate::walk::Walk;
 use mh_base::{EventType, GroupName, ObjRef, Value};
 use mh_model::FixedPart;

@@ -4,104 +4,23 @@
 ghost use Rattle.std.specs.Prelude.{◌≡◌, ◌∷◌, ◌++◌, [], map, position, slice_get, option_and_then, reverse, IfOk, OnOk};
 ghost use Rattle.std.specs.List.{flat_map};
 ghost use Rattle.std.specs.Option.{option_copied};
-ghost use Rattle.std.specs.Cmp.{partial_equiv_from_equiv};
 ghost use Rattle.indexmap.specs.IndexSet.{insert_all};
-ghost use Rattle.mh_model.specs.Reference.{group_ref as group_ref_lem};
 ghost use Rattle.mh_laws.specs.Active.{active_actions};
 ghost use Rattle.mh_laws.specs.Costs.{same_timer as same_timer_lem, set_with};
 ghost use Rattle.mh_flow.specs.Solved.{IsFlowOf, flow_in, held_in};
 ghost use Rattle.mh_layers.specs.Keys.{every_timer};
 ghost use Rattle.mh_layers.specs.Reading.{same_setting};
-ghost use Rattle.mh_layers.specs.SetTimers.{set_here, set_in, sets_there, targets_here, timer_alike, timer_equiv, timer_fed};
+ghost use Rattle.mh_layers.specs.SetTimers.{set_here, set_in, sets_there, targets_here};
 
+use crate::set_timer::SetTimer;
 use indexmap::IndexSet;
-use mh_base::{GroupName, ObjRef, Value};
+use mh_base::{ObjRef, Value};
 use mh_flow::sites::sites_of;
 use mh_flow::{Equipped, Flow, Held, Present, Site};
 use mh_group::ActionName;
-use mh_model::parts::group_ref;
 use mh_model::{Act, Argument, Config, Target};
 use std::alloc::{AllocError, Global};
-use std::hash::{Hash, Hasher};
 use std::marker::Model;
-
-/// A timer by its group and id. The group is told by its reference, from which the timer's events come.
-#[derive(Drop)]
-pub(crate) struct SetTimer {
-    group: ObjRef,
-    id: i32,
-}
-
-impl Model for SetTimer {
-    ghost use Rattle.std.specs.Prelude.{◌≡◌};
-    ghost use Rattle.mh_laws.specs.Costs.{TimerKey};
-
-    ghost Value = { TimerKey };
-
-    ghost view = { λ t. (t.group.group, t.id) };
-
-    ghost invariant = { λ t. t.group.number ≡ 0 };
-}
-
-impl PartialEq for SetTimer {
-    ghost eq = { same_timer_lem };
-
-    ghost laws = { partial_equiv_from_equiv timer_equiv };
-
-    fn eq(&self, other: &SetTimer) -> bool {
-        self.group.group == other.group.group && self.id == other.id
-    }
-}
-
-impl Eq for SetTimer {
-    ghost laws = { timer_equiv };
-}
-
-impl Hash for SetTimer {
-    ghost hash_input = { timer_fed };
-
-    ghost respects_eq = { timer_alike };
-
-    fn hash<H: Hasher>(&self, state: &mut H) {
-        self.group.group.hash(state);
-        self.id.hash(state);
-    }
-}
-
-impl SetTimer {
-    fn of(group: &GroupName, id: i32) -> Result<SetTimer, AllocError>
-        ensures { IfOk result (λ timer. timer ≡ (group.now, id)) }
-    {
-        let group = group_ref(group)?;
-        Ok(SetTimer { group, id })
-    }
-
-    fn copied(&self) -> Result<SetTimer, AllocError>
-        ensures { IfOk result (λ timer. timer ≡ self.now) }
-    {
-        SetTimer::of(&self.group.group, self.id)
-    }
-
-    /// The object from which the timer's events come: the group itself.
-    pub fn source(&self) -> &ObjRef
-        ensures { result.now ≡ group_ref_lem self.now.0 }
-    {
-        &self.group
-    }
-
-    /// The name of the group.
-    pub fn group(&self) -> &GroupName
-        ensures { result.now ≡ self.now.0 }
-    {
-        &self.group.group
-    }
-
-    pub fn id(&self) -> i32
-        ensures { result ≡ self.now.1 }
-    {
-        self.id
-    }
-}
 
 /// What is present in a configuration, and what is held there.
 #[derive(Drop)]
@@ -251,13 +170,14 @@ fn set_timers(
     held: &[Held],
 ) -> Result<Vec<SetTimer>, AllocError>
     requires flow { IsFlowOf service.now flow.now }
+    requires known { known.now.keys ≡ insert_all same_setting [] all.now }
     requires held { held.now ≡ map (held_in service.now flow.now) known.now.keys }
     ensures { IfOk result (λ timers. timers.items ≡ flat_map (set_in service.now (flow_in service.now flow.now)) all.now) }
 {
     let mut timers = Vec::new(alloc);
     for config in all {
         let Some(there) = held_there(known, held, config) else {
-            return Err(AllocError);
+            unreachable!();
         };
         push_config(alloc, &mut timers, service, flow, config, there)?;
     }
@@ -309,6 +229,7 @@ impl Timers {
     ) -> Result<Timers, AllocError>
         requires flow { IsFlowOf service.now flow.now }
         requires all { all.now ≡ (flow_in service.now flow.now).configs }
+        requires known { known.now.keys ≡ insert_all same_setting [] all.now }
         requires held { held.now ≡ map (held_in service.now flow.now) known.now.keys }
         ensures { IfOk result (λ timers. timers ≡ every_timer service.now (flow_in service.now flow.now)) }
     {

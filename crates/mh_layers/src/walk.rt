@@ -1,7 +1,7 @@
 //! `Walk`: a configuration of a net, and what the keys that are counted there are added up to.
 //!
 //! Promise: each answer adds what its price comes to, by the numbers of keys. The walk over prices is that of `mh_prices`.
-ghost use Rattle.std.specs.Prelude.{◌≡◌, if◌then◌else◌, IfOk};
+ghost use Rattle.std.specs.Prelude.{◌≡◌, ◌+◌, ◌<◌, ◌^◌, if◌then◌else◌, IfOk};
 ghost use Rattle.std.specs.List.{range_with_len};
 ghost use Rattle.mh_laws.specs.Costs as costs;
 ghost use Rattle.mh_base.specs.Event.{is_sync};
@@ -14,7 +14,7 @@ ghost use Rattle.mh_layers.specs.Reading.{dealt_by, fired_by, number as number_o
 use crate::at::At;
 use crate::meter::Meter;
 use crate::node_key::{Hears, NodeKey};
-use crate::slots::known_slots;
+use crate::slots::slot_count;
 use mh_base::{EventType, GroupName, ObjRef};
 use mh_model::Fixed;
 use mh_model::parts::group_ref;
@@ -131,6 +131,7 @@ impl<'a, M: Meter> Walk<'a, M> {
         mark: M::Mark,
         sum: M::Sum,
     ) -> Result<(M::Mark, M::Sum), AllocError>
+        requires { first + count < 2 ^ 64 }
         ensures { let s = self.now.here.now in let m = through (number_of s.reading) (M.meter self.now.meter.now) in
             let p = most_price (λ n. effect s.config n part.now) (range_with_len first count) in
             IfOk result (λ x. (M.marked x.0, M.seen x.1) ≡ raise m p (M.marked mark, M.seen sum)) }
@@ -142,10 +143,7 @@ impl<'a, M: Meter> Walk<'a, M> {
         while left > 0 {
             sum = self.effect_of(part, number, sum)?;
             (mark, sum) = self.meter.next(mark, sum);
-            let Some(next) = number.checked_add(1) else {
-                return Err(AllocError);
-            };
-            number = next;
+            number += 1;
             left -= 1;
         }
         Ok((mark, sum))
@@ -153,6 +151,7 @@ impl<'a, M: Meter> Walk<'a, M> {
 
     /// So many slots of the object.
     fn slots_to(&self, part: &Fixed, count: usize, sum: M::Sum) -> Result<M::Sum, AllocError>
+        requires { count < 2 ^ 63 }
         ensures { let s = self.now.here.now in let m = through (number_of s.reading) (M.meter self.now.meter.now) in
             let p = most_price (λ n. effect s.config n part.now) (range_with_len costs.first_slot count) in
             Adds M.seen m p sum result }
@@ -247,10 +246,8 @@ impl<'a, M: Meter> View for Walk<'a, M> {
     }
 
     fn slots(&self, part: &Fixed, sum: M::Sum) -> Result<M::Sum, AllocError> {
-        match known_slots(part) {
-            None => Err(AllocError),
-            Some(count) => self.slots_to(part, count, sum),
-        }
+        let count = slot_count(self.here.net().allocator(), part)?;
+        self.slots_to(part, count, sum)
     }
 }
 

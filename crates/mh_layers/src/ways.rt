@@ -2,7 +2,7 @@
 //! it puts to work there, the dearest that this one puts to work, and so on.
 //!
 //! Promise: of effects that cost as much the first is told, by its place and then by its configuration.
-ghost use Rattle.std.specs.Prelude.{◌≡◌, map, slice_get, true, Some, IfOk, IsErrOf};
+ghost use Rattle.std.specs.Prelude.{◌≡◌, ◌<◌, length, map, slice_get, true, Some, IfOk, IsErrOf};
 ghost use Rattle.std.specs.List.{list_all};
 ghost use Rattle.mh_model.specs.Configuration.{starting as starting_lem};
 ghost use Rattle.mh_laws.specs.Flow.{reached};
@@ -85,13 +85,11 @@ fn way_in(
 }
 
 /// The configuration at this place.
-fn config_at<'b>(configs: &'b [Config], place: usize) -> Result<&'b Config, AllocError>
-    ensures { IfOk result (λ config. slice_get configs.now place ≡ Some config.now) }
+fn config_at<'b>(configs: &'b [Config], place: usize) -> &'b Config
+    requires { place < length configs.now }
+    ensures { slice_get configs.now place ≡ Some result.now }
 {
-    match configs.get(place) {
-        None => Err(AllocError),
-        Some(config) => Ok(config),
-    }
+    &configs[place]
 }
 
 /// The dearest way of the kind.
@@ -111,8 +109,8 @@ fn way_of(
     let configs = configs_for(net, start, kind);
     let costs = costs_in(alloc, net, laying, configs, kind)?;
     let numbers = costs.as_slice();
-    let place = first_largest(numbers)?;
-    let config = config_at(configs, place)?;
+    let place = first_largest(numbers);
+    let config = config_at(configs, place);
     let cost = number_at(numbers, place);
     let way = way_in(alloc, net, laying, config, kind, cost)?;
     Ok(way)

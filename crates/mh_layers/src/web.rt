@@ -8,7 +8,7 @@ ghost use Rattle.mh_laws.specs.Each.{Each};
 ghost use Rattle.mh_layers.specs.Layered.{active_keys};
 ghost use Rattle.mh_layers.specs.Layering.{CountsKept};
 ghost use Rattle.mh_layers.specs.NodeKeys.{same_key};
-ghost use Rattle.mh_layers.specs.Reading.{kept, price};
+ghost use Rattle.mh_layers.specs.Reading.{IsReading, kept, price};
 ghost use Rattle.mh_layers.specs.Standings.{arrow_by, label_at, node_in};
 ghost use Rattle.mh_layers.specs.Walk.{IsWebOf};
 
@@ -107,6 +107,7 @@ pub(crate) fn web_of(
 ) -> Result<Web, AllocError>
     requires counted { CountsKept (price net.now) (kept net.now) }
     requires kept { Each (kept net.now) roots.now }
+    requires reading { IsReading net.now }
     requires all { all.now ≡ active_keys net.now }
     ensures { IfOk result (λ web. IsWebOf net.now roots.now web.keys.keys web.graph) }
 {

@@ -5,6 +5,7 @@
 ghost use Rattle.std.specs.Prelude.{IfOk};
 ghost use Rattle.mh_laws.specs.Acceptable.{IsAcceptableBy};
 ghost use Rattle.mh_flow.specs.Solved.{IsFlowOf, flow_in};
+ghost use Rattle.mh_layers.specs.Cycle.{NoCycles};
 ghost use Rattle.mh_layers.specs.Layered.{AreLayersOf};
 ghost use Rattle.mh_verify.specs.Verdicts.{IsVerdict};
 
@@ -50,12 +51,12 @@ fn by_layers(service: &Equipped<'_>, flow: &Flow, layers: &Layers<'_>) -> Verdic
 #[tactic(auto, using(crate::proofs::CycleRefusedLemmas::some_arrows))]
 fn cyclic(alloc: Global, service: &Equipped<'_>, flow: &Flow) -> Result<Verdict, AllocError>
     requires flow { IsFlowOf service.now flow.now }
+    requires looped { NoCycles service.now (flow_in service.now flow.now) → ⊥ }
     requires acceptable { IsAcceptableBy service.now (flow_in service.now flow.now) }
     ensures { IfOk result (IsVerdict service.now flow.now) }
 {
     match first_cycle(alloc, service, flow)? {
         Some(arrows) => Ok(Verdict::Cyclic(Cycle::of(arrows)?)),
-        // where there are no layers there is a cycle; were none found, nothing could be said of the service
-        None => Err(AllocError),
+        None => unreachable!(),
     }
 }

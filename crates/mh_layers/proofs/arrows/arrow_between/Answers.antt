@@ -8,16 +8,17 @@ use Rattle.mh_laws.specs.Costs.{effect_at}
 use Rattle.mh_layers.specs.declared.arrow.By.{By}
 use Rattle.mh_layers.specs.declared.cause.Cause.{Cause}
 use Rattle.mh_layers.specs.Arrows.{is_waited_for, number_by}
-use Rattle.mh_layers.specs.Cycle.{cause_of}
+use Rattle.mh_layers.specs.Cycle.{cause_of, first_number}
 use Rattle.mh_layers.specs.Deeds.{Doing, IsDoing, NoDoing, number_in}
 use Rattle.mh_layers.specs.Granting.{held_for}
 use Rattle.mh_layers.specs.Listening.{source_of}
 use Rattle.mh_layers.specs.Reading.{Spot, flow_read}
-use Rattle.mh_layers.specs.Standings.{effect_named}
+use Rattle.mh_layers.specs.Standings.{cause_named, effect_named}
 use Rattle.mh_layers.proofs.ArrowLemmas.{is_arrow, number_named}
 use Rattle.mh_layers.proofs.DoingLemmas.{step_does}
 use Rattle.mh_layers.proofs.MetLemmas.{found_among}
 use Rattle.mh_layers.proofs.NamingLemmas.{step_names}
+use Rattle.mh_layers.proofs.WorthLemmas.{index_told}
 use Rattle.mh_layers.proofs.arrows.arrow_between.Goals as goal
 
 pub by_of-requires : goal.by_of-requires
@@ -51,6 +52,8 @@ returns c =
     let key = (found_among (effect_named r from).object (present r.service (effect_named r from).config) part at).0 in
     let number = c.number_of-2.ensures ∙ sym (number_named r from) in
     let config = c.config.ensures ∙ c.requires.here in
+    let cause : c.in_ok-arrow-in-Some.arrow.cause ≡ cause_named r from = of.cause ∙ c.in_ok-cause.ensures
+    ∙ (λ i. cause_of (c.net.ensures i).service (record { config = config i; object = sym key i; number = number i })) in
     is_arrow r c.requires.reading from c.args.first.now c.args.to.now c.requires.step part aim at
     (ap (λ (s : Spot). part_at (effect_named s.reading c.args.to.now).object (present s.reading.service s.config)) (sym c.requires.there) ∙ c.part_of-aim.ensures)
     doing
@@ -58,9 +61,10 @@ returns c =
     (subst (λ (acts : List Act). IsDoing r c.args.here.now.config acts c.args.first.now doing) (c.effect_acts-acts.ensures ∙ ap (effect_at part) c.number_of-3.ensures)
     (subst (λ (o : Option Doing). IfSome o (IsDoing r c.args.here.now.config c.effect_acts-acts.result.now c.args.first.now)) c.in-Some.is c.in_ok-doing_of.ensures.some)))
     c.in_ok-arrow-in-Some.arrow
-    (of.cause ∙ c.in_ok-cause.ensures
-    ∙ (λ i. cause_of (c.net.ensures i).service (record { config = config i; object = sym key i; number = number i })))
-    (of.index ∙ ap (λ (x : Cause). x.index + doing.offset) (sym of.cause))
+    cause
+    (of.index ∙ index_told r from part c.number_of-in-Some.result doing.offset c.in_ok-index-in-Some.index at c.number_of-in-Some.ensures
+    (c.in_ok-index-in-Some.ensures ∙ ap (λ (d : Doing). first_number c.number_of-in-Some.result part + d.offset) c.doing.view_is)
+    ∙ ap (λ (x : Cause). x.index + doing.offset) (sym cause))
     of.action
     (of.held ∙ ap (λ (d : Config). held_for r.service (flow_read r) d doing.act doing.at (source_of aim)) c.requires.here)
     (ap number_by of.by ∙ c.in_ok-by.ensures.number ∙ c.number_of.ensures)

@@ -1,6 +1,10 @@
+use Rattle.std.proofs.Common.{◌^◌, ◌-◌, length}
 use Rattle.mh_layers.specs.Asked.{AreRows, Stays}
 use Rattle.mh_layers.specs.Reading.{kept, price}
 use Rattle.mh_layers.proofs.asked.rows_of.Given as goal
 
-abbrev pub invariant-loop : goal.invariant-loop
-invariant-loop l = AreRows (price l.net) (kept l.net) l.keys.keys l.rows.items × Stays l.initial.keys.keys l.keys.keys
+abbrev pub invariant-loop-rows : goal.invariant-loop-rows
+invariant-loop-rows l = AreRows (price l.net) (kept l.net) l.keys.keys l.rows.items × Stays l.initial.keys.keys l.keys.keys
+
+abbrev pub decreases-loop-rows : goal.decreases-loop-rows
+decreases-loop-rows l = 2 ^ 64 - length l.rows.items

@@ -1,6 +1,6 @@
 use Rattle.mh_layers.proofs.LayeredLemmas.{counted_kept}
 use Rattle.mh_layers.proofs.TrailLemmas.{arrows_found, steps_found}
-use Rattle.mh_layers.proofs.WalkLemmas.{left_kept, none_of}
+use Rattle.mh_layers.proofs.WalkLemmas.{left_effects, left_kept, none_of}
 use Rattle.mh_layers.proofs.cycle.cycle_in.Goals as goal
 
 pub web_of-requires-clause-counted : goal.web_of-requires-clause-counted
@@ -24,3 +24,7 @@ pub returns-clause-some : goal.returns-clause-some
 returns-clause-some c =
     arrows_found c.args.net.now c.requires.reading c.args.laying.now c.requires.layers c.args.keys.now c.in_ok-left.left.items c.as_slice.result.now c.as_slice-2.result.now c.in_ok-web.web.keys.keys c.in_ok-web.web.graph c.in_ok-first_of.field-0 c.in-Some.best c.as_slice-trail.result.now c.in_ok-arrows-in-Some.arrows.items
     c.requires.all c.in_ok-left.ensures c.as_slice.ensures.value c.as_slice-2.ensures.value c.in_ok-web.ensures c.in_ok-first_of.ensures c.in-Some.is c.as_slice-trail.ensures.value c.in_ok-arrows-in-Some.ensures
+
+pub first_of-requires : goal.first_of-requires
+first_of-requires c =
+    left_effects c.args.net.now c.requires.reading c.args.laying.now c.args.keys.now c.in_ok-left.left.items c.as_slice-2.result.now c.requires.all c.in_ok-left.ensures c.as_slice-2.ensures.value

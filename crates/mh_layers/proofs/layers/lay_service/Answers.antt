@@ -9,6 +9,7 @@ use Rattle.mh_layers.specs.Reading.{kept, price}
 use Rattle.mh_layers.specs.Taking.{bounds_laid}
 use Rattle.mh_layers.proofs.LayeredLemmas.{counted_kept, none_read, other_err}
 use Rattle.mh_layers.proofs.RootLemmas.{layers_read, roots_kept}
+use Rattle.mh_layers.proofs.RoundLemmas.{looped_read}
 use Rattle.mh_layers.proofs.layers.lay_service.Goals as goal
 
 pub lay-requires-clause-counted : goal.lay-requires-clause-counted
@@ -30,3 +31,8 @@ pub returns-clause-cycle : goal.returns-clause-cycle
 returns-clause-cycle c = λ h rank layering.
     none_read c.in_ok-net.net c.args.service.now c.args.flow.now c.in_ok-net.ensures.service c.in_ok-net.ensures.flow c.in_ok-net.ensures.reading
     (c.lay.ensures.cycle (other_err _ c.lay.result c.in-Err.why error.Cycle refl h c.in-Err.is)) rank layering
+
+pub returns-clause-looped : goal.returns-clause-looped
+returns-clause-looped c = λ h none.
+    looped_read c.in_ok-net.net c.args.service.now c.args.flow.now c.in_ok-net.ensures.service c.in_ok-net.ensures.flow c.in_ok-net.ensures.reading
+    (c.lay.ensures.looped (other_err _ c.lay.result c.in-Err.why error.Cycle refl h c.in-Err.is)) none

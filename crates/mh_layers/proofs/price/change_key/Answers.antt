@@ -10,6 +10,6 @@ pub returns : goal.returns
 returns g c =
     let r = c.args.net.now in
     let m = g.M.Meter.meter c.args.meter.now in
-    let o = c.in_ok-list.list.now in
-    subst (λ (q : ObjRef). Adds g.M.Meter.seen (through (number r) m) (price_read r (Change (config_named r c.args.config) q)) c.args.sum c.change.result) c.in_ok-list.ensures
-    (subst (λ (s : Spot). Adds g.M.Meter.seen (through (number s.reading) m) (price_read s.reading (Change s.config o)) c.args.sum c.change.result) c.in_ok-here.ensures c.change.ensures)
+    let o = c.object-list.result.now in
+    subst (λ (q : ObjRef). Adds g.M.Meter.seen (through (number r) m) (price_read r (Change (config_named r c.args.config) q)) c.args.sum c.change.result) c.object-list.ensures
+    (subst (λ (s : Spot). Adds g.M.Meter.seen (through (number s.reading) m) (price_read s.reading (Change s.config o)) c.args.sum c.change.result) c.standing-here.ensures c.change.ensures)

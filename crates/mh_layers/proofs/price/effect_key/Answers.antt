@@ -10,6 +10,6 @@ pub returns : goal.returns
 returns g c =
     let r = c.args.net.now in
     let m = g.M.Meter.meter c.args.meter.now in
-    let o = c.in_ok-at.at.now in
-    subst (λ (q : ObjRef). Adds g.M.Meter.seen (through (number r) m) (price_read r (Effect (config_named r c.args.config) q c.args.number)) c.args.sum c.effect.result) c.in_ok-at.ensures
-    (subst (λ (s : Spot). Adds g.M.Meter.seen (through (number s.reading) m) (price_read s.reading (Effect s.config o c.args.number)) c.args.sum c.effect.result) c.in_ok-here.ensures c.effect.ensures)
+    let o = c.object-at.result.now in
+    subst (λ (q : ObjRef). Adds g.M.Meter.seen (through (number r) m) (price_read r (Effect (config_named r c.args.config) q c.args.number)) c.args.sum c.effect.result) c.object-at.ensures
+    (subst (λ (s : Spot). Adds g.M.Meter.seen (through (number s.reading) m) (price_read s.reading (Effect s.config o c.args.number)) c.args.sum c.effect.result) c.standing-here.ensures c.effect.ensures)

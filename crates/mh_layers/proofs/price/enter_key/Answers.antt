@@ -8,4 +8,4 @@ use Rattle.mh_layers.proofs.price.enter_key.Goals as goal
 pub returns : goal.returns
 returns g c =
     let m = g.M.Meter.meter c.args.meter.now in
-    subst (λ (s : Spot). Adds g.M.Meter.seen (through (number s.reading) m) (price_read s.reading (Enter s.config)) c.args.sum c.entering.result) c.in_ok-here.ensures c.entering.ensures
+    subst (λ (s : Spot). Adds g.M.Meter.seen (through (number s.reading) m) (price_read s.reading (Enter s.config)) c.args.sum c.entering.result) c.standing-here.ensures c.entering.ensures

@@ -12,7 +12,7 @@ returns g c =
     let r = c.args.net.now in
     let m = g.M.Meter.meter c.args.meter.now in
     let kind = c.args.kind in
-    let o = c.in_ok-source.source.now in
-    subst (λ (q : ObjRef). Adds g.M.Meter.seen (through (number r) m) (price_read r (Entry q kind (hearing_named r q kind c.args.hears))) c.args.sum c.configs_most.result) c.in_ok-source.ensures
-    (entry_adds g.M.Meter.seen m r o kind (hearing_named r o kind c.args.hears) c.in_ok-hears.hears (flow_read r).configs c.args.sum c.one.result c.configs_most.result
-    c.in_ok-hears.ensures c.one.ensures c.configs_most.ensures)
+    let o = c.object-source.result.now in
+    subst (λ (q : ObjRef). Adds g.M.Meter.seen (through (number r) m) (price_read r (Entry q kind (hearing_named r q kind c.args.hears))) c.args.sum c.configs_most.result) c.object-source.ensures
+    (entry_adds g.M.Meter.seen m r o kind (hearing_named r o kind c.args.hears) c.hearing-hears.result (flow_read r).configs c.args.sum c.one.result c.configs_most.result
+    c.hearing-hears.ensures c.one.ensures c.configs_most.ensures)

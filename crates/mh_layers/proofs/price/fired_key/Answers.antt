@@ -11,6 +11,6 @@ returns g c =
     let r = c.args.net.now in
     let m = g.M.Meter.meter c.args.meter.now in
     let kind = c.args.kind in
-    let o = c.in_ok-source.source.now in
-    subst (λ (q : ObjRef). Adds g.M.Meter.seen (through (number r) m) (price_read r (Fired (config_named r c.args.config) q kind (hearing_named r q kind c.args.hears))) c.args.sum c.fired.result) c.in_ok-source.ensures
-    (subst (λ (s : Spot). Adds g.M.Meter.seen (through (number s.reading) m) (price_read s.reading (Fired s.config o kind (hearing_named s.reading o kind c.args.hears))) c.args.sum c.fired.result) c.in_ok-here.ensures c.fired.ensures)
+    let o = c.object-source.result.now in
+    subst (λ (q : ObjRef). Adds g.M.Meter.seen (through (number r) m) (price_read r (Fired (config_named r c.args.config) q kind (hearing_named r q kind c.args.hears))) c.args.sum c.fired.result) c.object-source.ensures
+    (subst (λ (s : Spot). Adds g.M.Meter.seen (through (number s.reading) m) (price_read s.reading (Fired s.config o kind (hearing_named s.reading o kind c.args.hears))) c.args.sum c.fired.result) c.standing-here.ensures c.fired.ensures)

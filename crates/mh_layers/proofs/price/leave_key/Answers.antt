@@ -8,4 +8,4 @@ use Rattle.mh_layers.proofs.price.leave_key.Goals as goal
 pub returns : goal.returns
 returns g c =
     let m = g.M.Meter.meter c.args.meter.now in
-    subst (λ (s : Spot). Adds g.M.Meter.seen (through (number s.reading) m) (price_read s.reading (Leave s.config c.args.all)) c.args.sum c.leave.result) c.in_ok-here.ensures c.leave.ensures
+    subst (λ (s : Spot). Adds g.M.Meter.seen (through (number s.reading) m) (price_read s.reading (Leave s.config c.args.all)) c.args.sum c.leave.result) c.standing-here.ensures c.leave.ensures

@@ -8,4 +8,4 @@ use Rattle.mh_layers.proofs.price.taken_key.Goals as goal
 pub returns : goal.returns
 returns g c =
     let m = g.M.Meter.meter c.args.meter.now in
-    subst (λ (s : Spot). Adds g.M.Meter.seen (through (number s.reading) m) (price_read s.reading (Taken s.config c.args.kind)) c.args.sum c.taken.result) c.in_ok-here.ensures c.taken.ensures
+    subst (λ (s : Spot). Adds g.M.Meter.seen (through (number s.reading) m) (price_read s.reading (Taken s.config c.args.kind)) c.args.sum c.taken.result) c.standing-here.ensures c.taken.ensures

@@ -1,8 +1,15 @@
 use Rattle.std.specs.Prelude.{ℕ, ◌+◌, List, ◌++◌, drop, map}
 use Rattle.std.proofs.Common.{arith, ap, ◌∙◌}
-use Rattle.mh_layers.specs.Staging.{act_worth, all_known}
+use Rattle.mh_model.specs.declared.act.Act.{Act}
+use Rattle.mh_layers.specs.Staging.{IsKnown, act_worth, all_known}
+use Rattle.mh_layers.proofs.NamesLemmas.{item_is}
 use Rattle.mh_layers.proofs.StageLemmas.{one_known}
 use Rattle.mh_layers.proofs.stages.act_costs.Goals as goal
+
+pub act_cost-requires : goal.act_cost-requires
+act_cost-requires c =
+    let s = c.args.here.now in
+    item_is (λ (a : Act). IsKnown (act_worth s.reading c.args.costs.now s.config a)) c.args.acts.now c.loop-each.each-index c.each-item.result c.loop-each-test.true c.each-item.is c.requires
 
 pub loop-each-preserved : goal.loop-each-preserved
 loop-each-preserved c =

@@ -1,10 +1,7 @@
-use Rattle.mh_layers.specs.Known.{told}
-use Rattle.mh_layers.specs.Layering.{cost_in}
-use Rattle.mh_layers.specs.Reading.{name, number, price_read}
-use Rattle.mh_layers.proofs.KnowingLemmas.{known_adds}
+use Rattle.std.proofs.Common.{◌∙◌}
+use Rattle.mh_layers.proofs.NamesLemmas.{names_there}
 use Rattle.mh_layers.proofs.priced.NetPrices.worth.Goals as goal
 
-pub returns : goal.returns
-returns c kept =
-    let r = c.args.self.now in
-    known_adds (number r) (told (cost_in c.args.costs.now)) (price_read r (name r c.args.node.now)) c.price.result c.price.ensures
+pub returns-then-not-has_names : goal.returns-then-not-has_names
+returns-then-not-has_names c has =
+    let none = c.if-not-has_names.ensures ∙ names_there c.args.self.now (record { flow = c.read.ensures.flow; listening = c.read.ensures.listening }) c.args.node.now has in absurd cc

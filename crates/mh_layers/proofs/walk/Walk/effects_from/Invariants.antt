@@ -1,4 +1,4 @@
-use Rattle.std.proofs.Common.{◌≡◌}
+use Rattle.std.proofs.Common.{◌≡◌, ◌+◌}
 use Rattle.std.specs.List.{range_with_len}
 use Rattle.mh_laws.specs.Price.{most_price}
 use Rattle.mh_prices.specs.Meter.{raise}
@@ -13,6 +13,7 @@ invariant-loop-left g l =
     let m = through (number s.reading) (g.M.Meter.meter l.self.meter.now) in
     raise m (most_price (λ n. effect s.config n l.part) (range_with_len l.number l.left)) (g.M.Meter.marked l.mark, g.M.Meter.seen l.sum)
     ≡ raise m (most_price (λ n. effect s.config n l.part) (range_with_len l.first l.count)) (g.M.Meter.marked l.initial.mark, g.M.Meter.seen l.initial.sum)
+    × (l.number + l.left ≡ l.first + l.count)
 
 abbrev pub decreases-loop-left : goal.decreases-loop-left
 decreases-loop-left g l = l.left

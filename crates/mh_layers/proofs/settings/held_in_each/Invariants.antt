@@ -1,6 +1,6 @@
 use Rattle.std.proofs.Common.{◌≡◌, ◌++◌, drop, map}
 use Rattle.mh_flow.specs.Solved.{held_in}
-use Rattle.mh_layers.proofs.net.held_in_each.Given as goal
+use Rattle.mh_layers.proofs.settings.held_in_each.Given as goal
 
 abbrev pub invariant-loop-config : goal.invariant-loop-config
 invariant-loop-config l =

@@ -1,7 +1,7 @@
 use Rattle.std.proofs.Common.{◌≡◌, [], drop}
 use Rattle.indexmap.specs.IndexSet.{insert_all}
 use Rattle.mh_layers.specs.Reading.{same_setting}
-use Rattle.mh_layers.proofs.net.each_once.Given as goal
+use Rattle.mh_layers.proofs.settings.each_once.Given as goal
 
 abbrev pub invariant-loop-config : goal.invariant-loop-config
 invariant-loop-config l =
