@@ -23,9 +23,9 @@ use Rattle.mh_look.specs.Sources.{NamedFile, Source, in_source, shown_object, sh
 use Rattle.mh_look.specs.Circles.{arrow_text}
 use Rattle.mh_look.specs.Spots.{Spot, spot}
 use Rattle.mh_look.specs.Through.{holder_text, is_held, is_variable, last_link, own_text, reached_by, through_at, through_by, through_numbered, through_told}
-use Rattle.mh_look.specs.declared.why.keyword.Keyword.{Keyword}
-use Rattle.mh_look.specs.declared.why.keyword.Keyword.TheVariants as keyword
-use Rattle.mh_look.specs.declared.why.way.TheConstants.{PUTS_FIRST, PUTS_NEXT}
+use Rattle.mh_look.specs.declared.explanation.keyword.Keyword.{Keyword}
+use Rattle.mh_look.specs.declared.explanation.keyword.Keyword.TheVariants as keyword
+use Rattle.mh_look.specs.declared.explanation.way.TheConstants.{PUTS_FIRST, PUTS_NEXT}
 use Rattle.mh_look.specs.WayWords.{other_words, place_words, stage_words, stage_text, stages_text, way_text, way_of, bound_row, bound_said, bound_text, bound_told}
 use Rattle.mh_look.specs.Why as spec
 use Rattle.mh_look.specs.Why.{Ground, Past, shown_spot, shown_from, or_else, cause_told, circle_place, circle_spot, refused_by, refused_spot, refused_at, unless_known, stuck, told, with_line, explained, explained_all, past_behind, why, ExplanationsAreHarmless}

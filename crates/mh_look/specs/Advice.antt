@@ -4,10 +4,10 @@ use Rattle.std.specs.Borrow.{Bor}
 use Rattle.std.specs.List.{find}
 use Rattle.std.specs.Option.{option_map_or}
 use Rattle.std.specs.Str.{bytes_eq}
-use Rattle.mh_look.specs.declared.why.advice_tables.TheConstants as table
-use Rattle.mh_look.specs.declared.why.bound.TheConstants as table_of_bounds
-use Rattle.mh_look.specs.declared.why.circle.TheConstants as table_of_events
-use Rattle.mh_look.specs.declared.why.object.TheConstants as table_of_objects
+use Rattle.mh_look.specs.declared.explanation.advice_tables.TheConstants as table
+use Rattle.mh_look.specs.declared.explanation.bound.TheConstants as table_of_bounds
+use Rattle.mh_look.specs.declared.explanation.circle.TheConstants as table_of_events
+use Rattle.mh_look.specs.declared.explanation.object.TheConstants as table_of_objects
 use Rattle.mh_look.specs.Wrapping.{paragraph}
 
 -- the word that stands in a line, the cause, and the mend

@@ -11,7 +11,7 @@ use Rattle.mh_model.specs.declared.event.Event.{Event}
 use Rattle.mh_layers.specs.declared.arrow.Arrow.{Arrow}
 use Rattle.mh_layers.specs.declared.arrow.By.{By}
 use Rattle.mh_layers.specs.declared.arrow.By.TheVariants as by
-use Rattle.mh_look.specs.declared.why.circle.TheConstants.{PUTS_TO_WORK, MAKES_EVENT, FOR_WHICH, CALLS_SLOT, ENTERS, LEAVES, STARTS_UP, CLOSES_DOWN}
+use Rattle.mh_look.specs.declared.explanation.circle.TheConstants.{PUTS_TO_WORK, MAKES_EVENT, FOR_WHICH, CALLS_SLOT, ENTERS, LEAVES, STARTS_UP, CLOSES_DOWN}
 use Rattle.mh_look.specs.Advice.{Row, cell, event_data, events, row_with}
 use Rattle.mh_look.specs.Sources.{Source, shown_action}
 use Rattle.mh_look.specs.Wrapping.{paragraph}

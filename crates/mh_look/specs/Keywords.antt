@@ -2,8 +2,8 @@
 use Rattle.std.specs.Prelude.{ℕ, List, [], ◌∷◌, codes, Option}
 use Rattle.std.specs.List.{find}
 use Rattle.std.specs.Str.{bytes_eq}
-use Rattle.mh_look.specs.declared.why.keyword.Keyword.{Keyword}
-use Rattle.mh_look.specs.declared.why.keyword.Keyword.TheVariants as keyword
+use Rattle.mh_look.specs.declared.explanation.keyword.Keyword.{Keyword}
+use Rattle.mh_look.specs.declared.explanation.keyword.Keyword.TheVariants as keyword
 
 abbrev pub keyword_word : Keyword → List ℕ
 keyword_word keyword.Accepted = codes "accepted"

@@ -2,7 +2,7 @@
 use Rattle.std.specs.Prelude.{ℕ, Bool, if◌then◌else◌, List, [], ◌∷◌, ◌++◌, codes}
 use Rattle.std.specs.List.{find}
 use Rattle.std.specs.Option.{option_map_or}
-use Rattle.mh_look.specs.declared.why.missing.TheConstants.{BYTE_ORDER_MARK, HAS_MARK, HAS_COMMENT, HAS_NO_BRACE, IS_THERE, NO_GROUP, NO_FILE, LIES_THERE, IS_CALLED}
+use Rattle.mh_look.specs.declared.explanation.missing.TheConstants.{BYTE_ORDER_MARK, HAS_MARK, HAS_COMMENT, HAS_NO_BRACE, IS_THERE, NO_GROUP, NO_FILE, LIES_THERE, IS_CALLED}
 use Rattle.mh_look.specs.Painting.{begins_with}
 use Rattle.mh_look.specs.Sources.{Source, source_named}
 use Rattle.mh_look.specs.Wrapping.{paragraph}

@@ -19,8 +19,8 @@ use Rattle.mh_text.specs.declared.mark.Mark.{Mark}
 use Rattle.mh_text.specs.Marks.{marks, mark_of}
 use Rattle.mh_told.specs.Reading.{Source as File, is_group_file, table_of}
 use Rattle.mh_told.specs.declared.unplayable.Unplayable.{Unplayable}
-use Rattle.mh_look.specs.declared.why.marked.TheConstants.{HAVE_CHANGED}
-use Rattle.mh_look.specs.declared.why.place.TheConstants.{AS_PRINTED, STANDS_HERE, STAND_IN}
+use Rattle.mh_look.specs.declared.explanation.marked.TheConstants.{HAVE_CHANGED}
+use Rattle.mh_look.specs.declared.explanation.place.TheConstants.{AS_PRINTED, STANDS_HERE, STAND_IN}
 use Rattle.mh_look.specs.LineWords.{number_in}
 use Rattle.mh_look.specs.Places.{shown_place}
 use Rattle.mh_look.specs.Wrapping.{paragraph}

@@ -10,7 +10,7 @@ use Rattle.mh_flow.specs.declared.link.Link.{Link}
 use Rattle.mh_text.specs.Landmarks.{Through, variables_at}
 use Rattle.mh_text.specs.declared.mark.Mark.{Mark}
 use Rattle.mh_text.specs.Marks.{mark_of}
-use Rattle.mh_look.specs.declared.why.through.TheConstants.{REACHES_IT, REACHES_BY_ONE, GOES_THROUGH_IT}
+use Rattle.mh_look.specs.declared.explanation.through.TheConstants.{REACHES_IT, REACHES_BY_ONE, GOES_THROUGH_IT}
 use Rattle.mh_look.specs.LineWords.{first_word, behind_first, last_word, before_last}
 use Rattle.mh_look.specs.Sources.{Source, by_number, by_numbers, in_source, is_marked, more_variables, through_path, variable_words}
 use Rattle.mh_look.specs.Spots.{Spot, spot}

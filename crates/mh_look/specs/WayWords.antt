@@ -11,8 +11,8 @@ use Rattle.mh_layers.specs.declared.bounds.InputKind.TheVariants as kind
 use Rattle.mh_layers.specs.declared.way.Stage.{Stage}
 use Rattle.mh_layers.specs.declared.way.Way.{Way}
 use Rattle.mh_layers.specs.Bounding.{kind_word}
-use Rattle.mh_look.specs.declared.why.line.TheConstants.{SHOWS_NONE, SHOWS_SCENE}
-use Rattle.mh_look.specs.declared.why.way.TheConstants.{FILES_COME_TO, COSTS_MOST, STARTS, PUTS_FIRST, PUTS_NEXT, DEAREST_ACTION, PUTS_NONE}
+use Rattle.mh_look.specs.declared.explanation.line.TheConstants.{SHOWS_NONE, SHOWS_SCENE}
+use Rattle.mh_look.specs.declared.explanation.way.TheConstants.{FILES_COME_TO, COSTS_MOST, STARTS, PUTS_FIRST, PUTS_NEXT, DEAREST_ACTION, PUTS_NONE}
 use Rattle.mh_look.specs.Advice.{Row, bounds, cell, row_with}
 use Rattle.mh_look.specs.Sources.{Source, shown_action}
 use Rattle.mh_look.specs.Wrapping.{paragraph}

@@ -8,10 +8,10 @@ use Rattle.mh_flow.specs.declared.link.Link.{Link}
 use Rattle.mh_layers.specs.declared.arrow.Arrow.{Arrow}
 use Rattle.mh_layers.specs.declared.way.Way.{Way}
 use Rattle.mh_told.specs.Reading.{Source as File}
-use Rattle.mh_look.specs.declared.why.line.TheConstants.{STANDS_IN, MEMBERS_OF, SO_IT_IS, SHOWS_NONE, SHOWS_SCENE, THE_ACTION, WAS_STUCK, LEADS_TO, CIRCLE_THROUGH, COMES_BY, EFFECT_WITH, PUTS_ITSELF, HANDS_ON, WRITES_IT, IS_BYTE, OF_FILE, TOLD_OF, IS_LINE, IS_CONTEXT, CONTEXTS}
+use Rattle.mh_look.specs.declared.explanation.line.TheConstants.{STANDS_IN, MEMBERS_OF, SO_IT_IS, SHOWS_NONE, SHOWS_SCENE, THE_ACTION, WAS_STUCK, LEADS_TO, CIRCLE_THROUGH, COMES_BY, EFFECT_WITH, PUTS_ITSELF, HANDS_ON, WRITES_IT, IS_BYTE, OF_FILE, TOLD_OF, IS_LINE, IS_CONTEXT, CONTEXTS}
 use Rattle.mh_look.specs.Advice.{advice, cell, row_with, refusals, services, tags, faults, objects, readings}
-use Rattle.mh_look.specs.declared.why.keyword.Keyword.{Keyword}
-use Rattle.mh_look.specs.declared.why.keyword.Keyword.TheVariants as keyword
+use Rattle.mh_look.specs.declared.explanation.keyword.Keyword.{Keyword}
+use Rattle.mh_look.specs.declared.explanation.keyword.Keyword.TheVariants as keyword
 use Rattle.mh_look.specs.Circles.{arrow_text, at_words, next_in}
 use Rattle.mh_look.specs.Keywords.{keyword_of}
 use Rattle.mh_look.specs.LineWords.{first_word, behind_first, last_word, before_last}

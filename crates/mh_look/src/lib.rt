@@ -8,6 +8,7 @@
 mod command_line;
 mod comparison;
 mod doing;
+mod explanation;
 mod files;
 mod image;
 mod page;
@@ -18,7 +19,6 @@ mod script;
 mod show;
 mod verdict;
 mod ways;
-mod why;
 mod wrap;
 
 pub use command_line::error::CommandLineError;
@@ -27,6 +27,7 @@ pub use comparison::difference::{Difference, changed_cells, compare, first_diffe
 pub use comparison::telling::told;
 pub use comparison::{Comparison, compared};
 pub use doing::{Outcome, done};
+pub use explanation::{Known, explanations_are_harmless, why};
 pub use files::named_file::NamedFile;
 pub use files::source::Failure;
 pub use image::checksum::{Adler, Crc};
@@ -43,4 +44,3 @@ pub use report::{Part, ReadError, Report, read_report};
 pub use show::{harmless, put_frame, put_report};
 pub use verdict::{Verdict, verdict_on, verdict_text};
 pub use ways::ways_of;
-pub use why::{Known, explanations_are_harmless, why};

@@ -2,13 +2,13 @@
 //! explanation is written.
 use crate::command_line::{Explain, Given};
 use crate::doing::{Outcome, written};
+use crate::explanation::{Known, why};
 use crate::files::named_file::NamedFile;
 use crate::files::service::{Folder, folder_of};
 use crate::files::source::{Failure, output_of, uncoloured, unknown};
 use crate::paint::painted;
 use crate::verdict::{Verdict, verdict_on, verdict_text};
 use crate::ways::ways_of;
-use crate::why::{Known, why};
 use bstr::ByteSlice;
 use mh_base::Seq;
 use mh_flow::Link;

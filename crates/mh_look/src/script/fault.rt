@@ -5,8 +5,8 @@ ghost use Rattle.std.specs.List.{list_all};
 ghost use Rattle.mh_base.specs.Path.{is_path};
 ghost use Rattle.mh_look.specs.ScriptFaults.{alone_fault, behind_fault, command_fault, command_of, command_word, digits_fault, file_fault, has_space, hex_fault, is_alone, key_fault, line_fault, name_fault, number_fault, octets_fault, scene_fault, taken_fault, unless_within, written_fault};
 
+use crate::explanation::words::{behind_first, first_word, number_in};
 use crate::script::forms::is_key;
-use crate::why::words::{behind_first, first_word, number_in};
 use mh_base::{GroupName, NameError};
 use std::alloc::{AllocError, Global};
 

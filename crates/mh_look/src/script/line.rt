@@ -5,14 +5,14 @@ ghost use Rattle.std.specs.Option.{option_copied, option_map};
 ghost use Rattle.mh_look.specs.Advice.{cells};
 ghost use Rattle.mh_look.specs.ScriptTexts.{cause_text, command_mend, fault_text, fault_words, form_text, key_mend, mend_text, missing_scene, near_form_text, near_key_text, nearest_text, numbered_line, own_mend, return_text, script_line, script_told, whole_text, word_of};
 
+use crate::explanation::advice::{cell, put_advice, readings, row_with};
+use crate::explanation::missing::put_missing;
+use crate::explanation::words::{behind_first, first_word, number_in};
 use crate::files::named_file::NamedFile;
 use crate::files::shown::Source;
 use crate::place::without_terminator;
 use crate::script::fault::{LineFault, line_fault};
 use crate::script::forms::{forms, near_form, near_key};
-use crate::why::advice::{cell, put_advice, readings, row_with};
-use crate::why::missing::put_missing;
-use crate::why::words::{behind_first, first_word, number_in};
 use crate::wrap::{put_paragraph, put_sentence};
 use bstr::ByteSlice;
 use mh_told::text::Text;

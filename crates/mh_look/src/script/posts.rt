@@ -6,10 +6,10 @@ ghost use Rattle.std.specs.Option.{option_copied};
 ghost use Rattle.bstr.specs.Text.{lines_of};
 ghost use Rattle.mh_look.specs.Posts.{behind_stop, passed_length, post_of, post_text, posts_from, posts_text, posts_told, posts_words, script_behind, script_bytes, some_posts, up_to_stop, zero_text};
 
+use crate::explanation::words::first_word;
 use crate::files::named_file::NamedFile;
 use crate::place::{put_place, without_terminator};
 use crate::script::refusals::{can_be_refused, is_stop};
-use crate::why::words::first_word;
 use crate::wrap::put_paragraph;
 use bstr::ByteSlice;
 use mh_told::text::Text;

@@ -3,8 +3,8 @@
 ghost use Rattle.std.specs.Prelude.{◌≡◌};
 ghost use Rattle.mh_look.specs.Posts.{can_be_refused, is_bad_tick, is_of_any, is_of_file, is_of_scene, is_of_tick, is_refused_length, is_stop, is_told, refuses};
 
+use crate::explanation::words::{behind_first, first_word, number_in};
 use crate::script::fault::Command;
-use crate::why::words::{behind_first, first_word, number_in};
 
 /// Whether the output has a line of what this one does.
 pub(crate) fn is_stop(line: &[u8]) -> bool
