@@ -12,7 +12,7 @@
  *   1. A pointer with a length behind it is the start of so many bytes, or values, of which nothing else is written while the
  *      call lasts. It is aligned and never null: where the length is 0, pass any address that is aligned and not null.
  *   2. A pointer without a length is aligned, never null, and points to one value of its type that was filled in.
- *   3. What a call writes does not overlap anything else that it is passed.
+ *   3. What a call writes does not overlap anything else that it is passed, and was filled in before, the room for a text too.
  *   4. A `bool` is 0 or 1.
  *   5. A handle begins as REDPLAY_NONE and is written by these calls alone. It may be moved, but there is never a second
  *      copy of it that is used. It stays on the thread that started it.
@@ -22,7 +22,12 @@
  *      size.
  *
  * WHAT EACH CALL ANSWERS. 0, or a number that says why not. Where it is not 0 nothing has changed, in the session or behind a
- * pointer, unless the call says otherwise here. Numbers below 100 are the engine's own; docs/PROFILE.md has them all.
+ * pointer, unless the call says otherwise here. Numbers below 100 are those that `redplay` tells: 1 to 37 of files that cannot be
+ * read, 40 to 58 of the engine; docs/PROFILE.md has them all. What is named below is what a program may want to know apart.
+ *
+ * TEXTS. A text is written to room that the caller lends, as much of it as there is place for, and its whole length is told, as
+ * snprintf does: where that is more than there was room for, lend more and ask again. No zero byte is put behind it. It is UTF-8
+ * where the names of files are.
  *
  * MEMORY. "Takes no memory" means that the call never asks for any. Every other call may answer REDPLAY_NO_MEMORY, has then
  * kept nothing, and may be made again.
@@ -54,15 +59,16 @@ enum {
     REDPLAY_HAS_ENDED = 52,       /* the application has quit: nothing changes any more */
     REDPLAY_CLOCK_FULL = 53,      /* with the ticks that wait, the present would be past 4,294,967,295 milliseconds */
     REDPLAY_TICK_RANGE = 54,      /* a tick is not of 1 to 60,000 milliseconds */
+    REDPLAY_NOT_LATE = 57,        /* no file of this scene is awaited: it was not named as late, or it was posted already */
+    REDPLAY_SCENE_DIFFERS = 58,   /* the scene is another one than that of the service */
 
     REDPLAY_NO_MEMORY = 100,      /* memory was refused */
     REDPLAY_NO_SESSION = 101,     /* the handle has no session: it was not started, or it was freed */
     REDPLAY_UNACCEPTED = 102,     /* the verifier does not accept the service */
-    REDPLAY_UNREADABLE = 103,     /* a file cannot be read, or the files make no service */
     REDPLAY_NO_KEY = 104,         /* no key has the number */
     REDPLAY_NO_PATH = 105,        /* the name of a file is no path */
     REDPLAY_IN_USE = 106,         /* the handle has a session already: free it first */
-    REDPLAY_OUT_OF_RANGE = 107    /* there is no such row or day */
+    REDPLAY_OUT_OF_RANGE = 107    /* there is no such row, fault or day */
 };
 
 /* What redplay_rest() answers. */
@@ -96,6 +102,12 @@ typedef struct redplay_totals {
     uint64_t taken, budget, faults;
 } redplay_totals;
 
+/* To how many steps the start and one input of each kind lead at most: a key, a tick, an event of a stream or of the engine, a
+   content file or a scene that arrives. Of a service that is played leniently each is the largest number of 64 bits. */
+typedef struct redplay_limits {
+    uint64_t start, key, tick, stream, engine, arrive;
+} redplay_limits;
+
 /* A cell: its character, a code point of Unicode, a space (32) where there is none; the colour of the character; the colour
    behind it. Colours are 24 bits, red in the highest eight, then green, then blue. */
 typedef struct redplay_cell {
@@ -105,18 +117,34 @@ typedef struct redplay_cell {
 /* Answers REDPLAY_VERSION of the archive. Takes no memory. */
 uint32_t redplay_version(void);
 
+/* ---- A service ----------------------------------------------------------------------------------------------------------
+
+   A service is the files of a folder, in any order. One that begins as a group does is a group, in text or in the binary
+   notation with the profile's tags; every other one is content. `start` is the path of the application to start with. `late` has
+   the paths of the scenes whose files come later, a path a line; with the length 0 none does. The files of these scenes are
+   handed in with the others, since the verifier wants them: that they are late says when the service may show them. */
+
+/* Writes what `redplay check` prints of the service: `accepted` and its six bounds, or why it is refused and where, or why a
+   file cannot be read and at which byte. The text and its length are written where the answer is 0 (accepted),
+   REDPLAY_UNACCEPTED, or a number from 1 to 37 (the files make no service); nothing where it is REDPLAY_NO_PATH or
+   REDPLAY_NO_MEMORY. To lend more room and ask again costs another verdict; 4,096 bytes are mostly enough. */
+uint32_t redplay_check(const redplay_source *files, size_t files_length, const uint8_t *start, size_t start_length,
+                       const uint8_t *late, size_t late_length, uint8_t *text, size_t text_length, size_t *length);
+
 /* ---- A session ---------------------------------------------------------------------------------------------------------- */
 
-/* A service is the files of a folder, in any order. One that begins as a group does is a group, in text or in the binary
-   notation with the profile's tags; every other one is content. `start` is the path of the application to start with.
-   `late` is kept for the scenes whose files come later, a path a line. No call takes these files yet: give it the length 0.
-
-   Starts a session on a modified Julian day, 1,000,000 at most, in a handle that has none. The content files that the service
-   names are there from the start; the picture that redplay_changed() compares with is black. No step is made yet.
+/* Starts a session of the service on a modified Julian day, 1,000,000 at most, in a handle that has none. The content files that
+   the service names are there from the start; the picture that redplay_changed() compares with is black. No step is made yet.
    Unless `lenient`, the verifier has to accept the service, and then no action of it is ever at fault, and no more steps are
-   ever taken than redplay_counts() has as the budget. Leniently, an action that cannot be done is skipped and noted. */
+   ever taken than redplay_counts() has as the budget. Leniently, an action that cannot be done is skipped and noted.
+   What it answers, the first of these that applies, want of memory aside: REDPLAY_IN_USE; REDPLAY_OUT_OF_RANGE for the day;
+   REDPLAY_NO_PATH; 1 to 37, the files make no service; REDPLAY_UNACCEPTED; REDPLAY_FILE_TOO_LARGE and REDPLAY_TOO_MANY_FILES, of
+   the content files that the service names. */
 uint32_t redplay_start(redplay *handle, const redplay_source *files, size_t files_length, const uint8_t *start,
                        size_t start_length, const uint8_t *late, size_t late_length, uint32_t day, bool lenient);
+
+/* Writes the bounds of the service that is played. Takes no memory. */
+uint32_t redplay_bounds(redplay *handle, redplay_limits *limits);
 
 /* Ends the session and gives all its memory back; the handle has none behind it. Takes no memory. */
 uint32_t redplay_free(redplay *handle);
@@ -136,6 +164,14 @@ uint32_t redplay_stream(redplay *handle, int32_t tag);
 /* An event of the engine with this number (ISO/IEC 13522-5, EngineEvent): 51, 52. */
 uint32_t redplay_event(redplay *handle, int32_t number);
 
+/* A content file is there, in the place of an older one of its name: REDPLAY_NO_PATH, 52, 40, 41, 51. Any file may arrive, also
+   one that the service does not name. */
+uint32_t redplay_file(redplay *handle, const uint8_t *name, size_t name_length, const uint8_t *content, size_t content_length);
+
+/* The file of a late scene is there, in either notation: REDPLAY_NO_PATH; 1 to 24, it cannot be read; 52, 57, 58, 51. It has to
+   be the scene that the session was started with, white space and notation aside. */
+uint32_t redplay_scene(redplay *handle, const uint8_t *name, size_t name_length, const uint8_t *content, size_t content_length);
+
 /* ---- Steps, and what comes of them -------------------------------------------------------------------------------------- */
 
 /* Makes `most` steps, or as many as there is something to do, and paints once, behind the last of them. Of a service that the
@@ -149,6 +185,11 @@ uint32_t redplay_rest(redplay *handle);
 
 /* Writes the counts. Takes no memory. */
 uint32_t redplay_counts(redplay *handle, redplay_totals *totals);
+
+/* Writes the line that `redplay play` prints of a fault, with its line feed: what is wrong (`absent`, `class`, `kind`), the
+   action, and the reference that is wrong. The first fault is 0, the last one redplay_counts()'s `faults` less 1;
+   REDPLAY_OUT_OF_RANGE where there are fewer. A service that the verifier accepted has none. */
+uint32_t redplay_fault(redplay *handle, size_t at, uint8_t *text, size_t text_length, size_t *length);
 
 /* Writes which rows differ from the picture of the last call, a bit a row, the top row the lowest; the picture that is shown
    now is what the next call compares with. Takes no memory. */

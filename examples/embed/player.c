@@ -1,8 +1,11 @@
 /*
- * player FOLDER SCRIPT [START]: plays a script on the service of a folder, and prints what `redplay play` prints of it.
+ * player [--late FILE] [--lenient] FOLDER SCRIPT [START]: plays a script on the service of a folder, and prints what
+ * `redplay play` prints of it. With --check in the place of a script: what `redplay check` prints. Its exit status is theirs:
+ * 1 a refused service, 2 what cannot be read, 3 faults.
  *
- * The commands of the script: run, step N, show, key NAME, tick N, stream N, engine N; empty lines and lines that begin with
- * `#` are passed over. A receiver reads keys and a clock in the place of a script (docs/EMBEDDING_C.md has that loop).
+ * The commands of the script: run, step N, show, key NAME, tick N, stream N, engine N, file NAME HEX, scene NAME, scene NAME
+ * HEX; empty lines and lines that begin with `#` are passed over. A receiver reads keys, a clock and a carousel in the place of
+ * a script (docs/EMBEDDING_C.md has that loop).
  */
 #define _DEFAULT_SOURCE
 #include "../../include/redplay.h"
@@ -12,6 +15,9 @@
 #include <stdlib.h>
 #include <string.h>
 #include <sys/stat.h>
+
+/* The most steps that `run` makes: those of `redplay`. Of a service that was accepted UINT32_MAX always ends, too. */
+#define RUN_LIMIT 1000000
 
 /* ---- Files ---- */
 
@@ -57,17 +63,23 @@ static void gather(folder *all, const char *root, const char *below) {
     for (struct dirent *entry; (entry = readdir(open));) {
         struct stat is;
         if (entry->d_name[0] == '.') continue;
-        snprintf(name, sizeof name, "%s%s", below, entry->d_name);
+        snprintf(name, sizeof name - 1, "%s%s", below, entry->d_name);
         snprintf(path, sizeof path, "%s/%s", root, name);
         if (stat(path, &is)) fail("cannot read", path);
-        if (S_ISDIR(is.st_mode)) {
-            strncat(name, "/", sizeof name - strlen(name) - 1);
-            gather(all, root, name);
-        } else {
-            add_file(all, path, name);
-        }
+        if (S_ISDIR(is.st_mode)) gather(all, root, strcat(name, "/"));
+        else add_file(all, path, name);
     }
     closedir(open);
+}
+
+/* The file of the service that has this path. */
+static const redplay_source *named(const folder *all, const char *name) {
+    for (size_t at = 0; at < all->count; at++) {
+        const redplay_source *file = &all->files[at];
+        if (file->name_length == strlen(name) && !memcmp(file->name, name, file->name_length)) return file;
+    }
+    fail("no file is called", name);
+    return NULL;
 }
 
 static void let_go(folder *all) {
@@ -106,8 +118,7 @@ static void put_run(const redplay_cell *cells, unsigned first, unsigned behind) 
 
 static void put_row(unsigned row, const redplay_cell *cells) {
     printf("row %02u:", row);
-    unsigned first = 0;
-    for (unsigned at = 1; at <= REDPLAY_COLUMNS; at++) {
+    for (unsigned first = 0, at = 1; at <= REDPLAY_COLUMNS; at++) {
         if (at < REDPLAY_COLUMNS && cells[at].fore == cells[first].fore && cells[at].back == cells[first].back) continue;
         put_run(cells, first, at);
         first = at;
@@ -145,13 +156,29 @@ static uint32_t key_named(const char *name) {
     return 0;
 }
 
-/* Makes steps, and tells how many, and what is left to do. A service that the verifier accepts is never at fault. */
+/* Prints a text of the library; what did not fit into the room is left out. */
+static void put_text(const uint8_t *text, size_t length, size_t room) {
+    fwrite(text, 1, length < room ? length : room, stdout);
+}
+
+/* The lines of the faults from this one on. */
+static void put_faults(redplay *session, uint64_t first, uint64_t behind) {
+    uint8_t text[1024] = {0};
+    size_t length = 0;
+    for (uint64_t at = first; at < behind; at++) {
+        if (redplay_fault(session, (size_t)at, text, sizeof text, &length)) fail("no memory for", "a fault");
+        put_text(text, length, sizeof text);
+    }
+}
+
+/* Makes steps, and tells the faults that were met, how many steps were made, and what is left to do. */
 static void advance(redplay *session, uint32_t most) {
     static const char *const left[] = {"more", "idle", "ended"};
     redplay_totals before = {0, 0, 0}, after = {0, 0, 0};
     redplay_counts(session, &before);
     if (redplay_advance(session, most) == REDPLAY_NO_MEMORY) fail("no memory for", "a step");
     redplay_counts(session, &after);
+    put_faults(session, before.faults, after.faults);
     printf("did %" PRIu64 " %s\n", after.taken - before.taken, left[redplay_rest(session)]);
 }
 
@@ -161,48 +188,113 @@ static void posted(uint32_t answer) {
     if (answer) printf("refused %" PRIu32 "\n", answer);
 }
 
+/* The bytes that pairs of hexadecimal digits write, in their place. */
+static size_t unhexed(char *digits) {
+    size_t count = strlen(digits) / 2;
+    for (size_t at = 0; at < count; at++) {
+        char pair[3] = {digits[2 * at], digits[2 * at + 1], 0}, *end;
+        digits[at] = (char)strtoul(pair, &end, 16);
+        if (*end) fail("no hexadecimal digits:", pair);
+    }
+    return count;
+}
+
+/* A content file arrives, or the file of a scene: that of the folder where no bytes are given. */
+static void arrive(redplay *session, const folder *all, bool is_scene, char *name) {
+    char *digits = strchr(name, ' ');
+    if (digits) *digits++ = 0;
+    redplay_source file = {(const uint8_t *)name, strlen(name), (const uint8_t *)digits, digits ? unhexed(digits) : 0};
+    if (!digits) file = *named(all, name);
+    if (is_scene) posted(redplay_scene(session, file.name, file.name_length, file.content, file.content_length));
+    else posted(redplay_file(session, file.name, file.name_length, file.content, file.content_length));
+}
+
 /* Does a command. */
-static void obey(redplay *session, char *line, unsigned *frames) {
+static void obey(redplay *session, const folder *all, char *line, unsigned *frames) {
     char *rest = strchr(line, ' ');
     if (rest) *rest++ = 0;
     long long number = rest ? atoll(rest) : 0;
-    if (!strcmp(line, "run")) advance(session, UINT32_MAX);
+    if (!strcmp(line, "run")) advance(session, RUN_LIMIT);
     else if (!strcmp(line, "show")) show(session, ++*frames);
-    else if (rest && !strcmp(line, "step")) advance(session, (uint32_t)number);
-    else if (rest && !strcmp(line, "key")) posted(redplay_key(session, key_named(rest)));
-    else if (rest && !strcmp(line, "tick")) posted(redplay_tick(session, (uint32_t)number));
-    else if (rest && !strcmp(line, "stream")) posted(redplay_stream(session, (int32_t)number));
-    else if (rest && !strcmp(line, "engine")) posted(redplay_event(session, (int32_t)number));
+    else if (!rest) fail("no such command:", line);
+    else if (!strcmp(line, "step")) advance(session, (uint32_t)number);
+    else if (!strcmp(line, "key")) posted(redplay_key(session, key_named(rest)));
+    else if (!strcmp(line, "tick")) posted(redplay_tick(session, (uint32_t)number));
+    else if (!strcmp(line, "stream")) posted(redplay_stream(session, (int32_t)number));
+    else if (!strcmp(line, "engine")) posted(redplay_event(session, (int32_t)number));
+    else if (!strcmp(line, "file")) arrive(session, all, false, rest);
+    else if (!strcmp(line, "scene")) arrive(session, all, true, rest);
     else fail("no such command:", line);
 }
 
-static void play(redplay *session, char *script) {
+/* Plays a script, and answers the exit status. */
+static int play(redplay *session, const folder *all, char *script) {
     redplay_totals totals = {0, 0, 0};
     unsigned frames = 0;
     for (char *line = strtok(script, "\n"); line; line = strtok(NULL, "\n")) {
-        if (line[0] != '#') obey(session, line, &frames);
+        if (line[0] != '#') obey(session, all, line, &frames);
     }
     redplay_counts(session, &totals);
     printf("total %" PRIu64 "\n", totals.taken);
+    return totals.faults ? 3 : 0;
 }
 
 /* ---- The whole ---- */
 
-int main(int count, char **words) {
-    if (count < 3) fail("usage:", "player FOLDER SCRIPT [START]");
-    const char *start = count > 3 ? words[3] : "a";
-    size_t length;
-    uint8_t *script = read_whole(words[2], &length);
-    folder all = {NULL, 0, 0};
-    gather(&all, words[1], "");
+typedef struct { const char *folder, *script, *start, *late; bool lenient; } choices;
+
+static choices chosen(int count, char **words) {
+    choices made = {NULL, NULL, "a", NULL, false};
+    for (int at = 1; at < count; at++) {
+        if (!strcmp(words[at], "--lenient")) made.lenient = true;
+        else if (!strcmp(words[at], "--late") && at + 1 < count) made.late = words[++at];
+        else if (!made.folder) made.folder = words[at];
+        else if (!made.script) made.script = words[at];
+        else made.start = words[at];
+    }
+    if (!made.script) fail("usage:", "player [--late FILE] [--lenient] FOLDER SCRIPT [START], or FOLDER --check [START]");
+    return made;
+}
+
+/* Prints the verdict on the service, and answers the exit status. */
+static int check(const folder *all, const uint8_t *start, const uint8_t *late, size_t late_length) {
+    uint8_t text[4096] = {0};
+    size_t length = 0;
+    uint32_t answer = redplay_check(all->files, all->count, start, strlen((const char *)start), late, late_length,
+                                    text, sizeof text, &length);
+    if (answer == REDPLAY_NO_MEMORY) fail("no memory for", "a verdict");
+    put_text(text, length, sizeof text);
+    return answer == REDPLAY_GOOD ? 0 : answer == REDPLAY_UNACCEPTED ? 1 : 2;
+}
+
+/* Plays the script, or says why there is no session, and answers the exit status. */
+static int start(const choices *made, const folder *all, const uint8_t *late, size_t late_length) {
+    const uint8_t *name = (const uint8_t *)made->start;
+    if (!strcmp(made->script, "--check")) return check(all, name, late, late_length);
     redplay session = REDPLAY_NONE;
-    if (!all.count) fail("no files in", words[1]);
-    uint32_t answer = redplay_start(&session, all.files, all.count, (const uint8_t *)start, strlen(start),
-                                    (const uint8_t *)start, 0, 60000, false);
-    if (answer == REDPLAY_GOOD) play(&session, (char *)script);
-    else fprintf(stderr, "player: not started: %" PRIu32 "\n", answer);
+    uint32_t answer = redplay_start(&session, all->files, all->count, name, strlen(made->start), late, late_length, 60000,
+                                    made->lenient);
+    if (answer != REDPLAY_GOOD) {
+        fprintf(stderr, "player: not started: %" PRIu32 "\n", answer);
+        return check(all, name, late, late_length) == 1 ? 1 : 2;
+    }
+    size_t length;
+    uint8_t *script = read_whole(made->script, &length);
+    int status = play(&session, all, (char *)script);
     redplay_free(&session);
-    let_go(&all);
     free(script);
-    return answer == REDPLAY_GOOD ? 0 : 1;
+    return status;
+}
+
+int main(int count, char **words) {
+    const choices made = chosen(count, words);
+    folder all = {NULL, 0, 0};
+    gather(&all, made.folder, "");
+    if (!all.count) fail("no files in", made.folder);
+    size_t late_length = 0;
+    uint8_t *late = made.late ? read_whole(made.late, &late_length) : NULL;
+    int status = start(&made, &all, late ? late : all.files[0].name, late_length); /* an address also where none is late */
+    free(late);
+    let_go(&all);
+    return status;
 }

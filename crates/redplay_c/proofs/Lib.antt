@@ -1,5 +1,10 @@
 mod AnswerLemmas
 mod AsBox
 mod BitLemmas
+mod BringLemmas
 mod Full
 mod PostLemmas
+mod PresetLemmas
+mod ReadingLemmas
+mod StartLemmas
+mod VerdictLemmas

@@ -1,9 +1,13 @@
--- What a call answers: 0, the engine's number of why it refuses, or a number of the library's own.
-use Rattle.std.specs.Prelude.{◌≡◌, ℕ, ◌<◌, Bool, false, true, unwrap_or}
+-- What a call answers: 0, the number under which a refusal is told everywhere, or a number of the library's own.
+use Rattle.std.specs.Prelude.{◌≡◌, ℕ, ◌<◌, unwrap_or}
+use Rattle.mh_base.specs.declared.name_error.NameError.{NameError}
+use Rattle.mh_base.specs.declared.name_error.NameError.TheVariants as unnamed
 use Rattle.mh_engine.specs.Answer.{refusal_number}
 use Rattle.mh_engine.specs.declared.refusal.RefusedWhy.{RefusedWhy}
 use Rattle.mh_model.specs.declared.rest.Rest.{Rest}
 use Rattle.mh_model.specs.declared.rest.Rest.TheVariants as rest
+use Rattle.redplay_c.specs.declared.start_refusal.StartRefusal.{StartRefusal}
+use Rattle.redplay_c.specs.declared.start_refusal.StartRefusal.TheVariants as unstarted
 
 abbrev pub good : ℕ
 good = 0
@@ -16,9 +20,6 @@ no_session = 101
 
 abbrev pub unaccepted : ℕ
 unaccepted = 102
-
-abbrev pub unreadable : ℕ
-unreadable = 103
 
 abbrev pub no_key : ℕ
 no_key = 104
@@ -35,6 +36,25 @@ out_of_range = 107
 -- the number under which a refusal is told; the engine has none for want of memory
 abbrev pub why_number : RefusedWhy → ℕ
 why_number why = unwrap_or (refusal_number why) no_memory
+
+-- the number under which it is told that a name is no path
+abbrev pub name_number : NameError → ℕ
+name_number unnamed.BadName = no_path
+name_number unnamed.NoMemory = no_memory
+
+-- and that there is no session
+abbrev pub start_number : StartRefusal → ℕ
+start_number unstarted.NoMemory = no_memory
+start_number unstarted.NoDay = out_of_range
+start_number unstarted.NoPath = no_path
+start_number (unstarted.Unreadable number) = number
+start_number unstarted.Unaccepted = unaccepted
+start_number (unstarted.Unset why) = why_number why
+
+-- why there is no session where the names of files are not all paths
+abbrev pub of_name : NameError → StartRefusal
+of_name unnamed.BadName = unstarted.NoPath
+of_name unnamed.NoMemory = unstarted.NoMemory
 
 -- what is left to do
 abbrev pub rest_number : Rest → ℕ

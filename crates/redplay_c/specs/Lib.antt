@@ -1,9 +1,12 @@
 pub mod Answers
 pub mod Calls
 pub mod Cells
+pub mod Files
 pub mod Keys
 pub mod Lent
 pub mod OnSession
 pub mod Owned
 pub mod Playing
 pub mod Rows
+pub mod Starts
+pub mod Verdicts

@@ -1,8 +1,11 @@
-//! What a call answers: 0, the engine's own number of why it refuses, or one of these.
+//! What a call answers: 0, the number under which a refusal is told everywhere, or one of these.
 ghost use Rattle.std.specs.Prelude.{◌≡◌, ◌<◌};
-ghost use Rattle.redplay_c.specs.Answers.{why_number};
+ghost use Rattle.redplay_c.specs.Answers.{name_number, why_number};
+ghost use Rattle.redplay_c.specs.Files.{reading_number};
 
+use mh_base::NameError;
 use mh_engine::RefusedWhy;
+use mh_told::unplayable::Unplayable;
 
 /// What was asked for is done.
 pub const GOOD: u32 = 0;
@@ -12,8 +15,6 @@ pub const NO_MEMORY: u32 = 100;
 pub const NO_SESSION: u32 = 101;
 /// The verifier does not accept the service.
 pub const UNACCEPTED: u32 = 102;
-/// A file cannot be read, or the files make no service.
-pub const UNREADABLE: u32 = 103;
 /// No key has the number.
 pub const NO_KEY: u32 = 104;
 /// The name of a file is no path.
@@ -30,4 +31,26 @@ pub fn number_of(why: RefusedWhy) -> u32
     ensures some { 0 < result }
 {
     why.number().unwrap_or(NO_MEMORY)
+}
+
+/// The number under which it is told that a file cannot be read, or that the files make no service.
+pub fn reading_number(why: &Unplayable) -> Option<u32>
+    ensures { result ≡ reading_number why.now }
+{
+    match why {
+        Unplayable::File { number, .. }
+        | Unplayable::Service { number, .. }
+        | Unplayable::Tags { number, .. } => Some(*number),
+        Unplayable::Script(_) | Unplayable::NoMemory => None,
+    }
+}
+
+/// The number under which it is told that a name is no path.
+pub fn name_number(why: NameError) -> u32
+    ensures { result ≡ name_number why }
+{
+    match why {
+        NameError::BadName => NO_PATH,
+        NameError::NoMemory => NO_MEMORY,
+    }
 }

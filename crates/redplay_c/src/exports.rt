@@ -3,3 +3,4 @@
 mod inputs;
 mod lives;
 mod turns;
+mod verdicts;

@@ -6,12 +6,17 @@
 #![tactic(auto)]
 
 mod answer;
-mod contents;
+mod bringing;
+mod choice;
 mod crossing;
 mod exports;
 mod handle;
 mod keys;
 mod opening;
+mod preset;
 mod reading;
 mod session;
 mod showing;
+mod start_refusal;
+mod telling;
+mod verdict;

@@ -2,10 +2,10 @@
 ghost use Rattle.std.specs.Prelude.{◌≡◌};
 ghost use Rattle.mh_machine.specs.Rest.{rest_of};
 ghost use Rattle.redplay_c.specs.Answers.{rest_number};
-ghost use Rattle.redplay_c.specs.Calls.{IsPosted, IsAdvanced, counts_of};
+ghost use Rattle.redplay_c.specs.Calls.{IsPosted, IsAdvanced, bounds_of, counts_of};
 
 use crate::answer::{GOOD, NO_MEMORY, number_of};
-use crate::crossing::Counts;
+use crate::crossing::{Bounds, Counts};
 use mh_engine::{Engine, Refused, RefusedWhy, Rest};
 use mh_model::{Input, Picture};
 use std::alloc::Global;
@@ -67,6 +67,21 @@ impl Session {
             taken: self.engine.taken(),
             budget: self.engine.budget(),
             faults: self.engine.faults().len() as u64,
+        }
+    }
+
+    /// To how many steps the start and an input of each kind lead at most.
+    pub fn bounds(&self) -> Bounds
+        ensures { result ≡ bounds_of self.now.engine.bounds }
+    {
+        let bounds = self.engine.bounds();
+        Bounds {
+            start: bounds.start,
+            key: bounds.key,
+            tick: bounds.tick,
+            stream: bounds.stream,
+            engine: bounds.engine,
+            arrive: bounds.arrive,
         }
     }
 }

@@ -1,5 +1,5 @@
 //! What is posted.
-ghost use Rattle.redplay_c.specs.Calls.{IsPosted, IsPressed};
+ghost use Rattle.redplay_c.specs.Calls.{IsArrived, IsBrought, IsPosted, IsPressed};
 ghost use Rattle.redplay_c.specs.Keys.{key_of};
 ghost use Rattle.redplay_c.specs.OnSession.{OnSession};
 
@@ -53,4 +53,26 @@ pub extern "C" fn redplay_event(handle: &mut Handle, number: i32) -> u32
         return NO_SESSION;
     }
     handle.held().post(Input::Engine(number))
+}
+
+/// Posts a content file that is there now.
+#[unsafe(no_mangle)]
+pub extern "C" fn redplay_file(handle: &mut Handle, name: &[u8], content: &[u8]) -> u32
+    ensures { OnSession (IsArrived name.now content.now) handle.old.session handle.new.session result }
+{
+    if handle.is_none() {
+        return NO_SESSION;
+    }
+    handle.held().arrive(name, content)
+}
+
+/// Posts the file of a scene that was late.
+#[unsafe(no_mangle)]
+pub extern "C" fn redplay_scene(handle: &mut Handle, name: &[u8], content: &[u8]) -> u32
+    ensures { OnSession (IsBrought name.now content.now) handle.old.session handle.new.session result }
+{
+    if handle.is_none() {
+        return NO_SESSION;
+    }
+    handle.held().bring(name, content)
 }

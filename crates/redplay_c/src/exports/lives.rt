@@ -1,11 +1,15 @@
 //! How a session begins and ends.
-ghost use Rattle.std.specs.Prelude.{◌≡◌, ◌<◌, None, is_none, false, IfErr, if◌then◌else◌};
+ghost use Rattle.std.specs.Prelude.{◌≡◌, ◌<◌, None, is_none, false, true, IfOk, IfErr, if◌then◌else◌};
 ghost use Rattle.redplay_c.specs.Answers.{good, in_use, no_session};
+ghost use Rattle.redplay_c.specs.Files.{choice_of};
+ghost use Rattle.redplay_c.specs.Starts.{HasStarted, IsStarted, IsToldBy, IsUnstarted};
 
-use crate::answer::{GOOD, IN_USE, NO_MEMORY, NO_SESSION};
+use crate::answer::{GOOD, IN_USE, NO_SESSION};
+use crate::choice::Choice;
 use crate::crossing::Source;
 use crate::handle::Handle;
 use crate::session::Session;
+use crate::start_refusal::StartRefusal;
 use std::alloc::Global;
 use std::mem;
 
@@ -22,6 +26,7 @@ pub extern "C" fn redplay_version() -> u32
 
 /// Starts a session in a handle that has none.
 #[unsafe(no_mangle)]
+#[tactic(auto, using(crate::proofs::StartLemmas::told_some, crate::proofs::StartLemmas::has_started))]
 pub extern "C" fn redplay_start(
     alloc: Global,
     handle: &mut Handle,
@@ -34,16 +39,24 @@ pub extern "C" fn redplay_start(
     ensures used { is_none handle.old.session ≡ false → (result ≡ in_use) × (handle.new.session ≡ handle.old.session) }
     ensures refused { 0 < result → handle.new.session ≡ handle.old.session }
     ensures started { result ≡ good → is_none handle.new.session ≡ false }
+    ensures begun { result ≡ good → HasStarted sources.now (choice_of start.now late.now mjd lenient) handle.new.session }
+    ensures why { is_none handle.old.session ≡ true → 0 < result → IsToldBy sources.now (choice_of start.now late.now mjd lenient) result }
 {
     if !handle.is_none() {
         return IN_USE;
     }
-    match boxed(alloc, sources, start, late, mjd, lenient) {
+    let choice = Choice {
+        start,
+        late,
+        day: mjd,
+        lenient,
+    };
+    match boxed(alloc, sources, &choice) {
         Ok(session) => {
             mem::replace(handle, Handle::of(session)).let_go();
             GOOD
         }
-        Err(why) => why,
+        Err(why) => why.number(),
     }
 }
 
@@ -51,17 +64,25 @@ pub extern "C" fn redplay_start(
 fn boxed(
     alloc: Global,
     sources: &[Source],
-    start: &[u8],
-    late: &[u8],
-    mjd: u32,
-    lenient: bool,
-) -> Result<Box<Session, Global>, u32>
-    ensures wrong { IfErr result (λ n. 0 < n) }
+    choice: &Choice,
+) -> Result<Box<Session, Global>, StartRefusal>
+    ensures started { IfOk result (λ session. IsStarted sources.now choice.now session.value) }
+    ensures refused { IfErr result (λ why. IsUnstarted sources.now choice.now why) }
 {
-    let session = Session::start(alloc, sources, start, late, mjd, lenient)?;
-    match Box::new(alloc, session) {
-        Ok(session) => Ok(session),
-        Err(_) => Err(NO_MEMORY),
+    match Session::start(alloc, sources, choice) {
+        Ok(session) => in_box(alloc, session),
+        Err(why) => Err(why),
+    }
+}
+
+/// A value on the heap. What is generic in it does not speak of how a session is dropped.
+fn in_box<T: Drop>(alloc: Global, whole: T) -> Result<Box<T, Global>, StartRefusal>
+    ensures same { IfOk result (λ boxed. boxed.value ≡ whole) }
+    ensures memory { IfErr result (λ why. why ≡ StartRefusal.NoMemory) }
+{
+    match Box::new(alloc, whole) {
+        Ok(boxed) => Ok(boxed),
+        Err(_) => Err(StartRefusal::NoMemory),
     }
 }
 

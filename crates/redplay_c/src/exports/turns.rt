@@ -3,13 +3,13 @@ ghost use Rattle.std.specs.Prelude.{◌≡◌, None};
 ghost use Rattle.mh_machine.specs.Rest.{rest_of};
 ghost use Rattle.mh_model.specs.Picture.{shown};
 ghost use Rattle.redplay_c.specs.Answers.{good, rest_number};
-ghost use Rattle.redplay_c.specs.Calls.{IsAdvanced, counts_of};
+ghost use Rattle.redplay_c.specs.Calls.{IsAdvanced, IsFaultTold, bounds_of, counts_of};
 ghost use Rattle.redplay_c.specs.Cells.{AreCells};
 ghost use Rattle.redplay_c.specs.OnSession.{OnSession};
 ghost use Rattle.redplay_c.specs.Rows.{AreRows};
 
 use crate::answer::{GOOD, NO_SESSION};
-use crate::crossing::{Cell, Counts};
+use crate::crossing::{Bounds, Cell, Counts};
 use crate::handle::Handle;
 
 /// Makes steps, so many at most.
@@ -45,6 +45,36 @@ pub extern "C" fn redplay_counts(handle: &mut Handle, counts: &mut Counts) -> u3
     }
     *counts = handle.held().counts();
     GOOD
+}
+
+/// To how many steps the start and an input of each kind lead at most.
+#[unsafe(no_mangle)]
+pub extern "C" fn redplay_bounds(handle: &mut Handle, bounds: &mut Bounds) -> u32
+    ensures bounded { OnSession (λ s t n. (n ≡ good) × (t ≡ s) × (bounds.new ≡ bounds_of s.engine.bounds)) handle.old.session handle.new.session result }
+    ensures none { handle.old.session ≡ None → bounds.new ≡ bounds.old }
+{
+    if handle.is_none() {
+        return NO_SESSION;
+    }
+    *bounds = handle.held().bounds();
+    GOOD
+}
+
+/// Tells a fault, by its place among those that were met.
+#[unsafe(no_mangle)]
+pub extern "C" fn redplay_fault(
+    handle: &mut Handle,
+    at: usize,
+    text: &mut [u8],
+    length: &mut usize,
+) -> u32
+    ensures told { OnSession (IsFaultTold at text.old text.new length.old length.new) handle.old.session handle.new.session result }
+    ensures none { handle.old.session ≡ None → (text.new ≡ text.old) × (length.new ≡ length.old) }
+{
+    if handle.is_none() {
+        return NO_SESSION;
+    }
+    handle.held().fault(at, text, length)
 }
 
 /// Which rows changed since this was asked last.

@@ -5,7 +5,7 @@
 
 mod raw;
 
-pub use raw::{Cell, Totals};
+pub use raw::{Cell, Limits, Totals};
 use raw::{Handle, Source};
 use std::marker::PhantomData;
 
@@ -19,6 +19,14 @@ pub type File<'a> = (&'a [u8], &'a [u8]);
 #[derive(Clone, Copy, Debug, PartialEq, Eq)]
 pub struct Refused(pub u32);
 
+impl Refused {
+    pub const QUEUE_FULL: Refused = Refused(51);
+    pub const ENDED: Refused = Refused(52);
+    pub const NO_MEMORY: Refused = Refused(100);
+    pub const UNACCEPTED: Refused = Refused(102);
+    pub const OUT_OF_RANGE: Refused = Refused(107);
+}
+
 impl std::fmt::Display for Refused {
     fn fmt(&self, to: &mut std::fmt::Formatter<'_>) -> std::fmt::Result {
         write!(to, "refused {}", self.0)
@@ -29,13 +37,17 @@ impl std::error::Error for Refused {}
 
 /// What comes from outside.
 #[derive(Clone, Copy, Debug)]
-pub enum Input {
+pub enum Input<'a> {
     /// A key, by its number: `redplay.h` has them.
     Key(u32),
     /// So many milliseconds passed, 1 to 60,000.
     Tick(u32),
     Stream(i32),
     Event(i32),
+    /// A content file is there, in the place of an older one of its name.
+    File(File<'a>),
+    /// The file of a late scene is there.
+    Scene(File<'a>),
 }
 
 /// What is left to do.
@@ -46,7 +58,8 @@ pub enum Rest {
     Ended,
 }
 
-/// What is to be played: files, the path of the application to start with, and the late scenes, a path a line.
+/// What is to be played: files, the path of the application to start with, and the late scenes, a path a line. The files of
+/// late scenes are among the files.
 #[derive(Clone, Copy)]
 pub struct Service<'a> {
     pub files: &'a [File<'a>],
@@ -75,6 +88,53 @@ fn sources(files: &[File<'_>]) -> Vec<Source> {
 pub fn version() -> u32 {
     // SAFETY: the call takes nothing.
     unsafe { raw::redplay_version() }
+}
+
+/// What the verifier says of a service, or why its files make none.
+#[derive(Clone, Debug, PartialEq, Eq)]
+pub struct Verdict {
+    /// Nothing where the service is accepted; `Refused::UNACCEPTED`, or the number of a file that cannot be read.
+    pub why: Result<(), Refused>,
+    /// What `redplay check` prints.
+    pub text: Vec<u8>,
+}
+
+/// A text, for which room is lent that the call says to be too short, or not.
+fn text_of(mut call: impl FnMut(&mut [u8], &mut usize) -> u32) -> (u32, Vec<u8>) {
+    let (mut text, mut length) = (vec![0; 1024], 0);
+    let mut answer = call(&mut text, &mut length);
+    if length > text.len() {
+        text.resize(length, 0);
+        answer = call(&mut text, &mut length);
+    }
+    text.truncate(length);
+    (answer, text)
+}
+
+/// The verdict on a service. It is an error that memory is refused, or that the name of a file is no path.
+pub fn check(service: Service<'_>) -> Result<Verdict, Refused> {
+    let (s, start, late) = (sources(service.files), service.start, service.late);
+    // SAFETY: slices have their lengths, and nothing else is written.
+    let (answer, text) = text_of(|room, length| unsafe {
+        raw::redplay_check(
+            s.as_ptr(),
+            s.len(),
+            start.as_ptr(),
+            start.len(),
+            late.as_ptr(),
+            late.len(),
+            room.as_mut_ptr(),
+            room.len(),
+            length,
+        )
+    });
+    match answer {
+        100 | 105 => Err(Refused(answer)),
+        _ => Ok(Verdict {
+            why: told(answer),
+            text,
+        }),
+    }
 }
 
 /// A session. It stays on the thread that started it.
@@ -112,7 +172,7 @@ impl Engine {
     }
 
     /// Posts an input, which waits until steps are made.
-    pub fn post(&mut self, input: Input) -> Result<(), Refused> {
+    pub fn post(&mut self, input: Input<'_>) -> Result<(), Refused> {
         let handle = &mut self.handle;
         // SAFETY: the handle is written by these calls alone, and is in one of them at a time; slices have their lengths.
         told(unsafe {
@@ -121,6 +181,12 @@ impl Engine {
                 Input::Tick(milliseconds) => raw::redplay_tick(handle, milliseconds),
                 Input::Stream(tag) => raw::redplay_stream(handle, tag),
                 Input::Event(number) => raw::redplay_event(handle, number),
+                Input::File((n, c)) => {
+                    raw::redplay_file(handle, n.as_ptr(), n.len(), c.as_ptr(), c.len())
+                }
+                Input::Scene((n, c)) => {
+                    raw::redplay_scene(handle, n.as_ptr(), n.len(), c.as_ptr(), c.len())
+                }
             }
         })
     }
@@ -145,6 +211,24 @@ impl Engine {
         // SAFETY: as above.
         unsafe { raw::redplay_counts(&mut self.handle, &mut totals) };
         totals
+    }
+
+    /// The bounds of the service.
+    pub fn limits(&mut self) -> Limits {
+        let mut limits = Limits::default();
+        // SAFETY: as above.
+        unsafe { raw::redplay_bounds(&mut self.handle, &mut limits) };
+        limits
+    }
+
+    /// The line of a fault, the first at 0. A service that the verifier accepted has none.
+    pub fn fault(&mut self, at: usize) -> Result<Vec<u8>, Refused> {
+        let handle = &mut self.handle;
+        // SAFETY: as above.
+        let (answer, text) = text_of(|room, length| unsafe {
+            raw::redplay_fault(handle, at, room.as_mut_ptr(), room.len(), length)
+        });
+        told(answer).map(|()| text)
     }
 
     /// The rows that differ from the picture of the last call, from the top.
