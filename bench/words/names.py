@@ -9,7 +9,7 @@ import re
 import sys
 
 FOREIGN = {"is_none_or", "liblibc_c", "libos_c", "sanitize_address", "x_one", "x_read", "x_written"}
-CODE = ("crates/**/*.rt", "crates/**/*.antt", "crates/*/must-fail/*.edit", "crates.txt", "bench/**/*.py")
+CODE = ("crates/**/*.rt", "crates/**/*.antt", "crates/*/must-fail/*.edit", "crates.txt", "include/*.h", "bench/**/*.py", "bench/**/*.edit")
 DOCUMENTS = ("docs/*.md", "*.md", "examples/*.md")
 NAME = r"(?<![\w=~/.'\"-])[a-z][a-z0-9]*(?:_[a-z0-9]+)+(?![\w-])"
 
