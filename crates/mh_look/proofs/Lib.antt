@@ -30,9 +30,11 @@ pub mod SpaceLemmas
 pub mod StepLemmas
 pub mod TailLemmas
 pub mod AdviceLemmas
+pub mod MeantLemmas
 pub mod PlacedLemmas
 pub mod ScriptLemmas
 pub mod PostLemmas
+pub mod FileLemmas
 pub mod WhyLemmas
 pub mod PaintLemmas
 pub mod FileLineLemmas

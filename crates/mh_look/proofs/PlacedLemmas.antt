@@ -1,5 +1,5 @@
 -- Causes, mends and places give a terminal no order: all that is put of them are paragraphs, and places.
-use Rattle.std.specs.Prelude.{ℕ, zero, suc, ◌+◌, nat_le, Bool, true, false, if◌then◌else◌, List, [], ◌∷◌, length, codes, Option, Some, None, refl}
+use Rattle.std.specs.Prelude.{ℕ, zero, suc, ◌+◌, nat_le, Bool, true, false, if◌then◌else◌, List, [], ◌∷◌, length, codes, Option, Some, None, refl, drop}
 use Rattle.std.specs.List.{find, flat_map}
 use Rattle.std.specs.Option.{option_map_or}
 use Rattle.std.specs.Str.{bytes_eq}
@@ -9,10 +9,11 @@ use Rattle.mh_text.specs.declared.mark.Mark.{Mark}
 use Rattle.mh_text.specs.Marks.{mark_of}
 use Rattle.mh_look.specs.Advice.{Row, row_with, row_text, advice}
 use Rattle.mh_look.specs.LineWords.{number_in}
+use Rattle.mh_look.specs.Meant.{Sought, mention}
 use Rattle.mh_look.specs.Missing.{is_like, like_named, like_text, missing, no_group_text, unless_group}
 use Rattle.mh_look.specs.Places.{IsHarmless}
 use Rattle.mh_look.specs.Services.{landmark_for, shown_for, shown_service}
-use Rattle.mh_look.specs.Sources.{NamedFile, Source, by_number, by_numbers, count_named, in_source, is_marked, marks_named, named_words, object_in, shown_action, shown_actions, shown_byte, shown_if_marked, shown_in, shown_landmark, shown_line, shown_line_from, shown_mark, shown_named, shown_numbered, shown_object, shown_object_in, shown_offset, shown_named_at, shown_refused, shown_written_from, source_named}
+use Rattle.mh_look.specs.Sources.{NamedFile, Source, by_number, by_numbers, count_named, in_source, is_marked, marks_named, named_words, object_in, shown_action, shown_actions, shown_byte, shown_if_marked, shown_in, shown_landmark, shown_line, shown_line_from, shown_mark, shown_named, shown_number, shown_numbered, shown_object, shown_object_in, shown_offset, shown_named_at, shown_refused, shown_rest, shown_written_from, source_named}
 use Rattle.mh_look.specs.Spots.{Spot}
 use Rattle.mh_look.specs.declared.explanation.marked.TheConstants.{HAVE_CHANGED}
 use Rattle.mh_look.specs.Wrapping.{paragraph}
@@ -70,24 +71,32 @@ unfolding shown_action
 action_put ss group object index =
     in_source_put (shown_numbered object index) (λ s. optional (shown_mark s) (mark_put s) (mark_of s.marks object index)) ss group
 
-pub refused_put : (ss : List Source) (word group : List ℕ) (object index : ℕ) → IsHarmless (shown_refused ss word group object index)
-unfolding shown_refused
-refused_put ss word group object index = in_source_put (shown_named_at word object index) (λ s. there s (mark_of s.marks object index)) ss group
+number_put : (number : List ℕ) (s : Source) (m : Mark) → IsHarmless (shown_number number s m)
+unfolding shown_number
+number_put number s m = at_rest (mention false number (drop m.start s.text))
   where
-    there : (s : Source) (m : Option Mark) → IsHarmless (option_map_or (shown_if_marked word s) m (paragraph HAVE_CHANGED.now))
+    at_rest : (rest : List ℕ) → IsHarmless (shown_rest s m rest)
+    at_rest [] = mark_put s m
+    at_rest (b ∷ bs) = in_put s _ _
+
+pub refused_put : (ss : List Source) (word number group : List ℕ) (object index : ℕ) → IsHarmless (shown_refused ss word number group object index)
+unfolding shown_refused
+refused_put ss word number group object index = in_source_put (shown_named_at word number object index) (λ s. there s (mark_of s.marks object index)) ss group
+  where
+    there : (s : Source) (m : Option Mark) → IsHarmless (option_map_or (shown_if_marked word number s) m (paragraph HAVE_CHANGED.now))
     there s None = harmless_paragraph _
     there s (Some m) =
-        either (is_marked word m) _ _ (mark_put s m) (harmless_paragraph _)
+        either (is_marked word m) _ _ (number_put number s m) (harmless_paragraph _)
 
-pub named_put : (word : List ℕ) (ss : List Source) → IsHarmless (shown_named word ss)
+pub named_put : (word : Sought) (ss : List Source) → IsHarmless (shown_named word ss)
 named_put word ss =
     joined (λ (s : Source). flat_map (shown_mark s) (marks_named word s)) (λ s. joined (shown_mark s) (mark_put s) (marks_named word s)) ss
 
-pub count_put : (word : List ℕ) (ss : List Source) (n : ℕ) → IsHarmless (named_words word ss n)
+pub count_put : (word : Sought) (ss : List Source) (n : ℕ) → IsHarmless (named_words word ss n)
 count_put word ss zero = none
 count_put word ss (suc n) = either (nat_le (suc n) 3) _ _ (harmless_paragraph _ ⌢ named_put word ss) (harmless_paragraph _)
 
-pub actions_put : (ss : List Source) (word : List ℕ) → IsHarmless (shown_actions ss word)
+pub actions_put : (ss : List Source) (word : Sought) → IsHarmless (shown_actions ss word)
 unfolding shown_actions
 actions_put ss word = count_put word ss (count_named word ss)
 
@@ -96,9 +105,12 @@ unfolding shown_object
 object_put ss group number =
     in_source_put (shown_object_in number) (λ s. optional (shown_landmark s) (landmark_put s) (object_in number (landmarks s.text))) ss group
 
+pub byte_put : (n : ℕ) (s : Source) → IsHarmless (shown_byte n s)
+byte_put n s = either s.is_written _ _ (harmless_place s.name s.text n _) none
+
 pub offset_put : (ss : List Source) (name : List ℕ) (n : ℕ) → IsHarmless (shown_offset ss name n)
 unfolding shown_offset
-offset_put ss name n = in_source_put (shown_byte n) (λ s. either s.is_written _ _ (harmless_place s.name s.text n _) none) ss name
+offset_put ss name n = in_source_put (shown_byte n) (byte_put n) ss name
 
 pub service_put : (ss : List Source) (number group : List ℕ) → IsHarmless (shown_service ss number group)
 unfolding shown_service

@@ -1,5 +1,5 @@
 -- What is explained gives a terminal no order: all that is put are paragraphs, places, and lines of the output, which are put plainly.
-use Rattle.std.specs.Prelude.{ℕ, List, [], ◌∷◌, map, codes, Option, Some, None, refl}
+use Rattle.std.specs.Prelude.{ℕ, ◌-◌, List, [], ◌∷◌, map, codes, Option, Some, None, refl}
 use Rattle.std.specs.Fmt.{decimal}
 use Rattle.std.specs.List.{list_any}
 use Rattle.std.specs.Option.{option_map_or}
@@ -13,13 +13,13 @@ use Rattle.mh_layers.specs.declared.bounds.InputKind.TheVariants as kind
 use Rattle.mh_layers.specs.declared.way.Stage.{Stage}
 use Rattle.mh_layers.specs.declared.way.Way.{Way}
 use Rattle.mh_text.specs.Landmarks.{Through}
-use Rattle.mh_misread.specs.declared.misread.Misread.{Misread}
-use Rattle.mh_look.specs.Advice.{advice, row_with, bounds, refusals, files, services, tags, faults, readings}
+use Rattle.mh_look.specs.Advice.{row_with, bounds, refusals, services, tags, faults, readings}
+use Rattle.mh_look.specs.Cases.{case_advice, case_words, is_verdict}
 use Rattle.mh_look.specs.Keywords.{keyword_of}
-use Rattle.mh_look.specs.LineWords.{first_word, behind_first, last_word, before_last, number_in}
-use Rattle.mh_look.specs.Misreading.{case_in, case_or, case_text, file_advice, told_or}
+use Rattle.mh_look.specs.LineWords.{first_word, behind_first, last_word, before_last}
+use Rattle.mh_look.specs.Meant.{sought_in}
 use Rattle.mh_look.specs.Places.{IsHarmless}
-use Rattle.mh_look.specs.Sources.{NamedFile, Source, in_source, shown_object, shown_offset, shown_refused, source_named}
+use Rattle.mh_look.specs.Sources.{NamedFile, Source, in_source, shown_object, shown_refused}
 use Rattle.mh_look.specs.Circles.{arrow_text}
 use Rattle.mh_look.specs.Spots.{Spot, spot}
 use Rattle.mh_look.specs.Through.{holder_text, is_held, is_variable, last_link, own_text, reached_by, through_at, through_by, through_numbered, through_told}
@@ -30,7 +30,8 @@ use Rattle.mh_look.specs.WayWords.{other_words, place_words, stage_words, stage_
 use Rattle.mh_look.specs.Why as spec
 use Rattle.mh_look.specs.Why.{Ground, Past, shown_spot, shown_from, or_else, cause_told, circle_place, circle_spot, refused_by, refused_spot, refused_at, unless_known, stuck, told, with_line, explained, explained_all, past_behind, why, ExplanationsAreHarmless}
 use Rattle.mh_look.proofs.HarmlessLemmas.{◌⌢◌, harmless_codes, harmless_plain, harmless_paragraph}
-use Rattle.mh_look.proofs.PlacedLemmas.{none, optional, either, joined, advice_put, by_number_put, by_numbers_put, in_source_put, action_put, refused_put, actions_put, object_put, offset_put, service_put, missing_put, late_put, tag_line_put, script_put, spot_put}
+use Rattle.mh_look.proofs.FileLemmas.{file_put}
+use Rattle.mh_look.proofs.PlacedLemmas.{none, optional, either, joined, advice_put, by_number_put, by_numbers_put, in_source_put, action_put, refused_put, actions_put, object_put, service_put, missing_put, late_put, tag_line_put, script_put, spot_put}
 use Rattle.mh_look.proofs.ScriptLemmas.{posts_told_put, script_told_put}
 
 -- Bounds
@@ -75,9 +76,10 @@ bound_told_put ss ways word printed = said_put word printed ⌢ bound_put ss way
 
 -- Lines
 
-refused_spot_put : (ss : List Source) (action : List ℕ) (s : Spot) → IsHarmless (refused_spot ss action s)
+refused_spot_put : (g : Ground) (action : List ℕ) (s : Spot) → IsHarmless (refused_spot g action s)
 unfolding refused_spot
-refused_spot_put ss action s = harmless_paragraph _ ⌢ by_numbers_put (shown_refused ss action s.group) (refused_put ss action s.group) s.object s.index
+refused_spot_put g action s =
+    harmless_paragraph _ ⌢ by_numbers_put (shown_refused g.sources action g.number s.group) (refused_put g.sources action g.number s.group) s.object s.index
 
 unless_known_put : (cycle : List Arrow) (shown : List ℕ) → IsHarmless shown → IsHarmless (unless_known cycle shown)
 unless_known_put [] shown is = is
@@ -86,25 +88,34 @@ unless_known_put (a ∷ more) shown is = none
 circle_place_put : (g : Ground) (action : List ℕ) (s : Spot) → IsHarmless (circle_place g action s)
 unfolding circle_place
 circle_place_put g action s =
-    unless_known_put g.cycle _ (by_numbers_put (shown_refused g.sources action s.group) (refused_put g.sources action s.group) s.object s.index)
+    unless_known_put g.cycle _ (by_numbers_put (shown_refused g.sources action [] s.group) (refused_put g.sources action [] s.group) s.object s.index)
 
 circle_spot_put : (g : Ground) (action : List ℕ) (s : Spot) → IsHarmless (circle_spot g action s)
 unfolding circle_spot
 circle_spot_put g action s = harmless_paragraph _ ⌢ circle_place_put g action s
 
 refused_by_put : (g : Ground) (number action : List ℕ) (s : Spot) → IsHarmless (refused_by g number action s)
-refused_by_put g number action s = either (bytes_eq number (codes "V6")) _ _ (circle_spot_put g action s) (refused_spot_put g.sources action s)
+refused_by_put g number action s = either (bytes_eq number (codes "V6")) _ _ (circle_spot_put g action s) (refused_spot_put g action s)
 
 refused_at_put : (g : Ground) (number action group object index : List ℕ)
     → IsHarmless (refused_at g number action (record { group = group; object = object; index = index }))
 refused_at_put g number action [] object index = none
 refused_at_put g number action (b ∷ bs) object index = refused_by_put g number action (record { group = b ∷ bs; object = object; index = index })
 
+case_words_put : (cause mend : List ℕ) → IsHarmless (case_words cause mend)
+unfolding case_words
+case_words_put cause mend = harmless_paragraph _ ⌢ harmless_paragraph _
+
+case_advice_put : (cause mend number : List ℕ) → IsHarmless (case_advice cause mend number)
+unfolding case_advice
+case_advice_put [] mend number = advice_put refusals number
+case_advice_put (b ∷ bs) mend number = either (is_verdict number) _ _ (case_words_put (b ∷ bs) mend) (advice_put refusals number)
+
 refusal_put : (g : Ground) (p : Past) (ws : List ℕ) → IsHarmless (spec.refused g p ws)
 unfolding spec.refused
 refusal_put g p ws =
     let s = spot (before_last (behind_first ws)) in
-    refused_at_put g (first_word ws) (last_word (behind_first ws)) s.group s.object s.index ⌢ posts_told_put g.script p.script (first_word ws) ⌢ advice_put refusals (first_word ws) ⌢ bound_put g.sources g.ways (behind_first ws) []
+    refused_at_put g (first_word ws) (last_word (behind_first ws)) s.group s.object s.index ⌢ posts_told_put g.script p.script (first_word ws) ⌢ case_advice_put g.cause g.mend (first_word ws) ⌢ bound_put g.sources g.ways (behind_first ws) []
 
 config_put : (ws : List ℕ) → IsHarmless (spec.config ws)
 unfolding spec.config
@@ -164,28 +175,6 @@ unfolding spec.cause
 cause_put g [] s = harmless_paragraph _ ⌢ spot_put g.sources s
 cause_put g (a ∷ more) s = arrow_put g.sources a _
 
-case_put : (file : List ℕ) (offset : ℕ) (m : Misread) → IsHarmless (case_text file offset m)
-unfolding case_text
-case_put file offset m = harmless_paragraph _ ⌢ harmless_paragraph _
-
-or_other : {X : Type 0} (f : X → List ℕ) → ((x : X) → IsHarmless (f x)) → (o : Option X) (other : List ℕ) → IsHarmless other → IsHarmless (option_map_or f o other)
-or_other f each None other h = h
-or_other f each (Some x) other h = each x
-
-told_or_put : (other : List ℕ) → IsHarmless other → (ss : List Source) (name : List ℕ) (offset number : Option ℕ) → IsHarmless (told_or other ss name offset number)
-told_or_put other h ss name (Some offset) (Some number) =
-    or_other (case_or other offset number) (λ s. or_other (case_text s.text offset) (case_put s.text offset) (case_in s offset number) other h) (source_named ss name) other h
-told_or_put other h ss name (Some offset) None = h
-told_or_put other h ss name None number = h
-
-file_advice_put : (ss : List Source) (s : Spot) → IsHarmless (file_advice ss s)
-unfolding file_advice
-file_advice_put ss s = told_or_put (advice files s.object) (advice_put files s.object) ss s.group (number_in s.index) (number_in s.object)
-
-file_put : (ss : List Source) (s : Spot) → IsHarmless (spec.file ss s)
-unfolding spec.file
-file_put ss s = harmless_paragraph _ ⌢ by_number_put (shown_offset ss s.group) (offset_put ss s.group) s.index ⌢ file_advice_put ss s
-
 group_put : (g : Ground) (ws : List ℕ) → IsHarmless (spec.service g ws)
 unfolding spec.service
 group_put g ws =
@@ -213,7 +202,7 @@ stuck_put action at = harmless_paragraph _
 fault_put : (ss : List Source) (ws : List ℕ) → IsHarmless (spec.fault ss ws)
 unfolding spec.fault
 fault_put ss ws =
-    stuck_put (first_word (behind_first ws)) (behind_first (behind_first ws)) ⌢ actions_put ss (first_word (behind_first ws))
+    stuck_put (first_word (behind_first ws)) (behind_first (behind_first ws)) ⌢ actions_put ss (sought_in (behind_first ws))
     ⌢ missing_put ss (before_last (behind_first (behind_first ws))) ⌢ advice_put faults (first_word ws)
 
 accepted_put : IsHarmless spec.accepted

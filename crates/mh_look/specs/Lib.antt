@@ -18,6 +18,7 @@ pub mod ScriptFaults
 pub mod ScriptForms
 pub mod Advice
 pub mod Wrapping
+pub mod Meant
 pub mod Sources
 pub mod Services
 pub mod WayWords
@@ -32,5 +33,7 @@ pub mod Missing
 pub mod ScriptTexts
 pub mod Keywords
 pub mod Misreading
+pub mod Further
+pub mod Cases
 pub mod Why
 pub mod Places

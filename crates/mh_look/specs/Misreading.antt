@@ -3,6 +3,7 @@ use Rattle.std.specs.Prelude.{ℕ, if◌then◌else◌, List, ◌++◌, codes, O
 use Rattle.std.specs.Option.{option_map_or}
 use Rattle.mh_misread.specs.declared.misread.Misread.{Misread}
 use Rattle.mh_misread.specs.Misreads.{misread_of}
+use Rattle.mh_misread.specs.Mending as mending
 use Rattle.mh_misread.specs.Telling as telling
 use Rattle.mh_look.specs.Advice.{advice, files}
 use Rattle.mh_look.specs.LineWords.{number_in}
@@ -14,7 +15,7 @@ use Rattle.mh_look.specs.Wrapping.{paragraph}
 unfoldable pub case_text : List ℕ → ℕ → Misread → List ℕ
 case_text text offset m =
     paragraph (codes "  Cause: " ++ telling.cause text offset m ++ codes ".")
-    ++ paragraph (codes "  Mend: " ++ telling.mend text offset m ++ codes ".")
+    ++ paragraph (codes "  Mend: " ++ mending.mend text offset m ++ codes ".")
 
 -- the case, if the file is a text and one is known
 abbrev pub case_in : Source → ℕ → ℕ → Option Misread

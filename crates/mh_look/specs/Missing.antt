@@ -1,7 +1,8 @@
--- What is told of a group that is named and is none: a file of its name that does not begin as a group, or one whose name only begins so.
-use Rattle.std.specs.Prelude.{ℕ, Bool, if◌then◌else◌, List, [], ◌∷◌, ◌++◌, codes}
+-- What is told of a group that is named and is none: a file of its name that does not begin as a group, or one with a name like it.
+use Rattle.std.specs.Prelude.{ℕ, Bool, ◌&&◌, ◌||◌, if◌then◌else◌, List, [], ◌++◌, drop, length, codes}
 use Rattle.std.specs.List.{find}
 use Rattle.std.specs.Option.{option_map_or}
+use Rattle.mh_misread.specs.Likeness.{is_like as is_like_word}
 use Rattle.mh_look.specs.declared.explanation.missing.TheConstants.{BYTE_ORDER_MARK, HAS_MARK, HAS_COMMENT, HAS_NO_BRACE, IS_THERE, NO_GROUP, NO_FILE, LIES_THERE, IS_CALLED}
 use Rattle.mh_look.specs.Painting.{begins_with}
 use Rattle.mh_look.specs.Sources.{Source, source_named}
@@ -19,9 +20,13 @@ no_group_text s = paragraph (IS_THERE.now ++ s.name ++ NO_GROUP.now ++ no_group_
 abbrev pub unless_group : Source → List ℕ
 unless_group s = if s.is_group then [] else no_group_text s
 
--- the name goes on behind a dot
+-- the word is this one, and goes on behind a dot
+abbrev pub goes_on : List ℕ → List ℕ → Bool
+goes_on front word = begins_with front word && begins_with (codes ".") (drop (length front) word)
+
+-- one of the two names goes on where the other ends, or they differ in small letters alone
 abbrev pub is_like : List ℕ → Source → Bool
-is_like group s = begins_with (group ++ 46 ∷ []) s.name
+is_like group s = goes_on group s.name || (goes_on s.name group || is_like_word 0 group s.name)
 
 unfoldable pub like_text : List ℕ → Source → List ℕ
 like_text group s = paragraph (NO_FILE.now ++ group ++ LIES_THERE.now ++ s.name ++ IS_CALLED.now)

@@ -1,5 +1,5 @@
 -- The files of a service, as places in them are shown.
-use Rattle.std.specs.Prelude.{ℕ, zero, suc, ◌+◌, ◌==◌, Bool, false, ◌||◌, not, nat_le, if◌then◌else◌, List, [], ◌∷◌, ◌++◌, drop, length, codes, Option, Some, None, Result, Ok, Err}
+use Rattle.std.specs.Prelude.{◌&&◌, ℕ, zero, suc, ◌+◌, ◌-◌, ◌==◌, Bool, false, ◌||◌, not, nat_le, if◌then◌else◌, List, [], ◌∷◌, ◌++◌, drop, length, codes, Option, Some, None, Result, Ok, Err}
 use Rattle.std.specs.Fmt.{decimal}
 use Rattle.std.specs.List.{filter, find, flat_map, prefix_len}
 use Rattle.std.specs.Option.{option_map, option_map_or}
@@ -19,8 +19,10 @@ use Rattle.mh_text.specs.declared.mark.Mark.{Mark}
 use Rattle.mh_text.specs.Marks.{marks, mark_of}
 use Rattle.mh_told.specs.Reading.{Source as File, is_group_file, table_of}
 use Rattle.mh_told.specs.declared.unplayable.Unplayable.{Unplayable}
+use Rattle.mh_look.specs.Meant.{Sought, mention, mentions}
 use Rattle.mh_look.specs.declared.explanation.marked.TheConstants.{HAVE_CHANGED}
-use Rattle.mh_look.specs.declared.explanation.place.TheConstants.{AS_PRINTED, STANDS_HERE, STAND_IN}
+use Rattle.mh_look.specs.declared.explanation.named.TheConstants.{STANDS_HERE, STAND_IN}
+use Rattle.mh_look.specs.declared.explanation.place.TheConstants.{AS_PRINTED}
 use Rattle.mh_look.specs.LineWords.{number_in}
 use Rattle.mh_look.specs.Places.{shown_place}
 use Rattle.mh_look.specs.Wrapping.{paragraph}
@@ -106,43 +108,78 @@ more_variables from ts = flat_map (λ t. codes ", " ++ variable_words from t) ts
 abbrev pub is_marked : List ℕ → Mark → Bool
 is_marked word m = option_map_or (λ name. bytes_eq (action_word name) word) m.action (bytes_eq word (codes "-"))
 
+-- how long the token is that begins so: a string up to its end, and else all up to white space, a bracket or a string; of what begins
+-- no token one byte
+
+abbrev pub is_quote : ℕ → Bool
+is_quote b = b == 34 || b == 39
+
+abbrev pub is_bracket : ℕ → Bool
+is_bracket b = ((b == 40 || b == 41) || b == 123) || b == 125
+
+abbrev pub is_blank : ℕ → Bool
+is_blank b = ((b == 32 || b == 9) || b == 13) || b == 10
+
+abbrev pub is_in_token : ℕ → Bool
+is_in_token b = not ((is_blank b || is_bracket b) || is_quote b)
+
+abbrev pub is_no : ℕ → ℕ → Bool
+is_no b c = not (c == b)
+
+abbrev pub token_size : List ℕ → ℕ
+token_size [] = 1
+token_size (b ∷ bs) = if is_quote b then prefix_len (is_no b) bs + 2 else (if is_bracket b then 1 else prefix_len is_in_token bs + 1)
+
+-- the first number like this one in an action, or else its keyword
+
+abbrev pub shown_rest : Source → Mark → List ℕ → List ℕ
+shown_rest s m [] = shown_mark s m
+shown_rest s m (b ∷ bs) = shown_in s (length s.text - length (b ∷ bs)) (token_size (b ∷ bs))
+
+unfoldable pub shown_number : List ℕ → Source → Mark → List ℕ
+shown_number number s m = shown_rest s m (mention false number (drop m.start s.text))
+
 -- where something else stands there, the output is of other files
-abbrev pub shown_if_marked : List ℕ → Source → Mark → List ℕ
-shown_if_marked word s m = if is_marked word m then shown_mark s m else paragraph HAVE_CHANGED.now
+abbrev pub shown_if_marked : List ℕ → List ℕ → Source → Mark → List ℕ
+shown_if_marked word number s m = if is_marked word m then shown_number number s m else paragraph HAVE_CHANGED.now
 
-abbrev pub shown_named_at : List ℕ → ℕ → ℕ → Source → List ℕ
-shown_named_at word object index s =
-    option_map_or (shown_if_marked word s) (mark_of s.marks object index) (paragraph HAVE_CHANGED.now)
+abbrev pub shown_named_at : List ℕ → List ℕ → ℕ → ℕ → Source → List ℕ
+shown_named_at word number object index s =
+    option_map_or (shown_if_marked word number s) (mark_of s.marks object index) (paragraph HAVE_CHANGED.now)
 
--- an action of this name
-unfoldable pub shown_refused : List Source → List ℕ → List ℕ → ℕ → ℕ → List ℕ
-shown_refused ss word group object index = in_source (shown_named_at word object index) ss group
+-- an action of this name, and the number in it that is wrong
+unfoldable pub shown_refused : List Source → List ℕ → List ℕ → List ℕ → ℕ → ℕ → List ℕ
+shown_refused ss word number group object index = in_source (shown_named_at word number object index) ss group
 
--- where all actions of a name stand
+-- where all actions stand that can be meant
 
 abbrev pub is_named : List ℕ → Option ActionName → Bool
 is_named word None = false
 is_named word (Some name) = bytes_eq (action_word name) word
 
-abbrev pub marks_named : List ℕ → Source → List Mark
-marks_named word s = filter (λ (m : Mark). is_named word m.action) s.marks
+-- an action of the name that can be meant
+abbrev pub is_meant : Sought → List ℕ → Mark → Bool
+is_meant w text m = is_named w.action m.action && mentions w.number (drop m.start text)
 
-abbrev pub count_named : List ℕ → List Source → ℕ
-count_named word [] = 0
-count_named word (s ∷ ss) = length (marks_named word s) + count_named word ss
+abbrev pub marks_named : Sought → Source → List Mark
+marks_named w s = filter (is_meant w s.text) s.marks
 
-abbrev pub shown_named : List ℕ → List Source → List ℕ
-shown_named word ss = flat_map (λ s. flat_map (shown_mark s) (marks_named word s)) ss
+abbrev pub count_named : Sought → List Source → ℕ
+count_named w [] = 0
+count_named w (s ∷ ss) = length (marks_named w s) + count_named w ss
+
+abbrev pub shown_named : Sought → List Source → List ℕ
+shown_named w ss = flat_map (λ s. flat_map (shown_mark s) (marks_named w s)) ss
 
 -- so many places are shown; of more their number is told
-abbrev pub named_words : List ℕ → List Source → ℕ → List ℕ
-named_words word ss zero = []
-named_words word ss (suc n) =
-    if nat_le (suc n) 3 then paragraph STANDS_HERE.now ++ shown_named word ss
+abbrev pub named_words : Sought → List Source → ℕ → List ℕ
+named_words w ss zero = []
+named_words w ss (suc n) =
+    if nat_le (suc n) 3 then paragraph STANDS_HERE.now ++ shown_named w ss
     else paragraph (STAND_IN.now ++ decimal (suc n) ++ codes " places.")
 
-unfoldable pub shown_actions : List Source → List ℕ → List ℕ
-shown_actions ss word = named_words word ss (count_named word ss)
+unfoldable pub shown_actions : List Source → Sought → List ℕ
+shown_actions ss w = named_words w ss (count_named w ss)
 
 -- OBJECTS AND NAMES
 
@@ -166,28 +203,6 @@ unfoldable pub shown_object : List Source → List ℕ → ℕ → List ℕ
 shown_object ss group number = in_source (shown_object_in number) ss group
 
 -- BYTES AND LINES
-
--- how long the token is that begins so: a string up to its end, and else all up to white space, a bracket or a string; of what begins
--- no token one byte
-
-abbrev pub is_quote : ℕ → Bool
-is_quote b = b == 34 || b == 39
-
-abbrev pub is_bracket : ℕ → Bool
-is_bracket b = ((b == 40 || b == 41) || b == 123) || b == 125
-
-abbrev pub is_blank : ℕ → Bool
-is_blank b = ((b == 32 || b == 9) || b == 13) || b == 10
-
-abbrev pub is_in_token : ℕ → Bool
-is_in_token b = not ((is_blank b || is_bracket b) || is_quote b)
-
-abbrev pub is_no : ℕ → ℕ → Bool
-is_no b c = not (c == b)
-
-abbrev pub token_size : List ℕ → ℕ
-token_size [] = 1
-token_size (b ∷ bs) = if is_quote b then prefix_len (is_no b) bs + 2 else (if is_bracket b then 1 else prefix_len is_in_token bs + 1)
 
 -- what is shown of the token at a byte of a file, if it is one of a text
 abbrev pub shown_byte : ℕ → Source → List ℕ

@@ -9,13 +9,16 @@ use Rattle.mh_layers.specs.declared.arrow.Arrow.{Arrow}
 use Rattle.mh_layers.specs.declared.way.Way.{Way}
 use Rattle.mh_told.specs.Reading.{Source as File}
 use Rattle.mh_look.specs.declared.explanation.line.TheConstants.{STANDS_IN, MEMBERS_OF, SO_IT_IS, SHOWS_NONE, SHOWS_SCENE, THE_ACTION, WAS_STUCK, LEADS_TO, CIRCLE_THROUGH, COMES_BY, EFFECT_WITH, PUTS_ITSELF, HANDS_ON, WRITES_IT, IS_BYTE, OF_FILE, TOLD_OF, IS_LINE, IS_CONTEXT, CONTEXTS}
-use Rattle.mh_look.specs.Advice.{advice, cell, row_with, refusals, services, tags, faults, objects, readings}
+use Rattle.mh_look.specs.Advice.{advice, cell, row_with, services, tags, faults, objects, readings}
 use Rattle.mh_look.specs.declared.explanation.keyword.Keyword.{Keyword}
 use Rattle.mh_look.specs.declared.explanation.keyword.Keyword.TheVariants as keyword
+use Rattle.mh_look.specs.Cases.{case_advice}
 use Rattle.mh_look.specs.Circles.{arrow_text, at_words, next_in}
+use Rattle.mh_look.specs.Further.{further}
 use Rattle.mh_look.specs.Keywords.{keyword_of}
 use Rattle.mh_look.specs.LineWords.{first_word, behind_first, last_word, before_last}
 use Rattle.mh_look.specs.Misreading.{file_advice}
+use Rattle.mh_look.specs.Meant.{sought_in}
 use Rattle.mh_look.specs.Missing.{missing}
 use Rattle.mh_look.specs.Places.{plain, IsHarmless}
 use Rattle.mh_look.specs.Posts.{posts_told, script_behind, script_bytes}
@@ -27,7 +30,8 @@ use Rattle.mh_look.specs.Through.{through_told}
 use Rattle.mh_look.specs.WayWords.{bound_text, bound_told}
 use Rattle.mh_look.specs.Wrapping.{paragraph}
 
--- What is known beside an output: the files of the service, the dearest ways of its inputs, the chain and the circle of its refusal, the
+-- What is known beside an output: the files of the service, the dearest ways of its inputs, the chain and the circle of its refusal, its cause and its mend by its case, and the
+-- number by which the action names what is wrong, the
 -- file that names late scenes, the one that gives tags, and the script. Where these are not known, there are no ways, links and arrows,
 -- and none of these files.
 
@@ -36,6 +40,9 @@ pub record Known : Type 0 where
   pub ways : List Way
   pub chain : List Link
   pub cycle : List Arrow
+  pub cause : List ℕ
+  pub mend : List ℕ
+  pub number : List ℕ
   pub late : Option NamedFile
   pub tags : Option NamedFile
   pub script : Option NamedFile
@@ -46,6 +53,9 @@ pub record Ground : Type 0 where
   pub ways : List Way
   pub chain : List Link
   pub cycle : List Arrow
+  pub cause : List ℕ
+  pub mend : List ℕ
+  pub number : List ℕ
   pub late : Option NamedFile
   pub tags : Option NamedFile
   pub script : Option NamedFile
@@ -70,9 +80,10 @@ abbrev pub refused_words : List ℕ → Spot → List ℕ
 refused_words action s =
     if bytes_eq action (codes "-") then MEMBERS_OF.now ++ object_words s.group s.object else action ++ codes ", " ++ action_words s
 
-unfoldable pub refused_spot : List Source → List ℕ → Spot → List ℕ
-refused_spot ss action s =
-    paragraph (STANDS_IN.now ++ refused_words action s ++ codes ".") ++ by_numbers (shown_refused ss action s.group) s.object s.index
+unfoldable pub refused_spot : Ground → List ℕ → Spot → List ℕ
+refused_spot g action s =
+    paragraph (STANDS_IN.now ++ refused_words action s ++ codes ".")
+    ++ by_numbers (shown_refused g.sources action g.number s.group) s.object s.index
 
 -- the effect of which a circle is told; where its arrows are known, they show the actions
 unfoldable pub circle_words : List ℕ → Spot → List ℕ
@@ -83,13 +94,13 @@ unless_known [] shown = shown
 unless_known (a ∷ more) shown = []
 
 unfoldable pub circle_place : Ground → List ℕ → Spot → List ℕ
-circle_place g action s = unless_known g.cycle (by_numbers (shown_refused g.sources action s.group) s.object s.index)
+circle_place g action s = unless_known g.cycle (by_numbers (shown_refused g.sources action [] s.group) s.object s.index)
 
 unfoldable pub circle_spot : Ground → List ℕ → Spot → List ℕ
 circle_spot g action s = paragraph (circle_words action s) ++ circle_place g action s
 
 abbrev pub refused_by : Ground → List ℕ → List ℕ → Spot → List ℕ
-refused_by g number action s = if bytes_eq number (codes "V6") then circle_spot g action s else refused_spot g.sources action s
+refused_by g number action s = if bytes_eq number (codes "V6") then circle_spot g action s else refused_spot g action s
 
 -- only what the verifier refuses for what stands somewhere has a place
 abbrev pub refused_at : Ground → List ℕ → List ℕ → Spot → List ℕ
@@ -103,7 +114,7 @@ refused_at g number action s = told s.group
 unfoldable pub refused : Ground → Past → List ℕ → List ℕ
 refused g p ws =
     refused_at g (first_word ws) (last_word (behind_first ws)) (spot (before_last (behind_first ws)))
-    ++ posts_told g.script p.script (first_word ws) ++ advice refusals (first_word ws)
+    ++ posts_told g.script p.script (first_word ws) ++ case_advice g.cause g.mend (first_word ws)
     ++ bound_text g.sources g.ways (behind_first ws) []
 
 -- Lines that tell more of what is refused
@@ -170,7 +181,7 @@ cause_told g (a ∷ more) s = arrow_text g.sources a (next_in a more g.cycle)
 unfoldable pub file : List Source → Spot → List ℕ
 file ss s =
     paragraph (IS_BYTE.now ++ s.index ++ OF_FILE.now ++ s.group ++ codes ".") ++ by_number (shown_offset ss s.group) s.index
-    ++ file_advice ss s
+    ++ file_advice ss s ++ further ss s
 
 -- a line of the file that names late scenes, which 37 tells
 abbrev pub shown_late : Option NamedFile → List ℕ → List ℕ → List ℕ
@@ -213,7 +224,7 @@ stuck action at = paragraph (THE_ACTION.now ++ action ++ WAS_STUCK.now ++ object
 
 unfoldable pub fault : List Source → List ℕ → List ℕ
 fault ss ws =
-    stuck (first_word (behind_first ws)) (behind_first (behind_first ws)) ++ shown_actions ss (first_word (behind_first ws))
+    stuck (first_word (behind_first ws)) (behind_first (behind_first ws)) ++ shown_actions ss (sought_in (behind_first ws))
     ++ missing ss (before_last (behind_first (behind_first ws))) ++ advice faults (first_word ws)
 
 unfoldable pub accepted : List ℕ
@@ -276,7 +287,7 @@ abbrev pub first_past : Ground → Past
 first_past g = record { refusal = []; before = []; chain = g.chain; cycle = g.cycle; script = script_bytes g.script }
 
 abbrev pub ground : Known → Ground
-ground k = record { sources = map (source_of (table_by k.tags)) k.files; ways = k.ways; chain = k.chain; cycle = k.cycle; late = k.late; tags = k.tags; script = k.script }
+ground k = record { sources = map (source_of (table_by k.tags)) k.files; ways = k.ways; chain = k.chain; cycle = k.cycle; cause = k.cause; mend = k.mend; number = k.number; late = k.late; tags = k.tags; script = k.script }
 
 unfoldable pub why : Known → List ℕ → List ℕ
 why k output = explained_all (ground k) (first_past (ground k)) (map without_terminator (lines_of output))

@@ -6,15 +6,19 @@
 pub(crate) mod advice;
 pub(crate) mod advice_tables;
 pub(crate) mod bound;
+pub mod case;
 pub(crate) mod circle;
 pub(crate) mod fault;
+pub(crate) mod further;
 pub(crate) mod ground;
 pub(crate) mod keyword;
 pub(crate) mod line;
 pub(crate) mod marked;
+pub(crate) mod meant;
 pub(crate) mod misread;
 pub(crate) mod missing;
 pub(crate) mod more;
+pub(crate) mod named;
 pub(crate) mod object;
 pub(crate) mod past;
 pub(crate) mod place;
@@ -60,6 +64,11 @@ pub struct Known<'a> {
     pub chain: &'a [Link],
     /// The effects of the circle of its refusal; where they are not known, none.
     pub cycle: &'a [Arrow],
+    /// The cause of its refusal by its case, and the mend; where the case is not known, nothing.
+    pub cause: &'a [u8],
+    pub mend: &'a [u8],
+    /// The number by which the action names what is wrong, if that is known.
+    pub number: &'a [u8],
     /// The file that names late scenes, if it is known.
     pub late: Option<NamedFile<'a>>,
     /// The file that gives the tags of the binary notation, if it is known; without it, or where it makes no table,
@@ -74,7 +83,7 @@ impl<'a> Model for Known<'a> {
 
     ghost Value = { Known };
 
-    ghost view = { λ k. record { files = k.files.now; ways = k.ways.now; chain = k.chain.now; cycle = k.cycle.now; late = k.late; tags = k.tags; script = k.script } };
+    ghost view = { λ k. record { files = k.files.now; ways = k.ways.now; chain = k.chain.now; cycle = k.cycle.now; cause = k.cause.now; mend = k.mend.now; number = k.number.now; late = k.late; tags = k.tags; script = k.script } };
 }
 
 /// What is explained of the output of `check` or `play`.
@@ -89,6 +98,9 @@ pub fn why(alloc: Global, known: &Known<'_>, output: &[u8]) -> Result<Text, Allo
         ways: known.ways,
         chain: known.chain,
         cycle: known.cycle,
+        cause: known.cause,
+        mend: known.mend,
+        number: known.number,
         late: known.late.as_ref(),
         tags: known.tags.as_ref(),
         script: known.script.as_ref(),

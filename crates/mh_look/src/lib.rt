@@ -27,6 +27,7 @@ pub use comparison::difference::{Difference, changed_cells, compare, first_diffe
 pub use comparison::telling::told;
 pub use comparison::{Comparison, compared};
 pub use doing::{Outcome, done};
+pub use explanation::case::{Case, case_of, no_case};
 pub use explanation::{Known, explanations_are_harmless, why};
 pub use files::named_file::NamedFile;
 pub use files::source::Failure;

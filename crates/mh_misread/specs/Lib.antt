@@ -1,4 +1,5 @@
 pub mod Likeness
+pub mod Keys
 pub mod Names
 pub mod Nearest
 pub mod Slips
@@ -6,5 +7,8 @@ pub mod Pieces
 pub mod Goals
 pub mod LimitsOf
 pub mod Words
+pub mod Unknown
 pub mod Misreads
+pub mod Resuming
 pub mod Telling
+pub mod Mending

@@ -12,17 +12,12 @@ use Rattle.mh_group.specs.declared.shape.Shape.TheVariants as shape
 use Rattle.mh_group.specs.declared.shape.Need.TheVariants as need
 use Rattle.mh_group.specs.Table.{shape_of, takes, required_of, is_group_class}
 use Rattle.mh_text.specs.declared.token_kind.TokenKind.{TokenKind}
-use Rattle.mh_text.specs.declared.token_kind.TokenKind.TheVariants as token_kind
 use Rattle.mh_text.specs.Left.{Lexed, token, lexed}
-use Rattle.mh_misread.specs.declared.name.Name.{Name}
 use Rattle.mh_misread.specs.declared.name.Name.TheVariants as name
-use Rattle.mh_misread.specs.declared.nearest.Table.{Table}
-use Rattle.mh_misread.specs.declared.nearest.Table.TheVariants as table
 use Rattle.mh_misread.specs.declared.piece.Sign.{Sign}
 use Rattle.mh_misread.specs.declared.piece.Sign.TheVariants as sign
 use Rattle.mh_misread.specs.declared.piece.Piece.{Piece}
 use Rattle.mh_misread.specs.declared.part.Row.TheVariants as row
-use Rattle.mh_misread.specs.declared.part.Listed.TheVariants as listed
 use Rattle.mh_misread.specs.declared.part.Part.{Part}
 use Rattle.mh_misread.specs.declared.part.Part.TheVariants as part
 use Rattle.mh_misread.specs.declared.goal.Goal.{Goal}
@@ -30,11 +25,10 @@ use Rattle.mh_misread.specs.declared.goal.Goal.TheVariants as goal
 use Rattle.mh_misread.specs.declared.goal.Frame.{Frame}
 use Rattle.mh_misread.specs.declared.misread.Misread.{Misread}
 use Rattle.mh_misread.specs.declared.misread.Misread.TheVariants as misread
-use Rattle.mh_misread.specs.Names.{keyword_named}
-use Rattle.mh_misread.specs.Nearest.{nearest}
 use Rattle.mh_misread.specs.Pieces.{sign_of, pieces_before, is_keyword_of}
 use Rattle.mh_misread.specs.Goals.{part_at, wanted_behind}
 use Rattle.mh_misread.specs.Slips.{slip_of}
+use Rattle.mh_misread.specs.Unknown.{unknown}
 use Rattle.mh_text.specs.Bytes.{is_letter_or_digit}
 
 -- THE TOKEN AT THE PLACE
@@ -88,51 +82,6 @@ is_reference (goal.Part r n) = is_reference_part (part_at r n)
 is_reference (goal.OfKind kind.Object) = true
 is_reference goal.Variable = true
 is_reference _ = false
-
--- NAMES THAT NO TABLE HAS (22)
-
--- a value that has its kind in front, or else one that a variable or a file may hold
-abbrev pub part_keywords : Option Part → Table
-part_keywords (Some (part.Need need.Typed)) = table.Kinds
-part_keywords p = table.Marks
-
--- the table in which a keyword is looked for, by what is wanted
-abbrev pub keyword_table : Goal → Table
-keyword_table goal.GroupClass = table.Classes
-keyword_table goal.ItemClass = table.Classes
-keyword_table (goal.Fields c) = table.Attributes
-keyword_table (goal.Members listed.Actions) = table.Actions
-keyword_table (goal.Members listed.Arguments) = table.Kinds
-keyword_table (goal.Part r n) = part_keywords (part_at r n)
-keyword_table _ = table.Marks
-
-abbrev pub shape_words_table : Shape → Table
-shape_words_table shape.Event = table.Events
-shape_words_table shape.Justification = table.Justifications
-shape_words_table shape.Bool = table.Truths
-shape_words_table shape.Data = table.Truths
-shape_words_table s = table.Marks
-
-abbrev pub part_words_table : Option Part → Table
-part_words_table (Some (part.Need need.Event)) = table.Events
-part_words_table (Some (part.Need need.Bool)) = table.Truths
-part_words_table (Some (part.Need need.Data)) = table.Truths
-part_words_table p = part_keywords p
-
--- the table in which a word is looked for: where no word is wanted it may be a keyword without its colon
-abbrev pub word_table : Goal → Table
-word_table (goal.Value c a) = shape_words_table (shape_of c a)
-word_table (goal.Part r n) = part_words_table (part_at r n)
-word_table (goal.OfKind kind.Bool) = table.Truths
-word_table g = keyword_table g
-
-abbrev pub unknown_word : Goal → List ℕ → Option Name → Misread
-unknown_word g text (Some n) = misread.NoColon n
-unknown_word g text None = misread.Unknown g (nearest (word_table g) text)
-
-abbrev pub unknown : Goal → TokenKind → List ℕ → Misread
-unknown g token_kind.Word text = unknown_word g text (keyword_named text)
-unknown g k text = misread.Unknown g (nearest (keyword_table g) (drop 1 text))
 
 -- TOKENS THAT ARE NOT WANTED (21)
 

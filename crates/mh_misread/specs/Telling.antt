@@ -1,4 +1,4 @@
--- What an author is told of a misread text: what was found and what is wanted, and the mend. Neither has a full stop.
+-- What an author is told of a misread text: what was found and what is wanted. It has no full stop.
 use Rattle.std.specs.Prelude.{ℕ, ◌+◌, ◌/◌, ◌%◌, ◌==◌, Bool, true, false, nat_le, nat_lt, if◌then◌else◌, ◌&&◌, List, [], ◌∷◌, ◌++◌, length, take, drop, codes, Option, Some, None}
 use Rattle.std.specs.Fmt.{decimal}
 use Rattle.std.specs.List.{filter, prefix_len}
@@ -7,12 +7,8 @@ use Rattle.mh_group.specs.declared.attribute.Attribute.{Attribute}
 use Rattle.mh_group.specs.declared.action_name.ActionName.{ActionName}
 use Rattle.mh_base.specs.declared.event.EventType.{EventType}
 use Rattle.mh_group.specs.declared.shape.Need.{Need}
-use Rattle.mh_group.specs.declared.shape.Need.TheVariants as need
-use Rattle.mh_group.specs.declared.shape.Shape.{Shape}
-use Rattle.mh_group.specs.declared.shape.Shape.TheVariants as shape
-use Rattle.mh_misread.specs.declared.part.Part.TheVariants as part
 use Rattle.mh_group.specs.Table.{shape_of, takes, needs_of, optional_of}
-use Rattle.mh_group.specs.Words.{classes, class_word, attributes, attribute_word, action_word, events, event_word, justification_word}
+use Rattle.mh_group.specs.Words.{classes, class_word, attributes, attribute_word, action_word, event_word, justification_word}
 use Rattle.mh_text.specs.declared.token_kind.TokenKind.{TokenKind}
 use Rattle.mh_text.specs.declared.token_kind.TokenKind.TheVariants as token_kind
 use Rattle.mh_misread.specs.declared.name.Name.{Name}
@@ -214,6 +210,9 @@ no_colon_cause n = marked (word_of n) ++ told.WANTS_COLON.now
 unfoldable pub unknown_cause : List ℕ → ℕ → List ℕ
 unknown_cause file offset = told.NO_TABLE_HAS.now ++ found file offset
 
+unfoldable pub key_cause : List ℕ → ℕ → List ℕ
+key_cause file offset = found file offset ++ told.IS_A_KEY.now
+
 unfoldable pub tight_cause : List ℕ → ℕ → List ℕ
 tight_cause file offset = told.SPACE_LACKS.now ++ found file offset
 
@@ -246,6 +245,7 @@ unfoldable pub cause : List ℕ → ℕ → Misread → List ℕ
 cause file offset (misread.Slip s) = slip_cause file offset s
 cause file offset (misread.NoColon n) = no_colon_cause n
 cause file offset (misread.Unknown g n) = unknown_cause file offset
+cause file offset (misread.KeyName k) = key_cause file offset
 cause file offset misread.Tight = tight_cause file offset
 cause file offset misread.Behind = behind_cause file offset
 cause file offset (misread.TextEnds start) = end_cause file start
@@ -256,105 +256,3 @@ cause file offset (misread.Lacks c a) = lacks_cause c a
 cause file offset misread.BareName = told.BARE_NAME_CAUSE.now
 cause file offset (misread.Unwanted g r) = unwanted_cause file offset g
 cause file offset (misread.OutOfRange g) = range_cause file offset g
-
--- THE MEND
-
-unfoldable pub separator_mend : ℕ → List ℕ
-separator_mend b = codes "take " ++ byte_words b ++ codes " away"
-
-unfoldable pub string_mend : ℕ → List ℕ
-string_mend mark = codes "write " ++ marked (mark ∷ []) ++ told.WHERE_STRING_ENDS.now
-
-unfoldable pub escape_mend : List ℕ → List ℕ
-escape_mend bs = codes "write " ++ escaped bs ++ told.IN_ITS_PLACE.now
-
-unfoldable pub quote_mend : List ℕ → List ℕ
-quote_mend bs = told.BETWEEN_APOSTROPHES.now ++ escaped bs ++ told.IN_PLACE_OF_BYTE.now
-
-abbrev pub character_mend : ℕ → List ℕ → List ℕ
-character_mend mark bs = if mark == 39 then escape_mend bs else quote_mend bs
-
--- a string that begins at the offset, and holds so many bytes in front of the character
-unfoldable pub string_byte_mend : List ℕ → ℕ → ℕ → ℕ → List ℕ
-string_byte_mend file offset mark held = character_mend mark (character_of (drop held (drop 1 (drop offset file))))
-
-unfoldable pub slip_mend : List ℕ → ℕ → Slip → List ℕ
-slip_mend file offset (slip.Comment b) = told.COMMENT_MEND.now
-slip_mend file offset (slip.Separator b) = separator_mend b
-slip_mend file offset (slip.OpenString mark) = string_mend mark
-slip_mend file offset (slip.ByteInString mark b held) = string_byte_mend file offset mark held
-slip_mend file offset slip.Escape = told.ESCAPE_MEND.now
-slip_mend file offset slip.Colon = told.COLON_MEND.now
-slip_mend file offset slip.Minus = told.MINUS_MEND.now
-slip_mend file offset (slip.Byte b) = told.BYTE_MEND.now
-
-unfoldable pub name_mend : Name → List ℕ
-name_mend n = codes "write " ++ written n
-
-unfoldable pub fields_mend : Class → List ℕ
-fields_mend c = told.ONE_OF_FIELDS.now ++ fields_of c
-
-unfoldable pub events_mend : List ℕ
-events_mend = told.ONE_OF_EVENTS.now ++ words_with [] events
-
-unfoldable pub plain_mend : Goal → List ℕ
-plain_mend g = codes "write " ++ wanted g
-
-abbrev pub is_event_shape : Shape → Bool
-is_event_shape shape.Event = true
-is_event_shape s = false
-
-abbrev pub is_event_part : Option Part → Bool
-is_event_part (Some (part.Need need.Event)) = true
-is_event_part p = false
-
-abbrev pub event_mend : Bool → Goal → List ℕ
-event_mend true g = events_mend
-event_mend false g = plain_mend g
-
--- what may be written where this is wanted; of some tables all their words
-abbrev pub wanted_mend : Goal → List ℕ
-wanted_mend (goal.Fields c) = fields_mend c
-wanted_mend (goal.Value c a) = event_mend (is_event_shape (shape_of c a)) (goal.Value c a)
-wanted_mend (goal.Part r n) = event_mend (is_event_part (part_at r n)) (goal.Part r n)
-wanted_mend g = plain_mend g
-
-abbrev pub unknown_mend : Goal → Option Name → List ℕ
-unknown_mend g (Some n) = name_mend n
-unknown_mend g None = wanted_mend g
-
--- the byte that closes what this one opens
-abbrev pub closing : List ℕ → List ℕ
-closing [] = codes ")"
-closing (b ∷ bs) = if b == 123 then codes "}" else codes ")"
-
-unfoldable pub closing_mend : List ℕ → ℕ → List ℕ
-closing_mend file start = told.WRITE_ITS.now ++ marked (closing (drop start file)) ++ told.WHERE_IT_ENDS.now
-
-unfoldable pub not_taken_mend : Attribute → List ℕ
-not_taken_mend a = told.TAKE_AWAY_OR.now ++ classes_taking a
-
-unfoldable pub lacks_mend : Class → Attribute → List ℕ
-lacks_mend c a = codes "write " ++ field_row c a
-
-unfoldable pub unwanted_mend : Goal → Option Goal → List ℕ
-unwanted_mend g r = codes "write " ++ row_written g r
-
-unfoldable pub range_mend : Goal → List ℕ
-range_mend g = codes "write " ++ limits_words (limits_of g)
-
--- what is to be written
-unfoldable pub mend : List ℕ → ℕ → Misread → List ℕ
-mend file offset (misread.Slip s) = slip_mend file offset s
-mend file offset (misread.NoColon n) = name_mend n
-mend file offset (misread.Unknown g n) = unknown_mend g n
-mend file offset misread.Tight = told.TIGHT_MEND.now
-mend file offset misread.Behind = told.BEHIND_MEND.now
-mend file offset (misread.TextEnds start) = closing_mend file start
-mend file offset (misread.Unclosed start) = closing_mend file start
-mend file offset (misread.NotTaken c a) = not_taken_mend a
-mend file offset (misread.Twice c a) = told.TWICE_MEND.now
-mend file offset (misread.Lacks c a) = lacks_mend c a
-mend file offset misread.BareName = told.BARE_NAME_MEND.now
-mend file offset (misread.Unwanted g r) = unwanted_mend g r
-mend file offset (misread.OutOfRange g) = range_mend g

@@ -1,6 +1,6 @@
 //! What is told of a misread text: what was found, and what is wanted. It has no full stop.
 ghost use Rattle.std.specs.Prelude.{◌≡◌, ◌++◌, OnOk};
-ghost use Rattle.mh_misread.specs.Telling.{comment_cause, separator_cause, string_cause, string_byte_cause, byte_cause, slip_cause, no_colon_cause, unknown_cause, tight_cause, behind_cause, end_cause, unclosed_cause, not_taken_cause, twice_cause, lacks_cause, unwanted_cause, range_cause, cause};
+ghost use Rattle.mh_misread.specs.Telling.{comment_cause, separator_cause, string_cause, string_byte_cause, byte_cause, slip_cause, no_colon_cause, unknown_cause, key_cause, tight_cause, behind_cause, end_cause, unclosed_cause, not_taken_cause, twice_cause, lacks_cause, unwanted_cause, range_cause, cause};
 
 use crate::found::{
     put_bracket_words, put_byte_words, put_found, put_keyword_written, put_line_words, put_marked,
@@ -11,7 +11,7 @@ use crate::misread::Misread;
 use crate::name::Name;
 use crate::phrases::{
     BARE_NAME_CAUSE, BETWEEN_ITEMS, COLON_CAUSE, COMMENTS_BEGIN, DOES_NOT_END, ENDS_WITHOUT,
-    ESCAPE_CAUSE, IN_NO_STRING, IN_PLACE_OF, IS_NO_FIELD, MINUS_CAUSE, NO_TABLE_HAS,
+    ESCAPE_CAUSE, IN_NO_STRING, IN_PLACE_OF, IS_A_KEY, IS_NO_FIELD, MINUS_CAUSE, NO_TABLE_HAS,
     NOTHING_BEGINS, SPACE_LACKS, STANDS_BEHIND, STANDS_HERE, STANDS_IN_THIS, STRING_BEGINS,
     STRING_HAS, TEXT_ENDS, WANTS_COLON,
 };
@@ -102,6 +102,15 @@ fn put_unknown_cause(text: &mut Text, file: &[u8], offset: usize) -> Result<(), 
 {
     text.put(NO_TABLE_HAS)?;
     put_found(text, file, offset)
+}
+
+/// Puts that it is the name of a key.
+#[tactic(auto, unfolding(crate::specs::Telling::key_cause))]
+fn put_key_cause(text: &mut Text, file: &[u8], offset: usize) -> Result<(), AllocError>
+    ensures { OnOk result (text.new ≡ text.old ++ key_cause file.now offset) }
+{
+    put_found(text, file, offset)?;
+    text.put(IS_A_KEY)
 }
 
 /// Puts that white space lacks.
@@ -228,6 +237,7 @@ pub fn put_cause(
         Misread::Slip(slip) => put_slip_cause(text, file, offset, slip),
         Misread::NoColon(name) => put_no_colon_cause(text, name),
         Misread::Unknown(_, _) => put_unknown_cause(text, file, offset),
+        Misread::KeyName(_) => put_key_cause(text, file, offset),
         Misread::Tight => put_tight_cause(text, file, offset),
         Misread::Behind => put_behind_cause(text, file, offset),
         Misread::TextEnds(start) => put_end_cause(text, file, start),

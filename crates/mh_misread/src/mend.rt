@@ -1,6 +1,6 @@
 //! How a misread text is mended. What is told has no full stop.
 ghost use Rattle.std.specs.Prelude.{◌≡◌, ◌++◌, OnOk};
-ghost use Rattle.mh_misread.specs.Telling.{separator_mend, string_mend, escape_mend, quote_mend, character_mend, string_byte_mend, slip_mend, name_mend, fields_mend, events_mend, plain_mend, is_event_shape, is_event_part, event_mend, wanted_mend, unknown_mend, closing, closing_mend, not_taken_mend, lacks_mend, unwanted_mend, range_mend, mend};
+ghost use Rattle.mh_misread.specs.Mending.{separator_mend, string_mend, escape_mend, quote_mend, character_mend, string_byte_mend, slip_mend, name_mend, key_mend, fields_mend, events_mend, plain_mend, is_event_shape, is_event_part, event_mend, wanted_mend, unknown_mend, closing, closing_mend, not_taken_mend, lacks_mend, unwanted_mend, range_mend, mend};
 
 use crate::found::{character_of, put_byte_words, put_escaped, put_marked, put_written};
 use crate::goal::Goal;
@@ -20,11 +20,12 @@ use crate::wanted::{
 };
 use crate::words::limits_words;
 use mh_group::{Attribute, Class, Need, Shape};
+use mh_model::Key;
 use mh_told::text::Text;
 use std::alloc::AllocError;
 
 /// Puts that the byte is taken away.
-#[tactic(auto, unfolding(crate::specs::Telling::separator_mend))]
+#[tactic(auto, unfolding(crate::specs::Mending::separator_mend))]
 fn put_separator_mend(text: &mut Text, byte: u8) -> Result<(), AllocError>
     ensures { OnOk result (text.new ≡ text.old ++ separator_mend byte) }
 {
@@ -34,7 +35,7 @@ fn put_separator_mend(text: &mut Text, byte: u8) -> Result<(), AllocError>
 }
 
 /// Puts where the mark is written.
-#[tactic(auto, unfolding(crate::specs::Telling::string_mend))]
+#[tactic(auto, unfolding(crate::specs::Mending::string_mend))]
 fn put_string_mend(text: &mut Text, mark: u8) -> Result<(), AllocError>
     ensures { OnOk result (text.new ≡ text.old ++ string_mend mark) }
 {
@@ -44,7 +45,7 @@ fn put_string_mend(text: &mut Text, mark: u8) -> Result<(), AllocError>
 }
 
 /// Puts how the byte is written.
-#[tactic(auto, unfolding(crate::specs::Telling::escape_mend))]
+#[tactic(auto, unfolding(crate::specs::Mending::escape_mend))]
 fn put_escape_mend(text: &mut Text, bytes: &[u8]) -> Result<(), AllocError>
     ensures { OnOk result (text.new ≡ text.old ++ escape_mend bytes.now) }
 {
@@ -54,7 +55,7 @@ fn put_escape_mend(text: &mut Text, bytes: &[u8]) -> Result<(), AllocError>
 }
 
 /// Puts how the byte is written in another string.
-#[tactic(auto, unfolding(crate::specs::Telling::quote_mend))]
+#[tactic(auto, unfolding(crate::specs::Mending::quote_mend))]
 fn put_quote_mend(text: &mut Text, bytes: &[u8]) -> Result<(), AllocError>
     ensures { OnOk result (text.new ≡ text.old ++ quote_mend bytes.now) }
 {
@@ -74,7 +75,7 @@ fn put_character_mend(text: &mut Text, mark: u8, bytes: &[u8]) -> Result<(), All
 }
 
 /// Puts how a character is written in a string that begins at the offset, and holds so many bytes in front of it.
-#[tactic(auto, unfolding(crate::specs::Telling::string_byte_mend))]
+#[tactic(auto, unfolding(crate::specs::Mending::string_byte_mend))]
 fn put_string_byte_mend(
     text: &mut Text,
     file: &[u8],
@@ -89,7 +90,7 @@ fn put_string_byte_mend(
 }
 
 /// Puts the mend where no token begins.
-#[tactic(auto, unfolding(crate::specs::Telling::slip_mend))]
+#[tactic(auto, unfolding(crate::specs::Mending::slip_mend))]
 fn put_slip_mend(text: &mut Text, file: &[u8], offset: usize, slip: Slip) -> Result<(), AllocError>
     ensures { OnOk result (text.new ≡ text.old ++ slip_mend file.now offset slip) }
 {
@@ -108,7 +109,7 @@ fn put_slip_mend(text: &mut Text, file: &[u8], offset: usize, slip: Slip) -> Res
 }
 
 /// Puts which name is written.
-#[tactic(auto, unfolding(crate::specs::Telling::name_mend))]
+#[tactic(auto, unfolding(crate::specs::Mending::name_mend))]
 fn put_name_mend(text: &mut Text, name: Name) -> Result<(), AllocError>
     ensures { OnOk result (text.new ≡ text.old ++ name_mend name) }
 {
@@ -116,8 +117,18 @@ fn put_name_mend(text: &mut Text, name: Name) -> Result<(), AllocError>
     put_written(text, name)
 }
 
+/// Puts the number of the key.
+#[tactic(auto, unfolding(crate::specs::Mending::key_mend))]
+fn put_key_mend(text: &mut Text, key: Key) -> Result<(), AllocError>
+    ensures { OnOk result (text.new ≡ text.old ++ key_mend key) }
+{
+    text.put(b"write `")?;
+    text.put_number(u64::from(key.number().unsigned_abs()))?;
+    text.put(b"`")
+}
+
 /// Puts the fields of the class.
-#[tactic(auto, unfolding(crate::specs::Telling::fields_mend))]
+#[tactic(auto, unfolding(crate::specs::Mending::fields_mend))]
 fn put_fields_mend(text: &mut Text, class: Class) -> Result<(), AllocError>
     ensures { OnOk result (text.new ≡ text.old ++ fields_mend class) }
 {
@@ -126,7 +137,7 @@ fn put_fields_mend(text: &mut Text, class: Class) -> Result<(), AllocError>
 }
 
 /// Puts the types of events.
-#[tactic(auto, unfolding(crate::specs::Telling::events_mend))]
+#[tactic(auto, unfolding(crate::specs::Mending::events_mend))]
 fn put_events_mend(text: &mut Text) -> Result<(), AllocError>
     ensures { OnOk result (text.new ≡ text.old ++ events_mend) }
 {
@@ -135,7 +146,7 @@ fn put_events_mend(text: &mut Text) -> Result<(), AllocError>
 }
 
 /// Puts what is written.
-#[tactic(auto, unfolding(crate::specs::Telling::plain_mend))]
+#[tactic(auto, unfolding(crate::specs::Mending::plain_mend))]
 fn put_plain_mend(text: &mut Text, goal: Goal) -> Result<(), AllocError>
     ensures { OnOk result (text.new ≡ text.old ++ plain_mend goal) }
 {
@@ -199,7 +210,7 @@ fn closing(bytes: &[u8]) -> &'static [u8]
 }
 
 /// Puts how what stands open is closed.
-#[tactic(auto, unfolding(crate::specs::Telling::closing_mend))]
+#[tactic(auto, unfolding(crate::specs::Mending::closing_mend))]
 fn put_closing_mend(text: &mut Text, file: &[u8], start: usize) -> Result<(), AllocError>
     ensures { OnOk result (text.new ≡ text.old ++ closing_mend file.now start) }
 {
@@ -209,7 +220,7 @@ fn put_closing_mend(text: &mut Text, file: &[u8], start: usize) -> Result<(), Al
 }
 
 /// Puts which classes take the field.
-#[tactic(auto, unfolding(crate::specs::Telling::not_taken_mend))]
+#[tactic(auto, unfolding(crate::specs::Mending::not_taken_mend))]
 fn put_not_taken_mend(text: &mut Text, attribute: Attribute) -> Result<(), AllocError>
     ensures { OnOk result (text.new ≡ text.old ++ not_taken_mend attribute) }
 {
@@ -218,7 +229,7 @@ fn put_not_taken_mend(text: &mut Text, attribute: Attribute) -> Result<(), Alloc
 }
 
 /// Puts the field that lacks.
-#[tactic(auto, unfolding(crate::specs::Telling::lacks_mend))]
+#[tactic(auto, unfolding(crate::specs::Mending::lacks_mend))]
 fn put_lacks_mend(text: &mut Text, class: Class, attribute: Attribute) -> Result<(), AllocError>
     ensures { OnOk result (text.new ≡ text.old ++ lacks_mend class attribute) }
 {
@@ -227,7 +238,7 @@ fn put_lacks_mend(text: &mut Text, class: Class, attribute: Attribute) -> Result
 }
 
 /// Puts all that is being read.
-#[tactic(auto, unfolding(crate::specs::Telling::unwanted_mend))]
+#[tactic(auto, unfolding(crate::specs::Mending::unwanted_mend))]
 fn put_unwanted_mend(text: &mut Text, goal: Goal, row: Option<Goal>) -> Result<(), AllocError>
     ensures { OnOk result (text.new ≡ text.old ++ unwanted_mend goal row) }
 {
@@ -236,7 +247,7 @@ fn put_unwanted_mend(text: &mut Text, goal: Goal, row: Option<Goal>) -> Result<(
 }
 
 /// Puts between which limits a value lies.
-#[tactic(auto, unfolding(crate::specs::Telling::range_mend))]
+#[tactic(auto, unfolding(crate::specs::Mending::range_mend))]
 fn put_range_mend(text: &mut Text, goal: Goal) -> Result<(), AllocError>
     ensures { OnOk result (text.new ≡ text.old ++ range_mend goal) }
 {
@@ -245,7 +256,7 @@ fn put_range_mend(text: &mut Text, goal: Goal) -> Result<(), AllocError>
 }
 
 /// Puts what is to be written.
-#[tactic(auto, unfolding(crate::specs::Telling::mend))]
+#[tactic(auto, unfolding(crate::specs::Mending::mend))]
 pub fn put_mend(
     text: &mut Text,
     file: &[u8],
@@ -258,6 +269,7 @@ pub fn put_mend(
         Misread::Slip(slip) => put_slip_mend(text, file, offset, slip),
         Misread::NoColon(name) => put_name_mend(text, name),
         Misread::Unknown(goal, near) => put_unknown_mend(text, goal, near),
+        Misread::KeyName(key) => put_key_mend(text, key),
         Misread::Tight => text.put(TIGHT_MEND),
         Misread::Behind => text.put(BEHIND_MEND),
         Misread::TextEnds(start) | Misread::Unclosed(start) => put_closing_mend(text, file, start),

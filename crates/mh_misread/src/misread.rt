@@ -16,6 +16,7 @@ use crate::syntax::syntax;
 use crate::token::first_token;
 use crate::unknown::unknown;
 use mh_group::{Attribute, Class};
+use mh_model::Key;
 use std::alloc::{AllocError, Global};
 
 /// What is wrong with a text at the place where reading stopped.
@@ -27,6 +28,8 @@ pub enum Misread {
     NoColon(Name),
     /// A keyword or a word that no table has, where this is wanted; and the name that is most like it.
     Unknown(Goal, Option<Name>),
+    /// A key by its name, where its number is wanted.
+    KeyName(Key),
     /// No white space stands in front of the token.
     Tight,
     /// A token behind the group.

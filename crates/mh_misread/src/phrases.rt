@@ -43,6 +43,8 @@ pub const MINUS_CAUSE: &[u8] = b"no digit stands right behind this `-`";
 
 pub const WANTS_COLON: &[u8] = b" is a keyword, and wants a colon in front";
 
+pub const IS_A_KEY: &[u8] = b" is the name of a key, and its number is wanted";
+
 pub const NO_TABLE_HAS: &[u8] = b"no table has ";
 
 pub const SPACE_LACKS: &[u8] = b"white space lacks in front of ";

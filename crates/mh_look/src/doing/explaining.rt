@@ -2,6 +2,7 @@
 //! explanation is written.
 use crate::command_line::{Explain, Given};
 use crate::doing::{Outcome, written};
+use crate::explanation::case::{Case, case_of, no_case};
 use crate::explanation::{Known, why};
 use crate::files::named_file::NamedFile;
 use crate::files::service::{Folder, folder_of};
@@ -26,6 +27,7 @@ struct Told {
     outcome: Outcome,
     chain: Seq<Link>,
     cycle: Seq<Arrow>,
+    case: Case,
 }
 
 /// The files that an option names, with their bytes.
@@ -100,6 +102,7 @@ fn bare(alloc: Global, lines: Vec<u8>, outcome: Outcome) -> Told {
         outcome,
         chain: Seq::new(alloc),
         cycle: Seq::new(alloc),
+        case: no_case(alloc),
     }
 }
 
@@ -108,12 +111,18 @@ fn of_output(alloc: Global, lines: Vec<u8>, found: Told) -> Told {
     if !lines.as_slice().starts_with(found.lines.as_slice()) {
         return bare(alloc, lines, Outcome::Written);
     }
-    let Told { chain, cycle, .. } = found;
+    let Told {
+        chain,
+        cycle,
+        case,
+        ..
+    } = found;
     Told {
         lines,
         outcome: Outcome::Written,
         chain,
         cycle,
+        case,
     }
 }
 
@@ -147,21 +156,28 @@ fn checked<R: Runtime + AllocGlobal>(
 fn told_by(alloc: Global, verdict: Verdict) -> Result<Told, AllocError> {
     let outcome = outcome_of(&verdict);
     let lines = lines_on(alloc, &verdict);
+    let case = case_on(alloc, &verdict);
     let (chain, cycle) = refusal_parts(alloc, verdict);
-    match lines {
-        Ok(lines) => Ok(Told {
-            lines,
-            outcome,
-            chain,
-            cycle,
-        }),
-        Err(refused) => Err(refused),
-    }
+    Ok(Told {
+        lines: lines?,
+        outcome,
+        chain,
+        cycle,
+        case: case?,
+    })
 }
 
 fn lines_on(alloc: Global, verdict: &Verdict) -> Result<Vec<u8>, AllocError> {
     let text = verdict_text(alloc, verdict)?;
     Vec::from_slice(alloc, text.as_slice())
+}
+
+/// The case of a refusal; of another verdict there is none.
+fn case_on(alloc: Global, verdict: &Verdict) -> Result<Case, AllocError> {
+    match verdict {
+        Verdict::Refused(refusal) => case_of(alloc, refusal),
+        _ => Ok(no_case(alloc)),
+    }
 }
 
 fn outcome_of(verdict: &Verdict) -> Outcome {
@@ -200,6 +216,9 @@ fn explanation<R: Runtime + AllocGlobal>(
         },
         chain: told.chain.as_slice(),
         cycle: told.cycle.as_slice(),
+        cause: told.case.cause.as_slice(),
+        mend: told.case.mend.as_slice(),
+        number: told.case.number.as_slice(),
         late: named_file(asked.given.late, &given.late),
         tags: named_file(asked.given.tags, &given.tags),
         script: named_file(asked.given.script, &given.script),

@@ -5,8 +5,9 @@ ghost use Rattle.mh_look.specs.Why.{stuck};
 
 use crate::explanation::advice::{faults, put_advice};
 use crate::explanation::line::{THE_ACTION, WAS_STUCK};
+use crate::explanation::meant::Sought;
 use crate::explanation::missing::put_missing;
-use crate::explanation::place::put_actions_named;
+use crate::explanation::named::put_actions_named;
 use crate::explanation::spot::put_object;
 use crate::explanation::words::{before_last, behind_first, first_word, last_word};
 use crate::files::shown::Source;
@@ -28,7 +29,11 @@ pub(crate) fn put_fault(
     let action = first_word(behind);
     let at = behind_first(behind);
     put_stuck(alloc, text, action, at)?;
-    put_actions_named(alloc, text, sources, action)?;
+    let sought = Sought {
+        action,
+        number: last_word(behind),
+    };
+    put_actions_named(alloc, text, sources, &sought)?;
     put_missing(alloc, text, sources, before_last(at))?;
     put_advice(alloc, text, faults(), first_word(words))
 }

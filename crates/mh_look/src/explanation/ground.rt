@@ -15,6 +15,11 @@ pub(crate) struct Ground<'a> {
     pub(crate) chain: &'a [Link],
     /// The effects of the circle of a refusal; where they are not known, none.
     pub(crate) cycle: &'a [Arrow],
+    /// The cause of a refusal by its case, and the mend; where the case is not known, nothing.
+    pub(crate) cause: &'a [u8],
+    pub(crate) mend: &'a [u8],
+    /// The number by which the action names what is wrong, if that is known.
+    pub(crate) number: &'a [u8],
     /// The file that names late scenes, if it is known.
     pub(crate) late: Option<&'a NamedFile<'a>>,
     /// The file that gives tags, if it is known.
@@ -29,5 +34,5 @@ impl<'a> Model for Ground<'a> {
 
     ghost Value = { Ground };
 
-    ghost view = { λ g. record { sources = g.sources.now; ways = g.ways.now; chain = g.chain.now; cycle = g.cycle.now; late = option_copied g.late; tags = option_copied g.tags; script = option_copied g.script } };
+    ghost view = { λ g. record { sources = g.sources.now; ways = g.ways.now; chain = g.chain.now; cycle = g.cycle.now; cause = g.cause.now; mend = g.mend.now; number = g.number.now; late = option_copied g.late; tags = option_copied g.tags; script = option_copied g.script } };
 }

@@ -83,7 +83,7 @@ fn case_in(
 }
 
 #[tactic(auto, unfolding(crate::specs::Misreading::case_text))]
-fn put_case(
+pub(crate) fn put_case(
     alloc: Global,
     text: &mut Text,
     file: &[u8],

@@ -2,8 +2,7 @@
 ghost use Rattle.std.specs.Prelude.{◌≡◌, ◌++◌, OnOk};
 ghost use Rattle.std.specs.List.{find};
 ghost use Rattle.std.specs.Option.{option_copied};
-ghost use Rattle.mh_look.specs.Missing.{like_named, like_text, missing, no_group_since, no_group_text, unless_group};
-ghost use Rattle.mh_look.specs.Painting as painting;
+ghost use Rattle.mh_look.specs.Missing.{goes_on, is_like as is_like_lem, like_named, like_text, missing, no_group_since, no_group_text, unless_group};
 
 use crate::files::shown::{Source, source_named};
 use crate::paint::begins_with;
@@ -89,22 +88,32 @@ fn put_like_named(
 ) -> Result<(), AllocError>
     ensures { OnOk result (text.new ≡ text.old ++ like_named sources.now group.now) }
 {
-    let mut front = Text::new(alloc);
-    front.put(group)?;
-    front.put(b".")?;
-    match source_with(sources, front.as_slice()) {
+    match source_like(sources, group) {
         Some(source) => put_like(alloc, text, group, source),
         None => Ok(()),
     }
 }
 
-/// The first file whose name begins so.
-fn source_with<'a, 's>(sources: &'a [Source<'s>], front: &[u8]) -> Option<&'a Source<'s>>
-    ensures { option_copied result ≡ find (λ s. painting.begins_with front.now s.name) sources.now }
+/// The first file with a name like that of the group.
+fn source_like<'a, 's>(sources: &'a [Source<'s>], group: &[u8]) -> Option<&'a Source<'s>>
+    ensures { option_copied result ≡ find (is_like_lem group.now) sources.now }
 {
-    sources
-        .iter()
-        .find(|source| begins_with(front, source.name().as_bytes()))
+    sources.iter().find(|source| is_like(group, *source))
+}
+
+/// Whether one of the two names goes on where the other ends, or they differ in small letters alone.
+fn is_like(group: &[u8], source: &Source<'_>) -> bool
+    ensures { result ≡ is_like_lem group.now source.now }
+{
+    let name = source.name().as_bytes();
+    goes_on(group, name) || goes_on(name, group) || mh_misread::is_like(0, group, name)
+}
+
+/// Whether the word is this one, and goes on behind a dot.
+fn goes_on(front: &[u8], word: &[u8]) -> bool
+    ensures { result ≡ goes_on front.now word.now }
+{
+    begins_with(front, word) && begins_with(b".", word.get(front.len()..).unwrap_or(&[]))
 }
 
 #[tactic(auto, unfolding(crate::specs::Missing::like_text))]

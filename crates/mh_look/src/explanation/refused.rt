@@ -3,14 +3,13 @@ ghost use Rattle.std.specs.Prelude.{◌≡◌, ◌++◌, OnOk};
 ghost use Rattle.mh_look.specs.Why as spec;
 ghost use Rattle.mh_look.specs.Why.{circle_place, circle_spot, circle_words, refused_at, refused_by, refused_spot, refused_words};
 
-use crate::explanation::advice::{put_advice, refusals};
+use crate::explanation::case::put_case_advice;
 use crate::explanation::ground::Ground;
 use crate::explanation::line::{EFFECT_WITH, MEMBERS_OF, PUTS_ITSELF, STANDS_IN};
 use crate::explanation::past::Past;
 use crate::explanation::spot::Spot;
 use crate::explanation::way::put_bound;
 use crate::explanation::words::{before_last, behind_first, first_word, last_word};
-use crate::files::shown::Source;
 use crate::script::posts::put_posts;
 use crate::wrap::put_paragraph;
 use mh_told::text::Text;
@@ -39,7 +38,7 @@ pub(crate) fn put_refused(
         &spot,
     )?;
     put_posts(alloc, text, ground.script, past.script, first_word(words))?;
-    put_advice(alloc, text, refusals(), first_word(words))?;
+    put_case_advice(alloc, text, ground.cause, ground.mend, first_word(words))?;
     put_bound(alloc, text, ground.sources, ground.ways, behind, b"")
 }
 
@@ -74,7 +73,7 @@ fn put_refused_by(
     if number == b"V6".as_slice() {
         return put_circle_spot(alloc, text, ground, action, spot);
     }
-    put_refused_spot(alloc, text, ground.sources, action, spot)
+    put_refused_spot(alloc, text, ground, action, spot)
 }
 
 /// Puts the effect that puts itself to work; where the arrows are known, they show the actions.
@@ -105,7 +104,7 @@ fn put_circle_place(
     ensures { OnOk result (text.new ≡ text.old ++ circle_place ground.now action.now spot.now) }
 {
     match ground.cycle {
-        [] => spot.put_refused(alloc, text, ground.sources, action),
+        [] => spot.put_refused(alloc, text, ground.sources, action, b""),
         _ => Ok(()),
     }
 }
@@ -125,18 +124,18 @@ fn put_circle_words(text: &mut Text, action: &[u8], spot: &Spot<'_>) -> Result<(
 fn put_refused_spot(
     alloc: Global,
     text: &mut Text,
-    sources: &[Source<'_>],
+    ground: &Ground<'_>,
     action: &[u8],
     spot: &Spot<'_>,
 ) -> Result<(), AllocError>
-    ensures { OnOk result (text.new ≡ text.old ++ refused_spot sources.now action.now spot.now) }
+    ensures { OnOk result (text.new ≡ text.old ++ refused_spot ground.now action.now spot.now) }
 {
     let mut sentence = Text::new(alloc);
     sentence.put(STANDS_IN)?;
     put_refused_words(&mut sentence, action, spot)?;
     sentence.put(b".")?;
     put_paragraph(alloc, text, sentence.as_slice())?;
-    spot.put_refused(alloc, text, sources, action)
+    spot.put_refused(alloc, text, ground.sources, action, ground.number)
 }
 
 /// Puts the action, or the members where it has no name.

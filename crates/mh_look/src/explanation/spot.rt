@@ -97,15 +97,16 @@ impl<'a> Spot<'a> {
         }
     }
 
-    /// The same of the action of this name.
+    /// The same of the action of this name, and the number in it that is wrong.
     pub(crate) fn put_refused(
         &self,
         alloc: Global,
         text: &mut Text,
         sources: &[Source<'_>],
         word: &[u8],
+        wrong: &[u8],
     ) -> Result<(), AllocError>
-        ensures { OnOk result (text.new ≡ text.old ++ by_numbers (shown_refused sources.now word.now self.now.group) self.now.object self.now.index) }
+        ensures { OnOk result (text.new ≡ text.old ++ by_numbers (shown_refused sources.now word.now wrong.now self.now.group) self.now.object self.now.index) }
     {
         let Some(object) = number_in(self.object) else {
             return Ok(());
@@ -117,6 +118,7 @@ impl<'a> Spot<'a> {
                     text,
                     sources,
                     word,
+                    wrong,
                     self.group,
                     object,
                     index as usize,

@@ -6,6 +6,7 @@ ghost use Rattle.mh_look.specs.Why as spec;
 ghost use Rattle.mh_look.specs.Why.{shown_late, shown_script, shown_tags, tag_words};
 
 use crate::explanation::advice::{put_advice, readings, services, tags};
+use crate::explanation::further::put_further;
 use crate::explanation::ground::Ground;
 use crate::explanation::line::{CONTEXTS, IS_BYTE, IS_CONTEXT, IS_LINE, OF_FILE, TOLD_OF};
 use crate::explanation::misread::put_file_advice;
@@ -40,7 +41,8 @@ pub(crate) fn put_file(
     sentence.put(b".")?;
     put_paragraph(alloc, text, sentence.as_slice())?;
     put_byte_shown(alloc, text, sources, spot.group(), spot.index())?;
-    put_file_advice(alloc, text, sources, spot)
+    put_file_advice(alloc, text, sources, spot)?;
+    put_further(alloc, text, sources, spot)
 }
 
 /// Puts where the byte stands, if the word is a number and it is found.

@@ -66,10 +66,9 @@ a key by name
 check
 @a {:Application ("~/a" 0) :Items ( {:Link 1 :EventSource 0 :EventType UserInput :EventData red
 :LinkEffect ( ) } ) }
-=> file a 22 89|  It is byte 89 of the file a.|  a, line 1, column 90|  1 \7c\ … 0 :EventType
-UserInput :EventData red :LinkEffect ( ) } ) }|    \7c\                                     ^^^| 
-Cause: no table has `red`.|  Mend: write an integer, as the number of a key, or `true` or
-`false`.|;;
+=> file a 22 89|  It is byte 89 of the file a.|  a, line 1, column 90|  1 \7c\ … 0 :EventType UserInput
+:EventData red :LinkEffect ( ) } ) }|    \7c\                                     ^^^|  Cause: `red`
+is the name of a key, and its number is wanted.|  Mend: write `100`.|;;
 a keyword without its colon
 check
 @a {:Application ("~/a" 0) :OnStartUp ( Run (1) ) }

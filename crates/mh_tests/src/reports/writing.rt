@@ -132,7 +132,57 @@ play run|
 @a {:Application ("~/a" 0) :OnStartUp ( :TransitionTo (("~/s" 0)) ) }
 @s {:Scene ("~/s" 0) }
 @s.bak {:Scene ("~/s" 0) :Items ( {:Rectangle 1
-=> file s.bak 21 40|exit 2|"#;
+=> file s.bak 21 40|exit 2|;;
+a program that is called
+play run|show|
+@a {:Application ("~/a" 0) :OnStartUp ( :TransitionTo (("~/s" 0)) ) }
+@s {:Scene ("~/s" 0) :Items ( {:BooleanVar 1 :OrigValue false } {:IntegerVar 2 :OrigValue 0 }
+{:IntegerVar 3 :OrigValue 0 } {:IntegerVar 4 :OrigValue 0 } {:ResidentPrg 5 :Name 'GCD' }
+{:ResidentPrg 6 :Name 'GDW' } {:Text 10 :OrigBoxSize 240 16 :OrigContent 'A weekday.' } {:Link 20
+:EventSource 0 :EventType IsRunning :LinkEffect ( :Call (5 1 ( :GInteger :IndirectRef 2 :GInteger
+:IndirectRef 3 )) :Call (6 1 ( :GInteger :IndirectRef 2 :GInteger :IndirectRef 4 )) :TestVariable (4
+1 :GInteger 0) ) } {:Link 21 :EventSource 4 :EventType TestEvent :EventData true :LinkEffect (
+:SetData (10 'A Sunday.') ) } ) }
+=> did 20 idle|frame 1|row 00: 0-0 ffffff/000000 "A" 2-9 ffffff/000000 "weekday."|total 20|exit 0|;;
+a field that takes a number
+play run|key select|run|show|key 4|run|key 2|run|key red|run|key select|run|show|
+@a {:Application ("~/a" 0) :OnStartUp ( :TransitionTo (("~/s" 0)) ) }
+@s {:Scene ("~/s" 0) :InputEventReg 4 :Items ( {:OStringVar 1 :OrigValue '' } {:OStringVar 2
+:OrigValue 'Seats: ' } {:Text 10 :OrigBoxSize 240 16 :OrigContent 'How many? Then Select.' }
+{:EntryField 11 :OrigBoxSize 240 16 :OrigPosition 0 32 :OrigContent '' :MaxLength 2 } {:Link 20
+:EventSource 0 :EventType IsRunning :LinkEffect ( :SetInteractionStatus (11 true) ) } {:Link 21
+:EventSource 11 :EventType InteractionCompleted :LinkEffect ( :GetTextData (11 1) :TestVariable (1 1
+:GOctetString '') ) } {:Link 22 :EventSource 1 :EventType TestEvent :EventData false :LinkEffect (
+:Append (2 :IndirectRef 1) :SetData (10 :IndirectRef 2) ) } {:Link 23 :EventSource 1 :EventType
+TestEvent :EventData true :LinkEffect ( :SetData (10 'A number, please.') :SetInteractionStatus (11
+true) ) } ) }
+=> did 28 idle|did 10 idle|frame 1|row 00: 0-0 ffffff/000000 "A" 2-8 ffffff/000000 "number," 10-16
+ffffff/000000 "please."|did 1 idle|did 3 idle|did 1 idle|did 10 idle|frame 2|row 00: 0-5
+ffffff/000000 "Seats:" 7-8 ffffff/000000 "42"|row 02: 0-1 ffffff/000000 "42"|total 53|exit 0|;;
+a token that is moved
+play run|key right|run|key right|run|show|key left|run|show|
+@a {:Application ("~/a" 0) :OnStartUp ( :TransitionTo (("~/s" 0)) ) }
+@s {:Scene ("~/s" 0) :InputEventReg 4 :Items ( {:Rectangle 11 :OrigBoxSize 48 32 :OrigPosition 0 32
+:OrigLineWidth 0 :OrigRefFillColour '=40=40=40=00' } {:Rectangle 12 :OrigBoxSize 48 32 :OrigPosition
+60 32 :OrigLineWidth 0 :OrigRefFillColour '=40=40=40=00' } {:Rectangle 13 :OrigBoxSize 48 32
+:OrigPosition 120 32 :OrigLineWidth 0 :OrigRefFillColour '=40=40=40=00' } {:Text 14 :InitiallyActive
+false :OrigBoxSize 240 16 :OrigContent 'Home.' } {:Link 20 :EventSource 0 :EventType UserInput
+:EventData 3 :LinkEffect ( :Move (10 1) ) } {:Link 21 :EventSource 0 :EventType UserInput :EventData
+4 :LinkEffect ( :Move (10 2) ) } {:Link 22 :EventSource 10 :EventType TokenMovedTo :EventData 3
+:LinkEffect ( :Run (14) ) } {:Link 23 :EventSource 10 :EventType TokenMovedFrom :EventData 3
+:LinkEffect ( :Stop (14) ) } {:TokenGroup 10 :MovementTable ( ( 1 1 2 ) ( 2 3 3 ) ) :TokenGroupItems
+( ( 11 ( :SetFillColour (11 '=FF=FF=00=00') ) ) ( 12 ( :SetFillColour (12 '=FF=FF=00=00') ) ) ( 13 (
+:SetFillColour (13 '=FF=FF=00=00') ) ) ) } {:Link 30 :EventSource 10 :EventType TokenMovedTo
+:LinkEffect ( :CallActionSlot (10 1) ) } {:Link 31 :EventSource 10 :EventType TokenMovedFrom
+:EventData 1 :LinkEffect ( :SetFillColour (11 '=40=40=40=00') ) } {:Link 32 :EventSource 10
+:EventType TokenMovedFrom :EventData 2 :LinkEffect ( :SetFillColour (12 '=40=40=40=00') ) } {:Link
+33 :EventSource 10 :EventType TokenMovedFrom :EventData 3 :LinkEffect ( :SetFillColour (13
+'=40=40=40=00') ) } ) }
+=> did 45 idle|did 7 idle|did 13 idle|frame 1|row 00: 0-4 ffffff/000000 "Home."|row 02: 0-3
+000000/404040 "" 5-8 000000/404040 "" 10-13 000000/ffff00 ""|row 03: 0-3 000000/404040 "" 5-8
+000000/404040 "" 10-13 000000/ffff00 ""|did 10 idle|frame 2|row 00:|row 02: 0-3 000000/404040 "" 5-8
+000000/ffff00 "" 10-13 000000/404040 ""|row 03: 0-3 000000/404040 "" 5-8 000000/ffff00 "" 10-13
+000000/404040 ""|total 75|exit 0|"#;
 
 #[test]
 fn recipes_play(rt: HostRuntime) {

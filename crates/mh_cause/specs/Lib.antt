@@ -1,0 +1,12 @@
+pub mod Refusing
+pub mod Acts
+pub mod Passing
+pub mod Lists
+pub mod Naming
+pub mod Roles
+pub mod Absent
+pub mod Unfit
+pub mod Misfits
+pub mod MisfitWords
+pub mod Calls
+pub mod Causes

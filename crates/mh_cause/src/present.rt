@@ -1,0 +1,242 @@
+//! How an object is mended that is not there: what is there, and most like it.
+ghost use Rattle.std.specs.Prelude.{◌≡◌, ◌++◌, OnOk, IfOk, map};
+ghost use Rattle.std.specs.Option.{option_copied, option_map};
+ghost use Rattle.mh_service.specs.Resolved.{parts_under};
+ghost use Rattle.mh_cause.specs.Absent.{absent_mend, absent_mend_for, distance, held_mend, holder_mend, is_meant, list_mend, like_name, meant_names, name_told, near_name, nearer, nearest_from, no_group_mend, no_number_mend, not_shown_mend, number_told, there_mend, written_mend};
+
+use crate::acts::part_numbered;
+use crate::naming::put_named;
+use crate::phrases::{
+    ADD_FILE, HOLD_PRESENT, MOVE_TO, NAME_THERE, NEAREST_NAME, NEAREST_NUMBER, THAT_IS_THERE,
+};
+use crate::refused::Refused;
+use mh_base::{GroupName, ObjRef};
+use mh_group::ActionName;
+use mh_misread::is_like;
+use mh_model::FixedPart;
+use mh_service::Service;
+use mh_told::text::Text;
+use std::alloc::{AllocError, Global};
+
+/// Whether the action can lead to the group of this name.
+#[tactic(auto, unfolding(crate::specs::Absent::is_meant))]
+fn is_meant(service: &Service, action: Option<ActionName>, name: &GroupName) -> bool
+    ensures { result ≡ is_meant service.now action name.now }
+{
+    match action {
+        Some(ActionName::TransitionTo) => service.has_scene(name),
+        Some(ActionName::Launch) => service.has_application(name),
+        _ => true,
+    }
+}
+
+/// The names of the groups to which the action can lead.
+fn meant_names(
+    alloc: Global,
+    service: &Service,
+    action: Option<ActionName>,
+) -> Result<Vec<GroupName>, AllocError>
+    ensures { IfOk result (λ names. names.items ≡ meant_names service.now action) }
+{
+    let mut names = Vec::new(alloc);
+    for name in service.groups().keys() {
+        if is_meant(service, action, name) {
+            names.push(name.clone()?)?;
+        }
+    }
+    Ok(names)
+}
+
+/// The name that is most like the word.
+#[tactic(auto, unfolding(crate::specs::Absent::near_name))]
+fn near_name<'a>(word: &[u8], names: &'a [GroupName]) -> Option<&'a GroupName>
+    ensures { option_copied result ≡ near_name word.now names.now }
+{
+    if let Some(name) = like_name(0, word, names) {
+        return Some(name);
+    }
+    if let Some(name) = like_name(1, word, names) {
+        return Some(name);
+    }
+    like_name(2, word, names)
+}
+
+/// The first name of which the word is written with so many changes.
+fn like_name<'a>(changes: usize, word: &[u8], names: &'a [GroupName]) -> Option<&'a GroupName>
+    ensures { option_copied result ≡ like_name changes word.now names.now }
+{
+    names
+        .iter()
+        .find(|name| is_like(changes, word, name.as_bytes()))
+}
+
+#[tactic(auto, unfolding(crate::specs::Absent::name_told))]
+fn put_name_told(text: &mut Text, name: Option<&GroupName>) -> Result<(), AllocError>
+    ensures { OnOk result (text.new ≡ text.old ++ name_told (option_copied name.entry)) }
+{
+    match name {
+        None => Ok(()),
+        Some(name) => {
+            text.put(NEAREST_NAME)?;
+            text.put(name.as_bytes())
+        }
+    }
+}
+
+#[tactic(auto, unfolding(crate::specs::Absent::no_group_mend))]
+fn put_no_group_mend(
+    alloc: Global,
+    text: &mut Text,
+    service: &Service,
+    action: Option<ActionName>,
+    at: &ObjRef,
+) -> Result<(), AllocError>
+    ensures { OnOk result (text.new ≡ text.old ++ no_group_mend service.now action at.now) }
+{
+    let names = meant_names(alloc, service, action)?;
+    text.put(ADD_FILE)?;
+    put_name_told(text, near_name(at.group.as_bytes(), names.as_slice()))
+}
+
+fn distance(first: u32, second: u32) -> u32
+    ensures { result ≡ distance first second }
+{
+    if first < second {
+        second - first
+    } else {
+        first - second
+    }
+}
+
+/// The number that is nearer to the first; 0 stands for none.
+fn nearer(number: u32, best: u32, other: u32) -> u32
+    ensures { result ≡ nearer number best other }
+{
+    if other == 0 {
+        return best;
+    }
+    if best == 0 || distance(number, other) < distance(number, best) {
+        return other;
+    }
+    best
+}
+
+/// The number of an object that is nearest to this one.
+fn nearest_number(number: u32, parts: &[FixedPart]) -> u32
+    ensures { result ≡ nearest_from number 0 parts.now }
+{
+    let mut best = 0;
+    let mut left = parts;
+    while let [part, behind @ ..] = left {
+        best = nearer(number, best, part.get().key.number);
+        left = behind;
+    }
+    best
+}
+
+#[tactic(auto, unfolding(crate::specs::Absent::number_told))]
+fn put_number_told(text: &mut Text, number: u32) -> Result<(), AllocError>
+    ensures { OnOk result (text.new ≡ text.old ++ number_told number) }
+{
+    if number == 0 {
+        return Ok(());
+    }
+    text.put(NEAREST_NUMBER)?;
+    text.put_number(u64::from(number))
+}
+
+#[tactic(auto, unfolding(crate::specs::Absent::no_number_mend))]
+fn put_no_number_mend(text: &mut Text, at: &ObjRef, parts: &[FixedPart]) -> Result<(), AllocError>
+    ensures { OnOk result (text.new ≡ text.old ++ no_number_mend at.now parts.now) }
+{
+    text.put(NAME_THERE)?;
+    put_number_told(text, nearest_number(at.number, parts))
+}
+
+#[tactic(auto, unfolding(crate::specs::Absent::not_shown_mend))]
+fn put_not_shown_mend(text: &mut Text, at: &ObjRef) -> Result<(), AllocError>
+    ensures { OnOk result (text.new ≡ text.old ++ not_shown_mend at.now) }
+{
+    text.put(MOVE_TO)?;
+    text.put(at.group.as_bytes())
+}
+
+fn put_there_mend(
+    text: &mut Text,
+    at: &ObjRef,
+    parts: &[FixedPart],
+    part: Option<&FixedPart>,
+) -> Result<(), AllocError>
+    ensures { OnOk result (text.new ≡ text.old ++ there_mend at.now parts.now (option_copied part.entry)) }
+{
+    match part {
+        None => put_no_number_mend(text, at, parts),
+        Some(_) => put_not_shown_mend(text, at),
+    }
+}
+
+fn put_written_mend(
+    alloc: Global,
+    text: &mut Text,
+    service: &Service,
+    action: Option<ActionName>,
+    at: &ObjRef,
+    parts: Option<&[FixedPart]>,
+) -> Result<(), AllocError>
+    ensures { OnOk result (text.new ≡ text.old ++ written_mend service.now action at.now (option_copied parts.entry)) }
+{
+    match parts {
+        None => put_no_group_mend(alloc, text, service, action, at),
+        Some(parts) => put_there_mend(text, at, parts, part_numbered(parts, at.number)),
+    }
+}
+
+#[tactic(auto, unfolding(crate::specs::Absent::held_mend))]
+fn put_held_mend(text: &mut Text, holder: &ObjRef) -> Result<(), AllocError>
+    ensures { OnOk result (text.new ≡ text.old ++ held_mend holder.now) }
+{
+    text.put(b"set ")?;
+    put_named(text, holder)?;
+    text.put(THAT_IS_THERE)
+}
+
+#[tactic(auto, unfolding(crate::specs::Absent::list_mend))]
+fn put_list_mend(text: &mut Text, holder: &ObjRef) -> Result<(), AllocError>
+    ensures { OnOk result (text.new ≡ text.old ++ list_mend holder.now) }
+{
+    text.put(b"let ")?;
+    put_named(text, holder)?;
+    text.put(HOLD_PRESENT)
+}
+
+/// Puts what a list, or a variable, may hold.
+fn put_holder_mend(
+    text: &mut Text,
+    holder: &ObjRef,
+    action: Option<ActionName>,
+) -> Result<(), AllocError>
+    ensures { OnOk result (text.new ≡ text.old ++ holder_mend holder.now action) }
+{
+    match action {
+        None => put_list_mend(text, holder),
+        Some(_) => put_held_mend(text, holder),
+    }
+}
+
+/// Puts what may be named in its place.
+pub(crate) fn put_absent_mend(
+    alloc: Global,
+    text: &mut Text,
+    service: &Service,
+    refused: &Refused<'_>,
+) -> Result<(), AllocError>
+    ensures { OnOk result (text.new ≡ text.old ++ absent_mend service.now refused.now) }
+{
+    match refused.holder {
+        None => {
+            let parts = service.group(&refused.at.group);
+            put_written_mend(alloc, text, service, refused.action, refused.at, parts)
+        }
+        Some(holder) => put_holder_mend(text, holder, refused.action),
+    }
+}

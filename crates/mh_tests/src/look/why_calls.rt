@@ -1,0 +1,90 @@
+//! Causes of refusals of calls and timers, word for word.
+//!
+//! A case is one of those of `why`.
+use crate::cases::all_hold;
+use crate::look::why::Explained;
+
+static CALLS: &str = r#"
+a timer that a variable numbers
+check
+@a {:Application ("~/a" 0) :OnStartUp ( :TransitionTo (("~/s" 0)) ) }
+@s {:Scene ("~/s" 0) :InputEventReg 3 :Items (|  {:IntegerVar 5 :OrigValue 1 }|  {:Link 11
+:EventSource 0 :EventType UserInput :EventData 100|    :LinkEffect ( :SetTimer (0 :IndirectRef 5
+100) ) }|) }|
+=> refused V7 s 11 1 SetTimer|  It stands in SetTimer, action 1 of object 11 of s.|  s, line 4, column
+45|  4 \7c\ … ( :SetTimer (0 :IndirectRef 5 100) )
+}|    \7c\                               ^|  Cause: which timer SetTimer sets is not known before
+the service runs, since|    its number is held by object 5 of s.|  Mend: write the number.|config a
+s|  So it is while application a shows scene s.|object s 5|  The number is held by object 5 of
+s.|  s, line 2, column 16|  2 \7c\   {:IntegerVar 5 :OrigValue 1 }|    \7c\                ^|  The
+action goes through this variable.|;;
+a program that none has
+check
+@a {:Application ("~/a" 0) :OnStartUp ( :TransitionTo (("~/s" 0)) ) }
+@s {:Scene ("~/s" 0) :InputEventReg 3 :Items (|  {:BooleanVar 6 :OrigValue true }|  {:ResidentPrg 7
+:Name 'ABC' }|  {:Link 11 :EventSource 0 :EventType UserInput :EventData 100|    :LinkEffect ( :Call
+(7 6 ( :GInteger 1 )) ) }|) }|
+=> refused V9 s 11 1 Call|  It stands in Call, action 1 of object 11 of s.|  s, line 5, column 26|  5
+\7c\     :LinkEffect ( :Call (7 6 ( :GInteger 1 )) ) }|    \7c\                          ^|  Cause:
+no program is called ABC.|  Mend: write the name of one of these programs: GCD, GDW, GSL, GSS, SES,
+SSS.|config a s|  So it is while application a shows scene s.|object s 7|  The program that is
+called is object 7 of s.|  s, line 3, column 17|  3 \7c\   {:ResidentPrg 7 :Name 'ABC'
+}|    \7c\                 ^|;;
+a program that is nearly called so
+check
+@a {:Application ("~/a" 0) :OnStartUp ( :TransitionTo (("~/s" 0)) ) }
+@s {:Scene ("~/s" 0) :InputEventReg 3 :Items (|  {:BooleanVar 6 :OrigValue true }|  {:ResidentPrg 7
+:Name 'Gcd' }|  {:Link 11 :EventSource 0 :EventType UserInput :EventData 100|    :LinkEffect ( :Call
+(7 6 ( :GInteger 1 )) ) }|) }|
+=> refused V9 s 11 1 Call|  It stands in Call, action 1 of object 11 of s.|  s, line 5, column 26|  5
+\7c\     :LinkEffect ( :Call (7 6 ( :GInteger 1 )) ) }|    \7c\                          ^|  Cause:
+no program is called Gcd; GCD is, and gives an integer, gives an|    integer.|  Mend: write `:Name
+'GCD'`.|config a s|  So it is while application a shows scene s.|object s 7|  The program that is
+called is object 7 of s.|  s, line 3, column 17|  3 \7c\   {:ResidentPrg 7 :Name 'Gcd'
+}|    \7c\                 ^|;;
+a program that takes another number of arguments
+check
+@a {:Application ("~/a" 0) :OnStartUp ( :TransitionTo (("~/s" 0)) ) }
+@s {:Scene ("~/s" 0) :InputEventReg 3 :Items (|  {:BooleanVar 6 :OrigValue true }|  {:ResidentPrg 7
+:Name 'GDW' }|  {:Link 11 :EventSource 0 :EventType UserInput :EventData 100|    :LinkEffect ( :Call
+(7 6 ( )) ) }|) }|
+=> refused V9 s 11 1 Call|  It stands in Call, action 1 of object 11 of s.|  s, line 5, column 26|  5
+\7c\     :LinkEffect ( :Call (7 6 ( )) ) }|    \7c\                          ^|  Cause: GDW takes an
+integer, gives an integer; here it is called with nothing.|  Mend: write, in this order, a value for
+each that it takes, and for each that|    it gives a variable, as `:GInteger :IndirectRef
+10`.|config a s|  So it is while application a shows scene s.|object s 7|  The program that is
+called is object 7 of s.|  s, line 3, column 17|  3 \7c\   {:ResidentPrg 7 :Name 'GDW'
+}|    \7c\                 ^|;;
+a program that takes other arguments
+check
+@a {:Application ("~/a" 0) :OnStartUp ( :TransitionTo (("~/s" 0)) ) }
+@s {:Scene ("~/s" 0) :InputEventReg 3 :Items (|  {:BooleanVar 6 :OrigValue true }|  {:IntegerVar 5
+:OrigValue 1 }|  {:ResidentPrg 7 :Name 'GSL' }|  {:Link 11 :EventSource 0 :EventType UserInput
+:EventData 100|    :LinkEffect ( :Call (7 6 ( :GInteger :IndirectRef 5 :GInteger 1 )) ) }|) }|
+=> refused V9 s 11 1 Call|  It stands in Call, action 1 of object 11 of s.|  s, line 6, column 26|  6
+\7c\     :LinkEffect ( :Call (7 6 ( :GInteger :IndirectRef 5 :GInteger 1
+…|    \7c\                          ^|  Cause: GSL takes an octet string, gives an integer; here it
+is called with an|    integer in a variable, an integer.|  Mend: write, in this order, a value for
+each that it takes, and for each that|    it gives a variable, as `:GInteger :IndirectRef
+10`.|config a s|  So it is while application a shows scene s.|object s 7|  The program that is
+called is object 7 of s.|  s, line 4, column 17|  4 \7c\   {:ResidentPrg 7 :Name 'GSL'
+}|    \7c\                 ^|;;
+an argument of another kind than is written
+check
+@a {:Application ("~/a" 0) :OnStartUp ( :TransitionTo (("~/s" 0)) ) }
+@s {:Scene ("~/s" 0) :InputEventReg 3 :Items (|  {:BooleanVar 6 :OrigValue true }|  {:IntegerVar 5
+:OrigValue 1 }|  {:ResidentPrg 7 :Name 'GSL' }|  {:Link 11 :EventSource 0 :EventType UserInput
+:EventData 100|    :LinkEffect ( :Call (7 6 ( :GOctetString :IndirectRef 5 :GInteger :IndirectRef 5
+)) ) }|) }|
+=> refused V3 s 11 1 Call|  It stands in Call, action 1 of object 11 of s.|  s, line 6, column 59|  6
+\7c\ … (7 6 ( :GOctetString :IndirectRef 5 :GInteger :IndirectRef 5 )) )
+}|    \7c\                                     ^|  Cause: parameter 2 of Call is written as
+`:GOctetString`, and object 5 of s,|    which holds it, is an IntegerVar.|  Mend: write it itself,
+or name an OStringVar.|config a s|  So it is while application a shows scene s.|object s 5|  The
+reference that is wrong leads to object 5 of s.|  s, line 3, column 16|  3 \7c\   {:IntegerVar 5
+:OrigValue 1 }|    \7c\                ^|  The action goes through this variable.|"#;
+
+#[test]
+fn tells_calls(rt: HostRuntime) {
+    all_hold::<Explained>(&rt, rt.alloc(), CALLS);
+}
