@@ -8,9 +8,8 @@ ghost use Rattle.mh_cause.specs.Absent.{absence, absent_cause, absent_in, file_k
 use crate::acts::part_numbered;
 use crate::naming::{put_named, put_numbered, put_parameter};
 use crate::phrases::{
-    A_MEMBER_OF,
-    HAS_NO_OBJECT, HOLDS_WHICH, IN_FOLDER_IS, IS_DONE_TO, IS_WHAT, NO_FILE, ONLY_WHILE,
-    THE_TARGET_OF,
+    A_MEMBER_OF, HAS_NO_OBJECT, HOLDS_WHICH, IN_FOLDER_IS, IS_DONE_TO, IS_WHAT, NO_FILE,
+    ONLY_WHILE, THE_TARGET_OF,
 };
 use crate::refused::Refused;
 use crate::role::{Role, role_at};

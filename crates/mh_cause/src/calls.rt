@@ -4,9 +4,7 @@ ghost use Rattle.std.specs.Option.{option_copied};
 ghost use Rattle.mh_cause.specs.Calls.{any_builtin, builtin_mend, call_cause, call_mend, call_mend_by, call_of, called_name, misfit_call, name_in, named_call, named_mend, near_mend, unknown_call};
 
 use crate::acts::{act_of, part_of};
-use crate::phrases::{
-    AS_IT_TAKES, IS_CALLED_WITH, NO_PROGRAM, ONE_OF_PROGRAMS, WRITE_NAME,
-};
+use crate::phrases::{AS_IT_TAKES, IS_CALLED_WITH, NO_PROGRAM, ONE_OF_PROGRAMS, WRITE_NAME};
 use crate::programs::{
     arguments_of, near_builtin, put_arguments_told, put_near, put_params, put_words,
 };

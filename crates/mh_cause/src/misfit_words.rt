@@ -9,7 +9,8 @@ use crate::misfit::{Misfit, misfit_of};
 use crate::naming::{put_named, put_parameter};
 use crate::passing::{Passing, Wanted};
 use crate::phrases::{
-    A_REFERENCE_ONLY, GO_THROUGH, IS_WHAT, ONLY_HERE, OPERATOR_HELD, TAKES_ANSWER, THE_TARGET_OF, WHICH_HOLDS_IT, WRITTEN_AS,
+    A_REFERENCE_ONLY, GO_THROUGH, IS_WHAT, ONLY_HERE, OPERATOR_HELD, TAKES_ANSWER, THE_TARGET_OF,
+    WHICH_HOLDS_IT, WRITTEN_AS,
 };
 use crate::refused::Refused;
 use mh_base::{Kind, ObjRef};

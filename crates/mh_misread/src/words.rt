@@ -93,8 +93,7 @@ pub const AN_ITEM: &[u8] = b"an item, which begins with `{`, or `)`";
 
 pub const AN_ACTION: &[u8] = b"an action, as `:Run (10)`, or `)`";
 
-pub const A_ROW: &[u8] =
-    b"a row of integers in brackets of its own, as `( 2 0 )`, or `)`";
+pub const A_ROW: &[u8] = b"a row of integers in brackets of its own, as `( 2 0 )`, or `)`";
 
 pub const A_FURTHER_INTEGER: &[u8] = b"an integer or `)`";
 
