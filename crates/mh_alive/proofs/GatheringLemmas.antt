@@ -1,0 +1,98 @@
+-- What is gathered configuration by configuration is what is gathered of all.
+use Rattle.std.specs.Prelude.{◌≡◌, Bool, List, [], ◌∷◌, ◌++◌, ℕ, fold, map, refl}
+use Rattle.std.specs.List.{flat_map}
+use Rattle.std.proofs.Common.{ap, sym, subst, ◌∙◌}
+use Rattle.std.proofs.lemmas.List.Concat.{flat_map-append}
+use Rattle.indexmap.specs.IndexSet.{insert_all}
+use Rattle.mh_base.specs.declared.obj_ref.ObjRef.{ObjRef}
+use Rattle.mh_model.specs.declared.act.Act.{Act}
+use Rattle.mh_model.specs.declared.config.Config.{Config}
+use Rattle.mh_model.specs.declared.object.Fixed.{Fixed}
+use Rattle.mh_model.specs.Configuration.{present}
+use Rattle.mh_model.specs.Reference.{same_key}
+use Rattle.mh_model.specs.Service.{Service}
+use Rattle.mh_laws.specs.Active.{active_actions}
+use Rattle.mh_laws.specs.Flow.{Flow, Sets}
+use Rattle.mh_flow.specs.Sites.{Site, sites_of}
+use Rattle.mh_flow.specs.Solved.{Solved, flow_in, held_by}
+use Rattle.mh_flow.proofs.SiteLemmas.{through_active}
+use Rattle.mh_alive.specs.Alive.{Alive, IsAliveOf, alive_with}
+use Rattle.mh_alive.specs.Puts.{Web, puts_of}
+use Rattle.mh_alive.specs.Gathering.{Gathered, gathered, nothing, with_config, with_parts, with_present, with_sites}
+use Rattle.mh_alive.specs.Runners.{run_by, run_with, runners_in}
+use Rattle.mh_alive.specs.Sendings.{same_sending, sent_by, sent_in}
+use Rattle.mh_alive.specs.Tellings.{same_telling, same_timer, set_by, set_in, told_by, told_in, told_itself}
+use Rattle.mh_alive.specs.There.{sets_there}
+use Rattle.mh_alive.proofs.SetLemmas.{put_both}
+
+-- parts, further parts and what is done there
+three : {K : Type 0} (same : K → K → Bool) (f : Fixed → List K) (g : Act → List K) (ks : List K) (ps qs all : List Fixed) (xs : List Site) → ps ++ qs ≡ all → xs ≡ sites_of all
+    → insert_all same (insert_all same (insert_all same ks (flat_map f ps)) (flat_map f qs)) (flat_map (λ x. g x.act) xs) ≡ insert_all same ks (flat_map f all ++ flat_map g (active_actions all))
+three {K} same f g ks ps qs all xs whole are =
+    put_both same (insert_all same ks (flat_map f ps)) (flat_map f qs) (flat_map (λ (x : Site). g x.act) xs)
+    ∙ put_both same ks (flat_map f ps) (flat_map f qs ++ flat_map (λ (x : Site). g x.act) xs)
+    ∙ ap (λ (t : List K). insert_all same ks (flat_map f ps ++ (flat_map f qs ++ t))) (ap (λ (ys : List Site). flat_map (λ (x : Site). g x.act) ys) are ∙ through_active g all)
+    ∙ ap (insert_all same ks) (sym (assoc (flat_map f ps) (flat_map f qs) (flat_map g (active_actions all))))
+    ∙ ap (λ (t : List K). insert_all same ks (t ++ flat_map g (active_actions all))) (sym (flat_map-append f ps qs) ∙ ap (flat_map f) whole)
+  where
+    assoc : (xs ys zs : List K) → (xs ++ ys) ++ zs ≡ xs ++ (ys ++ zs)
+    assoc [] ys zs = refl
+    assoc (x ∷ xs) ys zs = ap (λ (t : List K). x ∷ t) (assoc xs ys zs)
+
+acts_of : {K : Type 0} (same : K → K → Bool) (g : Act → List K) (ks : List K) (all : List Fixed) (xs : List Site) → xs ≡ sites_of all
+    → insert_all same ks (flat_map (λ x. g x.act) xs) ≡ insert_all same ks (flat_map g (active_actions all))
+acts_of same g ks all xs are = ap (insert_all same ks) (ap (λ (ys : List Site). flat_map (λ (x : Site). g x.act) ys) are ∙ through_active g all)
+
+pub there_gathered : (h : Sets) (a b c d : Gathered) (ps qs all : List Fixed) (xs : List Site) → ps ++ qs ≡ all → xs ≡ sites_of all
+    → b ≡ with_parts h a ps → c ≡ with_parts h b qs → d ≡ with_sites h c xs → d ≡ with_present h a all
+unfolding with_present
+there_gathered h a b c d ps qs all xs whole are first second third =
+    third ∙ ap (λ (g : Gathered). with_sites h g xs) (second ∙ ap (λ (g : Gathered). with_parts h g qs) first)
+    ∙ (λ i. record {
+      runners = three same_key (run_with h) (run_by h) a.runners ps qs all xs whole are i;
+      sent = acts_of same_sending sent_by a.sent all xs are i;
+      told = three same_telling told_itself (told_by h) a.told ps qs all xs whole are i;
+      timers = acts_of same_timer (set_by h) a.timers all xs are i;
+    })
+
+-- where this is held
+pub config_gathered : (v : Service) (f : Solved) (c : Config) (ps : List Fixed) (lists : List (List ObjRef)) (a b : Gathered)
+    → ps ≡ present v c → held_by (present v c) lists ≡ (flow_in v f).sets c
+    → b ≡ with_present (sets_there (record { present = ps; lists = lists })) a ps → b ≡ with_config v (flow_in v f) a c
+unfolding sets_there with_config
+config_gathered v f c ps lists a b there holds made =
+    made ∙ (λ i. with_present (held_by (there i) lists) a (there i)) ∙ ap (λ (h : Sets). with_present h a (present v c)) holds
+
+-- configuration by configuration
+abbrev over : Service → Flow → Gathered → List Config → Gathered
+over v w g cs = record {
+  runners = insert_all same_key g.runners (flat_map (runners_in v w) cs);
+  sent = insert_all same_sending g.sent (flat_map (sent_in v) cs);
+  told = insert_all same_telling g.told (flat_map (told_in v w) cs);
+  timers = insert_all same_timer g.timers (flat_map (set_in v w) cs);
+}
+
+one_more : (v : Service) (w : Flow) (g : Gathered) (c : Config) (cs : List Config) → over v w (with_config v w g c) cs ≡ over v w g (c ∷ cs)
+unfolding with_config with_present
+one_more v w g c cs = λ i. record {
+  runners = put_both same_key g.runners (runners_in v w c) (flat_map (runners_in v w) cs) i;
+  sent = put_both same_sending g.sent (sent_in v c) (flat_map (sent_in v) cs) i;
+  told = put_both same_telling g.told (told_in v w c) (flat_map (told_in v w) cs) i;
+  timers = put_both same_timer g.timers (set_in v w c) (flat_map (set_in v w) cs) i;
+}
+
+all_over : (v : Service) (w : Flow) (g : Gathered) (cs : List Config) → fold (with_config v w) g cs ≡ over v w g cs
+all_over v w g [] = refl
+all_over v w g (c ∷ cs) = all_over v w (with_config v w g c) cs ∙ one_more v w g c cs
+
+pub all_gathered : (v : Service) (w : Flow) (a b : Gathered) (cs : List Config) → a ≡ nothing → cs ≡ w.configs → b ≡ fold (with_config v w) a cs → b ≡ gathered v w
+all_gathered v w a b cs none all made =
+    made ∙ (λ i. fold (with_config v w) (none i) (all i)) ∙ all_over v w nothing w.configs
+
+-- and what is made of it is what may be alive
+pub alive_is : (v : Service) (w : Flow) (g : Gathered) (a : Alive) → g ≡ gathered v w → a ≡ alive_with v g → IsAliveOf v w a
+alive_is v w g a all made = subst (IsAliveOf v w) (sym (made ∙ ap (alive_with v) all)) (record { runners = refl; sent = refl; puts = refl })
+
+pub groups_joined : (x : Web) (gs : List (List ℕ × List Fixed)) → flat_map (puts_of x) (map (λ g. g.1) gs) ≡ flat_map (λ g. puts_of x g.1) gs
+groups_joined x [] = refl
+groups_joined x (g ∷ gs) = ap (λ (t : List ObjRef). puts_of x g.1 ++ t) (groups_joined x gs)

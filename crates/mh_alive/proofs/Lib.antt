@@ -1,0 +1,9 @@
+pub mod SetLemmas
+pub mod RunLemmas
+pub mod SayLemmas
+pub mod ComingLemmas
+pub mod ClosedLemmas
+pub mod ActLemmas
+pub mod InputLemmas
+pub mod GatheringLemmas
+pub mod ReachLemmas
