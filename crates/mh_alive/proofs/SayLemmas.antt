@@ -6,6 +6,7 @@ use Rattle.std.specs.Option.{option_map_or}
 use Rattle.std.proofs.Common.{ap, sym, subst, inl}
 use Rattle.std.proofs.lemmas.Bool.Decides.{Decides-eqb, Decides-int_eq}
 use Rattle.mh_base.specs.declared.event.EventType.{EventType}
+use Rattle.mh_base.specs.declared.event.EventType.TheVariants as event
 use Rattle.mh_base.specs.declared.value.Value.{Value}
 use Rattle.mh_base.specs.declared.value.Value.TheVariants as value
 use Rattle.mh_base.specs.Event.{number_of}
@@ -26,11 +27,13 @@ use Rattle.mh_laws.specs.Active.{active_actions}
 use Rattle.mh_laws.specs.Costs.{data_sent}
 use Rattle.mh_laws.specs.Each.{Among}
 use Rattle.mh_laws.specs.Flow.{Flow}
-use Rattle.mh_laws.specs.Saying.{IsSaidClosed, IsSaidIn, IsWaitIn, Sayings, is_usual}
+use Rattle.mh_laws.specs.Saying.{IsSaidClosed, IsSaidIn, IsWaitIn, Sayings, is_key_number, is_usual}
 use Rattle.mh_laws.specs.Ways.{IsKnown, Told, Sure, Unsure}
 use Rattle.mh_laws.proofs.EachLemmas.{among_joined, each_among}
 use Rattle.mh_laws.proofs.NodeLemmas.{config_among}
-use Rattle.mh_laws.proofs.SayingLemmas.{never_says as law}
+use Rattle.mh_laws.proofs.SayingLemmas.{key_known, never_says as law}
+use Rattle.mh_model.specs.Key.{key_number}
+use Rattle.mh_model.specs.Step.{engine_event, key_event}
 use Rattle.mh_alive.specs.declared.sendings.Sending.{Sending}
 use Rattle.mh_alive.specs.Alive.{Alive, InEachRun, IsAliveOf, IsUnsaid, never_says}
 use Rattle.mh_alive.specs.Sendings.{is_sent, may_say, same_sending, sending_of, sending_with, sent, sent_by, sent_in}
@@ -78,6 +81,8 @@ unsaid v w a kind d is accepted never mjd fs ss ms s run =
     let only = law v w accepted (says_in a) (said_closed v w a is) mjd fs ss ms s run in record {
       work = λ e there k f. no e k f (each_among (IsSaidIn (says_in a)) s.work (item.Emit e) only.work there);
       queue = λ e there k f. no e k f (each_among (IsWaitIn (says_in a)) s.queue (waiting.Event e) only.queue there);
+      keys = λ x r k f. no (key_event x r) k f (or_first (is_key_number (key_number x)) (is_sent a.sent event.UserInput (Some (value.Int (key_number x)))) (key_known x));
+      engine = λ n g k f. no (engine_event n g) k f refl;
     }
   where
     untrue : (b : Bool) → not b ≡ true → b ≡ true → false ≡ true

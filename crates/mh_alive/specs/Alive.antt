@@ -1,5 +1,5 @@
 -- What may come to be in runs of a service, and what never does where it is accepted.
-use Rattle.std.specs.Prelude.{◌≡◌, ℕ, ◌==◌, Bool, true, false, ◌&&◌, not, List, [], Option}
+use Rattle.std.specs.Prelude.{◌≡◌, ℕ, ◌==◌, Bool, true, false, ◌&&◌, not, List, [], Option, ℤ}
 use Rattle.std.specs.List.{list_any}
 use Rattle.indexmap.specs.IndexSet.{insert_all}
 use Rattle.mh_base.specs.declared.event.EventType.{EventType}
@@ -10,12 +10,14 @@ use Rattle.mh_model.specs.declared.file.File.{File}
 use Rattle.mh_model.specs.declared.input.Move.{Move}
 use Rattle.mh_model.specs.declared.input.Waiting.TheVariants as waiting
 use Rattle.mh_model.specs.declared.item.Item.TheVariants as item
+use Rattle.mh_model.specs.declared.key.Key.{Key}
 use Rattle.mh_model.specs.declared.object.Object.{Object}
 use Rattle.mh_model.specs.declared.program.Signature.{Signature}
 use Rattle.mh_model.specs.Receiver.{IsRun, anything}
 use Rattle.mh_model.specs.Reference.{same_key}
 use Rattle.mh_model.specs.Service.{Service}
 use Rattle.mh_model.specs.State.{State, all}
+use Rattle.mh_model.specs.Step.{engine_event, key_event}
 use Rattle.mh_laws.specs.Acceptable.{IsAcceptableBy}
 use Rattle.mh_laws.specs.Costs.{Effect, link_effect}
 use Rattle.mh_laws.specs.Each.{Among}
@@ -73,10 +75,13 @@ IsStill r s = (o : Object) → Among (all s.objects) o → o.fixed.key ≡ r →
 abbrev pub IsOther : EventType → Option Value → Event → Type 0
 IsOther kind d e = e.kind ≡ kind → e.data ≡ d → false ≡ true
 
--- neither among what will be done nor among what waits is an event of this type with this data
+-- neither among what will be done nor among what waits is an event of this type with this data, nor is that of a key or of the
+-- engine's number, which links hear without its being among these
 pub record IsUnsaid (kind : EventType) (d : Option Value) (s : State) : Type 0 where
   pub work : (e : Event) → Among s.work (item.Emit e) → IsOther kind d e
   pub queue : (e : Event) → Among s.queue (waiting.Event e) → IsOther kind d e
+  pub keys : (x : Key) (r : ObjRef) → IsOther kind d (key_event x r)
+  pub engine : (n : ℤ) (g : List ℕ) → IsOther kind d (engine_event n g)
 
 -- all effects but that of the link at the reference
 abbrev pub is_other : ObjRef → Effect → Bool
