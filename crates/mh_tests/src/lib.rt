@@ -64,6 +64,8 @@ mod lengths;
 #[cfg(test)]
 mod limits;
 #[cfg(test)]
+mod lint;
+#[cfg(test)]
 mod look_examples;
 #[cfg(test)]
 mod look_parts;
