@@ -30,8 +30,10 @@ def give(rt, kept, crate):
     if not kept.give(crate, False, key):
         return False
     kept.is_built(crate)
-    with open(f"{library}/stamp", "w") as stamp:
-        stamp.write(crate.stamp())
+    if os.path.isdir(library):
+        # an archive for C, on which no crate stands, has none
+        with open(f"{library}/stamp", "w") as stamp:
+            stamp.write(crate.stamp())
     return True
 
 
