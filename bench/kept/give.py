@@ -1,12 +1,17 @@
-"""Gives each crate of this checkout the library that `rt ci` kept of the same text, so that `rt check` begins above it.
+"""Gives each crate of this checkout a built library of the same text, so that `rt check` begins above it.
+
+    python3 bench/kept/give.py            what `rt ci` kept on this machine, where the kit keeps anything
+    python3 bench/kept/give.py GATE..     what `rt ci` has built so far in these other checkouts, also while it runs
 
 Run at the top of the repository. It says of each crate whether it was given; what stands on a crate that was not is left
-to `rt check`. It calls the kit's own functions, and may have to be changed with a later kit. The gate looks at none of it.
+to `rt check`. It calls the kit's own functions, and may have to be changed with another kit. The gate looks at none of it.
 """
 import importlib.machinery
 import importlib.util
+import json
 import os
 import shutil
+import subprocess
 import sys
 
 KIT = os.path.dirname(os.path.realpath(shutil.which("rt")))
@@ -20,7 +25,45 @@ def load_rt():
     return module
 
 
-def give(rt, kept, crate):
+def library_of(root, name):
+    return f"{root}/crates/{name}/out/rlib"
+
+
+def stamps_of(root):
+    """Returns the sum of each library's text in the checkout. The kit's functions see one checkout a process."""
+    said = subprocess.run([sys.executable, os.path.abspath(__file__), "--stamps"], cwd=root, capture_output=True, text=True, check=True)
+    return json.loads(said.stdout)
+
+
+def print_stamps():
+    rt = load_rt()
+    root = os.getcwd()
+    rt.Crate.allowed = rt.handles_of(root)
+    print(json.dumps({crate.name: crate.stamp() for crate in rt.rtlib.crates_below(root) if not crate.is_program}))
+
+
+def taken(root, gate, name, stamp):
+    """Returns whether the library that the gate built stands in the checkout now, as links to its files."""
+    built, library = f"{library_of(gate, name)}/{name}.rlib", library_of(root, name)
+    if not os.path.isdir(built):
+        return False
+    shutil.rmtree(library, ignore_errors=True)
+    shutil.copytree(built, f"{library}/{name}.rlib", copy_function=os.link)
+    with open(f"{library}/stamp", "w") as written:
+        written.write(stamp)
+    return True
+
+
+def give_of_gates(root, gates):
+    mine = stamps_of(root)
+    theirs = {gate: stamps_of(gate) for gate in gates}
+    for name, stamp in mine.items():
+        same = [gate for gate in gates if theirs[gate].get(name) == stamp]
+        was_given = any(taken(root, gate, name, stamp) for gate in same)
+        print(f"{name}: {'given' if was_given else 'none'}")
+
+
+def kept_given(kept, crate):
     """Returns whether the crate has a library now that was kept of its text."""
     key = kept.key(crate)
     if not os.path.isdir(kept.place(crate, False, key)):
@@ -37,10 +80,11 @@ def give(rt, kept, crate):
     return True
 
 
-def main():
+def give_what_is_kept(root):
     rt = load_rt()
+    if not hasattr(rt, "Kept"):
+        sys.exit("this kit keeps nothing between runs of rt ci: name a checkout in which it ran or runs")
     rt.rtlib.guarded()
-    root = os.getcwd()
     rt.Crate.allowed = rt.handles_of(root)
     # as under `rt ci`: the crates above a library load its statements
     rt.Crate.cuts_libraries = True
@@ -48,11 +92,21 @@ def main():
     kept, lost = rt.Kept(crates), set()
     for crate in crates:
         above_lost = any(below.name in lost for below in crate.below())
-        if crate.is_program or above_lost or not give(rt, kept, crate):
+        if crate.is_program or above_lost or not kept_given(kept, crate):
             lost.add(crate.name)
             print(f"{crate.name}: none")
         else:
             print(f"{crate.name}: given")
+
+
+def main():
+    root, words = os.getcwd(), sys.argv[1:]
+    if words == ["--stamps"]:
+        print_stamps()
+    elif words:
+        give_of_gates(root, [os.path.abspath(word) for word in words])
+    else:
+        give_what_is_kept(root)
 
 
 if __name__ == "__main__":
