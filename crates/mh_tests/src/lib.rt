@@ -10,8 +10,6 @@ mod cases;
 #[cfg(test)]
 mod judging;
 #[cfg(test)]
-mod look;
-#[cfg(test)]
 mod machine;
 #[cfg(test)]
 mod notation;

@@ -7,7 +7,6 @@ pub(crate) mod files;
 pub(crate) mod handed;
 pub(crate) mod late;
 pub(crate) mod objects;
-pub(crate) mod playing;
 pub(crate) mod presets;
 pub(crate) mod programs;
 pub(crate) mod receiver;

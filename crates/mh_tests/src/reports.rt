@@ -3,7 +3,6 @@
 pub(crate) mod cutting_sink;
 pub(crate) mod cutting_source;
 pub(crate) mod embedding;
-pub(crate) mod examples;
 pub(crate) mod guide;
 pub(crate) mod hostile;
 pub(crate) mod page;

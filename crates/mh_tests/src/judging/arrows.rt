@@ -4,12 +4,13 @@
 //! Of each arrow there is a line: the scene, or `-`; the object, the number of the action and its name; by what the next
 //! effect is put to work, an event with its source and its data, a slot, a start-up or a close-down; and to what variables
 //! are granted to refer, and which items lists to have. The last line says whether the refusal shows what it says.
-use crate::cases::{all_hold, said};
+use crate::cases::all_hold;
 use crate::machine::service::Asked;
 use mh_base::{ObjRef, Value};
 use mh_group::event_word;
 use mh_layers::{Arrow, By, Held};
 use mh_model::{Config, Event};
+use mh_samples::cases::said;
 use mh_told::text::Text;
 use std::alloc::{AllocError, Global};
 

@@ -1,12 +1,13 @@
 //! Refusals that show nothing: those of the verifier with something taken out or changed, and some that are written by hand,
 //! beside others that do show what they say.
-use crate::cases::{all_hold, number, word};
+use crate::cases::all_hold;
 use crate::judging::chains::{config, group, reference};
 use crate::machine::service::Asked;
 use mh_base::{Seq, Value};
 use mh_flow::Link;
 use mh_group::ActionName;
 use mh_layers::{Arrow, By};
+use mh_samples::cases::{number, word};
 use mh_service::Service;
 use mh_verify::{Place, Refusal, RefusalKind};
 use std::alloc::Global;

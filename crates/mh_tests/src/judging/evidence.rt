@@ -1,10 +1,11 @@
 //! Evidence: refusals of the verifier, each of which shows what it says; and the code that the page on evidence
 //! (`docs/EVIDENCE.md`) shows, as it stands there.
-use crate::cases::{all_hold, said, word};
+use crate::cases::all_hold;
 use crate::judging::arrows::arrows_told;
 use crate::judging::claims::{changed_as, claimed};
 use crate::machine::service::Asked;
 use mh_evidence::evidence_holds;
+use mh_samples::cases::{said, word};
 use mh_service::Service;
 use mh_verify::{Refusal, verify};
 use std::alloc::Global;

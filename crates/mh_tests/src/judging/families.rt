@@ -1,20 +1,9 @@
 //! Services of many sizes, with ample memory: each plays until nothing is left to do, in as many steps as
 //! were worked out.
-use crate::machine::playing::{DAY, File, outcome, played};
 use mh_base::GroupName;
+use mh_samples::cases::put;
+use mh_samples::playing::{DAY, File, outcome, played};
 use std::alloc::Global;
-
-/// Puts what stands in front of a number, the number, and what stands behind it.
-pub fn put(
-    alloc: Global,
-    text: &mut Vec<u8>,
-    front: &str,
-    number: u64,
-    behind: &str,
-) -> Option<()> {
-    let put = format!(in alloc; "{front}{number}{behind}").ok()?;
-    text.extend_from_slice(put.as_bytes()).ok()
-}
 
 /// Puts so many rectangles, numbered from the first number on.
 fn put_rectangles(alloc: Global, text: &mut Vec<u8>, first: u64, count: u64) -> Option<()> {

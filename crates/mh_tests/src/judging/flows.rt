@@ -1,6 +1,6 @@
 //! Flow: what variables and lists may hold, by the verdicts on small services.
 use crate::cases::all_hold;
-use crate::machine::playing::Task;
+use mh_samples::playing::Task;
 
 static VARIABLES: &str = r#"
 a target through a variable that holds what is there

@@ -1,7 +1,7 @@
 //! Which services settle: to how many steps the start and each kind of input can lead, effects that put themselves to work,
 //! and too many steps.
 use crate::cases::all_hold;
-use crate::machine::playing::Task;
+use mh_samples::playing::Task;
 
 static BOUNDS: &str = r#"
 three variables that are tested in turn

@@ -1,6 +1,6 @@
 //! Content files: what is there from the start, what comes later, and who waits for it.
 use crate::cases::all_hold;
-use crate::machine::playing::Task;
+use mh_samples::playing::Task;
 
 static LOADING: &str = r#"
 a file that comes when a text waits for it

@@ -1,7 +1,8 @@
 //! Scenes whose files come late: what is written of small services, each with its late file.
-use crate::cases::{Question, all_hold, bytes};
-use crate::machine::playing::{DAY, ended, sources};
+use crate::cases::all_hold;
 use mh_report::{ListSink, Options, check_bytes, play_bytes};
+use mh_samples::cases::{Question, bytes};
+use mh_samples::playing::{DAY, ended, sources};
 use std::alloc::Global;
 
 static PLAYED: &str = r#"

@@ -1,8 +1,9 @@
 //! Content files of a folder that are too large or too many: what is written in place of a play, and what
 //! is said before that.
-use crate::cases::{Question, all_hold, number, word};
-use crate::machine::playing::{DAY, File, played, sources};
+use crate::cases::all_hold;
 use mh_base::GroupName;
+use mh_samples::cases::{Question, number, word};
+use mh_samples::playing::{DAY, File, played, sources};
 use std::alloc::Global;
 
 /// A file of this path and of so many octets.

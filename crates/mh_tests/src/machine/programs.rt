@@ -1,7 +1,8 @@
 //! Resident programs: what the six answer that each engine has, calls that do not fit, and what a call
 //! does to its variables.
-use crate::cases::{Question, all_hold, are, between, quoted};
-use crate::machine::playing::{Task, outcome};
+use crate::cases::all_hold;
+use mh_samples::cases::{Question, are, between, quoted};
+use mh_samples::playing::{Task, outcome};
 use std::alloc::Global;
 
 /// What stands beside the program, which has the number 1. OStringVar 5 is `-` at first, and IntegerVars 3

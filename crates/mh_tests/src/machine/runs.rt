@@ -1,6 +1,6 @@
 //! Small runs, each with the answer that was worked out by hand from the rules of the machine.
 use crate::cases::all_hold;
-use crate::machine::playing::Task;
+use mh_samples::playing::Task;
 
 static CASES: &str = r#"
 a link that hears its scene run

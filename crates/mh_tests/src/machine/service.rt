@@ -3,16 +3,17 @@
 //! A case is a block of lines: what it shows; what is asked of the service that starts with `a`; and
 //! behind an `@` each file: its path, how many variables its group has besides and how many actions it
 //! does at its start, if not those of the text, and the text; or a file as in a play.
-use crate::cases::{Question, all_hold, bytes, said, word};
+use crate::cases::all_hold;
 use crate::judging::chains::of_flow;
 use crate::judging::evidence::of_evidence;
 use crate::judging::verify::verdict;
 use crate::machine::engine::of_engine;
 use crate::machine::objects::inside;
 use crate::notation::building::grown;
-use crate::reports::examples::path_and_text;
 use mh_base::GroupName;
 use mh_group::Group;
+use mh_samples::cases::{Question, bytes, said, word};
+use mh_samples::examples::path_and_text;
 use mh_service::{Service, ServiceError};
 use mh_text::read_group;
 use std::alloc::Global;

@@ -1,7 +1,7 @@
 //! Fields and buttons: keys that go to the one that interacts, and what it tells; and what the verifier says of
 //! members, slots and lists.
 use crate::cases::all_hold;
-use crate::machine::playing::Task;
+use mh_samples::playing::Task;
 
 /// A field into which keys type: the scene `typing`, and others.
 static FIELDS: &str = r#"

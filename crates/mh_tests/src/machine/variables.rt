@@ -1,7 +1,8 @@
 //! Variables: sums, conversions and tests at their edges, and values and objects that are named through
 //! a variable.
-use crate::cases::{Question, all_hold, said};
-use crate::machine::playing::{Task, outcome};
+use crate::cases::all_hold;
+use mh_samples::cases::{Question, said};
+use mh_samples::playing::{Task, outcome};
 use std::alloc::Global;
 
 /// What a variable is at first, what is done, and an operator with a value; the answer says whether the

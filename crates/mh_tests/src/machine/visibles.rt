@@ -1,6 +1,7 @@
 //! What is seen: texts, drawings, the display stack and the lock, by the rows of the picture.
-use crate::cases::{Question, all_hold, are, between, said};
-use crate::machine::playing::{Task, outcome};
+use crate::cases::all_hold;
+use mh_samples::cases::{Question, are, between, said};
+use mh_samples::playing::{Task, outcome};
 use std::alloc::Global;
 
 /// Visibles, and what is done to them when they run; the answer is the rows of the picture.

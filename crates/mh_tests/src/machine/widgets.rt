@@ -1,6 +1,6 @@
 //! Lists and token groups, played: what they show, what they tell, and what members do that are not fit for it.
 use crate::cases::all_hold;
-use crate::machine::playing::Task;
+use mh_samples::playing::Task;
 
 /// What a list shows and tells, by the application `list`.
 static LISTS: &str = r#"

@@ -1,6 +1,7 @@
 //! Names of groups and their paths, types of events, and lists.
-use crate::cases::{Question, all_hold, behind, number, said, word};
+use crate::cases::all_hold;
 use mh_base::{EventType, GroupName, NameError, Octets, Seq, Shared};
+use mh_samples::cases::{Question, behind, number, said, word};
 use std::alloc::{AllocError, Global};
 
 /// The path of a group and a name that it writes, and the path to which the name leads, if to any.

@@ -1,8 +1,9 @@
 //! The binary notation: where reading goes wrong, by octets worked out by hand from ITU-T X.690 and the
 //! tables of the notation.
-use crate::cases::{Question, all_hold, are, behind, placed, said, word};
+use crate::cases::all_hold;
 use crate::notation::octets::{APPLICATION, ITEMS, LIST, NUMBER, SCENE, START_UP, Shell, within};
 use mh_codec::{CodecError, TagTable, begins_group, decode_group};
+use mh_samples::cases::{Question, are, behind, placed, said, word};
 use std::alloc::Global;
 
 /// The table with the tags of the profile.

@@ -1,8 +1,8 @@
 //! Conversions of what is no group, or too long in the other notation.
-use crate::cases::{Question, all_hold, are};
-use crate::machine::playing::converted;
-use crate::notation::octets::repeated;
+use crate::cases::all_hold;
 use mh_report::Notation;
+use mh_samples::cases::{Question, are, repeated};
+use mh_samples::playing::converted;
 use std::alloc::Global;
 
 /// Files, and what is said of them whatever the other notation is.

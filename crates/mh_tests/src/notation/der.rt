@@ -1,8 +1,9 @@
 //! Elements: octets worked out by hand from ITU-T X.690.
-use crate::cases::{Question, all_hold, behind, placed, said, word};
+use crate::cases::all_hold;
 use mh_der::{
     DerError, Element, INTEGER, OCTET_STRING, Reader, SEQUENCE, Tag, TagClass, Why, int_of,
 };
+use mh_samples::cases::{Question, behind, placed, said, word};
 use std::alloc::{AllocError, Global};
 
 /// What is said of a refusal.

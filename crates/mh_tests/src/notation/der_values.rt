@@ -1,10 +1,11 @@
 //! Integers, truth values and elements, read and written: octets worked out by hand from ITU-T X.690.
-use crate::cases::{Question, all_hold, number, said, word};
+use crate::cases::all_hold;
 use crate::notation::der::{CONTEXT, refusal};
 use mh_der::{
     BOOLEAN, DerError, OCTET_STRING, Reader, SEQUENCE, Tag, TagClass, bool_of, int_of, write_bool,
     write_element, write_int,
 };
+use mh_samples::cases::{Question, number, said, word};
 use std::alloc::{AllocError, Global};
 
 /// Integers in their one spelling, and what spells none.

@@ -1,7 +1,8 @@
 //! What the tables allow: which written objects make a group, and why others do not.
-use crate::cases::{Question, all_hold, number, said, word};
+use crate::cases::all_hold;
 use crate::notation::plain::{ingredient, written};
 use mh_group::{Class, Group, Written};
+use mh_samples::cases::{Question, number, said, word};
 use std::alloc::Global;
 
 /// Why what is written makes no group, if it makes none.

@@ -1,6 +1,7 @@
 //! Octets at the limit of what is kept: 65,535 are, and more change nothing.
-use crate::cases::{Question, all_hold, quoted};
-use crate::machine::playing::outcome;
+use crate::cases::all_hold;
+use mh_samples::cases::{Question, quoted};
+use mh_samples::playing::outcome;
 use std::alloc::Global;
 
 /// An application with two variables of octets, the first of which holds so many, and two texts; it does

@@ -1,11 +1,12 @@
 //! Lists and files at their limits, in both notations.
-use crate::cases::{Question, all_hold, are, number, placed};
+use crate::cases::all_hold;
 use crate::notation::building::{application, token_group};
 use crate::notation::codec::{profile, reading_within as reading_in_shells};
-use crate::notation::octets::{APPLICATION, ITEMS, LIST, NUMBER, SCENE, START_UP, Shell, repeated};
+use crate::notation::octets::{APPLICATION, ITEMS, LIST, NUMBER, SCENE, START_UP, Shell};
 use crate::notation::text_forms::{ITEMS as PLACE, reading_within};
 use mh_codec::{CodecError, LARGEST_FILE, Why, encode_group};
 use mh_group::Group;
+use mh_samples::cases::{Question, are, number, placed, repeated};
 use std::alloc::Global;
 
 /// Lists in an ingredient of the textual notation: how many members there may be, and the ingredient

@@ -1,7 +1,8 @@
 //! The marks of a text: where the actions of its objects stand, and their lists of members. Its landmarks:
 //! where classes, numbers of ingredients and names stand. The variables through which an action goes.
-use crate::cases::{Question, all_hold, behind, number, word};
+use crate::cases::all_hold;
 use crate::notation::text::refusal;
+use mh_samples::cases::{Question, behind, number, word};
 use mh_text::{Landmark, Mark, Sight, Through, landmarks, mark_of, marks, variables_at};
 use std::alloc::Global;
 

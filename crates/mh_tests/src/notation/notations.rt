@@ -1,11 +1,12 @@
 //! Both notations and the conversion: the same groups as text and as octets, by values worked out by
 //! hand and octets of another program.
-use crate::cases::{Question, all_hold, are, said};
-use crate::machine::playing::converted;
+use crate::cases::all_hold;
 use crate::notation::codec::profile;
 use crate::notation::whole::SHAPES;
 use mh_codec::{decode_group, encode_group};
 use mh_report::Notation;
+use mh_samples::cases::{Question, are, said};
+use mh_samples::playing::converted;
 use mh_text::{print_group, read_group};
 use std::alloc::Global;
 

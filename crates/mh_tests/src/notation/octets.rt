@@ -1,22 +1,7 @@
 //! Elements around octets.
 use mh_der::{SEQUENCE, Tag, TagClass, write_element};
+use mh_samples::cases::repeated;
 use std::alloc::{AllocError, Global};
-
-/// A front, so many times the same, and what stands behind it.
-pub fn repeated(
-    alloc: Global,
-    front: &[u8],
-    member: &[u8],
-    count: usize,
-    behind: &[u8],
-) -> Result<Vec<u8>, AllocError> {
-    let mut bytes = Vec::from_slice(alloc, front)?;
-    for _ in 0..count {
-        bytes.extend_from_slice(member)?;
-    }
-    let ended = bytes.extend_from_slice(behind);
-    ended.and(Ok(bytes))
-}
 
 /// An element around another: the number of its tag, or none for a sequence, and the octets in front of
 /// the other and behind it.

@@ -1,11 +1,11 @@
 //! Written objects, whatever the tables say of them.
-use crate::cases::{number, word};
 use crate::notation::building::{add_members, written_name};
 use mh_base::{Colour, EventType, Octets, Seq};
 use mh_group::{
     Action, ActionName, Attribute, Class, Content, EventData, Field, Generic, Ingredient, Number,
     Parameter, Ref, Setting, Typed, Written,
 };
+use mh_samples::cases::{number, word};
 use std::alloc::Global;
 
 fn effect(alloc: Global, name: ActionName, integers: u32, typed: u32) -> Option<Setting> {

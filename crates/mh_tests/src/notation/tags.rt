@@ -1,15 +1,16 @@
 //! Tables of tags: what their lines give, and groups that are read and written under them.
-use crate::cases::{Question, all_hold, are, behind, bytes, placed, said};
-use crate::machine::playing::{DAY, ended, sources};
+use crate::cases::all_hold;
 use crate::notation::codec::{profile, reading, reading_by};
 use crate::notation::notations::PAIRS;
 use crate::notation::whole::{SHAPES, WORDS};
-use crate::reports::examples::all_files;
 use mh_codec::{TagError, TagTable, decode_group, encode_group};
 use mh_group::action_name::ALL as ACTIONS;
 use mh_group::attribute::ALL as ATTRIBUTES;
 use mh_group::class::ALL as CLASSES;
 use mh_report::{ListSink, Notation, Options, check_bytes, convert_bytes, play_bytes};
+use mh_samples::cases::{Question, are, behind, bytes, placed, said};
+use mh_samples::examples::all_files;
+use mh_samples::playing::{DAY, ended, sources};
 use mh_text::{print_group, read_group};
 use std::alloc::Global;
 

@@ -1,6 +1,7 @@
 //! The textual notation: where reading goes wrong, what begins a group, and the tokens.
-use crate::cases::{Question, all_hold, behind, placed, said, word};
+use crate::cases::all_hold;
 use crate::notation::text_forms::{FILL, ITEMS, START_UP, reading_within};
+use mh_samples::cases::{Question, behind, placed, said, word};
 use mh_text::{TextError, TokenKind, Tokens, begins_group, read_group};
 use std::alloc::Global;
 

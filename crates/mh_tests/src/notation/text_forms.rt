@@ -1,8 +1,8 @@
 //! The textual notation: each shape of an attribute's value and each kind of an action's parameter,
 //! good and bad.
 use crate::cases::all_hold;
-use crate::notation::octets::repeated;
 use crate::notation::text::{Written, reading};
+use mh_samples::cases::repeated;
 use std::alloc::Global;
 
 /// What stands before a part of a group, and behind it.

@@ -1,9 +1,10 @@
 //! The words and the numbers of the tables, and what the tables say of actions.
-use crate::cases::{Question, all_hold, number, word};
+use crate::cases::all_hold;
 use mh_base::Kind;
 use mh_group::{
     ActionName, Attribute, Class, Justification, Need, Number, event_of_word, event_word,
 };
+use mh_samples::cases::{Question, number, word};
 use std::alloc::Global;
 
 #[test]

@@ -1,6 +1,5 @@
 //! The page on embedding (`docs/EMBEDDING.md`): the code that it shows, as it stands there, and the example
 //! `first`, played by it.
-use crate::cases::are;
 use crate::reports::page::file;
 use mh_base::{GroupName, Octets};
 use mh_codec::{TagTable, decode_group};
@@ -8,6 +7,7 @@ use mh_engine::Engine;
 use mh_group::Group;
 use mh_model::picture::CELLS;
 use mh_model::{Cell, File, Input, Key, Picture, SharedGroup};
+use mh_samples::cases::are;
 use mh_service::Service;
 use mh_text::read_group;
 use mh_verify::verify;

@@ -1,7 +1,8 @@
 //! The example `guide`: its service with a content file and its script, and the report that is stored
 //! beside them.
-use crate::cases::are;
 use crate::reports::page::{file, reported};
+use mh_samples::cases::are;
+use mh_samples::stored::GUIDE;
 use std::alloc::Global;
 
 static APPLICATION: &str =
@@ -145,36 +146,6 @@ run
 show
 "#;
 
-pub const REPORT: &str = r#"did 50 idle
-frame 1
-row 00: 0-59 000000/004000 ""
-row 01: 0-1 000000/004000 "" 2-10 ffffff/004000 "Programme" 11-11 000000/004000 "" 12-16 ffffff/004000 "guide" 17-17 000000/004000 "" 18-20 ffff00/004000 "Sat" 21-59 000000/004000 ""
-row 02: 0-59 000000/004000 ""
-row 04: 2-6 ffffff/000000 "18:00" 8-11 ffffff/000000 "News"
-row 05: 2-6 ffffff/000000 "18:30" 8-10 ffffff/000000 "The" 12-18 ffffff/000000 "bridge," 20-20 ffffff/000000 "a" 22-25 ffffff/000000 "film"
-row 06: 2-6 ffffff/000000 "20:00" 8-14 ffffff/000000 "Weather"
-did 21 idle
-frame 2
-row 01: 0-1 000000/004000 "" 2-10 ffffff/004000 "Programme" 11-11 000000/004000 "" 12-16 ffffff/004000 "guide" 17-17 000000/004000 "" 18-20 ffff00/004000 "Sun" 21-59 000000/004000 ""
-row 04:
-row 05:
-row 06:
-row 11: 2-7 ffffff/000000 "Please" 9-13 ffffff/000000 "wait."
-did 5 idle
-frame 3
-row 04: 2-6 ffffff/000000 "09:00" 8-13 ffffff/000000 "Market"
-row 05: 2-6 ffffff/000000 "17:00" 8-11 ffffff/000000 "Fair"
-row 11:
-did 1 idle
-frame 4
-did 22 idle
-frame 5
-row 01: 0-1 000000/004000 "" 2-10 ffffff/004000 "Programme" 11-11 000000/004000 "" 12-16 ffffff/004000 "guide" 17-17 000000/004000 "" 18-20 ffff00/004000 "Sat" 21-59 000000/004000 ""
-row 04: 2-6 ffffff/000000 "18:00" 8-11 ffffff/000000 "News"
-row 05: 2-6 ffffff/000000 "18:30" 8-10 ffffff/000000 "The" 12-18 ffffff/000000 "bridge:" 20-28 ffffff/000000 "cancelled"
-total 99
-"#;
-
 fn report(alloc: Global) -> Option<Vec<u8>> {
     let application = file(alloc, "a", APPLICATION);
     let groups = application.zip(file(alloc, "s", SCENE));
@@ -185,5 +156,5 @@ fn report(alloc: Global) -> Option<Vec<u8>> {
 
 #[test]
 fn guide_is_reported(rt: HostRuntime) {
-    assert!(rt; are(report(rt.alloc()), REPORT.as_bytes()));
+    assert!(rt; are(report(rt.alloc()), GUIDE.as_bytes()));
 }

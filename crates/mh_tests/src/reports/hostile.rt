@@ -1,11 +1,11 @@
 //! Hostile input: files that are cut off, too long or without an end, and reads that fail.
-use crate::cases::{are, said};
-use crate::machine::playing::{DAY, File, converted, played, sources};
 use crate::notation::codec::profile;
 use crate::notation::text::refusal;
 use crate::reports::cutting_source::{CuttingSource, ZeroSource};
 use mh_codec::{CodecError, TagTable, decode_group};
 use mh_report::{Notation, Tally, Unread, read_short, read_whole};
+use mh_samples::cases::{are, said};
+use mh_samples::playing::{DAY, File, converted, played, sources};
 use std::alloc::Global;
 
 /// What is told where a file cannot be read.

@@ -2,7 +2,6 @@
 //! (`bench/refusals` refuses each in turn): what is prepared is prepared once more where it was refused,
 //! a play that was refused has written a beginning of its report, and a step or a post that was refused is
 //! made again.
-use crate::machine::playing::{DAY, play, sources};
 use crate::machine::service::add_named;
 use mh_base::{GroupName, Octets};
 use mh_display::changed_rows;
@@ -10,6 +9,7 @@ use mh_engine::{Engine, Stepped};
 use mh_model::picture::ROWS;
 use mh_model::{File, Input, Key, Picture};
 use mh_report::{ListSink, PlayError, Status};
+use mh_samples::playing::{DAY, play, sources};
 use mh_service::Service;
 use mh_told::row::put_row;
 use mh_told::text::Text;

@@ -1,6 +1,7 @@
 //! Reports: what is written of services and scripts, and from which start.
-use crate::cases::{Question, all_hold};
-use crate::machine::playing::{Task, outcome};
+use crate::cases::all_hold;
+use mh_samples::cases::Question;
+use mh_samples::playing::{Task, outcome};
 use std::alloc::Global;
 
 static PLAYS: &str = r#"

@@ -1,7 +1,8 @@
 //! Worked examples: checks, plays and conversions, each with the whole of what is written.
-use crate::cases::{all_hold, are};
-use crate::machine::playing::{Task, converted, outcome};
+use crate::cases::all_hold;
 use mh_report::Notation;
+use mh_samples::cases::are;
+use mh_samples::playing::{Task, converted, outcome};
 use std::alloc::Global;
 
 static SERVICES: &str = r#"

@@ -1,6 +1,7 @@
 //! The example `vote`: its service and its script, and the report that is stored beside them.
-use crate::cases::are;
 use crate::reports::page::{file, reported};
+use mh_samples::cases::are;
+use mh_samples::stored::VOTE;
 use std::alloc::Global;
 
 static APPLICATION: &str =
@@ -148,45 +149,6 @@ run
 show
 "#;
 
-pub const REPORT: &str = r#"did 108 idle
-frame 1
-row 00: 0-59 000000/006000 ""
-row 01: 0-1 000000/006000 "" 2-5 ffffff/006000 "Tree" 6-6 000000/006000 "" 7-8 ffffff/006000 "of" 9-9 000000/006000 "" 10-12 ffffff/006000 "the" 13-13 000000/006000 "" 14-17 ffffff/006000 "year" 18-59 000000/006000 ""
-row 02: 0-59 000000/006000 ""
-row 05: 2-5 ffffff/0000c0 "Vote" 6-6 000000/0000c0 "" 7-8 ffffff/0000c0 "by" 9-9 000000/0000c0 "" 10-15 ffffff/0000c0 "number" 16-21 000000/0000c0 "" 30-31 ffffff/000000 "11" 33-35 ffffff/000000 "Ash"
-row 07: 2-5 ffffff/000000 "Vote" 7-9 ffffff/000000 "for" 11-13 ffffff/000000 "the" 15-17 ffffff/000000 "top" 30-31 ffffff/000000 "12" 33-37 ffffff/000000 "Beech"
-row 09: 2-3 ffffff/000000 "Do" 5-7 ffffff/000000 "not" 9-12 ffffff/000000 "vote" 30-31 ffffff/000000 "13" 33-35 ffffff/000000 "Elm"
-row 10: 30-33 808080/000000 "more"
-row 13: 2-8 ffffff/000000 "Number:" 10-12 000000/ffffff ""
-did 29 idle
-frame 2
-row 04: 30-33 808080/000000 "more"
-row 05: 2-5 ffffff/0000c0 "Vote" 6-6 000000/0000c0 "" 7-8 ffffff/0000c0 "by" 9-9 000000/0000c0 "" 10-15 ffffff/0000c0 "number" 16-21 000000/0000c0 "" 30-31 ffffff/000000 "13" 33-35 ffffff/000000 "Elm"
-row 07: 2-5 ffffff/000000 "Vote" 7-9 ffffff/000000 "for" 11-13 ffffff/000000 "the" 15-17 ffffff/000000 "top" 30-31 ffffff/000000 "14" 33-36 ffffff/000000 "Lime"
-row 09: 2-3 ffffff/000000 "Do" 5-7 ffffff/000000 "not" 9-12 ffffff/000000 "vote" 30-31 ffffff/000000 "15" 33-35 ffffff/000000 "Oak"
-did 14 idle
-frame 3
-row 05: 2-5 ffffff/000000 "Vote" 7-8 ffffff/000000 "by" 10-15 ffffff/000000 "number" 30-31 ffffff/000000 "13" 33-35 ffffff/000000 "Elm"
-row 09: 2-3 ffffff/0000c0 "Do" 4-4 000000/0000c0 "" 5-7 ffffff/0000c0 "not" 8-8 000000/0000c0 "" 9-12 ffffff/0000c0 "vote" 13-21 000000/0000c0 "" 30-31 ffffff/000000 "15" 33-35 ffffff/000000 "Oak"
-did 24 idle
-frame 4
-row 05: 2-5 ffffff/0000c0 "Vote" 6-6 000000/0000c0 "" 7-8 ffffff/0000c0 "by" 9-9 000000/0000c0 "" 10-15 ffffff/0000c0 "number" 16-21 000000/0000c0 "" 30-31 ffffff/000000 "13" 33-35 ffffff/000000 "Elm"
-row 09: 2-3 ffffff/000000 "Do" 5-7 ffffff/000000 "not" 9-12 ffffff/000000 "vote" 30-31 ffffff/000000 "15" 33-35 ffffff/000000 "Oak"
-row 13: 2-8 ffffff/000000 "Number:" 10-12 000000/ffffff "" 14-17 ffffff/000000 "Type" 19-21 ffffff/000000 "two" 23-29 ffffff/000000 "digits."
-did 16 idle
-frame 5
-row 13: 2-8 ffffff/000000 "Number:" 10-12 000000/ffffff "97"
-did 61 idle
-frame 6
-row 05: 30-31 00ff00/000000 "14" 33-36 00ff00/000000 "Lime"
-row 07: 30-31 ffffff/000000 "15" 33-35 ffffff/000000 "Oak"
-row 09: 30-31 ffffff/000000 "16" 33-35 ffffff/000000 "Yew"
-row 10:
-row 13: 2-8 ffffff/000000 "Number:" 10-12 000000/ffffff "14"
-row 16: 2-6 ffff00/000000 "Thank" 8-10 ffff00/000000 "you" 12-14 ffff00/000000 "for" 16-19 ffff00/000000 "your" 21-25 ffff00/000000 "vote:" 27-28 ffff00/000000 "14" 30-33 ffff00/000000 "Lime"
-total 252
-"#;
-
 fn report(alloc: Global) -> Option<Vec<u8>> {
     let application = file(alloc, "a", APPLICATION);
     let (application, scene) = application.zip(file(alloc, "s", SCENE))?;
@@ -196,5 +158,5 @@ fn report(alloc: Global) -> Option<Vec<u8>> {
 
 #[test]
 fn vote_is_reported(rt: HostRuntime) {
-    assert!(rt; are(report(rt.alloc()), REPORT.as_bytes()));
+    assert!(rt; are(report(rt.alloc()), VOTE.as_bytes()));
 }

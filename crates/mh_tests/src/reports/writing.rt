@@ -1,6 +1,6 @@
 //! The recipes and traps of docs/WRITING.md, played: what each report says was looked at, cell by cell.
 use crate::cases::all_hold;
-use crate::machine::playing::Task;
+use mh_samples::playing::Task;
 
 static RECIPES: &str = r#"
 a score as text

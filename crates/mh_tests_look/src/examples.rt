@@ -1,7 +1,7 @@
 //! The report of each example: it is read, and shown again.
-use crate::reports::{guide, page, vote};
 use bstr::ByteSlice;
 use mh_look::{Part, put_report, read_report};
+use mh_samples::stored::{GUIDE, PAGE, VOTE};
 use mh_told::text::Text;
 
 /// What is printed of the example `clock`.
@@ -101,11 +101,11 @@ total 74
 static REPORTS: [(usize, u64, &str, &str); 7] = [
     (4, 162, "Station", CLOCK),
     (2, 13, "", FIRST),
-    (5, 99, "Programme", guide::REPORT),
+    (5, 99, "Programme", GUIDE),
     (3, 94, "", MENU),
-    (5, 77, "Town", page::REPORT),
+    (5, 77, "Town", PAGE),
     (5, 74, "", QUIZ),
-    (6, 252, "Vote", vote::REPORT),
+    (6, 252, "Vote", VOTE),
 ];
 
 #[test]

@@ -3,11 +3,12 @@
 //!
 //! A case is a block of lines as those of `playing`: what it shows, what is done, and the files; the answer is
 //! what is explained of what is written.
-use crate::cases::{Question, all_hold, bytes};
-use crate::machine::playing::{File, outcome, sources};
+use crate::cases::all_hold;
 use mh_flow::Link;
 use mh_layers::Arrow;
 use mh_look::{Case, Known, NamedFile, Verdict, case_of, no_case, verdict_on, ways_of, why};
+use mh_samples::cases::{Question, bytes};
+use mh_samples::playing::{File, outcome, sources};
 use std::alloc::Global;
 
 /// A file that is named, with its bytes, if it is there.

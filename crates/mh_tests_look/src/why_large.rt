@@ -1,9 +1,8 @@
 //! Explanations of what is too large or too many: files, services and inputs that are grown here.
-use crate::judging::families::put;
-use crate::look::why::explanation;
-use crate::machine::playing::{DAY, File, played};
-use crate::notation::octets::repeated;
+use crate::why::explanation;
 use mh_base::GroupName;
+use mh_samples::cases::{put, repeated};
+use mh_samples::playing::{DAY, File, played};
 use std::alloc::Global;
 
 /// A file of this path.

@@ -1,9 +1,10 @@
 //! Explanations of what is found by checking a service: the lines are those that `check` writes, and what only the refusal
 //! itself has is told, word for word: the actions of a circle, and the variables that a chain goes through.
-use crate::cases::{Question, all_hold};
-use crate::look::why::explanation;
-use crate::machine::playing::{File, outcome, sources};
+use crate::cases::all_hold;
+use crate::why::explanation;
 use mh_look::{verdict_on, verdict_text};
+use mh_samples::cases::Question;
+use mh_samples::playing::{File, outcome, sources};
 use std::alloc::Global;
 
 /// The lines on the verdict on these files.

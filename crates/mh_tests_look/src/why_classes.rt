@@ -2,7 +2,7 @@
 //!
 //! A case is one of those of `why`.
 use crate::cases::all_hold;
-use crate::look::why::Explained;
+use crate::why::Explained;
 
 static CLASSES: &str = r#"
 a target of another class

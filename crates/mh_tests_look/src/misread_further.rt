@@ -1,9 +1,10 @@
 //! What is told behind the first mistake of files that are not read, word for word; and keys by their names.
 //!
 //! A case is one of those of `why`.
-use crate::cases::{Question, all_hold, between, said};
-use crate::look::why::{Explained, explanation};
-use crate::machine::playing::{DAY, outcome, played, sources};
+use crate::cases::all_hold;
+use crate::why::{Explained, explanation};
+use mh_samples::cases::{Question, between, said};
+use mh_samples::playing::{DAY, outcome, played, sources};
 use std::alloc::Global;
 
 static FURTHER: &str = r#"

@@ -1,5 +1,5 @@
 //! Small reports, and what is no report.
-use crate::look::examples::FIRST;
+use crate::examples::FIRST;
 use mh_look::{Part, ReadError, Report, read_report};
 use mh_model::{FaultKind, Rest};
 use std::alloc::Global;

@@ -1,7 +1,8 @@
 //! Explanations where a file gives tags, word for word.
-use crate::cases::{Question, all_hold, bytes};
-use crate::look::why::explanation;
-use crate::machine::playing::sources;
+use crate::cases::all_hold;
+use crate::why::explanation;
+use mh_samples::cases::{Question, bytes};
+use mh_samples::playing::sources;
 use std::alloc::Global;
 
 /// Lines of an output behind ` / `, where a file gives these tags and the scene `s` is in octets.

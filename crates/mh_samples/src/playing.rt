@@ -8,7 +8,7 @@
 ghost use Rattle.std.specs.Prelude.{◌≡◌, ◌-◌, ◌<◌, ◌^◌};
 
 use crate::cases::{Question, bytes, number};
-use crate::reports::examples::path_and_text;
+use crate::examples::path_and_text;
 use mh_base::GroupName;
 use mh_report::{
     ListSink, Notation, Options, PlayError, Sink, Status, check_bytes, convert_bytes, play_bytes,

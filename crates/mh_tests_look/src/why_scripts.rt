@@ -1,7 +1,8 @@
 //! Explanations of lines of scripts that say nothing, word for word.
-use crate::cases::{Question, all_hold, bytes, said};
-use crate::look::why::explanation;
-use crate::machine::playing::sources;
+use crate::cases::all_hold;
+use crate::why::explanation;
+use mh_samples::cases::{Question, bytes, said};
+use mh_samples::playing::sources;
 use std::alloc::Global;
 
 /// A line of a script that says nothing, and files behind `@`: what is told of it.

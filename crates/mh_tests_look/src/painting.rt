@@ -1,6 +1,7 @@
 //! Explanations in colours.
-use crate::cases::{Question, all_hold, said};
+use crate::cases::all_hold;
 use mh_look::painted;
+use mh_samples::cases::{Question, said};
 use std::alloc::Global;
 
 static LINES: &str = r#"
