@@ -1,20 +1,21 @@
 //! What is told of values and variables of another kind than is needed.
 ghost use Rattle.std.specs.Prelude.{◌≡◌, ◌++◌, OnOk};
 ghost use Rattle.mh_model.specs.Faults.{is_test};
-ghost use Rattle.mh_cause.specs.MisfitWords.{answer_mend, answer_words, given_mend, given_words, held_operator_words, mend_of, misfit_cause, misfit_mend, misfit_words, number_words, operator_words, preposition, sign_words, target_front, target_words, through_mend, told_mend, told_misfit, typed_words, value_words, verb};
+ghost use Rattle.mh_cause.specs.MisfitWords.{answer_mend, answer_words, digits_mend, given_mend, given_words, held_operator_words, is_integer, mend_of, misfit_cause, misfit_mend, misfit_words, number_words, operator_words, preposition, sign_words, target_front, target_words, through_mend, told_mend, told_misfit, typed_words, value_mend, value_words, verb};
 
 use crate::judging::is_test;
 use crate::lists::{kind_told, put_classes, put_kinds, put_operators, put_with_article};
 use crate::misfit::{Misfit, misfit_of};
 use crate::naming::{put_named, put_parameter};
-use crate::passing::{Passing, Wanted};
+use crate::passing::{Passing, Wanted, passes};
 use crate::phrases::{
-    A_REFERENCE_ONLY, GO_THROUGH, IS_WHAT, ONLY_HERE, OPERATOR_HELD, TAKES_ANSWER, THE_TARGET_OF,
-    WHICH_HOLDS_IT, WRITTEN_AS,
+    A_REFERENCE_ONLY, DIGITS_OF, GO_THROUGH, IS_WHAT, ONLY_HERE, OPERATOR_HELD, TAKES_ANSWER,
+    THE_TARGET_OF, WHICH_HOLDS_IT, WRITTEN_AS,
 };
 use crate::refused::Refused;
 use mh_base::{Kind, ObjRef};
 use mh_group::{ActionName, Class};
+use mh_model::kinds::variable_kind;
 use mh_service::Service;
 use mh_told::text::Text;
 use std::alloc::AllocError;
@@ -196,9 +197,9 @@ fn put_misfit_words(
         Misfit::Written(number, kind, class) => {
             put_typed_words(text, action, at, number, kind, class)
         }
-        Misfit::Given(class, to, kind) => put_given_words(text, action, class, to, kind),
-        Misfit::Operator(to, number) => put_operator_words(text, action, to, number),
-        Misfit::OperatorHeld => put_held_operator_words(text, at),
+        Misfit::Given(_, class, to, kind) => put_given_words(text, action, class, to, kind),
+        Misfit::Operator(_, to, written) => put_operator_words(text, action, to, written),
+        Misfit::OperatorHeld(_) => put_held_operator_words(text, at),
     }
 }
 
@@ -252,17 +253,43 @@ fn put_given_mend(text: &mut Text, action: ActionName, to: Kind) -> Result<(), A
     put_kinds(text, Passing::GoesWith(action, to))
 }
 
+/// Puts that an integer may be made octets, where these are wanted and it is found.
+fn put_digits_mend(text: &mut Text, is_number: bool) -> Result<(), AllocError>
+    ensures { OnOk result (text.new ≡ text.old ++ digits_mend is_number) }
+{
+    if is_number {
+        text.put(DIGITS_OF)
+    } else {
+        Ok(())
+    }
+}
+
+fn is_integer(kind: Option<Kind>) -> bool
+    ensures { result ≡ is_integer kind }
+{
+    matches!(kind, Some(Kind::Int))
+}
+
+#[tactic(auto, unfolding(crate::specs::MisfitWords::value_mend))]
+fn put_value_mend(text: &mut Text, passing: Passing, class: Class) -> Result<(), AllocError>
+    ensures { OnOk result (text.new ≡ text.old ++ value_mend passing class) }
+{
+    put_through_mend(text, passing)?;
+    let is_number = passes(passing, Kind::Octets) && is_integer(variable_kind(class));
+    put_digits_mend(text, is_number)
+}
+
 fn put_mend_of(text: &mut Text, action: ActionName, misfit: Misfit) -> Result<(), AllocError>
     ensures { OnOk result (text.new ≡ text.old ++ mend_of action misfit) }
 {
     match misfit {
         Misfit::Target(_) => put_through_mend(text, Passing::Only(Kind::Object)),
-        Misfit::Value(_, passing, _) => put_through_mend(text, passing),
+        Misfit::Value(_, passing, class) => put_value_mend(text, passing, class),
         Misfit::Answer(_, kind, _) => put_answer_mend(text, kind),
         Misfit::Written(_, kind, _) => put_through_mend(text, Passing::Only(kind)),
-        Misfit::Given(_, to, _) => put_given_mend(text, action, to),
-        Misfit::Operator(_, _) => text.put(b"write one of these numbers"),
-        Misfit::OperatorHeld => text.put(b"write its number"),
+        Misfit::Given(_, _, to, _) => put_given_mend(text, action, to),
+        Misfit::Operator(_, _, _) => text.put(b"write one of these numbers"),
+        Misfit::OperatorHeld(_) => text.put(b"write its number"),
     }
 }
 

@@ -19,6 +19,7 @@ pub mod ScriptForms
 pub mod Advice
 pub mod Wrapping
 pub mod Meant
+pub mod Values
 pub mod Sources
 pub mod Services
 pub mod WayWords

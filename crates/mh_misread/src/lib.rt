@@ -6,6 +6,7 @@
 //! `mh_group`, so that a row more in these needs no text here.
 #![tactic(auto)]
 
+mod alike;
 mod cause;
 mod found;
 mod gap;
