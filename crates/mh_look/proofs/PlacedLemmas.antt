@@ -14,13 +14,13 @@ use Rattle.mh_look.specs.Meant.{Sought}
 use Rattle.mh_look.specs.Missing.{is_like, like_named, like_text, missing, no_group_text, unless_group}
 use Rattle.mh_look.specs.Places.{IsHarmless}
 use Rattle.mh_look.specs.Services.{landmark_for, shown_for, shown_service}
-use Rattle.mh_look.specs.Sources.{NamedFile, Source, by_number, by_numbers, count_named, in_source, is_marked, marks_named, named_words, object_in, shown_action, shown_actions, shown_byte, shown_if_marked, shown_in, shown_landmark, shown_line, shown_line_from, shown_mark, shown_named, shown_detail, shown_numbered, shown_object, shown_object_in, shown_offset, shown_named_at, shown_refused, shown_rest, shown_written_from, source_named}
+use Rattle.mh_look.specs.Sources.{NamedFile, Source, by_number, by_numbers, count_named, in_source, is_marked, marks_named, named_words, object_in, shown_action, shown_actions, shown_byte, shown_if_marked, shown_in, shown_landmark, shown_line, shown_line_from, shown_mark, shown_named, shown_detail, shown_numbered, shown_object, shown_object_in, shown_offset, shown_named_at, shown_refused, shown_rest, shown_written_from, source_named, is_octets}
 use Rattle.mh_look.specs.Spots.{Spot}
 use Rattle.mh_look.specs.Values.{detail_in}
 use Rattle.mh_look.specs.declared.explanation.marked.TheConstants.{HAVE_CHANGED}
 use Rattle.mh_look.specs.Wrapping.{paragraph}
 use Rattle.mh_look.specs.Why.{shown_spot, shown_late, shown_tags, shown_script}
-use Rattle.mh_look.proofs.HarmlessLemmas.{◌⌢◌, harmless_codes, harmless_paragraph, harmless_place}
+use Rattle.mh_look.proofs.HarmlessLemmas.{◌⌢◌, harmless_codes, harmless_octet, harmless_paragraph, harmless_place}
 
 pub none : IsHarmless []
 none = harmless_codes [] refl
@@ -108,7 +108,8 @@ object_put ss group number =
     in_source_put (shown_object_in number) (λ s. optional (shown_landmark s) (landmark_put s) (object_in number (landmarks s.text))) ss group
 
 pub byte_put : (n : ℕ) (s : Source) → IsHarmless (shown_byte n s)
-byte_put n s = either s.is_written _ _ (harmless_place s.name s.text n _) none
+byte_put n s =
+    either s.is_written _ _ (harmless_place s.name s.text n _) (either (is_octets s) _ _ (harmless_octet s.name s.text n) none)
 
 pub offset_put : (ss : List Source) (name : List ℕ) (n : ℕ) → IsHarmless (shown_offset ss name n)
 unfolding shown_offset

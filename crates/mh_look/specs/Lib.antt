@@ -38,3 +38,4 @@ pub mod Further
 pub mod Cases
 pub mod Why
 pub mod Places
+pub mod Octets

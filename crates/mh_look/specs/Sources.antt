@@ -25,6 +25,7 @@ use Rattle.mh_look.specs.declared.explanation.marked.TheConstants.{HAVE_CHANGED}
 use Rattle.mh_look.specs.declared.explanation.named.TheConstants.{STANDS_HERE, STAND_IN}
 use Rattle.mh_look.specs.declared.explanation.place.TheConstants.{AS_PRINTED}
 use Rattle.mh_look.specs.LineWords.{number_in}
+use Rattle.mh_look.specs.Octets.{shown_octet}
 use Rattle.mh_look.specs.Places.{shown_place}
 use Rattle.mh_look.specs.Values.{detail_in, value_size}
 use Rattle.mh_look.specs.Wrapping.{paragraph}
@@ -206,9 +207,16 @@ shown_object ss group number = in_source (shown_object_in number) ss group
 
 -- BYTES AND LINES
 
--- what is shown of the token at a byte of a file, if it is one of a text
+-- what is shown of the token at a byte of a file, if it is one of a text; or of the octet, if it is a group in octets
+
+abbrev pub is_octets : Source → Bool
+is_octets s = s.is_group && not s.is_printed
+
+abbrev pub octet_of : ℕ → Source → List ℕ
+octet_of n s = if is_octets s then shown_octet s.name s.text n else []
+
 abbrev pub shown_byte : ℕ → Source → List ℕ
-shown_byte n s = if s.is_written then shown_place s.name s.text n (token_size (drop n s.text)) else []
+shown_byte n s = if s.is_written then shown_place s.name s.text n (token_size (drop n s.text)) else octet_of n s
 
 unfoldable pub shown_offset : List Source → List ℕ → ℕ → List ℕ
 shown_offset ss name n = in_source (shown_byte n) ss name

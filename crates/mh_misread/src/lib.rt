@@ -33,6 +33,7 @@ mod wanted;
 mod words;
 
 pub use cause::put_cause;
+pub use found::put_hex_byte;
 pub use likeness::is_like;
 pub use mend::put_mend;
 pub use misread::{Misread, misread_of};
