@@ -14,6 +14,7 @@ pub(crate) mod why_bounds;
 pub(crate) mod why_calls;
 pub(crate) mod why_classes;
 pub(crate) mod why_files;
+pub(crate) mod why_folders;
 pub(crate) mod why_kinds;
 pub(crate) mod why_large;
 pub(crate) mod why_plays;

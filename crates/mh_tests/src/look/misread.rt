@@ -174,7 +174,71 @@ check
 @a {:Scene ("~/a" 1) :InputEventReg 3 }
 => file a 23 15|  It is byte 15 of the file a.|  a, line 1, column 16|  1 \7c\ {:Scene ("~/a" 1)
 :InputEventReg 3 }|    \7c\                ^|  Cause: `1` is not 0, the number of every group.| 
-Mend: write 0, the number of every group.|"#;
+Mend: write 0, the number of every group.|;;
+a string that ends too soon
+check
+@a {:Application ("~/a" 0) :Items ( {:Text 1 :OrigContent 'Milk's' } ) }
+=> ?;;
+a name that ends too soon
+check
+@a {:Application ("~/a" 0) :OnStartUp ( :TransitionTo (("~/"s" 0)) ) }
+=> ?;;
+a number with a fraction
+check
+@a {:Application ("~/a" 0) :Items ( {:IntegerVar 1 :OrigValue 1.5 } ) }
+=> ?;;
+a sign without a number
+check
+@a {:Application ("~/a" 0) :Items ( {:IntegerVar 1 :OrigValue - 5 } ) }
+=> ?;;
+a colon without a name
+check
+@a {:Application ("~/a" 0) :Items ( {:IntegerVar 1 := 5 } ) }
+=> ?;;
+a field that begins with the name of one
+check
+@a {:Scene ("~/a" 0) :InputEventRegister 3 }
+=> ?;;
+an action that none is
+check
+@a {:Application ("~/a" 0) :OnStartUp ( :SetText (1 'x') ) }
+=> ?;;
+an action of which no name begins so
+check
+@a {:Application ("~/a" 0) :OnStartUp ( :Print (1 'x') ) }
+=> ?;;
+an event of which no name is like it
+check
+@a {:Application ("~/a" 0) :Items ( {:Link 1 :EventSource 0 :EventType Foo :LinkEffect ( ) } ) }
+=> ?;;
+white space that lacks
+check
+@a {:Application ("~/a" 0) :Items ( {:IntegerVar 1:OrigValue 5 } ) }
+=> ?;;
+a reference without a number
+check
+@a {:Application ("~/a" 0) :OnStartUp ( :TransitionTo (("~/s")) ) }
+=> ?;;
+a slot without brackets
+check
+@a {:Scene ("~/a" 0) :Items ( {:TokenGroup 1 :TokenGroupItems ( ( 2 :Run (2) ) ) } ) }
+=> ?;;
+a text without quotes
+check
+@a {:Application ("~/a" 0) :Items ( {:Text 1 :OrigContent Coffee } ) }
+=> ?;;
+parameters without brackets
+check
+@a {:Application ("~/a" 0) :OnStartUp ( :SetTimer 0 1 1000 ) }
+=> ?;;
+a value without its kind
+check
+@a {:Application ("~/a" 0) :OnStartUp ( :SetVariable (1 5) ) }
+=> ?;;
+a length outside its limits
+check
+@a {:Scene ("~/a" 0) :Items ( {:EntryField 1 :OrigBoxSize 24 16 :MaxLength 256 } ) }
+=> ?"#;
 
 #[test]
 fn explains_texts_that_are_not_read(rt: HostRuntime) {

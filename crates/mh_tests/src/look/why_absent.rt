@@ -149,7 +149,28 @@ of object 7 of s can be object 99 of s, and s has no object 99.|  Mend: let obje
 objects that are there while it is.|config a s|  So it is while application a shows scene s.|object
 s 99|  What is meant there can be object 99 of s, which is absent then.|by s 7 0|  It comes there by
 object 7 of s, which has it from the start.|  s, line 4, column 5|  4 \7c\     :TokenGroupItems (
-(12) (99) ) }|    \7c\     ^^^^^^^^^^^^^^^^|"#;
+(12) (99) ) }|    \7c\     ^^^^^^^^^^^^^^^^|;;
+a number that the application has
+check
+@a {:Application ("~/a" 0) :OnStartUp ( :TransitionTo (("~/s" 0)) ) :Items ( {:IntegerVar 1 :OrigValue 5 } ) }
+@s {:Scene ("~/s" 0) :InputEventReg 3 :Items (|  {:IntegerVar 2 :OrigValue 1 }|  {:Link 11 :EventSource 0 :EventType UserInput :EventData 100|    :LinkEffect ( :Subtract (1 1) ) }|) }|
+=> ?;;
+a variable of another scene
+check
+@a {:Application ("~/a" 0) :OnStartUp ( :TransitionTo (("~/s" 0)) ) }
+@s {:Scene ("~/s" 0) :InputEventReg 3 :Items (|  {:OStringVar 2 :OrigValue '' }|  {:Link 11 :EventSource 0 :EventType UserInput :EventData 100|    :LinkEffect ( :Append (2 :IndirectRef ("~/q" 4)) ) }|) }|
+@q {:Scene ("~/q" 0) :Items ( {:OStringVar 4 :OrigValue 'x' } ) }
+=> ?;;
+a number that stands in front as something else
+check
+@a {:Application ("~/a" 0) :OnStartUp ( :TransitionTo (("~/s" 0)) ) }
+@s {:Scene ("~/s" 0) :InputEventReg 3 :Items (|  {:ListGroup 7 :Positions ( ( 0 0 ) ) :TokenGroupItems ( ) }|  {:Link 11 :EventSource 0 :EventType UserInput :EventData 100|    :LinkEffect ( :AddItem (7 9 9) ) }|) }|
+=> ?;;
+a reference that an argument of a call names
+check
+@a {:Application ("~/a" 0) :OnStartUp ( :TransitionTo (("~/s" 0)) ) }
+@s {:Scene ("~/s" 0) :InputEventReg 3 :Items (|  {:BooleanVar 6 :OrigValue true }|  {:ResidentPrg 7 :Name 'GSL' }|  {:Link 11 :EventSource 0 :EventType UserInput :EventData 100|    :LinkEffect ( :Call (7 6 ( :GOctetString 'abc' :GInteger|      :IndirectRef 9 )) ) }|) }|
+=> ?"#;
 
 #[test]
 fn tells_what_is_absent(rt: HostRuntime) {

@@ -82,7 +82,27 @@ check
 `:GOctetString`, and object 5 of s,|    which holds it, is an IntegerVar.|  Mend: write it itself,
 or name an OStringVar.|config a s|  So it is while application a shows scene s.|object s 5|  The
 reference that is wrong leads to object 5 of s.|  s, line 3, column 16|  3 \7c\   {:IntegerVar 5
-:OrigValue 1 }|    \7c\                ^|  The action goes through this variable.|"#;
+:OrigValue 1 }|    \7c\                ^|  The action goes through this variable.|;;
+an argument of another kind
+check
+@a {:Application ("~/a" 0) :OnStartUp ( :TransitionTo (("~/s" 0)) ) }
+@s {:Scene ("~/s" 0) :InputEventReg 3 :Items (|  {:BooleanVar 6 :OrigValue true }|  {:ResidentPrg 7 :Name 'GSS' } {:OStringVar 8 :OrigValue '' }|  {:Link 11 :EventSource 0 :EventType UserInput :EventData 100|    :LinkEffect ( :Call (7 6 ( :GOctetString 'abc' :GInteger 1 :GOctetString '2' :GOctetString :IndirectRef 8 )) ) }|) }|
+=> ?;;
+an answer that is written directly
+check
+@a {:Application ("~/a" 0) :OnStartUp ( :TransitionTo (("~/s" 0)) ) }
+@s {:Scene ("~/s" 0) :InputEventReg 3 :Items (|  {:BooleanVar 6 :OrigValue true }|  {:ResidentPrg 7 :Name 'GSL' }|  {:Link 11 :EventSource 0 :EventType UserInput :EventData 100|    :LinkEffect ( :Call (7 6 ( :GOctetString 'abc' :GInteger 3 )) ) }|) }|
+=> ?;;
+an argument too many
+check
+@a {:Application ("~/a" 0) :OnStartUp ( :TransitionTo (("~/s" 0)) ) }
+@s {:Scene ("~/s" 0) :InputEventReg 3 :Items (|  {:BooleanVar 6 :OrigValue true }|  {:ResidentPrg 7 :Name 'GSL' } {:IntegerVar 8 :OrigValue 0 }|  {:Link 11 :EventSource 0 :EventType UserInput :EventData 100|    :LinkEffect ( :Fork (7 6 ( :GOctetString 'abc' :GInteger :IndirectRef 8 :GInteger 1 )) ) }|) }|
+=> ?;;
+an argument that a variable of another kind holds
+check
+@a {:Application ("~/a" 0) :OnStartUp ( :TransitionTo (("~/s" 0)) ) }
+@s {:Scene ("~/s" 0) :InputEventReg 3 :Items (|  {:BooleanVar 6 :OrigValue true }|  {:ResidentPrg 7 :Name 'GSL' } {:IntegerVar 8 :OrigValue 0 }|  {:Link 11 :EventSource 0 :EventType UserInput :EventData 100|    :LinkEffect ( :Call (7 6 ( :GOctetString :IndirectRef 8 :GInteger :IndirectRef 8 )) ) }|) }|
+=> ?"#;
 
 #[test]
 fn tells_calls(rt: HostRuntime) {
