@@ -171,7 +171,7 @@ fn put_no_number_mend(
 fn name_with<'a>(service: &Service, number: u32, names: &'a [GroupName]) -> Option<&'a GroupName>
     ensures { option_copied result ≡ name_with service.now number names.now }
 {
-    names.iter().find(|name| has_number(service, number, name))
+    names.iter().find(|name| has_number(service, number, *name))
 }
 
 fn has_number(service: &Service, number: u32, name: &GroupName) -> bool
