@@ -90,7 +90,7 @@ pub const BYTE_MEND: &[u8] = b"take it away, or write it in a string";
 pub const POINT_MEND: &[u8] = b"write a whole number, or take the `.` away";
 
 pub const BEHIND_STRING_MEND: &[u8] =
-    b"write `=27` for each `'` within the string, or the whole between `'` where `\"` is part of it";
+    b"write `=27` for each `'` within the string, or the whole between `'` where `\"` is part of it; no name has a `\"`";
 
 pub const BEGIN_ALIKE: &[u8] = b"; these begin alike: ";
 
