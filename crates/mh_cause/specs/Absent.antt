@@ -1,5 +1,5 @@
 -- Objects that are not there (V1, V4).
-use Rattle.std.specs.Prelude.{ℕ, ◌-◌, ◌==◌, Bool, true, nat_lt, if◌then◌else◌, List, [], ◌∷◌, ◌++◌, map, filter, codes, Option, Some, None, is_some}
+use Rattle.std.specs.Prelude.{ℕ, ◌-◌, ◌==◌, Bool, true, false, nat_lt, if◌then◌else◌, List, [], ◌∷◌, ◌++◌, map, filter, codes, Option, Some, None}
 use Rattle.std.specs.Fmt.{decimal}
 use Rattle.std.specs.List.{find}
 use Rattle.mh_base.specs.declared.obj_ref.ObjRef.{ObjRef}
@@ -135,17 +135,25 @@ number_told n = if n == 0 then [] else told.NEAREST_NUMBER.now ++ decimal n
 
 -- the first of these groups that has an object with the number
 
+abbrev pub is_there : Option Fixed → Bool
+is_there (Some p) = true
+is_there None = false
+
 abbrev pub has_number : Service → ℕ → List ℕ → Bool
-has_number s n g = is_some (numbered n (group_parts s g))
+has_number s n g = is_there (numbered n (group_parts s g))
 
 abbrev pub name_with : Service → ℕ → List (List ℕ) → Option (List ℕ)
 name_with s n names = find (has_number s n) names
 
 -- an application that has such an object, and how that is written
-unfoldable pub written_told : ℕ → List ℕ → List ℕ
-written_told n g = told.THE_APPLICATION.now ++ g ++ told.HAS_SUCH.now ++ g ++ codes "\" " ++ decimal n ++ codes ")`"
 
-abbrev pub elsewhere : ℕ → Option (List ℕ) → List ℕ
+unfoldable pub reference_told : ℕ → List ℕ → List ℕ
+reference_told n g = g ++ told.BEHIND_NAME.now ++ decimal n ++ codes ")`"
+
+unfoldable pub written_told : ℕ → List ℕ → List ℕ
+written_told n g = told.THE_APPLICATION.now ++ g ++ told.HAS_SUCH.now ++ reference_told n g
+
+unfoldable pub elsewhere : ℕ → Option (List ℕ) → List ℕ
 elsewhere n None = []
 elsewhere n (Some g) = written_told n g
 
@@ -155,7 +163,7 @@ no_number_mend s at ps =
     ++ elsewhere at.number (name_with s at.number (meant_names s (Some action.Launch)))
 
 -- a variable that outlives a scene is one of the application
-abbrev pub kept_mend : Option Kind → List ℕ
+unfoldable pub kept_mend : Option Kind → List ℕ
 kept_mend None = []
 kept_mend (Some k) = told.KEPT_VARIABLE.now
 

@@ -10,6 +10,7 @@ mod acts;
 mod calls;
 mod cause;
 pub mod detail;
+mod elsewhere;
 mod judging;
 mod lists;
 pub mod misfit;

@@ -34,6 +34,8 @@ pub const THE_APPLICATION: &[u8] = b"; the application ";
 
 pub const HAS_SUCH: &[u8] = b" has an object with that number, which is written `(\"~/";
 
+pub const BEHIND_NAME: &[u8] = b"\" ";
+
 pub const KEPT_VARIABLE: &[u8] = b"; a variable of the application is there in all scenes";
 
 pub const DIGITS_OF: &[u8] =

@@ -2,13 +2,14 @@
 ghost use Rattle.std.specs.Prelude.{◌≡◌, ◌++◌, OnOk, IfOk, map};
 ghost use Rattle.std.specs.Option.{option_copied, option_map};
 ghost use Rattle.mh_service.specs.Resolved.{parts_under};
-ghost use Rattle.mh_cause.specs.Absent.{absent_mend, absent_mend_for, distance, elsewhere, has_number, held_mend, holder_mend, is_meant, kept_mend, list_mend, like_name, meant_names, name_told, name_with, near_name, nearer, nearest_from, no_group_mend, no_number_mend, not_shown_mend, number_told, there_mend, written_mend, written_told};
+ghost use Rattle.mh_cause.specs.Absent.{absent_mend, absent_mend_for, distance, held_mend, holder_mend, is_meant, kept_mend, list_mend, like_name, meant_names, name_told, near_name, nearer, nearest_from, no_group_mend, no_number_mend, not_shown_mend, number_told, there_mend, written_mend};
 
-use crate::acts::{part_numbered, part_of};
+use crate::acts::part_numbered;
+use crate::elsewhere::{name_with, put_elsewhere};
 use crate::naming::put_named;
 use crate::phrases::{
-    ADD_FILE, HAS_SUCH, HOLD_PRESENT, KEPT_VARIABLE, MOVE_TO, NAME_THERE, NEAREST_NAME,
-    NEAREST_NUMBER, THAT_IS_THERE, THE_APPLICATION,
+    ADD_FILE, HOLD_PRESENT, KEPT_VARIABLE, MOVE_TO, NAME_THERE, NEAREST_NAME, NEAREST_NUMBER,
+    THAT_IS_THERE,
 };
 use crate::refused::Refused;
 use mh_base::{GroupName, Kind, ObjRef};
@@ -167,41 +168,6 @@ fn put_no_number_mend(
     )
 }
 
-/// The first of these groups that has an object with the number.
-fn name_with<'a>(service: &Service, number: u32, names: &'a [GroupName]) -> Option<&'a GroupName>
-    ensures { option_copied result ≡ name_with service.now number names.now }
-{
-    names.iter().find(|name| has_number(service, number, *name))
-}
-
-fn has_number(service: &Service, number: u32, name: &GroupName) -> bool
-    ensures { result ≡ has_number service.now number name.now }
-{
-    part_of(service, name, number).is_some()
-}
-
-fn put_elsewhere(text: &mut Text, number: u32, name: Option<&GroupName>) -> Result<(), AllocError>
-    ensures { OnOk result (text.new ≡ text.old ++ elsewhere number (option_copied name.entry)) }
-{
-    match name {
-        None => Ok(()),
-        Some(name) => put_written_told(text, number, name.as_bytes()),
-    }
-}
-
-#[tactic(auto, unfolding(crate::specs::Absent::written_told))]
-fn put_written_told(text: &mut Text, number: u32, name: &[u8]) -> Result<(), AllocError>
-    ensures { OnOk result (text.new ≡ text.old ++ written_told number name.now) }
-{
-    text.put(THE_APPLICATION)?;
-    text.put(name)?;
-    text.put(HAS_SUCH)?;
-    text.put(name)?;
-    text.put(b"\" ")?;
-    text.put_number(u64::from(number))?;
-    text.put(b")`")
-}
-
 #[tactic(auto, unfolding(crate::specs::Absent::not_shown_mend))]
 fn put_not_shown_mend(text: &mut Text, at: &ObjRef, part: &Fixed) -> Result<(), AllocError>
     ensures { OnOk result (text.new ≡ text.old ++ not_shown_mend at.now part.now) }
@@ -211,6 +177,7 @@ fn put_not_shown_mend(text: &mut Text, at: &ObjRef, part: &Fixed) -> Result<(), 
     put_kept_mend(text, variable_kind(part.class))
 }
 
+#[tactic(auto, unfolding(crate::specs::Absent::kept_mend))]
 fn put_kept_mend(text: &mut Text, kind: Option<Kind>) -> Result<(), AllocError>
     ensures { OnOk result (text.new ≡ text.old ++ kept_mend kind) }
 {

@@ -1,4 +1,4 @@
-use Rattle.std.proofs.Common.{◌≡◌, ◌≤◌, ◌+◌, ◌++◌, ◌×◌, [], length}
+use Rattle.std.proofs.Common.{◌≡◌, ◌≤◌, ◌+◌, ◌++◌, [], length}
 use Rattle.mh_cause.specs.Calls.{params_from}
 use Rattle.mh_cause.proofs.programs.put_params_from.Given as goal
 
