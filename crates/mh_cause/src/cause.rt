@@ -5,7 +5,8 @@ ghost use Rattle.mh_cause.specs.Causes.{cause, mend, timer_cause};
 
 use crate::absent::put_absent_cause;
 use crate::calls::{put_call_cause, put_call_mend};
-use crate::misfit_words::{put_misfit_cause, put_misfit_mend};
+use crate::misfit_mends::put_misfit_mend;
+use crate::misfit_words::put_misfit_cause;
 use crate::naming::put_named;
 use crate::phrases::TIMER_HELD;
 use crate::present::put_absent_mend;

@@ -14,6 +14,7 @@ mod elsewhere;
 mod judging;
 mod lists;
 pub mod misfit;
+mod misfit_mends;
 mod misfit_words;
 mod naming;
 mod passed;
