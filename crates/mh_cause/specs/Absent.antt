@@ -1,8 +1,9 @@
 -- Objects that are not there (V1, V4).
-use Rattle.std.specs.Prelude.{ℕ, ◌-◌, ◌==◌, Bool, true, nat_lt, if◌then◌else◌, List, [], ◌∷◌, ◌++◌, map, filter, codes, Option, Some, None}
+use Rattle.std.specs.Prelude.{ℕ, ◌-◌, ◌==◌, Bool, true, false, nat_lt, if◌then◌else◌, List, [], ◌∷◌, ◌++◌, map, filter, codes, Option, Some, None}
 use Rattle.std.specs.Fmt.{decimal}
 use Rattle.std.specs.List.{find}
 use Rattle.mh_base.specs.declared.obj_ref.ObjRef.{ObjRef}
+use Rattle.mh_base.specs.declared.value.Kind.{Kind}
 use Rattle.mh_group.specs.declared.action_name.ActionName.{ActionName}
 use Rattle.mh_group.specs.declared.action_name.ActionName.TheVariants as action
 use Rattle.mh_group.specs.Table.{is_application, is_scene}
@@ -10,7 +11,8 @@ use Rattle.mh_group.specs.Words.{action_word}
 use Rattle.mh_misread.specs.Likeness.{is_like}
 use Rattle.mh_model.specs.declared.object.Fixed.{Fixed}
 use Rattle.mh_model.specs.Configuration.{is_group_of}
-use Rattle.mh_model.specs.Service.{Service}
+use Rattle.mh_model.specs.Service.{Service, group_parts}
+use Rattle.mh_model.specs.Variables.{variable_kind}
 use Rattle.mh_service.specs.Resolved.{parts_under}
 use Rattle.mh_cause.specs.declared.phrases.TheConstants as told
 use Rattle.mh_cause.specs.declared.role.Role.{Role}
@@ -131,19 +133,50 @@ nearest_from n best (p ∷ ps) = nearest_from n (nearer n best p.key.number) ps
 unfoldable pub number_told : ℕ → List ℕ
 number_told n = if n == 0 then [] else told.NEAREST_NUMBER.now ++ decimal n
 
-unfoldable pub no_number_mend : ObjRef → List Fixed → List ℕ
-no_number_mend at ps = told.NAME_THERE.now ++ number_told (nearest_from at.number 0 ps)
+-- the first of these groups that has an object with the number
 
-unfoldable pub not_shown_mend : ObjRef → List ℕ
-not_shown_mend at = told.MOVE_TO.now ++ at.group
+abbrev pub is_there : Option Fixed → Bool
+is_there (Some p) = true
+is_there None = false
 
-abbrev pub there_mend : ObjRef → List Fixed → Option Fixed → List ℕ
-there_mend at ps None = no_number_mend at ps
-there_mend at ps (Some p) = not_shown_mend at
+abbrev pub has_number : Service → ℕ → List ℕ → Bool
+has_number s n g = is_there (numbered n (group_parts s g))
+
+abbrev pub name_with : Service → ℕ → List (List ℕ) → Option (List ℕ)
+name_with s n names = find (has_number s n) names
+
+-- an application that has such an object, and how that is written
+
+unfoldable pub reference_told : ℕ → List ℕ → List ℕ
+reference_told n g = g ++ told.BEHIND_NAME.now ++ decimal n ++ codes ")`"
+
+unfoldable pub written_told : ℕ → List ℕ → List ℕ
+written_told n g = told.THE_APPLICATION.now ++ g ++ told.HAS_SUCH.now ++ reference_told n g
+
+unfoldable pub elsewhere : ℕ → Option (List ℕ) → List ℕ
+elsewhere n None = []
+elsewhere n (Some g) = written_told n g
+
+unfoldable pub no_number_mend : Service → ObjRef → List Fixed → List ℕ
+no_number_mend s at ps =
+    told.NAME_THERE.now ++ number_told (nearest_from at.number 0 ps)
+    ++ elsewhere at.number (name_with s at.number (meant_names s (Some action.Launch)))
+
+-- a variable that outlives a scene is one of the application
+unfoldable pub kept_mend : Option Kind → List ℕ
+kept_mend None = []
+kept_mend (Some k) = told.KEPT_VARIABLE.now
+
+unfoldable pub not_shown_mend : ObjRef → Fixed → List ℕ
+not_shown_mend at p = told.MOVE_TO.now ++ at.group ++ kept_mend (variable_kind p.class)
+
+abbrev pub there_mend : Service → ObjRef → List Fixed → Option Fixed → List ℕ
+there_mend s at ps None = no_number_mend s at ps
+there_mend s at ps (Some p) = not_shown_mend at p
 
 abbrev pub written_mend : Service → Option ActionName → ObjRef → Option (List Fixed) → List ℕ
 written_mend s a at None = no_group_mend s a at
-written_mend s a at (Some ps) = there_mend at ps (numbered at.number ps)
+written_mend s a at (Some ps) = there_mend s at ps (numbered at.number ps)
 
 unfoldable pub held_mend : ObjRef → List ℕ
 held_mend holder = codes "set " ++ named holder ++ told.THAT_IS_THERE.now

@@ -51,5 +51,14 @@ abbrev pub act_in : ℕ → Option Fixed → Option Act
 act_in n None = None
 act_in n (Some p) = in_object p (n - 1)
 
+-- the members of the object of which the refusal is told
+
+abbrev pub members_in : Option Fixed → List Member
+members_in None = []
+members_in (Some p) = members p
+
+unfoldable pub members_of : Service → Refused → List Member
+members_of s r = members_in (numbered r.object (group_parts s r.group))
+
 unfoldable pub act_of : Service → Refused → Option Act
 act_of s r = act_in r.index (numbered r.object (group_parts s r.group))

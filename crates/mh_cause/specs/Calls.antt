@@ -1,5 +1,6 @@
 -- Calls of programs that do not fit (V9).
-use Rattle.std.specs.Prelude.{ℕ, List, [], ◌∷◌, ◌++◌, codes, Option, Some, None}
+use Rattle.std.specs.Prelude.{ℕ, ◌+◌, ◌==◌, Bool, false, if◌then◌else◌, List, [], ◌∷◌, ◌++◌, codes, Option, Some, None}
+use Rattle.std.specs.Fmt.{decimal}
 use Rattle.std.specs.List.{find}
 use Rattle.mh_base.specs.declared.value.Kind.{Kind}
 use Rattle.mh_misread.specs.Likeness.{is_like}
@@ -8,25 +9,41 @@ use Rattle.mh_model.specs.declared.act.Argument.{Argument}
 use Rattle.mh_model.specs.declared.act.Argument.TheVariants as argument
 use Rattle.mh_model.specs.declared.object.Fixed.{Fixed}
 use Rattle.mh_model.specs.declared.program.Builtin.{Builtin}
+use Rattle.mh_model.specs.declared.program.Builtin.TheVariants as builtin
 use Rattle.mh_model.specs.declared.program.Param.{Param}
 use Rattle.mh_model.specs.declared.program.Param.TheVariants as param
 use Rattle.mh_model.specs.Faults.{passed}
 use Rattle.mh_model.specs.Known.{program_name}
-use Rattle.mh_model.specs.Programs.{builtins, kind_in, params_for, params_of, word}
+use Rattle.mh_model.specs.Programs.{builtins, kind_in, params_for, params_of, same_plain, word}
 use Rattle.mh_model.specs.Service.{Service, group_parts}
 use Rattle.mh_model.specs.Variables.{kind_of}
 use Rattle.mh_cause.specs.declared.phrases.TheConstants as told
 use Rattle.mh_cause.specs.Acts.{act_of, numbered}
-use Rattle.mh_cause.specs.Lists.{kind_told}
+use Rattle.mh_cause.specs.Lists.{kind_told, kinds_counted}
 use Rattle.mh_cause.specs.Refusing.{Refused}
 
-abbrev pub param_words : Param → List ℕ
-param_words (param.In p) = codes "takes " ++ kind_told (kind_in p)
-param_words (param.Out p) = codes "gives " ++ kind_told (kind_in p)
+-- so many values of a kind
+abbrev pub counted : ℕ → Kind → List ℕ
+counted n k = if n == 1 then kind_told k else decimal n ++ kinds_counted k
 
-abbrev pub params_from : List ℕ → List Param → List ℕ
-params_from front [] = []
-params_from front (p ∷ ps) = front ++ param_words p ++ params_from (codes ", ") ps
+abbrev pub param_words : ℕ → Param → List ℕ
+param_words n (param.In p) = codes "takes " ++ counted n (kind_in p)
+param_words n (param.Out p) = codes "gives " ++ counted n (kind_in p)
+
+abbrev pub same_param : Param → Param → Bool
+same_param (param.In p) (param.In q) = same_plain p (kind_in q)
+same_param (param.Out p) (param.Out q) = same_plain p (kind_in q)
+same_param p q = false
+
+-- so many parameters of one sort, and those behind them; those of one sort that stand side by side are told as one
+abbrev pub params_from : List ℕ → ℕ → Param → List Param → List ℕ
+params_from front n p [] = front ++ param_words n p
+params_from front n p (q ∷ qs) =
+    if same_param p q then params_from front (n + 1) p qs else front ++ param_words n p ++ params_from (codes ", ") 1 q qs
+
+abbrev pub params_told : List Param → List ℕ
+params_told [] = []
+params_told (p ∷ ps) = params_from [] 1 p ps
 
 abbrev pub held_kind : Option Kind → List ℕ
 held_kind None = codes "a variable"
@@ -61,7 +78,7 @@ unfoldable pub near_builtin : List ℕ → Option Builtin
 near_builtin name = or_builtin (like_builtin 0 name) (like_builtin 1 name)
 
 unfoldable pub builtin_words : Builtin → List ℕ
-builtin_words b = codes "; " ++ word b ++ codes " is, and " ++ params_from [] (params_of b)
+builtin_words b = codes "; " ++ word b ++ codes " is, and " ++ params_told (params_of b)
 
 unfoldable pub near_words : Option Builtin → List ℕ
 near_words None = []
@@ -71,7 +88,7 @@ unfoldable pub unknown_call : List ℕ → List ℕ
 unknown_call name = told.NO_PROGRAM.now ++ name ++ near_words (near_builtin name)
 
 unfoldable pub misfit_call : List ℕ → List Param → List Argument → List ℕ
-misfit_call name ps xs = name ++ codes " " ++ params_from [] ps ++ told.IS_CALLED_WITH.now ++ arguments_told xs
+misfit_call name ps xs = name ++ codes " " ++ params_told ps ++ told.IS_CALLED_WITH.now ++ arguments_told xs
 
 abbrev pub call_of : Service → Refused → List ℕ → Option (List Param) → List ℕ
 call_of s r name None = unknown_call name
@@ -94,9 +111,18 @@ call_cause s r = named_call s r (called_name s r)
 
 -- the mend
 
+-- what it is for
+unfoldable pub purpose : Builtin → List ℕ
+purpose builtin.CurrentDate = codes " (the day and the time)"
+purpose builtin.DayOfWeek = codes " (the weekday of a day)"
+purpose builtin.StringLength = codes " (the length of a string)"
+purpose builtin.Substring = codes " (a part of a string)"
+purpose builtin.ExtractSubstring = codes " (what stands in front of a string in another)"
+purpose builtin.SearchSubstring = codes " (where a string stands in another)"
+
 abbrev pub words_from : List ℕ → List Builtin → List ℕ
 words_from front [] = []
-words_from front (b ∷ bs) = front ++ word b ++ words_from (codes ", ") bs
+words_from front (b ∷ bs) = front ++ word b ++ purpose b ++ words_from (codes ", ") bs
 
 unfoldable pub builtin_mend : Builtin → List ℕ
 builtin_mend b = told.WRITE_NAME.now ++ word b ++ codes "'`"

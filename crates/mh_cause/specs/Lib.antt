@@ -9,4 +9,5 @@ pub mod Unfit
 pub mod Misfits
 pub mod MisfitWords
 pub mod Calls
+pub mod Details
 pub mod Causes

@@ -51,6 +51,14 @@ kind_told kind.Octets = codes "an octet string"
 kind_told kind.Object = codes "a reference"
 kind_told kind.Content = codes "the name of a file"
 
+-- the word for several of a kind
+unfoldable pub kinds_counted : Kind → List ℕ
+kinds_counted kind.Bool = codes " truth values"
+kinds_counted kind.Int = codes " integers"
+kinds_counted kind.Octets = codes " octet strings"
+kinds_counted kind.Object = codes " references"
+kinds_counted kind.Content = codes " names of files"
+
 abbrev pub kinds_from : List ℕ → Passing → List Kind → List ℕ
 kinds_from front p [] = []
 kinds_from front p (k ∷ ks) =

@@ -1,5 +1,5 @@
 -- What is told of values and variables of another kind than is needed (V3).
-use Rattle.std.specs.Prelude.{int_lt, ℕ, ℤ, pos, Bool, true, false, if◌then◌else◌, List, [], ◌++◌, codes, Option, Some}
+use Rattle.std.specs.Prelude.{int_lt, ℕ, ℤ, pos, Bool, true, false, ◌&&◌, if◌then◌else◌, List, [], ◌++◌, codes, Option, Some}
 use Rattle.std.specs.Fmt.{decimal}
 use Rattle.std.specs.Int.RustNames.{unsigned_abs}
 use Rattle.mh_base.specs.declared.obj_ref.ObjRef.{ObjRef}
@@ -10,6 +10,7 @@ use Rattle.mh_group.specs.declared.class.Class.{Class}
 use Rattle.mh_group.specs.Words.{action_word, kind_word}
 use Rattle.mh_model.specs.Faults.{is_test}
 use Rattle.mh_model.specs.Service.{Service}
+use Rattle.mh_model.specs.Variables.{variable_kind}
 use Rattle.mh_cause.specs.declared.misfit.Misfit.{Misfit}
 use Rattle.mh_cause.specs.declared.misfit.Misfit.TheVariants as misfit
 use Rattle.mh_cause.specs.declared.passing.Passing.{Passing}
@@ -19,6 +20,7 @@ use Rattle.mh_cause.specs.declared.phrases.TheConstants as told
 use Rattle.mh_cause.specs.Lists.{classes_told, kind_told, kinds_told, operators_told, with_article}
 use Rattle.mh_cause.specs.Misfits.{misfit_of}
 use Rattle.mh_cause.specs.Naming.{named, parameter_words}
+use Rattle.mh_cause.specs.Passing.{passes}
 use Rattle.mh_cause.specs.Refusing.{Refused}
 
 unfoldable pub sign_words : ℤ → List ℕ
@@ -73,9 +75,9 @@ misfit_words a at (misfit.Target c) = target_words a at c
 misfit_words a at (misfit.Value n p c) = value_words a at n p c
 misfit_words a at (misfit.Answer n k c) = answer_words a at n k c
 misfit_words a at (misfit.Written n k c) = typed_words a at n k c
-misfit_words a at (misfit.Given c to k) = given_words a c to k
-misfit_words a at (misfit.Operator to n) = operator_words a to n
-misfit_words a at misfit.OperatorHeld = held_operator_words at
+misfit_words a at (misfit.Given n c to k) = given_words a c to k
+misfit_words a at (misfit.Operator n to x) = operator_words a to x
+misfit_words a at (misfit.OperatorHeld n) = held_operator_words at
 
 abbrev pub told_misfit : ObjRef → Option ActionName → Option Misfit → List ℕ
 told_misfit at (Some a) (Some m) = misfit_words a at m
@@ -95,14 +97,26 @@ answer_mend k = codes "name " ++ classes_told (wanted.Holding (passing.Only k))
 unfoldable pub given_mend : ActionName → Kind → List ℕ
 given_mend a to = codes "write " ++ kinds_told (passing.GoesWith a to)
 
+-- the digits of an integer are octets
+abbrev pub digits_mend : Bool → List ℕ
+digits_mend true = told.DIGITS_OF.now
+digits_mend false = []
+
+abbrev pub is_integer : Option Kind → Bool
+is_integer (Some kind.Int) = true
+is_integer k = false
+
+unfoldable pub value_mend : Passing → Class → List ℕ
+value_mend p c = through_mend p ++ digits_mend (passes p kind.Octets && is_integer (variable_kind c))
+
 abbrev pub mend_of : ActionName → Misfit → List ℕ
 mend_of a (misfit.Target c) = through_mend (passing.Only kind.Object)
-mend_of a (misfit.Value n p c) = through_mend p
+mend_of a (misfit.Value n p c) = value_mend p c
 mend_of a (misfit.Answer n k c) = answer_mend k
 mend_of a (misfit.Written n k c) = through_mend (passing.Only k)
-mend_of a (misfit.Given c to k) = given_mend a to
-mend_of a (misfit.Operator to n) = codes "write one of these numbers"
-mend_of a misfit.OperatorHeld = codes "write its number"
+mend_of a (misfit.Given n c to k) = given_mend a to
+mend_of a (misfit.Operator n to x) = codes "write one of these numbers"
+mend_of a (misfit.OperatorHeld n) = codes "write its number"
 
 abbrev pub told_mend : Option ActionName → Option Misfit → List ℕ
 told_mend (Some a) (Some m) = mend_of a m

@@ -44,31 +44,31 @@ abbrev pub or_misfit : Option Misfit → Option Misfit → Option Misfit
 or_misfit (Some m) other = Some m
 or_misfit None other = other
 
--- a value of this kind for a target of the class
+-- a value of this kind, as the parameter with this number, for a target of the class
 
-abbrev pub given_to : ActionName → Kind → Class → Option Kind → Option Misfit
-given_to a k c None = None
-given_to a k c (Some to) = if goes_with a to k then None else Some (misfit.Given c to k)
+abbrev pub given_to : ActionName → ℕ → Kind → Class → Option Kind → Option Misfit
+given_to a n k c None = None
+given_to a n k c (Some to) = if goes_with a to k then None else Some (misfit.Given n c to k)
 
-abbrev pub given : ActionName → Kind → Option Class → Option Misfit
-given a k None = None
-given a k (Some c) = given_to a k c (variable_kind c)
+abbrev pub given : ActionName → ℕ → Kind → Option Class → Option Misfit
+given a n k None = None
+given a n k (Some c) = given_to a n k c (variable_kind c)
 
--- an operator for a target of the class
+-- an operator, as the parameter with this number, for a target of the class
 
-abbrev pub operator_for : ℤ → Option Kind → Option Misfit
-operator_for n None = None
-operator_for n (Some to) = if is_operator to n then None else Some (misfit.Operator to n)
+abbrev pub operator_for : ℕ → ℤ → Option Kind → Option Misfit
+operator_for n x None = None
+operator_for n x (Some to) = if is_operator to x then None else Some (misfit.Operator n to x)
 
-abbrev pub operator_at : ℤ → Option Class → Option Misfit
-operator_at n None = None
-operator_at n (Some c) = operator_for n (variable_kind c)
+abbrev pub operator_at : ℕ → ℤ → Option Class → Option Misfit
+operator_at n x None = None
+operator_at n x (Some c) = operator_for n x (variable_kind c)
 
-abbrev pub operator : Setting → ℤ → Option Misfit
-operator s n = if is_test s.action then operator_at n s.reached else None
+abbrev pub operator : Setting → ℕ → ℤ → Option Misfit
+operator s n x = if is_test s.action then operator_at n x s.reached else None
 
-abbrev pub operator_held : ActionName → Option Misfit
-operator_held a = if is_test a then Some misfit.OperatorHeld else None
+abbrev pub operator_held : ActionName → ℕ → Option Misfit
+operator_held a n = if is_test a then Some (misfit.OperatorHeld n) else None
 
 -- a variable that is the parameter with this number
 
@@ -86,14 +86,14 @@ plain_held s n None = None
 plain_held s n (Some p) = value_held s n p
 
 -- a value that is written
-abbrev pub written_misfit : Setting → Need → Value → Option Misfit
-written_misfit s need.Typed v = given s.action (kind_of v) s.reached
-written_misfit s need.Int (value.Int n) = operator s n
-written_misfit s n v = None
+abbrev pub written_misfit : Setting → ℕ → Need → Value → Option Misfit
+written_misfit s n need.Typed v = given s.action n (kind_of v) s.reached
+written_misfit s n need.Int (value.Int x) = operator s n x
+written_misfit s n need v = None
 
 abbrev pub typed_misfit : Setting → ℕ → Option Kind → Option Misfit
 typed_misfit s n None = None
-typed_misfit s n (Some k) = or_misfit (written_held s n k) (given s.action k s.direct)
+typed_misfit s n (Some k) = or_misfit (written_held s n k) (given s.action n k s.direct)
 
 abbrev pub passed_misfit : Setting → ℕ → Option Kind → Option Misfit
 passed_misfit s n None = None
@@ -103,7 +103,7 @@ passed_misfit s n (Some k) = written_held s n k
 abbrev pub through_misfit : Setting → ℕ → Need → Option Kind → Option Misfit
 through_misfit s n need.Typed k = typed_misfit s n k
 through_misfit s n need.Arguments k = passed_misfit s n k
-through_misfit s n need.Int k = or_misfit (value_held s n (passing.Only kind.Int)) (operator_held s.action)
+through_misfit s n need.Int k = or_misfit (value_held s n (passing.Only kind.Int)) (operator_held s.action n)
 through_misfit s n other k = plain_held s n (passing_of other)
 
 abbrev pub receiver_misfit : Setting → ℕ → Need → Option Misfit
@@ -112,7 +112,7 @@ receiver_misfit s n other = None
 
 -- the parameter with this number
 abbrev pub argument_misfit : Setting → ObjRef → ℕ → Need → Argument → Option Misfit
-argument_misfit s at n need (argument.Direct v) = written_misfit s need v
+argument_misfit s at n need (argument.Direct v) = written_misfit s n need v
 argument_misfit s at n need (argument.Through v k) = if same_ref v at then through_misfit s n need k else None
 argument_misfit s at n need (argument.Receiver v) = if same_ref v at then receiver_misfit s n need else None
 

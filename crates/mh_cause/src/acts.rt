@@ -3,7 +3,7 @@ ghost use Rattle.std.specs.Prelude.{◌≡◌, ◌==◌};
 ghost use Rattle.std.specs.Option.{option_copied};
 ghost use Rattle.mh_model.specs.Service.{group_parts};
 ghost use Rattle.mh_model.specs.Tokens.{members as members_lem};
-ghost use Rattle.mh_cause.specs.Acts.{act_in, act_of, behind_closedown, behind_startup, in_members, in_object, in_slots, left_behind, numbered};
+ghost use Rattle.mh_cause.specs.Acts.{act_in, act_of, behind_closedown, behind_startup, in_members, in_object, in_slots, left_behind, members_in, members_of, numbered};
 
 use crate::refused::Refused;
 use mh_base::GroupName;
@@ -94,6 +94,23 @@ fn members(part: &Fixed) -> &[Member]
     ensures { result.now ≡ members_lem part.now }
 {
     as_members(part.properties.get(Attribute::TokenGroupItems))
+}
+
+/// The members of the object of which the refusal is told.
+#[tactic(auto, unfolding(crate::specs::Acts::members_of))]
+pub(crate) fn members_of<'a>(service: &'a Service, refused: &Refused<'_>) -> &'a [Member]
+    ensures { result.now ≡ members_of service.now refused.now }
+{
+    members_in(part_of(service, refused.group, refused.object))
+}
+
+fn members_in(part: Option<&Fixed>) -> &[Member]
+    ensures { result.now ≡ members_in (option_copied part.entry) }
+{
+    match part {
+        Some(part) => members(part),
+        None => &[],
+    }
 }
 
 fn in_members(members: &[Member], before: usize) -> Option<&Act>

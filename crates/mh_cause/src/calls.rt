@@ -59,7 +59,7 @@ fn put_call_of(
 
 /// The name of the program that is called.
 #[tactic(auto, unfolding(crate::specs::Calls::called_name))]
-fn called_name<'a>(service: &'a Service, refused: &Refused<'_>) -> Option<&'a [u8]>
+pub(crate) fn called_name<'a>(service: &'a Service, refused: &Refused<'_>) -> Option<&'a [u8]>
     ensures { option_copied result ≡ called_name service.now refused.now }
 {
     name_in(part_of(service, &refused.at.group, refused.at.number))

@@ -56,7 +56,7 @@ fn argument_misfit(
     ensures { result ≡ argument_misfit setting at.now number need argument.now }
 {
     match argument {
-        Argument::Direct(value) => written_misfit(setting, need, value),
+        Argument::Direct(value) => written_misfit(setting, number, need, value),
         Argument::Through(variable, kind) if same_ref(variable, at) => {
             through_misfit(setting, number, need, *kind)
         }
@@ -68,42 +68,48 @@ fn argument_misfit(
 }
 
 /// A value that is written.
-fn written_misfit(setting: Setting, need: Need, value: &Value) -> Option<Misfit>
-    ensures { result ≡ written_misfit setting need value.now }
+fn written_misfit(setting: Setting, number: usize, need: Need, value: &Value) -> Option<Misfit>
+    ensures { result ≡ written_misfit setting number need value.now }
 {
     match (need, value) {
-        (Need::Typed, _) => given(setting.action, kind_of(value), setting.reached),
-        (Need::Int, Value::Int(number)) => operator(setting, *number),
+        (Need::Typed, _) => given(setting.action, number, kind_of(value), setting.reached),
+        (Need::Int, Value::Int(written)) => operator(setting, number, *written),
         _ => None,
     }
 }
 
 /// A value of this kind for a target of the class.
-fn given(action: ActionName, kind: Kind, class: Option<Class>) -> Option<Misfit>
-    ensures { result ≡ given action kind class }
+fn given(action: ActionName, number: usize, kind: Kind, class: Option<Class>) -> Option<Misfit>
+    ensures { result ≡ given action number kind class }
 {
     match class {
-        Some(class) => given_to(action, kind, class, variable_kind(class)),
+        Some(class) => given_to(action, number, kind, class, variable_kind(class)),
         None => None,
     }
 }
 
-fn given_to(action: ActionName, kind: Kind, class: Class, to: Option<Kind>) -> Option<Misfit>
-    ensures { result ≡ given_to action kind class to }
+fn given_to(
+    action: ActionName,
+    number: usize,
+    kind: Kind,
+    class: Class,
+    to: Option<Kind>,
+) -> Option<Misfit>
+    ensures { result ≡ given_to action number kind class to }
 {
     match to {
         Some(to) if !passes(Passing::GoesWith(action, to), kind) => {
-            Some(Misfit::Given(class, to, kind))
+            Some(Misfit::Given(number, class, to, kind))
         }
         _ => None,
     }
 }
 
-fn operator(setting: Setting, number: i32) -> Option<Misfit>
-    ensures { result ≡ operator setting number }
+fn operator(setting: Setting, number: usize, written: i32) -> Option<Misfit>
+    ensures { result ≡ operator setting number written }
 {
     if is_test(setting.action) {
-        operator_at(number, setting.reached)
+        operator_at(number, written, setting.reached)
     } else {
         None
     }
@@ -115,20 +121,20 @@ pub(crate) fn is_test(action: ActionName) -> bool
     matches!(action, ActionName::TestVariable)
 }
 
-fn operator_at(number: i32, class: Option<Class>) -> Option<Misfit>
-    ensures { result ≡ operator_at number class }
+fn operator_at(number: usize, written: i32, class: Option<Class>) -> Option<Misfit>
+    ensures { result ≡ operator_at number written class }
 {
     match class {
-        Some(class) => operator_for(number, variable_kind(class)),
+        Some(class) => operator_for(number, written, variable_kind(class)),
         None => None,
     }
 }
 
-fn operator_for(number: i32, to: Option<Kind>) -> Option<Misfit>
-    ensures { result ≡ operator_for number to }
+fn operator_for(number: usize, written: i32, to: Option<Kind>) -> Option<Misfit>
+    ensures { result ≡ operator_for number written to }
 {
     match to {
-        Some(to) if !is_operator(to, number) => Some(Misfit::Operator(to, number)),
+        Some(to) if !is_operator(to, written) => Some(Misfit::Operator(number, to, written)),
         _ => None,
     }
 }
@@ -142,7 +148,7 @@ fn through_misfit(setting: Setting, number: usize, need: Need, kind: Option<Kind
         Need::Arguments => passed_misfit(setting, number, kind),
         Need::Int => match value_held(setting, number, Passing::Only(Kind::Int)) {
             Some(misfit) => Some(misfit),
-            None => operator_held(setting.action),
+            None => operator_held(setting.action, number),
         },
         _ => plain_held(setting, number, passing_of(need)),
     }
@@ -154,7 +160,7 @@ fn typed_misfit(setting: Setting, number: usize, kind: Option<Kind>) -> Option<M
     let kind = kind?;
     match written_held(setting, number, kind) {
         Some(misfit) => Some(misfit),
-        None => given(setting.action, kind, setting.direct),
+        None => given(setting.action, number, kind, setting.direct),
     }
 }
 
@@ -167,11 +173,11 @@ fn passed_misfit(setting: Setting, number: usize, kind: Option<Kind>) -> Option<
     }
 }
 
-fn operator_held(action: ActionName) -> Option<Misfit>
-    ensures { result ≡ operator_held action }
+fn operator_held(action: ActionName, number: usize) -> Option<Misfit>
+    ensures { result ≡ operator_held action number }
 {
     if is_test(action) {
-        Some(Misfit::OperatorHeld)
+        Some(Misfit::OperatorHeld(number))
     } else {
         None
     }

@@ -2,7 +2,7 @@
 ghost use Rattle.std.specs.Prelude.{◌≡◌, ◌++◌, [], OnOk};
 ghost use Rattle.mh_base.specs.Kinds.{kinds};
 ghost use Rattle.mh_group.specs.Words.{actions, classes};
-ghost use Rattle.mh_cause.specs.Lists.{actions_from, actions_told, article, classes_from, classes_told, is_vowel, kind_told, kinds_from, kinds_told, operator_told, operators, operators_from, operators_told, with_article};
+ghost use Rattle.mh_cause.specs.Lists.{actions_from, actions_told, article, classes_from, classes_told, is_vowel, kind_told, kinds_counted, kinds_from, kinds_told, operator_told, operators, operators_from, operators_told, with_article};
 
 use crate::passing::{Passing, Wanted, is_wanted, passes};
 use mh_base::{KINDS, Kind};
@@ -107,6 +107,20 @@ pub(crate) fn kind_told(kind: Kind) -> &'static [u8]
         Kind::Octets => b"an octet string",
         Kind::Object => b"a reference",
         Kind::Content => b"the name of a file",
+    }
+}
+
+/// What several values of the kind are, behind their number.
+#[tactic(auto, unfolding(crate::specs::Lists::kinds_counted))]
+pub(crate) fn kinds_counted(kind: Kind) -> &'static [u8]
+    ensures { result.now ≡ kinds_counted kind }
+{
+    match kind {
+        Kind::Bool => b" truth values",
+        Kind::Int => b" integers",
+        Kind::Octets => b" octet strings",
+        Kind::Object => b" references",
+        Kind::Content => b" names of files",
     }
 }
 

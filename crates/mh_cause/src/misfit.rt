@@ -25,12 +25,13 @@ pub enum Misfit {
     Answer(usize, Kind, Class),
     /// The parameter with this number is written to be of the kind, and an object of the class holds it.
     Written(usize, Kind, Class),
-    /// The target is of this class and kind, and what it is given or compared with of the other kind.
-    Given(Class, Kind, Kind),
-    /// The operator has this number, and values of the kind are not compared by it.
-    Operator(Kind, i32),
-    /// The operator is held by a variable.
-    OperatorHeld,
+    /// The target is of this class and kind, and the parameter with this number, which it is given or compared with, of the
+    /// other kind.
+    Given(usize, Class, Kind, Kind),
+    /// The parameter with this number is the operator; values of the kind are not compared by the one that is written.
+    Operator(usize, Kind, i32),
+    /// The parameter with this number is the operator, and is held by a variable.
+    OperatorHeld(usize),
 }
 
 /// What is known where a parameter is judged.

@@ -1,15 +1,15 @@
 //! What is told of values and variables of another kind than is needed.
 ghost use Rattle.std.specs.Prelude.{◌≡◌, ◌++◌, OnOk};
 ghost use Rattle.mh_model.specs.Faults.{is_test};
-ghost use Rattle.mh_cause.specs.MisfitWords.{answer_mend, answer_words, given_mend, given_words, held_operator_words, mend_of, misfit_cause, misfit_mend, misfit_words, number_words, operator_words, preposition, sign_words, target_front, target_words, through_mend, told_mend, told_misfit, typed_words, value_words, verb};
+ghost use Rattle.mh_cause.specs.MisfitWords.{answer_words, given_words, held_operator_words, misfit_cause, misfit_words, number_words, operator_words, preposition, sign_words, target_front, target_words, told_misfit, typed_words, value_words, verb};
 
 use crate::judging::is_test;
-use crate::lists::{kind_told, put_classes, put_kinds, put_operators, put_with_article};
+use crate::lists::{kind_told, put_kinds, put_operators, put_with_article};
 use crate::misfit::{Misfit, misfit_of};
 use crate::naming::{put_named, put_parameter};
-use crate::passing::{Passing, Wanted};
+use crate::passing::Passing;
 use crate::phrases::{
-    A_REFERENCE_ONLY, GO_THROUGH, IS_WHAT, ONLY_HERE, OPERATOR_HELD, TAKES_ANSWER, THE_TARGET_OF,
+    A_REFERENCE_ONLY, IS_WHAT, ONLY_HERE, OPERATOR_HELD, TAKES_ANSWER, THE_TARGET_OF,
     WHICH_HOLDS_IT, WRITTEN_AS,
 };
 use crate::refused::Refused;
@@ -196,9 +196,9 @@ fn put_misfit_words(
         Misfit::Written(number, kind, class) => {
             put_typed_words(text, action, at, number, kind, class)
         }
-        Misfit::Given(class, to, kind) => put_given_words(text, action, class, to, kind),
-        Misfit::Operator(to, number) => put_operator_words(text, action, to, number),
-        Misfit::OperatorHeld => put_held_operator_words(text, at),
+        Misfit::Given(_, class, to, kind) => put_given_words(text, action, class, to, kind),
+        Misfit::Operator(_, to, written) => put_operator_words(text, action, to, written),
+        Misfit::OperatorHeld(_) => put_held_operator_words(text, at),
     }
 }
 
@@ -226,66 +226,4 @@ pub(crate) fn put_misfit_cause(
 {
     let misfit = misfit_of(service, refused);
     put_told_misfit(text, refused.at, refused.action, misfit)
-}
-
-#[tactic(auto, unfolding(crate::specs::MisfitWords::through_mend))]
-fn put_through_mend(text: &mut Text, passing: Passing) -> Result<(), AllocError>
-    ensures { OnOk result (text.new ≡ text.old ++ through_mend passing) }
-{
-    text.put(GO_THROUGH)?;
-    put_classes(text, Wanted::Holding(passing))
-}
-
-#[tactic(auto, unfolding(crate::specs::MisfitWords::answer_mend))]
-fn put_answer_mend(text: &mut Text, kind: Kind) -> Result<(), AllocError>
-    ensures { OnOk result (text.new ≡ text.old ++ answer_mend kind) }
-{
-    text.put(b"name ")?;
-    put_classes(text, Wanted::Holding(Passing::Only(kind)))
-}
-
-#[tactic(auto, unfolding(crate::specs::MisfitWords::given_mend))]
-fn put_given_mend(text: &mut Text, action: ActionName, to: Kind) -> Result<(), AllocError>
-    ensures { OnOk result (text.new ≡ text.old ++ given_mend action to) }
-{
-    text.put(b"write ")?;
-    put_kinds(text, Passing::GoesWith(action, to))
-}
-
-fn put_mend_of(text: &mut Text, action: ActionName, misfit: Misfit) -> Result<(), AllocError>
-    ensures { OnOk result (text.new ≡ text.old ++ mend_of action misfit) }
-{
-    match misfit {
-        Misfit::Target(_) => put_through_mend(text, Passing::Only(Kind::Object)),
-        Misfit::Value(_, passing, _) => put_through_mend(text, passing),
-        Misfit::Answer(_, kind, _) => put_answer_mend(text, kind),
-        Misfit::Written(_, kind, _) => put_through_mend(text, Passing::Only(kind)),
-        Misfit::Given(_, to, _) => put_given_mend(text, action, to),
-        Misfit::Operator(_, _) => text.put(b"write one of these numbers"),
-        Misfit::OperatorHeld => text.put(b"write its number"),
-    }
-}
-
-fn put_told_mend(
-    text: &mut Text,
-    action: Option<ActionName>,
-    misfit: Option<Misfit>,
-) -> Result<(), AllocError>
-    ensures { OnOk result (text.new ≡ text.old ++ told_mend action misfit) }
-{
-    match (action, misfit) {
-        (Some(action), Some(misfit)) => put_mend_of(text, action, misfit),
-        _ => Ok(()),
-    }
-}
-
-/// Puts what is written or named in its place.
-pub(crate) fn put_misfit_mend(
-    text: &mut Text,
-    service: &Service,
-    refused: &Refused<'_>,
-) -> Result<(), AllocError>
-    ensures { OnOk result (text.new ≡ text.old ++ misfit_mend service.now refused.now) }
-{
-    put_told_mend(text, refused.action, misfit_of(service, refused))
 }

@@ -30,6 +30,17 @@ pub const NEAREST_NAME: &[u8] = b"; the nearest is ";
 
 pub const NEAREST_NUMBER: &[u8] = b"; the nearest number is ";
 
+pub const THE_APPLICATION: &[u8] = b"; the application ";
+
+pub const HAS_SUCH: &[u8] = b" has an object with that number, which is written `(\"~/";
+
+pub const BEHIND_NAME: &[u8] = b"\" ";
+
+pub const KEPT_VARIABLE: &[u8] = b"; a variable of the application is there in all scenes";
+
+pub const DIGITS_OF: &[u8] =
+    b"; an OStringVar has the digits of a number that it is set to, as by `:SetVariable (2 :GInteger :IndirectRef 1)`";
+
 pub const MOVE_TO: &[u8] = b"name an object that is there, or move the action to ";
 
 pub const THAT_IS_THERE: &[u8] = b" only to objects that are there when the action is done";

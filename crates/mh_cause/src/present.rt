@@ -2,18 +2,21 @@
 ghost use Rattle.std.specs.Prelude.{◌≡◌, ◌++◌, OnOk, IfOk, map};
 ghost use Rattle.std.specs.Option.{option_copied, option_map};
 ghost use Rattle.mh_service.specs.Resolved.{parts_under};
-ghost use Rattle.mh_cause.specs.Absent.{absent_mend, absent_mend_for, distance, held_mend, holder_mend, is_meant, list_mend, like_name, meant_names, name_told, near_name, nearer, nearest_from, no_group_mend, no_number_mend, not_shown_mend, number_told, there_mend, written_mend};
+ghost use Rattle.mh_cause.specs.Absent.{absent_mend, absent_mend_for, distance, held_mend, holder_mend, is_meant, kept_mend, list_mend, like_name, meant_names, name_told, near_name, nearer, nearest_from, no_group_mend, no_number_mend, not_shown_mend, number_told, there_mend, written_mend};
 
 use crate::acts::part_numbered;
+use crate::elsewhere::{name_with, put_elsewhere};
 use crate::naming::put_named;
 use crate::phrases::{
-    ADD_FILE, HOLD_PRESENT, MOVE_TO, NAME_THERE, NEAREST_NAME, NEAREST_NUMBER, THAT_IS_THERE,
+    ADD_FILE, HOLD_PRESENT, KEPT_VARIABLE, MOVE_TO, NAME_THERE, NEAREST_NAME, NEAREST_NUMBER,
+    THAT_IS_THERE,
 };
 use crate::refused::Refused;
-use mh_base::{GroupName, ObjRef};
+use mh_base::{GroupName, Kind, ObjRef};
 use mh_group::ActionName;
 use mh_misread::is_like;
-use mh_model::FixedPart;
+use mh_model::kinds::variable_kind;
+use mh_model::{Fixed, FixedPart};
 use mh_service::Service;
 use mh_told::text::Text;
 use std::alloc::{AllocError, Global};
@@ -146,32 +149,57 @@ fn put_number_told(text: &mut Text, number: u32) -> Result<(), AllocError>
 }
 
 #[tactic(auto, unfolding(crate::specs::Absent::no_number_mend))]
-fn put_no_number_mend(text: &mut Text, at: &ObjRef, parts: &[FixedPart]) -> Result<(), AllocError>
-    ensures { OnOk result (text.new ≡ text.old ++ no_number_mend at.now parts.now) }
+fn put_no_number_mend(
+    alloc: Global,
+    text: &mut Text,
+    service: &Service,
+    at: &ObjRef,
+    parts: &[FixedPart],
+) -> Result<(), AllocError>
+    ensures { OnOk result (text.new ≡ text.old ++ no_number_mend service.now at.now parts.now) }
 {
+    let names = meant_names(alloc, service, Some(ActionName::Launch))?;
     text.put(NAME_THERE)?;
-    put_number_told(text, nearest_number(at.number, parts))
+    put_number_told(text, nearest_number(at.number, parts))?;
+    put_elsewhere(
+        text,
+        at.number,
+        name_with(service, at.number, names.as_slice()),
+    )
 }
 
 #[tactic(auto, unfolding(crate::specs::Absent::not_shown_mend))]
-fn put_not_shown_mend(text: &mut Text, at: &ObjRef) -> Result<(), AllocError>
-    ensures { OnOk result (text.new ≡ text.old ++ not_shown_mend at.now) }
+fn put_not_shown_mend(text: &mut Text, at: &ObjRef, part: &Fixed) -> Result<(), AllocError>
+    ensures { OnOk result (text.new ≡ text.old ++ not_shown_mend at.now part.now) }
 {
     text.put(MOVE_TO)?;
-    text.put(at.group.as_bytes())
+    text.put(at.group.as_bytes())?;
+    put_kept_mend(text, variable_kind(part.class))
+}
+
+#[tactic(auto, unfolding(crate::specs::Absent::kept_mend))]
+fn put_kept_mend(text: &mut Text, kind: Option<Kind>) -> Result<(), AllocError>
+    ensures { OnOk result (text.new ≡ text.old ++ kept_mend kind) }
+{
+    match kind {
+        None => Ok(()),
+        Some(_) => text.put(KEPT_VARIABLE),
+    }
 }
 
 fn put_there_mend(
+    alloc: Global,
     text: &mut Text,
+    service: &Service,
     at: &ObjRef,
     parts: &[FixedPart],
     part: Option<&FixedPart>,
 ) -> Result<(), AllocError>
-    ensures { OnOk result (text.new ≡ text.old ++ there_mend at.now parts.now (option_copied part.entry)) }
+    ensures { OnOk result (text.new ≡ text.old ++ there_mend service.now at.now parts.now (option_copied part.entry)) }
 {
     match part {
-        None => put_no_number_mend(text, at, parts),
-        Some(_) => put_not_shown_mend(text, at),
+        None => put_no_number_mend(alloc, text, service, at, parts),
+        Some(part) => put_not_shown_mend(text, at, part.get()),
     }
 }
 
@@ -187,7 +215,10 @@ fn put_written_mend(
 {
     match parts {
         None => put_no_group_mend(alloc, text, service, action, at),
-        Some(parts) => put_there_mend(text, at, parts, part_numbered(parts, at.number)),
+        Some(parts) => {
+            let part = part_numbered(parts, at.number);
+            put_there_mend(alloc, text, service, at, parts, part)
+        }
     }
 }
 

@@ -2,9 +2,10 @@
 ghost use Rattle.std.specs.Prelude.{◌≡◌, ◌++◌, [], OnOk};
 ghost use Rattle.std.specs.Option.{option_copied};
 ghost use Rattle.mh_model.specs.Programs.{builtins as all_builtins};
-ghost use Rattle.mh_cause.specs.Calls.{argument_words, arguments_from, arguments_of, arguments_told, builtin_words, held_kind, like_builtin, near_builtin, near_words, param_words, params_from, words_from};
+ghost use Rattle.mh_cause.specs.Calls.{argument_words, arguments_from, arguments_of, arguments_told, builtin_words, counted, held_kind, like_builtin, near_builtin, near_words, param_words, params_from, params_told, purpose, same_param, words_from};
 
-use crate::lists::kind_told;
+use crate::lists::{kind_told, kinds_counted};
+use crate::passed::is_plain;
 use mh_base::Kind;
 use mh_misread::is_like;
 use mh_model::act::passed;
@@ -23,33 +24,74 @@ const BUILTINS: [Builtin; 6] = [
     Builtin::SearchSubstring,
 ];
 
-fn put_param(text: &mut Text, param: Param) -> Result<(), AllocError>
-    ensures { OnOk result (text.new ≡ text.old ++ param_words param) }
+/// Puts so many values of a kind.
+fn put_counted(text: &mut Text, count: usize, kind: Kind) -> Result<(), AllocError>
+    ensures { OnOk result (text.new ≡ text.old ++ counted count kind) }
+{
+    if count == 1 {
+        return text.put(kind_told(kind));
+    }
+    text.put_number(count as u64)?;
+    text.put(kinds_counted(kind))
+}
+
+fn put_param(text: &mut Text, count: usize, param: Param) -> Result<(), AllocError>
+    ensures { OnOk result (text.new ≡ text.old ++ param_words count param) }
 {
     match param {
         Param::In(plain) => {
             text.put(b"takes ")?;
-            text.put(kind_told(plain.kind()))
+            put_counted(text, count, plain.kind())
         }
         Param::Out(plain) => {
             text.put(b"gives ")?;
-            text.put(kind_told(plain.kind()))
+            put_counted(text, count, plain.kind())
         }
     }
 }
 
+fn same_param(param: Param, other: Param) -> bool
+    ensures { result ≡ same_param param other }
+{
+    match (param, other) {
+        (Param::In(plain), Param::In(other)) | (Param::Out(plain), Param::Out(other)) => {
+            is_plain(plain, other.kind())
+        }
+        _ => false,
+    }
+}
+
+/// Puts what a program takes and gives; parameters of one sort that stand side by side are told as one.
 pub(crate) fn put_params(text: &mut Text, params: &[Param]) -> Result<(), AllocError>
-    ensures { OnOk result (text.new ≡ text.old ++ params_from [] params.now) }
+    ensures { OnOk result (text.new ≡ text.old ++ params_told params.now) }
+{
+    match params {
+        [] => Ok(()),
+        [first, others @ ..] => put_params_from(text, *first, others),
+    }
+}
+
+fn put_params_from(text: &mut Text, first: Param, others: &[Param]) -> Result<(), AllocError>
+    ensures { OnOk result (text.new ≡ text.old ++ params_from [] 1 first others.now) }
 {
     let mut front: &[u8] = b"";
-    let mut left = params;
-    while let [param, behind @ ..] = left {
-        text.put(front)?;
-        put_param(text, *param)?;
-        front = b", ";
+    let mut count = 1;
+    let mut param = first;
+    let mut left = others;
+    while let [next, behind @ ..] = left {
+        if same_param(param, *next) {
+            count += 1;
+        } else {
+            text.put(front)?;
+            put_param(text, count, param)?;
+            front = b", ";
+            count = 1;
+            param = *next;
+        }
         left = behind;
     }
-    Ok(())
+    text.put(front)?;
+    put_param(text, count, param)
 }
 
 fn put_held_kind(text: &mut Text, kind: Option<Kind>) -> Result<(), AllocError>
@@ -147,7 +189,22 @@ pub(crate) fn put_near(text: &mut Text, which: Option<Builtin>) -> Result<(), Al
     }
 }
 
-/// Puts the names of all programs.
+/// What the program is for.
+#[tactic(auto, unfolding(crate::specs::Calls::purpose))]
+fn purpose(which: Builtin) -> &'static [u8]
+    ensures { result.now ≡ purpose which }
+{
+    match which {
+        Builtin::CurrentDate => b" (the day and the time)",
+        Builtin::DayOfWeek => b" (the weekday of a day)",
+        Builtin::StringLength => b" (the length of a string)",
+        Builtin::Substring => b" (a part of a string)",
+        Builtin::ExtractSubstring => b" (what stands in front of a string in another)",
+        Builtin::SearchSubstring => b" (where a string stands in another)",
+    }
+}
+
+/// Puts the names of all programs, with what they are for.
 pub(crate) fn put_words(text: &mut Text) -> Result<(), AllocError>
     ensures { OnOk result (text.new ≡ text.old ++ words_from [] all_builtins) }
 {
@@ -163,6 +220,7 @@ fn put_words_of(text: &mut Text, builtins: &[Builtin]) -> Result<(), AllocError>
     while let [which, behind @ ..] = left {
         text.put(front)?;
         text.put(word(*which))?;
+        text.put(purpose(*which))?;
         front = b", ";
         left = behind;
     }

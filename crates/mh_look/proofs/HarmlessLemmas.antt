@@ -1,5 +1,5 @@
 -- What is put of words, numbers, names and lines of files gives a terminal no order.
-use Rattle.std.specs.Prelude.{◌≡◌, ℕ, zero, suc, ◌+◌, ◌<◌, ◌==◌, Bool, true, false, ◌&&◌, ◌||◌, not, nat_le, nat_lt, if◌then◌else◌, List, [], ◌∷◌, ◌++◌, ◌-◌, map, length, take, drop, replicate, codes, refl}
+use Rattle.std.specs.Prelude.{◌≡◌, ℕ, zero, suc, ◌+◌, ◌<◌, ◌==◌, Bool, true, false, ◌&&◌, ◌||◌, not, nat_le, nat_lt, if◌then◌else◌, List, [], ◌∷◌, ◌++◌, ◌-◌, ◌*◌, map, min, length, take, drop, replicate, codes, refl}
 use Rattle.std.specs.List.{flat_map, list_all, prefix_len}
 use Rattle.std.specs.Fmt.{decimal}
 use Rattle.std.proofs.Common.{ap, ◌∙◌, sym, arith, append-nil}
@@ -12,6 +12,7 @@ use Rattle.bstr.specs.Text.{without_terminator}
 use Rattle.bstr.specs.Utf8.{lossy_chars}
 use Rattle.mh_told.specs.Printing.{character}
 use Rattle.mh_look.specs.LineWords.{is_in_word}
+use Rattle.mh_look.specs.Octets.{hex_text, octet_words, shown_octet}
 use Rattle.mh_look.specs.Shown.{is_order, harmless}
 use Rattle.mh_look.specs.Wrapping.{columns, wrapped, paragraph}
 use Rattle.mh_look.specs.Places.{plain, is_shown, IsHarmless, Line, spaced, column, characters_of, first_shown, size_shown, cut_mark, front_mark, back_mark, mark_width, meant, line_at, place_words, shown_line, caret_line, window, shown_at, shown_place, PlacesAreHarmless}
@@ -198,6 +199,13 @@ harmless_at name l size =
     harmless_words name l.number (column l)
     ⌢ harmless_window l.number (drop first cs) first (column l - first) (meant l size)
     (all_behind first cs (all_shown spaced spaced_is_shown (lossy_chars (without_terminator l.bytes))))
+
+pub harmless_octet : (name bs : List ℕ) (n : ℕ) → IsHarmless (shown_octet name bs n)
+unfolding shown_octet octet_words
+harmless_octet name bs n =
+    harmless_paragraph _
+    ⌢ harmless_window n (characters_of (hex_text (take 30 (drop (n - 10) bs)))) (n - 10) (3 * min n 10) 2
+    (all_shown spaced spaced_is_shown (lossy_chars (without_terminator (hex_text (take 30 (drop (n - 10) bs))))))
 
 pub harmless_place : PlacesAreHarmless
 unfolding shown_place

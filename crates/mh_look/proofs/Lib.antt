@@ -31,6 +31,7 @@ pub mod StepLemmas
 pub mod TailLemmas
 pub mod AdviceLemmas
 pub mod MeantLemmas
+pub mod ValueLemmas
 pub mod PlacedLemmas
 pub mod ScriptLemmas
 pub mod PostLemmas

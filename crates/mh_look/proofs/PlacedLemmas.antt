@@ -4,21 +4,23 @@ use Rattle.std.specs.List.{find, flat_map}
 use Rattle.std.specs.Option.{option_map_or}
 use Rattle.std.specs.Str.{bytes_eq}
 use Rattle.bstr.specs.Text.{lines_of, without_terminator}
+use Rattle.mh_cause.specs.declared.detail.Detail.{Detail}
 use Rattle.mh_text.specs.Landmarks.{Landmark, landmarks}
 use Rattle.mh_text.specs.declared.mark.Mark.{Mark}
 use Rattle.mh_text.specs.Marks.{mark_of}
 use Rattle.mh_look.specs.Advice.{Row, row_with, row_text, advice}
 use Rattle.mh_look.specs.LineWords.{number_in}
-use Rattle.mh_look.specs.Meant.{Sought, mention}
+use Rattle.mh_look.specs.Meant.{Sought}
 use Rattle.mh_look.specs.Missing.{is_like, like_named, like_text, missing, no_group_text, unless_group}
 use Rattle.mh_look.specs.Places.{IsHarmless}
 use Rattle.mh_look.specs.Services.{landmark_for, shown_for, shown_service}
-use Rattle.mh_look.specs.Sources.{NamedFile, Source, by_number, by_numbers, count_named, in_source, is_marked, marks_named, named_words, object_in, shown_action, shown_actions, shown_byte, shown_if_marked, shown_in, shown_landmark, shown_line, shown_line_from, shown_mark, shown_named, shown_number, shown_numbered, shown_object, shown_object_in, shown_offset, shown_named_at, shown_refused, shown_rest, shown_written_from, source_named}
+use Rattle.mh_look.specs.Sources.{NamedFile, Source, by_number, by_numbers, count_named, in_source, is_marked, marks_named, named_words, object_in, shown_action, shown_actions, shown_byte, shown_if_marked, shown_in, shown_landmark, shown_line, shown_line_from, shown_mark, shown_named, shown_detail, shown_numbered, shown_object, shown_object_in, shown_offset, shown_named_at, shown_refused, shown_rest, shown_written_from, source_named, is_octets}
 use Rattle.mh_look.specs.Spots.{Spot}
+use Rattle.mh_look.specs.Values.{detail_in}
 use Rattle.mh_look.specs.declared.explanation.marked.TheConstants.{HAVE_CHANGED}
 use Rattle.mh_look.specs.Wrapping.{paragraph}
 use Rattle.mh_look.specs.Why.{shown_spot, shown_late, shown_tags, shown_script}
-use Rattle.mh_look.proofs.HarmlessLemmas.{◌⌢◌, harmless_codes, harmless_paragraph, harmless_place}
+use Rattle.mh_look.proofs.HarmlessLemmas.{◌⌢◌, harmless_codes, harmless_octet, harmless_paragraph, harmless_place}
 
 pub none : IsHarmless []
 none = harmless_codes [] refl
@@ -71,22 +73,22 @@ unfolding shown_action
 action_put ss group object index =
     in_source_put (shown_numbered object index) (λ s. optional (shown_mark s) (mark_put s) (mark_of s.marks object index)) ss group
 
-number_put : (number : List ℕ) (s : Source) (m : Mark) → IsHarmless (shown_number number s m)
-unfolding shown_number
-number_put number s m = at_rest (mention false number (drop m.start s.text))
+detail_put : (d : Detail) (s : Source) (m : Mark) → IsHarmless (shown_detail d s m)
+unfolding shown_detail
+detail_put d s m = at_rest (detail_in d (drop m.start s.text))
   where
     at_rest : (rest : List ℕ) → IsHarmless (shown_rest s m rest)
     at_rest [] = mark_put s m
     at_rest (b ∷ bs) = in_put s _ _
 
-pub refused_put : (ss : List Source) (word number group : List ℕ) (object index : ℕ) → IsHarmless (shown_refused ss word number group object index)
+pub refused_put : (ss : List Source) (word : List ℕ) (d : Detail) (group : List ℕ) (object index : ℕ) → IsHarmless (shown_refused ss word d group object index)
 unfolding shown_refused
-refused_put ss word number group object index = in_source_put (shown_named_at word number object index) (λ s. there s (mark_of s.marks object index)) ss group
+refused_put ss word d group object index = in_source_put (shown_named_at word d object index) (λ s. there s (mark_of s.marks object index)) ss group
   where
-    there : (s : Source) (m : Option Mark) → IsHarmless (option_map_or (shown_if_marked word number s) m (paragraph HAVE_CHANGED.now))
+    there : (s : Source) (m : Option Mark) → IsHarmless (option_map_or (shown_if_marked word d s) m (paragraph HAVE_CHANGED.now))
     there s None = harmless_paragraph _
     there s (Some m) =
-        either (is_marked word m) _ _ (number_put number s m) (harmless_paragraph _)
+        either (is_marked word m) _ _ (detail_put d s m) (harmless_paragraph _)
 
 pub named_put : (word : Sought) (ss : List Source) → IsHarmless (shown_named word ss)
 named_put word ss =
@@ -106,7 +108,8 @@ object_put ss group number =
     in_source_put (shown_object_in number) (λ s. optional (shown_landmark s) (landmark_put s) (object_in number (landmarks s.text))) ss group
 
 pub byte_put : (n : ℕ) (s : Source) → IsHarmless (shown_byte n s)
-byte_put n s = either s.is_written _ _ (harmless_place s.name s.text n _) none
+byte_put n s =
+    either s.is_written _ _ (harmless_place s.name s.text n _) (either (is_octets s) _ _ (harmless_octet s.name s.text n) none)
 
 pub offset_put : (ss : List Source) (name : List ℕ) (n : ℕ) → IsHarmless (shown_offset ss name n)
 unfolding shown_offset

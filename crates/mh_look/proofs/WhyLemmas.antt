@@ -6,6 +6,7 @@ use Rattle.std.specs.Option.{option_map_or}
 use Rattle.std.specs.Str.{bytes_eq}
 use Rattle.bstr.specs.Text.{lines_of, without_terminator}
 use Rattle.mh_model.specs.declared.config.Config.{Config}
+use Rattle.mh_cause.specs.declared.detail.Detail.TheVariants as detail
 use Rattle.mh_flow.specs.declared.link.Link.{Link}
 use Rattle.mh_layers.specs.declared.arrow.Arrow.{Arrow}
 use Rattle.mh_layers.specs.declared.bounds.InputKind.{InputKind}
@@ -79,7 +80,7 @@ bound_told_put ss ways word printed = said_put word printed ⌢ bound_put ss way
 refused_spot_put : (g : Ground) (action : List ℕ) (s : Spot) → IsHarmless (refused_spot g action s)
 unfolding refused_spot
 refused_spot_put g action s =
-    harmless_paragraph _ ⌢ by_numbers_put (shown_refused g.sources action g.number s.group) (refused_put g.sources action g.number s.group) s.object s.index
+    harmless_paragraph _ ⌢ by_numbers_put (shown_refused g.sources action g.detail s.group) (refused_put g.sources action g.detail s.group) s.object s.index
 
 unless_known_put : (cycle : List Arrow) (shown : List ℕ) → IsHarmless shown → IsHarmless (unless_known cycle shown)
 unless_known_put [] shown is = is
@@ -88,7 +89,7 @@ unless_known_put (a ∷ more) shown is = none
 circle_place_put : (g : Ground) (action : List ℕ) (s : Spot) → IsHarmless (circle_place g action s)
 unfolding circle_place
 circle_place_put g action s =
-    unless_known_put g.cycle _ (by_numbers_put (shown_refused g.sources action [] s.group) (refused_put g.sources action [] s.group) s.object s.index)
+    unless_known_put g.cycle _ (by_numbers_put (shown_refused g.sources action detail.Unknown s.group) (refused_put g.sources action detail.Unknown s.group) s.object s.index)
 
 circle_spot_put : (g : Ground) (action : List ℕ) (s : Spot) → IsHarmless (circle_spot g action s)
 unfolding circle_spot

@@ -1,9 +1,12 @@
 -- The cause and the mend of a refusal, by its case.
 use Rattle.std.specs.Prelude.{ℕ, ◌-◌, ◌==◌, Bool, false, if◌then◌else◌, List, [], ◌∷◌, ◌++◌, length, slice_get, codes, Option, Some, None, unwrap_or}
 use Rattle.std.specs.Fmt.{decimal}
-use Rattle.std.specs.Option.{option_map, option_map_or}
+use Rattle.std.specs.Option.{option_map}
 use Rattle.mh_base.specs.declared.obj_ref.ObjRef.{ObjRef}
-use Rattle.mh_cause.specs.Causes.{cause, mend, number_words}
+use Rattle.mh_cause.specs.declared.detail.Detail.{Detail}
+use Rattle.mh_cause.specs.declared.detail.Detail.TheVariants as detail
+use Rattle.mh_cause.specs.Causes.{cause, mend}
+use Rattle.mh_cause.specs.Details.{detail_of}
 use Rattle.mh_cause.specs.Refusing.{Refused}
 use Rattle.mh_flow.specs.declared.link.Link.{Link}
 use Rattle.mh_layers.specs.declared.bounds.InputKind.{InputKind}
@@ -74,9 +77,14 @@ refusal_cause r = cause_for r (refused_of r)
 unfoldable pub refusal_mend : Refusal → List ℕ
 refusal_mend r = mend_for r (refused_of r)
 
--- the number by which the action names what is wrong
-unfoldable pub refusal_number : Refusal → List ℕ
-refusal_number r = option_map_or (number_words r.service) (refused_of r) []
+-- which part of the action is wrong
+
+abbrev pub detail_for : Refusal → Option Refused → Detail
+detail_for r None = detail.Unknown
+detail_for r (Some known) = detail_of r.service known
+
+unfoldable pub refusal_detail : Refusal → Detail
+refusal_detail r = detail_for r (refused_of r)
 
 -- what is told of a refusal with this number, where these are known of its case
 

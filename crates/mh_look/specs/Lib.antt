@@ -19,6 +19,7 @@ pub mod ScriptForms
 pub mod Advice
 pub mod Wrapping
 pub mod Meant
+pub mod Values
 pub mod Sources
 pub mod Services
 pub mod WayWords
@@ -37,3 +38,4 @@ pub mod Further
 pub mod Cases
 pub mod Why
 pub mod Places
+pub mod Octets

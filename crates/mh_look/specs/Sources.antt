@@ -19,12 +19,15 @@ use Rattle.mh_text.specs.declared.mark.Mark.{Mark}
 use Rattle.mh_text.specs.Marks.{marks, mark_of}
 use Rattle.mh_told.specs.Reading.{Source as File, is_group_file, table_of}
 use Rattle.mh_told.specs.declared.unplayable.Unplayable.{Unplayable}
-use Rattle.mh_look.specs.Meant.{Sought, mention, mentions}
+use Rattle.mh_cause.specs.declared.detail.Detail.{Detail}
+use Rattle.mh_look.specs.Meant.{Sought, mentions}
 use Rattle.mh_look.specs.declared.explanation.marked.TheConstants.{HAVE_CHANGED}
 use Rattle.mh_look.specs.declared.explanation.named.TheConstants.{STANDS_HERE, STAND_IN}
 use Rattle.mh_look.specs.declared.explanation.place.TheConstants.{AS_PRINTED}
 use Rattle.mh_look.specs.LineWords.{number_in}
+use Rattle.mh_look.specs.Octets.{shown_octet}
 use Rattle.mh_look.specs.Places.{shown_place}
+use Rattle.mh_look.specs.Values.{detail_in, value_size}
 use Rattle.mh_look.specs.Wrapping.{paragraph}
 
 -- a file's path, the text that is shown of it, the marks of that, whether the file begins as a group in the textual notation, whether it
@@ -130,26 +133,26 @@ abbrev pub token_size : List ℕ → ℕ
 token_size [] = 1
 token_size (b ∷ bs) = if is_quote b then prefix_len (is_no b) bs + 2 else (if is_bracket b then 1 else prefix_len is_in_token bs + 1)
 
--- the first number like this one in an action, or else its keyword
+-- a part of an action, or of a list of members, or else its keyword
 
 abbrev pub shown_rest : Source → Mark → List ℕ → List ℕ
 shown_rest s m [] = shown_mark s m
-shown_rest s m (b ∷ bs) = shown_in s (length s.text - length (b ∷ bs)) (token_size (b ∷ bs))
+shown_rest s m (b ∷ bs) = shown_in s (length s.text - length (b ∷ bs)) (value_size (b ∷ bs))
 
-unfoldable pub shown_number : List ℕ → Source → Mark → List ℕ
-shown_number number s m = shown_rest s m (mention false number (drop m.start s.text))
+unfoldable pub shown_detail : Detail → Source → Mark → List ℕ
+shown_detail d s m = shown_rest s m (detail_in d (drop m.start s.text))
 
 -- where something else stands there, the output is of other files
-abbrev pub shown_if_marked : List ℕ → List ℕ → Source → Mark → List ℕ
-shown_if_marked word number s m = if is_marked word m then shown_number number s m else paragraph HAVE_CHANGED.now
+abbrev pub shown_if_marked : List ℕ → Detail → Source → Mark → List ℕ
+shown_if_marked word d s m = if is_marked word m then shown_detail d s m else paragraph HAVE_CHANGED.now
 
-abbrev pub shown_named_at : List ℕ → List ℕ → ℕ → ℕ → Source → List ℕ
-shown_named_at word number object index s =
-    option_map_or (shown_if_marked word number s) (mark_of s.marks object index) (paragraph HAVE_CHANGED.now)
+abbrev pub shown_named_at : List ℕ → Detail → ℕ → ℕ → Source → List ℕ
+shown_named_at word d object index s =
+    option_map_or (shown_if_marked word d s) (mark_of s.marks object index) (paragraph HAVE_CHANGED.now)
 
--- an action of this name, and the number in it that is wrong
-unfoldable pub shown_refused : List Source → List ℕ → List ℕ → List ℕ → ℕ → ℕ → List ℕ
-shown_refused ss word number group object index = in_source (shown_named_at word number object index) ss group
+-- an action of this name, and the part of it that is wrong
+unfoldable pub shown_refused : List Source → List ℕ → Detail → List ℕ → ℕ → ℕ → List ℕ
+shown_refused ss word d group object index = in_source (shown_named_at word d object index) ss group
 
 -- where all actions stand that can be meant
 
@@ -204,9 +207,16 @@ shown_object ss group number = in_source (shown_object_in number) ss group
 
 -- BYTES AND LINES
 
--- what is shown of the token at a byte of a file, if it is one of a text
+-- what is shown of the token at a byte of a file, if it is one of a text; or of the octet, if it is a group in octets
+
+abbrev pub is_octets : Source → Bool
+is_octets s = s.is_group && not s.is_printed
+
+abbrev pub octet_of : ℕ → Source → List ℕ
+octet_of n s = if is_octets s then shown_octet s.name s.text n else []
+
 abbrev pub shown_byte : ℕ → Source → List ℕ
-shown_byte n s = if s.is_written then shown_place s.name s.text n (token_size (drop n s.text)) else []
+shown_byte n s = if s.is_written then shown_place s.name s.text n (token_size (drop n s.text)) else octet_of n s
 
 unfoldable pub shown_offset : List Source → List ℕ → ℕ → List ℕ
 shown_offset ss name n = in_source (shown_byte n) ss name

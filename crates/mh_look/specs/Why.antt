@@ -4,6 +4,8 @@ use Rattle.std.specs.Prelude.{ℕ, if◌then◌else◌, List, [], ◌∷◌, ◌
 use Rattle.std.specs.Option.{option_map_or}
 use Rattle.std.specs.Str.{bytes_eq}
 use Rattle.bstr.specs.Text.{lines_of, without_terminator}
+use Rattle.mh_cause.specs.declared.detail.Detail.{Detail}
+use Rattle.mh_cause.specs.declared.detail.Detail.TheVariants as detail
 use Rattle.mh_flow.specs.declared.link.Link.{Link}
 use Rattle.mh_layers.specs.declared.arrow.Arrow.{Arrow}
 use Rattle.mh_layers.specs.declared.way.Way.{Way}
@@ -31,7 +33,7 @@ use Rattle.mh_look.specs.WayWords.{bound_text, bound_told}
 use Rattle.mh_look.specs.Wrapping.{paragraph}
 
 -- What is known beside an output: the files of the service, the dearest ways of its inputs, the chain and the circle of its refusal, its cause and its mend by its case, and the
--- number by which the action names what is wrong, the
+-- part of the action that is wrong, the
 -- file that names late scenes, the one that gives tags, and the script. Where these are not known, there are no ways, links and arrows,
 -- and none of these files.
 
@@ -42,7 +44,7 @@ pub record Known : Type 0 where
   pub cycle : List Arrow
   pub cause : List ℕ
   pub mend : List ℕ
-  pub number : List ℕ
+  pub detail : Detail
   pub late : Option NamedFile
   pub tags : Option NamedFile
   pub script : Option NamedFile
@@ -55,7 +57,7 @@ pub record Ground : Type 0 where
   pub cycle : List Arrow
   pub cause : List ℕ
   pub mend : List ℕ
-  pub number : List ℕ
+  pub detail : Detail
   pub late : Option NamedFile
   pub tags : Option NamedFile
   pub script : Option NamedFile
@@ -83,7 +85,7 @@ refused_words action s =
 unfoldable pub refused_spot : Ground → List ℕ → Spot → List ℕ
 refused_spot g action s =
     paragraph (STANDS_IN.now ++ refused_words action s ++ codes ".")
-    ++ by_numbers (shown_refused g.sources action g.number s.group) s.object s.index
+    ++ by_numbers (shown_refused g.sources action g.detail s.group) s.object s.index
 
 -- the effect of which a circle is told; where its arrows are known, they show the actions
 unfoldable pub circle_words : List ℕ → Spot → List ℕ
@@ -94,7 +96,7 @@ unless_known [] shown = shown
 unless_known (a ∷ more) shown = []
 
 unfoldable pub circle_place : Ground → List ℕ → Spot → List ℕ
-circle_place g action s = unless_known g.cycle (by_numbers (shown_refused g.sources action [] s.group) s.object s.index)
+circle_place g action s = unless_known g.cycle (by_numbers (shown_refused g.sources action detail.Unknown s.group) s.object s.index)
 
 unfoldable pub circle_spot : Ground → List ℕ → Spot → List ℕ
 circle_spot g action s = paragraph (circle_words action s) ++ circle_place g action s
@@ -287,7 +289,7 @@ abbrev pub first_past : Ground → Past
 first_past g = record { refusal = []; before = []; chain = g.chain; cycle = g.cycle; script = script_bytes g.script }
 
 abbrev pub ground : Known → Ground
-ground k = record { sources = map (source_of (table_by k.tags)) k.files; ways = k.ways; chain = k.chain; cycle = k.cycle; cause = k.cause; mend = k.mend; number = k.number; late = k.late; tags = k.tags; script = k.script }
+ground k = record { sources = map (source_of (table_by k.tags)) k.files; ways = k.ways; chain = k.chain; cycle = k.cycle; cause = k.cause; mend = k.mend; detail = k.detail; late = k.late; tags = k.tags; script = k.script }
 
 unfoldable pub why : Known → List ℕ → List ℕ
 why k output = explained_all (ground k) (first_past (ground k)) (map without_terminator (lines_of output))

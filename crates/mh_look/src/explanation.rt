@@ -28,6 +28,7 @@ pub(crate) mod spot;
 pub(crate) mod through;
 pub(crate) mod token;
 pub(crate) mod unread;
+pub(crate) mod values;
 pub(crate) mod variable;
 pub(crate) mod way;
 pub(crate) mod words;
@@ -46,6 +47,7 @@ use crate::files::shown::{Source, table_by};
 use crate::script::posts::{script_behind, script_bytes};
 use bstr::ByteSlice;
 use mh_base::GroupName;
+use mh_cause::Detail;
 use mh_codec::TagTable;
 use mh_flow::Link;
 use mh_layers::{Arrow, Way};
@@ -67,8 +69,8 @@ pub struct Known<'a> {
     /// The cause of its refusal by its case, and the mend; where the case is not known, nothing.
     pub cause: &'a [u8],
     pub mend: &'a [u8],
-    /// The number by which the action names what is wrong, if that is known.
-    pub number: &'a [u8],
+    /// Which part of the action is wrong.
+    pub detail: Detail,
     /// The file that names late scenes, if it is known.
     pub late: Option<NamedFile<'a>>,
     /// The file that gives the tags of the binary notation, if it is known; without it, or where it makes no table,
@@ -83,7 +85,7 @@ impl<'a> Model for Known<'a> {
 
     ghost Value = { Known };
 
-    ghost view = { λ k. record { files = k.files.now; ways = k.ways.now; chain = k.chain.now; cycle = k.cycle.now; cause = k.cause.now; mend = k.mend.now; number = k.number.now; late = k.late; tags = k.tags; script = k.script } };
+    ghost view = { λ k. record { files = k.files.now; ways = k.ways.now; chain = k.chain.now; cycle = k.cycle.now; cause = k.cause.now; mend = k.mend.now; detail = k.detail; late = k.late; tags = k.tags; script = k.script } };
 }
 
 /// What is explained of the output of `check` or `play`.
@@ -100,7 +102,7 @@ pub fn why(alloc: Global, known: &Known<'_>, output: &[u8]) -> Result<Text, Allo
         cycle: known.cycle,
         cause: known.cause,
         mend: known.mend,
-        number: known.number,
+        detail: known.detail,
         late: known.late.as_ref(),
         tags: known.tags.as_ref(),
         script: known.script.as_ref(),

@@ -4,6 +4,7 @@
 //! What stands in the file never tells the terminal what to do: each character that would is shown
 //! as U+FFFD.
 
+pub(crate) mod octets;
 pub(crate) mod window;
 
 ghost use Rattle.std.specs.Prelude.{◌≡◌, ◌≤◌, ◌<◌, ◌^◌, ◌++◌, OnOk, IfOk, length, take, drop, replicate};
@@ -115,7 +116,7 @@ fn put_in_line(
 }
 
 /// The characters of a line as they are shown.
-fn characters_of(alloc: Global, line: &[u8]) -> Result<Vec<u32>, AllocError>
+pub(crate) fn characters_of(alloc: Global, line: &[u8]) -> Result<Vec<u32>, AllocError>
     ensures { IfOk result (λ characters. characters.items ≡ characters_of line.now) }
 {
     let mut characters = Vec::new(alloc);

@@ -1,6 +1,9 @@
 -- How a misread text is mended. What is told has no full stop.
-use Rattle.std.specs.Prelude.{unsigned_abs, ℕ, ◌==◌, Bool, true, false, if◌then◌else◌, List, [], ◌∷◌, ◌++◌, drop, codes, Option, Some, None}
+use Rattle.std.specs.Prelude.{unsigned_abs, ℕ, ◌==◌, ◌&&◌, Bool, true, false, nat_le, if◌then◌else◌, List, [], ◌∷◌, ◌++◌, length, take, drop, codes, Option, Some, None}
 use Rattle.std.specs.Fmt.{decimal}
+use Rattle.std.specs.Option.{option_map_or}
+use Rattle.std.specs.Str.{bytes_eq}
+use Rattle.mh_group.specs.declared.action_name.ActionName.{ActionName}
 use Rattle.mh_group.specs.declared.class.Class.{Class}
 use Rattle.mh_group.specs.declared.attribute.Attribute.{Attribute}
 use Rattle.mh_group.specs.declared.shape.Need.TheVariants as need
@@ -8,7 +11,11 @@ use Rattle.mh_group.specs.declared.shape.Shape.{Shape}
 use Rattle.mh_group.specs.declared.shape.Shape.TheVariants as shape
 use Rattle.mh_misread.specs.declared.part.Part.TheVariants as part
 use Rattle.mh_group.specs.Table.{shape_of}
-use Rattle.mh_group.specs.Words.{events}
+use Rattle.mh_group.specs.Words.{action_word, actions, events}
+use Rattle.mh_text.specs.declared.token_kind.TokenKind.{TokenKind}
+use Rattle.mh_misread.specs.declared.part.Listed.TheVariants as listed
+use Rattle.mh_misread.specs.declared.part.Row.TheVariants as row
+use Rattle.mh_misread.specs.Misreads.{first_token}
 use Rattle.mh_misread.specs.declared.name.Name.{Name}
 use Rattle.mh_misread.specs.declared.part.Part.{Part}
 use Rattle.mh_misread.specs.declared.goal.Goal.{Goal}
@@ -52,6 +59,7 @@ slip_mend file offset (slip.ByteInString mark b held) = string_byte_mend file of
 slip_mend file offset slip.Escape = told.ESCAPE_MEND.now
 slip_mend file offset slip.Colon = told.COLON_MEND.now
 slip_mend file offset slip.Minus = told.MINUS_MEND.now
+slip_mend file offset slip.Point = told.POINT_MEND.now
 slip_mend file offset (slip.Byte b) = told.BYTE_MEND.now
 
 unfoldable pub name_mend : Name → List ℕ
@@ -89,9 +97,34 @@ wanted_mend (goal.Value c a) = event_mend (is_event_shape (shape_of c a)) (goal.
 wanted_mend (goal.Part r n) = event_mend (is_event_part (part_at r n)) (goal.Part r n)
 wanted_mend g = plain_mend g
 
-abbrev pub unknown_mend : Goal → Option Name → List ℕ
-unknown_mend g (Some n) = name_mend n
-unknown_mend g None = wanted_mend g
+-- the name of the keyword that is found
+abbrev pub name_found : List ℕ → ℕ → List ℕ
+name_found file offset = option_map_or (λ (t : TokenKind × List ℕ). drop 1 t.1) (first_token (drop offset file)) []
+
+-- the three letters in front are the same
+abbrev pub begin_alike : List ℕ → List ℕ → Bool
+begin_alike word other = nat_le 3 (length word) && bytes_eq (take 3 word) (take 3 other)
+
+-- those of the actions with names that begin as the word does, with words in front of the first
+abbrev pub actions_alike : List ℕ → List ℕ → List ActionName → List ℕ
+actions_alike front word [] = []
+actions_alike front word (a ∷ more) =
+    if begin_alike word (action_word a) then front ++ action_word a ++ actions_alike (codes ", ") word more
+    else actions_alike front word more
+
+unfoldable pub alike_told : List ℕ → List ℕ
+alike_told word = actions_alike told.BEGIN_ALIKE.now word actions
+
+abbrev pub alike_for : Goal → List ℕ → List ℕ
+alike_for (goal.Members listed.Actions) word = alike_told word
+alike_for g word = []
+
+unfoldable pub open_mend : List ℕ → ℕ → Goal → List ℕ
+open_mend file offset g = wanted_mend g ++ alike_for g (name_found file offset)
+
+abbrev pub unknown_mend : List ℕ → ℕ → Goal → Option Name → List ℕ
+unknown_mend file offset g (Some n) = name_mend n
+unknown_mend file offset g None = open_mend file offset g
 
 -- the byte that closes what this one opens
 abbrev pub closing : List ℕ → List ℕ
@@ -107,8 +140,16 @@ not_taken_mend a = told.TAKE_AWAY_OR.now ++ classes_taking a
 unfoldable pub lacks_mend : Class → Attribute → List ℕ
 lacks_mend c a = codes "write " ++ field_row c a
 
+-- within a reference its own part is wanted, whatever is being read
+abbrev pub is_in_reference : Goal → Bool
+is_in_reference (goal.Part row.Reference n) = true
+is_in_reference g = false
+
+abbrev pub row_for : Goal → Option Goal → Option Goal
+row_for g r = if is_in_reference g then None else r
+
 unfoldable pub unwanted_mend : Goal → Option Goal → List ℕ
-unwanted_mend g r = codes "write " ++ row_written g r
+unwanted_mend g r = codes "write " ++ row_written g (row_for g r)
 
 unfoldable pub range_mend : Goal → List ℕ
 range_mend g = codes "write " ++ limits_words (limits_of g)
@@ -117,7 +158,8 @@ range_mend g = codes "write " ++ limits_words (limits_of g)
 unfoldable pub mend : List ℕ → ℕ → Misread → List ℕ
 mend file offset (misread.Slip s) = slip_mend file offset s
 mend file offset (misread.NoColon n) = name_mend n
-mend file offset (misread.Unknown g n) = unknown_mend g n
+mend file offset (misread.Unknown g n) = unknown_mend file offset g n
+mend file offset misread.BehindString = told.BEHIND_STRING_MEND.now
 mend file offset (misread.KeyName k) = key_mend k
 mend file offset misread.Tight = told.TIGHT_MEND.now
 mend file offset misread.Behind = told.BEHIND_MEND.now

@@ -1,5 +1,5 @@
 -- What is wrong with a text, of which it is known at which offset reading stopped, and by which number.
-use Rattle.std.specs.Prelude.{ℕ, ◌-◌, ◌==◌, ◌&&◌, Bool, true, false, not, nat_lt, if◌then◌else◌, List, [], ◌∷◌, length, slice_get, take, drop, Option, Some, None}
+use Rattle.std.specs.Prelude.{ℕ, ◌-◌, ◌==◌, ◌&&◌, ◌||◌, Bool, true, false, not, nat_lt, if◌then◌else◌, List, [], ◌∷◌, length, slice_get, take, drop, Option, Some, None}
 use Rattle.std.specs.List.{find, list_any}
 use Rattle.std.specs.Option.{option_map}
 use Rattle.mh_base.specs.Reading.{whole}
@@ -12,6 +12,7 @@ use Rattle.mh_group.specs.declared.shape.Shape.TheVariants as shape
 use Rattle.mh_group.specs.declared.shape.Need.TheVariants as need
 use Rattle.mh_group.specs.Table.{shape_of, takes, required_of, is_group_class}
 use Rattle.mh_text.specs.declared.token_kind.TokenKind.{TokenKind}
+use Rattle.mh_text.specs.declared.token_kind.TokenKind.TheVariants as token_kind
 use Rattle.mh_text.specs.Left.{Lexed, token, lexed}
 use Rattle.mh_misread.specs.declared.name.Name.TheVariants as name
 use Rattle.mh_misread.specs.declared.piece.Sign.{Sign}
@@ -203,8 +204,27 @@ unknown_at None t = None
 unknown_at (Some f) None = None
 unknown_at (Some f) (Some t) = Some (unknown f.goal t.0 t.1)
 
+-- a word right behind the end of a string
+
+abbrev pub is_string_mark : Option ℕ → Bool
+is_string_mark (Some b) = b == 34 || b == 39
+is_string_mark None = false
+
+abbrev pub ends_string : List ℕ → Bool
+ends_string bs = is_string_mark (slice_get bs (length bs - 1))
+
+abbrev pub is_word : TokenKind → Bool
+is_word token_kind.Word = true
+is_word _ = false
+
+abbrev pub is_behind_string : List ℕ → Option (TokenKind × List ℕ) → Bool
+is_behind_string front None = false
+is_behind_string front (Some t) = ends_string front && is_word t.0
+
 unfoldable pub unknown_name : List ℕ → ℕ → Option Misread
-unknown_name file offset = unknown_at (top_of (wanted_behind (pieces_before file offset))) (first_token (drop offset file))
+unknown_name file offset =
+    if is_behind_string (take offset file) (first_token (drop offset file)) then Some misread.BehindString
+    else unknown_at (top_of (wanted_behind (pieces_before file offset))) (first_token (drop offset file))
 
 abbrev pub range_at : Option Frame → Option Misread
 range_at (Some f) = Some (misread.OutOfRange f.goal)

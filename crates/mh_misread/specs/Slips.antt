@@ -22,4 +22,5 @@ slip_of (b ∷ bs) =
     else (if b == 58 then Some slip.Colon
     else (if b == 45 then Some slip.Minus
     else (if b == 35 || b == 47 then Some (slip.Comment b)
-    else (if b == 44 || b == 59 then Some (slip.Separator b) else Some (slip.Byte b))))))
+    else (if b == 44 || b == 59 then Some (slip.Separator b)
+    else (if b == 46 then Some slip.Point else Some (slip.Byte b)))))))

@@ -202,6 +202,7 @@ slip_cause file offset (slip.ByteInString mark b held) = string_byte_cause b
 slip_cause file offset slip.Escape = told.ESCAPE_CAUSE.now
 slip_cause file offset slip.Colon = told.COLON_CAUSE.now
 slip_cause file offset slip.Minus = told.MINUS_CAUSE.now
+slip_cause file offset slip.Point = told.POINT_CAUSE.now
 slip_cause file offset (slip.Byte b) = byte_cause b
 
 unfoldable pub no_colon_cause : Name → List ℕ
@@ -209,6 +210,9 @@ no_colon_cause n = marked (word_of n) ++ told.WANTS_COLON.now
 
 unfoldable pub unknown_cause : List ℕ → ℕ → List ℕ
 unknown_cause file offset = told.NO_TABLE_HAS.now ++ found file offset
+
+unfoldable pub behind_string_cause : List ℕ → ℕ → List ℕ
+behind_string_cause file offset = found file offset ++ told.RIGHT_BEHIND_STRING.now
 
 unfoldable pub key_cause : List ℕ → ℕ → List ℕ
 key_cause file offset = found file offset ++ told.IS_A_KEY.now
@@ -245,6 +249,7 @@ unfoldable pub cause : List ℕ → ℕ → Misread → List ℕ
 cause file offset (misread.Slip s) = slip_cause file offset s
 cause file offset (misread.NoColon n) = no_colon_cause n
 cause file offset (misread.Unknown g n) = unknown_cause file offset
+cause file offset misread.BehindString = behind_string_cause file offset
 cause file offset (misread.KeyName k) = key_cause file offset
 cause file offset misread.Tight = tight_cause file offset
 cause file offset misread.Behind = behind_cause file offset

@@ -1,6 +1,6 @@
 //! What is told of a misread text: what was found, and what is wanted. It has no full stop.
 ghost use Rattle.std.specs.Prelude.{◌≡◌, ◌++◌, OnOk};
-ghost use Rattle.mh_misread.specs.Telling.{comment_cause, separator_cause, string_cause, string_byte_cause, byte_cause, slip_cause, no_colon_cause, unknown_cause, key_cause, tight_cause, behind_cause, end_cause, unclosed_cause, not_taken_cause, twice_cause, lacks_cause, unwanted_cause, range_cause, cause};
+ghost use Rattle.mh_misread.specs.Telling.{comment_cause, separator_cause, string_cause, string_byte_cause, byte_cause, slip_cause, no_colon_cause, unknown_cause, behind_string_cause, key_cause, tight_cause, behind_cause, end_cause, unclosed_cause, not_taken_cause, twice_cause, lacks_cause, unwanted_cause, range_cause, cause};
 
 use crate::found::{
     put_bracket_words, put_byte_words, put_found, put_keyword_written, put_line_words, put_marked,
@@ -12,8 +12,8 @@ use crate::name::Name;
 use crate::phrases::{
     BARE_NAME_CAUSE, BETWEEN_ITEMS, COLON_CAUSE, COMMENTS_BEGIN, DOES_NOT_END, ENDS_WITHOUT,
     ESCAPE_CAUSE, IN_NO_STRING, IN_PLACE_OF, IS_A_KEY, IS_NO_FIELD, MINUS_CAUSE, NO_TABLE_HAS,
-    NOTHING_BEGINS, SPACE_LACKS, STANDS_BEHIND, STANDS_HERE, STANDS_IN_THIS, STRING_BEGINS,
-    STRING_HAS, TEXT_ENDS, WANTS_COLON,
+    NOTHING_BEGINS, POINT_CAUSE, RIGHT_BEHIND_STRING, SPACE_LACKS, STANDS_BEHIND, STANDS_HERE,
+    STANDS_IN_THIS, STRING_BEGINS, STRING_HAS, TEXT_ENDS, WANTS_COLON,
 };
 use crate::slip::Slip;
 use crate::wanted::put_wanted;
@@ -82,6 +82,7 @@ fn put_slip_cause(text: &mut Text, file: &[u8], offset: usize, slip: Slip) -> Re
         Slip::Escape => text.put(ESCAPE_CAUSE),
         Slip::Colon => text.put(COLON_CAUSE),
         Slip::Minus => text.put(MINUS_CAUSE),
+        Slip::Point => text.put(POINT_CAUSE),
         Slip::Byte(byte) => put_byte_cause(text, byte),
     }
 }
@@ -102,6 +103,15 @@ fn put_unknown_cause(text: &mut Text, file: &[u8], offset: usize) -> Result<(), 
 {
     text.put(NO_TABLE_HAS)?;
     put_found(text, file, offset)
+}
+
+/// Puts that a string ends right in front of what is found.
+#[tactic(auto, unfolding(crate::specs::Telling::behind_string_cause))]
+fn put_behind_string_cause(text: &mut Text, file: &[u8], offset: usize) -> Result<(), AllocError>
+    ensures { OnOk result (text.new ≡ text.old ++ behind_string_cause file.now offset) }
+{
+    put_found(text, file, offset)?;
+    text.put(RIGHT_BEHIND_STRING)
 }
 
 /// Puts that it is the name of a key.
@@ -237,6 +247,7 @@ pub fn put_cause(
         Misread::Slip(slip) => put_slip_cause(text, file, offset, slip),
         Misread::NoColon(name) => put_no_colon_cause(text, name),
         Misread::Unknown(_, _) => put_unknown_cause(text, file, offset),
+        Misread::BehindString => put_behind_string_cause(text, file, offset),
         Misread::KeyName(_) => put_key_cause(text, file, offset),
         Misread::Tight => put_tight_cause(text, file, offset),
         Misread::Behind => put_behind_cause(text, file, offset),

@@ -88,7 +88,7 @@ fn hex_digit(number: u8) -> u8
 
 /// Puts a byte in two hexadecimal digits.
 #[tactic(auto, unfolding(crate::specs::Telling::hex_byte))]
-pub(crate) fn put_hex_byte(text: &mut Text, byte: u8) -> Result<(), AllocError>
+pub fn put_hex_byte(text: &mut Text, byte: u8) -> Result<(), AllocError>
     ensures { OnOk result (text.new ≡ text.old ++ hex_byte byte) }
 {
     text.put(&[hex_digit(byte / 16), hex_digit(byte % 16)])

@@ -6,6 +6,7 @@
 //! `mh_group`, so that a row more in these needs no text here.
 #![tactic(auto)]
 
+mod alike;
 mod cause;
 mod found;
 mod gap;
@@ -32,6 +33,7 @@ mod wanted;
 mod words;
 
 pub use cause::put_cause;
+pub use found::put_hex_byte;
 pub use likeness::is_like;
 pub use mend::put_mend;
 pub use misread::{Misread, misread_of};

@@ -1,17 +1,19 @@
 //! How a misread text is mended. What is told has no full stop.
 ghost use Rattle.std.specs.Prelude.{◌≡◌, ◌++◌, OnOk};
-ghost use Rattle.mh_misread.specs.Mending.{separator_mend, string_mend, escape_mend, quote_mend, character_mend, string_byte_mend, slip_mend, name_mend, key_mend, fields_mend, events_mend, plain_mend, is_event_shape, is_event_part, event_mend, wanted_mend, unknown_mend, closing, closing_mend, not_taken_mend, lacks_mend, unwanted_mend, range_mend, mend};
+ghost use Rattle.mh_misread.specs.Mending.{separator_mend, string_mend, escape_mend, quote_mend, character_mend, string_byte_mend, slip_mend, name_mend, key_mend, fields_mend, events_mend, plain_mend, is_event_shape, is_event_part, event_mend, wanted_mend, unknown_mend, open_mend, is_in_reference, row_for, closing, closing_mend, not_taken_mend, lacks_mend, unwanted_mend, range_mend, mend};
 
+use crate::alike::{name_found, put_alike_for};
 use crate::found::{character_of, put_byte_words, put_escaped, put_marked, put_written};
 use crate::goal::Goal;
 use crate::limits::limits_of;
 use crate::misread::Misread;
 use crate::name::Name;
-use crate::part::{Part, part_at};
+use crate::part::{Part, Row, part_at};
 use crate::phrases::{
-    BARE_NAME_MEND, BEHIND_MEND, BETWEEN_APOSTROPHES, BYTE_MEND, COLON_MEND, COMMENT_MEND,
-    ESCAPE_MEND, IN_ITS_PLACE, IN_PLACE_OF_BYTE, MINUS_MEND, ONE_OF_EVENTS, ONE_OF_FIELDS,
-    TAKE_AWAY_OR, TIGHT_MEND, TWICE_MEND, WHERE_IT_ENDS, WHERE_STRING_ENDS, WRITE_ITS,
+    BARE_NAME_MEND, BEHIND_MEND, BEHIND_STRING_MEND, BETWEEN_APOSTROPHES, BYTE_MEND, COLON_MEND,
+    COMMENT_MEND, ESCAPE_MEND, IN_ITS_PLACE, IN_PLACE_OF_BYTE, MINUS_MEND, ONE_OF_EVENTS,
+    ONE_OF_FIELDS, POINT_MEND, TAKE_AWAY_OR, TIGHT_MEND, TWICE_MEND, WHERE_IT_ENDS,
+    WHERE_STRING_ENDS, WRITE_ITS,
 };
 use crate::slip::Slip;
 use crate::span::behind;
@@ -104,6 +106,7 @@ fn put_slip_mend(text: &mut Text, file: &[u8], offset: usize, slip: Slip) -> Res
         Slip::Escape => text.put(ESCAPE_MEND),
         Slip::Colon => text.put(COLON_MEND),
         Slip::Minus => text.put(MINUS_MEND),
+        Slip::Point => text.put(POINT_MEND),
         Slip::Byte(_) => text.put(BYTE_MEND),
     }
 }
@@ -190,13 +193,41 @@ fn put_wanted_mend(text: &mut Text, goal: Goal) -> Result<(), AllocError>
     }
 }
 
-fn put_unknown_mend(text: &mut Text, goal: Goal, near: Option<Name>) -> Result<(), AllocError>
-    ensures { OnOk result (text.new ≡ text.old ++ unknown_mend goal near) }
+fn put_unknown_mend(
+    text: &mut Text,
+    file: &[u8],
+    offset: usize,
+    goal: Goal,
+    near: Option<Name>,
+) -> Result<(), AllocError>
+    ensures { OnOk result (text.new ≡ text.old ++ unknown_mend file.now offset goal near) }
 {
     match near {
         Some(name) => put_name_mend(text, name),
-        None => put_wanted_mend(text, goal),
+        None => put_open_mend(text, file, offset, goal),
     }
+}
+
+/// Puts what may be written, and which actions have a name that begins alike.
+#[tactic(auto, unfolding(crate::specs::Mending::open_mend))]
+fn put_open_mend(text: &mut Text, file: &[u8], offset: usize, goal: Goal) -> Result<(), AllocError>
+    ensures { OnOk result (text.new ≡ text.old ++ open_mend file.now offset goal) }
+{
+    put_wanted_mend(text, goal)?;
+    put_alike_for(text, goal, name_found(file, offset))
+}
+
+fn is_in_reference(goal: Goal) -> bool
+    ensures { result ≡ is_in_reference goal }
+{
+    matches!(goal, Goal::Part(Row::Reference, _))
+}
+
+/// The action or the field that is being read, but within a reference.
+fn row_for(goal: Goal, row: Option<Goal>) -> Option<Goal>
+    ensures { result ≡ row_for goal row }
+{
+    if is_in_reference(goal) { None } else { row }
 }
 
 /// The byte that closes what the first of these opens.
@@ -243,7 +274,7 @@ fn put_unwanted_mend(text: &mut Text, goal: Goal, row: Option<Goal>) -> Result<(
     ensures { OnOk result (text.new ≡ text.old ++ unwanted_mend goal row) }
 {
     text.put(b"write ")?;
-    put_row_written(text, goal, row)
+    put_row_written(text, goal, row_for(goal, row))
 }
 
 /// Puts between which limits a value lies.
@@ -268,7 +299,8 @@ pub fn put_mend(
     match misread {
         Misread::Slip(slip) => put_slip_mend(text, file, offset, slip),
         Misread::NoColon(name) => put_name_mend(text, name),
-        Misread::Unknown(goal, near) => put_unknown_mend(text, goal, near),
+        Misread::Unknown(goal, near) => put_unknown_mend(text, file, offset, goal, near),
+        Misread::BehindString => text.put(BEHIND_STRING_MEND),
         Misread::KeyName(key) => put_key_mend(text, key),
         Misread::Tight => text.put(TIGHT_MEND),
         Misread::Behind => text.put(BEHIND_MEND),

@@ -4,19 +4,20 @@ ghost use Rattle.std.specs.List.{find};
 ghost use Rattle.std.specs.Option.{option_map};
 ghost use Rattle.mh_misread.specs.Goals.{wanted_behind};
 ghost use Rattle.mh_misread.specs.Pieces.{pieces_before};
-ghost use Rattle.mh_misread.specs.Misreads.{misread_of, syntax, syntax_at, unknown_name, unknown_at, out_of_range, range_at, first_token, top_of};
+ghost use Rattle.mh_misread.specs.Misreads.{misread_of, syntax, syntax_at, unknown_name, unknown_at, out_of_range, range_at, first_token, top_of, is_behind_string, ends_string, is_string_mark, is_word};
 
 use crate::goal::{Frame, Goal};
 use crate::name::Name;
 use crate::piece::pieces_before;
 use crate::slip::{Slip, slip_of};
-use crate::span::behind;
+use crate::span::{behind, front};
 use crate::stack::Stack;
 use crate::syntax::syntax;
 use crate::token::first_token;
 use crate::unknown::unknown;
 use mh_group::{Attribute, Class};
 use mh_model::Key;
+use mh_text::TokenKind;
 use std::alloc::{AllocError, Global};
 
 /// What is wrong with a text at the place where reading stopped.
@@ -28,6 +29,8 @@ pub enum Misread {
     NoColon(Name),
     /// A keyword or a word that no table has, where this is wanted; and the name that is most like it.
     Unknown(Goal, Option<Name>),
+    /// A word right behind the end of a string.
+    BehindString,
     /// A key by its name, where its number is wanted.
     KeyName(Key),
     /// No white space stands in front of the token.
@@ -76,8 +79,42 @@ pub fn misread_of(
 fn unknown_name(alloc: Global, file: &[u8], offset: usize) -> Result<Option<Misread>, AllocError>
     ensures { IfOk result (λ misread. misread ≡ unknown_name file.now offset) }
 {
+    if is_behind_string(front(file, offset), behind(file, offset)) {
+        return Ok(Some(Misread::BehindString));
+    }
     let top = top_at(alloc, file, offset)?;
     Ok(unknown_at(top, behind(file, offset)))
+}
+
+/// Whether the first bytes end with a string, and the others begin with a word.
+fn is_behind_string(before: &[u8], bytes: &[u8]) -> bool
+    ensures { result ≡ is_behind_string before.now (first_token bytes.now) }
+{
+    match first_token(bytes) {
+        Some(token) => ends_string(before) && is_word(token.kind),
+        None => false,
+    }
+}
+
+fn ends_string(bytes: &[u8]) -> bool
+    ensures { result ≡ ends_string bytes.now }
+{
+    is_string_mark(bytes.last().copied())
+}
+
+fn is_string_mark(byte: Option<u8>) -> bool
+    ensures { result ≡ is_string_mark byte }
+{
+    match byte {
+        Some(byte) => byte == b'"' || byte == b'\'',
+        None => false,
+    }
+}
+
+fn is_word(kind: TokenKind) -> bool
+    ensures { result ≡ is_word kind }
+{
+    matches!(kind, TokenKind::Word)
 }
 
 /// A name that no table has, at the front of these bytes, where this is wanted.

@@ -41,6 +41,10 @@ pub const COLON_CAUSE: &[u8] = b"no name stands right behind this `:`";
 
 pub const MINUS_CAUSE: &[u8] = b"no digit stands right behind this `-`";
 
+pub const POINT_CAUSE: &[u8] = b"numbers are whole, and a `.` stands in strings alone";
+
+pub const RIGHT_BEHIND_STRING: &[u8] = b" stands right behind a string, which ends in front of it";
+
 pub const WANTS_COLON: &[u8] = b" is a keyword, and wants a colon in front";
 
 pub const IS_A_KEY: &[u8] = b" is the name of a key, and its number is wanted";
@@ -82,6 +86,13 @@ pub const COLON_MEND: &[u8] = b"write the name of the keyword behind it, or take
 pub const MINUS_MEND: &[u8] = b"write the number behind it, or take it away";
 
 pub const BYTE_MEND: &[u8] = b"take it away, or write it in a string";
+
+pub const POINT_MEND: &[u8] = b"write a whole number, or take the `.` away";
+
+pub const BEHIND_STRING_MEND: &[u8] =
+    b"write `=27` for each `'` within the string, or the whole between `'` where `\"` is part of it; no name has a `\"`";
+
+pub const BEGIN_ALIKE: &[u8] = b"; these begin alike: ";
 
 pub const ONE_OF_FIELDS: &[u8] = b"write one of its fields: ";
 

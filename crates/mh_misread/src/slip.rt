@@ -21,6 +21,8 @@ pub enum Slip {
     Colon,
     /// A minus sign with no digit behind it.
     Minus,
+    /// A full stop, which is part of no number.
+    Point,
     /// Any other byte.
     Byte(u8),
 }
@@ -38,6 +40,7 @@ pub(crate) fn slip_of(bytes: &[u8]) -> Option<Slip>
         b'-' => Slip::Minus,
         b'#' | b'/' => Slip::Comment(*first),
         b',' | b';' => Slip::Separator(*first),
+        b'.' => Slip::Point,
         byte => Slip::Byte(byte),
     })
 }

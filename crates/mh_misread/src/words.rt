@@ -83,9 +83,9 @@ pub const A_NAME: &[u8] = b"a name, as `\"~/main\"`";
 
 pub const ZERO: &[u8] = b"the number 0";
 
-pub const A_NUMBER: &[u8] = b"the number of an object";
+pub const A_NUMBER: &[u8] = b"the number of an object, or 0 for the group itself";
 
-pub const A_SLOT: &[u8] = b"the actions of a slot in brackets, or `)`";
+pub const A_SLOT: &[u8] = b"the actions of a slot in brackets, as `( :Run (10) )`, or `)`";
 
 pub const A_TARGET: &[u8] = b"the reference of the target, as `10` or `(\"~/main\" 10)`";
 

@@ -34,6 +34,8 @@ mod why_classes;
 #[cfg(test)]
 mod why_files;
 #[cfg(test)]
+mod why_folders;
+#[cfg(test)]
 mod why_kinds;
 #[cfg(test)]
 mod why_large;

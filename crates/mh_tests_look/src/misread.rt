@@ -174,7 +174,119 @@ check
 @a {:Scene ("~/a" 1) :InputEventReg 3 }
 => file a 23 15|  It is byte 15 of the file a.|  a, line 1, column 16|  1 \7c\ {:Scene ("~/a" 1)
 :InputEventReg 3 }|    \7c\                ^|  Cause: `1` is not 0, the number of every group.| 
-Mend: write 0, the number of every group.|"#;
+Mend: write 0, the number of every group.|;;
+a string that ends too soon
+check
+@a {:Application ("~/a" 0) :Items ( {:Text 1 :OrigContent 'Milk's' } ) }
+=> file a 22 61|  It is byte 61 of the file a.|  a, line 1, column 62|  1 \7c\ … :Items ( {:Text 1
+:OrigContent 'Milk's' } ) }|    \7c\                                        ^|  Cause: `s` stands
+right behind a string, which ends in front of it.|  Mend: write `=27` for each `'` within the
+string, or the whole between `'`|    where `"` is part of it; no name has a `"`.|;;
+a name that ends too soon
+check
+@a {:Application ("~/a" 0) :OnStartUp ( :TransitionTo (("~/"s" 0)) ) }
+=> file a 22 57|  It is byte 57 of the file a.|  a, line 1, column 58|  1 \7c\ … 0) :OnStartUp (
+:TransitionTo (("~/"s" 0)) ) }|    \7c\                                       ^|  Cause: `s` stands
+right behind a string, which ends in front of it.|  Mend: write `=27` for each `'` within the
+string, or the whole between `'`|    where `"` is part of it; no name has a `"`.|;;
+a number with a fraction
+check
+@a {:Application ("~/a" 0) :Items ( {:IntegerVar 1 :OrigValue 1.5 } ) }
+=> file a 20 60|  It is byte 60 of the file a.|  a, line 1, column 61|  1 \7c\ … 0) :Items (
+{:IntegerVar 1 :OrigValue 1.5 } ) }|    \7c\                                          ^^|  Cause:
+numbers are whole, and a `.` stands in strings alone.|  Mend: write a whole number, or take the `.`
+away.|;;
+a sign without a number
+check
+@a {:Application ("~/a" 0) :Items ( {:IntegerVar 1 :OrigValue - 5 } ) }
+=> file a 20 59|  It is byte 59 of the file a.|  a, line 1, column 60|  1 \7c\ … 0) :Items (
+{:IntegerVar 1 :OrigValue - 5 } ) }|    \7c\                                         ^|  Cause: no
+digit stands right behind this `-`.|  Mend: write the number behind it, or take it away.|;;
+a colon without a name
+check
+@a {:Application ("~/a" 0) :Items ( {:IntegerVar 1 := 5 } ) }
+=> file a 20 48|  It is byte 48 of the file a.|  a, line 1, column 49|  1 \7c\ … ("~/a" 0) :Items (
+{:IntegerVar 1 := 5 } ) }|    \7c\                                     ^^|  Cause: no name stands
+right behind this `:`.|  Mend: write the name of the keyword behind it, or take it away.|;;
+a field that begins with the name of one
+check
+@a {:Scene ("~/a" 0) :InputEventRegister 3 }
+=> file a 22 18|  It is byte 18 of the file a.|  a, line 1, column 19|  1 \7c\ {:Scene ("~/a" 0)
+:InputEventRegister 3 }|    \7c\                   ^^^^^^^^^^^^^^^^^^^|  Cause: no table has
+`:InputEventRegister`.|  Mend: write `:InputEventReg`.|;;
+an action that none is
+check
+@a {:Application ("~/a" 0) :OnStartUp ( :SetText (1 'x') ) }
+=> file a 22 37|  It is byte 37 of the file a.|  a, line 1, column 38|  1 \7c\ {:Application ("~/a" 0)
+:OnStartUp ( :SetText (1 'x') ) }|    \7c\                                      ^^^^^^^^|  Cause: no
+table has `:SetText`.|  Mend: write an action, as `:Run (10)`, or `)`; these begin alike:
+SetTimer,|    SetInputRegister, SetVariable, SetPosition, SetBoxSize,
+SetFillColour,|    SetLineColour, SetLineWidth, SetData, SetTextColour,
+SetInteractionStatus,|    SetHighlightStatus, SetEntryPoint, SetOverwriteMode, SetLabel,
+SetFirstItem.|;;
+an action of which no name begins so
+check
+@a {:Application ("~/a" 0) :OnStartUp ( :Print (1 'x') ) }
+=> file a 22 37|  It is byte 37 of the file a.|  a, line 1, column 38|  1 \7c\ {:Application ("~/a" 0)
+:OnStartUp ( :Print (1 'x') ) }|    \7c\                                      ^^^^^^|  Cause: no
+table has `:Print`.|  Mend: write an action, as `:Run (10)`, or `)`.|;;
+an event of which no name is like it
+check
+@a {:Application ("~/a" 0) :Items ( {:Link 1 :EventSource 0 :EventType Foo :LinkEffect ( ) } ) }
+=> file a 22 68|  It is byte 68 of the file a.|  a, line 1, column 69|  1 \7c\ … ( {:Link 1
+:EventSource 0 :EventType Foo :LinkEffect ( ) } )
+}|    \7c\                                        ^^^|  Cause: no table has `Foo`.|  Mend: write one
+of the types of events: IsAvailable, ContentAvailable,|    IsDeleted, IsRunning, IsStopped,
+UserInput, TimerFired, AsyncStopped,|    InteractionCompleted, TokenMovedFrom, TokenMovedTo,
+StreamEvent,|    HighlightOn, HighlightOff, IsSelected, IsDeselected,
+TestEvent,|    FirstItemPresented, LastItemPresented, HeadItems, TailItems,
+ItemSelected,|    ItemDeselected, EntryFieldFull, EngineEvent.|;;
+white space that lacks
+check
+@a {:Application ("~/a" 0) :Items ( {:IntegerVar 1:OrigValue 5 } ) }
+=> file a 21 47|  It is byte 47 of the file a.|  a, line 1, column 48|  1 \7c\ … ("~/a" 0) :Items (
+{:IntegerVar 1:OrigValue 5 } ) }|    \7c\                                    ^^^^^^^^^^|  Cause:
+white space lacks in front of `:OrigValue`.|  Mend: write a space there.|;;
+a reference without a number
+check
+@a {:Application ("~/a" 0) :OnStartUp ( :TransitionTo (("~/s")) ) }
+=> file a 21 58|  It is byte 58 of the file a.|  a, line 1, column 59|  1 \7c\ … 0) :OnStartUp (
+:TransitionTo (("~/s")) ) }|    \7c\                                        ^|  Cause: `)` stands in
+the place of the number of an object, or 0 for the group|    itself.|  Mend: write the number of an
+object, or 0 for the group itself.|;;
+a slot without brackets
+check
+@a {:Scene ("~/a" 0) :Items ( {:TokenGroup 1 :TokenGroupItems ( ( 2 :Run (2) ) ) } ) }
+=> file a 21 65|  It is byte 65 of the file a.|  a, line 1, column 66|  1 \7c\ … {:TokenGroup 1
+:TokenGroupItems ( ( 2 :Run (2) ) ) } )
+}|    \7c\                                         ^^^^|  Cause: `:Run` stands in the place of the
+actions of a slot in brackets, as `(|    :Run (10) )`, or `)`.|  Mend: write the actions of a slot
+in brackets, as `( :Run (10) )`, or `)`.|;;
+a text without quotes
+check
+@a {:Application ("~/a" 0) :Items ( {:Text 1 :OrigContent Coffee } ) }
+=> file a 22 55|  It is byte 55 of the file a.|  a, line 1, column 56|  1 \7c\ … 0) :Items ( {:Text 1
+:OrigContent Coffee } ) }|    \7c\                                     ^^^^^^|  Cause: no table has
+`Coffee`.|  Mend: write a string, or the name of a file, as `:ContentRef ("~/text")`.|;;
+parameters without brackets
+check
+@a {:Application ("~/a" 0) :OnStartUp ( :SetTimer 0 1 1000 ) }
+=> file a 21 47|  It is byte 47 of the file a.|  a, line 1, column 48|  1 \7c\ … ("~/a" 0) :OnStartUp (
+:SetTimer 0 1 1000 ) }|    \7c\                                    ^|  Cause: `0` stands in the
+place of `(`.|  Mend: write `:SetTimer ( target integer integer? boolean? )`.|;;
+a value without its kind
+check
+@a {:Application ("~/a" 0) :OnStartUp ( :SetVariable (1 5) ) }
+=> file a 21 53|  It is byte 53 of the file a.|  a, line 1, column 54|  1 \7c\ … ("~/a" 0) :OnStartUp (
+:SetVariable (1 5) ) }|    \7c\                                          ^|  Cause: `5` stands in
+the place of a value with its kind in front, as|    `:GInteger 1`.|  Mend: write `:SetVariable (
+target typed )`.|;;
+a length outside its limits
+check
+@a {:Scene ("~/a" 0) :Items ( {:EntryField 1 :OrigBoxSize 24 16 :MaxLength 256 } ) }
+=> file a 23 72|  It is byte 72 of the file a.|  a, line 1, column 73|  1 \7c\ … 1 :OrigBoxSize 24 16
+:MaxLength 256 } ) }|    \7c\                                   ^^^|  Cause: `256` is not an integer
+from 1 to 255.|  Mend: write an integer from 1 to 255.|"#;
 
 #[test]
 fn explains_texts_that_are_not_read(rt: HostRuntime) {

@@ -46,7 +46,7 @@ pub fn explanation(
         cycle,
         cause: case.cause.as_slice(),
         mend: case.mend.as_slice(),
-        number: case.number.as_slice(),
+        detail: case.detail,
         late: named("late", &late),
         tags: named("tags", &tags),
         script: named("script", &script),

@@ -63,8 +63,8 @@ check
 }|  {:ObjectRefVar 5 :OrigValue 10 }|  {:Link 11 :EventSource 0 :EventType UserInput :EventData
 100|    :LinkEffect ( :SetData (:IndirectRef 5 'X') ) }|) }|
 => refused V5 s 11 1 SetData|  It stands in SetData, action 1 of object 11 of s.|  s, line 5, column
-42|  5 \7c\ …   :LinkEffect ( :SetData (:IndirectRef 5 'X') )
-}|    \7c\                                          ^|  Cause: SetData is done to a Text, an
+29|  5 \7c\     :LinkEffect ( :SetData (:IndirectRef 5 'X') )
+}|    \7c\                             ^^^^^^^^^^^^^^|  Cause: SetData is done to a Text, an
 EntryField only, and object 10 of s,|    which can be held by object 5 of s, is a Rectangle.|  Mend:
 set object 5 of s only to one of these, or write an action that is done|    to a Rectangle: Run,
 Stop, Preload, Unload, GetAvailabilityStatus,|    GetRunningStatus, SetPosition, GetPosition,
@@ -82,14 +82,14 @@ check
 }|  {:ObjectRefVar 5 :OrigValue 0 }|  {:Link 11 :EventSource 0 :EventType UserInput :EventData
 100|    :LinkEffect ( :PutBehind (10 :IndirectRef 5) ) }|) }|
 => refused V5 s 11 1 PutBehind|  It stands in PutBehind, action 1 of object 11 of s.|  s, line 5,
-column 47|  5 \7c\ … ( :PutBehind (10 :IndirectRef 5) )
-}|    \7c\                                 ^|  Cause: parameter 1 of PutBehind has to be a
-Rectangle, a Text, a|    DynamicLineArt, an EntryField, a PushButton, and the group s, which can
-be|    held by object 5 of s, is a Scene.|  Mend: let object 5 of s hold these only.|config a s|  So
-it is while application a shows scene s.|object s 0|  What is meant there can be object 0 of s,
-whose class does not fit.|  s, line 1, column 2|  1 \7c\ {:Scene ("~/s" 0) :InputEventReg 3 :Items
-(|    \7c\  ^^^^^^|  The action reaches it through variable 5 of s.|by s 5 0|  It comes there by
-object 5 of s, which has it from the start.|  s, line 3, column 18|  3 \7c\   {:ObjectRefVar 5
+column 34|  5 \7c\     :LinkEffect ( :PutBehind (10 :IndirectRef 5) )
+}|    \7c\                                  ^^^^^^^^^^^^^^|  Cause: parameter 1 of PutBehind has to
+be a Rectangle, a Text, a|    DynamicLineArt, an EntryField, a PushButton, and the group s, which
+can be|    held by object 5 of s, is a Scene.|  Mend: let object 5 of s hold these only.|config a
+s|  So it is while application a shows scene s.|object s 0|  What is meant there can be object 0 of
+s, whose class does not fit.|  s, line 1, column 2|  1 \7c\ {:Scene ("~/s" 0) :InputEventReg 3
+:Items (|    \7c\  ^^^^^^|  The action reaches it through variable 5 of s.|by s 5 0|  It comes there
+by object 5 of s, which has it from the start.|  s, line 3, column 18|  3 \7c\   {:ObjectRefVar 5
 :OrigValue 0 }|    \7c\                  ^|;;
 an item of another class
 check

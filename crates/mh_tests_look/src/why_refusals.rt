@@ -48,14 +48,13 @@ check
 @s {:Scene ("~/s" 0) :InputEventReg 3|  :Items ( {:IntegerVar 5 :OrigValue 1 } {:BooleanVar 6 :OrigValue
 true }|  {:Link 11 :EventSource 0 :EventType UserInput :EventData 100 :LinkEffect ( :Add (5 :IndirectRef
 6) ) } ) }|
-=> refused V3 s 11 1 Add|  It stands in Add, action 1 of object 11 of s.|  s, line 3, column 99|  3
-\7c\ … 100 :LinkEffect ( :Add (5 :IndirectRef 6) ) } )
-}|    \7c\                                          ^|  Cause: parameter 1 of Add is an integer, and
-object 6 of s, which holds it, is|    a BooleanVar.|  Mend: write it itself, or name an
-IntegerVar.|config a s|  So it is while application a shows scene s.|object s 6|  The reference that
-is wrong leads to object 6 of s.|  s, line 2, column 55|  2 \7c\ … 5 :OrigValue 1 } {:BooleanVar 6
-:OrigValue true }|    \7c\                                 ^|  The action goes through this
-variable.|;;
+=> refused V3 s 11 1 Add|  It stands in Add, action 1 of object 11 of s.|  s, line 3, column 86|  3
+\7c\ … :EventData 100 :LinkEffect ( :Add (5 :IndirectRef 6) ) } )
+}|    \7c\                                        ^^^^^^^^^^^^^^|  Cause: parameter 1 of Add is an
+integer, and object 6 of s, which holds it, is|    a BooleanVar.|  Mend: write it itself, or name an
+IntegerVar.|config a s|  So it is while application a shows scene s.|object s 6|  It is about object
+6 of s.|  s, line 2, column 55|  2 \7c\ … 5 :OrigValue 1 } {:BooleanVar 6 :OrigValue true
+}|    \7c\                                 ^|  The action goes through this variable.|;;
 a variable that may refer to what is gone
 check
 @a {:Application ("~/a" 0) :OnStartUp ( :TransitionTo (("~/p" 0)) )|  :Items ( {:ObjectRefVar 20
@@ -66,8 +65,8 @@ check
 :LinkEffect ( :TransitionTo (("~/q" 0)) ) } ) }|
 @q {:Scene ("~/q" 0) }
 => refused V4 a 31 1 SetData|  It stands in SetData, action 1 of object 31 of a.|  a, line 4, column
-39|  4 \7c\  :LinkEffect ( :SetData (:IndirectRef 20 'X') ) } )
-}|    \7c\                                       ^^|  Cause: SetData is done to what object 20 of a
+26|  4 \7c\  :LinkEffect ( :SetData (:IndirectRef 20 'X') ) } )
+}|    \7c\                          ^^^^^^^^^^^^^^^|  Cause: SetData is done to what object 20 of a
 holds, which can be object 10 of|    p, and it is there only while scene p is shown.|  Mend: set
 object 20 of a only to objects that are there when the action is|    done.|config a q|  So it is
 while application a shows scene q.|object p 10|  What is meant there can be object 10 of p, which is
@@ -83,12 +82,12 @@ check
 :OrigBoxSize 24 32 :OrigPosition 12 16 :OrigLineWidth 0 :OrigRefFillColour '=FF=00=00=00' }|  {:Link 11
 :EventSource 0 :EventType UserInput :EventData 100 :LinkEffect ( :SetData (:IndirectRef 1 'X') ) } ) }|
 => refused V5 s 11 1 SetData|  It stands in SetData, action 1 of object 11 of s.|  s, line 4, column
-101|  4 \7c\ … :LinkEffect ( :SetData (:IndirectRef 1 'X') ) } )
-}|    \7c\                                        ^|  Cause: SetData is done to a Text, an
-EntryField only, and object 10 of s,|    which can be held by object 1 of s, is a Rectangle.|  Mend:
-set object 1 of s only to one of these, or write an action that is done|    to a Rectangle: Run,
-Stop, Preload, Unload, GetAvailabilityStatus,|    GetRunningStatus, SetPosition, GetPosition,
-SetBoxSize, GetBoxSize,|    BringToFront, SendToBack, PutBefore, PutBehind,
+88|  4 \7c\ … :EventData 100 :LinkEffect ( :SetData (:IndirectRef 1 'X') ) } )
+}|    \7c\                                          ^^^^^^^^^^^^^^|  Cause: SetData is done to a
+Text, an EntryField only, and object 10 of s,|    which can be held by object 1 of s, is a
+Rectangle.|  Mend: set object 1 of s only to one of these, or write an action that is done|    to a
+Rectangle: Run, Stop, Preload, Unload, GetAvailabilityStatus,|    GetRunningStatus, SetPosition,
+GetPosition, SetBoxSize, GetBoxSize,|    BringToFront, SendToBack, PutBefore, PutBehind,
 SetFillColour,|    SetLineColour, SetLineWidth.|config a s|  So it is while application a shows
 scene s.|object s 10|  What is meant there can be object 10 of s, whose class does not fit.|  s,
 line 3, column 15|  3 \7c\   {:Rectangle 10 :OrigBoxSize 24 32 :OrigPosition 12 16
@@ -111,11 +110,11 @@ check
 @s {:Scene ("~/s" 0) :InputEventReg 3|  :Items ( {:IntegerVar 5 :OrigValue 1 }|  {:Link 11 :EventSource
 0 :EventType UserInput :EventData 100 :LinkEffect ( :SetTimer (0 :IndirectRef 5 100) ) } ) }|
 => refused V7 s 11 1 SetTimer|  It stands in SetTimer, action 1 of object 11 of s.|  s, line 3, column
-104|  3 \7c\ … ( :SetTimer (0 :IndirectRef 5 100) ) } )
-}|    \7c\                               ^|  Cause: which timer SetTimer sets is not known before
-the service runs, since|    its number is held by object 5 of s.|  Mend: write the number.|config a
-s|  So it is while application a shows scene s.|object s 5|  The number is held by object 5 of
-s.|  s, line 2, column 25|  2 \7c\   :Items ( {:IntegerVar 5 :OrigValue 1
+91|  3 \7c\ … 100 :LinkEffect ( :SetTimer (0 :IndirectRef 5 100) ) } )
+}|    \7c\                                  ^^^^^^^^^^^^^^|  Cause: which timer SetTimer sets is not
+known before the service runs, since|    its number is held by object 5 of s.|  Mend: write the
+number.|config a s|  So it is while application a shows scene s.|object s 5|  The number is held by
+object 5 of s.|  s, line 2, column 25|  2 \7c\   :Items ( {:IntegerVar 5 :OrigValue 1
 }|    \7c\                         ^|  The action goes through this variable.|;;
 a program that none has
 check
@@ -126,9 +125,11 @@ check
 => refused V9 s 11 1 Call|  It stands in Call, action 1 of object 11 of s.|  s, line 3, column 85|  3
 \7c\ … :EventData 100 :LinkEffect ( :Call (7 6 ( :GInteger 1 )) ) } )
 }|    \7c\                                       ^|  Cause: no program is called ABC.|  Mend: write
-the name of one of these programs: GCD, GDW, GSL, GSS, SES, SSS.|config a s|  So it is while
-application a shows scene s.|object s 7|  The program that is called is object 7 of s.|  s, line 2,
-column 59|  2 \7c\ … 6 :OrigValue true } {:ResidentPrg 7 :Name 'ABC'
+the name of one of these programs: GCD (the day and the time), GDW|    (the weekday of a day), GSL
+(the length of a string), GSS (a part of a|    string), SES (what stands in front of a string in
+another), SSS (where a|    string stands in another).|config a s|  So it is while application a
+shows scene s.|object s 7|  The program that is called is object 7 of s.|  s, line 2, column 59|  2
+\7c\ … 6 :OrigValue true } {:ResidentPrg 7 :Name 'ABC'
 }|    \7c\                                     ^|"#;
 
 #[test]

@@ -91,8 +91,8 @@ a reference that is handed on
 @p {:Scene ("~/p" 0) :InputEventReg 3|  :OnStartUp ( :SetVariable (("~/a" 20) :GObjectRef 10)|    :SetVariable (("~/a" 21) :GObjectRef :IndirectRef ("~/a" 20)) )|  :Items ( {:Text 10 :OrigBoxSize 120 16 }|    {:Link 11 :EventSource 0 :EventType UserInput :EventData 100 :LinkEffect ( :TransitionTo (("~/q" 0)) ) } ) }|
 @q {:Scene ("~/q" 0) }|
 => refused V4 a 31 1 SetData|  It stands in SetData, action 1 of object 31 of a.|  a, line 4, column
-30|  4 \7c\       :SetData (:IndirectRef 21 'X') ) } )
-}|    \7c\                              ^^|  Cause: SetData is done to what object 21 of a holds,
+17|  4 \7c\       :SetData (:IndirectRef 21 'X') ) } )
+}|    \7c\                 ^^^^^^^^^^^^^^^|  Cause: SetData is done to what object 21 of a holds,
 which can be object 10 of|    p, and it is there only while scene p is shown.|  Mend: set object 21
 of a only to objects that are there when the action is|    done.|config a q|  So it is while
 application a shows scene q.|object p 10|  What is meant there can be object 10 of p, which is
@@ -118,22 +118,22 @@ a group with a mark in front
 @a {:Application ("~/a" 0) :OnStartUp ( :TransitionTo (("~/q1" 0)) ) }
 @q1 \ef bb bf\{:Scene ("~/q1" 0) }
 => refused V1 a 0 1 TransitionTo|  It stands in TransitionTo, action 1 of object 0 of a.|  a, line 1,
-column 61|  1 \7c\ … 0) :OnStartUp ( :TransitionTo (("~/q1" 0)) )
-}|    \7c\                                          ^|  Cause: TransitionTo is done to the group q1,
-and no file q1 in the folder is a|    scene.|  Mend: add that file, or write the name of one that is
-there.|config a -|  So it is while application a shows no scene.|object q1 0|  What is named there
-is object 0 of q1, which is absent then.|  There is a file q1, but it does not begin as a group: it
-has a byte order mark|    in front. Take that away.|;;
+column 53|  1 \7c\ … ("~/a" 0) :OnStartUp ( :TransitionTo (("~/q1" 0)) )
+}|    \7c\                                         ^^^^^^^^^^|  Cause: TransitionTo is done to the
+group q1, and no file q1 in the folder is a|    scene.|  Mend: add that file, or write the name of
+one that is there.|config a -|  So it is while application a shows no scene.|object q1 0|  What is
+named there is object 0 of q1, which is absent then.|  There is a file q1, but it does not begin as
+a group: it has a byte order mark|    in front. Take that away.|;;
 a group behind a comment of another notation
 @a {:Application ("~/a" 0) :OnStartUp ( :TransitionTo (("~/q1" 0)) ) }
 @q1 /* a question */ {:Scene ("~/q1" 0) }
 => refused V1 a 0 1 TransitionTo|  It stands in TransitionTo, action 1 of object 0 of a.|  a, line 1,
-column 61|  1 \7c\ … 0) :OnStartUp ( :TransitionTo (("~/q1" 0)) )
-}|    \7c\                                          ^|  Cause: TransitionTo is done to the group q1,
-and no file q1 in the folder is a|    scene.|  Mend: add that file, or write the name of one that is
-there.|config a -|  So it is while application a shows no scene.|object q1 0|  What is named there
-is object 0 of q1, which is absent then.|  There is a file q1, but it does not begin as a group:
-`/*` begins no comment.|    Write `//` in front of each line of it.|;;
+column 53|  1 \7c\ … ("~/a" 0) :OnStartUp ( :TransitionTo (("~/q1" 0)) )
+}|    \7c\                                         ^^^^^^^^^^|  Cause: TransitionTo is done to the
+group q1, and no file q1 in the folder is a|    scene.|  Mend: add that file, or write the name of
+one that is there.|config a -|  So it is while application a shows no scene.|object q1 0|  What is
+named there is object 0 of q1, which is absent then.|  There is a file q1, but it does not begin as
+a group: `/*` begins no comment.|    Write `//` in front of each line of it.|;;
 a group without a brace
 @a Application ("~/a" 0)
 => service 31 a|  It is told of a.|  There is a file a, but it does not begin as a group: it has no
@@ -143,41 +143,41 @@ a group under another name
 @a {:Application ("~/a" 0) :OnStartUp ( :TransitionTo (("~/q1" 0)) ) }
 @q1.txt {:Scene ("~/q1" 0) }
 => refused V1 a 0 1 TransitionTo|  It stands in TransitionTo, action 1 of object 0 of a.|  a, line 1,
-column 61|  1 \7c\ … 0) :OnStartUp ( :TransitionTo (("~/q1" 0)) )
-}|    \7c\                                          ^|  Cause: TransitionTo is done to the group q1,
-and no file q1 in the folder is a|    scene.|  Mend: add that file, or write the name of one that is
-there.|config a -|  So it is while application a shows no scene.|object q1 0|  What is named there
-is object 0 of q1, which is absent then.|  There is no file q1, but there is q1.txt. A group is
-called by the whole path|    of its file.|;;
+column 53|  1 \7c\ … ("~/a" 0) :OnStartUp ( :TransitionTo (("~/q1" 0)) )
+}|    \7c\                                         ^^^^^^^^^^|  Cause: TransitionTo is done to the
+group q1, and no file q1 in the folder is a|    scene.|  Mend: add that file, or write the name of
+one that is there.|config a -|  So it is while application a shows no scene.|object q1 0|  What is
+named there is object 0 of q1, which is absent then.|  There is no file q1, but there is q1.txt. A
+group is called by the whole path|    of its file.|;;
 a group whose file is called by a large letter
 @a {:Application ("~/a" 0) :OnStartUp ( :TransitionTo (("~/q1" 0)) ) }
 @Q1 {:Scene ("~/q1" 0) }
 => refused V1 a 0 1 TransitionTo|  It stands in TransitionTo, action 1 of object 0 of a.|  a, line 1,
-column 61|  1 \7c\ … 0) :OnStartUp ( :TransitionTo (("~/q1" 0)) )
-}|    \7c\                                          ^|  Cause: TransitionTo is done to the group q1,
-and no file q1 in the folder is a|    scene.|  Mend: add that file, or write the name of one that is
-there; the nearest is|    Q1.|config a -|  So it is while application a shows no scene.|object q1
-0|  What is named there is object 0 of q1, which is absent then.|  There is no file q1, but there is
-Q1. A group is called by the whole path of|    its file.|;;
+column 53|  1 \7c\ … ("~/a" 0) :OnStartUp ( :TransitionTo (("~/q1" 0)) )
+}|    \7c\                                         ^^^^^^^^^^|  Cause: TransitionTo is done to the
+group q1, and no file q1 in the folder is a|    scene.|  Mend: add that file, or write the name of
+one that is there; the nearest is|    Q1.|config a -|  So it is while application a shows no
+scene.|object q1 0|  What is named there is object 0 of q1, which is absent then.|  There is no file
+q1, but there is Q1. A group is called by the whole path of|    its file.|;;
 a group that is called by more than the name of its file
 @a {:Application ("~/a" 0) :OnStartUp ( :TransitionTo (("~/q1.txt" 0)) ) }
 @q1 {:Scene ("~/q1" 0) }
 => refused V1 a 0 1 TransitionTo|  It stands in TransitionTo, action 1 of object 0 of a.|  a, line 1,
-column 65|  1 \7c\ … ( :TransitionTo (("~/q1.txt" 0)) )
-}|    \7c\                                ^|  Cause: TransitionTo is done to the group q1.txt, and
-no file q1.txt in the|    folder is a scene.|  Mend: add that file, or write the name of one that is
-there.|config a -|  So it is while application a shows no scene.|object q1.txt 0|  What is named
-there is object 0 of q1.txt, which is absent then.|  There is no file q1.txt, but there is q1. A
-group is called by the whole path|    of its file.|;;
+column 53|  1 \7c\ … ("~/a" 0) :OnStartUp ( :TransitionTo (("~/q1.txt" 0)) )
+}|    \7c\                                         ^^^^^^^^^^^^^^|  Cause: TransitionTo is done to
+the group q1.txt, and no file q1.txt in the|    folder is a scene.|  Mend: add that file, or write
+the name of one that is there.|config a -|  So it is while application a shows no scene.|object
+q1.txt 0|  What is named there is object 0 of q1.txt, which is absent then.|  There is no file
+q1.txt, but there is q1. A group is called by the whole path|    of its file.|;;
 a group that no file has a name like
 @a {:Application ("~/a" 0) :OnStartUp ( :TransitionTo (("~/news" 0)) ) }
 @q1 {:Scene ("~/q1" 0) }
 => refused V1 a 0 1 TransitionTo|  It stands in TransitionTo, action 1 of object 0 of a.|  a, line 1,
-column 63|  1 \7c\ … :OnStartUp ( :TransitionTo (("~/news" 0)) )
-}|    \7c\                                         ^|  Cause: TransitionTo is done to the group
-news, and no file news in the folder|    is a scene.|  Mend: add that file, or write the name of one
-that is there.|config a -|  So it is while application a shows no scene.|object news 0|  What is
-named there is object 0 of news, which is absent then.|"#;
+column 53|  1 \7c\ … ("~/a" 0) :OnStartUp ( :TransitionTo (("~/news" 0)) )
+}|    \7c\                                         ^^^^^^^^^^^^|  Cause: TransitionTo is done to the
+group news, and no file news in the folder|    is a scene.|  Mend: add that file, or write the name
+of one that is there.|config a -|  So it is while application a shows no scene.|object news 0|  What
+is named there is object 0 of news, which is absent then.|"#;
 
 static PLACES: &str = r#"
 a line that is cut behind

@@ -218,7 +218,7 @@ fn explanation<R: Runtime + AllocGlobal>(
         cycle: told.cycle.as_slice(),
         cause: told.case.cause.as_slice(),
         mend: told.case.mend.as_slice(),
-        number: told.case.number.as_slice(),
+        detail: told.case.detail,
         late: named_file(asked.given.late, &given.late),
         tags: named_file(asked.given.tags, &given.tags),
         script: named_file(asked.given.script, &given.script),

@@ -206,7 +206,7 @@ pub static SERVICES: [[&[u8]; 3]; 7] = [
     ],
     [
         b"35",
-        b"a written name leads to no path",
+        b"a written name leads to no path: a part of it between slashes is empty, `.` or `..`, or it has no byte or more than 255",
         b"write the path from the top: `~/x`",
     ],
     [

@@ -1,12 +1,12 @@
 //! The cause and the mend of a refusal, by its case.
 ghost use Rattle.std.specs.Prelude.{◌≡◌, ◌++◌, IfOk, OnOk};
 ghost use Rattle.std.specs.Option.{option_copied};
-ghost use Rattle.mh_look.specs.Cases.{case_advice, case_words, cycle_cause, holder_of, is_verdict, plain_cause, plain_mend, refused_of, steps_cause, refusal_cause, refusal_mend, refusal_number};
+ghost use Rattle.mh_look.specs.Cases.{case_advice, case_words, cycle_cause, holder_of, is_verdict, plain_cause, plain_mend, refused_of, steps_cause, refusal_cause, refusal_detail, refusal_mend};
 
 use crate::explanation::advice::{put_advice, refusals};
 use crate::wrap::put_sentence;
 use mh_base::ObjRef;
-use mh_cause::{Refused, put_cause, put_mend, put_number};
+use mh_cause::{Detail, Refused, detail_of, put_cause, put_mend};
 use mh_flow::Link;
 use mh_layers::InputKind;
 use mh_told::text::Text;
@@ -33,8 +33,8 @@ pub const HAVE_FEWER: &[u8] =
 pub struct Case {
     pub cause: Text,
     pub mend: Text,
-    /// The number by which the action names what is wrong.
-    pub number: Text,
+    /// Which part of the action is wrong.
+    pub detail: Detail,
 }
 
 /// No case.
@@ -42,7 +42,7 @@ pub fn no_case(alloc: Global) -> Case {
     Case {
         cause: Text::new(alloc),
         mend: Text::new(alloc),
-        number: Text::new(alloc),
+        detail: Detail::Unknown,
     }
 }
 
@@ -50,15 +50,14 @@ pub fn no_case(alloc: Global) -> Case {
 pub fn case_of(alloc: Global, refusal: &Refusal) -> Result<Case, AllocError>
     ensures cause { IfOk result (λ case. case.cause ≡ refusal_cause refusal.now) }
     ensures mend { IfOk result (λ case. case.mend ≡ refusal_mend refusal.now) }
-    ensures number { IfOk result (λ case. case.number ≡ refusal_number refusal.now) }
+    ensures detail { IfOk result (λ case. case.detail ≡ refusal_detail refusal.now) }
 {
     let cause = cause_of(alloc, refusal)?;
     let mend = mend_of(alloc, refusal)?;
-    let number = number_of(alloc, refusal)?;
     Ok(Case {
         cause,
         mend,
-        number,
+        detail: detail_for(refusal),
     })
 }
 
@@ -140,15 +139,14 @@ fn put_plain_mend(text: &mut Text, kind: RefusalKind) -> Result<(), AllocError>
     }
 }
 
-#[tactic(auto, unfolding(crate::specs::Cases::refusal_number))]
-fn number_of(alloc: Global, refusal: &Refusal) -> Result<Text, AllocError>
-    ensures { IfOk result (λ text. text ≡ refusal_number refusal.now) }
+#[tactic(auto, unfolding(crate::specs::Cases::refusal_detail))]
+fn detail_for(refusal: &Refusal) -> Detail
+    ensures { result ≡ refusal_detail refusal.now }
 {
-    let mut text = Text::new(alloc);
-    if let Some(refused) = refused_of(refusal) {
-        put_number(&mut text, &refusal.service, &refused)?;
+    match refused_of(refusal) {
+        None => Detail::Unknown,
+        Some(refused) => detail_of(&refusal.service, &refused),
     }
-    Ok(text)
 }
 
 /// What is known of a refusal that names a reference.

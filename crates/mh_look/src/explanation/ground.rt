@@ -1,6 +1,7 @@
 //! What is known beside an output, with what is shown of the files.
 use crate::files::named_file::NamedFile;
 use crate::files::shown::Source;
+use mh_cause::Detail;
 use mh_flow::Link;
 use mh_layers::{Arrow, Way};
 use std::marker::Model;
@@ -18,8 +19,8 @@ pub(crate) struct Ground<'a> {
     /// The cause of a refusal by its case, and the mend; where the case is not known, nothing.
     pub(crate) cause: &'a [u8],
     pub(crate) mend: &'a [u8],
-    /// The number by which the action names what is wrong, if that is known.
-    pub(crate) number: &'a [u8],
+    /// Which part of the action is wrong.
+    pub(crate) detail: Detail,
     /// The file that names late scenes, if it is known.
     pub(crate) late: Option<&'a NamedFile<'a>>,
     /// The file that gives tags, if it is known.
@@ -34,5 +35,5 @@ impl<'a> Model for Ground<'a> {
 
     ghost Value = { Ground };
 
-    ghost view = { λ g. record { sources = g.sources.now; ways = g.ways.now; chain = g.chain.now; cycle = g.cycle.now; cause = g.cause.now; mend = g.mend.now; number = g.number.now; late = option_copied g.late; tags = option_copied g.tags; script = option_copied g.script } };
+    ghost view = { λ g. record { sources = g.sources.now; ways = g.ways.now; chain = g.chain.now; cycle = g.cycle.now; cause = g.cause.now; mend = g.mend.now; detail = g.detail; late = option_copied g.late; tags = option_copied g.tags; script = option_copied g.script } };
 }

@@ -2,13 +2,13 @@
 //!
 //! An output that was printed of other files is told so: where it names an action, another stands there now.
 ghost use Rattle.std.specs.Prelude.{◌≡◌, ◌++◌, OnOk};
-ghost use Rattle.mh_look.specs.Sources.{is_marked, shown_named_at, shown_number, shown_refused, shown_rest};
+ghost use Rattle.mh_look.specs.Sources.{is_marked, shown_detail, shown_named_at, shown_refused, shown_rest};
 
-use crate::explanation::meant::mention;
 use crate::explanation::place::{put_in, put_mark};
-use crate::explanation::token::token_size;
+use crate::explanation::values::{detail_in, value_size};
 use crate::files::shown::{Source, source_named};
 use crate::wrap::put_paragraph;
+use mh_cause::Detail;
 use mh_text::{Mark, mark_of};
 use mh_told::text::Text;
 use std::alloc::{AllocError, Global};
@@ -24,15 +24,15 @@ pub(crate) fn put_refused(
     text: &mut Text,
     sources: &[Source<'_>],
     word: &[u8],
-    number: &[u8],
+    detail: Detail,
     group: &[u8],
     object: u32,
     index: usize,
 ) -> Result<(), AllocError>
-    ensures { OnOk result (text.new ≡ text.old ++ shown_refused sources.now word.now number.now group.now object index) }
+    ensures { OnOk result (text.new ≡ text.old ++ shown_refused sources.now word.now detail group.now object index) }
 {
     match source_named(sources, group) {
-        Some(source) => put_named_at(alloc, text, source, word, number, object, index),
+        Some(source) => put_named_at(alloc, text, source, word, detail, object, index),
         None => Ok(()),
     }
 }
@@ -42,31 +42,31 @@ fn put_named_at(
     text: &mut Text,
     source: &Source<'_>,
     word: &[u8],
-    number: &[u8],
+    detail: Detail,
     object: u32,
     index: usize,
 ) -> Result<(), AllocError>
-    ensures { OnOk result (text.new ≡ text.old ++ shown_named_at word.now number.now object index source.now) }
+    ensures { OnOk result (text.new ≡ text.old ++ shown_named_at word.now detail object index source.now) }
 {
     match mark_of(source.marks(), object, index) {
-        Some(mark) if is_marked(&mark, word) => put_number(alloc, text, source, number, &mark),
+        Some(mark) if is_marked(&mark, word) => put_detail(alloc, text, source, detail, &mark),
         _ => put_paragraph(alloc, text, HAVE_CHANGED),
     }
 }
 
-/// Puts where the first number like this one stands in the action, or else its keyword.
-#[tactic(auto, unfolding(crate::specs::Sources::shown_number))]
-fn put_number(
+/// Puts where this part of the action stands, or else its keyword.
+#[tactic(auto, unfolding(crate::specs::Sources::shown_detail))]
+fn put_detail(
     alloc: Global,
     text: &mut Text,
     source: &Source<'_>,
-    number: &[u8],
+    detail: Detail,
     mark: &Mark,
 ) -> Result<(), AllocError>
-    ensures { OnOk result (text.new ≡ text.old ++ shown_number number.now source.now mark.now) }
+    ensures { OnOk result (text.new ≡ text.old ++ shown_detail detail source.now mark.now) }
 {
     let behind = source.text().get(mark.start..).unwrap_or(&[]);
-    put_rest(alloc, text, source, mark, mention(false, number, behind))
+    put_rest(alloc, text, source, mark, detail_in(detail, behind))
 }
 
 fn put_rest(
@@ -82,7 +82,7 @@ fn put_rest(
         [] => put_mark(alloc, text, source, mark),
         _ => {
             let start = source.text().len().saturating_sub(rest.len());
-            put_in(alloc, text, source, start, token_size(rest))
+            put_in(alloc, text, source, start, value_size(rest))
         }
     }
 }

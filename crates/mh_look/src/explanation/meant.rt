@@ -1,5 +1,4 @@
-//! Where an action names an object by its number, and `Sought`: which actions can be meant where a fault names an action
-//! and an object.
+//! `Sought`: which actions can be meant where a fault names an action and an object.
 ghost use Rattle.std.specs.Prelude.{◌≡◌, ℕ, List, MatchResult, drop};
 ghost use Rattle.mh_base.specs.Reading.{whole};
 ghost use Rattle.mh_text.specs.Left.{lexed};
@@ -28,7 +27,7 @@ impl<'a> Model for Sought<'a> {
 pub(crate) fn mentions(number: &[u8], bytes: &[u8]) -> bool
     ensures { result ≡ mentions number.now bytes.now }
 {
-    is_some(mention(true, number, bytes))
+    is_some(mention(number, bytes))
 }
 
 fn is_some(bytes: &[u8]) -> bool
@@ -41,16 +40,16 @@ fn is_some(bytes: &[u8]) -> bool
 }
 
 /// The bytes from the first mention on in the action with which these begin; none where there is none. What goes through a
-/// variable is one, if these count.
+/// variable is one.
 #[tactic(auto, unfolding(crate::specs::Meant::mention))]
-pub(crate) fn mention<'a>(variables: bool, number: &[u8], bytes: &'a [u8]) -> &'a [u8]
-    ensures { result.now ≡ mention variables number.now bytes.now }
+fn mention<'a>(number: &[u8], bytes: &'a [u8]) -> &'a [u8]
+    ensures { result.now ≡ mention number.now bytes.now }
 {
     let mut depth = 0;
     let mut left = bytes;
     // A text has no more tokens than bytes.
     for _ in 0..bytes.len() {
-        match mention_or_rest(variables, number, depth, left) {
+        match mention_or_rest(number, depth, left) {
             Ok(found) => return found,
             Err((behind, rest)) => {
                 depth = behind;
@@ -64,26 +63,25 @@ pub(crate) fn mention<'a>(variables: bool, number: &[u8], bytes: &'a [u8]) -> &'
 /// The bytes from a mention on, or none, where that is known by the first of the tokens that are left; else how many
 /// brackets are open behind it, and what is left there.
 fn mention_or_rest<'a>(
-    variables: bool,
     number: &[u8],
     depth: usize,
     bytes: &'a [u8],
 ) -> Result<&'a [u8], (usize, &'a [u8])>
     ensures { (further : ℕ → List ℕ → List ℕ) → MatchResult result
-        (λ found. mention_in further variables number.now depth bytes.now (lexed (whole bytes.now)) ≡ found.now)
-        (λ left. mention_in further variables number.now depth bytes.now (lexed (whole bytes.now)) ≡ further left.0 left.1.now) }
+        (λ found. mention_in further number.now depth bytes.now (lexed (whole bytes.now)) ≡ found.now)
+        (λ left. mention_in further number.now depth bytes.now (lexed (whole bytes.now)) ≡ further left.0 left.1.now) }
 {
     match Tokens::new(bytes).next() {
         Ok(Some(token)) => {
             let here = bytes_from(bytes, token.start);
-            mentioned(variables, number, depth, token.kind, token.text, here)
+            mentioned(number, depth, token.kind, token.text, here)
         }
         _ => Ok(&[]),
     }
 }
 
 /// The bytes from this place on; none where there are not so many.
-fn bytes_from(bytes: &[u8], start: usize) -> &[u8]
+pub(crate) fn bytes_from(bytes: &[u8], start: usize) -> &[u8]
     ensures { result.now ≡ drop start bytes.now }
 {
     bytes.get(start..).unwrap_or(&[])
@@ -91,7 +89,6 @@ fn bytes_from(bytes: &[u8], start: usize) -> &[u8]
 
 /// The same, where this token stands at the front.
 fn mentioned<'a>(
-    variables: bool,
     number: &[u8],
     depth: usize,
     kind: TokenKind,
@@ -99,10 +96,10 @@ fn mentioned<'a>(
     bytes: &'a [u8],
 ) -> Result<&'a [u8], (usize, &'a [u8])>
     ensures { (further : ℕ → List ℕ → List ℕ) → MatchResult result
-        (λ found. mentioned further variables number.now depth kind text.now bytes.now ≡ found.now)
-        (λ left. mentioned further variables number.now depth kind text.now bytes.now ≡ further left.0 left.1.now) }
+        (λ found. mentioned further number.now depth kind text.now bytes.now ≡ found.now)
+        (λ left. mentioned further number.now depth kind text.now bytes.now ≡ further left.0 left.1.now) }
 {
-    if is_mention(variables, number, kind, text) {
+    if is_mention(number, kind, text) {
         return Ok(bytes);
     }
     if ends_action(depth, kind) {
@@ -114,19 +111,19 @@ fn mentioned<'a>(
     ))
 }
 
-/// Whether the token is the number; or, if these count, stands in front of a variable.
-fn is_mention(variables: bool, number: &[u8], kind: TokenKind, text: &[u8]) -> bool
-    ensures { result ≡ is_mention variables number.now kind text.now }
+/// Whether the token is the number, or stands in front of a variable.
+fn is_mention(number: &[u8], kind: TokenKind, text: &[u8]) -> bool
+    ensures { result ≡ is_mention number.now kind text.now }
 {
     match kind {
         TokenKind::Integer => text == number,
-        TokenKind::Keyword => variables && text == b":IndirectRef".as_slice(),
+        TokenKind::Keyword => text == b":IndirectRef".as_slice(),
         _ => false,
     }
 }
 
 /// Whether the token closes the bracket of the action, where so many are open.
-fn ends_action(depth: usize, kind: TokenKind) -> bool
+pub(crate) fn ends_action(depth: usize, kind: TokenKind) -> bool
     ensures { result ≡ ends_action depth kind }
 {
     match kind {
@@ -136,7 +133,7 @@ fn ends_action(depth: usize, kind: TokenKind) -> bool
 }
 
 /// How many brackets are open behind the token. No action has as many as are counted.
-fn depth_behind(depth: usize, kind: TokenKind) -> usize
+pub(crate) fn depth_behind(depth: usize, kind: TokenKind) -> usize
     ensures { result ≡ depth_behind depth kind }
 {
     match kind {

@@ -4,7 +4,7 @@ ghost use Rattle.std.specs.Prelude.{◌≡◌, map};
 ghost use Rattle.mh_look.specs.Advice.{cells, objects};
 
 /// What is told of the object, by the number of the refusal.
-pub static OBJECTS: [[&[u8]; 3]; 6] = [
+pub static OBJECTS: [[&[u8]; 3]; 7] = [
     [
         b"V1",
         b"  What is named there is ",
@@ -15,6 +15,7 @@ pub static OBJECTS: [[&[u8]; 3]; 6] = [
         b"  What is named there is ",
         b", whose class does not fit.",
     ],
+    [b"V3", b"  It is about ", b"."],
     [
         b"V4",
         b"  What is meant there can be ",

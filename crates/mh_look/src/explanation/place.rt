@@ -2,10 +2,11 @@
 ghost use Rattle.std.specs.Prelude.{◌≡◌, ◌++◌, OnOk, IfOk};
 ghost use Rattle.std.specs.Option.{option_copied};
 ghost use Rattle.mh_text.specs.Landmarks.{sight_of};
-ghost use Rattle.mh_look.specs.Sources.{shown_mark, shown_numbered, shown_action, shown_landmark, is_object, object_in, shown_object_in, shown_object, shown_byte, shown_in, shown_offset};
+ghost use Rattle.mh_look.specs.Sources.{shown_mark, shown_numbered, shown_action, shown_landmark, is_object, object_in, shown_object_in, shown_object, shown_byte, shown_in, shown_offset, is_octets, octet_of};
 
 use crate::explanation::token::token_size;
 use crate::files::shown::{Source, source_named};
+use crate::place::octets::put_octet;
 use crate::place::put_place;
 use mh_text::{Landmark, Mark, Sight, landmarks, mark_of};
 use mh_told::text::Text;
@@ -169,9 +170,30 @@ pub(crate) fn put_byte(
     ensures { OnOk result (text.new ≡ text.old ++ shown_byte offset source.now) }
 {
     if !source.is_written() {
-        return Ok(());
+        return put_octet_of(alloc, text, source, offset);
     }
     let name = source.name().as_bytes();
     let size = token_size(source.text().get(offset..).unwrap_or(&[]));
     put_place(alloc, text, name, source.text(), offset, size)
+}
+
+/// Puts where an octet of this file stands, if the file is a group in octets.
+fn put_octet_of(
+    alloc: Global,
+    text: &mut Text,
+    source: &Source<'_>,
+    offset: usize,
+) -> Result<(), AllocError>
+    ensures { OnOk result (text.new ≡ text.old ++ octet_of offset source.now) }
+{
+    if is_octets(source) {
+        return put_octet(alloc, text, source.name().as_bytes(), source.text(), offset);
+    }
+    Ok(())
+}
+
+fn is_octets(source: &Source<'_>) -> bool
+    ensures { result ≡ is_octets source.now }
+{
+    source.is_group() && !source.is_printed()
 }

@@ -12,6 +12,7 @@ use crate::explanation::way::put_bound;
 use crate::explanation::words::{before_last, behind_first, first_word, last_word};
 use crate::script::posts::put_posts;
 use crate::wrap::put_paragraph;
+use mh_cause::Detail;
 use mh_told::text::Text;
 use std::alloc::{AllocError, Global};
 
@@ -104,7 +105,7 @@ fn put_circle_place(
     ensures { OnOk result (text.new ≡ text.old ++ circle_place ground.now action.now spot.now) }
 {
     match ground.cycle {
-        [] => spot.put_refused(alloc, text, ground.sources, action, b""),
+        [] => spot.put_refused(alloc, text, ground.sources, action, Detail::Unknown),
         _ => Ok(()),
     }
 }
@@ -135,7 +136,7 @@ fn put_refused_spot(
     put_refused_words(&mut sentence, action, spot)?;
     sentence.put(b".")?;
     put_paragraph(alloc, text, sentence.as_slice())?;
-    spot.put_refused(alloc, text, ground.sources, action, ground.number)
+    spot.put_refused(alloc, text, ground.sources, action, ground.detail)
 }
 
 /// Puts the action, or the members where it has no name.

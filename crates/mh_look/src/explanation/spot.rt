@@ -8,6 +8,7 @@ use crate::explanation::marked::put_refused;
 use crate::explanation::place::put_action;
 use crate::explanation::words::{before_last, last_word, number_in};
 use crate::files::shown::Source;
+use mh_cause::Detail;
 use mh_told::text::Text;
 use std::alloc::{AllocError, Global};
 use std::marker::Model;
@@ -97,16 +98,16 @@ impl<'a> Spot<'a> {
         }
     }
 
-    /// The same of the action of this name, and the number in it that is wrong.
+    /// The same of the action of this name, and the part of it that is wrong.
     pub(crate) fn put_refused(
         &self,
         alloc: Global,
         text: &mut Text,
         sources: &[Source<'_>],
         word: &[u8],
-        wrong: &[u8],
+        detail: Detail,
     ) -> Result<(), AllocError>
-        ensures { OnOk result (text.new ≡ text.old ++ by_numbers (shown_refused sources.now word.now wrong.now self.now.group) self.now.object self.now.index) }
+        ensures { OnOk result (text.new ≡ text.old ++ by_numbers (shown_refused sources.now word.now detail self.now.group) self.now.object self.now.index) }
     {
         let Some(object) = number_in(self.object) else {
             return Ok(());
@@ -118,7 +119,7 @@ impl<'a> Spot<'a> {
                     text,
                     sources,
                     word,
-                    wrong,
+                    detail,
                     self.group,
                     object,
                     index as usize,

@@ -3,4 +3,4 @@ use Rattle.mh_look.specs.Meant.{mention, mention_by}
 use Rattle.mh_look.proofs.explanation.meant.mention.Given as goal
 
 abbrev pub invariant-loop : goal.invariant-loop
-invariant-loop l = mention_by l.variables l.number (length l.bytes - l.counter) l.depth l.left ≡ mention l.fn.variables l.fn.number l.fn.bytes
+invariant-loop l = mention_by l.number (length l.bytes - l.counter) l.depth l.left ≡ mention l.fn.number l.fn.bytes
