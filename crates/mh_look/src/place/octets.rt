@@ -22,7 +22,7 @@ pub(crate) fn put_octet(
 {
     put_words(alloc, text, name, offset)?;
     let left_out = offset.saturating_sub(10);
-    let digits = hex_text(alloc, octets_from(bytes, left_out))?;
+    let digits = hex_text(alloc, octets_from(bytes, left_out, 30))?;
     let characters = characters_of(alloc, digits.as_slice())?;
     let shift = 3 * offset.min(10);
     put_window(
@@ -37,12 +37,7 @@ pub(crate) fn put_octet(
 }
 
 #[tactic(auto, unfolding(crate::specs::Octets::octet_words))]
-fn put_words(
-    alloc: Global,
-    text: &mut Text,
-    name: &[u8],
-    offset: usize,
-) -> Result<(), AllocError>
+fn put_words(alloc: Global, text: &mut Text, name: &[u8], offset: usize) -> Result<(), AllocError>
     ensures { OnOk result (text.new ≡ text.old ++ octet_words name.now offset) }
 {
     let mut words = Text::new(alloc);
@@ -54,12 +49,12 @@ fn put_words(
     put_paragraph(alloc, text, words.as_slice())
 }
 
-/// So many octets as are shown at most, behind so many others.
-fn octets_from(bytes: &[u8], start: usize) -> &[u8]
-    ensures { result.now ≡ take 30 (drop start bytes.now) }
+/// So many octets at most, behind so many others.
+fn octets_from(bytes: &[u8], start: usize, count: usize) -> &[u8]
+    ensures { result.now ≡ take count (drop start bytes.now) }
 {
     let behind = bytes.get(start..).unwrap_or(&[]);
-    behind.get(..30).unwrap_or(behind)
+    behind.get(..count).unwrap_or(behind)
 }
 
 /// The octets in hexadecimal digits, each with a space behind it.
