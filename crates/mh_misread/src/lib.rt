@@ -24,6 +24,7 @@ mod phrases;
 mod piece;
 mod resuming;
 pub mod slip;
+mod slip_mend;
 mod span;
 mod stack;
 mod syntax;

@@ -64,7 +64,7 @@ static LONG_TEXT: &str =
     "file a 24 0\n  It is byte 0 of the file a.\n  a, line 1, column 1\n  1 | {:Application (\"~/a\" 0) }                                             …\n    | ^\n  Cause: the file or a list is too long, as it is read, or (at 0) as `to-text`\n    would write it.\n  Mend: split the group.\n";
 
 static LONG_OCTETS: &str =
-    "file a 13 0\n  It is byte 0 of the file a.\n  Cause: the file or a list is too long, as it is read, or (at 0) as `to-der`\n    would write it.\n  Mend: split the group.\n";
+    "file a 13 0\n  It is byte 0 of the file a.\n  a, octet 0, in hexadecimal digits\n  0 | A0 20 20 20 20 20 20 20 20 20 20 20 20 20 20 20 20 20 20 20 20 20 20 …\n    | ^^\n  Cause: the file or a list is too long, as it is read, or (at 0) as `to-der`\n    would write it.\n  Mend: split the group.\n";
 
 #[test]
 fn explains_long_groups(rt: HostRuntime) {
