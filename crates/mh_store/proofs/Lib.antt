@@ -2,6 +2,7 @@ pub mod TableLemmas
 pub mod PlaceLemmas
 pub mod FreshLemmas
 pub mod BothLemmas
+mod HeldLemmas
 pub mod KeepingLemmas
 mod BringingLemmas
 pub mod PlacingLemmas
