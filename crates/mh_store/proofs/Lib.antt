@@ -11,4 +11,5 @@ mod TextLemmas
 mod ScalarLemmas
 mod DivisionLemmas
 mod BoxLemmas
+mod BoxKeptLemmas
 mod ApartLemmas

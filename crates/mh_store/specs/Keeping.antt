@@ -49,6 +49,17 @@ leaves_lines (edit.Start text) o = o.body.available || stays_without text o
 leaves_lines edit.Drop o = has_no_text o
 leaves_lines _ o = true
 
+-- the box is read under the attribute
+abbrev pub is_of_box : Attribute → Bool
+is_of_box attribute.OrigBoxSize = true
+is_of_box attribute.OrigPosition = true
+is_of_box _ = false
+
+-- the edit can be seen to leave the box as it is
+abbrev pub leaves_box : Edit → Bool
+leaves_box (edit.Put a h) = not (is_of_box a)
+leaves_box _ = true
+
 -- a text would be laid out alike in both
 pub record AreLaidAlike (o p : Object) : Type 0 where
   pub columns : columns_of (area_of o) ≡ columns_of (area_of p)

@@ -3,7 +3,7 @@ ghost use Rattle.std.specs.Prelude.{◌≡◌, true, IfOk, Some};
 ghost use Rattle.mh_group.specs.declared.attribute.Attribute.TheVariants as attribute;
 ghost use Rattle.mh_model.specs.Looks.{area_by, lines_of, shown_text};
 ghost use Rattle.mh_model.specs.Property.{as_pair, read};
-ghost use Rattle.mh_store.specs.Keeping.{covers_alike, has_no_text, lays_alike, leaves_lines};
+ghost use Rattle.mh_store.specs.Keeping.{covers_alike, has_no_text, is_of_box, lays_alike, leaves_box, leaves_lines};
 ghost use Rattle.mh_store.specs.Keeping.{loads_no_text};
 ghost use Rattle.mh_store.specs.Keeping.{stays_without, AreLaidAlike};
 
@@ -86,6 +86,23 @@ fn loads_no_text(text: &Option<Octets>, object: &Object) -> bool
     ensures { result ≡ loads_no_text text.now object.now }
 {
     has_no_text(object) && (!object.body.available || text.is_none())
+}
+
+/// Whether the edit leaves the box of the object as it is, as far as can be seen before it.
+pub fn leaves_box(edit: &Edit) -> bool
+    ensures { result ≡ leaves_box edit.now }
+{
+    match edit {
+        Edit::Put(attribute, _) => !is_of_box(*attribute),
+        _ => true,
+    }
+}
+
+/// Whether the box is read under the attribute.
+fn is_of_box(attribute: Attribute) -> bool
+    ensures { result ≡ is_of_box attribute }
+{
+    matches!(attribute, Attribute::OrigBoxSize | Attribute::OrigPosition)
 }
 
 /// Whether the lines are the same before a change and after it, as far as can be seen without laying
