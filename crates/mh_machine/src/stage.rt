@@ -71,6 +71,13 @@ impl Stage {
         &self.objects
     }
 
+    /// What can be seen, the bottom first.
+    pub fn stack(&self) -> &[ObjRef]
+        ensures { result.now ≡ self.now.stack }
+    {
+        self.stack.as_slice()
+    }
+
     /// Makes room for one more on the stack.
     pub fn reserve(&mut self) -> Result<(), AllocError>
         ensures objects { self.new.objects ≡ self.old.objects }
@@ -116,6 +123,7 @@ impl Stage {
     }
 
     /// Gives a variable a value, which is never seen.
+    #[inline(always)]
     pub fn give(&mut self, at: &ObjRef, value: Value)
         ensures given { self.new.objects ≡ changed (λ _ b. given value b) at.now self.old.objects }
         ensures stack { self.new.stack ≡ self.old.stack }
