@@ -1,5 +1,5 @@
 -- What is read of an object under which something was put.
-use Rattle.std.proofs.Common.{◌≡◌, ℕ, Bool, true, false, List, [], ◌∷◌, Option, Some, None, refl, ap, sym, ◌∙◌, subst, eqb-true}
+use Rattle.std.proofs.Common.{◌≡◌, ℕ, Bool, true, false, List, [], ◌∷◌, Option, Some, refl, ap, sym, subst, eqb-true}
 use Rattle.std.specs.Prelude.{◌==◌, cond}
 use Rattle.std.specs.List.{find}
 use Rattle.std.specs.Option.{option_map, option_or}
@@ -10,7 +10,7 @@ use Rattle.mh_model.specs.declared.held.Property.{Property}
 use Rattle.mh_model.specs.declared.object.Object.{Object}
 use Rattle.mh_model.specs.Bodies.{put}
 use Rattle.mh_model.specs.First.{put_first}
-use Rattle.mh_model.specs.Property.{held, is_of, read, with_held}
+use Rattle.mh_model.specs.Property.{held, is_of, read}
 
 -- what is put in the place of the first hit is found
 found_put : {X : Type 0} (p : X → Bool) (x : X) → p x ≡ true → (xs : List X) → find p (put_first p x xs) ≡ Some x

@@ -1,6 +1,6 @@
 -- When the lines of an object's text stay as they are.
 use Rattle.std.proofs.Common.{eqb-true, ◌≡◌, ℕ, Bool, true, false, ◌&&◌, ◌||◌, not, if◌then◌else◌, List, [], ◌∷◌, ◌++◌, Option, Some, None, Result, Ok, Err, OnOk, OnErr, refl, ap, sym, ◌∙◌}
-use Rattle.std.specs.Prelude.{take, ◌==◌, ℤ}
+use Rattle.std.specs.Prelude.{take, ◌==◌}
 use Rattle.std.specs.Option.{is_none}
 use Rattle.mh_base.specs.declared.value.Value.{Value}
 use Rattle.mh_group.specs.declared.attribute.Attribute.{Attribute}
@@ -22,7 +22,7 @@ use Rattle.mh_model.specs.Property.{as_bool, as_justification, as_octets, as_pai
 use Rattle.mh_group.specs.Table.{is_push_button}
 use Rattle.mh_model.specs.Scalars.{scalars_of}
 use Rattle.mh_store.proofs.HeldLemmas.{read_beside, read_put}
-use Rattle.mh_store.specs.Keeping.{AreLaidAlike, covers_alike, has_no_text, lays_alike, leaves_lines, loads_no_text, stays_without}
+use Rattle.mh_store.specs.Keeping.{AreLaidAlike, has_no_text, lays_alike, leaves_lines, loads_no_text, stays_without}
 use Rattle.mh_store.specs.Table.{with_body}
 
 -- one text has the same lines in objects that lay it out alike
