@@ -94,6 +94,7 @@ fn first(values: &[Value]) -> Result<Option<Value>, AllocError>
 }
 
 /// The event that says how the test went. A variable that holds nothing is not tested.
+#[inline(always)]
 pub fn tested(
     at: &ObjRef,
     operator: Option<Operator>,
@@ -109,6 +110,7 @@ pub fn tested(
     }
 }
 
+#[inline(always)]
 fn test_event(source: &ObjRef, truth: bool) -> Result<Item, AllocError>
     ensures { IfOk result (λ item. item ≡ Item.Emit (record {
       source = source.now;

@@ -16,6 +16,7 @@ use crate::screen::Screen;
 use crate::spoiling::is_seen;
 use crate::texts::{Ink, paint_text};
 use crate::window::Window;
+use mh_base::Area;
 use mh_group::{Attribute, Class};
 use mh_model::held::as_colour;
 use mh_model::{Line, Object};
@@ -30,27 +31,28 @@ pub(crate) fn paint_found(screen: &mut Screen, found: Option<&Lined>)
     ensures { IsPainted (λ c. painted c (option_copied found.entry)) screen.old screen.new }
 {
     if let Some(kept) = found {
-        paint_seen(screen, kept.object(), kept.lines());
+        paint_seen(screen, kept.object(), kept.area(), kept.lines());
     }
 }
 
-/// Paints an object if it is available and runs.
-fn paint_seen(screen: &mut Screen, object: &Object, lines: &[Line])
-    requires { lines.now ≡ spec.lines_of object.now }
+/// Paints an object, whose box this is, if it is available and runs.
+fn paint_seen(screen: &mut Screen, object: &Object, area: &Area, lines: &[Line])
+    requires area { area.now ≡ spec.area_of object.now }
+    requires lines { lines.now ≡ spec.lines_of object.now }
     ensures { IsPainted (λ c. painted c (Some object.now)) screen.old screen.new }
 {
     if is_seen(object) {
-        paint_stale(screen, object, lines);
+        paint_stale(screen, object, area, lines);
     }
 }
 
-/// Paints an object in whose box a cell is stale.
-fn paint_stale(screen: &mut Screen, object: &Object, lines: &[Line])
-    requires { lines.now ≡ spec.lines_of object.now }
+/// Paints an object in whose box, which is this one, a cell is stale.
+fn paint_stale(screen: &mut Screen, object: &Object, area: &Area, lines: &[Line])
+    requires area { area.now ≡ spec.area_of object.now }
+    requires lines { lines.now ≡ spec.lines_of object.now }
     ensures { IsPainted (paint_in object.now) screen.old screen.new }
 {
-    let area = area_of(object);
-    let own = Window::of(&Frame::of(&area));
+    let own = Window::of(&Frame::of(area));
     if screen.is_settled_in(&own) {
         return;
     }

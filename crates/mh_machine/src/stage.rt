@@ -116,6 +116,7 @@ impl Stage {
     }
 
     /// Gives a variable a value, which is never seen.
+    #[inline(always)]
     pub fn give(&mut self, at: &ObjRef, value: Value)
         ensures given { self.new.objects ≡ changed (λ _ b. given value b) at.now self.old.objects }
         ensures stack { self.new.stack ≡ self.old.stack }

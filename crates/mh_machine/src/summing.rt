@@ -79,6 +79,7 @@ fn sum_of(found: Option<&Object>, name: ActionName, term: i32) -> Sum
     }
 }
 
+#[inline(always)]
 fn sum_with(object: &Object, name: ActionName, term: i32) -> Sum
     ensures { IsSum name term (Some object.now) result }
 {
@@ -93,6 +94,7 @@ fn sum_with(object: &Object, name: ActionName, term: i32) -> Sum
     }
 }
 
+#[inline(always)]
 fn is_number(object: &Object) -> bool
     ensures { result ≡ true → object.now.fixed.class ≡ class.IntegerVar }
 {
@@ -100,6 +102,7 @@ fn is_number(object: &Object) -> bool
 }
 
 /// The number that a variable holds, or 0.
+#[inline(always)]
 fn number_of(object: &Object) -> i32
     ensures { result ≡ held_of object.now.fixed object.now.body }
 {
@@ -109,6 +112,7 @@ fn number_of(object: &Object) -> i32
     }
 }
 
+#[inline(always)]
 fn added(object: &Object, term: i32) -> Sum
     ensures { Becomes action.Add term object.now result }
 {

@@ -16,6 +16,7 @@ use std::alloc::AllocError;
 impl Works {
     /// Makes a step, if the first item is a test that is written with its target and its value, of a variable that is
     /// there and can be tested so. Whether it did.
+    #[inline(always)]
     pub(crate) fn test_first(&mut self) -> Result<bool, AllocError>
         requires room { self.old.state.taken + 1 < 2 ^ 64 }
         requires runs { self.old.state.ended ≡ false }
@@ -33,6 +34,7 @@ impl Works {
     }
 
     /// What the first item puts, if it is such a test.
+    #[inline(always)]
     fn first_test(&self) -> Result<Option<Put>, AllocError>
         ensures { IfOk result (IsFirstTest self.now.state) }
     {

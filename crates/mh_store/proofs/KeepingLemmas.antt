@@ -1,8 +1,12 @@
 -- When the lines of an object's text stay as they are.
-use Rattle.std.proofs.Common.{◌≡◌, ℕ, Bool, true, false, ◌&&◌, ◌||◌, not, if◌then◌else◌, List, [], ◌∷◌, ◌++◌, Option, Some, None, Result, Ok, Err, OnOk, OnErr, refl, ap, sym, ◌∙◌}
-use Rattle.std.specs.Prelude.{take}
+use Rattle.std.proofs.Common.{eqb-true, ◌≡◌, ℕ, Bool, true, false, ◌&&◌, ◌||◌, not, if◌then◌else◌, List, [], ◌∷◌, ◌++◌, Option, Some, None, Result, Ok, Err, OnOk, OnErr, refl, ap, sym, ◌∙◌}
+use Rattle.std.specs.Prelude.{take, ◌==◌}
 use Rattle.std.specs.Option.{is_none}
 use Rattle.mh_base.specs.declared.value.Value.{Value}
+use Rattle.mh_group.specs.declared.attribute.Attribute.{Attribute}
+use Rattle.mh_group.specs.declared.attribute.Attribute.TheVariants as attribute
+use Rattle.mh_group.specs.Table.{attribute_number}
+use Rattle.mh_model.specs.declared.held.Held.{Held}
 use Rattle.mh_model.specs.declared.edit.Edit.{Edit}
 use Rattle.mh_model.specs.declared.edit.Edit.TheVariants as edit
 use Rattle.mh_model.specs.declared.line.Line.{Line}
@@ -12,10 +16,13 @@ use Rattle.mh_model.specs.declared.object.Object.{Object}
 use Rattle.mh_model.specs.Bodies.{given, put, end_of, prepared, started, token_started, halted, dropped, replaced, cleared}
 use Rattle.mh_model.specs.Edits.{edited}
 use Rattle.mh_model.specs.Layout.{text_lines}
-use Rattle.mh_model.specs.Looks.{label_of, shown_text, lines_of, lines_of_text}
+use Rattle.mh_model.specs.Boxes.{columns_of, rows_of}
+use Rattle.mh_model.specs.Looks.{area_by, area_of, label_of, shown_text, lines_of, lines_of_text}
+use Rattle.mh_model.specs.Property.{as_bool, as_justification, as_octets, as_pair, as_value, read}
 use Rattle.mh_group.specs.Table.{is_push_button}
 use Rattle.mh_model.specs.Scalars.{scalars_of}
-use Rattle.mh_store.specs.Keeping.{AreLaidAlike, has_no_text, leaves_lines, loads_no_text, stays_without}
+use Rattle.mh_store.proofs.HeldLemmas.{read_beside, read_put}
+use Rattle.mh_store.specs.Keeping.{AreLaidAlike, has_no_text, lays_alike, leaves_lines, loads_no_text, stays_without}
 use Rattle.mh_store.specs.Table.{with_body}
 
 -- one text has the same lines in objects that lay it out alike
@@ -109,10 +116,67 @@ drop_left o h = by o.body.available
     by true = without_text o (forgotten o.body) h refl
     by false = refl
 
+-- no part of the lay-out but the place is read under the attribute
+record IsAside (a : Attribute) : Type 0 where
+  size : (attribute_number a == attribute_number attribute.OrigBoxSize) ≡ false
+  wraps : (attribute_number a == attribute_number attribute.TextWrapping) ≡ false
+  justification : (attribute_number a == attribute_number attribute.HJustification) ≡ false
+  label : (attribute_number a == attribute_number attribute.OrigLabel) ≡ false
+
+abbrev placed_in : Attribute → Held → Object → Object
+placed_in a h o = record o { body = put a h o.body }
+
+aside_left : (a : Attribute) (h : Held) (o : Object) → IsAside a → columns_of (area_of (placed_in a h o)) ≡ columns_of (area_of o) → rows_of (area_of (placed_in a h o)) ≡ rows_of (area_of o) → lines_of (placed_in a h o) ≡ lines_of o
+aside_left a h o aside columns rows =
+    let label = read_beside a attribute.OrigLabel h o aside.label in
+    untouched o (put a h o.body)
+    (λ i. if is_push_button o.fixed.class then Some (as_octets (as_value (label i))) else o.body.text)
+    (record {
+      columns = columns;
+      rows = rows;
+      wraps = λ i. as_bool false (read_beside a attribute.TextWrapping h o aside.wraps i);
+      justification = λ i. as_justification (read_beside a attribute.HJustification h o aside.justification i);
+    })
+
+-- the place is not read under the attribute either
+unseen_left : (a : Attribute) (h : Held) (o : Object) → IsAside a → (attribute_number a == attribute_number attribute.OrigPosition) ≡ false → lines_of (placed_in a h o) ≡ lines_of o
+unseen_left a h o aside place =
+    let size = read_beside a attribute.OrigBoxSize h o aside.size in
+    let position = read_beside a attribute.OrigPosition h o place in
+    aside_left a h o aside
+    (λ i. columns_of (area_by (as_pair (size i)) (as_pair (position i))))
+    (λ i. rows_of (area_by (as_pair (size i)) (as_pair (position i))))
+
+-- it goes to a place at which the box covers as many cells
+moved_left : (h : Held) (o : Object) → lays_alike attribute.OrigPosition h o ≡ true → lines_of (placed_in attribute.OrigPosition h o) ≡ lines_of o
+moved_left h o alike =
+    let size = read_beside attribute.OrigPosition attribute.OrigBoxSize h o refl in
+    let position = read_put attribute.OrigPosition h o refl in
+    let there = area_by (as_pair (read attribute.OrigBoxSize o)) (as_pair (Some h)) in
+    let said = both (columns_of there == columns_of (area_of o)) (rows_of there == rows_of (area_of o)) alike in
+    aside_left attribute.OrigPosition h o (record { size = refl; wraps = refl; justification = refl; label = refl })
+    ((λ i. columns_of (area_by (as_pair (size i)) (as_pair (position i)))) ∙ eqb-true (columns_of there) (columns_of (area_of o)) said.0)
+    ((λ i. rows_of (area_by (as_pair (size i)) (as_pair (position i)))) ∙ eqb-true (rows_of there) (rows_of (area_of o)) said.1)
+
+alike_left : (a : Attribute) (h : Held) (o : Object) → lays_alike a h o ≡ true → lines_of (placed_in a h o) ≡ lines_of o
+alike_left attribute.TextColour h o e = unseen_left attribute.TextColour h o (record { size = refl; wraps = refl; justification = refl; label = refl }) refl
+alike_left attribute.OrigLineWidth h o e = unseen_left attribute.OrigLineWidth h o (record { size = refl; wraps = refl; justification = refl; label = refl }) refl
+alike_left attribute.OrigRefLineColour h o e = unseen_left attribute.OrigRefLineColour h o (record { size = refl; wraps = refl; justification = refl; label = refl }) refl
+alike_left attribute.OrigRefFillColour h o e = unseen_left attribute.OrigRefFillColour h o (record { size = refl; wraps = refl; justification = refl; label = refl }) refl
+alike_left attribute.OrigPosition h o e = moved_left h o e
+alike_left _ h o e = absurd cc
+
+put_left : (a : Attribute) (h : Held) (o : Object) → (has_no_text o || lays_alike a h o) ≡ true → lines_of (placed_in a h o) ≡ lines_of o
+put_left a h o said = by (has_no_text o) refl said
+  where
+    by : (t : Bool) → has_no_text o ≡ t → (t || lays_alike a h o) ≡ true → lines_of (placed_in a h o) ≡ lines_of o
+    by true none e = without_text o (put a h o.body) none (loaded_none o none)
+    by false some e = alike_left a h o e
+
 -- an edit that can be seen to leave the lines does so
 pub lines-left : (e : Edit) (o : Object) → leaves_lines e o ≡ true → lines_of (with_body (edited e) o) ≡ lines_of o
 lines-left (edit.Give v) o h = untouched o (given v o.body) refl (record { columns = refl; rows = refl; wraps = refl; justification = refl })
-lines-left (edit.Put a x) o h = without_text o (put a x o.body) h (loaded_none o h)
+lines-left (edit.Put a x) o h = put_left a x o h
 lines-left (edit.Load v text) o h = load_left v text o h
 lines-left (edit.Draw d) o h = untouched o (record o.body { drawings = o.body.drawings ++ d ∷ [] }) refl (record { columns = refl; rows = refl; wraps = refl; justification = refl })
 lines-left edit.Clear o h = untouched o (cleared o.body) refl (record { columns = refl; rows = refl; wraps = refl; justification = refl })

@@ -2,6 +2,7 @@ pub mod TableLemmas
 pub mod PlaceLemmas
 pub mod FreshLemmas
 pub mod BothLemmas
+mod HeldLemmas
 pub mod KeepingLemmas
 mod BringingLemmas
 pub mod PlacingLemmas
@@ -10,4 +11,5 @@ mod TextLemmas
 mod ScalarLemmas
 mod DivisionLemmas
 mod BoxLemmas
+mod BoxKeptLemmas
 mod ApartLemmas

@@ -156,6 +156,7 @@ impl Group {
     }
 
     /// Gives the variable at this reference a value. Where there is none the value comes back.
+    #[inline(always)]
     pub(crate) fn give(&mut self, at: &ObjRef, value: Value) -> Option<Value>
         ensures done { self.new ≡ given_in value at.now self.old }
         ensures back { result ≡ left_over value (object_at at.now self.old) }
@@ -182,20 +183,37 @@ fn find(table: &IndexMap<u32, Lined>, at: u32) -> Option<&Lined>
 {
     match table.get_index(likely_place(table, at)) {
         Some((own, kept)) if *own == at => Some(kept),
-        _ => table.get(&at),
+        _ => find_by_hash(table, at),
     }
+}
+
+/// The same by the table alone. It stands aside, so that the way that is mostly gone needs few registers.
+#[inline(never)]
+fn find_by_hash(table: &IndexMap<u32, Lined>, at: u32) -> Option<&Lined>
+    ensures { option_copied result ≡ lookup (nat_eq at) table.now.entries }
+{
+    table.get(&at)
 }
 
 /// Where the object under this number stands, looked for as above; behind all where there is none.
 fn place_of(table: &IndexMap<u32, Lined>, at: u32) -> usize
     ensures { IsPlace at table.now.entries result }
 {
-    let behind = table.len();
+    let _ = table.len();
     let likely = likely_place(table, at);
     match table.get_index(likely) {
         Some((own, _)) if *own == at => likely,
-        _ => table.get_index_of(&at).unwrap_or(behind),
+        _ => place_by_hash(table, at),
     }
+}
+
+/// The same by the table alone.
+#[inline(never)]
+fn place_by_hash(table: &IndexMap<u32, Lined>, at: u32) -> usize
+    ensures { IsPlace at table.now.entries result }
+{
+    let behind = table.len();
+    table.get_index_of(&at).unwrap_or(behind)
 }
 
 /// Changes the body of the object under this number. Where there is none the change comes back.
@@ -221,6 +239,7 @@ fn edit_under(
 }
 
 /// Gives the variable under this number a value. Where there is none the value comes back.
+#[inline(always)]
 fn give_under(table: &mut IndexMap<u32, Lined>, at: u32, value: Value) -> Option<Value>
     ensures done { table.new.entries ≡ changed_at (λ _ b. given value b) at table.old.entries }
     ensures back { result ≡ left_over value (lookup (nat_eq at) table.old.entries) }

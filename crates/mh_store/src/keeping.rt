@@ -1,15 +1,19 @@
 //! When the lines of an object's text stay as they are, and what they are else.
-ghost use Rattle.std.specs.Prelude.{◌≡◌, true, IfOk};
-ghost use Rattle.mh_model.specs.Looks.{lines_of, shown_text};
-ghost use Rattle.mh_store.specs.Keeping.{has_no_text, leaves_lines};
+ghost use Rattle.std.specs.Prelude.{◌≡◌, true, IfOk, Some};
+ghost use Rattle.mh_group.specs.declared.attribute.Attribute.TheVariants as attribute;
+ghost use Rattle.mh_model.specs.Looks.{area_by, lines_of, shown_text};
+ghost use Rattle.mh_model.specs.Property.{as_pair, read};
+ghost use Rattle.mh_store.specs.Keeping.{covers_alike, has_no_text, is_of_box, lays_alike, leaves_box, leaves_lines};
 ghost use Rattle.mh_store.specs.Keeping.{loads_no_text};
 ghost use Rattle.mh_store.specs.Keeping.{stays_without, AreLaidAlike};
 
 use crate::layout::lay_out;
 use crate::looks::{area_of, is_push_button, justification, shown_text, wraps};
-use mh_base::{Octets, Seq};
+use mh_base::{Area, Octets, Seq};
+use mh_group::Attribute;
 use mh_model::boxes::{columns_of, rows_of};
-use mh_model::{Edit, Line, Object};
+use mh_model::held::as_pair;
+use mh_model::{Edit, Held, Line, Object};
 use std::alloc::{AllocError, Global};
 
 /// Whether the edit leaves the lines as they are, as far as can be seen before it. Most touch neither
@@ -19,13 +23,49 @@ pub fn leaves_lines(edit: &Edit, object: &Object) -> bool
 {
     match edit {
         Edit::Type(_, _) => false,
-        Edit::Put(_, _) | Edit::Drop => has_no_text(object),
+        Edit::Put(attribute, held) => {
+            has_no_text(object) || lays_alike(*attribute, held, object)
+        }
+        Edit::Drop => has_no_text(object),
         Edit::Load(_, text) => loads_no_text(text, object),
         Edit::Prepare(text) | Edit::Start(text) => {
             object.body.available || stays_without(text, object)
         }
         _ => true,
     }
+}
+
+/// Whether with this under the attribute the text is laid out as it was.
+fn lays_alike(attribute: Attribute, held: &Held, object: &Object) -> bool
+    ensures { result ≡ lays_alike attribute held.now object.now }
+{
+    match attribute {
+        Attribute::TextColour
+        | Attribute::OrigLineWidth
+        | Attribute::OrigRefLineColour
+        | Attribute::OrigRefFillColour => true,
+        Attribute::OrigPosition => covers_alike(&moved(held, object), &area_of(object)),
+        _ => false,
+    }
+}
+
+/// The box of the object at the place that is held.
+fn moved(held: &Held, object: &Object) -> Area
+    ensures { result ≡ area_by (as_pair (read attribute.OrigBoxSize object.now)) (as_pair (Some held.now)) }
+{
+    let (x, y) = as_pair(Some(held));
+    Area {
+        x,
+        y,
+        ..area_of(object)
+    }
+}
+
+/// Whether both boxes cover as many columns and rows.
+fn covers_alike(one: &Area, other: &Area) -> bool
+    ensures { result ≡ covers_alike one.now other.now }
+{
+    columns_of(one) == columns_of(other) && rows_of(one) == rows_of(other)
 }
 
 fn has_no_text(object: &Object) -> bool
@@ -46,6 +86,23 @@ fn loads_no_text(text: &Option<Octets>, object: &Object) -> bool
     ensures { result ≡ loads_no_text text.now object.now }
 {
     has_no_text(object) && (!object.body.available || text.is_none())
+}
+
+/// Whether the edit leaves the box of the object as it is, as far as can be seen before it.
+pub fn leaves_box(edit: &Edit) -> bool
+    ensures { result ≡ leaves_box edit.now }
+{
+    match edit {
+        Edit::Put(attribute, _) => !is_of_box(*attribute),
+        _ => true,
+    }
+}
+
+/// Whether the box is read under the attribute.
+fn is_of_box(attribute: Attribute) -> bool
+    ensures { result ≡ is_of_box attribute }
+{
+    matches!(attribute, Attribute::OrigBoxSize | Attribute::OrigPosition)
 }
 
 /// Whether the lines are the same before a change and after it, as far as can be seen without laying

@@ -4,14 +4,15 @@ ghost use Rattle.std.specs.Str.{bytes_eq};
 ghost use Rattle.mh_group.specs.Table.{is_visible};
 ghost use Rattle.mh_model.specs.Bodies.{given};
 ghost use Rattle.mh_model.specs.Edits.{edited};
-ghost use Rattle.mh_model.specs.Looks.{lines_of as lines_of_lem};
+ghost use Rattle.mh_model.specs.Looks.{area_of as area_of_lem, lines_of as lines_of_lem};
 ghost use Rattle.mh_model.specs.Service.{fresh};
 ghost use Rattle.mh_store.specs.Bringing.{with_brought};
 ghost use Rattle.mh_store.specs.Placing.{with_place};
 ghost use Rattle.mh_store.specs.Table.{with_body};
 
-use crate::keeping::{are_same_lines, leaves_lines, lines_for};
-use mh_base::{GroupName, Octets, Seq, Value, both};
+use crate::keeping::{are_same_lines, leaves_box, leaves_lines, lines_for};
+use crate::looks::area_of;
+use mh_base::{Area, GroupName, Octets, Seq, Value, both};
 use mh_group::{Attribute, Position};
 use mh_model::{Edit, FixedPart, Held, Line, Object};
 use std::alloc::{AllocError, Global};
@@ -22,18 +23,20 @@ use std::marker::Model;
 pub struct Lined {
     object: Object,
     lines: Seq<Line>,
+    /// Its box.
+    area: Area,
 }
 
 impl Model for Lined {
     ghost use Rattle.std.specs.Prelude.{◌≡◌};
     ghost use Rattle.mh_model.specs.declared.object.Object.{Object};
-    ghost use Rattle.mh_model.specs.Looks.{lines_of};
+    ghost use Rattle.mh_model.specs.Looks.{area_of, lines_of};
 
     ghost Value = { Object };
 
     ghost view = { λ k. k.object };
 
-    ghost invariant = { λ k. k.lines ≡ lines_of k.object };
+    ghost invariant = { λ k. (k.lines ≡ lines_of k.object) × (k.area ≡ area_of k.object) };
 }
 
 impl Lined {
@@ -57,7 +60,15 @@ impl Lined {
         self.lines.as_slice()
     }
 
+    /// Its box.
+    pub fn area(&self) -> &Area
+        ensures { result.now ≡ area_of_lem self.now }
+    {
+        &self.area
+    }
+
     /// Gives a variable a value. It takes no memory.
+    #[inline(always)]
     pub(crate) fn give(&mut self, value: Value)
         ensures { self.new ≡ with_body (λ _ b. given value b) self.old }
     {
@@ -107,16 +118,33 @@ impl Lined {
         ensures kept { OnErr result (self.new ≡ self.old) }
     {
         if leaves_lines(&edit, &self.object) {
-            return edit_object(&mut self.object, edit);
+            return edit_in_place(&mut self.object, &mut self.area, edit);
         }
         let after = edited_copy(alloc, &self.object, edit)?;
         if !are_same_lines(&self.object, &after) {
             let lines = lines_for(alloc, &after)?;
             put_lines(&mut self.lines, lines);
         }
+        self.area = area_of(&after);
         put_object(&mut self.object, after);
         Ok(())
     }
+}
+
+/// Changes the body of an object in place, and its box where that can move.
+#[inline(always)]
+fn edit_in_place(object: &mut Object, area: &mut Area, edit: Edit) -> Result<(), AllocError>
+    requires { area.old ≡ area_of_lem object.old }
+    ensures done { OnOk result (object.new ≡ with_body (edited edit) object.old) }
+    ensures kept { OnErr result (object.new ≡ object.old) }
+    ensures there { area.new ≡ area_of_lem object.new }
+{
+    if leaves_box(&edit) {
+        return edit_object(object, edit);
+    }
+    let answer = edit_object(object, edit);
+    *area = area_of(object);
+    answer
 }
 
 /// Changes the body of an object in place.
@@ -133,7 +161,12 @@ fn laid_out(alloc: Global, object: Object) -> Result<Lined, AllocError>
     ensures { IfOk result (λ kept. kept ≡ object) }
 {
     let lines = lines_for(alloc, &object)?;
-    Ok(Lined { object, lines })
+    let area = area_of(&object);
+    Ok(Lined {
+        object,
+        lines,
+        area,
+    })
 }
 
 /// A copy of the object. What never changes is shared with it.

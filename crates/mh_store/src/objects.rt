@@ -117,6 +117,7 @@ impl Objects {
     }
 
     /// Gives the variable at this reference a value. It takes no memory.
+    #[inline(always)]
     pub fn give(&mut self, at: &ObjRef, value: Value)
         ensures given { self.new ≡ changed (λ _ b. given value b) at.now self.old }
         ensures own { parts self.new.application ≡ parts self.old.application }

@@ -78,6 +78,7 @@ fn edit_in(scene: &mut Option<Group>, at: &ObjRef, edit: Edit) -> Result<Option<
 }
 
 /// Gives the variable at this reference a value, where the two are apart.
+#[inline(always)]
 pub(crate) fn give_scene_first(
     application: &mut Group,
     scene: &mut Option<Group>,
@@ -109,6 +110,7 @@ pub(crate) fn give_application_first(
 }
 
 /// Gives the scene's variable at this reference a value. Where there is none the value comes back.
+#[inline(always)]
 fn give_in(scene: &mut Option<Group>, at: &ObjRef, value: Value) -> Option<Value>
     ensures done { of_scene scene.new ≡ given_in value at.now (of_scene scene.old) }
     ensures back { result ≡ left_over value (object_at at.now (of_scene scene.old)) }

@@ -5,6 +5,7 @@ pub mod FieldLemmas
 pub mod PieceLemmas
 pub mod SignLemmas
 pub mod KeywordLemmas
+mod ByteSetLemmas
 pub mod FoundLemmas
 pub mod FoundSettings
 pub mod FoundGroups

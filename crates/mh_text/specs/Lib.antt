@@ -3,6 +3,7 @@ pub mod Bytes
 pub mod Words
 pub mod Spelling
 pub mod Lexing
+pub mod ByteSets
 pub mod Signs
 pub mod Rest
 pub mod Left

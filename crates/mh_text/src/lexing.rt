@@ -2,7 +2,8 @@
 //! which token begins behind it. Where a token stands is left to `token`.
 ghost use Rattle.std.specs.Prelude.{◌≡◌, ◌+◌, ◌≤◌, ◌<◌, length, IfSome, false};
 ghost use Rattle.std.specs.List.{prefix_len};
-ghost use Rattle.mh_text.specs.Bytes.{is_space, is_letter, is_digit, is_hexadecimal, is_text_byte, is_quoted_byte, begins_with};
+ghost use Rattle.mh_text.specs.Bytes.{is_space, is_letter, is_hexadecimal, begins_with};
+ghost use Rattle.mh_text.specs.ByteSets.{bit_of, bits_of};
 ghost use Rattle.mh_text.specs.Lexing.{gap_length, token_at, bare_token_at, number_length, keyword_length, text_length, quoted_length, is_escaped, is_in};
 
 use crate::TokenKind;
@@ -23,30 +24,10 @@ pub(crate) fn is_letter(byte: u8) -> bool
     }
 }
 
-pub(crate) fn is_digit(byte: u8) -> bool
-    ensures { result ≡ is_digit byte }
-{
-    matches!(byte, b'0'..=b'9')
-}
-
 pub(crate) fn is_hexadecimal(byte: u8) -> bool
     ensures { result ≡ is_hexadecimal byte }
 {
     matches!(byte, b'0'..=b'9' | b'A'..=b'F' | b'a'..=b'f')
-}
-
-/// Whether the byte may stand in a string between `"`.
-pub(crate) fn is_text_byte(byte: u8) -> bool
-    ensures { result ≡ is_text_byte byte }
-{
-    32 <= byte && byte <= 126 && byte != b'"'
-}
-
-/// Whether the byte may stand in a string between `'`.
-pub(crate) fn is_quoted_byte(byte: u8) -> bool
-    ensures { result ≡ is_quoted_byte byte }
-{
-    32 <= byte && byte <= 126 && byte != b'\''
 }
 
 /// How many bytes of white space and comments stand at the front. A comment goes from `//` to the end
@@ -126,16 +107,46 @@ enum ByteSet {
     Quoted,
 }
 
+/// In which sets each byte is, by their bits.
+static SETS: [u8; 256] = [
+    0, 0, 0, 0, 0, 0, 0, 0, 0, 0, 0, 0, 0, 0, 0, 0, 0, 0, 0, 0, 0, 0, 0, 0, 0, 0, 0, 0, 0, 0, 0, 0,
+    24, 24, 16, 24, 24, 24, 24, 8, 24, 24, 24, 24, 24, 24, 24, 24, 30, 30, 30, 30, 30, 30, 30, 30,
+    30, 30, 24, 24, 24, 24, 24, 24, 24, 29, 29, 29, 29, 29, 29, 29, 29, 29, 29, 29, 29, 29, 29, 29,
+    29, 29, 29, 29, 29, 29, 29, 29, 29, 29, 29, 24, 24, 24, 24, 24, 24, 29, 29, 29, 29, 29, 29, 29,
+    29, 29, 29, 29, 29, 29, 29, 29, 29, 29, 29, 29, 29, 29, 29, 29, 29, 29, 29, 24, 24, 24, 24, 0,
+    0, 0, 0, 0, 0, 0, 0, 0, 0, 0, 0, 0, 0, 0, 0, 0, 0, 0, 0, 0, 0, 0, 0, 0, 0, 0, 0, 0, 0, 0, 0, 0,
+    0, 0, 0, 0, 0, 0, 0, 0, 0, 0, 0, 0, 0, 0, 0, 0, 0, 0, 0, 0, 0, 0, 0, 0, 0, 0, 0, 0, 0, 0, 0, 0,
+    0, 0, 0, 0, 0, 0, 0, 0, 0, 0, 0, 0, 0, 0, 0, 0, 0, 0, 0, 0, 0, 0, 0, 0, 0, 0, 0, 0, 0, 0, 0, 0,
+    0, 0, 0, 0, 0, 0, 0, 0, 0, 0, 0, 0, 0, 0, 0, 0, 0, 0, 0, 0, 0, 0, 0, 0, 0, 0, 0, 0, 0, 0, 0, 0,
+];
+
+/// The bit of a set.
+fn bit_of(set: ByteSet) -> u8
+    ensures { result ≡ bit_of set }
+{
+    match set {
+        ByteSet::Letters => 1,
+        ByteSet::Digits => 2,
+        ByteSet::LettersAndDigits => 4,
+        ByteSet::Text => 8,
+        ByteSet::Quoted => 16,
+    }
+}
+
+/// Whether the byte is in the set. Most bytes of a text are asked this, so it is looked up.
+#[tactic(auto, using(crate::proofs::ByteSetLemmas::set_told))]
 fn is_in(set: ByteSet, byte: u8) -> bool
     ensures { result ≡ is_in set byte }
 {
-    match set {
-        ByteSet::Letters => is_letter(byte),
-        ByteSet::Digits => is_digit(byte),
-        ByteSet::LettersAndDigits => is_letter(byte) || is_digit(byte),
-        ByteSet::Text => is_text_byte(byte),
-        ByteSet::Quoted => is_quoted_byte(byte),
-    }
+    bits_of(byte) & bit_of(set) != 0
+}
+
+/// The bits of a byte.
+#[tactic(auto, unfolding(crate::specs::ByteSets::bits_of))]
+fn bits_of(byte: u8) -> u8
+    ensures { result ≡ bits_of byte }
+{
+    SETS[usize::from(byte)]
 }
 
 /// How many bytes of the set stand at the front.

@@ -58,6 +58,7 @@ fn copied(item: &Item) -> Result<Item, AllocError>
 }
 
 /// Passes over the first item of a portion. Whether the portion holds another one.
+#[inline(always)]
 pub(crate) fn pass(portion: &mut Portion) -> bool
     requires { is_live portion.old ≡ true }
     ensures more { result ≡ has_more portion.old }

@@ -90,6 +90,7 @@ impl Work {
     }
 
     /// Takes the first item away, if there is one. It takes no memory.
+    #[inline(always)]
     pub fn take_first(&mut self)
         ensures { self.new.items ≡ drop 1 self.old.items }
     {
@@ -98,6 +99,7 @@ impl Work {
 
     /// Puts what an action puts in the place of the first item. There is room for as much as one
     /// action can put, and it takes no memory.
+    #[inline(always)]
     pub fn put_by_act(&mut self, put: Put)
         requires { 2 ≤ self.old.room }
         ensures { self.new.items ≡ listed put ++ drop 1 self.old.items }
@@ -173,6 +175,7 @@ fn front_of(portions: &VecDeque<Portion>) -> Result<Option<Front>, AllocError>
 
 /// Takes the first item away, if there is one.
 #[tactic(auto, using(crate::proofs::PortionLemmas::passing))]
+#[inline(always)]
 fn drop_first(portions: &mut VecDeque<Portion>)
     requires { AreLive portions.old.items }
     ensures items { flat portions.new.items ≡ drop 1 (flat portions.old.items) }
@@ -189,6 +192,7 @@ fn drop_first(portions: &mut VecDeque<Portion>)
 }
 
 /// Passes over the first item of the first portion. Whether that portion holds another one.
+#[inline(always)]
 fn pass_first(portions: &mut VecDeque<Portion>) -> bool
     requires live { AreLive portions.old.items }
     requires some { 0 < deque_len portions.old }
@@ -200,6 +204,7 @@ fn pass_first(portions: &mut VecDeque<Portion>) -> bool
     pass(&mut portions[0])
 }
 
+#[inline(never)]
 fn drop_portion(portions: &mut VecDeque<Portion>)
     ensures items { portions.new.items ≡ drop 1 portions.old.items }
     ensures len { deque_len portions.new ≤ deque_len portions.old }
