@@ -224,6 +224,13 @@ impl Engine {
         self.machine.faults()
     }
 
+    /// The machine, to be looked at.
+    pub fn machine(&self) -> &Machine
+        ensures { result.now ≡ self.now.state }
+    {
+        &self.machine
+    }
+
     /// What is left to do.
     pub fn rest(&self) -> Rest
         ensures { result ≡ rest_of self.now.state }

@@ -38,7 +38,7 @@ pub fn key_batches(
 }
 
 /// The register of a scene that says which keys it hears.
-fn register_of(scene: Option<&Object>) -> i32
+pub fn register_of(scene: Option<&Object>) -> i32
     ensures { result ≡ spec.register_of (option_copied scene.entry) }
 {
     match scene {
@@ -48,7 +48,7 @@ fn register_of(scene: Option<&Object>) -> i32
 }
 
 /// The event that a key is to a scene.
-fn key_event(key: Key, source: ObjRef) -> Event
+pub fn key_event(key: Key, source: ObjRef) -> Event
     ensures { result ≡ spec.key_event key source }
 {
     Event {

@@ -16,6 +16,7 @@ mod interacting;
 mod judging;
 mod lives;
 mod loading;
+mod looks;
 pub mod machine;
 mod next_call;
 mod ordering;
@@ -34,6 +35,7 @@ pub mod unstarted;
 mod widgets;
 mod works;
 
+pub use inputs::{engine_event, key_event, register_of};
 pub use judging::{Free, Judged, Judging};
 pub use machine::Machine;
 pub use mh_model::Rest;

@@ -20,7 +20,7 @@ use std::marker::Model;
 /// The object machine. A contract sees the state.
 #[derive(Drop)]
 pub struct Machine {
-    works: Works,
+    pub(crate) works: Works,
 }
 
 impl Model for Machine {

@@ -71,6 +71,13 @@ impl Stage {
         &self.objects
     }
 
+    /// What can be seen, the bottom first.
+    pub fn stack(&self) -> &[ObjRef]
+        ensures { result.now ≡ self.now.stack }
+    {
+        self.stack.as_slice()
+    }
+
     /// Makes room for one more on the stack.
     pub fn reserve(&mut self) -> Result<(), AllocError>
         ensures objects { self.new.objects ≡ self.old.objects }
