@@ -24,10 +24,10 @@ use Rattle.mh_laws.specs.Describing as saying
 use Rattle.mh_laws.specs.Flow.{Flow, fills, is_given, is_list_in, is_reference_in, reads_reference}
 use Rattle.mh_laws.specs.Least.{Fact, Derived, Reached, Held, Comes, Hands}
 use Rattle.mh_laws.specs.Least as least
-use Rattle.mh_flow.specs.declared.link.Link.{Link}
-use Rattle.mh_flow.specs.declared.moves.Place.{Place}
-use Rattle.mh_flow.specs.declared.moves.Spot.{Spot}
-use Rattle.mh_flow.specs.declared.moves.Move.{Move}
+use Rattle.mh_flow.specs.declared.chain.link.Link.{Link}
+use Rattle.mh_flow.specs.declared.chain.moves.Holder.{Holder}
+use Rattle.mh_flow.specs.declared.chain.moves.ActionSite.{ActionSite}
+use Rattle.mh_flow.specs.declared.chain.moves.Move.{Move}
 use Rattle.mh_flow.specs.Chains.{Brings, IsDone, original, written, read, filled, passed, link}
 use Rattle.mh_flow.specs.Chart.{firsts, argument_of, handed_argument, read_by}
 use Rattle.mh_group.specs.declared.action_name.ActionName.{ActionName}
@@ -167,18 +167,18 @@ module _ (v : Service) (w : Flow) (e : IsExact v w) where
 -- it brings one of these from nowhere, or takes whatever is brought along
 record Serves (v : Service) (qs : List ObjRef) (m : Move) : Type 0 where
   begins : m.from ≡ None → (q : ObjRef) × Contains qs q × Brings v q (links_by m) m.to.config m.to.at
-  goes_on : (q : ObjRef) (ls : List Link) (p : Place) → m.from ≡ Some p → Brings v q ls p.config p.at → Brings v q (ls ++ links_by m) m.to.config m.to.at
+  goes_on : (q : ObjRef) (ls : List Link) (p : Holder) → m.from ≡ Some p → Brings v q ls p.config p.at → Brings v q (ls ++ links_by m) m.to.config m.to.at
 
-serves_comes : (v : Service) (qs : List ObjRef) (q : ObjRef) (s : Spot) (p : Place) → Contains qs q → Brings v q (link s.key s.index p.at ∷ []) p.config p.at → Serves v qs (comes s p)
+serves_comes : (v : Service) (qs : List ObjRef) (q : ObjRef) (s : ActionSite) (p : Holder) → Contains qs q → Brings v q (link s.key s.index p.at ∷ []) p.config p.at → Serves v qs (comes s p)
 serves_comes v qs q s p m h = record { begins = λ e. (q, m, h); goes_on = λ r ls o e k. absurd cc }
 
-serves_goes : (v : Service) (qs : List ObjRef) (o : Place) (s : Spot) (p : Place) → ((q : ObjRef) (ls : List Link) → Brings v q ls o.config o.at → Brings v q (ls ++ link s.key s.index p.at ∷ []) p.config p.at) → Serves v qs (goes o s p)
-serves_goes v qs o s p h = record { begins = λ e. absurd cc; goes_on = λ q ls x e k. h q ls (subst (λ (z : Place). Brings v q ls z.config z.at) (sym (some_same e)) k) }
+serves_goes : (v : Service) (qs : List ObjRef) (o : Holder) (s : ActionSite) (p : Holder) → ((q : ObjRef) (ls : List Link) → Brings v q ls o.config o.at → Brings v q (ls ++ link s.key s.index p.at ∷ []) p.config p.at) → Serves v qs (goes o s p)
+serves_goes v qs o s p h = record { begins = λ e. absurd cc; goes_on = λ q ls x e k. h q ls (subst (λ (z : Holder). Brings v q ls z.config z.at) (sym (some_same e)) k) }
 
-serves_stays : (v : Service) (qs : List ObjRef) (o p : Place) → ((q : ObjRef) (ls : List Link) → Brings v q ls o.config o.at → Brings v q ls p.config p.at) → Serves v qs (stays o p)
+serves_stays : (v : Service) (qs : List ObjRef) (o p : Holder) → ((q : ObjRef) (ls : List Link) → Brings v q ls o.config o.at → Brings v q ls p.config p.at) → Serves v qs (stays o p)
 serves_stays v qs o p h = record {
   begins = λ e. absurd cc;
-  goes_on = λ q ls x e k. subst (λ (ks : List Link). Brings v q ks p.config p.at) (sym (append-nil ls)) (h q ls (subst (λ (z : Place). Brings v q ls z.config z.at) (sym (some_same e)) k));
+  goes_on = λ q ls x e k. subst (λ (ks : List Link). Brings v q ks p.config p.at) (sym (append-nil ls)) (h q ls (subst (λ (z : Holder). Brings v q ls z.config z.at) (sym (some_same e)) k));
 }
 
 -- Each move serves.
@@ -238,7 +238,7 @@ module _ (v : Service) (w : Flow) (e : IsExact v w) (qs : List ObjRef) where
       are_joined (Serves v qs) (done_moves (ground v w qs c) x) (targets (present v c) (w.sets c) x.act.target) (λ r comes_here.
       done_serves c x r (record { reached = e.only_reached c reached; site = site; comes = comes_to v w e c x.act.target r comes_here })))))
 
-  pub follows_brings : (ls : List Link) (p : Place) → Follows (moves_of v w qs) ls p → (q : ObjRef) × Contains qs q × Brings v q ls p.config p.at
+  pub follows_brings : (ls : List Link) (p : Holder) → Follows (moves_of v w qs) ls p → (q : ObjRef) × Contains qs q × Brings v q ls p.config p.at
   follows_brings ls p (begin m k from) = (moves_serve m k).begins from
   follows_brings ls p (onward ks o m f k from) =
       let found = follows_brings ks o f in

@@ -1,5 +1,5 @@
 pub mod Rows
-pub mod Net
+pub mod Constraints
 pub mod Gathering
 pub mod Sets
 pub mod Equipment

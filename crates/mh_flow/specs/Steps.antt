@@ -19,31 +19,31 @@ use Rattle.mh_model.specs.Service.{Service, group_parts}
 use Rattle.mh_laws.specs.Active.{leads_to}
 use Rattle.mh_laws.specs.Flow.{Flow, Sets, fills, has, is_given, is_list_in, is_reference_in}
 use Rattle.mh_laws.specs.Least.{Derived, Reached, Held}
-use Rattle.mh_flow.specs.declared.moves.Place.{Place}
-use Rattle.mh_flow.specs.declared.moves.Spot.{Spot}
-use Rattle.mh_flow.specs.declared.moves.Move.{Move}
+use Rattle.mh_flow.specs.declared.chain.moves.Holder.{Holder}
+use Rattle.mh_flow.specs.declared.chain.moves.ActionSite.{ActionSite}
+use Rattle.mh_flow.specs.declared.chain.moves.Move.{Move}
 use Rattle.mh_flow.specs.Chart.{firsts, handed_argument}
 use Rattle.mh_flow.specs.Sites.{Site, sites_of}
 use Rattle.mh_flow.specs.Solved.{held_by}
 
-abbrev pub place : Config → ObjRef → Place
+abbrev pub place : Config → ObjRef → Holder
 place c r = record { config = c; at = r }
 
-abbrev pub first_spot : Fixed → Spot
+abbrev pub first_spot : Fixed → ActionSite
 first_spot p = record { key = p.key; index = 0 }
 
-abbrev pub site_spot : Site → Spot
+abbrev pub site_spot : Site → ActionSite
 site_spot x = record { key = x.key; index = x.index }
 
 -- a reference comes from nowhere; from a place; and stays with what holds it
 
-abbrev pub comes : Spot → Place → Move
+abbrev pub comes : ActionSite → Holder → Move
 comes s p = record { from = None; spot = Some s; to = p }
 
-abbrev pub goes : Place → Spot → Place → Move
+abbrev pub goes : Holder → ActionSite → Holder → Move
 goes o s p = record { from = Some o; spot = Some s; to = p }
 
-abbrev pub stays : Place → Place → Move
+abbrev pub stays : Holder → Holder → Move
 stays o p = record { from = Some o; spot = None; to = p }
 
 -- the reference is one of these
@@ -70,7 +70,7 @@ abbrev pub ground_of : HeldGround → Ground
 ground_of h = record { service = h.service; config = h.config; present = h.present; sets = held_by h.present h.held; sought = h.sought }
 
 -- a place there
-abbrev pub there : Ground → ObjRef → Place
+abbrev pub there : Ground → ObjRef → Holder
 there g r = place g.config r
 
 -- what holds one of them there

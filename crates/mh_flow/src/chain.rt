@@ -1,19 +1,31 @@
 //! How a reference came to a variable or a list.
 //!
 //! Promise: a chain is told wherever the flow has the reference, and of all chains it is the first of the shortest.
+
+pub(crate) mod bringing;
+pub(crate) mod ground;
+pub(crate) mod link;
+pub(crate) mod moves;
+pub mod nearest;
+pub(crate) mod origins;
+pub(crate) mod routes;
+pub(crate) mod search;
+pub(crate) mod sought;
+pub(crate) mod steps;
+
 ghost use Rattle.std.specs.Prelude.{◌≡◌, ◌++◌, IfNone, IfOk, IfSome, OnOk};
 ghost use Rattle.mh_laws.specs.Least.{Derived, Held};
 ghost use Rattle.mh_flow.specs.Chains.{IsFirstChain};
 ghost use Rattle.mh_flow.specs.Solved.{IsFlowOf, flow_of};
 ghost use Rattle.mh_flow.specs.Steps.{ground, moves_in, moves_of};
 
+use crate::chain::ground::{Ground, place};
+use crate::chain::link::Link;
+use crate::chain::moves::Move;
+use crate::chain::search::first_links;
+use crate::chain::sought::alone;
 use crate::equipped::Equipped;
 use crate::flow::Flow;
-use crate::ground::{Ground, place};
-use crate::link::Link;
-use crate::moves::Move;
-use crate::search::first_links;
-use crate::sought::alone;
 use indexmap::IndexSet;
 use mh_base::ObjRef;
 use mh_model::Config;

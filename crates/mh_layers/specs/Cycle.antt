@@ -57,14 +57,14 @@ by_place = then_cmp (on (λ x. x.at) by_reference) (on (λ x. x.index) nat_cmp)
 abbrev pub by_config : Config → Config → Ordering
 by_config = then_cmp (on (λ c. c.app) (slice_cmp nat_cmp)) (on (λ c. c.scene) (option_cmp (slice_cmp nat_cmp)))
 
-abbrev pub by_standing : Cause → Cause → Ordering
-by_standing = then_cmp by_place (on (λ x. x.config) by_config)
+abbrev pub by_effect_site : Cause → Cause → Ordering
+by_effect_site = then_cmp by_place (on (λ x. x.config) by_config)
 
 -- THE FIRST CYCLE. The effect puts itself to work, and none that comes before it does; by way of these, and of no fewer; and of
 -- as many, of none whose places come before theirs.
 pub record IsFirstCycle (v : Service) (w : Flow) (x : Effect) (zs : List Effect) : Type 0 where
   pub cycle : IsCycle v w x zs
-  pub first : (y : Effect) (ys : List Effect) → IsCycle v w y ys → is_lt (by_standing (cause_of v y) (cause_of v x)) ≡ false
+  pub first : (y : Effect) (ys : List Effect) → IsCycle v w y ys → is_lt (by_effect_site (cause_of v y) (cause_of v x)) ≡ false
   pub shortest : (ys : List Effect) → IsCycle v w x ys → length zs ≤ length ys
   pub least :
       (ys : List Effect) → IsCycle v w x ys → length ys ≡ length zs →

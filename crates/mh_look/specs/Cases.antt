@@ -5,7 +5,7 @@ use Rattle.std.specs.Option.{option_map, option_map_or}
 use Rattle.mh_base.specs.declared.obj_ref.ObjRef.{ObjRef}
 use Rattle.mh_cause.specs.Causes.{cause, mend, number_words}
 use Rattle.mh_cause.specs.Refusing.{Refused}
-use Rattle.mh_flow.specs.declared.link.Link.{Link}
+use Rattle.mh_flow.specs.declared.chain.link.Link.{Link}
 use Rattle.mh_layers.specs.declared.bounds.InputKind.{InputKind}
 use Rattle.mh_layers.specs.Bounding.{kind_word}
 use Rattle.mh_verify.specs.declared.refusal.Place.{Place}

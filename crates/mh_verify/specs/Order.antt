@@ -16,7 +16,7 @@ use Rattle.mh_laws.specs.Flow.{Flow, reached}
 use Rattle.mh_laws.specs.Layers.{IsCost, IsLayering}
 use Rattle.mh_laws.specs.Least.{IsLeast}
 use Rattle.mh_layers.specs.declared.bounds.InputKind.{InputKind}
-use Rattle.mh_layers.specs.declared.arrow.Arrow.{Arrow}
+use Rattle.mh_layers.specs.declared.arrows.arrow.Arrow.{Arrow}
 use Rattle.mh_layers.specs.Arrows.{AreFirstArrows}
 use Rattle.mh_layers.specs.Bounding.{IsFirstAbove}
 use Rattle.mh_verify.specs.declared.coming.Coming.{Coming}
