@@ -7,8 +7,8 @@ ghost use Rattle.std.specs.Option.{option_copied, option_to_list};
 ghost use Rattle.mh_model.specs.Arguments.{receivers};
 ghost use Rattle.mh_flow.specs.Steps as spec;
 
-use crate::chain::ground::{Ground, first_spot, push_comes, push_goes, site_spot};
 use crate::chain::moves::Move;
+use crate::chain::searched_config::{SearchedConfig, first_spot, push_comes, push_goes, site_spot};
 use crate::chain::sought::{is_first, is_sought};
 use crate::opening::doing::fills;
 use crate::references::handed;
@@ -17,7 +17,7 @@ use mh_base::{ObjRef, Value};
 use mh_model::{Argument, Fixed, FixedPart};
 use std::alloc::AllocError;
 
-impl<'a> Ground<'a> {
+impl<'a> SearchedConfig<'a> {
     /// That the object has one that is sought at first.
     fn push_first(&self, moves: &mut Vec<Move>, part: &Fixed) -> Result<(), AllocError>
         ensures { let g = spec.ground_of self.now in OnOk result (moves.new.items ≡ moves.old.items ++ spec.first_moves g part.now) }

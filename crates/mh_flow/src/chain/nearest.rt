@@ -8,11 +8,11 @@ ghost use Rattle.mh_laws.specs.Least.{Derived, Held};
 ghost use Rattle.mh_flow.specs.Nearest.{IsNearest};
 ghost use Rattle.mh_flow.specs.Solved.{IsFlowOf};
 
-use crate::chain::ground::place;
 use crate::chain::link::Link;
 use crate::chain::moves_of;
 use crate::chain::origins::origins_of;
 use crate::chain::search::first_links;
+use crate::chain::searched_config::place;
 use crate::chain::sought::each_once;
 use crate::equipped::Equipped;
 use crate::flow::Flow;

@@ -5,8 +5,8 @@ ghost use Rattle.std.specs.Prelude.{◌≡◌, ◌++◌, OnOk};
 ghost use Rattle.std.specs.List.{flat_map};
 ghost use Rattle.mh_flow.specs.Steps as spec;
 
-use crate::chain::ground::{Ground, place, push_stays};
 use crate::chain::moves::Move;
+use crate::chain::searched_config::{SearchedConfig, place, push_stays};
 use crate::present::leads_to;
 use crate::sites::{Site, sites_of};
 use mh_base::ObjRef;
@@ -14,7 +14,7 @@ use mh_model::{Config, Fixed, FixedPart, Target};
 use std::alloc::{AllocError, Global};
 use std::slice;
 
-impl<'a> Ground<'a> {
+impl<'a> SearchedConfig<'a> {
     /// That the object takes along to the configuration what it holds of them.
     fn push_kept(&self, moves: &mut Vec<Move>, to: &Config, part: &Fixed) -> Result<(), AllocError>
         ensures { let g = spec.ground_of self.now in

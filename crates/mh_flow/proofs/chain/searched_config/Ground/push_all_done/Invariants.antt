@@ -1,7 +1,7 @@
 use Rattle.std.proofs.Common.{◌≡◌, ◌++◌, drop}
 use Rattle.std.specs.List.{flat_map}
 use Rattle.mh_flow.specs.Steps.{ground_of, done_moves}
-use Rattle.mh_flow.proofs.chain.ground.Ground.push_all_done.Given as goal
+use Rattle.mh_flow.proofs.chain.searched_config.SearchedConfig.push_all_done.Given as goal
 
 abbrev pub invariant-loop-at : goal.invariant-loop-at
 invariant-loop-at l =

@@ -1,7 +1,7 @@
 use Rattle.std.proofs.Common.{◌≡◌, ◌++◌, drop}
 use Rattle.std.specs.List.{flat_map}
 use Rattle.mh_flow.specs.Steps.{ground_of, kept_moves}
-use Rattle.mh_flow.proofs.chain.ground.Ground.push_all_kept.Given as goal
+use Rattle.mh_flow.proofs.chain.searched_config.SearchedConfig.push_all_kept.Given as goal
 
 abbrev pub invariant-loop-part : goal.invariant-loop-part
 invariant-loop-part l =

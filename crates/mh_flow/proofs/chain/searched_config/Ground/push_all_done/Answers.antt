@@ -1,6 +1,6 @@
 use Rattle.mh_flow.specs.Steps.{done_moves, ground_of}
 use Rattle.mh_flow.proofs.PutLemmas.{one_put}
-use Rattle.mh_flow.proofs.chain.ground.Ground.push_all_done.Goals as goal
+use Rattle.mh_flow.proofs.chain.searched_config.SearchedConfig.push_all_done.Goals as goal
 
 pub loop-at-preserved : goal.loop-at-preserved
 loop-at-preserved c =

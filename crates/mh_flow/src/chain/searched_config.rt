@@ -19,7 +19,7 @@ use std::marker::Model;
 
 /// A configuration that is reached, what is present and held there, and the references that are sought.
 #[derive(Drop)]
-pub(crate) struct Ground<'a> {
+pub(crate) struct SearchedConfig<'a> {
     pub service: &'a Equipped<'a>,
     pub config: &'a Config,
     pub present: &'a Present<'a>,
@@ -27,10 +27,10 @@ pub(crate) struct Ground<'a> {
     pub sought: &'a IndexSet<ObjRef>,
 }
 
-impl<'a> Model for Ground<'a> {
-    ghost use Rattle.mh_flow.specs.Steps.{HeldGround};
+impl<'a> Model for SearchedConfig<'a> {
+    ghost use Rattle.mh_flow.specs.Steps.{SearchedConfigLem};
 
-    ghost Value = { HeldGround };
+    ghost Value = { SearchedConfigLem };
 
     ghost view = { λ g. record {
       service = g.service.now;
@@ -114,7 +114,7 @@ pub(crate) fn push_stays(moves: &mut Vec<Move>, from: Holder, to: Holder) -> Res
     Ok(())
 }
 
-impl<'a> Ground<'a> {
+impl<'a> SearchedConfig<'a> {
     /// The place of the object.
     pub(crate) fn place(&self, at: &ObjRef) -> Result<Holder, AllocError>
         ensures { IfOk result (λ place. place ≡ spec.place self.now.config at.now) }
