@@ -7,7 +7,7 @@ ghost use Rattle.mh_laws.specs.Acceptable.{IsAcceptable};
 ghost use Rattle.mh_flow.specs.Equipment.{equipped};
 ghost use Rattle.mh_flow.specs.Solved.{IsFlowOf};
 ghost use Rattle.mh_layers.specs.Bounding.{bound_by};
-ghost use Rattle.mh_verify.specs.Free.{IsVerified, IsWarranted};
+ghost use Rattle.mh_verify.specs.Free.{IsAcceptedBy, IsVerified, IsWarranted};
 
 use mh_flow::Flow;
 use mh_layers::{Bounds, InputKind};
@@ -63,9 +63,11 @@ impl Accepted {
         &self.service
     }
 
-    /// To what its variables may refer and which items its lists may have, in each configuration that is reached.
+    /// To what its variables may refer and which items its lists may have, in each configuration that is reached. It is by
+    /// this flow that the service is accepted.
     pub fn flow(&self) -> &Flow
-        ensures { IsFlowOf self.now.service result.now }
+        ensures flow { IsFlowOf self.now.service result.now }
+        ensures accepted { IsAcceptedBy self.now.service result.now self.now.bounds }
     {
         self.warrant.flow()
     }
