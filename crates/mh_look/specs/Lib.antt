@@ -37,3 +37,4 @@ pub mod Further
 pub mod Cases
 pub mod Why
 pub mod Places
+pub mod Lint

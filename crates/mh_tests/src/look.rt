@@ -1,6 +1,8 @@
 //! What is made of reports, and what is explained.
 
 pub(crate) mod examples;
+pub(crate) mod lint;
+pub(crate) mod lint_planted;
 pub(crate) mod looking;
 pub(crate) mod misread;
 pub(crate) mod misread_further;
