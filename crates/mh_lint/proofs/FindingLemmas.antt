@@ -1,5 +1,5 @@
 -- What is found never happens.
-use Rattle.std.specs.Prelude.{◌≡◌, ℕ, Bool, true, false, ◌&&◌, ◌||◌, not, if◌then◌else◌, List, [], ◌∷◌, ◌++◌, map, Option, Some, None, refl}
+use Rattle.std.specs.Prelude.{◌≡◌, ◌⊎◌, ℕ, Bool, true, false, ◌&&◌, ◌||◌, not, if◌then◌else◌, List, [], ◌∷◌, ◌++◌, map, Option, Some, None, refl}
 use Rattle.std.specs.List.{flat_map, list_any}
 use Rattle.std.specs.Option.{option_to_list}
 use Rattle.std.proofs.Common.{ap, sym, subst, inl, inr}
@@ -25,7 +25,7 @@ use Rattle.mh_alive.proofs.RunLemmas.{still}
 use Rattle.mh_alive.proofs.SayLemmas.{unsaid as unsaid_law}
 use Rattle.mh_lint.specs.declared.finding.Finding.{Finding}
 use Rattle.mh_lint.specs.declared.finding.Finding.TheVariants as finding
-use Rattle.mh_lint.specs.Findings.{found_of, findings, is_unreached, of_group, of_link, or_unput, unput, unsaid}
+use Rattle.mh_lint.specs.Findings.{all_of, all_of_link, beyond, found_of, findings, idle, is_unreached, of_group, of_link, or_unput, root_of, unput, unsaid, waits_beyond}
 use Rattle.mh_lint.specs.Laws.{FindingsNeverHappen, IsOutside, NeverHappens}
 
 pub groups_joined : {X : Type 0} (f : List Fixed → List X) (gs : List (List ℕ × List Fixed)) → flat_map f (map (λ g. g.1) gs) ≡ flat_map (λ g. f g.1) gs
@@ -80,25 +80,76 @@ link_never most v k a is p f h = by (unsaid a p (as_event (held attribute.EventT
     by (Some g) e (inr more) = absurd cc
     by None e h = unput_never most v k a is p f h
 
-part_never : (most : ℕ) (v : Service) (k : IsAccepted most v) (a : Alive) → IsAliveOf v k.flow a → (p : Fixed) (f : Finding) → Among (option_to_list (found_of a p)) f → NeverHappens most v k f
-part_never most v k a is p f h = by (is_runnable p.class && never_runs a p.key) (is_link p.class) refl h
+idle_never : (most : ℕ) (v : Service) (k : IsAccepted most v) (a : Alive) → IsAliveOf v k.flow a → (p : Fixed) (f : Finding) → Among (option_to_list (idle a p)) f → NeverHappens most v k f
+idle_never most v k a is p f h = by (is_runnable p.class && never_runs a p.key) refl h
   where
-    by : (b d : Bool) → (is_runnable p.class && never_runs a p.key) ≡ b → Among (option_to_list (if b then Some (finding.Idle p.key) else if d then of_link a p else None)) f → NeverHappens most v k f
-    by true d e (inl same) = subst (NeverHappens most v k) same (still v k.flow a p.key is k.acceptable (and_right (is_runnable p.class) (never_runs a p.key) e))
-    by true d e (inr more) = absurd cc
-    by false true e h = link_never most v k a is p f h
-    by false false e h = absurd cc
+    by : (b : Bool) → (is_runnable p.class && never_runs a p.key) ≡ b → Among (option_to_list (if b then Some (finding.Idle p.key) else None)) f → NeverHappens most v k f
+    by true e (inl same) = subst (NeverHappens most v k) same (still v k.flow a p.key is k.acceptable (and_right (is_runnable p.class) (never_runs a p.key) e))
+    by true e (inr more) = absurd cc
+    by false e h = absurd cc
 
-group_never : (most : ℕ) (v : Service) (k : IsAccepted most v) (a : Alive) → IsAliveOf v k.flow a → (ps : List Fixed) (f : Finding) → Among (of_group a (k.flow).configs ps) f → NeverHappens most v k f
-group_never most v k a is [] f h = absurd cc
-group_never most v k a is (p ∷ ps) f h = by (is_unreached (k.flow).configs p.key.group) refl h
+root_never : (most : ℕ) (v : Service) (k : IsAccepted most v) (a : Alive) → IsAliveOf v k.flow a → (p : Fixed) (f : Finding) → Among (option_to_list (root_of a (k.flow).configs p)) f → NeverHappens most v k f
+root_never most v k a is p f h = by (is_runnable p.class && never_runs a p.key) (is_link p.class) (waits_beyond (k.flow).configs p) refl h
   where
-    by : (b : Bool) → is_unreached (k.flow).configs p.key.group ≡ b → Among (if b then finding.Unreached p.key ∷ [] else flat_map (λ q. option_to_list (found_of a q)) (p ∷ ps)) f → NeverHappens most v k f
-    by true never (inl same) = subst (NeverHappens most v k) same (outside most v k p.key.group never)
-    by true never (inr more) = absurd cc
-    by false never h = let q = from_joined (λ (x : Fixed). option_to_list (found_of a x)) (p ∷ ps) f h in part_never most v k a is q.0 f q.2
+    by : (b d x : Bool) → (is_runnable p.class && never_runs a p.key) ≡ b → Among (option_to_list (if b then Some (finding.Idle p.key) else if d then (if x then None else of_link a p) else None)) f → NeverHappens most v k f
+    by true d x e (inl same) = subst (NeverHappens most v k) same (still v k.flow a p.key is k.acceptable (and_right (is_runnable p.class) (never_runs a p.key) e))
+    by true d x e (inr more) = absurd cc
+    by false true true e h = absurd cc
+    by false true false e h = link_never most v k a is p f h
+    by false false x e h = absurd cc
+
+silent_never : (most : ℕ) (v : Service) (k : IsAccepted most v) (a : Alive) → IsAliveOf v k.flow a → (p : Fixed) (t : Option EventType) (d : Option Value) (f : Finding) → Among (option_to_list (unsaid a p t d)) f → NeverHappens most v k f
+silent_never most v k a is p t d f h = by (unsaid a p t d) refl h
+  where
+    by : (m : Option Finding) → unsaid a p t d ≡ m → Among (option_to_list m) f → NeverHappens most v k f
+    by (Some g) e (inl same) = subst (NeverHappens most v k) same (unsaid_never most v k a is p t d g e)
+    by (Some g) e (inr more) = absurd cc
+    by None e h = absurd cc
+
+either : {A : Type 0} (f : A) (xs ys : List A) → Among (xs ++ ys) f → Among xs f ⊎ Among ys f
+either f [] ys h = inr h
+either f (x ∷ xs) ys (inl e) = inl (inl e)
+either {A} f (x ∷ xs) ys (inr m) = by (either f xs ys m)
+  where
+    by : Among xs f ⊎ Among ys f → Among (x ∷ xs) f ⊎ Among ys f
+    by (inl h) = inl (inr h)
+    by (inr h) = inr h
+
+all_of_link_never : (most : ℕ) (v : Service) (k : IsAccepted most v) (a : Alive) → IsAliveOf v k.flow a → (p : Fixed) (f : Finding) → Among (all_of_link a p) f → NeverHappens most v k f
+all_of_link_never most v k a is p f h =
+    by (either f (option_to_list (unsaid a p (as_event (held attribute.EventType p.properties)) (as_value (held attribute.EventData p.properties)))) (option_to_list (unput a p)) h)
+  where
+    by : Among (option_to_list (unsaid a p (as_event (held attribute.EventType p.properties)) (as_value (held attribute.EventData p.properties)))) f ⊎ Among (option_to_list (unput a p)) f → NeverHappens most v k f
+    by (inl h) = silent_never most v k a is p (as_event (held attribute.EventType p.properties)) (as_value (held attribute.EventData p.properties)) f h
+    by (inr h) = unput_never most v k a is p f h
+
+all_never : (most : ℕ) (v : Service) (k : IsAccepted most v) (a : Alive) → IsAliveOf v k.flow a → (p : Fixed) (f : Finding) → Among (all_of a p) f → NeverHappens most v k f
+all_never most v k a is p f h = by (is_link p.class) (either f (option_to_list (idle a p)) (if is_link p.class then all_of_link a p else []) h)
+  where
+    by : (b : Bool) → Among (option_to_list (idle a p)) f ⊎ Among (if b then all_of_link a p else []) f → NeverHappens most v k f
+    by b (inl h) = idle_never most v k a is p f h
+    by true (inr h) = all_of_link_never most v k a is p f h
+    by false (inr h) = absurd cc
+
+part_never : (most : ℕ) (v : Service) (k : IsAccepted most v) (a : Alive) → IsAliveOf v k.flow a → (all : Bool) (p : Fixed) (f : Finding) → Among (found_of all a (k.flow).configs p) f → NeverHappens most v k f
+part_never most v k a is true p f h = all_never most v k a is p f h
+part_never most v k a is false p f h = root_never most v k a is p f h
+
+parts_never : (most : ℕ) (v : Service) (k : IsAccepted most v) (a : Alive) → IsAliveOf v k.flow a → (all : Bool) (ps : List Fixed) (f : Finding) → Among (flat_map (found_of all a (k.flow).configs) ps) f → NeverHappens most v k f
+parts_never most v k a is all ps f h =
+    let q = from_joined (found_of all a (k.flow).configs) ps f h in part_never most v k a is all q.0 f q.2
+
+group_never : (most : ℕ) (v : Service) (k : IsAccepted most v) (a : Alive) → IsAliveOf v k.flow a → (all : Bool) (ps : List Fixed) (f : Finding) → Among (of_group all a (k.flow).configs ps) f → NeverHappens most v k f
+group_never most v k a is all [] f h = absurd cc
+group_never most v k a is all (p ∷ ps) f h = by (is_unreached (k.flow).configs p.key.group) all refl h
+  where
+    by : (b e : Bool) → is_unreached (k.flow).configs p.key.group ≡ b → Among (if b then finding.Unreached p.key ∷ beyond e a (k.flow).configs (p ∷ ps) else flat_map (found_of e a (k.flow).configs) (p ∷ ps)) f → NeverHappens most v k f
+    by true e never (inl same) = subst (NeverHappens most v k) same (outside most v k p.key.group never)
+    by true true never (inr more) = parts_never most v k a is true (p ∷ ps) f more
+    by true false never (inr more) = absurd cc
+    by false e never h = parts_never most v k a is e (p ∷ ps) f h
 
 pub findings_never : FindingsNeverHappen
-findings_never most v k a is =
-    among_each (NeverHappens most v k) (findings v (k.flow).configs a)
-    (λ f h. let g = from_joined (λ (x : List ℕ × List Fixed). of_group a (k.flow).configs x.1) v.groups f h in group_never most v k a is g.0.1 f g.2)
+findings_never most v k a is all =
+    among_each (NeverHappens most v k) (findings all v (k.flow).configs a)
+    (λ f h. let g = from_joined (λ (x : List ℕ × List Fixed). of_group all a (k.flow).configs x.1) v.groups f h in group_never most v k a is all g.0.1 f g.2)

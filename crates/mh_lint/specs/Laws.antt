@@ -1,5 +1,5 @@
 -- What is found never happens.
-use Rattle.std.specs.Prelude.{◌≡◌, ℕ, false, List, Some}
+use Rattle.std.specs.Prelude.{◌≡◌, ℕ, Bool, false, List, Some}
 use Rattle.mh_model.specs.Service.{Service}
 use Rattle.mh_model.specs.State.{State}
 use Rattle.mh_laws.specs.Budget.{IsAccepted}
@@ -25,8 +25,8 @@ NeverHappens most v k (finding.Idle r) = InEachRun v (IsStill r)
 NeverHappens most v k (finding.Unsaid r kind x) = InEachRun v (IsUnsaid kind (Some x))
 NeverHappens most v k (finding.Unput r) = InEachRun v (AllPutLiving v k.flow (costs v k.flow k.rank) (is_other r))
 
--- THE LAW. What is found of an accepted service happens in no run of it.
+-- THE LAW. What is found of an accepted service, be it a root or what follows from one, happens in no run of it.
 abbrev pub FindingsNeverHappen : Type 0
 FindingsNeverHappen =
     (most : ℕ) (v : Service) (k : IsAccepted most v) (a : Alive) → IsAliveOf v k.flow a →
-    Each (NeverHappens most v k) (findings v (k.flow).configs a)
+    (all : Bool) → Each (NeverHappens most v k) (findings all v (k.flow).configs a)

@@ -1,10 +1,24 @@
-//! Findings for authors: what of an accepted service never happens.
+//! What authors are told of an accepted service: what never happens in it, by theorem, and notes, without one; each with the
+//! place where it stands.
 //!
-//! Promise: what is found is in none of the sets of `mh_alive`, whose laws say that it never happens in any run.
+//! Promise: what is found is in none of the sets of `mh_alive`, whose laws say that it never happens in any run. A note is what
+//! `specs/Notes` says of what is written, and no more. The lines are those of `specs/Telling` and `specs/NoteLines`.
 #![tactic(auto)]
 
+mod acts;
+mod ending;
 mod finding;
 mod findings;
+mod lint;
+mod note;
+mod note_lines;
+mod notes;
+mod parts;
+mod place;
+mod rule;
+mod telling;
 
 pub use finding::Finding;
 pub use findings::{findings_never_happen, findings_of};
+pub use lint::{Asked, lint_text};
+pub use rule::{Allowed, Rule};

@@ -1,9 +1,10 @@
 -- What was found for an argument, and the number that a text writes.
-use Rattle.std.specs.Prelude.{◌≡◌, ℕ, ◌≤◌, Bool, true, false, if◌then◌else◌, List, Option, Some, None, unwrap_or, Result, Ok, Err, IfOk, option_map, refl}
+use Rattle.std.specs.Prelude.{◌≡◌, ℕ, ◌≤◌, ◌||◌, Bool, true, false, if◌then◌else◌, List, [], ◌∷◌, Option, Some, None, map, unwrap_or, Result, Ok, Err, IfOk, option_map, refl}
 use Rattle.std.specs.Borrow.{Bor}
+use Rattle.std.specs.List.{list_any}
 use Rattle.std.specs.Str.Parse.{ParsesUnsigned, digits_value, without_leading_plus}
 use Rattle.std.proofs.Common.{ap, arith, sym, subst, ◌∙◌}
-use Rattle.clap.specs.Words.{App, HasMatchesOf, Text, first_of, first_value, is_simple, kind_of, rows_of, subcommand_of, subcommand_rows_of}
+use Rattle.clap.specs.Words.{App, HasMatchesOf, Text, all_of, first_of, first_value, is_simple, kind_of, matched_of, raw_values, rows_of, subcommand_of, subcommand_rows_of}
 use Rattle.clap.specs.Values.{IsUnsignedIn}
 use Rattle.clap.specs.ValueTests.{is_unsigned_in}
 use Rattle.clap.specs.declared.builder.value_parser.ValueParser.TheVariants as parser
@@ -11,7 +12,7 @@ use Rattle.clap.specs.declared.error.Error.{Error}
 use Rattle.clap.specs.declared.error.kind.ErrorKind.TheVariants as kind
 use Rattle.clap.specs.declared.parser.matches.ArgMatches.{ArgMatches}
 use Rattle.clap.specs.declared.parser.matches.Found.{Found}
-use Rattle.clap.proofs.WalkLemmas.{first_value-rows}
+use Rattle.clap.proofs.WalkLemmas.{first_value-rows, raw_values-rows}
 use Rattle.clap.proofs.ValueTestLemmas.{accepts-Accepts, Accepts-accepts}
 use Rattle.mh_look.specs.CommandLine.{IsToldAs, number_in, last_frame}
 use Rattle.mh_look.specs.declared.command_line.error.CommandLineError.{CommandLineError}
@@ -20,6 +21,15 @@ use Rattle.mh_look.specs.declared.command_line.error.CommandLineError.TheVariant
 -- the first value of an argument, as the getter lends it
 pub lent : (f : Found) (id : Text) (answer : Option (Bor Text)) → option_map (λ s. s.now) answer ≡ first_value f id → first_of id (rows_of f) ≡ option_map (λ s. s.now) answer
 lent f id answer told = sym (first_value-rows f id) ∙ sym told
+
+-- and all of them
+pub all_lent : (f : Found) (id : Text) (answer : Option (Bor (List (Bor Text)))) → option_map (λ s. map (λ v. v.now) s.now) answer ≡ option_map raw_values (matched_of f id)
+    → all_of id (rows_of f) ≡ option_map (λ s. map (λ v. v.now) s.now) answer
+all_lent f id answer told = sym (raw_values-rows f id) ∙ sym told
+
+pub any_map : {A B : Type 0} (p : B → Bool) (f : A → B) (xs : List A) → list_any p (map f xs) ≡ list_any (λ x. p (f x)) xs
+any_map p f [] = refl
+any_map p f (x ∷ xs) = ap (λ (b : Bool). p (f x) || b) (any_map p f xs)
 
 -- a number that can be a frame's
 is_number : (text : Text) → IsUnsignedIn 0 last_frame text → is_unsigned_in 0 last_frame text ≡ true

@@ -41,3 +41,4 @@ pub mod PaintLemmas
 pub mod FileLineLemmas
 pub mod VariableLemmas
 pub mod VerdictLemmas
+pub mod LintLemmas

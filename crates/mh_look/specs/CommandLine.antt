@@ -1,16 +1,22 @@
 -- The command line: the subcommands and options that there are, and what the words ask for. How words are read
 -- against them, what is refused and under which kind, are the definitions of `clap`.
 use Rattle.std.specs.Prelude.{◌≡◌, ◌≢◌, ℕ, Bool, true, false, if◌then◌else◌, List, [], ◌∷◌, Option, Some, None, Result, MatchResult, codes, unwrap_or, option_map}
+use Rattle.std.specs.List.{list_any}
 use Rattle.std.specs.Option.{option_map_or}
 use Rattle.std.specs.Str.{bytes_eq}
 use Rattle.std.specs.Str.Parse.{digits_value, without_leading_plus}
-use Rattle.clap.specs.Words.{App, IsAmong, Kinds, Row, Rule, Text, first_of, kind_of, new_app, new_rule, with_rule, with_subcommand}
+use Rattle.clap.specs.Words.{App, IsAmong, Kinds, Row, Rule, Text, all_of, first_of, kind_of, new_app, new_rule, with_rule, with_subcommand}
 use Rattle.clap.specs.Simple.{on_top}
 use Rattle.clap.specs.ValueTests.{is_unsigned_in}
-use Rattle.clap.specs.declared.builder.action.ArgAction.TheVariants.{Set, SetTrue}
+use Rattle.clap.specs.declared.builder.action.ArgAction.TheVariants.{Append, Set, SetTrue}
 use Rattle.clap.specs.declared.builder.value_parser.ValueParser.TheVariants as parser
 use Rattle.clap.specs.declared.error.Error.{Error}
 use Rattle.clap.specs.declared.error.kind.ErrorKind.TheVariants as kind
+use Rattle.mh_lint.specs.declared.rule.Allowed.{Allowed}
+use Rattle.mh_lint.specs.declared.rule.Rule.{Rule as NoteRule}
+use Rattle.mh_lint.specs.declared.rule.Rule.TheVariants as rule
+use Rattle.mh_lint.specs.Rules.{rule_word}
+use Rattle.mh_look.specs.declared.command_line.Explain.{Explain}
 use Rattle.mh_look.specs.declared.command_line.Task.{Task}
 use Rattle.mh_look.specs.declared.command_line.Task.TheVariants as task
 use Rattle.mh_look.specs.declared.command_line.error.CommandLineError.{CommandLineError}
@@ -85,6 +91,16 @@ costs = flag (codes "costs")
 abbrev pub color : Rule
 color = record (named (codes "color")) { defaults = codes "auto" ∷ [] }
 
+abbrev pub service : Rule
+service = file (codes "DIR")
+
+abbrev pub all : Rule
+all = flag (codes "all")
+
+-- the rules of notes that are turned off, each by its name
+abbrev pub allow : Rule
+allow = record (new_rule (codes "allow")) { long = Some (codes "allow"); action = Some Append; value_names = 1 }
+
 -- The subcommands.
 
 abbrev pub show : App
@@ -110,6 +126,12 @@ why_service = with_rule (with_rule (with_rule why_paths start) late) tags
 abbrev pub why : App
 why = with_rule (with_rule (with_rule why_service script) costs) color
 
+abbrev pub lint_service : App
+lint_service = with_rule (with_rule (with_rule (with_rule (new_app (codes "lint")) service) start) late) tags
+
+abbrev pub lint : App
+lint = with_rule (with_rule (with_rule lint_service all) allow) color
+
 -- the program without them: it has a version, and one of them has to be given
 abbrev pub bare : App
 bare = on_top (λ s. record s { has_version = true; subcommand_required = true }) (new_app (codes "redlook"))
@@ -118,16 +140,28 @@ abbrev pub with_views : App
 with_views = with_subcommand (with_subcommand bare show.top) page.top
 
 abbrev pub program : App
-program = with_subcommand (with_subcommand (with_subcommand with_views image.top) diff.top) why.top
+program = with_subcommand (with_subcommand (with_subcommand (with_subcommand with_views image.top) diff.top) why.top) lint.top
 
 -- What is asked for.
+
+-- what is explained, and what may be said of the service
+pub record Explained : Type 0 where
+  pub output : Option Text
+  pub folder : Text
+  pub start : Text
+  pub late : Option Text
+  pub tags : Option Text
+  pub script : Option Text
+  pub costs : Bool
+  pub color : Text
 
 pub data Asked : Type 0 where
   shown : (report : Text) (frame : Option ℕ) (plain : Bool) → Asked
   paged : (report : Text) (script : Option Text) → Asked
   drawn : (report : Text) (frame : Option ℕ) (folder : Option Text) → Asked
   compared : (first second : Text) (lines : Bool) → Asked
-  explained : (output : Option Text) (folder start : Text) (late tags script : Option Text) (costs : Bool) (color : Text) → Asked
+  explained : Explained → Asked
+  linted : (service : Explained) (all : Bool) (allowed : Allowed) → Asked
 
 -- the value of an argument; each that is read here is required or has a default
 abbrev pub text_of : Text → List Row → Text
@@ -166,9 +200,47 @@ abbrev pub folder_of : List Row → Text
 folder_of rows = option_map_or (λ dir. dir) (first_of (codes "DIR") rows) (text_of (codes "PATH") rows)
 
 abbrev pub explaining : List Row → Asked
-explaining rows =
-    explained (output_of rows) (folder_of rows) (text_of (codes "start") rows) (first_of (codes "late") rows)
-    (first_of (codes "tags") rows) (first_of (codes "script") rows) (is_set (codes "costs") rows) (text_of (codes "color") rows)
+explaining rows = explained (record {
+  output = output_of rows;
+  folder = folder_of rows;
+  start = text_of (codes "start") rows;
+  late = first_of (codes "late") rows;
+  tags = first_of (codes "tags") rows;
+  script = first_of (codes "script") rows;
+  costs = is_set (codes "costs") rows;
+  color = text_of (codes "color") rows;
+})
+
+-- the service that is looked at: nothing was printed of it, and no script is known
+abbrev pub service_of : List Row → Explained
+service_of rows = record {
+  output = None;
+  folder = text_of (codes "DIR") rows;
+  start = text_of (codes "start") rows;
+  late = first_of (codes "late") rows;
+  tags = first_of (codes "tags") rows;
+  script = None;
+  costs = false;
+  color = text_of (codes "color") rows;
+}
+
+-- the rule is among those that are turned off
+abbrev pub allows : List Row → NoteRule → Bool
+allows rows x = list_any (λ name. bytes_eq name (rule_word x)) (unwrap_or (all_of (codes "allow") rows) [])
+
+abbrev pub allowed : List Row → Allowed
+allowed rows = record {
+  editor_backup = allows rows rule.EditorBackup;
+  start_leads_away = allows rows rule.StartLeadsAway;
+  no_actions = allows rows rule.NoActions;
+  behind_transition = allows rows rule.BehindTransition;
+  division_by_zero = allows rows rule.DivisionByZero;
+  negative_size = allows rows rule.NegativeSize;
+  colour_octets = allows rows rule.ColourOctets;
+}
+
+abbrev pub linting : List Row → Asked
+linting rows = linted (service_of rows) (is_set (codes "all") rows) (allowed rows)
 
 -- the subcommand of this name
 abbrev pub asked_under : Text → List Row → Asked
@@ -176,12 +248,25 @@ asked_under name rows =
     if bytes_eq name (codes "show") then showing rows
     else (if bytes_eq name (codes "image") then drawing rows
     else (if bytes_eq name (codes "diff") then comparing rows
-    else (if bytes_eq name (codes "why") then explaining rows else paging rows)))
+    else (if bytes_eq name (codes "why") then explaining rows
+    else (if bytes_eq name (codes "lint") then linting rows else paging rows))))
 
 -- one subcommand is required
 abbrev pub asked_by : Option (Text × List Row) → Asked
 asked_by (Some given) = asked_under given.0 given.1
 asked_by None = paged [] None
+
+abbrev pub explained_as : Explain → Explained
+explained_as e = record {
+  output = option_map (λ s. s.now) e.output;
+  folder = e.folder.now;
+  start = e.start.now;
+  late = option_map (λ s. s.now) e.given.late;
+  tags = option_map (λ s. s.now) e.given.tags;
+  script = option_map (λ s. s.now) e.given.script;
+  costs = e.costs;
+  color = e.color.now;
+}
 
 -- what a task says
 abbrev pub said : Task → Asked
@@ -189,9 +274,8 @@ said (task.Show report frame plain) = shown report.now frame plain
 said (task.Page report script) = paged report.now (option_map (λ s. s.now) script)
 said (task.Image report frame folder) = drawn report.now frame (option_map (λ s. s.now) folder)
 said (task.Diff first second lines) = compared first.now second.now lines
-said (task.Why e) =
-    explained (option_map (λ s. s.now) e.output) e.folder.now e.start.now (option_map (λ s. s.now) e.given.late)
-    (option_map (λ s. s.now) e.given.tags) (option_map (λ s. s.now) e.given.script) e.costs e.color.now
+said (task.Why e) = explained (explained_as e)
+said (task.Lint l) = linted (explained_as l.service) l.asked.all l.asked.allowed
 
 -- Why words ask for nothing that can be done.
 
@@ -200,7 +284,6 @@ abbrev pub IsToldAs : Error → CommandLineError → Type 0
 IsToldAs told error.NoMemory = kind_of told ≡ kind.OutOfMemory
 IsToldAs told (error.Refused same) = (same ≡ told) × (kind_of told ≢ kind.OutOfMemory)
 
--- memory that was refused is never told as a wrong command line
 abbrev pub IsApart : CommandLineError → Type 0
 IsApart error.NoMemory = Unit {0}
 IsApart (error.Refused told) = kind_of told ≢ kind.OutOfMemory

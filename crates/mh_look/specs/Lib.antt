@@ -39,3 +39,4 @@ pub mod Cases
 pub mod Why
 pub mod Places
 pub mod Octets
+pub mod Lint

@@ -5,6 +5,7 @@
 
 pub(crate) mod arguments;
 pub(crate) mod error;
+pub(crate) mod linting;
 pub(crate) mod program;
 
 ghost use Rattle.std.specs.Prelude.{◌≡◌, [], None, map, true, option_map, IfOk, IfErr};
@@ -16,8 +17,10 @@ ghost use Rattle.mh_look.specs.declared.command_line.error.CommandLineError.TheV
 
 use crate::command_line::arguments::LAST_FRAME;
 use crate::command_line::error::CommandLineError;
+use crate::command_line::linting::linting;
 use crate::command_line::program::program;
 use clap::{ArgMatches, Error};
+use mh_lint::Asked;
 use std::alloc::Global;
 use std::convert::AsStr;
 
@@ -49,6 +52,17 @@ pub enum Task<'a> {
     },
     /// Why a service is refused, or what `redplay` printed of it.
     Why(Explain<'a>),
+    /// What of a service never happens, and what is noted of it.
+    Lint(Lint<'a>),
+}
+
+/// What is looked for in a service.
+#[derive(Drop)]
+pub struct Lint<'a> {
+    /// The service, and what is explained of it where it is not accepted.
+    pub service: Explain<'a>,
+    /// What is told of an accepted one.
+    pub asked: Asked,
 }
 
 /// What is explained.
@@ -118,6 +132,7 @@ fn task_under<'a>(name: &str, given: &ArgMatches<'a>) -> Task<'a>
         "image" => drawing(given),
         "diff" => comparing(given),
         "why" => explaining(given),
+        "lint" => linting(given),
         _ => paging(given),
     }
 }
@@ -206,21 +221,21 @@ fn folder_of<'a>(given: &ArgMatches<'a>) -> &'a str
 }
 
 /// The value of an argument that is required or has a default. Were there none, it would be the empty text.
-fn text_of<'a>(given: &ArgMatches<'a>, name: &str) -> &'a str
+pub(crate) fn text_of<'a>(given: &ArgMatches<'a>, name: &str) -> &'a str
     ensures { result.now ≡ text_of name.now (rows_of (found_of given.now)) }
 {
     given.get_str(name).unwrap_or("")
 }
 
 /// The file that an option names, if one does.
-fn named<'a>(given: &ArgMatches<'a>, name: &str) -> Option<&'a str>
+pub(crate) fn named<'a>(given: &ArgMatches<'a>, name: &str) -> Option<&'a str>
     ensures { option_map (λ s. s.now) result ≡ first_of name.now (rows_of (found_of given.now)) }
 {
     given.get_str(name)
 }
 
 /// Whether an option without a value is given.
-fn is_set<'a>(given: &ArgMatches<'a>, name: &str) -> bool
+pub(crate) fn is_set<'a>(given: &ArgMatches<'a>, name: &str) -> bool
     ensures { result ≡ is_set name.now (rows_of (found_of given.now)) }
 {
     match given.get_str(name) {

@@ -1,10 +1,12 @@
 //! What is done for each subcommand: a report is read whole, and then what is asked for is written.
 
 pub(crate) mod explaining;
+pub(crate) mod linting;
 
 use crate::command_line::Task;
 use crate::comparison::compared;
 use crate::doing::explaining::explained;
+use crate::doing::linting::linted;
 use crate::files::source::{Failure, output_of, report_of, unwritable};
 use crate::image::image_of;
 use crate::page::page_of;
@@ -29,6 +31,8 @@ pub enum Outcome {
     Refused,
     /// It is written what of a service cannot be read.
     Unread,
+    /// It is written what is found of an accepted service.
+    Found,
 }
 
 /// Does a task, and answers what came of it. Whether a terminal reads what is written is told by the caller.
@@ -55,6 +59,7 @@ pub fn done<R: Runtime + AllocGlobal>(
             lines,
         } => held(rt, first, second, *lines),
         Task::Why(asked) => explained(rt, asked, is_terminal),
+        Task::Lint(wanted) => linted(rt, wanted, is_terminal),
     }
 }
 

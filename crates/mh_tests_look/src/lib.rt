@@ -8,6 +8,10 @@ mod cases;
 #[cfg(test)]
 mod examples;
 #[cfg(test)]
+mod lint;
+#[cfg(test)]
+mod lint_planted;
+#[cfg(test)]
 mod looking;
 #[cfg(test)]
 mod misread;

@@ -8,7 +8,7 @@ use std::process::ExitCode;
 use std::rt::Runtime;
 use std::{env, io};
 
-/// The exit status where two reports differ, or a service is refused.
+/// The exit status where two reports differ, a service is refused, or something is found of it.
 const DIFFERENT: u8 = 1;
 
 /// The exit status where a report, a frame or a service could not be had, or the command line is wrong.
@@ -38,7 +38,7 @@ fn status_of<R: Runtime + AllocGlobal>(rt: &R, is_terminal: bool) -> io::Result<
     };
     match done(rt, &task, is_terminal) {
         Ok(Outcome::Written) => Ok(0),
-        Ok(Outcome::Different | Outcome::Refused) => Ok(DIFFERENT),
+        Ok(Outcome::Different | Outcome::Refused | Outcome::Found) => Ok(DIFFERENT),
         Ok(Outcome::Unread) => Ok(REFUSED),
         Err(Failure::Failed) => Ok(FAILED),
         Err(failure) => {

@@ -147,6 +147,32 @@ pub(crate) fn color<'a>(alloc: Global) -> Arg<'a>
     )
 }
 
+/// The folder that is looked at.
+pub(crate) fn service<'a>(alloc: Global) -> Arg<'a>
+    ensures rule { rule_of result ≡ spec.service }
+    ensures local { result.global ≡ false }
+{
+    file(alloc, "DIR", "The folder of the service")
+}
+
+pub(crate) fn all<'a>(alloc: Global) -> Arg<'a>
+    ensures rule { rule_of result ≡ spec.all }
+    ensures local { result.global ≡ false }
+{
+    flag(alloc, "all", "Tell what follows from other findings, too")
+}
+
+pub(crate) fn allow<'a>(alloc: Global) -> Arg<'a>
+    ensures rule { rule_of result ≡ spec.allow }
+    ensures local { result.global ≡ false }
+{
+    Arg::new(alloc, "allow")
+        .long("allow")
+        .action(ArgAction::Append)
+        .value_name("RULE")
+        .help("Turn a rule of notes off, for all files")
+}
+
 /// An option with a value.
 fn named<'a>(alloc: Global, name: &'a str, value: &'a str) -> Arg<'a>
     ensures rule { rule_of result ≡ spec.named name.entry.now }

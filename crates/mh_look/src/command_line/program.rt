@@ -8,8 +8,8 @@ ghost use Rattle.clap.specs.declared.builder.command.Command.TheViews.{out-Comma
 ghost use Rattle.mh_look.specs.CommandLine as spec;
 
 use crate::command_line::arguments::{
-    color, costs, folder, frame, late, lines, other, output, path, plain, report, script, start,
-    tags,
+    all, allow, color, costs, folder, frame, late, lines, other, output, path, plain, report,
+    script, service, start, tags,
 };
 use clap::Command;
 use std::alloc::{AllocError, Global};
@@ -37,6 +37,20 @@ Examples:
   redlook why examples/late/service --late examples/late/late --costs
   redplay play examples/first/service --script script | redlook why - examples/first/service --script script";
 
+/// What is told behind the help of `lint`.
+const LINT_EXAMPLES: &str =
+    "A line `never:` is a theorem on all runs, a line `note:` is none. A rule is turned off
+for a file by a line of it that ends in `// lint: allow RULE`.
+
+Exit status:
+  0  there is no line
+  1  there is one, or the verifier refuses the service
+  2  a file, the service or the command line cannot be read
+
+Examples:
+  redlook lint examples/vote/service
+  redlook lint examples/vote/service --allow no-actions";
+
 /// The program with all its subcommands.
 pub fn program<'a>(alloc: Global) -> Result<Command<'a>, AllocError>
     ensures { IfOk result (λ c. app_of c ≡ spec.program) }
@@ -44,7 +58,8 @@ pub fn program<'a>(alloc: Global) -> Result<Command<'a>, AllocError>
     with_views(alloc)?
         .subcommand(image(alloc)?)?
         .subcommand(diff(alloc)?)?
-        .subcommand(why(alloc)?)
+        .subcommand(why(alloc)?)?
+        .subcommand(lint(alloc)?)
 }
 
 /// The program with the subcommands that show all of a report.
@@ -133,6 +148,33 @@ fn why<'a>(alloc: Global) -> Result<Command<'a>, AllocError>
         .arg(script(alloc))?
         .arg(costs(alloc))?
         .arg(color(alloc))
+}
+
+fn lint<'a>(alloc: Global) -> Result<Command<'a>, AllocError>
+    ensures app { IfOk result (λ c. app_of c ≡ spec.lint) }
+    ensures local { IfOk result (λ c. (fields_of c).has_globals ≡ false) }
+{
+    lint_service(alloc)?
+        .arg(all(alloc))?
+        .arg(allow(alloc))?
+        .arg(color(alloc))
+}
+
+/// The subcommand with what may be said of the service that is looked at.
+fn lint_service<'a>(alloc: Global) -> Result<Command<'a>, AllocError>
+    ensures app { IfOk result (λ c. app_of c ≡ spec.lint_service) }
+    ensures local { IfOk result (λ c. (fields_of c).has_globals ≡ false) }
+{
+    described(
+        alloc,
+        "lint",
+        "Tells what of an accepted service never happens, and what seems to be a mistake, with the places in its files",
+        LINT_EXAMPLES,
+    )
+    .arg(service(alloc))?
+    .arg(start(alloc))?
+    .arg(late(alloc))?
+    .arg(tags(alloc))
 }
 
 /// The subcommand with what is explained, and what may be said of the service.

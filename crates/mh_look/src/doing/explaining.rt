@@ -32,9 +32,9 @@ struct Told {
 
 /// The files that an option names, with their bytes.
 #[derive(Drop)]
-struct Read {
-    late: Option<Vec<u8>>,
-    tags: Option<Vec<u8>>,
+pub(crate) struct Read {
+    pub(crate) late: Option<Vec<u8>>,
+    pub(crate) tags: Option<Vec<u8>>,
     script: Option<Vec<u8>>,
 }
 
@@ -47,23 +47,44 @@ pub(crate) fn explained<R: Runtime + AllocGlobal>(
     let is_painted = is_painted(rt.alloc(), asked.color, is_terminal)?;
     let given = read_given(rt, &asked.given)?;
     let folder = folder_of(rt, asked.folder)?;
+    explained_of(rt, asked, &given, &folder, is_painted)
+}
+
+/// The same of files that were read.
+pub(crate) fn explained_of<R: Runtime + AllocGlobal>(
+    rt: &R,
+    asked: &Explain<'_>,
+    given: &Read,
+    folder: &Folder,
+    is_painted: bool,
+) -> Result<Outcome, Failure> {
     let told = match asked.output {
-        Some(name) => printed(rt, name, asked, &given, &folder)?,
-        None => checked(rt, asked, &given, &folder)?,
+        Some(name) => printed(rt, name, asked, given, folder)?,
+        None => checked(rt, asked, given, folder)?,
     };
-    let text = explanation(rt, asked, &given, &folder, &told)?;
+    let text = explanation(rt, asked, given, folder, &told)?;
     if text.as_slice().is_empty() {
         return Err(unknown(rt.alloc(), asked.output.unwrap_or(asked.folder)));
     }
+    written_in(rt, &text, told.outcome, is_painted)
+}
+
+/// Writes the text, in colours or not.
+pub(crate) fn written_in<R: Runtime + AllocGlobal>(
+    rt: &R,
+    text: &Text,
+    outcome: Outcome,
+    is_painted: bool,
+) -> Result<Outcome, Failure> {
     if is_painted {
         let text = painted(rt.alloc(), text.as_slice())?;
-        return written(rt, &text, told.outcome);
+        return written(rt, &text, outcome);
     }
-    written(rt, &text, told.outcome)
+    written(rt, text, outcome)
 }
 
 /// Whether it is written in colours.
-fn is_painted(alloc: Global, color: &str, is_terminal: bool) -> Result<bool, Failure> {
+pub(crate) fn is_painted(alloc: Global, color: &str, is_terminal: bool) -> Result<bool, Failure> {
     match color {
         "always" => Ok(true),
         "never" => Ok(false),
@@ -72,7 +93,10 @@ fn is_painted(alloc: Global, color: &str, is_terminal: bool) -> Result<bool, Fai
     }
 }
 
-fn read_given<R: Runtime + AllocGlobal>(rt: &R, given: &Given<'_>) -> Result<Read, Failure> {
+pub(crate) fn read_given<R: Runtime + AllocGlobal>(
+    rt: &R,
+    given: &Given<'_>,
+) -> Result<Read, Failure> {
     let script = named_bytes(rt, given.script)?;
     let late = named_bytes(rt, given.late)?;
     let tags = named_bytes(rt, given.tags)?;

@@ -1,0 +1,7 @@
+use Rattle.std.proofs.Common.{◌≡◌, ◌++◌, drop}
+use Rattle.mh_lint.specs.Telling.{never_words}
+use Rattle.mh_lint.proofs.telling.put_findings.Given as goal
+
+abbrev pub invariant-loop-finding : goal.invariant-loop-finding
+invariant-loop-finding l =
+    l.text ++ never_words l.service l.files (drop l.finding-index l.found) ≡ l.initial.text ++ never_words l.service l.files l.found

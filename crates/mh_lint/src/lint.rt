@@ -1,0 +1,78 @@
+//! What never happens in a service and what is noted of it, as lines.
+//!
+//! Promise: the lines are those of what is found by the sets of what may come to be, whose laws say that it never happens,
+//! and then those of notes.
+ghost use Rattle.std.specs.Prelude.{◌≡◌, ◌++◌, IfOk, OnOk};
+ghost use Rattle.mh_flow.specs.Solved.{IsFlowOf, flow_in};
+ghost use Rattle.mh_lint.specs.Lint.{IsLintText, IsNeverText};
+ghost use Rattle.mh_lint.specs.NoteLines.{notes_words};
+ghost use Rattle.mh_lint.specs.Notes.{notes as notes_lem};
+
+use crate::findings::findings_of;
+use crate::note_lines::put_notes;
+use crate::notes::notes_of;
+use crate::rule::Allowed;
+use crate::telling::put_findings;
+use mh_alive::alive_of;
+use mh_base::GroupName;
+use mh_flow::{Equipped, Flow};
+use mh_told::text::Text;
+use std::alloc::{AllocError, Global};
+
+/// What is asked for.
+#[derive(Clone, Copy)]
+pub struct Asked {
+    /// Whether what follows from other findings is told, too.
+    pub all: bool,
+    /// The rules of notes that are turned off.
+    pub allowed: Allowed,
+}
+
+/// The lines on an accepted service, by its flow: what never happens, and then notes. Where objects stand is looked up in
+/// these files.
+pub fn lint_text(
+    alloc: Global,
+    service: &Equipped<'_>,
+    flow: &Flow,
+    files: &[(GroupName, Vec<u8>)],
+    asked: Asked,
+) -> Result<Text, AllocError>
+    requires { IsFlowOf service.now flow.now }
+    ensures { IfOk result (IsLintText asked service.now (flow_in service.now flow.now) files.now) }
+{
+    let mut text = never_text(alloc, service, flow, files, asked.all)?;
+    put_all_notes(alloc, &mut text, service, files, asked.allowed)?;
+    Ok(text)
+}
+
+fn never_text(
+    alloc: Global,
+    service: &Equipped<'_>,
+    flow: &Flow,
+    files: &[(GroupName, Vec<u8>)],
+    all: bool,
+) -> Result<Text, AllocError>
+    requires { IsFlowOf service.now flow.now }
+    ensures { IfOk result (IsNeverText all service.now (flow_in service.now flow.now) files.now) }
+{
+    let alive = alive_of(alloc, service, flow)?;
+    let configs = flow.configs(alloc)?;
+    let found = findings_of(alloc, service, configs.as_slice(), &alive, all)?;
+    let mut text = Text::new(alloc);
+    put_findings(alloc, &mut text, service, files, found.as_slice())?;
+    Ok(text)
+}
+
+/// Puts the lines of all notes on the service.
+fn put_all_notes(
+    alloc: Global,
+    text: &mut Text,
+    service: &Equipped<'_>,
+    files: &[(GroupName, Vec<u8>)],
+    allowed: Allowed,
+) -> Result<(), AllocError>
+    ensures { OnOk result (text.new ≡ text.old ++ notes_words allowed service.now files.now (notes_lem service.now)) }
+{
+    let notes = notes_of(alloc, service)?;
+    put_notes(alloc, text, allowed, service, files, notes.as_slice())
+}

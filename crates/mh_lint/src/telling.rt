@@ -1,0 +1,298 @@
+//! The lines of findings: the file, the line and the column, and what never happens.
+//!
+//! Promise: each function puts what the definition of its name in `specs/Telling` says.
+ghost use Rattle.std.specs.Prelude.{◌≡◌, ◌++◌, Some, OnOk, None, Option};
+ghost use Rattle.std.specs.List.{flat_map};
+ghost use Rattle.std.specs.Option.{option_copied};
+ghost use Rattle.mh_lint.specs.Telling as spec;
+
+use crate::finding::Finding;
+use crate::place::{Place, place_of};
+use mh_base::{EventType, GroupName, ObjRef, Value};
+use mh_flow::Equipped;
+use mh_group::{Attribute, event_word};
+use mh_model::Fixed;
+use mh_model::held::{as_event, as_value};
+use mh_told::text::Text;
+use std::alloc::{AllocError, Global};
+
+#[tactic(auto, unfolding(crate::specs::Telling::place_words))]
+pub(crate) fn put_place(text: &mut Text, place: Option<Place>) -> Result<(), AllocError>
+    ensures { OnOk result (text.new ≡ text.old ++ spec.place_words place) }
+{
+    match place {
+        None => Ok(()),
+        Some(place) => {
+            text.put_number(place.line as u64)?;
+            text.put(b":")?;
+            text.put_number(place.column as u64)?;
+            text.put(b":")
+        }
+    }
+}
+
+/// Puts the file, and the place in it where that is found.
+#[tactic(auto, unfolding(crate::specs::Telling::front_words))]
+pub(crate) fn put_front(
+    alloc: Global,
+    text: &mut Text,
+    files: &[(GroupName, Vec<u8>)],
+    at: &ObjRef,
+) -> Result<(), AllocError>
+    ensures { OnOk result (text.new ≡ text.old ++ spec.front_words files.now at.now) }
+{
+    let place = place_of(alloc, files, at)?;
+    text.put(at.group.as_bytes())?;
+    text.put(b":")?;
+    put_place(text, place)
+}
+
+#[tactic(auto, unfolding(crate::specs::Telling::class_words))]
+fn put_class(text: &mut Text, part: Option<&Fixed>) -> Result<(), AllocError>
+    ensures { OnOk result (text.new ≡ text.old ++ spec.class_words (option_copied part.entry)) }
+{
+    match part {
+        None => text.put(b"object"),
+        Some(part) => text.put(part.class.word()),
+    }
+}
+
+/// Puts the class of the object and its number.
+#[tactic(auto, unfolding(crate::specs::Telling::object_words))]
+pub(crate) fn put_object(
+    text: &mut Text,
+    service: &Equipped<'_>,
+    at: &ObjRef,
+) -> Result<(), AllocError>
+    ensures { OnOk result (text.new ≡ text.old ++ spec.object_words service.now at.now) }
+{
+    put_class(text, service.find(at))?;
+    text.put(b" ")?;
+    text.put_number(u64::from(at.number))
+}
+
+#[tactic(auto, unfolding(crate::specs::Telling::group_words))]
+fn put_group(text: &mut Text, from: &GroupName, group: &GroupName) -> Result<(), AllocError>
+    ensures { OnOk result (text.new ≡ text.old ++ spec.group_words from.now group.now) }
+{
+    if *group == *from {
+        return Ok(());
+    }
+    text.put(b" of ")?;
+    text.put(group.as_bytes())
+}
+
+/// Puts an object, with its group where that is another.
+#[tactic(auto, unfolding(crate::specs::Telling::source_words))]
+fn put_source(
+    text: &mut Text,
+    service: &Equipped<'_>,
+    from: &GroupName,
+    at: &ObjRef,
+) -> Result<(), AllocError>
+    ensures { OnOk result (text.new ≡ text.old ++ spec.source_words service.now from.now at.now) }
+{
+    put_object(text, service, at)?;
+    put_group(text, from, &at.group)
+}
+
+#[tactic(auto, unfolding(crate::specs::Telling::signed_words))]
+fn put_signed(text: &mut Text, number: &i32) -> Result<(), AllocError>
+    ensures { OnOk result (text.new ≡ text.old ++ spec.signed_words number.now) }
+{
+    if *number < 0 {
+        text.put(b"-")?;
+    }
+    text.put_number(u64::from(number.unsigned_abs()))
+}
+
+#[tactic(auto, unfolding(crate::specs::Telling::value_words))]
+fn put_value(text: &mut Text, value: &Value) -> Result<(), AllocError>
+    ensures { OnOk result (text.new ≡ text.old ++ spec.value_words value.now) }
+{
+    match value {
+        Value::Bool(true) => text.put(b"true"),
+        Value::Bool(false) => text.put(b"false"),
+        Value::Int(number) => put_signed(text, number),
+        Value::Octets(_) => text.put(b"these octets"),
+        Value::Object(_) => text.put(b"this object"),
+        Value::Content(_) => text.put(b"this content"),
+    }
+}
+
+#[tactic(auto, unfolding(crate::specs::Telling::unreached_words))]
+fn put_unreached(text: &mut Text) -> Result<(), AllocError>
+    ensures { OnOk result (text.new ≡ text.old ++ spec.unreached_words) }
+{
+    text.put(b" is entered by nothing: no active action leads to it")
+}
+
+#[tactic(auto, unfolding(crate::specs::Telling::idle_words))]
+fn put_idle(text: &mut Text) -> Result<(), AllocError>
+    ensures { OnOk result (text.new ≡ text.old ++ spec.idle_words) }
+{
+    text.put(b" is run by nothing: it is not active at first, and no active action runs it")
+}
+
+/// Puts that no event of the type comes with the data for which the link waits.
+#[tactic(auto, unfolding(crate::specs::Telling::unsaid_words))]
+fn put_unsaid(text: &mut Text, kind: EventType, value: &Value) -> Result<(), AllocError>
+    ensures { OnOk result (text.new ≡ text.old ++ spec.unsaid_words kind value.now) }
+{
+    text.put(b" waits for ")?;
+    text.put(event_word(kind))?;
+    text.put(b" with ")?;
+    put_value(text, value)?;
+    text.put(b": none comes with that")
+}
+
+/// Puts the number that the link names, if it names one.
+#[tactic(auto, unfolding(crate::specs::Telling::number_words))]
+fn put_number(text: &mut Text, value: Option<&Value>) -> Result<(), AllocError>
+    ensures { OnOk result (text.new ≡ text.old ++ spec.number_words (option_copied value.entry)) }
+{
+    match value {
+        Some(Value::Int(number)) => {
+            text.put(b" ")?;
+            put_signed(text, number)
+        }
+        _ => Ok(()),
+    }
+}
+
+/// Puts that nothing emits events of this type.
+#[tactic(auto, unfolding(crate::specs::Telling::emits_words))]
+fn put_emits(text: &mut Text, kind: EventType) -> Result<(), AllocError>
+    ensures { OnOk result (text.new ≡ text.old ++ spec.emits_words kind) }
+{
+    put_no_action(text)?;
+    text.put(event_word(kind))
+}
+
+#[tactic(auto, unfolding(crate::specs::Telling::no_action_words))]
+fn put_no_action(text: &mut Text) -> Result<(), AllocError>
+    ensures { OnOk result (text.new ≡ text.old ++ spec.no_action_words) }
+{
+    text.put(b": no active action emits ")
+}
+
+/// Puts of which object.
+#[tactic(auto, unfolding(crate::specs::Telling::of_words))]
+fn put_of(
+    text: &mut Text,
+    service: &Equipped<'_>,
+    from: &GroupName,
+    at: &ObjRef,
+) -> Result<(), AllocError>
+    ensures { OnOk result (text.new ≡ text.old ++ spec.of_words service.now from.now at.now) }
+{
+    text.put(b" of ")?;
+    put_source(text, service, from, at)
+}
+
+/// Puts for which event the link waits that nothing emits.
+#[tactic(auto, unfolding(crate::specs::Telling::waits_words))]
+fn put_waits(
+    text: &mut Text,
+    service: &Equipped<'_>,
+    from: &GroupName,
+    kind: Option<EventType>,
+    source: Option<&Value>,
+    value: Option<&Value>,
+) -> Result<(), AllocError>
+    ensures { OnOk result (text.new
+        ≡ text.old ++ spec.waits_words service.now from.now kind (option_copied source.entry) (option_copied value.entry)) }
+{
+    match (kind, source) {
+        (Some(kind), Some(Value::Object(source))) => {
+            put_emits(text, kind)?;
+            put_number(text, value)?;
+            put_of(text, service, from, source)
+        }
+        _ => Ok(()),
+    }
+}
+
+#[tactic(auto, unfolding(crate::specs::Telling::link_words))]
+fn put_link(text: &mut Text, service: &Equipped<'_>, link: Option<&Fixed>) -> Result<(), AllocError>
+    ensures { OnOk result (text.new ≡ text.old ++ spec.link_words service.now (option_copied link.entry)) }
+{
+    match link {
+        None => Ok(()),
+        Some(link) => put_waits(
+            text,
+            service,
+            &link.key.group,
+            as_event(link.properties.get(Attribute::EventType)),
+            as_value(link.properties.get(Attribute::EventSource)),
+            as_value(link.properties.get(Attribute::EventData)),
+        ),
+    }
+}
+
+#[tactic(auto, unfolding(crate::specs::Telling::unput_words))]
+fn put_unput(text: &mut Text, service: &Equipped<'_>, at: &ObjRef) -> Result<(), AllocError>
+    ensures { OnOk result (text.new ≡ text.old ++ spec.unput_words service.now at.now) }
+{
+    text.put(b" is put to work by nothing")?;
+    put_link(text, service, service.find(at))
+}
+
+/// Puts what is said of a finding behind its object.
+fn put_words(text: &mut Text, service: &Equipped<'_>, finding: &Finding) -> Result<(), AllocError>
+    ensures { OnOk result (text.new ≡ text.old ++ spec.said_words service.now finding.now) }
+{
+    match finding {
+        Finding::Unreached(_) => put_unreached(text),
+        Finding::Idle(_) => put_idle(text),
+        Finding::Unsaid(_, kind, value) => put_unsaid(text, *kind, value),
+        Finding::Unput(at) => put_unput(text, service, at),
+    }
+}
+
+/// The object of which a finding is told.
+fn object_of(finding: &Finding) -> &ObjRef
+    ensures { result.now ≡ spec.object_of finding.now }
+{
+    match finding {
+        Finding::Unreached(at)
+        | Finding::Idle(at)
+        | Finding::Unsaid(at, _, _)
+        | Finding::Unput(at) => at,
+    }
+}
+
+/// Puts the line of a finding.
+#[tactic(auto, unfolding(crate::specs::Telling::finding_words))]
+pub fn put_finding(
+    alloc: Global,
+    text: &mut Text,
+    service: &Equipped<'_>,
+    files: &[(GroupName, Vec<u8>)],
+    finding: &Finding,
+) -> Result<(), AllocError>
+    ensures { OnOk result (text.new ≡ text.old ++ spec.finding_words service.now files.now finding.now) }
+{
+    let at = object_of(finding);
+    put_front(alloc, text, files, at)?;
+    text.put(b" never: ")?;
+    put_object(text, service, at)?;
+    put_words(text, service, finding)?;
+    text.put(b"\n")
+}
+
+/// Puts the lines of all findings.
+pub fn put_findings(
+    alloc: Global,
+    text: &mut Text,
+    service: &Equipped<'_>,
+    files: &[(GroupName, Vec<u8>)],
+    found: &[Finding],
+) -> Result<(), AllocError>
+    ensures { OnOk result (text.new ≡ text.old ++ spec.never_words service.now files.now found.now) }
+{
+    for finding in found {
+        put_finding(alloc, text, service, files, finding)?;
+    }
+    Ok(())
+}

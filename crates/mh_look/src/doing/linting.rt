@@ -1,0 +1,55 @@
+//! What is done for `lint`: the files are read, the service is checked, and the lines on it are written; where it is not
+//! accepted, what is explained of that.
+use crate::command_line::Lint;
+use crate::doing::Outcome;
+use crate::doing::explaining::{Read, explained_of, is_painted, read_given, written_in};
+use crate::files::service::{Folder, folder_of};
+use crate::files::source::Failure;
+use crate::lint::lint_of;
+use mh_told::text::Text;
+use std::alloc::{AllocError, Global};
+use std::rt::Runtime;
+
+/// Writes the lines on the service; an error where none can be had.
+pub(crate) fn linted<R: Runtime + AllocGlobal>(
+    rt: &R,
+    wanted: &Lint<'_>,
+    is_terminal: bool,
+) -> Result<Outcome, Failure> {
+    let service = &wanted.service;
+    let is_painted = is_painted(rt.alloc(), service.color, is_terminal)?;
+    let given = read_given(rt, &service.given)?;
+    let folder = folder_of(rt, service.folder)?;
+    match lines_on(rt.alloc(), wanted, &given, &folder)? {
+        Some(text) => written_in(rt, &text, outcome_of(&text), is_painted),
+        None => explained_of(rt, service, &given, &folder, is_painted),
+    }
+}
+
+/// The lines on the service, if all its files are read and it is accepted.
+fn lines_on(
+    alloc: Global,
+    wanted: &Lint<'_>,
+    given: &Read,
+    folder: &Folder,
+) -> Result<Option<Text>, AllocError> {
+    if folder.unread.is_some() {
+        return Ok(None);
+    }
+    lint_of(
+        alloc,
+        given.tags.as_ref().map(|bytes| bytes.as_slice()),
+        folder.files.as_slice(),
+        wanted.service.start.as_bytes(),
+        given.late.as_ref().map(|bytes| bytes.as_slice()),
+        wanted.asked,
+    )
+}
+
+fn outcome_of(text: &Text) -> Outcome {
+    if text.as_slice().is_empty() {
+        Outcome::Written
+    } else {
+        Outcome::Found
+    }
+}
