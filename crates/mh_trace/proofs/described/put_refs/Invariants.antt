@@ -1,0 +1,7 @@
+use Rattle.std.proofs.Common.{◌≡◌, ◌++◌, drop}
+use Rattle.std.specs.List.{flat_map}
+use Rattle.mh_trace.specs.Described.{ref_part}
+use Rattle.mh_trace.proofs.described.put_refs.Given as goal
+
+abbrev pub invariant-loop-at : goal.invariant-loop-at
+invariant-loop-at l = l.text ++ flat_map ref_part (drop l.at-index l.refs) ≡ l.initial.text ++ flat_map ref_part l.refs

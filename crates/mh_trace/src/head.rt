@@ -1,0 +1,129 @@
+//! The beginning of the line of a step: its number, its entry, and who hears what it tells.
+ghost use Rattle.std.specs.Prelude.{◌≡◌, ◌++◌, ◌+◌, ◌<◌, ◌^◌, OnOk, slice_get};
+ghost use Rattle.std.specs.Option.{option_copied};
+ghost use Rattle.mh_model.specs.State.{all};
+ghost use Rattle.mh_trace.specs.Trace as spec;
+
+use crate::ears::{put_ears, put_key_note, told};
+use crate::seen::place_of;
+use crate::site::Site;
+use crate::words::{put_item, put_ref, put_site, put_waiting};
+use mh_actions::arguments::referred;
+use mh_base::ObjRef;
+use mh_machine::Machine;
+use mh_model::{Input, Item, Target, Waiting};
+use mh_store::Objects;
+use mh_told::text::Text;
+use std::alloc::{AllocError, Global};
+
+/// Puts the beginning of the line of the next step, which does this item, or takes what waits where there is none.
+#[tactic(auto, unfolding(crate::specs::Trace::head_by))]
+pub fn put_head(
+    alloc: Global,
+    text: &mut Text,
+    front: &Option<Item>,
+    machine: &Machine,
+    places: &[Site],
+) -> Result<(), AllocError>
+    requires { machine.now.taken + 1 < 2 ^ 64 }
+    ensures { OnOk result (text.new
+        ≡ text.old ++ spec.head_by front.now (spec.first machine.now) machine.now places.now) }
+{
+    let waiting = machine.queue().first();
+    put_number(text, machine.taken() + 1)?;
+    put_entry(alloc, text, front, waiting)?;
+    put_place_note(text, front, places)?;
+    put_through(text, front, machine.objects())?;
+    put_keyed(alloc, text, front, waiting, machine)?;
+    let told = told(front, waiting, machine)?;
+    put_ears(alloc, text, &told, machine.objects())
+}
+
+#[tactic(auto, unfolding(crate::specs::Trace::number_text))]
+fn put_number(text: &mut Text, number: u64) -> Result<(), AllocError>
+    ensures { OnOk result (text.new ≡ text.old ++ spec.number_text number) }
+{
+    text.put_number(number)?;
+    text.put(b" ")
+}
+
+fn put_entry(
+    alloc: Global,
+    text: &mut Text,
+    front: &Option<Item>,
+    waiting: Option<&Waiting>,
+) -> Result<(), AllocError>
+    ensures { OnOk result (text.new ≡ text.old ++ spec.entry_text front.now (option_copied waiting.entry)) }
+{
+    match (front, waiting) {
+        (Some(item), _) => put_item(alloc, text, item),
+        (None, Some(waiting)) => put_waiting(alloc, text, waiting),
+        (None, None) => Ok(()),
+    }
+}
+
+fn put_place_note(text: &mut Text, front: &Option<Item>, places: &[Site]) -> Result<(), AllocError>
+    ensures { OnOk result (text.new
+        ≡ text.old ++ spec.place_note (spec.place_of front.now places.now)) }
+{
+    let place = place_of(front, places)?;
+    put_place_at(text, &place)
+}
+
+fn put_place_at(text: &mut Text, place: &Option<Site>) -> Result<(), AllocError>
+    ensures { OnOk result (text.new ≡ text.old ++ spec.place_note place.now) }
+{
+    match place {
+        Some(site) => {
+            text.put(b", ")?;
+            put_site(text, site)
+        }
+        None => Ok(()),
+    }
+}
+
+fn put_through(text: &mut Text, front: &Option<Item>, objects: &Objects) -> Result<(), AllocError>
+    ensures { OnOk result (text.new ≡ text.old ++ spec.through_note front.now (all objects.now)) }
+{
+    match front {
+        Some(Item::Act(act)) => put_target_note(text, &act.target, objects),
+        _ => Ok(()),
+    }
+}
+
+fn put_target_note(text: &mut Text, target: &Target, objects: &Objects) -> Result<(), AllocError>
+    ensures { OnOk result (text.new ≡ text.old ++ spec.target_note target.now (all objects.now)) }
+{
+    match target {
+        Target::Direct(_) => Ok(()),
+        Target::Through(_) => put_found(text, referred(objects, target)),
+    }
+}
+
+fn put_found(text: &mut Text, found: Option<&ObjRef>) -> Result<(), AllocError>
+    ensures { OnOk result (text.new ≡ text.old ++ spec.found_note (option_copied found.entry)) }
+{
+    match found {
+        Some(at) => {
+            text.put(b", which is ")?;
+            put_ref(text, at)
+        }
+        None => text.put(b", which refers to nothing"),
+    }
+}
+
+fn put_keyed(
+    alloc: Global,
+    text: &mut Text,
+    front: &Option<Item>,
+    waiting: Option<&Waiting>,
+    machine: &Machine,
+) -> Result<(), AllocError>
+    ensures { OnOk result (text.new
+        ≡ text.old ++ spec.keyed_note front.now (option_copied waiting.entry) machine.now) }
+{
+    match (front, waiting) {
+        (None, Some(Waiting::Input(Input::Key(key)))) => put_key_note(alloc, text, *key, machine),
+        _ => Ok(()),
+    }
+}

@@ -1,0 +1,132 @@
+//! Lists of places: of the actions on the work list, of those that were done, and of the groups that were entered.
+ghost use Rattle.std.specs.Prelude.{◌≡◌, ◌++◌, ◌∷◌, [], ◌<◌, drop, length, OnOk, IfOk, slice_get};
+ghost use Rattle.std.specs.List.{list_any};
+ghost use Rattle.std.specs.Str.{bytes_eq};
+ghost use Rattle.mh_trace.specs.Sites.{same_site};
+ghost use Rattle.mh_trace.specs.Trace as spec;
+
+use crate::site::Site;
+use mh_base::{GroupName, Seq};
+use mh_model::Item;
+use std::alloc::{AllocError, Global};
+
+/// What a step puts that begins no transition: nothing where its entry is a fault.
+pub fn put_sites(alloc: Global, is_fault: bool, put: Seq<Site>) -> Seq<Site>
+    ensures { result ≡ spec.put_sites is_fault put }
+{
+    if is_fault { Seq::new(alloc) } else { put }
+}
+
+/// The places behind a step that does this item: where a transition has started, those of what closes down, and
+/// else those that are put, in front of those that are left.
+pub fn place_behind(
+    places: &mut Vec<Site>,
+    front: &Option<Item>,
+    started: bool,
+    closing: Seq<Site>,
+    put: Seq<Site>,
+) -> Result<(), AllocError>
+    ensures { let left = spec.places_behind front.now places.old.items in
+        OnOk result (places.new.items ≡ spec.places_with started closing put left) }
+{
+    if started {
+        *places = closing.into_vec();
+        return Ok(());
+    }
+    take_first(places, front);
+    put_in_front(places, put.into_vec())
+}
+
+/// Takes the first place away, where an action is done.
+fn take_first(places: &mut Vec<Site>, front: &Option<Item>)
+    ensures { places.new.items ≡ spec.places_behind front.now places.old.items }
+{
+    if let Some(Item::Act(_)) = front {
+        drop_first(places);
+    }
+}
+
+fn drop_first(places: &mut Vec<Site>)
+    ensures { places.new.items ≡ drop 1 places.old.items }
+{
+    if !places.is_empty() {
+        let _ = places.remove(0);
+    }
+}
+
+/// Puts these places in front of the others.
+fn put_in_front(places: &mut Vec<Site>, put: Vec<Site>) -> Result<(), AllocError>
+    ensures { OnOk result (places.new.items ≡ put.items ++ places.old.items) }
+{
+    if put.is_empty() {
+        return Ok(());
+    }
+    let mut whole = put;
+    push_all(&mut whole, places.as_slice())?;
+    *places = whole;
+    Ok(())
+}
+
+fn push_all(sites: &mut Vec<Site>, more: &[Site]) -> Result<(), AllocError>
+    ensures { OnOk result (sites.new.items ≡ sites.old.items ++ more.now) }
+{
+    for site in more {
+        sites.push(site.copied()?)?;
+    }
+    Ok(())
+}
+
+/// Adds the place of an action that was done, if one was.
+pub fn add_done(done: &mut Vec<Site>, is_fault: bool, place: Option<Site>) -> Result<(), AllocError>
+    ensures { OnOk result (done.new.items ≡ spec.done_with is_fault place done.old.items) }
+{
+    if is_fault {
+        return Ok(());
+    }
+    match place {
+        Some(site) => add_site(done, site),
+        None => Ok(()),
+    }
+}
+
+pub fn add_site(sites: &mut Vec<Site>, site: Site) -> Result<(), AllocError>
+    ensures { OnOk result (sites.new.items ≡ spec.add_site site sites.old.items) }
+{
+    if !has_site(sites.as_slice(), &site) {
+        sites.push(site)?;
+    }
+    Ok(())
+}
+
+/// Whether the place is among these.
+pub fn has_site(sites: &[Site], site: &Site) -> bool
+    ensures { result ≡ list_any (same_site site.now) sites.now }
+{
+    sites.iter().any(|other| site.is_same(other))
+}
+
+/// Adds the group that the item enters, if it enters one.
+pub fn add_entered(entered: &mut Vec<GroupName>, front: &Option<Item>) -> Result<(), AllocError>
+    ensures { OnOk result (entered.new.items ≡ spec.entered_with front.now entered.old.items) }
+{
+    match front {
+        Some(Item::Enter(group)) => add_name(entered, group),
+        _ => Ok(()),
+    }
+}
+
+pub fn add_name(names: &mut Vec<GroupName>, name: &GroupName) -> Result<(), AllocError>
+    ensures { OnOk result (names.new.items ≡ spec.add_name name.now names.old.items) }
+{
+    if !has_name(names.as_slice(), name) {
+        names.push(name.clone()?)?;
+    }
+    Ok(())
+}
+
+/// Whether the name is among these.
+pub fn has_name(names: &[GroupName], name: &GroupName) -> bool
+    ensures { result ≡ list_any (bytes_eq name.now) names.now }
+{
+    names.iter().any(|other| *name == *other)
+}

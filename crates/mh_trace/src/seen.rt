@@ -1,0 +1,247 @@
+//! What is seen of a state before its step.
+ghost use Rattle.std.specs.Prelude.{◌≡◌, ◌++◌, ◌&&◌, [], None, OnOk, IfOk, length, slice_get};
+ghost use Rattle.std.specs.Option.{option_copied};
+ghost use Rattle.mh_model.specs.State.{all};
+ghost use Rattle.mh_model.specs.Rules.{is_begun};
+ghost use Rattle.mh_group.specs.declared.attribute.Attribute.TheVariants as attribute;
+ghost use Rattle.mh_model.specs.Arguments as said;
+ghost use Rattle.mh_trace.specs.declared.site.EffectKind.TheVariants as kind;
+ghost use Rattle.mh_trace.specs.Ears as ears_spec;
+ghost use Rattle.mh_trace.specs.Sites as sites_spec;
+ghost use Rattle.mh_trace.specs.Trace as spec;
+
+use crate::described::described;
+use crate::ears::told;
+use crate::quiet::is_quiet;
+use crate::site::Site;
+use crate::sites::{heard_sites, push_close_down, push_start_up, slot_sites};
+use mh_actions::arguments::{referred, values};
+use mh_base::{GroupName, Seq};
+use mh_group::ActionName;
+use mh_machine::{Machine, Stepped};
+use mh_model::{Act, Event, Item, Transition, Waiting};
+use mh_service::Service;
+use mh_store::Objects;
+use mh_told::text::Text;
+use std::alloc::{AllocError, Global};
+
+/// What is seen of a state before its step.
+#[derive(Drop)]
+pub struct Seen {
+    /// Where the actions stand that the step puts, if it begins no transition.
+    pub opened: Seq<Site>,
+    /// Where those stand that it puts, if it begins one.
+    pub closing: Seq<Site>,
+    /// How many actions are left behind what is done.
+    pub dropped: usize,
+    /// How many wait to be taken, behind what is taken.
+    pub waiting: usize,
+    /// Whether a transition has begun.
+    pub begun: bool,
+    /// Whether nothing comes of the step where nothing that is looked at changes.
+    pub quiet: bool,
+    /// What is looked at.
+    pub described: Text,
+    /// Where the action stands that is done, if one is.
+    pub place: Option<Site>,
+}
+
+/// What is seen of a machine whose next step does this item, or takes what waits where there is none.
+pub fn see(
+    alloc: Global,
+    front: &Option<Item>,
+    machine: &Machine,
+    places: &[Site],
+) -> Result<Seen, AllocError>
+    ensures { IfOk result (λ seen. seen ≡ spec.seen_of front.now machine.now places.now) }
+{
+    let opened = opened(alloc, front, machine)?;
+    let closing = closing(alloc, front, machine)?;
+    let waiting = waiting_left(front, machine);
+    let described = described(alloc, waiting, machine)?;
+    let place = place_of(front, places)?;
+    let quiet = is_quiet(
+        front,
+        machine.queue().first(),
+        machine.interaction(),
+        opened.as_slice(),
+    );
+    Ok(Seen {
+        opened,
+        closing,
+        dropped: left_behind(front, places),
+        waiting,
+        begun: is_begun(machine.transition()),
+        quiet,
+        described,
+        place,
+    })
+}
+
+/// How many places are left behind what is done.
+fn left_behind(front: &Option<Item>, places: &[Site]) -> usize
+    ensures { result ≡ length (spec.places_behind front.now places.now) }
+{
+    match front {
+        Some(Item::Act(_)) => places.len().saturating_sub(1),
+        _ => places.len(),
+    }
+}
+
+fn waiting_left(front: &Option<Item>, machine: &Machine) -> usize
+    ensures { result ≡ spec.waiting_left front.now machine.now }
+{
+    match front {
+        Some(_) => machine.queue().len(),
+        None => machine.queue().len().saturating_sub(1),
+    }
+}
+
+/// Whether a transition has begun.
+pub fn is_begun(transition: &Transition) -> bool
+    ensures { result ≡ is_begun transition.now }
+{
+    matches!(transition, Transition::Begun)
+}
+
+/// Whether one has begun by now that had not.
+pub fn starts(begun: bool, machine: &Machine) -> bool
+    ensures { result ≡ spec.starts begun machine.now }
+{
+    !begun && is_begun(machine.transition())
+}
+
+pub fn is_fault(answer: &Stepped) -> bool
+    ensures { result ≡ spec.is_fault answer.now }
+{
+    matches!(answer, Stepped::Faulted(_))
+}
+
+/// Where the action stands that is done, if one is.
+pub fn place_of(front: &Option<Item>, places: &[Site]) -> Result<Option<Site>, AllocError>
+    ensures { IfOk result (λ place. place ≡ spec.place_of front.now places.now) }
+{
+    match front {
+        Some(Item::Act(_)) => first_of(places),
+        _ => Ok(None),
+    }
+}
+
+fn first_of(places: &[Site]) -> Result<Option<Site>, AllocError>
+    ensures { IfOk result (λ place. place ≡ slice_get places.now 0) }
+{
+    match places {
+        [first, ..] => Ok(Some(first.copied()?)),
+        [] => Ok(None),
+    }
+}
+
+/// Where the actions stand that a step puts, if it begins no transition.
+fn opened(alloc: Global, front: &Option<Item>, machine: &Machine) -> Result<Seq<Site>, AllocError>
+    ensures { IfOk result (λ sites. sites ≡ spec.opened front.now machine.now) }
+{
+    let sites = match front {
+        Some(item) => opened_by(alloc, item, machine)?,
+        None => told_sites(alloc, told_first(machine)?, machine.objects())?,
+    };
+    Ok(Seq::from_vec(sites))
+}
+
+fn told_first(machine: &Machine) -> Result<Option<Event>, AllocError>
+    ensures { IfOk result (λ event. event ≡ ears_spec.told None (slice_get machine.now.queue 0) machine.now) }
+{
+    told(&None, machine.queue().first(), machine)
+}
+
+fn opened_by(alloc: Global, item: &Item, machine: &Machine) -> Result<Vec<Site>, AllocError>
+    ensures { IfOk result (λ sites. sites.items ≡ spec.opened_by item.now machine.now) }
+{
+    match item {
+        Item::Act(act) => called_sites(alloc, act, machine.objects()),
+        Item::Enter(group) => starting(alloc, machine.service(), group),
+        Item::Emit(event) => told_sites(alloc, heard_now(event)?, machine.objects()),
+        _ => Ok(Vec::new(alloc)),
+    }
+}
+
+/// The event, if it is heard at once.
+fn heard_now(event: &Event) -> Result<Option<Event>, AllocError>
+    ensures { IfOk result (λ told. told ≡ ears_spec.told_by_item (Item.Emit event.now)) }
+{
+    if event.kind.is_sync() {
+        Ok(Some(event.clone()?))
+    } else {
+        Ok(None)
+    }
+}
+
+fn starting(alloc: Global, service: &Service, group: &GroupName) -> Result<Vec<Site>, AllocError>
+    ensures { IfOk result (λ sites. sites.items
+        ≡ sites_spec.group_sites kind.StartUp attribute.OnStartUp service.now group.now) }
+{
+    let mut sites = Vec::new(alloc);
+    push_start_up(&mut sites, service, group)?;
+    Ok(sites)
+}
+
+fn told_sites(
+    alloc: Global,
+    told: Option<Event>,
+    objects: &Objects,
+) -> Result<Vec<Site>, AllocError>
+    ensures { IfOk result (λ sites. sites.items ≡ spec.told_sites told (all objects.now)) }
+{
+    match told {
+        Some(event) => heard_sites(alloc, &event, objects),
+        None => Ok(Vec::new(alloc)),
+    }
+}
+
+fn called_sites(alloc: Global, act: &Act, objects: &Objects) -> Result<Vec<Site>, AllocError>
+    ensures { IfOk result (λ sites. sites.items
+        ≡ spec.called_sites act.now.name act.now (all objects.now)) }
+{
+    match act.name {
+        ActionName::CallActionSlot => slot_called(alloc, act, objects),
+        _ => Ok(Vec::new(alloc)),
+    }
+}
+
+fn slot_called(alloc: Global, act: &Act, objects: &Objects) -> Result<Vec<Site>, AllocError>
+    ensures { let os = all objects.now in
+        let vs = said.values os act.now.arguments in
+        IfOk result (λ sites. sites.items
+        ≡ sites_spec.slot_sites vs (spec.target_at (said.referred act.now.target os) os)) }
+{
+    let values = values(alloc, objects, act.arguments.as_slice())?;
+    let found = match referred(objects, &act.target) {
+        Some(at) => objects.get(at),
+        None => None,
+    };
+    slot_sites(alloc, values.as_slice(), found)
+}
+
+/// Where the actions stand that a transition puts when it begins: those with which the scene closes down, and then
+/// the application, where that is left, too.
+fn closing(alloc: Global, front: &Option<Item>, machine: &Machine) -> Result<Seq<Site>, AllocError>
+    ensures { IfOk result (λ sites. sites ≡ spec.closing front.now machine.now) }
+{
+    let mut sites = Vec::new(alloc);
+    if let Some(scene) = machine.scene() {
+        push_close_down(&mut sites, machine.service(), scene)?;
+    }
+    if leaves(front) {
+        push_close_down(&mut sites, machine.service(), machine.application())?;
+    }
+    Ok(Seq::from_vec(sites))
+}
+
+/// Whether the item leaves the application.
+fn leaves(front: &Option<Item>) -> bool
+    ensures { result ≡ spec.leaves front.now }
+{
+    match front {
+        Some(Item::Act(act)) => matches!(act.name, ActionName::Launch | ActionName::Quit),
+        _ => false,
+    }
+}
