@@ -97,7 +97,6 @@ service = file (codes "DIR")
 abbrev pub all : Rule
 all = flag (codes "all")
 
--- the rules of notes that are turned off, each by its name
 abbrev pub allow : Rule
 allow = record (new_rule (codes "allow")) { long = Some (codes "allow"); action = Some Append; value_names = 1 }
 
@@ -139,8 +138,11 @@ bare = on_top (λ s. record s { has_version = true; subcommand_required = true }
 abbrev pub with_views : App
 with_views = with_subcommand (with_subcommand bare show.top) page.top
 
+abbrev pub with_reports : App
+with_reports = with_subcommand (with_subcommand with_views image.top) diff.top
+
 abbrev pub program : App
-program = with_subcommand (with_subcommand (with_subcommand (with_subcommand with_views image.top) diff.top) why.top) lint.top
+program = with_subcommand (with_subcommand with_reports why.top) lint.top
 
 -- What is asked for.
 
@@ -224,7 +226,6 @@ service_of rows = record {
   color = text_of (codes "color") rows;
 }
 
--- the rule is among those that are turned off
 abbrev pub allows : List Row → NoteRule → Bool
 allows rows x = list_any (λ name. bytes_eq name (rule_word x)) (unwrap_or (all_of (codes "allow") rows) [])
 

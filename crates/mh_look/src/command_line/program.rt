@@ -55,11 +55,18 @@ Examples:
 pub fn program<'a>(alloc: Global) -> Result<Command<'a>, AllocError>
     ensures { IfOk result (λ c. app_of c ≡ spec.program) }
 {
-    with_views(alloc)?
-        .subcommand(image(alloc)?)?
-        .subcommand(diff(alloc)?)?
+    with_reports(alloc)?
         .subcommand(why(alloc)?)?
         .subcommand(lint(alloc)?)
+}
+
+/// The program with the subcommands that take reports.
+fn with_reports<'a>(alloc: Global) -> Result<Command<'a>, AllocError>
+    ensures { IfOk result (λ c. app_of c ≡ spec.with_reports) }
+{
+    with_views(alloc)?
+        .subcommand(image(alloc)?)?
+        .subcommand(diff(alloc)?)
 }
 
 /// The program with the subcommands that show all of a report.
