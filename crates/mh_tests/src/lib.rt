@@ -17,3 +17,5 @@ mod machine;
 mod notation;
 #[cfg(test)]
 mod reports;
+#[cfg(test)]
+mod trying;

@@ -17,15 +17,15 @@ const MOST_READ: u64 = LARGEST_FILE as u64 + 1;
 
 /// What a folder holds.
 #[derive(Drop)]
-pub(crate) struct Folder {
+pub struct Folder {
     /// The files, each under its path inside the folder, in bytewise order of these paths.
-    pub(crate) files: Vec<(GroupName, Vec<u8>)>,
+    pub files: Vec<(GroupName, Vec<u8>)>,
     /// The first path that cannot be read, or is none of a file or folder.
-    pub(crate) unread: Option<String>,
+    pub unread: Option<String>,
 }
 
 /// What the folder holds.
-pub(crate) fn folder_of<R: Runtime + AllocGlobal>(rt: &R, folder: &str) -> Result<Folder, Failure> {
+pub fn folder_of<R: Runtime + AllocGlobal>(rt: &R, folder: &str) -> Result<Folder, Failure> {
     let alloc = rt.alloc();
     if got(fs::read_dir(rt, folder))?.is_none() {
         return Err(unread(alloc, folder));

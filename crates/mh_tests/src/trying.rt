@@ -1,0 +1,3 @@
+//! Services that are tried: what traces and coverages tell of them.
+
+pub(crate) mod mistakes;
