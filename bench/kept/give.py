@@ -45,10 +45,19 @@ def print_stamps():
     print(json.dumps({crate.name: crate.stamp() for crate in rt.rtlib.crates_below(root) if not crate.is_program}))
 
 
+def is_of_text(gate, name, stamp):
+    """Returns whether the gate's library was built of its text as it stands now; where `rt lib` built it, a file tells."""
+    told = f"{library_of(gate, name)}/stamp"
+    if not os.path.exists(told):
+        return True
+    with open(told) as written:
+        return written.read() == stamp
+
+
 def taken(root, gate, name, stamp):
     """Returns whether the library that the gate built stands in the checkout now, as links to its files."""
     built, library = f"{library_of(gate, name)}/{name}.rlib", library_of(root, name)
-    if not os.path.isdir(built):
+    if not os.path.isdir(built) or not is_of_text(gate, name, stamp):
         return False
     shutil.rmtree(library, ignore_errors=True)
     shutil.copytree(built, f"{library}/{name}.rlib", copy_function=os.link)

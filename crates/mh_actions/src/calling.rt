@@ -4,26 +4,22 @@ ghost use Rattle.std.specs.Prelude.{◌≡◌, ◌++◌, ◌∷◌, [], map, IfO
 ghost use Rattle.std.specs.List.{list_any};
 ghost use Rattle.std.specs.Option.{option_copied};
 ghost use Rattle.std.specs.Str.{bytes_eq};
-ghost use Rattle.mh_work.specs.Listed.{listed};
 ghost use Rattle.mh_model.specs.Arguments.{values as values_lem, receivers as receivers_lem};
 ghost use Rattle.mh_model.specs.Faults.{passed as passed_lem};
 ghost use Rattle.mh_model.specs.Known.{params_in};
 ghost use Rattle.mh_model.specs.Programs.{ins, outs};
 ghost use Rattle.mh_model.specs.Receiver.{added_name, if_added, is_added};
 ghost use Rattle.mh_model.specs.Rules.{builtin_in};
-ghost use Rattle.mh_model.specs.Saying as spec;
 ghost use Rattle.mh_model.specs.Service.{part_at, parts};
 ghost use Rattle.mh_model.specs.State.{all};
 
 use crate::arguments::{push_value, receivers_of_many};
 use crate::known_now::present_part;
-use mh_base::{EventType, ObjRef, Value};
-use mh_group::ActionName;
+use mh_base::{ObjRef, Value};
 use mh_model::act::passed;
-use mh_model::{Argument, Builtin, Event, Fixed, Item, Param, Signature};
+use mh_model::{Argument, Builtin, Fixed, Param, Signature};
 use mh_resident::{Resident, builtin_named, program_name, program_named, takes};
 use mh_store::Objects;
-use mh_work::Put;
 use std::alloc::{AllocError, Global};
 
 /// The built-in program to which the reference leads, if it leads to one.
@@ -192,18 +188,4 @@ fn push_out(
         receivers.push(variable.clone()?)?;
     }
     Ok(())
-}
-
-/// What a call puts: that the program has stopped, where it was started beside the rest.
-pub fn call_items(name: ActionName, at: &ObjRef) -> Result<Put, AllocError>
-    ensures { IfOk result (λ put. listed put ≡ spec.call_items name at.now) }
-{
-    match name {
-        ActionName::Fork => Ok(Put::One(Item::Emit(Event {
-            source: at.clone()?,
-            kind: EventType::AsyncStopped,
-            data: None,
-        }))),
-        _ => Ok(Put::Nothing),
-    }
 }

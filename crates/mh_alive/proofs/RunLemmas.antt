@@ -12,7 +12,7 @@ use Rattle.mh_model.specs.declared.act.Act.{Act}
 use Rattle.mh_model.specs.declared.act.Target.{Target}
 use Rattle.mh_model.specs.declared.act.Target.TheVariants as target
 use Rattle.mh_model.specs.declared.config.Config.{Config}
-use Rattle.mh_model.specs.declared.member.Member.{Member}
+use Rattle.mh_model.specs.declared.object.member.Member.{Member}
 use Rattle.mh_model.specs.declared.object.Fixed.{Fixed}
 use Rattle.mh_model.specs.Configuration.{present}
 use Rattle.mh_model.specs.Groups.{is_initially_active}

@@ -4,7 +4,6 @@
 ghost use Rattle.std.specs.Prelude.{◌≡◌, OnOk};
 ghost use Rattle.std.specs.List.{flat_map};
 ghost use Rattle.indexmap.specs.IndexSet.{insert_all};
-ghost use Rattle.mh_model.specs.Groups.{is_initially_active};
 ghost use Rattle.mh_model.specs.Reference.{same_key};
 ghost use Rattle.mh_alive.specs.Runners as spec;
 ghost use Rattle.mh_alive.specs.There.{sets_there};
@@ -14,17 +13,10 @@ use crate::there::There;
 use indexmap::IndexSet;
 use mh_base::ObjRef;
 use mh_flow::Site;
-use mh_flow::sites::members;
-use mh_group::{ActionName, Attribute, Class};
-use mh_model::held::as_bool;
+use mh_group::{ActionName, Class};
+use mh_model::parts::{is_initially_active, members};
 use mh_model::{Act, Fixed, FixedPart};
 use std::alloc::AllocError;
-
-fn is_initially_active(part: &Fixed) -> bool
-    ensures { result ≡ is_initially_active part.now }
-{
-    part.class.is_runnable() && as_bool(part.properties.get(Attribute::InitiallyActive), true)
-}
 
 /// Whether the action can run what it is done to.
 #[tactic(auto, unfolding(crate::specs::Runners::can_run))]

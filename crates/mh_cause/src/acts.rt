@@ -2,14 +2,12 @@
 ghost use Rattle.std.specs.Prelude.{◌≡◌, ◌==◌};
 ghost use Rattle.std.specs.Option.{option_copied};
 ghost use Rattle.mh_model.specs.Service.{group_parts};
-ghost use Rattle.mh_model.specs.Tokens.{members as members_lem};
 ghost use Rattle.mh_cause.specs.Acts.{act_in, act_of, behind_closedown, behind_startup, in_members, in_object, in_slots, left_behind, members_in, members_of, numbered};
 
 use crate::refused::Refused;
 use mh_base::GroupName;
 use mh_group::Attribute;
-use mh_model::held::as_members;
-use mh_model::parts::effect_of;
+use mh_model::parts::{effect_of, members};
 use mh_model::{Act, Effect, Fixed, FixedPart, Member};
 use mh_service::Service;
 
@@ -87,13 +85,6 @@ fn behind_closedown(part: &Fixed, before: usize) -> Option<&Act>
         return acts.get(before);
     }
     in_members(members(part), before - acts.len())
-}
-
-/// The members of a group of objects.
-fn members(part: &Fixed) -> &[Member]
-    ensures { result.now ≡ members_lem part.now }
-{
-    as_members(part.properties.get(Attribute::TokenGroupItems))
 }
 
 /// The members of the object of which the refusal is told.

@@ -5,11 +5,11 @@ use Rattle.std.proofs.Common.{ap, ◌∙◌, sym, arith, subst}
 use Rattle.std.proofs.Math.ListN.{drop_of_length-le}
 use Rattle.std.proofs.lemmas.List.{at_drop_more}
 use Rattle.mh_base.specs.declared.area.Area.{Area}
-use Rattle.mh_model.specs.declared.cell.Cell.{Cell}
-use Rattle.mh_model.specs.declared.drawing.Drawing.{Drawing}
+use Rattle.mh_model.specs.declared.picture.cell.Cell.{Cell}
+use Rattle.mh_model.specs.declared.picture.drawing.Drawing.{Drawing}
 use Rattle.mh_model.specs.Boxes.{box_back, x_of, y_of}
 use Rattle.mh_model.specs.Drawn.{box_of, drawing_back, drawn_over, figure_back}
-use Rattle.mh_model.specs.declared.drawing.Figure.TheVariants as figure
+use Rattle.mh_model.specs.declared.picture.drawing.Figure.TheVariants as figure
 use Rattle.mh_model.specs.Looks.{Paint, art_paint}
 use Rattle.mh_display.specs.declared.frame.Frame.{Frame}
 use Rattle.mh_display.specs.declared.marked.Marked.{Marked}

@@ -3,7 +3,7 @@ use Rattle.std.specs.Prelude.{◌≡◌, ℕ, ◌+◌, ◌<◌, ◌≤◌, Bool,
 use Rattle.std.proofs.Common.{ap, ◌∙◌, sym, arith, subst}
 use Rattle.std.proofs.lemmas.List.{take_all, take_more, reverse-append}
 use Rattle.mh_base.specs.declared.obj_ref.ObjRef.{ObjRef}
-use Rattle.mh_model.specs.declared.cell.Cell.{Cell}
+use Rattle.mh_model.specs.declared.picture.cell.Cell.{Cell}
 use Rattle.mh_model.specs.declared.object.Object.{Object}
 use Rattle.mh_model.specs.Looks.{Paint}
 use Rattle.mh_model.specs.Picture.{cell_at, cell_under, paint_at, painted, picture}

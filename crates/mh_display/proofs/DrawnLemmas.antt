@@ -13,7 +13,7 @@ use Rattle.std.proofs.Math.Nat.{mul-le-mul}
 use Rattle.std.proofs.lemmas.Bool.{le-leb}
 use Rattle.std.proofs.lemmas.Nat.{div-mul-add}
 use Rattle.std.proofs.Math.IntN.{neg_ℤ, pos-*ℤ-pos, pos-*ℤ-negsuc}
-use Rattle.mh_model.specs.declared.drawing.Stroke.{Stroke}
+use Rattle.mh_model.specs.declared.picture.drawing.Stroke.{Stroke}
 use Rattle.mh_model.specs.Boxes.{IsNear}
 use Rattle.mh_model.specs.Drawn.{across, down, steps, gone, comes_to, some_to, goes_through}
 use Rattle.mh_display.specs.Strokes.{step_to}

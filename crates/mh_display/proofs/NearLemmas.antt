@@ -4,8 +4,8 @@ use Rattle.std.specs.Int.{int_div_euclid}
 use Rattle.std.proofs.Common.{arith, subst, sym}
 use Rattle.std.proofs.lemmas.Int.{ints}
 use Rattle.mh_base.specs.declared.area.Area.{Area}
-use Rattle.mh_model.specs.declared.drawing.Drawing.{Drawing}
-use Rattle.mh_model.specs.declared.drawing.Spot.{Spot}
+use Rattle.mh_model.specs.declared.picture.drawing.Drawing.{Drawing}
+use Rattle.mh_model.specs.declared.picture.drawing.Spot.{Spot}
 use Rattle.mh_model.specs.Boxes.{IsNear}
 use Rattle.mh_model.specs.Drawn.{spot_of}
 use Rattle.mh_display.specs.Strokes.{IsShort, IsInReach}

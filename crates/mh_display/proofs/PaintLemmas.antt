@@ -3,8 +3,8 @@ use Rattle.std.specs.Prelude.{◌≡◌, ◌≢◌, ℕ, ◌+◌, ◌*◌, ◌<�
 use Rattle.std.proofs.Common.{ap, ◌∙◌, sym, arith, subst}
 use Rattle.std.proofs.lemmas.List.{get_or-set_same, get_or-set_other}
 use Rattle.mh_base.specs.declared.area.Area.{Area}
-use Rattle.mh_model.specs.declared.drawing.Stroke.{Stroke}
-use Rattle.mh_model.specs.declared.line.Line.{Line}
+use Rattle.mh_model.specs.declared.picture.drawing.Stroke.{Stroke}
+use Rattle.mh_model.specs.declared.picture.line.Line.{Line}
 use Rattle.mh_model.specs.Boxes.{column_of, row_of, covers, first_column, first_row, is_edge, x_of, y_of}
 use Rattle.mh_model.specs.Drawn.{goes_through}
 use Rattle.mh_model.specs.Layout.{character_at, character_in, member_at}

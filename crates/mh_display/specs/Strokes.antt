@@ -1,8 +1,8 @@
 -- The steps of a drawn line, one by one.
 use Rattle.std.specs.Prelude.{ℕ, ◌^◌, nat_le, if◌then◌else◌, Option, None, ℤ, ◌-ℤ◌}
 use Rattle.std.specs.Int.RustNames.{unsigned_abs}
-use Rattle.mh_model.specs.declared.drawing.Point.{Point}
-use Rattle.mh_model.specs.declared.drawing.Stroke.{Stroke}
+use Rattle.mh_model.specs.declared.picture.drawing.Point.{Point}
+use Rattle.mh_model.specs.declared.picture.drawing.Stroke.{Stroke}
 use Rattle.mh_model.specs.Boxes.{IsNear, column_of, row_of}
 use Rattle.mh_model.specs.Drawn.{across, down, goes_through}
 use Rattle.mh_model.specs.Looks.{Paint}

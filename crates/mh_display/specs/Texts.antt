@@ -1,8 +1,8 @@
 -- What texts and drawings paint into the cells of their boxes.
 use Rattle.std.specs.Prelude.{ℕ, List, None}
 use Rattle.mh_base.specs.declared.area.Area.{Area}
-use Rattle.mh_model.specs.declared.drawing.Drawing.{Drawing}
-use Rattle.mh_model.specs.declared.line.Line.{Line}
+use Rattle.mh_model.specs.declared.picture.drawing.Drawing.{Drawing}
+use Rattle.mh_model.specs.declared.picture.line.Line.{Line}
 use Rattle.mh_model.specs.Boxes.{column_of, row_of}
 use Rattle.mh_model.specs.Drawn.{drawing_back, drawn_over}
 use Rattle.mh_model.specs.Layout.{character_at}

@@ -5,7 +5,7 @@ ghost use Rattle.mh_model.specs.Layout.{member_at, character_at, character_in};
 
 use mh_base::Area;
 use mh_model::Line;
-use mh_model::boxes::{first_column, first_row};
+use mh_model::picture::boxes::{first_column, first_row};
 
 /// The scalar that paints nothing.
 const SPACE: u32 = 0x20;

@@ -14,7 +14,7 @@ use crate::screen::Screen;
 use crate::window::Window;
 use mh_base::Area;
 use mh_model::Line;
-use mh_model::boxes::{first_column, first_row};
+use mh_model::picture::boxes::{first_column, first_row};
 
 /// The colours of a text: behind its characters, and of them. Where one is missing that part paints nothing.
 #[derive(Clone, Copy)]

@@ -198,6 +198,13 @@ impl Engine {
         self.machine.taken()
     }
 
+    /// Whether the verifier accepted the service.
+    pub fn is_accepted(&self) -> bool
+        ensures { result ≡ self.now.accepted }
+    {
+        self.accepted
+    }
+
     /// The most steps that may be taken for what was posted so far: the bound of the start and those of the
     /// inputs that were accepted; of a service that no verifier has seen, as many as 64 bits can count.
     pub fn budget(&self) -> u64

@@ -23,9 +23,9 @@ use Rattle.mh_laws.specs.Safe.{exchanged}
 use Rattle.mh_laws.specs.View as view
 use Rattle.mh_laws.specs.Ways.{slots_of}
 use Rattle.mh_laws.proofs.NodeLemmas.{among_is}
-use Rattle.mh_layers.specs.declared.arrow.Arrow.{Arrow}
-use Rattle.mh_layers.specs.declared.arrow.By.{By}
-use Rattle.mh_layers.specs.declared.arrow.By.TheVariants as by
+use Rattle.mh_layers.specs.declared.arrows.arrow.Arrow.{Arrow}
+use Rattle.mh_layers.specs.declared.arrows.arrow.By.{By}
+use Rattle.mh_layers.specs.declared.arrows.arrow.By.TheVariants as by
 use Rattle.mh_layers.specs.Arrows.{comes_to, counts, granted, number_by, put_by}
 use Rattle.mh_layers.specs.Reading.{same_setting}
 use Rattle.mh_prices.specs.Meter.{Adds, onto}

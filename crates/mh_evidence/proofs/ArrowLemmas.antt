@@ -9,7 +9,7 @@ use Rattle.mh_model.specs.Reference.{same_key}
 use Rattle.mh_model.specs.Service.{Service}
 use Rattle.mh_laws.specs.Active.{is_active}
 use Rattle.mh_flow.specs.Sites.{Site, sites, sites_of}
-use Rattle.mh_layers.specs.declared.arrow.Arrow.{Arrow}
+use Rattle.mh_layers.specs.declared.arrows.arrow.Arrow.{Arrow}
 use Rattle.mh_layers.specs.Arrows.{goes_round, is_action_of, leads, leads_back, meets, puts, same_action}
 use Rattle.mh_evidence.specs.Putting.{is_putting, lead_on, puts_in}
 use Rattle.mh_evidence.specs.Spots.{with_number}

@@ -3,7 +3,7 @@ use Rattle.std.specs.Prelude.{◌≡◌, ◌+◌, ℕ, zero, suc, Bool, true, fa
 use Rattle.std.proofs.Common.{arith, ap, ◌∙◌}
 use Rattle.mh_base.specs.declared.obj_ref.ObjRef.{ObjRef}
 use Rattle.mh_model.specs.Reference.{same_key}
-use Rattle.mh_layers.specs.declared.arrow.Held.{Held}
+use Rattle.mh_layers.specs.declared.arrows.arrow.Held.{Held}
 use Rattle.mh_layers.specs.Arrows.{held_by}
 
 held_first : (r : ObjRef) (h : Held) (hs : List Held) → held_by (h ∷ hs) r ≡ (if same_key r h.by then h.at ∷ held_by hs r else held_by hs r)

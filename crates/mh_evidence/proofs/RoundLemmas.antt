@@ -19,8 +19,8 @@ use Rattle.mh_laws.specs.Price.{Price, counted_in, most_price, sum_price}
 use Rattle.mh_laws.proofs.EachLemmas.{among_filtered, among_left, among_right, contains_of, got_among}
 use Rattle.mh_laws.proofs.SetLemmas.{same_itself}
 use Rattle.mh_flow.proofs.PresentLemmas.{present_found}
-use Rattle.mh_layers.specs.declared.arrow.Arrow.{Arrow}
-use Rattle.mh_layers.specs.declared.arrow.By.{By}
+use Rattle.mh_layers.specs.declared.arrows.arrow.Arrow.{Arrow}
+use Rattle.mh_layers.specs.declared.arrows.arrow.By.{By}
 use Rattle.mh_layers.specs.Arrows.{ArrowsAreCauses, counts, granted, is_action_in, is_waited_for, leads, meets, number_by, put_by, same_action, same_effect}
 use Rattle.mh_layers.specs.Cycle.{first_number}
 use Rattle.mh_evidence.specs.Putting.{is_putting, puts_in}

@@ -18,9 +18,9 @@ use Rattle.mh_laws.specs.Safe.{exchanged}
 use Rattle.mh_laws.specs.View.{Around}
 use Rattle.mh_laws.specs.Ways.{Told, Sure, Unsure}
 use Rattle.mh_flow.specs.Sites.{sites}
-use Rattle.mh_layers.specs.declared.arrow.Arrow.{Arrow}
-use Rattle.mh_layers.specs.declared.arrow.By.{By}
-use Rattle.mh_layers.specs.declared.arrow.By.TheVariants as by
+use Rattle.mh_layers.specs.declared.arrows.arrow.Arrow.{Arrow}
+use Rattle.mh_layers.specs.declared.arrows.arrow.By.{By}
+use Rattle.mh_layers.specs.declared.arrows.arrow.By.TheVariants as by
 use Rattle.mh_layers.specs.Arrows.{counts, granted, held_by, is_action_of, leads, number_by, put_by, puts, same_action, same_effect}
 use Rattle.mh_layers.specs.Keys.{waits_for}
 use Rattle.mh_prices.specs.Meter.{Meter}

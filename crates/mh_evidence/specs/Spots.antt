@@ -4,7 +4,7 @@ use Rattle.std.specs.List.{list_any}
 use Rattle.mh_base.specs.declared.obj_ref.ObjRef.{ObjRef}
 use Rattle.mh_model.specs.declared.object.Fixed.{Fixed}
 use Rattle.mh_model.specs.Service.{Service, group_parts}
-use Rattle.mh_flow.specs.declared.link.Link.{Link}
+use Rattle.mh_flow.specs.declared.chain.link.Link.{Link}
 use Rattle.mh_flow.specs.Chart.{handed_argument}
 use Rattle.mh_flow.specs.Sites.{Site, sites}
 use Rattle.mh_verify.specs.declared.refusal.Place.{Place}

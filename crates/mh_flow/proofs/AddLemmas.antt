@@ -3,9 +3,9 @@ use Rattle.std.specs.Prelude.{◌≡◌, ◌⊎◌, ℕ, zero, suc, ◌+◌, ◌
 use Rattle.std.specs.List.{Contains, slice_index}
 use Rattle.std.proofs.Common.{rules, arith, inl, inr, ap, ◌∙◌, sym, subst}
 use Rattle.std.proofs.lemmas.List.Elements.{Contains-append_right}
-use Rattle.mh_flow.specs.declared.net.Fact.{Fact}
-use Rattle.mh_flow.specs.declared.net.Item.TheVariants as item
-use Rattle.mh_flow.specs.Net.{Net}
+use Rattle.mh_flow.specs.declared.fixpoint.constraints.Fact.{Fact}
+use Rattle.mh_flow.specs.declared.fixpoint.constraints.Item.TheVariants as item
+use Rattle.mh_flow.specs.Constraints.{ConstraintSystem}
 use Rattle.mh_flow.specs.Gathering.{View, IsIn, IsSound, IsStep}
 use Rattle.mh_flow.proofs.StepLemmas.{same_step, then_step}
 
@@ -32,16 +32,16 @@ split_below (suc i) (suc n) less = by (split_below i n (omega (arith, less)))
     by (inr e) = inr (ap suc e)
 
 -- so many of these facts are known, and there is no other edge
-pub record IsAdding (net : Net) (fact : ℕ → Fact) (count : ℕ) (initial now : View) : Type 0 where
+pub record IsAdding (net : ConstraintSystem) (fact : ℕ → Fact) (count : ℕ) (initial now : View) : Type 0 where
   pub sound : IsSound net now
   pub step : IsStep net initial now
   pub edges : now.edges ≡ initial.edges
   pub put : (i : ℕ) → i < count → IsIn now (item.Member (fact i))
 
-pub add_none : (net : Net) (fact : ℕ → Fact) (a : View) → IsSound net a → IsAdding net fact 0 a a
+pub add_none : (net : ConstraintSystem) (fact : ℕ → Fact) (a : View) → IsSound net a → IsAdding net fact 0 a a
 add_none net fact a sound = record { sound = sound; step = same_step net a; edges = refl; put = λ i less. absurd (omega (arith, less)) }
 
-pub add_next : (net : Net) (fact : ℕ → Fact) (count : ℕ) (a b c : View) → IsAdding net fact count a b → IsSound net c → IsStep net b c → c.edges ≡ b.edges → IsIn c (item.Member (fact count)) → IsAdding net fact (count + 1) a c
+pub add_next : (net : ConstraintSystem) (fact : ℕ → Fact) (count : ℕ) (a b c : View) → IsAdding net fact count a b → IsSound net c → IsStep net b c → c.edges ≡ b.edges → IsIn c (item.Member (fact count)) → IsAdding net fact (count + 1) a c
 add_next net fact count a b c k sound step edges put = record {
   sound = sound;
   step = then_step net a b c k.step step;

@@ -27,7 +27,7 @@ use Rattle.mh_laws.specs.Flow.{Flow, IsHeld, IsLed, IsOpenIf, IsSolution, Keeps,
 use Rattle.mh_laws.specs.Flow.{has as is_held}
 use Rattle.mh_laws.specs.Least.{Derived, are_ascending, Reached, Held, Comes, Hands, start, named, referred, written, read, original_value, original_item, given, filled, led, passed}
 use Rattle.mh_model.specs.declared.act.Argument.TheVariants as argument
-use Rattle.mh_flow.specs.declared.net.Item.{Item}
+use Rattle.mh_flow.specs.declared.fixpoint.constraints.Item.{Item}
 use Rattle.mh_flow.specs.Rows.{has}
 use Rattle.mh_flow.specs.Sets as sets
 use Rattle.mh_flow.specs.Sets.{members_of}

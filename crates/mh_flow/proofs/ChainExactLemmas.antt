@@ -7,9 +7,9 @@ use Rattle.mh_model.specs.declared.config.Config.{Config}
 use Rattle.mh_model.specs.Service.{Service}
 use Rattle.mh_laws.specs.Flow.{Flow}
 use Rattle.mh_laws.specs.Least.{Derived, Held, IsLeast, Reached}
-use Rattle.mh_flow.specs.declared.link.Link.{Link}
-use Rattle.mh_flow.specs.declared.moves.Move.{Move}
-use Rattle.mh_flow.specs.declared.moves.Place.{Place}
+use Rattle.mh_flow.specs.declared.chain.link.Link.{Link}
+use Rattle.mh_flow.specs.declared.chain.moves.Move.{Move}
+use Rattle.mh_flow.specs.declared.chain.moves.Holder.{Holder}
 use Rattle.mh_flow.specs.Chains.{Brings, IsFirstChain}
 use Rattle.mh_flow.specs.Moves.{Follows, IsFirstOf}
 use Rattle.mh_flow.specs.Steps.{IsExact, moves_of, place}
@@ -49,13 +49,13 @@ no_chain v w least q c r none d =
 abbrev Told : Type 0
 Told = Result (Option (Vec Link Global)) AllocError
 
-module _ (v : Service) (w : Flow) (least : IsLeast v w) (q : ObjRef) (c : Config) (r : ObjRef) (ms : List Move) (p : Place) (same : ms ≡ moves_of v w (q ∷ [])) (at : p ≡ place c r) where
+module _ (v : Service) (w : Flow) (least : IsLeast v w) (q : ObjRef) (c : Config) (r : ObjRef) (ms : List Move) (p : Holder) (same : ms ≡ moves_of v w (q ∷ [])) (at : p ≡ place c r) where
   pub told_some : (x : Told) → IfOk x (λ found. IfSome found (λ links. IsFirstOf ms p links.items)) → IfOk x (λ found. IfSome found (λ links. IsFirstChain v q c r links.items))
-  told_some (Ok (Some links)) h = first_chain v w least q c r links.items (subst (λ (x : Place). IsFirstOf (moves_of v w (q ∷ [])) x links.items) at (subst (λ (xs : List Move). IsFirstOf xs p links.items) same h))
+  told_some (Ok (Some links)) h = first_chain v w least q c r links.items (subst (λ (x : Holder). IsFirstOf (moves_of v w (q ∷ [])) x links.items) at (subst (λ (xs : List Move). IsFirstOf xs p links.items) same h))
   told_some (Ok None) h = tt
   told_some (Err e) h = tt
 
   pub told_none : (x : Told) → IfOk x (λ found. IfNone found ((ls : List Link) → Follows ms ls p → ⊥)) → IfOk x (λ found. IfNone found (Derived v (Held c r q) → ⊥))
   told_none (Ok (Some links)) h = tt
-  told_none (Ok None) h = no_chain v w least q c r (λ ls f. h ls (subst (λ (x : Place). Follows ms ls x) (sym at) (subst (λ (xs : List Move). Follows xs ls (place c r)) (sym same) f)))
+  told_none (Ok None) h = no_chain v w least q c r (λ ls f. h ls (subst (λ (x : Holder). Follows ms ls x) (sym at) (subst (λ (xs : List Move). Follows xs ls (place c r)) (sym same) f)))
   told_none (Err e) h = tt

@@ -15,10 +15,10 @@ use Rattle.mh_paths.specs.declared.graph.Graph.{Graph}
 use Rattle.mh_paths.specs.Chains.{Chain, IsFirstShortest, NoChain, arrows_of, labels_of, labels_along}
 use Rattle.mh_paths.specs.Chains as paths
 use Rattle.mh_paths.specs.Found.{Table, entry, AreFirst}
-use Rattle.mh_flow.specs.declared.link.Link.{Link}
-use Rattle.mh_flow.specs.declared.moves.Place.{Place}
-use Rattle.mh_flow.specs.declared.moves.Spot.{Spot}
-use Rattle.mh_flow.specs.declared.moves.Move.{Move}
+use Rattle.mh_flow.specs.declared.chain.link.Link.{Link}
+use Rattle.mh_flow.specs.declared.chain.moves.Holder.{Holder}
+use Rattle.mh_flow.specs.declared.chain.moves.ActionSite.{ActionSite}
+use Rattle.mh_flow.specs.declared.chain.moves.Move.{Move}
 use Rattle.mh_flow.specs.Chains.{by_spot}
 use Rattle.mh_flow.specs.Moves.{links_at, links_by, Follows, begin, onward, IsFirstOf}
 use Rattle.mh_flow.specs.Routes.{AreSpots, same_spot, same_place, place_number, places_of, spot_number, arrow_of, start_of, starts_of, with_move, rows_from, rows_of, link_between, link_of, links_of}
@@ -26,34 +26,34 @@ use Rattle.mh_flow.proofs.ContainsLemmas.{no_member, here, behind, first_or_behi
 use Rattle.mh_flow.proofs.ChainRowLemmas.{items_of, row, graph_row, arrow_length, arrow_comes, arrow_stays, arrow_or_new, no_arrows}
 use Rattle.mh_flow.proofs.ChainNumberLemmas.{placed, spotted, has_to, has_source, sorted_numbers}
 
-abbrev spot_of : Link → Spot
+abbrev spot_of : Link → ActionSite
 spot_of l = record { key = l.key; index = l.index }
 
 -- its spot is among these
-abbrev HasNumber : List Spot → Link → Type 0
+abbrev HasNumber : List ActionSite → Link → Type 0
 HasNumber ss l = list_any (same_spot (spot_of l)) ss ≡ true
 
-abbrev number_of : List Spot → Link → ℕ
+abbrev number_of : List ActionSite → Link → ℕ
 number_of ss l = spot_number ss (spot_of l)
 
 -- Links in the order of their numbers.
 
-abbrev HaveNumbers : List Spot → List Link → Type 0
+abbrev HaveNumbers : List ActionSite → List Link → Type 0
 HaveNumbers ss [] = Unit {0}
 HaveNumbers ss (l ∷ ls) = HasNumber ss l × HaveNumbers ss ls
 
-numbers_joined : (ss : List Spot) (ls ks : List Link) → HaveNumbers ss ls → HaveNumbers ss ks → HaveNumbers ss (ls ++ ks)
+numbers_joined : (ss : List ActionSite) (ls ks : List Link) → HaveNumbers ss ls → HaveNumbers ss ks → HaveNumbers ss (ls ++ ks)
 numbers_joined ss [] ks h k = k
 numbers_joined ss (l ∷ ls) ks h k = (h.0, numbers_joined ss ls ks h.1 k)
 
-module _ (ms : List Move) (ss : List Spot) (are : AreSpots ms ss) where
+module _ (ms : List Move) (ss : List ActionSite) (are : AreSpots ms ss) where
   same_order : (ls ks : List Link) → HaveNumbers ss ls → HaveNumbers ss ks → slice_cmp nat_cmp (map (number_of ss) ls) (map (number_of ss) ks) ≡ slice_cmp by_spot ls ks
   same_order [] [] h k = refl
   same_order [] (y ∷ ks) h k = refl
   same_order (x ∷ ls) [] h k = refl
   same_order (x ∷ ls) (y ∷ ks) h k = λ i. ordering_then (sorted_numbers ms ss are (spot_of x) (spot_of y) h.0 k.0 i) (same_order ls ks h.1 k.1 i)
 
-  abbrev ps : List Place
+  abbrev ps : List Holder
   ps = places_of ms
 
   -- A move and its arrow.
@@ -61,7 +61,7 @@ module _ (ms : List Move) (ss : List Spot) (are : AreSpots ms ss) where
   links_numbered : (m : Move) → Contains ms m → HaveNumbers ss (links_by m)
   links_numbered m k = by m.spot refl
     where
-      by : (o : Option Spot) → m.spot ≡ o → HaveNumbers ss (links_at o m.to.at)
+      by : (o : Option ActionSite) → m.spot ≡ o → HaveNumbers ss (links_at o m.to.at)
       by None e = tt
       by (Some s) e = (are.each m s k e, tt)
 
@@ -71,28 +71,28 @@ module _ (ms : List Move) (ss : List Spot) (are : AreSpots ms ss) where
       at : slice_get ps (place_number ps m.to) ≡ Some m.to
       at = (placed ps m.to (has_to ms m k)).0
 
-      by : (o : Option Spot) → m.spot ≡ o → link_between (option_and_then (slice_get ss) (option_map (spot_number ss) o)) (slice_get ps (place_number ps m.to)) ≡ links_at o m.to.at
+      by : (o : Option ActionSite) → m.spot ≡ o → link_between (option_and_then (slice_get ss) (option_map (spot_number ss) o)) (slice_get ps (place_number ps m.to)) ≡ links_at o m.to.at
       by None e = refl
-      by (Some s) e = ap (λ (x : Option Spot). link_between x (slice_get ps (place_number ps m.to))) (spotted ss s (are.each m s k e)).0 ∙ ap (link_between (Some s)) at
+      by (Some s) e = ap (λ (x : Option ActionSite). link_between x (slice_get ps (place_number ps m.to))) (spotted ss s (are.each m s k e)).0 ∙ ap (link_between (Some s)) at
 
   move_labels : (m : Move) → labels_of (arrow_of ps ss m) ≡ map (number_of ss) (links_by m)
   move_labels m = by m.spot
     where
-      by : (o : Option Spot) → option_to_list (option_map (spot_number ss) o) ≡ map (number_of ss) (links_at o m.to.at)
+      by : (o : Option ActionSite) → option_to_list (option_map (spot_number ss) o) ≡ map (number_of ss) (links_at o m.to.at)
       by None = refl
       by (Some s) = refl
 
   -- What leaves a place.
 
-  rows_length : (rows : List (List Arrow)) (m : Move) (o : Option Place) → length (with_move ps ss rows m o) ≡ length rows
+  rows_length : (rows : List (List Arrow)) (m : Move) (o : Option Holder) → length (with_move ps ss rows m o) ≡ length rows
   rows_length rows m None = refl
   rows_length rows m (Some p) = arrow_length rows (place_number ps p) (arrow_of ps ss m)
 
   -- the arrow is that of one of these moves, which goes from the place with this number
   abbrev IsOfMove : List Move → ℕ → Arrow → Type 0
-  IsOfMove xs u a = (m : Move) × (p : Place) × Contains xs m × (m.from ≡ Some p) × (place_number ps p ≡ u) × (arrow_of ps ss m ≡ a)
+  IsOfMove xs u a = (m : Move) × (p : Holder) × Contains xs m × (m.from ≡ Some p) × (place_number ps p ≡ u) × (arrow_of ps ss m ≡ a)
 
-  in_move : (rows : List (List Arrow)) (m : Move) (o : Option Place) → m.from ≡ o → (u : ℕ) (a : Arrow) → Contains (row (with_move ps ss rows m o) u) a → Contains (row rows u) a ⊎ IsOfMove (m ∷ []) u a
+  in_move : (rows : List (List Arrow)) (m : Move) (o : Option Holder) → m.from ≡ o → (u : ℕ) (a : Arrow) → Contains (row (with_move ps ss rows m o) u) a → Contains (row rows u) a ⊎ IsOfMove (m ∷ []) u a
   in_move rows m None e u a k = inl k
   in_move rows m (Some p) e u a k = by (arrow_or_new rows (place_number ps p) (arrow_of ps ss m) u a k)
     where
@@ -112,7 +112,7 @@ module _ (ms : List Move) (ss : List Spot) (are : AreSpots ms ss) where
       by (inl k) = first (in_move rows m m.from refl u a k)
       by (inr k) = inr (k.0, k.1, behind m xs k.0 k.2, k.3, k.4, k.5)
 
-  move_stays : (rows : List (List Arrow)) (m : Move) (o : Option Place) (u : ℕ) (a : Arrow) → Contains (row rows u) a → Contains (row (with_move ps ss rows m o) u) a
+  move_stays : (rows : List (List Arrow)) (m : Move) (o : Option Holder) (u : ℕ) (a : Arrow) → Contains (row rows u) a → Contains (row (with_move ps ss rows m o) u) a
   move_stays rows m None u a k = k
   move_stays rows m (Some p) u a k = arrow_stays rows (place_number ps p) (arrow_of ps ss m) u a k
 
@@ -120,11 +120,11 @@ module _ (ms : List Move) (ss : List Spot) (are : AreSpots ms ss) where
   rows_stay rows [] u a k = k
   rows_stay rows (m ∷ xs) u a k = rows_stay (with_move ps ss rows m m.from) xs u a (move_stays rows m m.from u a k)
 
-  move_comes : (rows : List (List Arrow)) (m : Move) (o : Option Place) (p : Place) → o ≡ Some p → place_number ps p < length rows → Contains (row (with_move ps ss rows m o) (place_number ps p)) (arrow_of ps ss m)
+  move_comes : (rows : List (List Arrow)) (m : Move) (o : Option Holder) (p : Holder) → o ≡ Some p → place_number ps p < length rows → Contains (row (with_move ps ss rows m o) (place_number ps p)) (arrow_of ps ss m)
   move_comes rows m None p e h = absurd cc
-  move_comes rows m (Some x) p e h = subst (λ (o : Option Place). Contains (row (with_move ps ss rows m o) (place_number ps p)) (arrow_of ps ss m)) (sym e) (arrow_comes rows (place_number ps p) (arrow_of ps ss m) h)
+  move_comes rows m (Some x) p e h = subst (λ (o : Option Holder). Contains (row (with_move ps ss rows m o) (place_number ps p)) (arrow_of ps ss m)) (sym e) (arrow_comes rows (place_number ps p) (arrow_of ps ss m) h)
 
-  rows_have : (rows : List (List Arrow)) (xs : List Move) (m : Move) (p : Place) → Contains xs m → m.from ≡ Some p → place_number ps p < length rows → Contains (row (rows_from ps ss rows xs) (place_number ps p)) (arrow_of ps ss m)
+  rows_have : (rows : List (List Arrow)) (xs : List Move) (m : Move) (p : Holder) → Contains xs m → m.from ≡ Some p → place_number ps p < length rows → Contains (row (rows_from ps ss rows xs) (place_number ps p)) (arrow_of ps ss m)
   rows_have rows [] m p k e h = absurd (no_member m k)
   rows_have rows (x ∷ xs) m p k e h = by (first_or_behind x xs m k) (λ k. rows_have (with_move ps ss rows x x.from) xs m p k e (subst (λ (n : ℕ). place_number ps p < n) (sym (rows_length rows x x.from)) h))
     where
@@ -137,12 +137,12 @@ module _ (ms : List Move) (ss : List Spot) (are : AreSpots ms ss) where
 
   -- What comes from nowhere.
 
-  started : (m : Move) (o : Option Place) (a : Arrow) → Contains (start_of ps ss m o) a → (o ≡ None) × (arrow_of ps ss m ≡ a)
+  started : (m : Move) (o : Option Holder) (a : Arrow) → Contains (start_of ps ss m o) a → (o ≡ None) × (arrow_of ps ss m ≡ a)
   started m None a k = elim (first_or_behind (arrow_of ps ss m) [] a k) [ inl e ↦ (refl, e) | inr none ↦ absurd (no_member a none) ]
   started m (Some p) a k = absurd (no_member a k)
 
   starts_have : (m : Move) → Contains ms m → m.from ≡ None → Contains (starts_of ps ss ms) (arrow_of ps ss m)
-  starts_have m k e = in_joined (λ (m : Move). start_of ps ss m m.from) ms m (arrow_of ps ss m) k (subst (λ (o : Option Place). Contains (start_of ps ss m o) (arrow_of ps ss m)) (sym e) (here (arrow_of ps ss m) []))
+  starts_have m k e = in_joined (λ (m : Move). start_of ps ss m m.from) ms m (arrow_of ps ss m) k (subst (λ (o : Option Holder). Contains (start_of ps ss m o) (arrow_of ps ss m)) (sym e) (here (arrow_of ps ss m) []))
 
   -- Chains.
 
@@ -157,7 +157,7 @@ module _ (ms : List Move) (ss : List Spot) (are : AreSpots ms ss) where
         by (inl none) = absurd (no_arrows (length ps) u a none)
         by (inr k) = k
 
-    leaves : (m : Move) (p : Place) → Contains ms m → m.from ≡ Some p → Contains (arrows_of g (place_number ps p)) (arrow_of ps ss m)
+    leaves : (m : Move) (p : Holder) → Contains ms m → m.from ≡ Some p → Contains (arrows_of g (place_number ps p)) (arrow_of ps ss m)
     leaves m p k e =
         let within : place_number ps p < length (replicate (length ps) []) = subst (λ (n : ℕ). place_number ps p < n) (sym (length-replicate (length ps) [])) (placed ps p (has_source ms m p k e)).1 in
         subst (λ (xs : List Arrow). Contains xs (arrow_of ps ss m)) (sym (graph_row g (place_number ps p)))
@@ -165,7 +165,7 @@ module _ (ms : List Move) (ss : List Spot) (are : AreSpots ms ss) where
 
     -- the chain is one of moves, to the place with this number
     record IsOfMoves (c : List Arrow) (u : ℕ) : Type 0 where
-      place : Place
+      place : Holder
       stands : slice_get ps u ≡ Some place
       follows : Follows ms (links_of ps ss c) place
       labels : labels_along c ≡ map (number_of ss) (links_of ps ss c)
@@ -191,7 +191,7 @@ module _ (ms : List Move) (ss : List Spot) (are : AreSpots ms ss) where
       labels = one_label m k;
     }
 
-    longer : (c : List Arrow) (u : ℕ) (m : Move) (p : Place) → IsOfMoves c u → Contains ms m → m.from ≡ Some p → place_number ps p ≡ u → IsOfMoves (c ++ arrow_of ps ss m ∷ []) (place_number ps m.to)
+    longer : (c : List Arrow) (u : ℕ) (m : Move) (p : Holder) → IsOfMoves c u → Contains ms m → m.from ≡ Some p → place_number ps p ≡ u → IsOfMoves (c ++ arrow_of ps ss m ∷ []) (place_number ps m.to)
     longer c u m p h k e at =
         let same : Some p ≡ Some h.place = sym (placed ps p (has_source ms m p k e)).0 ∙ ap (slice_get ps) at ∙ h.stands in
         record {
@@ -211,7 +211,7 @@ module _ (ms : List Move) (ss : List Spot) (are : AreSpots ms ss) where
         subst (λ (x : Arrow). IsOfMoves (d ++ x ∷ []) x.to) m.5 (longer d w m.0 m.1 (is_of_moves d w k) m.2 m.3 m.4)
 
     -- moves one behind the other are a chain with their links
-    has_chain : (ls : List Link) (p : Place) → Follows ms ls p → (c : List Arrow) × Chain g starts c (place_number ps p) × (links_of ps ss c ≡ ls)
+    has_chain : (ls : List Link) (p : Holder) → Follows ms ls p → (c : List Arrow) × Chain g starts c (place_number ps p) × (links_of ps ss c ≡ ls)
     has_chain ls p (begin m k e) = (arrow_of ps ss m ∷ [], paths.begin (arrow_of ps ss m) (starts_have m k e), one_link m k)
     has_chain ls p (onward ks o m f k e) =
         let before = has_chain ks o f in (
@@ -220,18 +220,18 @@ module _ (ms : List Move) (ss : List Spot) (are : AreSpots ms ss) where
           more_links before.0 (arrow_of ps ss m) ∙ (λ i. before.2 i ++ one_link m k i),
         )
 
-    have_numbers : (ls : List Link) (p : Place) → Follows ms ls p → HaveNumbers ss ls
+    have_numbers : (ls : List Link) (p : Holder) → Follows ms ls p → HaveNumbers ss ls
     have_numbers ls p (begin m k e) = links_numbered m k
     have_numbers ls p (onward ks o m f k e) = numbers_joined ss ks (links_by m) (have_numbers ks o f) (links_numbered m k)
 
     -- The first chain.
 
-    module _ (p : Place) (c : List Arrow) (first : IsFirstShortest g starts (place_number ps p) c) (at : slice_get ps (place_number ps p) ≡ Some p) where
+    module _ (p : Holder) (c : List Arrow) (first : IsFirstShortest g starts (place_number ps p) c) (at : slice_get ps (place_number ps p) ≡ Some p) where
       mine : IsOfMoves c (place_number ps p)
       mine = is_of_moves c (place_number ps p) first.chain
 
       follows_mine : Follows ms (links_of ps ss c) p
-      follows_mine = subst (λ (x : Place). Follows ms (links_of ps ss c) x) (some_same (sym mine.stands ∙ at)) mine.follows
+      follows_mine = subst (λ (x : Holder). Follows ms (links_of ps ss c) x) (some_same (sym mine.stands ∙ at)) mine.follows
 
       own_length : length (labels_along c) ≡ length (links_of ps ss c)
       own_length = ap length mine.labels ∙ length-map (links_of ps ss c) (number_of ss)
@@ -260,11 +260,11 @@ module _ (ms : List Move) (ss : List Spot) (are : AreSpots ms ss) where
       pub is_first : IsFirstOf ms p (links_of ps ss c)
       is_first = record { follows = follows_mine; shortest = shortest; first = not_less }
 
-    pub none_follow : (p : Place) → NoChain g starts (place_number ps p) → (ls : List Link) → Follows ms ls p → ⊥
+    pub none_follow : (p : Holder) → NoChain g starts (place_number ps p) → (ls : List Link) → Follows ms ls p → ⊥
     none_follow p none ls f = let c = has_chain ls p f in none c.0 c.1
 
 -- where no move leads there
-pub none_lead : (ms : List Move) (p : Place) → list_any (same_place p) (places_of ms) ≡ false → (ls : List Link) → Follows ms ls p → ⊥
+pub none_lead : (ms : List Move) (p : Holder) → list_any (same_place p) (places_of ms) ≡ false → (ls : List Link) → Follows ms ls p → ⊥
 none_lead ms p h ls (begin m k e) = let there = has_to ms m k in cc
 none_lead ms p h ls (onward ks o m f k e) = let there = has_to ms m k in cc
 
@@ -275,15 +275,15 @@ same_entry [] n o h e = absurd (omega (arith, h))
 same_entry (x ∷ t) zero o h e = sym e
 same_entry (x ∷ t) (suc n) o h e = same_entry t n o (omega (arith, h)) e
 
-rows_are : (ps : List Place) (ss : List Spot) (rows : List (List Arrow)) (xs : List Move) → length (rows_from ps ss rows xs) ≡ length rows
+rows_are : (ps : List Holder) (ss : List ActionSite) (rows : List (List Arrow)) (xs : List Move) → length (rows_from ps ss rows xs) ≡ length rows
 rows_are ps ss rows [] = refl
 rows_are ps ss rows (m ∷ xs) = rows_are ps ss (with_move ps ss rows m m.from) xs ∙ one m.from
   where
-    one : (o : Option Place) → length (with_move ps ss rows m o) ≡ length rows
+    one : (o : Option Holder) → length (with_move ps ss rows m o) ≡ length rows
     one None = refl
     one (Some p) = arrow_length rows (place_number ps p) (arrow_of ps ss m)
 
-module _ (ms : List Move) (goal : Place) (ks : List Place) (ss : List Spot) (g : Graph) (from : List Arrow) (t : Table) (n : ℕ) (are : AreSpots ms ss) (places : ks ≡ places_of ms) (is : items_of g.nodes.items ≡ rows_of ks ss ms) (begins : from ≡ starts_of ks ss ms) (first : AreFirst g from t) (at : Some n ≡ position (same_place goal) ks) where
+module _ (ms : List Move) (goal : Holder) (ks : List Holder) (ss : List ActionSite) (g : Graph) (from : List Arrow) (t : Table) (n : ℕ) (are : AreSpots ms ss) (places : ks ≡ places_of ms) (is : items_of g.nodes.items ≡ rows_of ks ss ms) (begins : from ≡ starts_of ks ss ms) (first : AreFirst g from t) (at : Some n ≡ position (same_place goal) ks) where
   pub number_within : n < length ks → n < length t
   number_within h =
       let nodes : length t ≡ length g.nodes.items = first.nodes in
@@ -295,16 +295,16 @@ module _ (ms : List Move) (goal : Place) (ks : List Place) (ss : List Spot) (g :
   number = ap (λ (o : Option ℕ). unwrap_or o 0) (ap (position (same_place goal)) (sym places) ∙ sym at)
 
   graph_is : items_of g.nodes.items ≡ rows_of (places_of ms) ss ms
-  graph_is = is ∙ ap (λ (ps : List Place). rows_of ps ss ms) places
+  graph_is = is ∙ ap (λ (ps : List Holder). rows_of ps ss ms) places
 
   starts_are : from ≡ starts_of (places_of ms) ss ms
-  starts_are = begins ∙ ap (λ (ps : List Place). starts_of ps ss ms) places
+  starts_are = begins ∙ ap (λ (ps : List Holder). starts_of ps ss ms) places
 
   pub told_first : list_any (same_place goal) ks ≡ true → n < length t → (c : Vec Arrow Global) → Some c ≡ slice_index_or t n (Some c) → (ls : List Link) → ls ≡ links_of ks ss c.items → IsFirstOf ms goal ls
   told_first has h c e ls same =
-      let there : slice_get (places_of ms) (place_number (places_of ms) goal) ≡ Some goal = (placed (places_of ms) goal (subst (λ (ps : List Place). list_any (same_place goal) ps ≡ true) places has)).0 in
+      let there : slice_get (places_of ms) (place_number (places_of ms) goal) ≡ Some goal = (placed (places_of ms) goal (subst (λ (ps : List Holder). list_any (same_place goal) ps ≡ true) places has)).0 in
       let shortest = subst (λ (xs : List Arrow). IsFirstShortest g xs n c.items) starts_are (first.some n c (same_entry t n (Some c) h e)) in
-      subst (λ (xs : List Link). IsFirstOf ms goal xs) (sym (same ∙ ap (λ (ps : List Place). links_of ps ss c.items) places))
+      subst (λ (xs : List Link). IsFirstOf ms goal xs) (sym (same ∙ ap (λ (ps : List Holder). links_of ps ss c.items) places))
       (is_first ms ss are g graph_is goal c.items (subst (λ (k : ℕ). IsFirstShortest g (starts_of (places_of ms) ss ms) k c.items) (sym number) shortest) there)
 
   pub told_none : n < length t → None ≡ slice_index_or t n None → (ls : List Link) → Follows ms ls goal → ⊥

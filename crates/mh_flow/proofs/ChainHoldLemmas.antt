@@ -7,7 +7,7 @@ use Rattle.mh_base.specs.declared.obj_ref.ObjRef.{ObjRef}
 use Rattle.mh_group.specs.Table.{is_list_group}
 use Rattle.mh_model.specs.declared.act.Argument.{Argument}
 use Rattle.mh_model.specs.declared.act.Argument.TheVariants as argument
-use Rattle.mh_model.specs.declared.member.Member.{Member}
+use Rattle.mh_model.specs.declared.object.member.Member.{Member}
 use Rattle.mh_model.specs.declared.object.Fixed.{Fixed}
 use Rattle.mh_model.specs.Arguments.{receivers}
 use Rattle.mh_model.specs.Property.{value_held, as_reference}

@@ -19,7 +19,7 @@ use Rattle.mh_model.specs.Arguments.{receivers}
 use Rattle.mh_laws.specs.Flow.{fills, is_given, is_list_in, is_reference_in, reads_reference}
 use Rattle.mh_laws.specs.Least.{Fact, Derived, Reached, Held, Comes, Hands}
 use Rattle.mh_laws.specs.Least as least
-use Rattle.mh_flow.specs.declared.link.Link.{Link}
+use Rattle.mh_flow.specs.declared.chain.link.Link.{Link}
 use Rattle.mh_flow.specs.Chains.{Brings, IsDone, original, written, read, filled, passed, first_link, site_link}
 use Rattle.mh_flow.specs.ChainLaws.{WhatIsBroughtIsHeld, WhatIsHeldIsBrought}
 use Rattle.mh_flow.specs.Sites.{Site, sites_of}

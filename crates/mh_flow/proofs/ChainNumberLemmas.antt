@@ -15,9 +15,9 @@ use Rattle.mh_model.proofs.ListLemmas.{some_same}
 use Rattle.std.proofs.lemmas.Map.Lookups.{exact_bytes, exact_unsigned}
 use Rattle.mh_base.specs.declared.obj_ref.ObjRef.{ObjRef}
 use Rattle.mh_laws.specs.Least.{by_reference}
-use Rattle.mh_flow.specs.declared.moves.Place.{Place}
-use Rattle.mh_flow.specs.declared.moves.Spot.{Spot}
-use Rattle.mh_flow.specs.declared.moves.Move.{Move}
+use Rattle.mh_flow.specs.declared.chain.moves.Holder.{Holder}
+use Rattle.mh_flow.specs.declared.chain.moves.ActionSite.{ActionSite}
+use Rattle.mh_flow.specs.declared.chain.moves.Move.{Move}
 use Rattle.mh_flow.specs.Routes.{AreSpots, same_place, same_spot, spot_cmp, place_number, spot_number, with_place, with_source, places_from, places_of, with_spot, with_spot_of, spots_from}
 use Rattle.mh_model.specs.Reference.{same_key}
 use Rattle.mh_flow.proofs.ContainsLemmas.{both, halves, no_member, here, behind, first_or_behind}
@@ -37,24 +37,24 @@ key_is a b h =
 key_itself : (a : ObjRef) → same_key a a ≡ true
 key_itself a = both _ _ ((Decides-eqb a.number a.number).1 refl) ((bytes_eq-Decides a.group a.group).1 refl)
 
-place_is : (a b : Place) → same_place a b ≡ true → a ≡ b
+place_is : (a b : Holder) → same_place a b ≡ true → a ≡ b
 place_is a b h =
     let two = halves _ _ h in
     let c = config_is a.config b.config two.0 in
     let r = key_is a.at b.at two.1 in
     λ i. record { config = c i; at = r i }
 
-place_itself : (a : Place) → same_place a a ≡ true
+place_itself : (a : Holder) → same_place a a ≡ true
 place_itself a = both _ _ (config_itself a.config) (key_itself a.at)
 
-spot_is : (a b : Spot) → same_spot a b ≡ true → a ≡ b
+spot_is : (a b : ActionSite) → same_spot a b ≡ true → a ≡ b
 spot_is a b h =
     let two = halves _ _ h in
     let k = key_is a.key b.key two.0 in
     let n : a.index ≡ b.index = (Decides-eqb a.index b.index).0 two.1 in
     λ i. record { key = k i; index = n i }
 
-spot_itself : (a : Spot) → same_spot a a ≡ true
+spot_itself : (a : ActionSite) → same_spot a a ≡ true
 spot_itself a = both _ _ (key_itself a.key) ((Decides-eqb a.index a.index).1 refl)
 
 -- Where something stands that passes a test.
@@ -83,10 +83,10 @@ standing {X} same is xs x h =
       subst (λ (n : ℕ). n < length xs) (sym e) found.3,
     )
 
-pub placed : (ps : List Place) (p : Place) → list_any (same_place p) ps ≡ true → (slice_get ps (place_number ps p) ≡ Some p) × (place_number ps p < length ps)
+pub placed : (ps : List Holder) (p : Holder) → list_any (same_place p) ps ≡ true → (slice_get ps (place_number ps p) ≡ Some p) × (place_number ps p < length ps)
 placed ps p h = standing same_place place_is ps p h
 
-pub spotted : (ss : List Spot) (s : Spot) → list_any (same_spot s) ss ≡ true → (slice_get ss (spot_number ss s) ≡ Some s) × (spot_number ss s < length ss)
+pub spotted : (ss : List ActionSite) (s : ActionSite) → list_any (same_spot s) ss ≡ true → (slice_get ss (spot_number ss s) ≡ Some s) × (spot_number ss s < length ss)
 spotted ss s h = standing same_spot spot_is ss s h
 
 -- Membership by tests.
@@ -118,28 +118,28 @@ put_stays same itself is xs x y false h = any_member same itself (xs ++ y ∷ []
 
 -- Places of moves.
 
-abbrev HasPlace : List Place → Place → Type 0
+abbrev HasPlace : List Holder → Holder → Type 0
 HasPlace ps p = list_any (same_place p) ps ≡ true
 
-place_there : (ps : List Place) (p : Place) → HasPlace (with_place ps p) p
+place_there : (ps : List Holder) (p : Holder) → HasPlace (with_place ps p) p
 place_there ps p = put_there same_place place_itself ps p (list_any (same_place p) ps) refl
 
-place_stays : (ps : List Place) (p q : Place) → HasPlace ps p → HasPlace (with_place ps q) p
+place_stays : (ps : List Holder) (p q : Holder) → HasPlace ps p → HasPlace (with_place ps q) p
 place_stays ps p q h = put_stays same_place place_itself place_is ps p q (list_any (same_place q) ps) h
 
-source_there : (ps : List Place) (o : Option Place) (p : Place) → o ≡ Some p → HasPlace (with_source ps o) p
+source_there : (ps : List Holder) (o : Option Holder) (p : Holder) → o ≡ Some p → HasPlace (with_source ps o) p
 source_there ps None p e = cc
-source_there ps (Some q) p e = subst (λ (x : Place). HasPlace (with_place ps q) x) (some_same e) (place_there ps q)
+source_there ps (Some q) p e = subst (λ (x : Holder). HasPlace (with_place ps q) x) (some_same e) (place_there ps q)
 
-source_stays : (ps : List Place) (o : Option Place) (p : Place) → HasPlace ps p → HasPlace (with_source ps o) p
+source_stays : (ps : List Holder) (o : Option Holder) (p : Holder) → HasPlace ps p → HasPlace (with_source ps o) p
 source_stays ps None p h = h
 source_stays ps (Some q) p h = place_stays ps p q h
 
-places_stay : (ps : List Place) (ms : List Move) (p : Place) → HasPlace ps p → HasPlace (places_from ps ms) p
+places_stay : (ps : List Holder) (ms : List Move) (p : Holder) → HasPlace ps p → HasPlace (places_from ps ms) p
 places_stay ps [] p h = h
 places_stay ps (m ∷ ms) p h = places_stay (with_place (with_source ps m.from) m.to) ms p (place_stays (with_source ps m.from) p m.to (source_stays ps m.from p h))
 
-places_to : (ps : List Place) (ms : List Move) (m : Move) → Contains ms m → HasPlace (places_from ps ms) m.to
+places_to : (ps : List Holder) (ms : List Move) (m : Move) → Contains ms m → HasPlace (places_from ps ms) m.to
 places_to ps [] m k = absurd (no_member m k)
 places_to ps (x ∷ ms) m k = by (first_or_behind x ms m k) (places_to (with_place (with_source ps x.from) x.to) ms m)
   where
@@ -147,7 +147,7 @@ places_to ps (x ∷ ms) m k = by (first_or_behind x ms m k) (places_to (with_pla
     by (inl e) ih = subst (λ (y : Move). HasPlace (places_from ps (x ∷ ms)) y.to) e (places_stay (with_place (with_source ps x.from) x.to) ms x.to (place_there (with_source ps x.from) x.to))
     by (inr k) ih = ih k
 
-places_source : (ps : List Place) (ms : List Move) (m : Move) (p : Place) → Contains ms m → m.from ≡ Some p → HasPlace (places_from ps ms) p
+places_source : (ps : List Holder) (ms : List Move) (m : Move) (p : Holder) → Contains ms m → m.from ≡ Some p → HasPlace (places_from ps ms) p
 places_source ps [] m p k e = absurd (no_member m k)
 places_source ps (x ∷ ms) m p k e = by (first_or_behind x ms m k) (λ k. places_source (with_place (with_source ps x.from) x.to) ms m p k e)
   where
@@ -160,27 +160,27 @@ places_source ps (x ∷ ms) m p k e = by (first_or_behind x ms m k) (λ k. place
 pub has_to : (ms : List Move) (m : Move) → Contains ms m → HasPlace (places_of ms) m.to
 has_to ms m k = places_to [] ms m k
 
-pub has_source : (ms : List Move) (m : Move) (p : Place) → Contains ms m → m.from ≡ Some p → HasPlace (places_of ms) p
+pub has_source : (ms : List Move) (m : Move) (p : Holder) → Contains ms m → m.from ≡ Some p → HasPlace (places_of ms) p
 has_source ms m p k e = places_source [] ms m p k e
 
 -- Spots of moves.
 
-abbrev HasSpot : List Spot → Spot → Type 0
+abbrev HasSpot : List ActionSite → ActionSite → Type 0
 HasSpot ss s = list_any (same_spot s) ss ≡ true
 
-spot_of_there : (ss : List Spot) (o : Option Spot) (s : Spot) → o ≡ Some s → HasSpot (with_spot_of ss o) s
+spot_of_there : (ss : List ActionSite) (o : Option ActionSite) (s : ActionSite) → o ≡ Some s → HasSpot (with_spot_of ss o) s
 spot_of_there ss None s e = cc
-spot_of_there ss (Some t) s e = subst (λ (x : Spot). HasSpot (with_spot ss t) x) (some_same e) (put_there same_spot spot_itself ss t (list_any (same_spot t) ss) refl)
+spot_of_there ss (Some t) s e = subst (λ (x : ActionSite). HasSpot (with_spot ss t) x) (some_same e) (put_there same_spot spot_itself ss t (list_any (same_spot t) ss) refl)
 
-spot_of_stays : (ss : List Spot) (o : Option Spot) (s : Spot) → HasSpot ss s → HasSpot (with_spot_of ss o) s
+spot_of_stays : (ss : List ActionSite) (o : Option ActionSite) (s : ActionSite) → HasSpot ss s → HasSpot (with_spot_of ss o) s
 spot_of_stays ss None s h = h
 spot_of_stays ss (Some t) s h = put_stays same_spot spot_itself spot_is ss s t (list_any (same_spot t) ss) h
 
-spots_stay : (ss : List Spot) (ms : List Move) (s : Spot) → HasSpot ss s → HasSpot (spots_from ss ms) s
+spots_stay : (ss : List ActionSite) (ms : List Move) (s : ActionSite) → HasSpot ss s → HasSpot (spots_from ss ms) s
 spots_stay ss [] s h = h
 spots_stay ss (m ∷ ms) s h = spots_stay (with_spot_of ss m.spot) ms s (spot_of_stays ss m.spot s h)
 
-has_spot : (ss : List Spot) (ms : List Move) (m : Move) (s : Spot) → Contains ms m → m.spot ≡ Some s → HasSpot (spots_from ss ms) s
+has_spot : (ss : List ActionSite) (ms : List Move) (m : Move) (s : ActionSite) → Contains ms m → m.spot ≡ Some s → HasSpot (spots_from ss ms) s
 has_spot ss [] m s k e = absurd (no_member m k)
 has_spot ss (x ∷ ms) m s k e = by (first_or_behind x ms m k) (λ k. has_spot (with_spot_of ss x.spot) ms m s k e)
   where
@@ -191,14 +191,14 @@ has_spot ss (x ∷ ms) m s k e = by (first_or_behind x ms m k) (λ k. has_spot (
 -- Order.
 
 pub spot_total : IsTotalOrder spot_cmp
-spot_total = then_total (on_total (λ (s : Spot). s.key) (then_total (on_total (λ (r : ObjRef). r.group) nat_list_cmp_total) (on_total (λ (r : ObjRef). r.number) nat_cmp_total))) (on_total (λ (s : Spot). s.index) nat_cmp_total)
+spot_total = then_total (on_total (λ (s : ActionSite). s.key) (then_total (on_total (λ (r : ObjRef). r.group) nat_list_cmp_total) (on_total (λ (r : ObjRef). r.number) nat_cmp_total))) (on_total (λ (s : ActionSite). s.index) nat_cmp_total)
 
 both_equal : (a b : Ordering) → ordering_then a b ≡ Equal → (a ≡ Equal) × (b ≡ Equal)
 both_equal Less b e = cc
 both_equal Equal b e = (refl, e)
 both_equal Greater b e = cc
 
-tied_is : (a b : Spot) → spot_cmp a b ≡ Equal → a ≡ b
+tied_is : (a b : ActionSite) → spot_cmp a b ≡ Equal → a ≡ b
 tied_is a b e =
     let two = both_equal (by_reference a.key b.key) (nat_cmp a.index b.index) e in
     let ref = both_equal (slice_cmp nat_cmp a.key.group b.key.group) (nat_cmp a.key.number b.key.number) two.0 in
@@ -208,7 +208,7 @@ tied_is a b e =
     λ j. record { key = record { number = n j; group = g j }; index = i j }
 
 -- the spots in order, and all of those of the moves
-pub are_spots : (ms : List Move) (ss : List Spot) → IsSorted spot_cmp ss → ((s : Spot) → list_any (same_spot s) ss ≡ list_any (same_spot s) (spots_from [] ms)) → AreSpots ms ss
+pub are_spots : (ms : List Move) (ss : List ActionSite) → IsSorted spot_cmp ss → ((s : ActionSite) → list_any (same_spot s) ss ≡ list_any (same_spot s) (spots_from [] ms)) → AreSpots ms ss
 are_spots ms ss sorted same = record { sorted = sorted; each = λ m s k e. same s ∙ has_spot [] ms m s k e }
 
 -- numbers of spots are in the order of spots
@@ -217,12 +217,12 @@ got [] n x d e = cc
 got (y ∷ xs) zero x d e = some_same e
 got (y ∷ xs) (suc n) x d e = got xs n x d e
 
-not_below : (ss : List Spot) → IsSorted spot_cmp ss → (i j : ℕ) (a b : Spot) → i ≤ j → j < length ss → slice_get ss i ≡ Some a → slice_get ss j ≡ Some b → is_lt (spot_cmp b a) ≡ false
+not_below : (ss : List ActionSite) → IsSorted spot_cmp ss → (i j : ℕ) (a b : ActionSite) → i ≤ j → j < length ss → slice_get ss i ≡ Some a → slice_get ss j ≡ Some b → is_lt (spot_cmp b a) ≡ false
 not_below ss up i j a b less within at_i at_j =
-    let far = sorted_far (λ x y. is_lt (spot_cmp x y)) (ranks_by spot_total (λ (s : Spot). s)) ss up i j a less within in
-    subst (λ (z : Spot). is_lt (spot_cmp z a) ≡ false) (got ss j b a at_j) (subst (λ (z : Spot). is_lt (spot_cmp (get_or ss j a) z) ≡ false) (got ss i a a at_i) far)
+    let far = sorted_far (λ x y. is_lt (spot_cmp x y)) (ranks_by spot_total (λ (s : ActionSite). s)) ss up i j a less within in
+    subst (λ (z : ActionSite). is_lt (spot_cmp z a) ≡ false) (got ss j b a at_j) (subst (λ (z : ActionSite). is_lt (spot_cmp (get_or ss j a) z) ≡ false) (got ss i a a at_i) far)
 
-pub sorted_numbers : (ms : List Move) (ss : List Spot) → AreSpots ms ss → (a b : Spot) → HasSpot ss a → HasSpot ss b → nat_cmp (spot_number ss a) (spot_number ss b) ≡ spot_cmp a b
+pub sorted_numbers : (ms : List Move) (ss : List ActionSite) → AreSpots ms ss → (a b : ActionSite) → HasSpot ss a → HasSpot ss b → nat_cmp (spot_number ss a) (spot_number ss b) ≡ spot_cmp a b
 sorted_numbers ms ss are a b ha hb = by (nat_cmp i j) refl (ranked i j (nat_cmp i j) refl)
   where
     i : ℕ
@@ -237,7 +237,7 @@ sorted_numbers ms ss are a b ha hb = by (nat_cmp i j) refl (ranked i j (nat_cmp 
     at_b : (slice_get ss j ≡ Some b) × (j < length ss)
     at_b = spotted ss b hb
 
-    before : (x y : Spot) → spot_number ss x < spot_number ss y → is_lt (spot_cmp y x) ≡ false → (r : Ordering) → spot_cmp x y ≡ r → r ≡ Less
+    before : (x y : ActionSite) → spot_number ss x < spot_number ss y → is_lt (spot_cmp y x) ≡ false → (r : Ordering) → spot_cmp x y ≡ r → r ≡ Less
     before x y less never Less e = refl
     before x y less never Equal e = let same = ap (spot_number ss) (tied_is x y e) in absurd (omega (arith, same, less))
     before x y less never Greater e = let k : is_lt (spot_cmp y x) ≡ true = ap is_lt (spot_total.antisymm y x ∙ ap ordering_reverse e) in cc

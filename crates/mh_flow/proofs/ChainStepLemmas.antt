@@ -24,17 +24,17 @@ use Rattle.mh_laws.specs.Describing as saying
 use Rattle.mh_laws.specs.Flow.{Flow, fills, is_given, is_list_in, is_reference_in, reads_reference}
 use Rattle.mh_laws.specs.Least.{Fact, Derived, Reached, Held, Comes, Hands}
 use Rattle.mh_laws.specs.Least as least
-use Rattle.mh_flow.specs.declared.link.Link.{Link}
-use Rattle.mh_flow.specs.declared.moves.Place.{Place}
-use Rattle.mh_flow.specs.declared.moves.Spot.{Spot}
-use Rattle.mh_flow.specs.declared.moves.Move.{Move}
+use Rattle.mh_flow.specs.declared.chain.link.Link.{Link}
+use Rattle.mh_flow.specs.declared.chain.moves.Holder.{Holder}
+use Rattle.mh_flow.specs.declared.chain.moves.ActionSite.{ActionSite}
+use Rattle.mh_flow.specs.declared.chain.moves.Move.{Move}
 use Rattle.mh_flow.specs.Chains.{Brings, IsDone, original, written, read, filled, passed, link}
 use Rattle.mh_flow.specs.Chart.{firsts, argument_of, handed_argument, read_by}
 use Rattle.mh_group.specs.declared.action_name.ActionName.{ActionName}
 use Rattle.mh_group.specs.declared.action_name.ActionName.TheVariants as action
 use Rattle.mh_flow.specs.Moves.{links_by, Follows, begin, onward}
 use Rattle.mh_flow.specs.Sites.{Site, sites_of}
-use Rattle.mh_flow.specs.Steps.{place, ground, first_spot, site_spot, comes, goes, stays, first_moves, handed_moves, given_moves, received_moves, filled_moves, kept_moves, passed_moves, led_moves, done_moves, targets, site_moves, moves_in, moves_of, is_one_of, IsExact}
+use Rattle.mh_flow.specs.Steps.{place, searched_in, first_spot, site_spot, comes, goes, stays, first_moves, handed_moves, given_moves, received_moves, filled_moves, kept_moves, passed_moves, led_moves, done_moves, targets, site_moves, moves_in, moves_of, is_one_of, IsExact}
 use Rattle.mh_flow.proofs.ContainsLemmas.{both, halves, no_member, here, behind, first_or_behind, in_joined, joined_from}
 use Rattle.mh_flow.proofs.ChainFirstLemmas.{ref_itself}
 use Rattle.mh_flow.proofs.ChainLemmas.{brought_is_held}
@@ -167,18 +167,18 @@ module _ (v : Service) (w : Flow) (e : IsExact v w) where
 -- it brings one of these from nowhere, or takes whatever is brought along
 record Serves (v : Service) (qs : List ObjRef) (m : Move) : Type 0 where
   begins : m.from ≡ None → (q : ObjRef) × Contains qs q × Brings v q (links_by m) m.to.config m.to.at
-  goes_on : (q : ObjRef) (ls : List Link) (p : Place) → m.from ≡ Some p → Brings v q ls p.config p.at → Brings v q (ls ++ links_by m) m.to.config m.to.at
+  goes_on : (q : ObjRef) (ls : List Link) (p : Holder) → m.from ≡ Some p → Brings v q ls p.config p.at → Brings v q (ls ++ links_by m) m.to.config m.to.at
 
-serves_comes : (v : Service) (qs : List ObjRef) (q : ObjRef) (s : Spot) (p : Place) → Contains qs q → Brings v q (link s.key s.index p.at ∷ []) p.config p.at → Serves v qs (comes s p)
+serves_comes : (v : Service) (qs : List ObjRef) (q : ObjRef) (s : ActionSite) (p : Holder) → Contains qs q → Brings v q (link s.key s.index p.at ∷ []) p.config p.at → Serves v qs (comes s p)
 serves_comes v qs q s p m h = record { begins = λ e. (q, m, h); goes_on = λ r ls o e k. absurd cc }
 
-serves_goes : (v : Service) (qs : List ObjRef) (o : Place) (s : Spot) (p : Place) → ((q : ObjRef) (ls : List Link) → Brings v q ls o.config o.at → Brings v q (ls ++ link s.key s.index p.at ∷ []) p.config p.at) → Serves v qs (goes o s p)
-serves_goes v qs o s p h = record { begins = λ e. absurd cc; goes_on = λ q ls x e k. h q ls (subst (λ (z : Place). Brings v q ls z.config z.at) (sym (some_same e)) k) }
+serves_goes : (v : Service) (qs : List ObjRef) (o : Holder) (s : ActionSite) (p : Holder) → ((q : ObjRef) (ls : List Link) → Brings v q ls o.config o.at → Brings v q (ls ++ link s.key s.index p.at ∷ []) p.config p.at) → Serves v qs (goes o s p)
+serves_goes v qs o s p h = record { begins = λ e. absurd cc; goes_on = λ q ls x e k. h q ls (subst (λ (z : Holder). Brings v q ls z.config z.at) (sym (some_same e)) k) }
 
-serves_stays : (v : Service) (qs : List ObjRef) (o p : Place) → ((q : ObjRef) (ls : List Link) → Brings v q ls o.config o.at → Brings v q ls p.config p.at) → Serves v qs (stays o p)
+serves_stays : (v : Service) (qs : List ObjRef) (o p : Holder) → ((q : ObjRef) (ls : List Link) → Brings v q ls o.config o.at → Brings v q ls p.config p.at) → Serves v qs (stays o p)
 serves_stays v qs o p h = record {
   begins = λ e. absurd cc;
-  goes_on = λ q ls x e k. subst (λ (ks : List Link). Brings v q ks p.config p.at) (sym (append-nil ls)) (h q ls (subst (λ (z : Place). Brings v q ls z.config z.at) (sym (some_same e)) k));
+  goes_on = λ q ls x e k. subst (λ (ks : List Link). Brings v q ks p.config p.at) (sym (append-nil ls)) (h q ls (subst (λ (z : Holder). Brings v q ls z.config z.at) (sym (some_same e)) k));
 }
 
 -- Each move serves.
@@ -187,13 +187,13 @@ module _ (v : Service) (w : Flow) (e : IsExact v w) (qs : List ObjRef) where
   abbrev AreServing : List Move → Type 0
   AreServing ms = Are (Serves v qs) ms
 
-  firsts_serve : (c : Config) → Contains w.configs c → (p : Fixed) → Contains (present v c) p → AreServing (first_moves (ground v w qs c) p)
+  firsts_serve : (c : Config) → Contains w.configs c → (p : Fixed) → Contains (present v c) p → AreServing (first_moves (searched_in v w qs c) p)
   firsts_serve c reached p among_parts = are_if (Serves v qs) (list_any (is_one_of qs) (firsts p)) (comes (first_spot p) (place c p.key) ∷ []) (λ h.
       let found = member_any (is_one_of qs) (firsts p) h in
       are_one (Serves v qs) (comes (first_spot p) (place c p.key)) (serves_comes v qs found.0 (first_spot p) (place c p.key) (among found.0 qs found.1) (original c p (e.only_reached c reached) among_parts found.2)))
 
   module _ (c : Config) (x : Site) (r : ObjRef) (done : IsDone v c x r) where
-    argument_serves : (n : ℕ) (y : Argument) → Contains (says x.act.name) (saying.Hands n) → slice_get x.act.arguments n ≡ Some y → reads_reference y x.act.name ≡ true → is_given (present v c) x.act.name r ≡ true → AreServing (handed_moves (ground v w qs c) x r y)
+    argument_serves : (n : ℕ) (y : Argument) → Contains (says x.act.name) (saying.Hands n) → slice_get x.act.arguments n ≡ Some y → reads_reference y x.act.name ≡ true → is_given (present v c) x.act.name r ≡ true → AreServing (handed_moves (searched_in v w qs c) x r y)
     argument_serves n (argument.Direct (value.Object y)) hands stands reads takes = are_if (Serves v qs) (is_one_of qs y) (comes (site_spot x) (place c r) ∷ []) (λ h.
         are_one (Serves v qs) (comes (site_spot x) (place c r)) (serves_comes v qs y (site_spot x) (place c r) (among y qs h) (written c x r n done hands stands takes)))
     argument_serves n (argument.Through y k) hands stands reads takes = are_if (Serves v qs) (is_reference_in (present v c) y && list_any (is_one_of qs) (w.sets c y)) (goes (place c y) (site_spot x) (place c r) ∷ []) (λ h.
@@ -201,44 +201,44 @@ module _ (v : Service) (w : Flow) (e : IsExact v w) (qs : List ObjRef) where
     argument_serves n (argument.Receiver y) hands stands reads takes = are_none (Serves v qs)
     argument_serves n (argument.Direct y) hands stands reads takes = are_none (Serves v qs)
 
-    given_serves : AreServing (given_moves (ground v w qs c) x r)
-    given_serves = are_if (Serves v qs) (is_given (present v c) x.act.name r) (flat_map (handed_moves (ground v w qs c) x r) (option_to_list (handed_argument x.act))) (λ takes.
-        are_joined (Serves v qs) (handed_moves (ground v w qs c) x r) (option_to_list (handed_argument x.act)) (λ y k.
+    given_serves : AreServing (given_moves (searched_in v w qs c) x r)
+    given_serves = are_if (Serves v qs) (is_given (present v c) x.act.name r) (flat_map (handed_moves (searched_in v w qs c) x r) (option_to_list (handed_argument x.act))) (λ takes.
+        are_joined (Serves v qs) (handed_moves (searched_in v w qs c) x r) (option_to_list (handed_argument x.act)) (λ y k.
         let said = handed_says x.act y (told (handed_argument x.act) y k) in
         argument_serves said.0 y said.1 said.2 said.3 takes))
 
-    filled_serves : AreServing (filled_moves (ground v w qs c) x r)
-    filled_serves = are_if (Serves v qs) (fills x.act.name && is_list_in (present v c) r && list_any (is_one_of qs) (w.sets c r)) (flat_map (received_moves (ground v w qs c) x r) (receivers x.act.arguments)) (λ h.
+    filled_serves : AreServing (filled_moves (searched_in v w qs c) x r)
+    filled_serves = are_if (Serves v qs) (fills x.act.name && is_list_in (present v c) r && list_any (is_one_of qs) (w.sets c r)) (flat_map (received_moves (searched_in v w qs c) x r) (receivers x.act.arguments)) (λ h.
         let two = halves _ _ h in
         let fill_and_list = halves _ _ two.0 in
-        are_joined (Serves v qs) (received_moves (ground v w qs c) x r) (receivers x.act.arguments) (λ y receives.
+        are_joined (Serves v qs) (received_moves (searched_in v w qs c) x r) (receivers x.act.arguments) (λ y receives.
         are_if (Serves v qs) (is_reference_in (present v c) y) (goes (place c r) (site_spot x) (place c y) ∷ []) (λ is.
         are_one (Serves v qs) (goes (place c r) (site_spot x) (place c y)) (serves_goes v qs (place c r) (site_spot x) (place c y) (λ q ls b. filled ls c x r y done fill_and_list.0 fill_and_list.1 receives is b)))))
 
-    passed_serves : (d : Config) (scene : Option (List ℕ)) → leads_to v c x.act.name r ≡ Some d → d.scene ≡ scene → AreServing (passed_moves (ground v w qs c) d scene)
+    passed_serves : (d : Config) (scene : Option (List ℕ)) → leads_to v c x.act.name r ≡ Some d → d.scene ≡ scene → AreServing (passed_moves (searched_in v w qs c) d scene)
     passed_serves d None leads is = are_none (Serves v qs)
-    passed_serves d (Some g) leads is = are_joined (Serves v qs) (kept_moves (ground v w qs c) d) (group_parts v c.app) (λ p part.
+    passed_serves d (Some g) leads is = are_joined (Serves v qs) (kept_moves (searched_in v w qs c) d) (group_parts v c.app) (λ p part.
         are_if (Serves v qs) (list_any (is_one_of qs) (w.sets c p.key)) (stays (place c p.key) (place d p.key) ∷ []) (λ h.
         are_one (Serves v qs) (stays (place c p.key) (place d p.key)) (serves_stays v qs (place c p.key) (place d p.key) (λ q ls b. passed ls c x r d g p done leads is part b))))
 
-    led_serves : (d : Option Config) → leads_to v c x.act.name r ≡ d → AreServing (led_moves (ground v w qs c) d)
+    led_serves : (d : Option Config) → leads_to v c x.act.name r ≡ d → AreServing (led_moves (searched_in v w qs c) d)
     led_serves None leads = are_none (Serves v qs)
     led_serves (Some d) leads = passed_serves d d.scene leads refl
 
-    done_serves : AreServing (done_moves (ground v w qs c) x r)
-    done_serves = are_both (Serves v qs) (given_moves (ground v w qs c) x r ++ filled_moves (ground v w qs c) x r) (led_moves (ground v w qs c) (leads_to v c x.act.name r))
-        (are_both (Serves v qs) (given_moves (ground v w qs c) x r) (filled_moves (ground v w qs c) x r) given_serves filled_serves)
+    done_serves : AreServing (done_moves (searched_in v w qs c) x r)
+    done_serves = are_both (Serves v qs) (given_moves (searched_in v w qs c) x r ++ filled_moves (searched_in v w qs c) x r) (led_moves (searched_in v w qs c) (leads_to v c x.act.name r))
+        (are_both (Serves v qs) (given_moves (searched_in v w qs c) x r) (filled_moves (searched_in v w qs c) x r) given_serves filled_serves)
         (led_serves (leads_to v c x.act.name r) refl)
 
   moves_serve : AreServing (moves_of v w qs)
-  moves_serve = are_joined (Serves v qs) (λ c. moves_in (ground v w qs c)) w.configs (λ c reached.
-      are_both (Serves v qs) (flat_map (first_moves (ground v w qs c)) (present v c)) (flat_map (site_moves (ground v w qs c)) (sites_of (present v c)))
-      (are_joined (Serves v qs) (first_moves (ground v w qs c)) (present v c) (λ p k. firsts_serve c reached p k))
-      (are_joined (Serves v qs) (site_moves (ground v w qs c)) (sites_of (present v c)) (λ x site.
-      are_joined (Serves v qs) (done_moves (ground v w qs c) x) (targets (present v c) (w.sets c) x.act.target) (λ r comes_here.
+  moves_serve = are_joined (Serves v qs) (λ c. moves_in (searched_in v w qs c)) w.configs (λ c reached.
+      are_both (Serves v qs) (flat_map (first_moves (searched_in v w qs c)) (present v c)) (flat_map (site_moves (searched_in v w qs c)) (sites_of (present v c)))
+      (are_joined (Serves v qs) (first_moves (searched_in v w qs c)) (present v c) (λ p k. firsts_serve c reached p k))
+      (are_joined (Serves v qs) (site_moves (searched_in v w qs c)) (sites_of (present v c)) (λ x site.
+      are_joined (Serves v qs) (done_moves (searched_in v w qs c) x) (targets (present v c) (w.sets c) x.act.target) (λ r comes_here.
       done_serves c x r (record { reached = e.only_reached c reached; site = site; comes = comes_to v w e c x.act.target r comes_here })))))
 
-  pub follows_brings : (ls : List Link) (p : Place) → Follows (moves_of v w qs) ls p → (q : ObjRef) × Contains qs q × Brings v q ls p.config p.at
+  pub follows_brings : (ls : List Link) (p : Holder) → Follows (moves_of v w qs) ls p → (q : ObjRef) × Contains qs q × Brings v q ls p.config p.at
   follows_brings ls p (begin m k from) = (moves_serve m k).begins from
   follows_brings ls p (onward ks o m f k from) =
       let found = follows_brings ks o f in
@@ -246,43 +246,43 @@ module _ (v : Service) (w : Flow) (e : IsExact v w) (qs : List ObjRef) where
 
   -- What brings one of them is among the moves.
 
-  in_config : (c : Config) (m : Move) → Derived v (Reached c) → Contains (moves_in (ground v w qs c)) m → Contains (moves_of v w qs) m
-  in_config c m at k = in_joined (λ c. moves_in (ground v w qs c)) w.configs c m (e.reached c at) k
+  in_config : (c : Config) (m : Move) → Derived v (Reached c) → Contains (moves_in (searched_in v w qs c)) m → Contains (moves_of v w qs) m
+  in_config c m at k = in_joined (λ c. moves_in (searched_in v w qs c)) w.configs c m (e.reached c at) k
 
   first_is_in : (c : Config) (p : Fixed) → Derived v (Reached c) → Contains (present v c) p → list_any (is_one_of qs) (firsts p) ≡ true → Contains (moves_of v w qs) (comes (first_spot p) (place c p.key))
   first_is_in c p at k h = in_config c (comes (first_spot p) (place c p.key)) at
-      (Contains-append_left (flat_map (first_moves (ground v w qs c)) (present v c)) (flat_map (site_moves (ground v w qs c)) (sites_of (present v c))) (comes (first_spot p) (place c p.key))
-      (in_joined (first_moves (ground v w qs c)) (present v c) p (comes (first_spot p) (place c p.key)) k
+      (Contains-append_left (flat_map (first_moves (searched_in v w qs c)) (present v c)) (flat_map (site_moves (searched_in v w qs c)) (sites_of (present v c))) (comes (first_spot p) (place c p.key))
+      (in_joined (first_moves (searched_in v w qs c)) (present v c) p (comes (first_spot p) (place c p.key)) k
       (where_true (list_any (is_one_of qs) (firsts p)) (comes (first_spot p) (place c p.key) ∷ []) (comes (first_spot p) (place c p.key)) h (here (comes (first_spot p) (place c p.key)) []))))
 
   module _ (c : Config) (x : Site) (r : ObjRef) (done : IsDone v c x r) where
-    done_is_in : (m : Move) → Contains (done_moves (ground v w qs c) x r) m → Contains (moves_of v w qs) m
+    done_is_in : (m : Move) → Contains (done_moves (searched_in v w qs c) x r) m → Contains (moves_of v w qs) m
     done_is_in m k = in_config c m done.reached
-        (Contains-append_right (flat_map (first_moves (ground v w qs c)) (present v c)) (flat_map (site_moves (ground v w qs c)) (sites_of (present v c))) m
-        (in_joined (site_moves (ground v w qs c)) (sites_of (present v c)) x m done.site
-        (in_joined (done_moves (ground v w qs c) x) (targets (present v c) (w.sets c) x.act.target) r m (is_target v w e (Comes c x.act.target r) done.comes) k)))
+        (Contains-append_right (flat_map (first_moves (searched_in v w qs c)) (present v c)) (flat_map (site_moves (searched_in v w qs c)) (sites_of (present v c))) m
+        (in_joined (site_moves (searched_in v w qs c)) (sites_of (present v c)) x m done.site
+        (in_joined (done_moves (searched_in v w qs c) x) (targets (present v c) (w.sets c) x.act.target) r m (is_target v w e (Comes c x.act.target r) done.comes) k)))
 
-    given_is_in : (m : Move) (n : ℕ) (y : Argument) → Contains (says x.act.name) (saying.Hands n) → slice_get x.act.arguments n ≡ Some y → reads_reference y x.act.name ≡ true → is_given (present v c) x.act.name r ≡ true → Contains (handed_moves (ground v w qs c) x r y) m → Contains (moves_of v w qs) m
+    given_is_in : (m : Move) (n : ℕ) (y : Argument) → Contains (says x.act.name) (saying.Hands n) → slice_get x.act.arguments n ≡ Some y → reads_reference y x.act.name ≡ true → is_given (present v c) x.act.name r ≡ true → Contains (handed_moves (searched_in v w qs c) x r y) m → Contains (moves_of v w qs) m
     given_is_in m n y hands stands reads takes k = done_is_in m
-        (Contains-append_left (given_moves (ground v w qs c) x r ++ filled_moves (ground v w qs c) x r) (led_moves (ground v w qs c) (leads_to v c x.act.name r)) m
-        (Contains-append_left (given_moves (ground v w qs c) x r) (filled_moves (ground v w qs c) x r) m
-        (where_true (is_given (present v c) x.act.name r) (flat_map (handed_moves (ground v w qs c) x r) (option_to_list (handed_argument x.act))) m takes
-        (in_joined (handed_moves (ground v w qs c) x r) (option_to_list (handed_argument x.act)) y m (tells (handed_argument x.act) y (says_handed x.act n y hands stands reads)) k))))
+        (Contains-append_left (given_moves (searched_in v w qs c) x r ++ filled_moves (searched_in v w qs c) x r) (led_moves (searched_in v w qs c) (leads_to v c x.act.name r)) m
+        (Contains-append_left (given_moves (searched_in v w qs c) x r) (filled_moves (searched_in v w qs c) x r) m
+        (where_true (is_given (present v c) x.act.name r) (flat_map (handed_moves (searched_in v w qs c) x r) (option_to_list (handed_argument x.act))) m takes
+        (in_joined (handed_moves (searched_in v w qs c) x r) (option_to_list (handed_argument x.act)) y m (tells (handed_argument x.act) y (says_handed x.act n y hands stands reads)) k))))
 
     filled_is_in : (y : ObjRef) → fills x.act.name ≡ true → is_list_in (present v c) r ≡ true → list_any (is_one_of qs) (w.sets c r) ≡ true → Contains (receivers x.act.arguments) y → is_reference_in (present v c) y ≡ true → Contains (moves_of v w qs) (goes (place c r) (site_spot x) (place c y))
     filled_is_in y fill list holds receives is = done_is_in (goes (place c r) (site_spot x) (place c y))
-        (Contains-append_left (given_moves (ground v w qs c) x r ++ filled_moves (ground v w qs c) x r) (led_moves (ground v w qs c) (leads_to v c x.act.name r)) (goes (place c r) (site_spot x) (place c y))
-        (Contains-append_right (given_moves (ground v w qs c) x r) (filled_moves (ground v w qs c) x r) (goes (place c r) (site_spot x) (place c y))
-        (where_true (fills x.act.name && is_list_in (present v c) r && list_any (is_one_of qs) (w.sets c r)) (flat_map (received_moves (ground v w qs c) x r) (receivers x.act.arguments)) (goes (place c r) (site_spot x) (place c y)) (both _ _ (both _ _ fill list) holds)
-        (in_joined (received_moves (ground v w qs c) x r) (receivers x.act.arguments) y (goes (place c r) (site_spot x) (place c y)) receives
+        (Contains-append_left (given_moves (searched_in v w qs c) x r ++ filled_moves (searched_in v w qs c) x r) (led_moves (searched_in v w qs c) (leads_to v c x.act.name r)) (goes (place c r) (site_spot x) (place c y))
+        (Contains-append_right (given_moves (searched_in v w qs c) x r) (filled_moves (searched_in v w qs c) x r) (goes (place c r) (site_spot x) (place c y))
+        (where_true (fills x.act.name && is_list_in (present v c) r && list_any (is_one_of qs) (w.sets c r)) (flat_map (received_moves (searched_in v w qs c) x r) (receivers x.act.arguments)) (goes (place c r) (site_spot x) (place c y)) (both _ _ (both _ _ fill list) holds)
+        (in_joined (received_moves (searched_in v w qs c) x r) (receivers x.act.arguments) y (goes (place c r) (site_spot x) (place c y)) receives
         (where_true (is_reference_in (present v c) y) (goes (place c r) (site_spot x) (place c y) ∷ []) (goes (place c r) (site_spot x) (place c y)) is (here (goes (place c r) (site_spot x) (place c y)) []))))))
 
     passed_is_in : (d : Config) (g : List ℕ) (p : Fixed) → leads_to v c x.act.name r ≡ Some d → d.scene ≡ Some g → Contains (group_parts v c.app) p → list_any (is_one_of qs) (w.sets c p.key) ≡ true → Contains (moves_of v w qs) (stays (place c p.key) (place d p.key))
     passed_is_in d g p leads scene part holds = done_is_in (stays (place c p.key) (place d p.key))
-        (Contains-append_right (given_moves (ground v w qs c) x r ++ filled_moves (ground v w qs c) x r) (led_moves (ground v w qs c) (leads_to v c x.act.name r)) (stays (place c p.key) (place d p.key))
-        (subst (λ (o : Option Config). Contains (led_moves (ground v w qs c) o) (stays (place c p.key) (place d p.key))) (sym leads)
-        (subst (λ (o : Option (List ℕ)). Contains (passed_moves (ground v w qs c) d o) (stays (place c p.key) (place d p.key))) (sym scene)
-        (in_joined (kept_moves (ground v w qs c) d) (group_parts v c.app) p (stays (place c p.key) (place d p.key)) part
+        (Contains-append_right (given_moves (searched_in v w qs c) x r ++ filled_moves (searched_in v w qs c) x r) (led_moves (searched_in v w qs c) (leads_to v c x.act.name r)) (stays (place c p.key) (place d p.key))
+        (subst (λ (o : Option Config). Contains (led_moves (searched_in v w qs c) o) (stays (place c p.key) (place d p.key))) (sym leads)
+        (subst (λ (o : Option (List ℕ)). Contains (passed_moves (searched_in v w qs c) d o) (stays (place c p.key) (place d p.key))) (sym scene)
+        (in_joined (kept_moves (searched_in v w qs c) d) (group_parts v c.app) p (stays (place c p.key) (place d p.key)) part
         (where_true (list_any (is_one_of qs) (w.sets c p.key)) (stays (place c p.key) (place d p.key) ∷ []) (stays (place c p.key) (place d p.key)) holds (here (stays (place c p.key) (place d p.key)) []))))))
 
   -- one of them, wherever it stands

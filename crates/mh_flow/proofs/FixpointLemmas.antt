@@ -3,15 +3,15 @@ use Rattle.std.specs.Prelude.{◌≡◌, ◌⊎◌, ℕ, zero, suc, true, false,
 use Rattle.std.specs.List.{Contains}
 use Rattle.std.proofs.Common.{rules, arith, inl, inr, ap, sym, subst}
 use Rattle.std.proofs.lemmas.List.Elements.{Contains-append_left, Contains-append_right, Contains-append_cases}
-use Rattle.mh_flow.specs.declared.net.Fact.{Fact}
-use Rattle.mh_flow.specs.declared.net.Item.{Item}
-use Rattle.mh_flow.specs.declared.net.Item.TheVariants as item
+use Rattle.mh_flow.specs.declared.fixpoint.constraints.Fact.{Fact}
+use Rattle.mh_flow.specs.declared.fixpoint.constraints.Item.{Item}
+use Rattle.mh_flow.specs.declared.fixpoint.constraints.Item.TheVariants as item
 use Rattle.mh_flow.specs.Rows.{row, has, width_at}
-use Rattle.mh_flow.specs.Net.{Net, Derived}
+use Rattle.mh_flow.specs.Constraints.{ConstraintSystem, Derived}
 use Rattle.mh_flow.specs.Gathering.{View, nothing, IsIn, IsSound, IsDue, IsClosed}
 use Rattle.mh_flow.specs.Sets.{IsLeast}
 
-pub record IsSearching (net : Net) (g : View) : Type 0 where
+pub record IsSearching (net : ConstraintSystem) (g : View) : Type 0 where
   pub sound : IsSound net g
   pub starts : (x : Item) → Contains net.starts x → IsIn g x
   pub closed : IsClosed net g []
@@ -37,7 +37,7 @@ no_width zero u = refl
 no_width (suc n) zero = refl
 no_width (suc n) (suc u) = no_width n u
 
-pub nothing_sound : (net : Net) → IsSound net (nothing net.nodes)
+pub nothing_sound : (net : ConstraintSystem) → IsSound net (nothing net.nodes)
 nothing_sound net = record {
   bits = length_replicate net.nodes [];
   members = length_replicate net.nodes [];
@@ -53,7 +53,7 @@ nothing_sound net = record {
     derived (item.Member x) k = let never = none_has net.nodes x.node x.member k in absurd cc
     derived (item.Edge u v) k = let never = no_row net.nodes u v k in absurd cc
 
-pub nothing_closed : (net : Net) → IsClosed net (nothing net.nodes) []
+pub nothing_closed : (net : ConstraintSystem) → IsClosed net (nothing net.nodes) []
 nothing_closed net = record {
   along = λ u v q h k. let never = none_has net.nodes u q k in absurd cc;
   opened = λ f k. let never = none_has net.nodes f.node f.member k in absurd cc;
@@ -64,7 +64,7 @@ nothing_closed net = record {
 abbrev pub without_last : View → List Fact → View
 without_last g rest = record g { pending = rest }
 
-pub taken_sound : (net : Net) (g : View) (rest : List Fact) (f : Fact) → g.pending ≡ rest ++ f ∷ [] → IsSound net g → IsSound net (without_last g rest)
+pub taken_sound : (net : ConstraintSystem) (g : View) (rest : List Fact) (f : Fact) → g.pending ≡ rest ++ f ∷ [] → IsSound net g → IsSound net (without_last g rest)
 taken_sound net g rest f e k = record {
   bits = k.bits;
   members = k.members;
@@ -80,10 +80,10 @@ taken_sound net g rest f e k = record {
     derived (item.Member x) h = k.derived (item.Member x) h
     derived (item.Edge u v) h = k.derived (item.Edge u v) h
 
-pub taken_known : (net : Net) (g : View) (rest : List Fact) (f : Fact) → g.pending ≡ rest ++ f ∷ [] → IsSound net g → has g.bits f.node f.member ≡ true
+pub taken_known : (net : ConstraintSystem) (g : View) (rest : List Fact) (f : Fact) → g.pending ≡ rest ++ f ∷ [] → IsSound net g → has g.bits f.node f.member ≡ true
 taken_known net g rest f e k = k.waiting f (subst (λ (t : List Fact). Contains t f) (sym e) (Contains-append_right rest (f ∷ []) f (0, search rules, refl)))
 
-pub taken_closed : (net : Net) (g : View) (rest : List Fact) (f : Fact) → g.pending ≡ rest ++ f ∷ [] → IsClosed net g [] → IsClosed net (without_last g rest) (f ∷ [])
+pub taken_closed : (net : ConstraintSystem) (g : View) (rest : List Fact) (f : Fact) → g.pending ≡ rest ++ f ∷ [] → IsClosed net g [] → IsClosed net (without_last g rest) (f ∷ [])
 taken_closed net g rest f e k = record {
   along = λ u v q h is. by u v q (k.along u v q h is);
   opened = λ x is. open_by x (k.opened x is);
@@ -111,7 +111,7 @@ taken_in g rest (item.Edge u v) h = h
 
 -- Nothing waits any more
 
-pub solved : (net : Net) (g : View) → IsSearching net g → g.pending ≡ [] → IsLeast net g.bits
+pub solved : (net : ConstraintSystem) (g : View) → IsSearching net g → g.pending ≡ [] → IsLeast net g.bits
 solved net g k e = record {
   edges = g.edges;
   height = k.sound.bits;

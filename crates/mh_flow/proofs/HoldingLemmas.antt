@@ -29,9 +29,9 @@ use Rattle.mh_laws.specs.Describing.{Says, says}
 use Rattle.mh_laws.specs.Flow.{fills, is_given, is_holder, is_list_in, is_reference_in, refers, reads_reference}
 use Rattle.mh_laws.specs.Least.{Derived, Reached, Held, Comes, Hands, start, named, referred, written, read, original_value, original_item, given, filled, led, passed}
 use Rattle.mh_laws.specs.Least as least
-use Rattle.mh_flow.specs.declared.net.Fact.{Fact}
-use Rattle.mh_flow.specs.declared.net.Item.{Item}
-use Rattle.mh_flow.specs.declared.net.Item.TheVariants as item
+use Rattle.mh_flow.specs.declared.fixpoint.constraints.Fact.{Fact}
+use Rattle.mh_flow.specs.declared.fixpoint.constraints.Item.{Item}
+use Rattle.mh_flow.specs.declared.fixpoint.constraints.Item.TheVariants as item
 use Rattle.mh_flow.specs.Rows.{has}
 use Rattle.mh_flow.specs.Sets.{IsLeast, IsThere}
 use Rattle.mh_flow.specs.declared.chart.Bases.{Bases}

@@ -8,9 +8,9 @@ use Rattle.mh_model.specs.declared.config.Config.{Config}
 use Rattle.mh_model.specs.Service.{Service}
 use Rattle.mh_laws.specs.Flow.{Flow}
 use Rattle.mh_laws.specs.Least.{Derived, Held, IsLeast}
-use Rattle.mh_flow.specs.declared.link.Link.{Link}
-use Rattle.mh_flow.specs.declared.moves.Move.{Move}
-use Rattle.mh_flow.specs.declared.moves.Place.{Place}
+use Rattle.mh_flow.specs.declared.chain.link.Link.{Link}
+use Rattle.mh_flow.specs.declared.chain.moves.Move.{Move}
+use Rattle.mh_flow.specs.declared.chain.moves.Holder.{Holder}
 use Rattle.mh_flow.specs.Chains.{Brings, by_spot}
 use Rattle.mh_flow.specs.Chart.{with_references}
 use Rattle.mh_flow.specs.Moves.{Follows, IsFirstOf}
@@ -61,16 +61,16 @@ module _ (v : Service) (w : Flow) (least : IsLeast v w) (qs : List ObjRef) (c : 
 
   -- In the words of the code.
 
-  module _ (keys : List ObjRef) (ms : List Move) (p : Place) (once : keys ≡ with_references [] qs) (same : ms ≡ moves_of v w keys) (at : p ≡ place c r) where
+  module _ (keys : List ObjRef) (ms : List Move) (p : Holder) (once : keys ≡ with_references [] qs) (same : ms ≡ moves_of v w keys) (at : p ≡ place c r) where
     moves_are : ms ≡ moves_of v w (with_references [] qs)
     moves_are = same ∙ (λ i. moves_of v w (once i))
 
     pub told_nearest : (ls : List Link) (os : List ObjRef) → IsFirstOf ms p ls → AreOrigins v keys ls os → IsNearest v c r qs ls os
     told_nearest ls os first origins =
         nearest_is ls os
-        (subst (λ (x : Place). IsFirstOf (moves_of v w (with_references [] qs)) x ls) at (subst (λ (xs : List Move). IsFirstOf xs p ls) moves_are first))
+        (subst (λ (x : Holder). IsFirstOf (moves_of v w (with_references [] qs)) x ls) at (subst (λ (xs : List Move). IsFirstOf xs p ls) moves_are first))
         (subst (λ (ks : List ObjRef). AreOrigins v ks ls os) once origins)
 
     pub told_unheld : ((ls : List Link) → Follows ms ls p → ⊥) → (q : ObjRef) → Contains qs q → Derived v (Held c r q) → ⊥
     told_unheld none = none_held (λ ls f.
-        none ls (subst (λ (x : Place). Follows ms ls x) (sym at) (subst (λ (xs : List Move). Follows xs ls (place c r)) (sym moves_are) f)))
+        none ls (subst (λ (x : Holder). Follows ms ls x) (sym at) (subst (λ (xs : List Move). Follows xs ls (place c r)) (sym moves_are) f)))

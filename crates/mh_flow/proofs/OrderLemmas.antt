@@ -1,4 +1,4 @@
--- References in their order.
+-- References and configurations in their order.
 use Rattle.std.proofs.Common.{◌≡◌, ℕ, suc, ◌+◌, true, false, List, [], ◌∷◌, slice_index_or, Some, refl, ap, sym, ◌∙◌, subst, arith}
 use Rattle.std.specs.List.{IsDistinct}
 use Rattle.std.specs.List.Sorted.{IsSortedBy}
@@ -7,15 +7,41 @@ use Rattle.std.specs.declared.cmp.Ordering.TheVariants.{Less, Equal, Greater}
 use Rattle.std.specs.Ordering.{is_lt, nat_cmp, ordering_reverse, ordering_then}
 use Rattle.std.specs.Cmp.{IsTotalOrder, nat_cmp_total, on_total, then_total, unsigned_po}
 use Rattle.std.specs.Cmp.Derive.{both_true}
-use Rattle.std.specs.Cmp.Lexicographic.{nat_list_cmp_total, slice_cmp, texts_po}
+use Rattle.std.specs.Cmp.Lexicographic.{nat_list_cmp_total, options_total, slice_cmp, texts_po}
 use Rattle.std.proofs.lemmas.Map.Keys.{IsDistinct-head, IsDistinct-tail}
 use Rattle.mh_base.specs.declared.obj_ref.ObjRef.{ObjRef}
+use Rattle.mh_model.specs.declared.config.Config.{Config}
 use Rattle.mh_model.specs.Reference.{same_key, same_ref}
 use Rattle.mh_laws.specs.Least.{are_ascending, by_reference}
+use Rattle.mh_flow.specs.Orders.{by_config}
 use Rattle.mh_flow.proofs.ChartLemmas.{key_is}
+use Rattle.mh_flow.proofs.ContainsLemmas.{halves}
 
-pub order_total : IsTotalOrder by_reference
-order_total = then_total (on_total (λ (r : ObjRef). r.group) nat_list_cmp_total) (on_total (λ (r : ObjRef). r.number) nat_cmp_total)
+pub reference_total : IsTotalOrder by_reference
+reference_total = then_total (on_total (λ (r : ObjRef). r.group) nat_list_cmp_total) (on_total (λ (r : ObjRef). r.number) nat_cmp_total)
+
+pub config_total : IsTotalOrder by_config
+config_total = then_total (on_total (λ (c : Config). c.app) nat_list_cmp_total) (on_total (λ (c : Config). c.scene) (options_total nat_list_cmp_total))
+
+less_is : (o : Ordering) → is_lt o ≡ true → o ≡ Less
+less_is Less e = refl
+less_is Equal e = absurd cc
+less_is Greater e = absurd cc
+
+less_less : (a b c : ObjRef) → is_lt (by_reference a b) ≡ true → is_lt (by_reference b c) ≡ true → is_lt (by_reference a c) ≡ true
+less_less a b c e f = ap is_lt (reference_total.trans a b c (less_is (by_reference a b) e) (less_is (by_reference b c) f))
+
+-- without the second
+pub skipped : (q r : ObjRef) (rs : List ObjRef) → are_ascending (q ∷ r ∷ rs) ≡ true → are_ascending (q ∷ rs) ≡ true
+skipped q r [] h = refl
+skipped q r (s ∷ rs) h =
+    let first = halves (is_lt (by_reference q r)) (are_ascending (r ∷ s ∷ rs)) h in
+    let second = halves (is_lt (by_reference r s)) (are_ascending (s ∷ rs)) first.1 in
+    both_true (less_less q r s first.0 second.0) second.1
+
+pub tail_ascends : (q : ObjRef) (rs : List ObjRef) → are_ascending (q ∷ rs) ≡ true → are_ascending rs ≡ true
+tail_ascends q [] h = refl
+tail_ascends q (r ∷ rs) h = (halves (is_lt (by_reference q r)) (are_ascending (r ∷ rs)) h).1
 
 -- neither is before the other only where both are one
 pub level_same : (q r : ObjRef) → by_reference q r ≡ Equal → same_ref q r ≡ true
@@ -32,7 +58,7 @@ before_next q r behind other = by (by_reference q r) refl
     by : (a : Ordering) → by_reference q r ≡ a → is_lt a ≡ true
     by Less e = refl
     by Equal e = let other_ref = sym (key_is q r) ∙ other in let one = level_same q r e in cc
-    by Greater e = let less = ap is_lt (order_total.antisymm r q ∙ ap ordering_reverse e) in cc
+    by Greater e = let less = ap is_lt (reference_total.antisymm r q ∙ ap ordering_reverse e) in cc
 
 -- what is sorted and has each reference once ascends
 pub ascending : (qs : List ObjRef) → IsSortedBy (λ x y. is_lt (by_reference x y)) qs → IsDistinct same_key qs → are_ascending qs ≡ true

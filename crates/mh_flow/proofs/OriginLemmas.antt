@@ -23,7 +23,7 @@ use Rattle.mh_laws.specs.Active.{is_active}
 use Rattle.mh_laws.specs.Costs.{effects}
 use Rattle.mh_laws.specs.Describing.{says}
 use Rattle.mh_laws.specs.Least.{by_reference}
-use Rattle.mh_flow.specs.declared.link.Link.{Link}
+use Rattle.mh_flow.specs.declared.chain.link.Link.{Link}
 use Rattle.mh_flow.specs.Chains.{Brings, original, written, read, filled, passed, by_spot, first_link, site_link}
 use Rattle.mh_flow.specs.Chart.{all_parts, firsts, handed}
 use Rattle.mh_flow.specs.Origins.{AreOrigins, begun, begun_at, begun_by, begun_in, first_begun}

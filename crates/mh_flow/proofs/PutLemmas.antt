@@ -4,21 +4,21 @@ use Rattle.std.specs.List.{Contains, flat_map}
 use Rattle.std.proofs.Common.{inl, inr, ap, sym, subst, ◌∙◌}
 use Rattle.std.proofs.lemmas.List.{append_assoc, at_drop_more, take_more}
 use Rattle.std.proofs.lemmas.List.Elements.{Contains-append_cases}
-use Rattle.mh_flow.specs.declared.net.Fact.{Fact}
-use Rattle.mh_flow.specs.declared.net.Item.{Item}
-use Rattle.mh_flow.specs.declared.net.Item.TheVariants as item
-use Rattle.mh_flow.specs.Net.{Net, Derived, begun, opened, along, fits, IsFit}
+use Rattle.mh_flow.specs.declared.fixpoint.constraints.Fact.{Fact}
+use Rattle.mh_flow.specs.declared.fixpoint.constraints.Item.{Item}
+use Rattle.mh_flow.specs.declared.fixpoint.constraints.Item.TheVariants as item
+use Rattle.mh_flow.specs.Constraints.{ConstraintSystem, Derived, begun, opened, along, fits, IsFit}
 use Rattle.mh_flow.specs.Gathering.{View, IsIn, IsSound, IsClosed, IsDue, IsStep}
 use Rattle.mh_flow.specs.Rows.{row, has}
 use Rattle.mh_flow.proofs.StepLemmas.{then_step, lone}
 
 -- so many of these are put
-pub record IsPutting (net : Net) (In : Item → View → Type 0) (items : List Item) (index : ℕ) (initial now : View) : Type 0 where
+pub record IsPutting (net : ConstraintSystem) (In : Item → View → Type 0) (items : List Item) (index : ℕ) (initial now : View) : Type 0 where
   pub sound : IsSound net now
   pub step : IsStep net initial now
   pub put : (x : Item) → Contains (take index items) x → In x now
 
-pub put_next : (net : Net) (items : List Item) (index : ℕ) (d : Item) (a b c : View) → index < length items → IsPutting net (λ y g. IsIn g y) items index a b → IsSound net c → IsStep net b c → IsIn c (slice_index_or items index d) → IsPutting net (λ y g. IsIn g y) items (index + 1) a c
+pub put_next : (net : ConstraintSystem) (items : List Item) (index : ℕ) (d : Item) (a b c : View) → index < length items → IsPutting net (λ y g. IsIn g y) items index a b → IsSound net c → IsStep net b c → IsIn c (slice_index_or items index d) → IsPutting net (λ y g. IsIn g y) items (index + 1) a c
 put_next net items index d a b c less k sound step put = record {
   sound = sound;
   step = then_step net a b c k.step step;
@@ -30,7 +30,7 @@ put_next net items index d a b c less k sound step put = record {
     by y (inr h) = subst (λ (z : Item). IsIn c z) (lone (slice_index_or items index d) y h) put
 
 -- a fact that has been followed is due no more
-pub followed : (net : Net) (g : View) (f : Fact) → ((x : Item) → Contains (net.opens f) x → IsIn g x) → ((v : ℕ) → Contains (row g.edges f.node) v → has g.bits v f.member ≡ true) → IsClosed net g (f ∷ []) → IsClosed net g []
+pub followed : (net : ConstraintSystem) (g : View) (f : Fact) → ((x : Item) → Contains (net.opens f) x → IsIn g x) → ((v : ℕ) → Contains (row g.edges f.node) v → has g.bits v f.member ≡ true) → IsClosed net g (f ∷ []) → IsClosed net g []
 followed net g f all spread k = record { along = λ u v q e h. along_it u v q e (k.along u v q e h); opened = λ x h. opened_it x (k.opened x h) }
   where
     along_it : (u v q : ℕ) → Contains (row g.edges u) v → (has g.bits v q ≡ true) ⊎ IsDue g (f ∷ []) (record { node = u; member = q }) → (has g.bits v q ≡ true) ⊎ IsDue g [] (record { node = u; member = q })
@@ -47,7 +47,7 @@ followed net g f all spread k = record { along = λ u v q e h. along_it u v q e 
     opened_it x (inr (inr h)) = inl (subst (λ (z : Fact). (y : Item) → Contains (net.opens z) y → IsIn g y) (lone f x h) all)
 
 -- all that is derived is within bounds
-pub derived_fits : (net : Net) → IsFit net → (x : Item) → Derived net x → fits net x
+pub derived_fits : (net : ConstraintSystem) → IsFit net → (x : Item) → Derived net x → fits net x
 derived_fits net k x (begun y h) = k.starts y h
 derived_fits net k x (opened f y d h) = k.opened f y h
 derived_fits net k x (along u v q e d) =

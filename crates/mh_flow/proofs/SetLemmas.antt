@@ -4,14 +4,14 @@ use Rattle.std.specs.List.{Contains}
 use Rattle.std.specs.List.Sorted.{IsStrictlyIncreasing}
 use Rattle.std.proofs.Common.{rules, arith, ap, ◌∙◌, subst}
 use Rattle.std.proofs.lemmas.List.Elements.{Contains-append_right}
-use Rattle.mh_flow.specs.declared.net.Item.{Item}
-use Rattle.mh_flow.specs.declared.net.Item.TheVariants as item
+use Rattle.mh_flow.specs.declared.fixpoint.constraints.Item.{Item}
+use Rattle.mh_flow.specs.declared.fixpoint.constraints.Item.TheVariants as item
 use Rattle.mh_flow.specs.Rows.{row, is_at, has, places_from}
-use Rattle.mh_flow.specs.Net.{Net, Derived, begun, opened, along}
+use Rattle.mh_flow.specs.Constraints.{ConstraintSystem, Derived, begun, opened, along}
 use Rattle.mh_flow.specs.Sets.{IsThere, IsLeast, members_of}
 
 -- all that is derived is in the least sets
-pub all_there : (net : Net) (rows : List (List Bool)) (k : IsLeast net rows) (x : Item) → Derived net x → IsThere rows k.edges x
+pub all_there : (net : ConstraintSystem) (rows : List (List Bool)) (k : IsLeast net rows) (x : Item) → Derived net x → IsThere rows k.edges x
 all_there net rows k x (begun y h) = k.starts y h
 all_there net rows k x (opened f y d h) = k.opened f (all_there net rows k (item.Member f) d) y h
 all_there net rows k x (along u v q e d) = k.along u v q (all_there net rows k (item.Edge u v) e) (all_there net rows k (item.Member (record { node = u; member = q })) d)

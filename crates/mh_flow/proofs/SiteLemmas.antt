@@ -8,7 +8,7 @@ use Rattle.std.proofs.Common.{arith, ap, ◌∙◌, sym, length-append}
 use Rattle.mh_base.specs.declared.obj_ref.ObjRef.{ObjRef}
 use Rattle.mh_model.specs.declared.act.Act.{Act}
 use Rattle.mh_group.specs.declared.attribute.Attribute.TheVariants as attribute
-use Rattle.mh_model.specs.declared.member.Member.{Member}
+use Rattle.mh_model.specs.declared.object.member.Member.{Member}
 use Rattle.mh_model.specs.declared.object.Fixed.{Fixed}
 use Rattle.mh_laws.specs.Active.{is_active, active_actions}
 use Rattle.mh_model.specs.Effects.{actions}

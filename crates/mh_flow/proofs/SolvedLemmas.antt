@@ -1,20 +1,16 @@
 -- References that are chosen by bits: which those are, and that they stay in order.
 use Rattle.std.specs.Prelude.{◌≡◌, ◌⊎◌, ℕ, zero, suc, ◌+◌, Bool, true, false, if◌then◌else◌, List, [], ◌∷◌, slice_get, Option, Some, None, refl}
 use Rattle.std.specs.List.{Contains, cons_option, filter_map}
-use Rattle.std.specs.declared.cmp.Ordering.{Ordering}
-use Rattle.std.specs.declared.cmp.Ordering.TheVariants.{Less, Equal, Greater}
-use Rattle.std.specs.Cmp.{IsTotalOrder}
-use Rattle.std.specs.Cmp.Lexicographic.{on_texts}
 use Rattle.std.specs.Cmp.Derive.{both_true}
 use Rattle.std.specs.Ordering.{is_lt}
 use Rattle.std.proofs.Common.{ap, ◌∙◌, subst, arith}
-use Rattle.std.proofs.lemmas.Cmp.{nat_cmp_total, on_total, then_total}
 use Rattle.mh_base.specs.declared.obj_ref.ObjRef.{ObjRef}
 use Rattle.mh_laws.specs.Least.{are_ascending, by_reference}
 use Rattle.mh_flow.specs.Rows.{has, is_at, places_from, row}
 use Rattle.mh_flow.specs.Sets.{members_of}
 use Rattle.mh_flow.specs.Solved.{named}
 use Rattle.mh_flow.proofs.ContainsLemmas.{halves, here, behind, first_or_behind, no_member}
+use Rattle.mh_flow.proofs.OrderLemmas.{skipped, tail_ascends}
 use Rattle.mh_flow.proofs.PlaceLemmas.{kept_from, kept_member}
 use Rattle.std.proofs.Common.{inl, inr}
 
@@ -89,25 +85,6 @@ named_chosen all (q ∷ qs) (b ∷ bs) n h = by b (named_chosen all qs bs (suc n
     by true ih = ap (λ (o : Option ObjRef). cons_option o (filter_map (slice_get all) (places_from (suc n) bs))) first ∙ ap (λ (t : List ObjRef). q ∷ t) ih
     by false ih = ih
 
-reference_total : IsTotalOrder by_reference
-reference_total = then_total (on_texts (λ (r : ObjRef). r.group)) (on_total (λ (r : ObjRef). r.number) nat_cmp_total)
-
-less_is : (o : Ordering) → is_lt o ≡ true → o ≡ Less
-less_is Less e = refl
-less_is Equal e = absurd cc
-less_is Greater e = absurd cc
-
-less_less : (a b c : ObjRef) → is_lt (by_reference a b) ≡ true → is_lt (by_reference b c) ≡ true → is_lt (by_reference a c) ≡ true
-less_less a b c e f = ap is_lt (reference_total.trans a b c (less_is (by_reference a b) e) (less_is (by_reference b c) f))
-
--- without the second
-skipped : (q r : ObjRef) (rs : List ObjRef) → are_ascending (q ∷ r ∷ rs) ≡ true → are_ascending (q ∷ rs) ≡ true
-skipped q r [] h = refl
-skipped q r (s ∷ rs) h =
-    let first = halves (is_lt (by_reference q r)) (are_ascending (r ∷ s ∷ rs)) h in
-    let second = halves (is_lt (by_reference r s)) (are_ascending (s ∷ rs)) first.1 in
-    both_true (less_less q r s first.0 second.0) second.1
-
 chosen_behind : (q : ObjRef) (rs : List ObjRef) (bs : List Bool) → are_ascending (q ∷ rs) ≡ true → are_ascending (q ∷ chosen rs bs) ≡ true
 chosen_behind q [] bs h = refl
 chosen_behind q (r ∷ rs) [] h = refl
@@ -115,10 +92,6 @@ chosen_behind q (r ∷ rs) (true ∷ bs) h =
     let two = halves (is_lt (by_reference q r)) (are_ascending (r ∷ rs)) h in
     both_true two.0 (chosen_behind r rs bs two.1)
 chosen_behind q (r ∷ rs) (false ∷ bs) h = chosen_behind q rs bs (skipped q r rs h)
-
-tail_ascends : (q : ObjRef) (rs : List ObjRef) → are_ascending (q ∷ rs) ≡ true → are_ascending rs ≡ true
-tail_ascends q [] h = refl
-tail_ascends q (r ∷ rs) h = (halves (is_lt (by_reference q r)) (are_ascending (r ∷ rs)) h).1
 
 chosen_ascend : (qs : List ObjRef) (bs : List Bool) → are_ascending qs ≡ true → are_ascending (chosen qs bs) ≡ true
 chosen_ascend [] bs h = refl

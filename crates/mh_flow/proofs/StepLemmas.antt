@@ -3,15 +3,15 @@ use Rattle.std.specs.Prelude.{◌≡◌, ◌⊎◌, ℕ, zero, suc, Bool, true, 
 use Rattle.std.specs.List.{Contains}
 use Rattle.std.proofs.Common.{rules, arith, inl, inr, ap, ◌∙◌, sym, subst, length-append}
 use Rattle.std.proofs.lemmas.List.Elements.{Contains-append_left, Contains-append_right, Contains-append_cases}
-use Rattle.mh_flow.specs.declared.net.Fact.{Fact}
-use Rattle.mh_flow.specs.declared.net.Item.{Item}
-use Rattle.mh_flow.specs.declared.net.Item.TheVariants as item
+use Rattle.mh_flow.specs.declared.fixpoint.constraints.Fact.{Fact}
+use Rattle.mh_flow.specs.declared.fixpoint.constraints.Item.{Item}
+use Rattle.mh_flow.specs.declared.fixpoint.constraints.Item.TheVariants as item
 use Rattle.mh_flow.specs.Rows.{row, has, free, width_at, LaidOut, Marked, Pushed}
-use Rattle.mh_flow.specs.Net.{Net, Derived}
+use Rattle.mh_flow.specs.Constraints.{ConstraintSystem, Derived}
 use Rattle.mh_flow.proofs.RowLemmas.{same_longer, then_longer, longer_has}
 use Rattle.mh_flow.specs.Gathering.{View, IsIn, IsSound, IsDue, IsClosed, IsStep}
 
-pub same_step : (net : Net) (g : View) → IsStep net g g
+pub same_step : (net : ConstraintSystem) (g : View) → IsStep net g g
 same_step net g = record {
   grows = λ x h. h;
   fresh = λ f h. inl h;
@@ -21,7 +21,7 @@ same_step net g = record {
   less = omega arith;
 }
 
-pub then_step : (net : Net) (a b c : View) → IsStep net a b → IsStep net b c → IsStep net a c
+pub then_step : (net : ConstraintSystem) (a b c : View) → IsStep net a b → IsStep net b c → IsStep net a c
 then_step net a b c s t = record {
   grows = λ x h. t.grows x (s.grows x h);
   fresh = λ f h. fresh f (t.fresh f h);
@@ -50,7 +50,7 @@ pub lone : {X : Type 0} (x y : X) → Contains (x ∷ []) y → x ≡ y
 lone {X} x y (zero, less, e) = e
 lone {X} x y (suc i, less, e) = absurd (omega (arith, less))
 
-pub added_sound : (net : Net) (g : View) (f : Fact) (bits : List (List Bool)) (members : List (List ℕ)) → Marked f.node f.member g.bits bits → Pushed f.node f.member g.members members → IsSound net g → Derived net (item.Member f) → IsSound net (with_fact g f bits members)
+pub added_sound : (net : ConstraintSystem) (g : View) (f : Fact) (bits : List (List Bool)) (members : List (List ℕ)) → Marked f.node f.member g.bits bits → Pushed f.node f.member g.members members → IsSound net g → Derived net (item.Member f) → IsSound net (with_fact g f bits members)
 added_sound net g f bits members m p k d = record {
   bits = m.height ∙ k.bits;
   members = p.height ∙ k.members;
@@ -86,7 +86,7 @@ added_sound net g f bits members m p k d = record {
     waiting x (inl h) = m.kept x.node x.member (k.waiting x h)
     waiting x (inr h) = subst (λ (y : Fact). has bits y.node y.member ≡ true) (lone f x h) m.set
 
-pub added_step : (net : Net) (g : View) (f : Fact) (bits : List (List Bool)) (members : List (List ℕ)) → width_at g.bits f.node ≡ net.width → Marked f.node f.member g.bits bits → Pushed f.node f.member g.members members → IsStep net g (with_fact g f bits members)
+pub added_step : (net : ConstraintSystem) (g : View) (f : Fact) (bits : List (List Bool)) (members : List (List ℕ)) → width_at g.bits f.node ≡ net.width → Marked f.node f.member g.bits bits → Pushed f.node f.member g.members members → IsStep net g (with_fact g f bits members)
 added_step net g f bits members wide m p = record {
   grows = grows;
   fresh = λ x h. fresh x (m.only x.node x.member h);
@@ -134,7 +134,7 @@ added_step net g f bits members wide m p = record {
 abbrev pub with_edge : View → List (List ℕ) → View
 with_edge g edges = record g { edges = edges }
 
-pub edge_sound : (net : Net) (g : View) (from to : ℕ) (edges : List (List ℕ)) → Pushed from to g.edges edges → IsSound net g → Derived net (item.Edge from to) → IsSound net (with_edge g edges)
+pub edge_sound : (net : ConstraintSystem) (g : View) (from to : ℕ) (edges : List (List ℕ)) → Pushed from to g.edges edges → IsSound net g → Derived net (item.Edge from to) → IsSound net (with_edge g edges)
 edge_sound net g from to edges p k d = record {
   bits = k.bits;
   members = k.members;
@@ -154,7 +154,7 @@ edge_sound net g from to edges p k d = record {
     derived (item.Member x) h = k.derived (item.Member x) h
     derived (item.Edge u v) h = edge u v (p.only u v h)
 
-pub edge_step : (net : Net) (g : View) (from to : ℕ) (edges : List (List ℕ)) → Pushed from to g.edges edges → ((q : ℕ) → has g.bits from q ≡ true → (has g.bits to q ≡ true) ⊎ Contains g.pending (record { node = from; member = q })) → IsStep net g (with_edge g edges)
+pub edge_step : (net : ConstraintSystem) (g : View) (from to : ℕ) (edges : List (List ℕ)) → Pushed from to g.edges edges → ((q : ℕ) → has g.bits from q ≡ true → (has g.bits to q ≡ true) ⊎ Contains g.pending (record { node = from; member = q })) → IsStep net g (with_edge g edges)
 edge_step net g from to edges p gone = record {
   grows = grows;
   fresh = λ f h. inl h;
@@ -187,7 +187,7 @@ edge_step net g from to edges p gone = record {
 abbrev pub with_bits : View → List (List Bool) → View
 with_bits g bits = record g { bits = bits }
 
-pub laid_step : (net : Net) (g : View) (u : ℕ) (bits : List (List Bool)) → LaidOut net.width u g.bits bits → IsStep net g (with_bits g bits)
+pub laid_step : (net : ConstraintSystem) (g : View) (u : ℕ) (bits : List (List Bool)) → LaidOut net.width u g.bits bits → IsStep net g (with_bits g bits)
 laid_step net g n bits m = record {
   grows = grows;
   fresh = λ f h. inl (sym (m.same f.node f.member) ∙ h);

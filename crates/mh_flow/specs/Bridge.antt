@@ -11,7 +11,7 @@ use Rattle.mh_model.specs.Reference.{same_ref}
 use Rattle.mh_model.specs.Service.{Service}
 use Rattle.mh_laws.specs.Flow.{has as is_held, reached}
 use Rattle.mh_laws.specs.Least.{Derived, IsLeast, Held, Reached}
-use Rattle.mh_flow.specs.Net.{IsFit}
+use Rattle.mh_flow.specs.Constraints.{IsFit}
 use Rattle.mh_flow.specs.Rows.{has}
 use Rattle.mh_flow.specs.Sets as sets
 use Rattle.mh_flow.specs.declared.chart.Bases.{Bases}

@@ -6,8 +6,8 @@ use Rattle.mh_model.specs.declared.config.Config.{Config}
 use Rattle.mh_model.specs.Service.{Service}
 use Rattle.mh_laws.specs.Least.{Derived, Held}
 use Rattle.mh_laws.specs.Flow.{Flow}
-use Rattle.mh_flow.specs.declared.link.Link.{Link}
-use Rattle.mh_flow.specs.declared.moves.Place.{Place}
+use Rattle.mh_flow.specs.declared.chain.link.Link.{Link}
+use Rattle.mh_flow.specs.declared.chain.moves.Holder.{Holder}
 use Rattle.mh_flow.specs.Moves.{Follows}
 use Rattle.mh_flow.specs.Steps.{IsExact, moves_of, place}
 use Rattle.mh_flow.specs.Chains.{Brings}
@@ -25,7 +25,7 @@ WhatIsHeldIsBrought =
 -- In an exact flow the moves of references are what brings one of them.
 abbrev pub MovesBring : Type 0
 MovesBring =
-    (v : Service) (w : Flow) → IsExact v w → (qs : List ObjRef) (ls : List Link) (p : Place) →
+    (v : Service) (w : Flow) → IsExact v w → (qs : List ObjRef) (ls : List Link) (p : Holder) →
     Follows (moves_of v w qs) ls p → (q : ObjRef) × Contains qs q × Brings v q ls p.config p.at
 
 abbrev pub WhatBringsMoves : Type 0

@@ -20,7 +20,7 @@ use Rattle.mh_laws.specs.Describing as saying
 use Rattle.mh_laws.specs.Describing.{says}
 use Rattle.mh_laws.specs.Flow.{fills, is_given, is_list_in, is_reference_in, reads_reference}
 use Rattle.mh_laws.specs.Least.{Derived, Reached, Comes, by_reference}
-use Rattle.mh_flow.specs.declared.link.Link.{Link}
+use Rattle.mh_flow.specs.declared.chain.link.Link.{Link}
 use Rattle.mh_flow.specs.Chart.{firsts}
 use Rattle.mh_flow.specs.Sites.{Site, sites_of}
 

@@ -1,11 +1,11 @@
 -- What is known while the search goes on, and how it grows.
 use Rattle.std.specs.Prelude.{◌≡◌, ◌⊎◌, ℕ, ◌+◌, ◌≤◌, Bool, true, List, [], ◌∷◌, length, replicate}
 use Rattle.std.specs.List.{Contains}
-use Rattle.mh_flow.specs.declared.net.Fact.{Fact}
-use Rattle.mh_flow.specs.declared.net.Item.{Item}
-use Rattle.mh_flow.specs.declared.gathered.Gathered.{Gathered}
+use Rattle.mh_flow.specs.declared.fixpoint.constraints.Fact.{Fact}
+use Rattle.mh_flow.specs.declared.fixpoint.constraints.Item.{Item}
+use Rattle.mh_flow.specs.declared.fixpoint.gathered.Gathered.{Gathered}
 use Rattle.mh_flow.specs.Rows.{row, width_at, has, free, number_rows, AreLonger}
-use Rattle.mh_flow.specs.Net.{Net, Derived}
+use Rattle.mh_flow.specs.Constraints.{ConstraintSystem, Derived}
 use Rattle.mh_flow.specs.Sets.{IsThere}
 
 -- the members of each set, as bits and as a list; the sets to which edges lead; members whose consequences are pending
@@ -32,7 +32,7 @@ abbrev pub IsIn : View → Item → Type 0
 IsIn g x = IsThere g.bits g.edges x
 
 -- all that is known is derived, members are listed, and what is pending is known
-pub record IsSound (net : Net) (g : View) : Type 0 where
+pub record IsSound (net : ConstraintSystem) (g : View) : Type 0 where
   pub bits : length g.bits ≡ net.nodes
   pub members : length g.members ≡ net.nodes
   pub edges : length g.edges ≡ net.nodes
@@ -47,18 +47,18 @@ abbrev pub IsDue : View → List Fact → Fact → Type 0
 IsDue g more f = Contains g.pending f ⊎ Contains more f
 
 -- the consequences of what is known are known, but for those of what is due
-pub record IsClosed (net : Net) (g : View) (more : List Fact) : Type 0 where
+pub record IsClosed (net : ConstraintSystem) (g : View) (more : List Fact) : Type 0 where
   pub along : (u v q : ℕ) → Contains (row g.edges u) v → has g.bits u q ≡ true →
       (has g.bits v q ≡ true) ⊎ IsDue g more (record { node = u; member = q })
   pub opened : (f : Fact) → has g.bits f.node f.member ≡ true →
       ((x : Item) → Contains (net.opens f) x → IsIn g x) ⊎ IsDue g more f
 
 -- how much can still come: a bit that is not set is one to set and one to follow
-abbrev pub left : Net → View → ℕ
+abbrev pub left : ConstraintSystem → View → ℕ
 left net g = free net.width g.bits + free net.width g.bits + length g.pending
 
 -- what is known grows, what is new is pending, and less is left
-pub record IsStep (net : Net) (old new : View) : Type 0 where
+pub record IsStep (net : ConstraintSystem) (old new : View) : Type 0 where
   pub grows : (x : Item) → IsIn old x → IsIn new x
   pub fresh : (f : Fact) → has new.bits f.node f.member ≡ true →
       (has old.bits f.node f.member ≡ true) ⊎ Contains new.pending f
@@ -76,5 +76,5 @@ abbrev pub IsSpread : View → Fact → Type 0
 IsSpread g f = (v : ℕ) → Contains (row g.edges f.node) v → has g.bits v f.member ≡ true
 
 -- where only this fact was due beside what is pending, it is no more
-abbrev pub IsFollowed : Net → View → View → Fact → Type 0
+abbrev pub IsFollowed : ConstraintSystem → View → View → Fact → Type 0
 IsFollowed net old new f = IsClosed net old (f ∷ []) → IsClosed net new []

@@ -1,5 +1,6 @@
+pub mod Orders
 pub mod Rows
-pub mod Net
+pub mod Constraints
 pub mod Gathering
 pub mod Sets
 pub mod Equipment

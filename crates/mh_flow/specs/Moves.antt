@@ -4,14 +4,14 @@ use Rattle.std.specs.List.{Contains}
 use Rattle.std.specs.declared.cmp.Ordering.TheVariants.{Less}
 use Rattle.std.specs.Cmp.Lexicographic.{slice_cmp}
 use Rattle.mh_base.specs.declared.obj_ref.ObjRef.{ObjRef}
-use Rattle.mh_flow.specs.declared.link.Link.{Link}
-use Rattle.mh_flow.specs.declared.moves.Place.{Place}
-use Rattle.mh_flow.specs.declared.moves.Spot.{Spot}
-use Rattle.mh_flow.specs.declared.moves.Move.{Move}
+use Rattle.mh_flow.specs.declared.chain.link.Link.{Link}
+use Rattle.mh_flow.specs.declared.chain.moves.Holder.{Holder}
+use Rattle.mh_flow.specs.declared.chain.moves.ActionSite.{ActionSite}
+use Rattle.mh_flow.specs.declared.chain.moves.Move.{Move}
 use Rattle.mh_flow.specs.Chains.{link, by_spot}
 
 -- what is written at the object from this spot
-abbrev pub links_at : Option Spot → ObjRef → List Link
+abbrev pub links_at : Option ActionSite → ObjRef → List Link
 links_at None r = []
 links_at (Some s) r = link s.key s.index r ∷ []
 
@@ -20,13 +20,13 @@ links_by m = links_at m.spot m.to.at
 
 -- these are the links of moves that lead to the place: the first comes from nowhere, and each other from the place to
 -- which the one before it leads
-pub data Follows (ms : List Move) : List Link → Place → Type 0 where
+pub data Follows (ms : List Move) : List Link → Holder → Type 0 where
   begin : (m : Move) → Contains ms m → m.from ≡ None → Follows ms (links_by m) m.to
-  onward : (ls : List Link) (p : Place) (m : Move) → Follows ms ls p → Contains ms m → m.from ≡ Some p
+  onward : (ls : List Link) (p : Holder) (m : Move) → Follows ms ls p → Contains ms m → m.from ≡ Some p
       → Follows ms (ls ++ links_by m) m.to
 
 -- the links lead to the place, no fewer do, and of those that are as many none whose spots come before
-pub record IsFirstOf (ms : List Move) (p : Place) (ls : List Link) : Type 0 where
+pub record IsFirstOf (ms : List Move) (p : Holder) (ls : List Link) : Type 0 where
   pub follows : Follows ms ls p
   pub shortest : (ks : List Link) → Follows ms ks p → length ls ≤ length ks
   pub first : (ks : List Link) → Follows ms ks p → length ks ≡ length ls → slice_cmp by_spot ks ls ≢ Less

@@ -21,12 +21,12 @@ use Rattle.mh_laws.specs.Active.{active_actions, leads_to}
 use Rattle.mh_laws.specs.Flow.{fills, is_given, is_holder, is_list_in, is_reference_in}
 use Rattle.mh_flow.specs.declared.chart.Set.{Set}
 use Rattle.mh_flow.specs.declared.chart.Set.TheVariants as set
-use Rattle.mh_flow.specs.declared.net.Fact.{Fact}
-use Rattle.mh_flow.specs.declared.net.Item.{Item}
-use Rattle.mh_flow.specs.declared.net.Item.TheVariants as item
+use Rattle.mh_flow.specs.declared.fixpoint.constraints.Fact.{Fact}
+use Rattle.mh_flow.specs.declared.fixpoint.constraints.Item.{Item}
+use Rattle.mh_flow.specs.declared.fixpoint.constraints.Item.TheVariants as item
 use Rattle.mh_flow.specs.declared.chart.Bases.{Bases}
 use Rattle.mh_flow.specs.Chart.{Chart, config_number, firsts, member_of, node_from, handed_argument}
-use Rattle.mh_flow.specs.Net.{Net}
+use Rattle.mh_flow.specs.Constraints.{ConstraintSystem}
 
 -- a service with its numbers
 pub record Numbered : Type 0 where
@@ -34,17 +34,17 @@ pub record Numbered : Type 0 where
   pub chart : Chart
 
 -- a configuration of a service, with its numbers
-pub record Place : Type 0 where
+pub record NumberedConfig : Type 0 where
   pub service : Service
   pub chart : Chart
   pub number : ℕ
   pub config : Config
   pub bases : Bases
 
-abbrev pub place_of : Service → Chart → ℕ → Option Place
+abbrev pub place_of : Service → Chart → ℕ → Option NumberedConfig
 place_of v ch k = option_map (λ e. record { service = v; chart = ch; number = k; config = e.0; bases = e.1 }) (slice_get ch.configs k)
 
-abbrev pub present_in : Place → List Fixed
+abbrev pub present_in : NumberedConfig → List Fixed
 present_in p = present p.service p.config
 
 -- a member of a set, and an edge between two, where both have numbers
@@ -156,7 +156,7 @@ opens v ch f = option_map_or (opened_in v ch f.member) (slice_get ch.sets f.node
 abbrev pub wider : ℕ → ℕ → ℕ
 wider a b = if nat_lt a b then b else a
 
-abbrev pub net_of : Service → Chart → Net
+abbrev pub net_of : Service → Chart → ConstraintSystem
 net_of v ch = record {
   nodes = length ch.sets;
   width = wider (length ch.members) (length ch.configs);

@@ -9,61 +9,61 @@ use Rattle.mh_model.specs.Configuration.{same_config}
 use Rattle.mh_model.specs.Reference.{same_key}
 use Rattle.mh_laws.specs.Least.{by_reference}
 use Rattle.mh_paths.specs.declared.graph.Arrow.{Arrow}
-use Rattle.mh_flow.specs.declared.link.Link.{Link}
-use Rattle.mh_flow.specs.declared.moves.Place.{Place}
-use Rattle.mh_flow.specs.declared.moves.Spot.{Spot}
-use Rattle.mh_flow.specs.declared.moves.Move.{Move}
+use Rattle.mh_flow.specs.declared.chain.link.Link.{Link}
+use Rattle.mh_flow.specs.declared.chain.moves.Holder.{Holder}
+use Rattle.mh_flow.specs.declared.chain.moves.ActionSite.{ActionSite}
+use Rattle.mh_flow.specs.declared.chain.moves.Move.{Move}
 use Rattle.mh_flow.specs.Chains.{link}
 
-abbrev pub same_place : Place → Place → Bool
+abbrev pub same_place : Holder → Holder → Bool
 same_place a b = same_config a.config b.config && same_key a.at b.at
 
-abbrev pub same_spot : Spot → Spot → Bool
+abbrev pub same_spot : ActionSite → ActionSite → Bool
 same_spot a b = same_key a.key b.key && a.index == b.index
 
 -- by the object, then by the number
-abbrev pub spot_cmp : Spot → Spot → Ordering
+abbrev pub spot_cmp : ActionSite → ActionSite → Ordering
 spot_cmp = then_cmp (on (λ s. s.key) by_reference) (on (λ s. s.index) nat_cmp)
 
 -- What moves speak of, each once
 
-abbrev pub with_place : List Place → Place → List Place
+abbrev pub with_place : List Holder → Holder → List Holder
 with_place ps p = if list_any (same_place p) ps then ps else ps ++ p ∷ []
 
-abbrev pub with_source : List Place → Option Place → List Place
+abbrev pub with_source : List Holder → Option Holder → List Holder
 with_source ps None = ps
 with_source ps (Some p) = with_place ps p
 
-abbrev pub places_from : List Place → List Move → List Place
+abbrev pub places_from : List Holder → List Move → List Holder
 places_from ps [] = ps
 places_from ps (m ∷ ms) = places_from (with_place (with_source ps m.from) m.to) ms
 
-abbrev pub places_of : List Move → List Place
+abbrev pub places_of : List Move → List Holder
 places_of ms = places_from [] ms
 
 -- the spots of these moves are among these, which are in order
-pub record AreSpots (ms : List Move) (ss : List Spot) : Type 0 where
+pub record AreSpots (ms : List Move) (ss : List ActionSite) : Type 0 where
   pub sorted : IsSorted spot_cmp ss
-  pub each : (m : Move) (s : Spot) → Contains ms m → m.spot ≡ Some s → list_any (same_spot s) ss ≡ true
+  pub each : (m : Move) (s : ActionSite) → Contains ms m → m.spot ≡ Some s → list_any (same_spot s) ss ≡ true
 
 -- Numbers
 
-abbrev pub place_number : List Place → Place → ℕ
+abbrev pub place_number : List Holder → Holder → ℕ
 place_number ps p = unwrap_or (position (same_place p) ps) 0
 
-abbrev pub spot_number : List Spot → Spot → ℕ
+abbrev pub spot_number : List ActionSite → ActionSite → ℕ
 spot_number ss s = unwrap_or (position (same_spot s) ss) 0
 
 -- a move as an arrow
-abbrev pub arrow_of : List Place → List Spot → Move → Arrow
+abbrev pub arrow_of : List Holder → List ActionSite → Move → Arrow
 arrow_of ps ss m = record { label = option_map (spot_number ss) m.spot; to = place_number ps m.to }
 
-abbrev pub start_of : List Place → List Spot → Move → Option Place → List Arrow
+abbrev pub start_of : List Holder → List ActionSite → Move → Option Holder → List Arrow
 start_of ps ss m None = arrow_of ps ss m ∷ []
 start_of ps ss m (Some p) = []
 
 -- those that come from nowhere
-abbrev pub starts_of : List Place → List Spot → List Move → List Arrow
+abbrev pub starts_of : List Holder → List ActionSite → List Move → List Arrow
 starts_of ps ss ms = flat_map (λ m. start_of ps ss m m.from) ms
 
 -- an arrow more in the row with this number
@@ -72,40 +72,40 @@ with_arrow [] u a = []
 with_arrow (row ∷ rows) zero a = (row ++ a ∷ []) ∷ rows
 with_arrow (row ∷ rows) (suc u) a = row ∷ with_arrow rows u a
 
-abbrev pub with_move : List Place → List Spot → List (List Arrow) → Move → Option Place → List (List Arrow)
+abbrev pub with_move : List Holder → List ActionSite → List (List Arrow) → Move → Option Holder → List (List Arrow)
 with_move ps ss rows m None = rows
 with_move ps ss rows m (Some p) = with_arrow rows (place_number ps p) (arrow_of ps ss m)
 
-abbrev pub rows_from : List Place → List Spot → List (List Arrow) → List Move → List (List Arrow)
+abbrev pub rows_from : List Holder → List ActionSite → List (List Arrow) → List Move → List (List Arrow)
 rows_from ps ss rows [] = rows
 rows_from ps ss rows (m ∷ ms) = rows_from ps ss (with_move ps ss rows m m.from) ms
 
 -- for each place the arrows that leave it
-abbrev pub rows_of : List Place → List Spot → List Move → List (List Arrow)
+abbrev pub rows_of : List Holder → List ActionSite → List Move → List (List Arrow)
 rows_of ps ss ms = rows_from ps ss (replicate (length ps) []) ms
 
 -- Links
 
 -- what an arrow with this spot to this place is
-abbrev pub link_between : Option Spot → Option Place → List Link
+abbrev pub link_between : Option ActionSite → Option Holder → List Link
 link_between (Some s) (Some p) = link s.key s.index p.at ∷ []
 link_between _ _ = []
 
-abbrev pub link_of : List Place → List Spot → Arrow → List Link
+abbrev pub link_of : List Holder → List ActionSite → Arrow → List Link
 link_of ps ss a = link_between (option_and_then (slice_get ss) a.label) (slice_get ps a.to)
 
-abbrev pub links_of : List Place → List Spot → List Arrow → List Link
+abbrev pub links_of : List Holder → List ActionSite → List Arrow → List Link
 links_of ps ss trail = flat_map (link_of ps ss) trail
 
 -- The spots of moves, each once
 
-abbrev pub with_spot : List Spot → Spot → List Spot
+abbrev pub with_spot : List ActionSite → ActionSite → List ActionSite
 with_spot ss s = if list_any (same_spot s) ss then ss else ss ++ s ∷ []
 
-abbrev pub with_spot_of : List Spot → Option Spot → List Spot
+abbrev pub with_spot_of : List ActionSite → Option ActionSite → List ActionSite
 with_spot_of ss None = ss
 with_spot_of ss (Some s) = with_spot ss s
 
-abbrev pub spots_from : List Spot → List Move → List Spot
+abbrev pub spots_from : List ActionSite → List Move → List ActionSite
 spots_from ss [] = ss
 spots_from ss (m ∷ ms) = spots_from (with_spot_of ss m.spot) ms

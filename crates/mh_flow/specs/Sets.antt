@@ -1,11 +1,11 @@
 -- Sets as rows of bits, and the least ones under rules.
 use Rattle.std.specs.Prelude.{◌≡◌, ℕ, Bool, true, List, length}
 use Rattle.std.specs.List.{Contains}
-use Rattle.mh_flow.specs.declared.net.Fact.{Fact}
-use Rattle.mh_flow.specs.declared.net.Item.{Item}
-use Rattle.mh_flow.specs.declared.net.Item.TheVariants as item
+use Rattle.mh_flow.specs.declared.fixpoint.constraints.Fact.{Fact}
+use Rattle.mh_flow.specs.declared.fixpoint.constraints.Item.{Item}
+use Rattle.mh_flow.specs.declared.fixpoint.constraints.Item.TheVariants as item
 use Rattle.mh_flow.specs.Rows.{row, has, places_from}
-use Rattle.mh_flow.specs.Net.{Net, Derived}
+use Rattle.mh_flow.specs.Constraints.{ConstraintSystem, Derived}
 
 -- a member that a set has, or an edge that is one of these
 abbrev pub IsThere : List (List Bool) → List (List ℕ) → Item → Type 0
@@ -14,7 +14,7 @@ IsThere rows edges (item.Edge u v) = Contains (row edges u) v
 
 -- the least sets. There are edges such that what is there at the start is there, what a member opens is there, members
 -- go along edges, and all that is there is derived.
-pub record IsLeast (net : Net) (rows : List (List Bool)) : Type 0 where
+pub record IsLeast (net : ConstraintSystem) (rows : List (List Bool)) : Type 0 where
   pub edges : List (List ℕ)
   pub height : length rows ≡ net.nodes
   pub starts : (x : Item) → Contains net.starts x → IsThere rows edges x

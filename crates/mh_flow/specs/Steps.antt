@@ -19,31 +19,31 @@ use Rattle.mh_model.specs.Service.{Service, group_parts}
 use Rattle.mh_laws.specs.Active.{leads_to}
 use Rattle.mh_laws.specs.Flow.{Flow, Sets, fills, has, is_given, is_list_in, is_reference_in}
 use Rattle.mh_laws.specs.Least.{Derived, Reached, Held}
-use Rattle.mh_flow.specs.declared.moves.Place.{Place}
-use Rattle.mh_flow.specs.declared.moves.Spot.{Spot}
-use Rattle.mh_flow.specs.declared.moves.Move.{Move}
+use Rattle.mh_flow.specs.declared.chain.moves.Holder.{Holder}
+use Rattle.mh_flow.specs.declared.chain.moves.ActionSite.{ActionSite}
+use Rattle.mh_flow.specs.declared.chain.moves.Move.{Move}
 use Rattle.mh_flow.specs.Chart.{firsts, handed_argument}
 use Rattle.mh_flow.specs.Sites.{Site, sites_of}
 use Rattle.mh_flow.specs.Solved.{held_by}
 
-abbrev pub place : Config → ObjRef → Place
+abbrev pub place : Config → ObjRef → Holder
 place c r = record { config = c; at = r }
 
-abbrev pub first_spot : Fixed → Spot
+abbrev pub first_spot : Fixed → ActionSite
 first_spot p = record { key = p.key; index = 0 }
 
-abbrev pub site_spot : Site → Spot
+abbrev pub site_spot : Site → ActionSite
 site_spot x = record { key = x.key; index = x.index }
 
 -- a reference comes from nowhere; from a place; and stays with what holds it
 
-abbrev pub comes : Spot → Place → Move
+abbrev pub comes : ActionSite → Holder → Move
 comes s p = record { from = None; spot = Some s; to = p }
 
-abbrev pub goes : Place → Spot → Place → Move
+abbrev pub goes : Holder → ActionSite → Holder → Move
 goes o s p = record { from = Some o; spot = Some s; to = p }
 
-abbrev pub stays : Place → Place → Move
+abbrev pub stays : Holder → Holder → Move
 stays o p = record { from = Some o; spot = None; to = p }
 
 -- the reference is one of these
@@ -51,7 +51,7 @@ abbrev pub is_one_of : List ObjRef → ObjRef → Bool
 is_one_of qs q = list_any (same_ref q) qs
 
 -- A configuration that is reached, with what is present there, the sets that it has, and the references that are sought.
-pub record Ground : Type 0 where
+pub record SearchedConfig : Type 0 where
   pub service : Service
   pub config : Config
   pub present : List Fixed
@@ -59,74 +59,74 @@ pub record Ground : Type 0 where
   pub sought : List ObjRef
 
 -- the same with a list for each that is present
-pub record HeldGround : Type 0 where
+pub record SearchedConfigLem : Type 0 where
   pub service : Service
   pub config : Config
   pub present : List Fixed
   pub held : List (List ObjRef)
   pub sought : List ObjRef
 
-abbrev pub ground_of : HeldGround → Ground
+abbrev pub ground_of : SearchedConfigLem → SearchedConfig
 ground_of h = record { service = h.service; config = h.config; present = h.present; sets = held_by h.present h.held; sought = h.sought }
 
 -- a place there
-abbrev pub there : Ground → ObjRef → Place
+abbrev pub there : SearchedConfig → ObjRef → Holder
 there g r = place g.config r
 
 -- what holds one of them there
-abbrev pub holds : Ground → ObjRef → Bool
+abbrev pub holds : SearchedConfig → ObjRef → Bool
 holds g r = list_any (is_one_of g.sought) (g.sets r)
 
 -- the object has one of them at first
-abbrev pub first_moves : Ground → Fixed → List Move
+abbrev pub first_moves : SearchedConfig → Fixed → List Move
 first_moves g p =
     if list_any (is_one_of g.sought) (firsts p) then comes (first_spot p) (there g p.key) ∷ [] else []
 
 -- Actions. Each function says what the action at a site does where its target comes to an object.
 
 -- it writes one of them there; it hands on what a variable holds
-abbrev pub written_moves : Ground → Site → ObjRef → ObjRef → List Move
+abbrev pub written_moves : SearchedConfig → Site → ObjRef → ObjRef → List Move
 written_moves g x r y = if is_one_of g.sought y then comes (site_spot x) (there g r) ∷ [] else []
 
-abbrev pub read_moves : Ground → Site → ObjRef → ObjRef → List Move
+abbrev pub read_moves : SearchedConfig → Site → ObjRef → ObjRef → List Move
 read_moves g x r y =
     if is_reference_in g.present y && holds g y then goes (there g y) (site_spot x) (there g r) ∷ [] else []
 
 -- the argument brings one of them to the object
-abbrev pub handed_moves : Ground → Site → ObjRef → Argument → List Move
+abbrev pub handed_moves : SearchedConfig → Site → ObjRef → Argument → List Move
 handed_moves g x r (argument.Direct (value.Object y)) = written_moves g x r y
 handed_moves g x r (argument.Direct y) = []
 handed_moves g x r (argument.Through y k) = read_moves g x r y
 handed_moves g x r (argument.Receiver y) = []
 
-abbrev pub given_moves : Ground → Site → ObjRef → List Move
+abbrev pub given_moves : SearchedConfig → Site → ObjRef → List Move
 given_moves g x r =
     if is_given g.present x.act.name r
     then flat_map (handed_moves g x r) (option_to_list (handed_argument x.act)) else []
 
 -- the variable receives what the list has
-abbrev pub received_moves : Ground → Site → ObjRef → ObjRef → List Move
+abbrev pub received_moves : SearchedConfig → Site → ObjRef → ObjRef → List Move
 received_moves g x r y =
     if is_reference_in g.present y then goes (there g r) (site_spot x) (there g y) ∷ [] else []
 
-abbrev pub filled_moves : Ground → Site → ObjRef → List Move
+abbrev pub filled_moves : SearchedConfig → Site → ObjRef → List Move
 filled_moves g x r =
     if fills x.act.name && is_list_in g.present r && holds g r
     then flat_map (received_moves g x r) (receivers x.act.arguments) else []
 
 -- the object takes along what it holds of them
-abbrev pub kept_moves : Ground → Config → Fixed → List Move
+abbrev pub kept_moves : SearchedConfig → Config → Fixed → List Move
 kept_moves g d p = if holds g p.key then stays (there g p.key) (place d p.key) ∷ [] else []
 
-abbrev pub passed_moves : Ground → Config → Option (List ℕ) → List Move
+abbrev pub passed_moves : SearchedConfig → Config → Option (List ℕ) → List Move
 passed_moves g d None = []
 passed_moves g d (Some s) = flat_map (kept_moves g d) (group_parts g.service g.config.app)
 
-abbrev pub led_moves : Ground → Option Config → List Move
+abbrev pub led_moves : SearchedConfig → Option Config → List Move
 led_moves g None = []
 led_moves g (Some d) = passed_moves g d d.scene
 
-abbrev pub done_moves : Ground → Site → ObjRef → List Move
+abbrev pub done_moves : SearchedConfig → Site → ObjRef → List Move
 done_moves g x r =
     given_moves g x r ++ filled_moves g x r ++ led_moves g (leads_to g.service g.config x.act.name r)
 
@@ -135,19 +135,19 @@ abbrev pub targets : List Fixed → Sets → Target → List ObjRef
 targets ps h (target.Direct r) = r ∷ []
 targets ps h (target.Through w) = if is_reference_in ps w then h w else []
 
-abbrev pub site_moves : Ground → Site → List Move
+abbrev pub site_moves : SearchedConfig → Site → List Move
 site_moves g x = flat_map (done_moves g x) (targets g.present g.sets x.act.target)
 
 -- All
 
-abbrev pub moves_in : Ground → List Move
+abbrev pub moves_in : SearchedConfig → List Move
 moves_in g = flat_map (first_moves g) g.present ++ flat_map (site_moves g) (sites_of g.present)
 
-abbrev pub ground : Service → Flow → List ObjRef → Config → Ground
-ground v w qs c = record { service = v; config = c; present = present v c; sets = w.sets c; sought = qs }
+abbrev pub searched_in : Service → Flow → List ObjRef → Config → SearchedConfig
+searched_in v w qs c = record { service = v; config = c; present = present v c; sets = w.sets c; sought = qs }
 
 abbrev pub moves_of : Service → Flow → List ObjRef → List Move
-moves_of v w qs = flat_map (λ c. moves_in (ground v w qs c)) w.configs
+moves_of v w qs = flat_map (λ c. moves_in (searched_in v w qs c)) w.configs
 
 -- the flow has what is derived, and nothing else
 pub record IsExact (v : Service) (w : Flow) : Type 0 where

@@ -1,19 +1,31 @@
 //! How a reference came to a variable or a list.
 //!
 //! Promise: a chain is told wherever the flow has the reference, and of all chains it is the first of the shortest.
+
+pub(crate) mod bringing;
+pub(crate) mod link;
+pub(crate) mod moves;
+pub mod nearest;
+pub(crate) mod origins;
+pub(crate) mod routes;
+pub(crate) mod search;
+pub(crate) mod searched_config;
+pub(crate) mod sought;
+pub(crate) mod steps;
+
 ghost use Rattle.std.specs.Prelude.{◌≡◌, ◌++◌, IfNone, IfOk, IfSome, OnOk};
 ghost use Rattle.mh_laws.specs.Least.{Derived, Held};
 ghost use Rattle.mh_flow.specs.Chains.{IsFirstChain};
 ghost use Rattle.mh_flow.specs.Solved.{IsFlowOf, flow_of};
-ghost use Rattle.mh_flow.specs.Steps.{ground, moves_in, moves_of};
+ghost use Rattle.mh_flow.specs.Steps.{searched_in, moves_in, moves_of};
 
+use crate::chain::link::Link;
+use crate::chain::moves::Move;
+use crate::chain::search::first_links;
+use crate::chain::searched_config::{SearchedConfig, place};
+use crate::chain::sought::alone;
 use crate::equipped::Equipped;
 use crate::flow::Flow;
-use crate::ground::{Ground, place};
-use crate::link::Link;
-use crate::moves::Move;
-use crate::search::first_links;
-use crate::sought::alone;
 use indexmap::IndexSet;
 use mh_base::ObjRef;
 use mh_model::Config;
@@ -30,11 +42,11 @@ fn push_config<'a>(
 ) -> Result<(), AllocError>
     requires { IsFlowOf service.now flow.now }
     ensures { let w = flow_of service.now flow.now.chart flow.now.rows in
-        OnOk result (moves.new.items ≡ moves.old.items ++ moves_in (ground service.now w sought.now.keys config.now)) }
+        OnOk result (moves.new.items ≡ moves.old.items ++ moves_in (searched_in service.now w sought.now.keys config.now)) }
 {
     let present = flow.present(service, config);
     let held = flow.held(alloc, service, config)?;
-    let here = Ground {
+    let here = SearchedConfig {
         service,
         config,
         present: &present,

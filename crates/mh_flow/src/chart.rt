@@ -1,6 +1,9 @@
 //! A service by numbers: its configurations, the references that may be held, and the sets.
 //!
 //! Promise: the numbers are those of the definitions.
+
+pub(crate) mod numbering;
+
 ghost use Rattle.std.specs.Prelude.{◌≡◌, None, if◌then◌else◌, length, IfOk, slice_get};
 ghost use Rattle.std.specs.List.{list_any};
 ghost use Rattle.std.specs.Map.{lookup};
@@ -12,12 +15,12 @@ ghost use Rattle.mh_flow.specs.Chart.{IsChart};
 ghost use Rattle.mh_flow.specs.Index.{AreNamed, held_index, indexed};
 ghost use Rattle.mh_flow.specs.Solved.{is_reached, reached_configs};
 
+use crate::chart::numbering::{first_sets, numbered};
 use crate::equipped::Equipped;
+use crate::fixpoint::sets::Sets;
 use crate::index::{Home, Index, holders_of, home_of, index_of};
-use crate::numbering::{first_sets, numbered};
 use crate::present::{Present, is_scene};
 use crate::references::{put_in_order, put_service};
-use crate::sets::Sets;
 use indexmap::{IndexMap, IndexSet};
 use mh_base::ObjRef;
 use mh_model::Config;

@@ -1,13 +1,20 @@
 //! The search for all that follows.
 //!
 //! Promise: what is found is all that follows from the start, and nothing else.
+
+pub(crate) mod bits;
+pub(crate) mod constraints;
+pub(crate) mod gathered;
+pub(crate) mod rows;
+pub(crate) mod sets;
+
 ghost use Rattle.std.specs.Prelude.{IfOk};
-ghost use Rattle.mh_flow.specs.Net.{IsFit};
+ghost use Rattle.mh_flow.specs.Constraints.{IsFit};
 ghost use Rattle.mh_flow.specs.Sets.{IsLeast};
 
-use crate::gathered::Gathered;
-use crate::net::Rules;
-use crate::sets::Sets;
+use crate::fixpoint::constraints::Rules;
+use crate::fixpoint::gathered::Gathered;
+use crate::fixpoint::sets::Sets;
 use std::alloc::{AllocError, Global};
 
 /// All that follows from the start, and nothing else.

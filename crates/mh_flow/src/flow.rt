@@ -15,8 +15,8 @@ ghost use Rattle.mh_flow.specs.Solved.{IsFlowOf, held_by, held_in, named, reache
 
 use crate::chart::Chart;
 use crate::equipped::Equipped;
+use crate::fixpoint::sets::Sets;
 use crate::present::Present;
-use crate::sets::Sets;
 use mh_base::ObjRef;
 use mh_model::{Config, Fixed, FixedPart};
 use std::alloc::{AllocError, Global};

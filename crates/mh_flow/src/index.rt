@@ -2,6 +2,9 @@
 //!
 //! Promise: what is found under a reference is what the files say of the object to which it leads, and how
 //! many objects stand before it in its group.
+
+pub(crate) mod likely;
+
 ghost use Rattle.std.specs.Prelude.{◌≡◌, ◌++◌, ◌∷◌, [], IfOk, OnOk, false};
 ghost use Rattle.std.specs.Map.{lookup};
 ghost use Rattle.std.specs.Option.{option_copied, is_some};

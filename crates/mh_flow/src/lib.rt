@@ -6,46 +6,26 @@
 //! shortest, and `nearest_of` the first of several references. What is wrong with an action is left to the crates above.
 #![tactic(auto)]
 
-mod bits;
-mod bringing;
 pub mod chain;
 mod chart;
-mod doing;
 mod equipped;
 mod finding;
 mod fixpoint;
 mod flow;
-mod gathered;
-mod ground;
 mod index;
 mod known;
 mod law;
-mod leading;
-mod likely;
-mod link;
-mod moves;
-pub mod nearest;
-mod net;
-mod numbering;
 mod opening;
-mod origins;
-mod place;
+pub mod order;
 mod present;
-mod reaching;
 mod references;
-mod routes;
-mod rows;
-mod search;
-mod sets;
 pub mod sites;
-mod sought;
-mod steps;
 
+pub use chain::link::Link;
 pub use equipped::Equipped;
 pub use finding::flow_of;
 pub use flow::{Flow, Held};
 pub use known::KnownWith;
 pub use law::{chains_say_what_is_held, moves_say_what_is_brought};
-pub use link::Link;
 pub use present::{Present, is_entered};
 pub use sites::Site;

@@ -2,6 +2,12 @@
 //!
 //! Promise: a configuration that is reached, one to which another leads and what a variable holds each open what the
 //! definition says, and nothing that is not there opens anything.
+
+pub(crate) mod doing;
+pub(crate) mod leading;
+pub(crate) mod numbered_config;
+pub(crate) mod reaching;
+
 ghost use Rattle.std.specs.Prelude.{◌≡◌, ◌++◌, [], IfOk, OnOk, slice_get};
 ghost use Rattle.std.specs.Option.{option_map_or};
 ghost use Rattle.mh_model.specs.Configuration.{starting};
@@ -9,8 +15,8 @@ ghost use Rattle.mh_flow.specs.Opening as spec;
 
 use crate::chart::{Chart, Set};
 use crate::equipped::Equipped;
-use crate::net::{Fact, Item, Rules};
-use crate::place::{Place, push_member};
+use crate::fixpoint::constraints::{Fact, Item, Rules};
+use crate::opening::numbered_config::{NumberedConfig, push_member};
 use mh_model::Config;
 use std::alloc::{AllocError, Global};
 use std::marker::Model;
@@ -76,12 +82,12 @@ fn starting(service: &Equipped<'_>) -> Result<Config, AllocError>
 
 impl<'a> Opening<'a> {
     /// The configuration with this number.
-    fn place(&self, number: usize) -> Option<Place<'a>>
+    fn place(&self, number: usize) -> Option<NumberedConfig<'a>>
         ensures { result ≡ spec.place_of self.now.service self.now.chart number }
     {
         match self.chart.config_at(number) {
             None => None,
-            Some((config, bases)) => Some(Place {
+            Some((config, bases)) => Some(NumberedConfig {
                 service: self.service,
                 chart: self.chart,
                 number,

@@ -17,7 +17,7 @@ ghost use Rattle.mh_model.specs.Service.{part_at};
 
 use crate::equipped::Equipped;
 use crate::index::Index;
-use crate::likely::place_among;
+use crate::index::likely::place_among;
 use mh_base::{GroupName, ObjRef, Value};
 use mh_group::{ActionName, Attribute, Class};
 use mh_model::held::as_value;

@@ -12,15 +12,16 @@ ghost use Rattle.mh_laws.specs.Flow.{reads_reference};
 ghost use Rattle.mh_model.specs.Variables.{same_kind};
 
 use crate::equipped::Equipped;
+use crate::order::by_reference;
 use crate::present::{is_list, refers};
-use crate::sites::{Site, members, sites};
+use crate::sites::{Site, sites};
 use indexmap::IndexSet;
 use mh_base::{Kind, ObjRef, Value};
 use mh_group::{ActionName, Attribute};
 use mh_model::held::as_value;
+use mh_model::parts::members;
 use mh_model::{Act, Argument, Fixed, FixedPart, Member, Target};
 use std::alloc::{AllocError, Global};
-use std::cmp::Ordering;
 
 /// The argument that the action hands on as a reference, if it hands one on.
 pub(crate) fn handed(act: &Act) -> Option<&Argument>
@@ -268,12 +269,4 @@ pub(crate) fn put_in_order(references: &mut IndexSet<ObjRef>) -> Result<(), Allo
 {
     references.sort_by(by_reference)?;
     Ok(())
-}
-
-/// By name of the group, then by number.
-fn by_reference(first: &ObjRef, second: &ObjRef) -> Ordering
-    ensures { result ≡ order.by_reference first.now second.now }
-{
-    let group = first.group.as_bytes().cmp(&second.group.as_bytes());
-    group.then(first.number.cmp(&second.number))
 }

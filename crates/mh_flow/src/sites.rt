@@ -4,14 +4,12 @@
 ghost use Rattle.std.specs.Prelude.{◌≡◌, ◌++◌, ◌∷◌, [], suc, length, filter, IfOk, OnOk};
 ghost use Rattle.std.specs.List.{flat_map};
 ghost use Rattle.mh_laws.specs.Active.{is_active};
-ghost use Rattle.mh_model.specs.Tokens.{members as members_lem};
 ghost use Rattle.mh_flow.specs.Sites.{numbered, through_effects, sites as sites_lem, sites_of};
 
 use crate::present::Present;
 use mh_base::ObjRef;
 use mh_group::Attribute;
-use mh_model::held::as_members;
-use mh_model::parts::effect_of;
+use mh_model::parts::{effect_of, members};
 use mh_model::{Act, Effect, Fixed, FixedPart, Member};
 use std::alloc::{AllocError, Global};
 use std::marker::Model;
@@ -115,13 +113,6 @@ fn push_members<'a>(
         push_slots(sites, key, member.slots.as_slice())?;
     }
     Ok(())
-}
-
-/// The members of a group of objects; none of any other object.
-pub fn members(part: &Fixed) -> &[Member]
-    ensures { result.now ≡ members_lem part.now }
-{
-    as_members(part.properties.get(Attribute::TokenGroupItems))
 }
 
 /// The sites of an object: start-up, close-down, what a link does, and slots.

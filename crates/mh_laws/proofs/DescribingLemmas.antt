@@ -14,7 +14,7 @@ use Rattle.mh_group.specs.Table.{is_list_group}
 use Rattle.mh_model.specs.declared.act.Act.{Act}
 use Rattle.mh_model.specs.declared.item.Item.{Item}
 use Rattle.mh_model.specs.declared.item.Item.TheVariants as item
-use Rattle.mh_model.specs.declared.listing.Entry.{Entry}
+use Rattle.mh_model.specs.declared.object.listing.Entry.{Entry}
 use Rattle.mh_model.specs.declared.object.Body.{Body}
 use Rattle.mh_model.specs.declared.object.Fixed.{Fixed}
 use Rattle.mh_model.specs.declared.object.Object.{Object}

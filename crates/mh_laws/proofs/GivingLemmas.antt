@@ -12,8 +12,8 @@ use Rattle.mh_group.specs.declared.class.Class.{Class}
 use Rattle.mh_group.specs.declared.class.Class.TheVariants as class
 use Rattle.mh_group.specs.declared.attribute.Attribute.{Attribute}
 use Rattle.mh_group.specs.declared.attribute.Attribute.TheVariants as attribute
-use Rattle.mh_model.specs.declared.drawing.Figure.{Figure}
-use Rattle.mh_model.specs.declared.drawing.Figure.TheVariants as figure
+use Rattle.mh_model.specs.declared.picture.drawing.Figure.{Figure}
+use Rattle.mh_model.specs.declared.picture.drawing.Figure.TheVariants as figure
 use Rattle.mh_model.specs.declared.object.Body.{Body}
 use Rattle.mh_model.specs.declared.object.Fixed.{Fixed}
 use Rattle.mh_model.specs.Property.{held, value_held, as_value, as_reference}

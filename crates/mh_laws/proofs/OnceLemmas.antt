@@ -12,8 +12,8 @@ use Rattle.mh_group.specs.declared.action_name.ActionName.{ActionName}
 use Rattle.mh_group.specs.declared.action_name.ActionName.TheVariants as action
 use Rattle.mh_group.specs.declared.attribute.Attribute.{Attribute}
 use Rattle.mh_group.specs.declared.attribute.Attribute.TheVariants as attribute
-use Rattle.mh_model.specs.declared.listing.Entry.{Entry}
-use Rattle.mh_model.specs.declared.member.Member.{Member}
+use Rattle.mh_model.specs.declared.object.listing.Entry.{Entry}
+use Rattle.mh_model.specs.declared.object.member.Member.{Member}
 use Rattle.mh_model.specs.declared.object.Body.{Body}
 use Rattle.mh_model.specs.declared.object.Fixed.{Fixed}
 use Rattle.mh_model.specs.Bodies.{changed_by, coloured, fits_value, given, given_number, number_of, pointed, stored, text_of}

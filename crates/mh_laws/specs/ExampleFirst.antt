@@ -7,7 +7,7 @@ use Rattle.mh_base.specs.declared.event.EventType.TheVariants as event
 use Rattle.mh_group.specs.declared.class.Class.TheVariants as class
 use Rattle.mh_group.specs.declared.action_name.ActionName.TheVariants as action
 use Rattle.mh_group.specs.declared.attribute.Attribute.TheVariants as attribute
-use Rattle.mh_model.specs.declared.cell.Cell.{Cell}
+use Rattle.mh_model.specs.declared.picture.cell.Cell.{Cell}
 use Rattle.mh_model.specs.declared.act.Act.{Act}
 use Rattle.mh_model.specs.declared.fault.Fault.{Fault}
 use Rattle.mh_model.specs.declared.fault.FaultKind.TheVariants as fault

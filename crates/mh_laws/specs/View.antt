@@ -15,7 +15,7 @@ use Rattle.mh_model.specs.declared.act.Argument.{Argument}
 use Rattle.mh_model.specs.declared.act.Argument.TheVariants as argument
 use Rattle.mh_model.specs.declared.act.Target.{Target}
 use Rattle.mh_model.specs.declared.act.Target.TheVariants as target
-use Rattle.mh_model.specs.declared.member.Member.{Member}
+use Rattle.mh_model.specs.declared.object.member.Member.{Member}
 use Rattle.mh_model.specs.declared.object.Fixed.{Fixed}
 use Rattle.mh_model.specs.Groups.{is_initially_active, is_shared}
 use Rattle.mh_model.specs.Saying.{event_numbered}

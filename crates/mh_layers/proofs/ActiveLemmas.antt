@@ -11,14 +11,14 @@ use Rattle.mh_laws.proofs.NodeLemmas.{config_among}
 use Rattle.mh_layers.specs.declared.node_key.NodeKey.{NodeKey}
 use Rattle.mh_layers.specs.declared.node_key.NodeKey.TheVariants as key
 use Rattle.mh_layers.specs.Reading.{IsReading, Reading, config_number, flow_read, object_number, same_setting, settings}
-use Rattle.mh_layers.specs.Standings.{effect_named}
+use Rattle.mh_layers.specs.EffectSites.{effect_named}
 use Rattle.mh_layers.specs.Trails.{IsActive, IsStep}
 use Rattle.mh_layers.proofs.ListeningLemmas.{objects_numbered, present_among, tells_objects}
 use Rattle.mh_layers.proofs.MetLemmas.{found_among, there_found}
 use Rattle.mh_layers.proofs.PositionLemmas.{position_is, position_there, put_all}
 use Rattle.mh_layers.proofs.ReadingLemmas.{setting_itself, tells_settings}
 use Rattle.mh_layers.proofs.SpotLemmas.{got_there}
-use Rattle.mh_layers.proofs.WebLemmas.{active_kept}
+use Rattle.mh_layers.proofs.KeyGraphLemmas.{active_kept}
 
 config_at : (r : Reading) (c : Config) → reached (flow_read r) c ≡ true → slice_get (settings r) (config_number r c) ≡ Some c
 config_at r c here =

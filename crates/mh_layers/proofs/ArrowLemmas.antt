@@ -36,23 +36,23 @@ use Rattle.mh_laws.specs.Layers.{IsOn}
 use Rattle.mh_laws.specs.Safe.{exchanged}
 use Rattle.mh_laws.proofs.EachLemmas.{among_each, among_filtered, among_joined, among_left, among_right, each_among}
 use Rattle.mh_flow.specs.Sites.{Site, numbered, sites, sites_of, through_effects}
-use Rattle.mh_layers.specs.declared.arrow.Arrow.{Arrow}
-use Rattle.mh_layers.specs.declared.arrow.By.TheVariants as by
-use Rattle.mh_layers.specs.declared.arrow.Held.{Held}
+use Rattle.mh_layers.specs.declared.arrows.arrow.Arrow.{Arrow}
+use Rattle.mh_layers.specs.declared.arrows.arrow.By.TheVariants as by
+use Rattle.mh_layers.specs.declared.arrows.arrow.Held.{Held}
 use Rattle.mh_layers.specs.declared.cause.Cause.{Cause}
 use Rattle.mh_layers.specs.declared.node_key.NodeKey.{NodeKey}
 use Rattle.mh_layers.specs.declared.node_key.NodeKey.TheVariants as key
 use Rattle.mh_layers.specs.Arrows.{IsGrantedBy, IsWhere, comes_to, counts, granted, is_action_in, is_action_of, is_waited_for, number_by}
 use Rattle.mh_layers.specs.Cycle.{cause_of, first_number}
-use Rattle.mh_layers.specs.Deeds.{Doing, IsDoing, number_in}
+use Rattle.mh_layers.specs.Applied.{AppliedAction, IsApplied, number_in}
 use Rattle.mh_layers.specs.Granting.{held_for, with_items}
 use Rattle.mh_layers.specs.Keys.{data_of}
 use Rattle.mh_layers.specs.Listening.{source_of, type_of}
 use Rattle.mh_layers.specs.Reading.{IsReading, Reading, flow_read, heard_read}
-use Rattle.mh_layers.specs.Standings.{effect_named}
+use Rattle.mh_layers.specs.EffectSites.{effect_named}
 use Rattle.mh_layers.specs.Trails.{IsArrowFor, IsArrowOf, IsStep, LeadsTo}
 use Rattle.mh_layers.proofs.CausingLemmas.{tested}
-use Rattle.mh_layers.proofs.DeedLemmas.{deed_counts}
+use Rattle.mh_layers.proofs.AppliedLemmas.{deed_counts}
 use Rattle.mh_layers.proofs.FocusLemmas.{counts_put, focused}
 use Rattle.mh_layers.proofs.FoundLemmas.{present_found}
 use Rattle.mh_layers.proofs.GrantLemmas.{IsAt, IsHeldAt, all_focused, all_granted, comes_there, put_flow, source_named}
@@ -170,7 +170,7 @@ comes_targets v c d hs a (target.Through x) t there = there
 
 -- from one active effect to another, to which the key leads
 is_arrow_for : (r : Reading) → IsReading r → (x y : Effect) → IsOn r.service (flow_read r) x → IsOn r.service (flow_read r) y → (first : NodeKey) → LeadsTo r first y → (part aim : Fixed) → part_at x.object (present r.service x.config) ≡ Some part → part_at y.object (present r.service y.config) ≡ Some aim
-    → (d : Doing) → IsDoing r x.config (effect_at part x.number) first d → (a : Arrow) → a.cause ≡ cause_of r.service x → a.index ≡ a.cause.index + d.offset → a.action ≡ d.act.name → a.held ≡ held_for r.service (flow_read r) x.config d.act d.at (source_of aim)
+    → (d : AppliedAction) → IsApplied r x.config (effect_at part x.number) first d → (a : Arrow) → a.cause ≡ cause_of r.service x → a.index ≡ a.cause.index + d.offset → a.action ≡ d.act.name → a.held ≡ held_for r.service (flow_read r) x.config d.act d.at (source_of aim)
     → number_by a.by ≡ y.number → is_waited_for a.by aim ≡ true → IsArrowFor r.service (flow_read r) x y a
 is_arrow_for r read x y on_x on_y first leads part aim at aim_at d doing a cause index action held number waits = record {
   cause = cause;
@@ -247,9 +247,9 @@ is_arrow_for r read x y on_x on_y first leads part aim at aim_at d doing a cause
         (subst (λ (h : List Held). counts y (act r.service (put_flow r.service x.config y.config h d.act) x.config d.act) ≡ true) (sym held) by_all)
 
 pub is_arrow : (r : Reading) → IsReading r → (from first to : NodeKey) → IsStep r from first to → (part aim : Fixed) → part_at (effect_named r from).object (present r.service (effect_named r from).config) ≡ Some part
-    → part_at (effect_named r to).object (present r.service (effect_named r to).config) ≡ Some aim → (d : Doing) → IsDoing r (effect_named r from).config (effect_at part (number_in from)) first d → (a : Arrow) → a.cause ≡ cause_of r.service (effect_named r from) → a.index ≡ a.cause.index + d.offset → a.action ≡ d.act.name
+    → part_at (effect_named r to).object (present r.service (effect_named r to).config) ≡ Some aim → (d : AppliedAction) → IsApplied r (effect_named r from).config (effect_at part (number_in from)) first d → (a : Arrow) → a.cause ≡ cause_of r.service (effect_named r from) → a.index ≡ a.cause.index + d.offset → a.action ≡ d.act.name
     → a.held ≡ held_for r.service (flow_read r) (effect_named r from).config d.act d.at (source_of aim) → number_by a.by ≡ number_in to → is_waited_for a.by aim ≡ true → IsArrowOf r from to a
 is_arrow r read from first to step part aim at aim_at d doing a cause index action held number waits =
     is_arrow_for r read (effect_named r from) (effect_named r to) step.from_on step.to_on first step.onward part aim at aim_at d
-    (subst (λ (n : ℕ). IsDoing r (effect_named r from).config (effect_at part n) first d) (sym (number_named r from)) doing) a
+    (subst (λ (n : ℕ). IsApplied r (effect_named r from).config (effect_at part n) first d) (sym (number_named r from)) doing) a
     cause index action held (number ∙ sym (number_named r to)) waits

@@ -7,7 +7,7 @@ use Rattle.mh_laws.specs.Each.{Among, Each}
 use Rattle.mh_laws.proofs.EachLemmas.{among_each, each_among, got_among}
 use Rattle.mh_layers.specs.declared.node_key.NodeKey.{NodeKey}
 use Rattle.mh_layers.specs.Key.{Key, Effect}
-use Rattle.mh_layers.specs.Asked.{Stays}
+use Rattle.mh_layers.specs.Successors.{Stays}
 use Rattle.mh_layers.specs.Caused.{AreOpened, AreReached, IsCounted, IsNamed, IsOpened, IsPut}
 use Rattle.mh_layers.specs.Causing as causing
 use Rattle.mh_layers.specs.Causing.{Counts, is_effect}
@@ -16,15 +16,15 @@ use Rattle.mh_layers.specs.NodeKeys.{same_key}
 use Rattle.mh_layers.specs.NodeKeyLaws.{key_itself}
 use Rattle.mh_layers.specs.Reading.{IsReading, Reading, flow_read, heard_read, kept, name, number}
 use Rattle.mh_layers.specs.Stretches.{is_effect_key}
-use Rattle.mh_layers.specs.Web.{counted}
-use Rattle.mh_layers.proofs.AskedLemmas.{among_got, any_among, each_put, stays_all, stays_among}
+use Rattle.mh_layers.specs.KeyGraph.{counted}
+use Rattle.mh_layers.proofs.SuccessorLemmas.{among_got, any_among, each_put, stays_all, stays_among}
 use Rattle.mh_layers.proofs.BridgeLemmas.{met_kept}
 use Rattle.mh_layers.proofs.CausingLemmas.{counted_kept}
 use Rattle.mh_layers.proofs.ChainLemmas.{counts_met, counts_more}
 use Rattle.mh_layers.proofs.PositionLemmas.{put_all}
 use Rattle.mh_layers.proofs.ReadingLemmas.{numbers_are_names}
 use Rattle.mh_layers.proofs.ServeLemmas.{read_of}
-use Rattle.mh_layers.proofs.WebLemmas.{Kept, counts_number, number_counts}
+use Rattle.mh_layers.proofs.KeyGraphLemmas.{Kept, counts_number, number_counts}
 
 -- PLACES
 

@@ -23,7 +23,7 @@ use Rattle.mh_layers.specs.Causing.{Counts, is_effect}
 use Rattle.mh_layers.specs.Cycle as cycle
 use Rattle.mh_layers.specs.Cycle.{Leads}
 use Rattle.mh_layers.specs.Keys.{Heard, IsKept, IsMet, price_of}
-use Rattle.mh_layers.specs.Web.{effect_to, effects_along}
+use Rattle.mh_layers.specs.KeyGraph.{effect_to, effects_along}
 use Rattle.mh_layers.proofs.CausingLemmas.{counted_kept, counted_met, keys_cause}
 
 -- What keys count

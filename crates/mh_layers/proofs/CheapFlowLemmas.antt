@@ -1,8 +1,5 @@
 -- The least flow is within each solution: nothing stands more often in its sets, and it reaches no others.
 use Rattle.std.specs.Prelude.{◌≡◌, ◌≤◌, ◌+◌, Bool, true, false, ◌||◌, List, [], ◌∷◌, refl}
-use Rattle.std.specs.Cmp.{IsTotalOrder, nat_cmp_total, on_total, then_total}
-use Rattle.std.specs.Cmp.Derive.{both_true}
-use Rattle.std.specs.Cmp.Lexicographic.{nat_list_cmp_total}
 use Rattle.std.specs.List.{list_any}
 use Rattle.std.specs.Ordering.{is_lt, ordering_reverse}
 use Rattle.std.specs.declared.cmp.Ordering.{Ordering}
@@ -12,7 +9,7 @@ use Rattle.mh_base.specs.declared.obj_ref.ObjRef.{ObjRef}
 use Rattle.mh_model.specs.declared.config.Config.{Config}
 use Rattle.mh_model.specs.Reference.{same_ref}
 use Rattle.mh_model.specs.Service.{Service}
-use Rattle.mh_model.proofs.ListLemmas.{and_left, and_right}
+use Rattle.mh_model.proofs.ListLemmas.{and_left}
 use Rattle.mh_model.proofs.ServiceLemmas.{same_ref-same}
 use Rattle.mh_laws.specs.Flow.{Flow, IsSolution, has, reached}
 use Rattle.mh_laws.specs.Least.{Held, IsLeast, Reached, are_ascending, by_reference}
@@ -22,6 +19,7 @@ use Rattle.mh_laws.proofs.NodeLemmas.{among_is, config_among}
 use Rattle.mh_laws.proofs.OnceLemmas.{holds_count}
 use Rattle.mh_laws.proofs.SetLemmas.{same_itself}
 use Rattle.mh_laws.proofs.SumLemmas.{IsCount}
+use Rattle.mh_flow.proofs.OrderLemmas.{reference_total, skipped, tail_ascends}
 use Rattle.mh_layers.proofs.CheapListLemmas.{Within, counted_within}
 
 pub record IsWithin (least w : Flow) : Type 0 where
@@ -39,9 +37,6 @@ configs_within least w k c there = config_among w.configs c (k.configs c (among_
 
 -- Lists in their order have each reference once
 
-reference_total : IsTotalOrder by_reference
-reference_total = then_total (on_total (λ (r : ObjRef). r.group) nat_list_cmp_total) (on_total (λ (r : ObjRef). r.number) nat_cmp_total)
-
 never_before : (q : ObjRef) → is_lt (by_reference q q) ≡ false
 never_before q = by (by_reference q q) refl
   where
@@ -49,27 +44,6 @@ never_before q = by (by_reference q q) refl
     by Less e = let never : Less ≡ Greater = sym e ∙ reference_total.antisymm q q ∙ ap ordering_reverse e in absurd cc
     by Equal e = refl
     by Greater e = refl
-
-less_is : (o : Ordering) → is_lt o ≡ true → o ≡ Less
-less_is Less e = refl
-less_is Equal e = absurd cc
-less_is Greater e = absurd cc
-
-less_less : (a b c : ObjRef) → is_lt (by_reference a b) ≡ true → is_lt (by_reference b c) ≡ true → is_lt (by_reference a c) ≡ true
-less_less a b c e f = ap is_lt (reference_total.trans a b c (less_is (by_reference a b) e) (less_is (by_reference b c) f))
-
--- without the second
-skipped : (q r : ObjRef) (rs : List ObjRef) → are_ascending (q ∷ r ∷ rs) ≡ true → are_ascending (q ∷ rs) ≡ true
-skipped q r [] h = refl
-skipped q r (s ∷ rs) h =
-    let first = and_left (is_lt (by_reference q r)) (are_ascending (r ∷ s ∷ rs)) h in
-    let behind = and_right (is_lt (by_reference q r)) (are_ascending (r ∷ s ∷ rs)) h in
-    let second = and_left (is_lt (by_reference r s)) (are_ascending (s ∷ rs)) behind in
-    both_true (less_less q r s first second) (and_right (is_lt (by_reference r s)) (are_ascending (s ∷ rs)) behind)
-
-tail_ascends : (q : ObjRef) (rs : List ObjRef) → are_ascending (q ∷ rs) ≡ true → are_ascending rs ≡ true
-tail_ascends q [] h = refl
-tail_ascends q (r ∷ rs) h = and_right (is_lt (by_reference q r)) (are_ascending (r ∷ rs)) h
 
 -- the first does not stand again behind itself
 first_once : (q : ObjRef) (rs : List ObjRef) → are_ascending (q ∷ rs) ≡ true → count_of q rs ≡ 0

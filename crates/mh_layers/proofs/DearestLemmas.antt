@@ -10,13 +10,13 @@ use Rattle.std.proofs.lemmas.Option.{slice_get_within}
 use Rattle.mh_laws.specs.Each.{Among}
 use Rattle.mh_laws.proofs.EachLemmas.{among_left, among_right}
 use Rattle.mh_layers.specs.declared.cause.Cause.{Cause}
-use Rattle.mh_layers.specs.declared.dearest.Dearest.{Dearest}
+use Rattle.mh_layers.specs.declared.ways.dearest.Dearest.{Dearest}
 use Rattle.mh_layers.specs.declared.node_key.NodeKey.{NodeKey}
 use Rattle.mh_layers.specs.Choosing.{AreChosen, IsChosen, IsLargest, IsLargestTo, IsSeen, effect_cost, is_dearer, number_at}
-use Rattle.mh_layers.specs.Cycle.{by_standing}
+use Rattle.mh_layers.specs.Cycle.{by_effect_site}
 use Rattle.mh_layers.specs.Layering.{Places}
 use Rattle.mh_layers.specs.Reading.{Reading}
-use Rattle.mh_layers.specs.Standings.{cause_named}
+use Rattle.mh_layers.specs.EffectSites.{cause_named}
 use Rattle.mh_layers.proofs.CausedLemmas.{before_or_at}
 use Rattle.mh_layers.proofs.WalkLemmas.{before_none, before_on, behind_one}
 
@@ -43,7 +43,7 @@ not_both true b e h = e
 not_both false b e h = absurd cc
 
 -- the best stays, where the key costs no more, and does not come before it if it costs as much
-still : (r : Reading) (ts : Places) (seen : List NodeKey) (k : NodeKey) (b : Dearest) → IsChosen r ts seen b → effect_cost ts k ≤ b.cost → (effect_cost ts k ≡ b.cost → is_lt (by_standing (cause_named r k) b.cause) ≡ false) → IsChosen r ts (seen ++ k ∷ []) b
+still : (r : Reading) (ts : Places) (seen : List NodeKey) (k : NodeKey) (b : Dearest) → IsChosen r ts seen b → effect_cost ts k ≤ b.cost → (effect_cost ts k ≡ b.cost → is_lt (by_effect_site (cause_named r k) b.cause) ≡ false) → IsChosen r ts (seen ++ k ∷ []) b
 still r ts seen k b best less later = record {
   there = among_left seen (k ∷ []) b.key best.there;
   cause = best.cause;
@@ -62,28 +62,28 @@ seen_nothing r ts k (Some b) none = record {
 pub seen_later : (r : Reading) (ts : Places) (k : NodeKey) (x : Cause) (cost : ℕ) (old : Option Dearest) → cost ≡ effect_cost ts k → x ≡ cause_named r k → option_map_or (is_dearer cost x) old true ≡ false → IsSeen r ts k old old
 seen_later r ts k x cost None at is later = absurd cc
 seen_later r ts k x cost (Some b) at is later = record {
-  best = λ seen best. still r ts seen k b best (subst (λ (n : ℕ). n ≤ b.cost) at most) (λ e. subst (λ (y : Cause). is_lt (by_standing y b.cause) ≡ false) is (behind (at ∙ e)));
+  best = λ seen best. still r ts seen k b best (subst (λ (n : ℕ). n ≤ b.cost) at most) (λ e. subst (λ (y : Cause). is_lt (by_effect_site y b.cause) ≡ false) is (behind (at ∙ e)));
 }
   where
-    two : (nat_lt b.cost cost ≡ false) × ((cost == b.cost && is_lt (by_standing x b.cause)) ≡ false)
-    two = neither (nat_lt b.cost cost) (cost == b.cost && is_lt (by_standing x b.cause)) later
+    two : (nat_lt b.cost cost ≡ false) × ((cost == b.cost && is_lt (by_effect_site x b.cause)) ≡ false)
+    two = neither (nat_lt b.cost cost) (cost == b.cost && is_lt (by_effect_site x b.cause)) later
 
     most : cost ≤ b.cost
     most = ltb-false b.cost cost two.0
 
-    behind : cost ≡ b.cost → is_lt (by_standing x b.cause) ≡ false
-    behind e = not_both (cost == b.cost) (is_lt (by_standing x b.cause)) two.1 ((Decides-eqb cost b.cost).1 e)
+    behind : cost ≡ b.cost → is_lt (by_effect_site x b.cause) ≡ false
+    behind e = not_both (cost == b.cost) (is_lt (by_effect_site x b.cause)) two.1 ((Decides-eqb cost b.cost).1 e)
 
 -- the key is the best now
 now_best : (r : Reading) (ts : Places) (seen : List NodeKey) (k : NodeKey) (b : Dearest) → b.key ≡ k → b.cause ≡ cause_named r k → b.cost ≡ effect_cost ts k → 0 < b.cost → ((j : NodeKey) → Among seen j → effect_cost ts j ≤ b.cost)
-    → ((j : NodeKey) → Among seen j → effect_cost ts j ≡ b.cost → is_lt (by_standing (cause_named r j) b.cause) ≡ false) → IsChosen r ts (seen ++ k ∷ []) b
+    → ((j : NodeKey) → Among seen j → effect_cost ts j ≡ b.cost → is_lt (by_effect_site (cause_named r j) b.cause) ≡ false) → IsChosen r ts (seen ++ k ∷ []) b
 now_best r ts seen k b own is at some most first = record {
   there = among_right seen (k ∷ []) b.key (inl (sym own));
   cause = is ∙ ap (cause_named r) (sym own);
   cost = at ∙ ap (effect_cost ts) (sym own);
   costs = some;
   most = behind_one seen k most (omega (arith, at));
-  first = behind_one seen k first (λ e. not_true (is_lt (by_standing (cause_named r k) b.cause)) (λ h. before_none b.cause (subst (λ (y : Cause). is_lt (by_standing y b.cause) ≡ true) (sym is) h)));
+  first = behind_one seen k first (λ e. not_true (is_lt (by_effect_site (cause_named r k) b.cause)) (λ h. before_none b.cause (subst (λ (y : Cause). is_lt (by_effect_site y b.cause) ≡ true) (sym is) h)));
 }
 
 pub seen_best : (r : Reading) (ts : Places) (k : NodeKey) (b : Dearest) (old new : Option Dearest) → b.key ≡ k → b.cause ≡ cause_named r k → b.cost ≡ effect_cost ts k → (b.cost == 0) ≡ false → option_map_or (is_dearer b.cost b.cause) old true ≡ true → new ≡ Some b → IsSeen r ts k old new
@@ -106,7 +106,7 @@ seen_best r ts k b None new own is at some first now = record {
     nothing_equal : (n : ℕ) → n ≡ 0 → n ≡ b.cost → ⊥
     nothing_equal n e same = omega (arith, e, same, positive)
 seen_best r ts k b (Some a) new own is at some first now = record {
-  best = λ seen best. subst (AreChosen r ts (seen ++ k ∷ [])) (sym now) (by seen best (either_true (nat_lt a.cost b.cost) (b.cost == a.cost && is_lt (by_standing b.cause a.cause)) first));
+  best = λ seen best. subst (AreChosen r ts (seen ++ k ∷ [])) (sym now) (by seen best (either_true (nat_lt a.cost b.cost) (b.cost == a.cost && is_lt (by_effect_site b.cause a.cause)) first));
 }
   where
     less_than : (l m n : ℕ) → l ≤ m → m < n → l ≤ n
@@ -118,16 +118,16 @@ seen_best r ts k b (Some a) new own is at some first now = record {
     positive : (m n : ℕ) → 0 < m → m < n → 0 < n
     positive m n h i = omega (arith, h, i)
 
-    by : (seen : List NodeKey) → IsChosen r ts seen a → (nat_lt a.cost b.cost ≡ true) ⊎ ((b.cost == a.cost && is_lt (by_standing b.cause a.cause)) ≡ true) → IsChosen r ts (seen ++ k ∷ []) b
+    by : (seen : List NodeKey) → IsChosen r ts seen a → (nat_lt a.cost b.cost ≡ true) ⊎ ((b.cost == a.cost && is_lt (by_effect_site b.cause a.cause)) ≡ true) → IsChosen r ts (seen ++ k ∷ []) b
     by seen best (inl h) =
         let less : a.cost < b.cost = ltb-true a.cost b.cost h in
         now_best r ts seen k b own is at (positive a.cost b.cost best.costs less) (λ j there. less_than (effect_cost ts j) a.cost b.cost (best.most j there) less)
         (λ j there e. absurd (more (effect_cost ts j) a.cost b.cost (best.most j there) less e))
     by seen best (inr h) =
-        let two = both_true (b.cost == a.cost) (is_lt (by_standing b.cause a.cause)) h in
+        let two = both_true (b.cost == a.cost) (is_lt (by_effect_site b.cause a.cause)) h in
         let same : b.cost ≡ a.cost = (Decides-eqb b.cost a.cost).0 two.0 in
         now_best r ts seen k b own is at (subst (λ (n : ℕ). 0 < n) (sym same) best.costs) (λ j there. subst (λ (n : ℕ). effect_cost ts j ≤ n) (sym same) (best.most j there))
-        (λ j there e. not_true (is_lt (by_standing (cause_named r j) b.cause)) (λ lt. true≢false (sym (before_on (cause_named r j) b.cause a.cause lt two.1) ∙ best.first j there (e ∙ same))))
+        (λ j there e. not_true (is_lt (by_effect_site (cause_named r j) b.cause)) (λ lt. true≢false (sym (before_on (cause_named r j) b.cause a.cause lt two.1) ∙ best.first j there (e ∙ same))))
 
 pub chosen_more : (r : Reading) (ts : Places) (ks : List NodeKey) (i : ℕ) (d : NodeKey) (old new : Option Dearest) → i < length ks → AreChosen r ts (take i ks) old → IsSeen r ts (get_or ks i d) old new → AreChosen r ts (take (i + 1) ks) new
 chosen_more r ts ks i d old new less so_far seen =

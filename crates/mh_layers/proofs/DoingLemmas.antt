@@ -21,13 +21,13 @@ use Rattle.mh_laws.proofs.PriceLemmas.{nodes_if, nodes_most, nodes_of, nodes_sum
 use Rattle.mh_layers.specs.declared.node_key.NodeKey.{NodeKey}
 use Rattle.mh_layers.specs.declared.node_key.NodeKey.TheVariants as key
 use Rattle.mh_layers.specs.Key.{Key, Effect}
-use Rattle.mh_layers.specs.Deeds.{CountsKey, Doing, IsDoing, NoDoing, NoneCounts, number_in, puts_so}
+use Rattle.mh_layers.specs.Applied.{CountsKey, AppliedAction, IsApplied, NoneApplied, NoneCounts, number_in, puts_so}
 use Rattle.mh_layers.specs.Keys.{effect_of}
 use Rattle.mh_layers.specs.Reading.{Reading, around_at, flow_read, heard_read, number, price_read, spot_in}
-use Rattle.mh_layers.specs.Standings.{effect_named}
+use Rattle.mh_layers.specs.EffectSites.{effect_named}
 use Rattle.mh_layers.specs.Trails.{IsStep}
-use Rattle.mh_layers.proofs.AskedLemmas.{among_got, got_pushed}
-use Rattle.mh_layers.proofs.WebLemmas.{counted_numbered}
+use Rattle.mh_layers.proofs.SuccessorLemmas.{among_got, got_pushed}
+use Rattle.mh_layers.proofs.KeyGraphLemmas.{counted_numbered}
 
 -- What an effect counts
 
@@ -58,12 +58,12 @@ effect_puts r c o n part at =
 -- The action
 
 abbrev HasDoing : Reading → Config → List Act → NodeKey → Type 0
-HasDoing r c acts k = (d : Doing) × IsDoing r c acts k d
+HasDoing r c acts k = (d : AppliedAction) × IsApplied r c acts k d
 
 put_does : (r : Reading) (c : Config) (acts : List Act) (first : NodeKey) (k : Key) → number r k ≡ first → IsPut r c acts k → HasDoing r c acts first
 put_does r c acts first k is put =
     let at = among_got acts put.0 put.1 in
-    let d : Doing = record { offset = at.0; act = put.0; at = put.2 } in (
+    let d : AppliedAction = record { offset = at.0; act = put.0; at = put.2 } in (
       d,
       record {
         place = at.1;
@@ -102,12 +102,12 @@ none_more r c a ts i d k less before here =
     by t (inr (inl same)) counts = here (subst (λ (o : ObjRef). CountsKey r c a o k) (sym same) counts)
     by t (inr (inr never)) counts = absurd cc
 
-pub does_more : (r : Reading) (c : Config) (acts : List Act) (i : ℕ) (e : Act) (k : NodeKey) → i < length acts → NoDoing r c (take i acts) k → NoneCounts r c (get_or acts i e) (targets (flow_read r) c (get_or acts i e).target) k → NoDoing r c (take (i + 1) acts) k
+pub does_more : (r : Reading) (c : Config) (acts : List Act) (i : ℕ) (e : Act) (k : NodeKey) → i < length acts → NoneApplied r c (take i acts) k → NoneCounts r c (get_or acts i e) (targets (flow_read r) c (get_or acts i e).target) k → NoneApplied r c (take (i + 1) acts) k
 does_more r c acts i e k less before here =
-    subst (λ (xs : List Act). NoDoing r c xs k) (sym (take_more acts i e less))
+    subst (λ (xs : List Act). NoneApplied r c xs k) (sym (take_more acts i e less))
     (record { none = λ d does. by d does (got_pushed (take i acts) (get_or acts i e) d.offset d.act does.place) })
   where
-    by : (d : Doing) → IsDoing r c (take i acts ++ get_or acts i e ∷ []) k d → (slice_get (take i acts) d.offset ≡ Some d.act) ⊎ ((d.offset ≡ length (take i acts)) × (get_or acts i e ≡ d.act)) → ⊥
+    by : (d : AppliedAction) → IsApplied r c (take i acts ++ get_or acts i e ∷ []) k d → (slice_get (take i acts) d.offset ≡ Some d.act) ⊎ ((d.offset ≡ length (take i acts)) × (get_or acts i e ≡ d.act)) → ⊥
     by d does (inl old) = before.none d (record { place = old; target = does.target; counts = does.counts })
     by d does (inr last) =
         here.none d.at (subst (λ (a : Act). Among (targets (flow_read r) c a.target) d.at) (sym last.1) does.target)

@@ -3,7 +3,7 @@ use Rattle.std.specs.Prelude.{◌≡◌, ◌<◌, ◌≤◌, ℕ, zero, suc, ◌
 use Rattle.std.proofs.Common.{arith, ap, ◌∙◌, sym}
 use Rattle.mh_laws.specs.Price.{Price, Nothing, One, Node, Plus, Most, worth}
 use Rattle.mh_laws.proofs.PriceLemmas.{nodes_map, nodes_both, worth_same}
-use Rattle.mh_layers.specs.declared.costs.Laid.{Laid}
+use Rattle.mh_layers.specs.declared.laying.costs.Laid.{Laid}
 use Rattle.mh_layers.specs.declared.node_key.NodeKey.{NodeKey}
 use Rattle.mh_layers.specs.Known.{top, added, larger, known_worth, told, told_of}
 use Rattle.mh_layers.specs.Layering.{AreRanks, CountsKept, CostsExist, IsLower, LayersAreExact, cost_in, cost_of, counted_to, laid_in}

@@ -28,7 +28,7 @@ use Rattle.mh_laws.specs.Each.{Among, Each}
 use Rattle.mh_laws.specs.Flow.{Flow, Sets, has, is_list_in, reached}
 use Rattle.mh_laws.specs.Safe.{exchanged}
 use Rattle.mh_laws.proofs.EachLemmas.{among_filtered, among_left, among_mapped, among_right, each_joined}
-use Rattle.mh_layers.specs.declared.arrow.Held.{Held}
+use Rattle.mh_layers.specs.declared.arrows.arrow.Held.{Held}
 use Rattle.mh_layers.specs.Arrows.{comes_to, held_by}
 use Rattle.mh_layers.specs.Granting.{held_for, held_so, is_held_so, with_had, with_held, with_items, with_led, with_next, with_sent, with_source, with_target}
 use Rattle.mh_layers.specs.Listening.{source_of}

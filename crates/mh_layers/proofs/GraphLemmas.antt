@@ -16,16 +16,16 @@ use Rattle.mh_model.proofs.ListLemmas.{some_same}
 use Rattle.mh_laws.specs.Each.{Among, Each}
 use Rattle.mh_laws.proofs.EachLemmas.{among_each, among_mapped, contains_of, each_among, each_contained, from_mapped, got_among}
 use Rattle.mh_layers.specs.declared.node_key.NodeKey.{NodeKey}
-use Rattle.mh_layers.specs.declared.standing.Standing.{Standing}
-use Rattle.mh_layers.specs.Asked.{AreCounted, AreRows, Stays}
+use Rattle.mh_layers.specs.declared.cycle.effect_site.EffectSite.{EffectSite}
+use Rattle.mh_layers.specs.Successors.{AreCounted, AreRows, Stays}
 use Rattle.mh_layers.specs.Layered.{active_keys}
 use Rattle.mh_layers.specs.NodeKeys.{same_key}
 use Rattle.mh_layers.specs.NodeKeyLaws.{key_itself}
 use Rattle.mh_layers.specs.Reading.{Reading, kept, price}
-use Rattle.mh_layers.specs.Standings.{AreStandings, arrow_by, label_at, label_in, node_in}
-use Rattle.mh_layers.specs.Walk.{IsWebOf}
-use Rattle.mh_layers.specs.Web.{IsArrow, IsWeb, counted, label_to}
-use Rattle.mh_layers.proofs.AskedLemmas.{any_among, each_put, stays_among, tells_keys}
+use Rattle.mh_layers.specs.EffectSites.{AreEffectSites, arrow_by, label_at, label_in, node_in}
+use Rattle.mh_layers.specs.Walk.{IsKeyGraphOf}
+use Rattle.mh_layers.specs.KeyGraph.{IsArrow, IsKeyGraph, counted, label_to}
+use Rattle.mh_layers.proofs.SuccessorLemmas.{any_among, each_put, stays_among, tells_keys}
 use Rattle.mh_layers.proofs.PositionLemmas.{position_is, position_there, put_all}
 
 -- KEYS AND THEIR NODES
@@ -153,7 +153,7 @@ module _ (r : Reading) (ks : List NodeKey) (rows : List (Vec NodeKey Global)) (m
         label_found mark ks j there,
       )
 
-  is_web : IsWeb r ks mark g
+  is_web : IsKeyGraph r ks mark g
   is_web = record {
     nodes =
         sym (length-map g.nodes.items (λ (row : Vec Arrow Global). row.items)) ∙ ap length are.nodes
@@ -165,12 +165,12 @@ module _ (r : Reading) (ks : List NodeKey) (rows : List (Vec NodeKey Global)) (m
   }
 
 -- a web of roots
-pub web_made : (r : Reading) (roots all firsts ks : List NodeKey) (rows : List (Vec NodeKey Global)) (ss : List Standing) (ls : List (Option ℕ)) (g : Graph) → all ≡ active_keys r → firsts ≡ insert_all same_key [] roots → Stays firsts ks → AreRows (price r) (kept r) ks rows → slice_get ks (length rows) ≡ None
-    → IsDistinct same_key ks → AreStandings r all ss → ls ≡ map (label_to (label_in r ss)) ks
-    → map (λ (row : Vec Arrow Global). row.items) g.nodes.items ≡ map (λ (row : Vec NodeKey Global). map (arrow_by ks ls) row.items) rows → IsWebOf r roots ks g
-web_made r roots all firsts ks rows ss ls g every first stays are full once standings labels nodes = record {
-  standings = ss;
-  are = subst (λ (is : List NodeKey). AreStandings r is ss) every standings;
+pub web_made : (r : Reading) (roots all firsts ks : List NodeKey) (rows : List (Vec NodeKey Global)) (ss : List EffectSite) (ls : List (Option ℕ)) (g : Graph) → all ≡ active_keys r → firsts ≡ insert_all same_key [] roots → Stays firsts ks → AreRows (price r) (kept r) ks rows → slice_get ks (length rows) ≡ None
+    → IsDistinct same_key ks → AreEffectSites r all ss → ls ≡ map (label_to (label_in r ss)) ks
+    → map (λ (row : Vec Arrow Global). row.items) g.nodes.items ≡ map (λ (row : Vec NodeKey Global). map (arrow_by ks ls) row.items) rows → IsKeyGraphOf r roots ks g
+web_made r roots all firsts ks rows ss ls g every first stays are full once effect_sites labels nodes = record {
+  effect_sites = ss;
+  are = subst (λ (is : List NodeKey). AreEffectSites r is ss) every effect_sites;
   web = is_web r ks rows (label_in r ss) g (record {
     rows = are;
     all = full;

@@ -26,7 +26,7 @@ use Rattle.mh_layers.specs.declared.node_key.NodeKey.{NodeKey}
 use Rattle.mh_layers.specs.Bridge.{IsRead, cost_by, has_by, key_of, rank_by}
 use Rattle.mh_layers.specs.Layered.{acting, active_keys, has_actions, keys_active, keys_at, keys_of}
 use Rattle.mh_layers.specs.Layering.{AreLayers, CountsKept, NoneRanked, Places, cost_of, is_laid, laid_in}
-use Rattle.mh_layers.specs.declared.costs.Laid.{Laid}
+use Rattle.mh_layers.specs.declared.laying.costs.Laid.{Laid}
 use Rattle.mh_layers.specs.Reading.{IsReading, Reading, config_number, flow_read, heard_read, kept, number, price}
 use Rattle.mh_layers.specs.Taking.{or_nothing}
 use Rattle.mh_laws.proofs.PriceLemmas.{nodes_both, nodes_map, of_nodes}

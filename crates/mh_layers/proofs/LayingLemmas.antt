@@ -7,7 +7,7 @@ use Rattle.indexmap.specs.IndexMap.{insert_entry}
 use Rattle.mh_laws.specs.Each.{Each}
 use Rattle.mh_laws.specs.Price.{Price, Nodes}
 use Rattle.mh_laws.proofs.PriceLemmas.{nodes_any, nodes_both, nodes_map}
-use Rattle.mh_layers.specs.declared.costs.Laid.{Laid}
+use Rattle.mh_layers.specs.declared.laying.costs.Laid.{Laid}
 use Rattle.mh_layers.specs.declared.node_key.NodeKey.{NodeKey}
 use Rattle.mh_layers.specs.Known.{known_worth, told, told_of}
 use Rattle.mh_layers.specs.Layering.{Places, AreBelow, AreLayers, AreWaiting, CountsKept, Grows, HasRoom, IsLower, IsNoted, IsPlaced, IsSettled, IsStep, IsWaiting, IsWaitingAt, NoneRanked, Waits, cost_in, cost_of, has_place, held, is_laid, key_at, laid_in, left, free, place_in}

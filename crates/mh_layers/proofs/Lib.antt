@@ -31,9 +31,9 @@ pub mod BoundLemmas
 pub mod LayeredLemmas
 pub mod CausingLemmas
 pub mod ChainLemmas
-pub mod WebLemmas
-pub mod AskedLemmas
-pub mod StandingLemmas
+pub mod KeyGraphLemmas
+pub mod SuccessorLemmas
+pub mod EffectSiteLemmas
 pub mod GraphLemmas
 pub mod WalkLemmas
 pub mod LateLemmas
@@ -48,7 +48,7 @@ pub mod CheapestLemmas
 pub mod OrderLemmas
 pub mod FocusLemmas
 pub mod TrailLemmas
-pub mod DeedLemmas
+pub mod AppliedLemmas
 pub mod GrantLemmas
 pub mod ArrowLemmas
 pub mod CausedLemmas

@@ -31,9 +31,9 @@ use Rattle.mh_laws.proofs.EachLemmas.{among_either, among_joined, among_left, am
 use Rattle.mh_flow.specs.Chart.{all_parts}
 use Rattle.mh_flow.proofs.ChartLemmas.{key_is}
 use Rattle.mh_flow.proofs.IndexLemmas.{position_next}
-use Rattle.mh_layers.specs.declared.place.Ear.{Ear}
-use Rattle.mh_layers.specs.declared.place.Share.{Share}
-use Rattle.mh_layers.specs.declared.place.Place.{Place}
+use Rattle.mh_layers.specs.declared.listening.listener_slot.EventKey.{EventKey}
+use Rattle.mh_layers.specs.declared.listening.listener_slot.Share.{Share}
+use Rattle.mh_layers.specs.declared.listening.listener_slot.ListenerSlot.{ListenerSlot}
 use Rattle.mh_layers.specs.Grouped.{has, is_plain}
 use Rattle.mh_layers.specs.Hashing.{value_itself, value_one}
 use Rattle.mh_layers.specs.Keys.{data_of, knows, values, waits_for}
@@ -57,13 +57,13 @@ number_one m n e = (Decides-eqb m n).0 e
 number_itself : (n : ℕ) → (n == n) ≡ true
 number_itself n = (Decides-eqb n n).1 refl
 
-pub one_ear : (a b : Ear) → same_ear a b ≡ true → a ≡ b
+pub one_ear : (a b : EventKey) → same_ear a b ≡ true → a ≡ b
 one_ear a b e =
     let s = number_one a.source b.source (and_left (a.source == b.source) (a.kind == b.kind) e) in
     let k = number_one a.kind b.kind (and_right (a.source == b.source) (a.kind == b.kind) e) in
     λ i. record { source = s i; kind = k i }
 
-ear_itself : (a : Ear) → same_ear a a ≡ true
+ear_itself : (a : EventKey) → same_ear a a ≡ true
 ear_itself a = λ i. number_itself a.source i && number_itself a.kind i
 
 one_number : (m n : Option ℕ) → option_eq nat_eq m n ≡ true → m ≡ n
@@ -78,7 +78,7 @@ one_share a b e =
     let n = one_number a.value b.value (and_right (a.group == b.group) (option_eq nat_eq a.value b.value) e) in
     λ i. record { group = g i; value = n i }
 
-pub one_place : (a b : Place) → same_place a b ≡ true → a ≡ b
+pub one_place : (a b : ListenerSlot) → same_place a b ≡ true → a ≡ b
 one_place a b e =
     let x = one_ear a.ear b.ear (and_left (same_ear a.ear b.ear) (same_share a.share b.share) e) in
     let y = one_share a.share b.share (and_right (same_ear a.ear b.ear) (same_share a.share b.share) e) in
@@ -97,9 +97,9 @@ put_at {K} {X} same one f old new k w put is q = put q ∙ by (same k q) refl
     by false e = refl
 
 -- a link more at its place
-pub listed_more : (old new : List (Place × List Fixed)) (k : Place) (w : List Fixed) (p : Fixed)
-    → ((q : Place) → lookup (same_place q) new ≡ cond (same_place k q) (Some w) (lookup (same_place q) old)) → w ≡ listed k old ++ p ∷ []
-    → (q : Place) → listed q new ≡ listed q old ++ cond (same_place k q) (p ∷ []) []
+pub listed_more : (old new : List (ListenerSlot × List Fixed)) (k : ListenerSlot) (w : List Fixed) (p : Fixed)
+    → ((q : ListenerSlot) → lookup (same_place q) new ≡ cond (same_place k q) (Some w) (lookup (same_place q) old)) → w ≡ listed k old ++ p ∷ []
+    → (q : ListenerSlot) → listed q new ≡ listed q old ++ cond (same_place k q) (p ∷ []) []
 listed_more old new k w p put is q =
     ap (λ (o : Option (List Fixed)). unwrap_or o []) (put_at same_place one_place (λ (o : Option (List Fixed)). unwrap_or o [] ++ p ∷ []) old new k w put is q)
     ∙ by (same_place k q)
@@ -337,14 +337,14 @@ objects_numbered v l is = record {
 -- Places
 
 -- a place of another group
-other_group : (os : List ObjRef) (es : List (Ear × List Value)) (q : Place) (g : ℕ) → (g == q.share.group) ≡ false → (p : Fixed) → is_place q (place_of os es g p) ≡ false
+other_group : (os : List ObjRef) (es : List (EventKey × List Value)) (q : ListenerSlot) (g : ℕ) → (g == q.share.group) ≡ false → (p : Fixed) → is_place q (place_of os es g p) ≡ false
 other_group os es q g differ p = by (ear_of os p)
   where
-    of : (e : Ear) (o : Option (Option ℕ)) → is_place q (option_map (place_at e g) o) ≡ false
+    of : (e : EventKey) (o : Option (Option ℕ)) → is_place q (option_map (place_at e g) o) ≡ false
     of e None = refl
     of e (Some n) = ap (λ (b : Bool). same_ear e q.ear && (b && option_eq nat_eq n q.share.value)) differ ∙ and_false (same_ear e q.ear)
 
-    by : (o : Option Ear) → is_place q (option_and_then (λ e. option_map (place_at e g) (number_in (lookup (same_ear e) es) (data_of p))) o) ≡ false
+    by : (o : Option EventKey) → is_place q (option_and_then (λ e. option_map (place_at e g) (number_in (lookup (same_ear e) es) (data_of p))) o) ≡ false
     by None = refl
     by (Some e) = of e (number_in (lookup (same_ear e) es) (data_of p))
 
@@ -356,7 +356,7 @@ filter_none : (ps : List Fixed) → filter (λ (p : Fixed). false) ps ≡ []
 filter_none [] = refl
 filter_none (p ∷ ps) = filter_none ps
 
-nothing_there : (os : List ObjRef) (es : List (Ear × List Value)) (q : Place) (g : ℕ) → (g == q.share.group) ≡ false → (ps : List Fixed) → lists_in os es q g ps ≡ []
+nothing_there : (os : List ObjRef) (es : List (EventKey × List Value)) (q : ListenerSlot) (g : ℕ) → (g == q.share.group) ≡ false → (ps : List Fixed) → lists_in os es q g ps ≡ []
 nothing_there os es q g differ ps = filter_alike (λ p. is_place q (place_of os es g p)) (λ p. false) ps (λ p there. other_group os es q g differ p) ∙ filter_none ps
 
 apart : (m n : ℕ) → ((m ≡ n) → false ≡ true) → (m == n) ≡ false
@@ -367,12 +367,12 @@ apart m n differ = by (m == n) refl
     by false e = refl
 
 -- behind its group
-past : (os : List ObjRef) (es : List (Ear × List Value)) (q : Place) (g : ℕ) (gs : Groups) → q.share.group < g → lists_from os es q g gs ≡ []
+past : (os : List ObjRef) (es : List (EventKey × List Value)) (q : ListenerSlot) (g : ℕ) (gs : Groups) → q.share.group < g → lists_from os es q g gs ≡ []
 past os es q g [] less = refl
 past os es q g (e ∷ gs) less = λ i. nothing_there os es q g (apart g q.share.group (λ same. absurd (omega (arith, less, same)))) e.1 i ++ past os es q (suc g) gs (omega (arith, less)) i
 
 -- of all groups only its own has links at a place
-its_group : (os : List ObjRef) (es : List (Ear × List Value)) (q : Place) (g n : ℕ) (gs : Groups) → g + n ≡ q.share.group → lists_from os es q g gs ≡ lists_in os es q q.share.group (parts_at (slice_get gs n))
+its_group : (os : List ObjRef) (es : List (EventKey × List Value)) (q : ListenerSlot) (g n : ℕ) (gs : Groups) → g + n ≡ q.share.group → lists_from os es q g gs ≡ lists_in os es q q.share.group (parts_at (slice_get gs n))
 unfolding parts_at
 its_group os es q g n [] e = refl
 its_group os es q g zero (x ∷ gs) e =
@@ -384,7 +384,7 @@ its_group os es q g (suc n) (x ∷ gs) e =
     (λ i. nothing_there os es q g (apart g q.share.group (λ same. absurd (omega (arith, e, same)))) x.1 i ++ its_group os es q (suc g) n gs next i)
 
 -- those of one group more
-pub next_group : (os : List ObjRef) (es : List (Ear × List Value)) (q : Place) (gs : Groups) (g n : ℕ) (old new : List Fixed) → n < length gs → new ≡ old ++ lists_at os es q g (slice_get gs n)
+pub next_group : (os : List ObjRef) (es : List (EventKey × List Value)) (q : ListenerSlot) (gs : Groups) (g n : ℕ) (old new : List Fixed) → n < length gs → new ≡ old ++ lists_at os es q g (slice_get gs n)
     → new ++ lists_from os es q (g + 1) (drop (n + 1) gs) ≡ old ++ lists_from os es q g (drop n gs)
 next_group os es q [] g n old new less is = absurd (omega (arith, less))
 next_group os es q (e ∷ gs) g zero old new less is =
@@ -428,26 +428,26 @@ found_by v l listens g r kind d is fits = by (position (same_key r) l.objects) r
         ∙ filter_alike (λ p. is_place q (place_of l.objects l.ears j p)) (λ p. waits_for r kind p && is (data_of p)) (group_parts v g) (λ p there. fits n j p at (parts_among v.groups g p there))
 
 -- the test of a place, where that of its ear is told
-told_place : (l : Listeners) (q : Ear) (g : ℕ) (d : Option ℕ) (p : Fixed) (is : Option Value → Bool)
+told_place : (l : Listeners) (q : EventKey) (g : ℕ) (d : Option ℕ) (p : Fixed) (is : Option Value → Bool)
     → is_place (place_at q g d) (option_map (place_at q g) (number_in (lookup (same_ear q) l.ears) (data_of p))) ≡ is (data_of p)
     → is_place (place_at q g d) (place_of l.objects l.ears g p) ≡ (is_ear q (ear_of l.objects p) && is (data_of p))
 told_place l q g d p is told = by (ear_of l.objects p)
   where
-    else_none : (e : Ear) (o : Option (Option ℕ)) → same_ear e q ≡ false → is_place (place_at q g d) (option_map (place_at e g) o) ≡ false
+    else_none : (e : EventKey) (o : Option (Option ℕ)) → same_ear e q ≡ false → is_place (place_at q g d) (option_map (place_at e g) o) ≡ false
     else_none e None differ = refl
     else_none e (Some n) differ = ap (λ (b : Bool). b && ((g == g) && option_eq nat_eq n d)) differ
 
-    of : (e : Ear) (b : Bool) → same_ear e q ≡ b → is_place (place_at q g d) (option_map (place_at e g) (number_in (lookup (same_ear e) l.ears) (data_of p))) ≡ (b && is (data_of p))
+    of : (e : EventKey) (b : Bool) → same_ear e q ≡ b → is_place (place_at q g d) (option_map (place_at e g) (number_in (lookup (same_ear e) l.ears) (data_of p))) ≡ (b && is (data_of p))
     of e true same =
-        ap (λ (x : Ear). is_place (place_at q g d) (option_map (place_at x g) (number_in (lookup (same_ear x) l.ears) (data_of p)))) (one_ear e q same) ∙ told
+        ap (λ (x : EventKey). is_place (place_at q g d) (option_map (place_at x g) (number_in (lookup (same_ear x) l.ears) (data_of p)))) (one_ear e q same) ∙ told
     of e false differ = else_none e (number_in (lookup (same_ear e) l.ears) (data_of p)) differ
 
-    by : (o : Option Ear) → is_place (place_at q g d) (option_and_then (λ e. option_map (place_at e g) (number_in (lookup (same_ear e) l.ears) (data_of p))) o) ≡ (is_ear q o && is (data_of p))
+    by : (o : Option EventKey) → is_place (place_at q g d) (option_and_then (λ e. option_map (place_at e g) (number_in (lookup (same_ear e) l.ears) (data_of p))) o) ≡ (is_ear q o && is (data_of p))
     by None = refl
     by (Some e) = of e (same_ear e q) refl
 
 -- two places of one ear and one group
-same_but : (q : Ear) (g : ℕ) (m d : Option ℕ) → same_place (place_at q g m) (place_at q g d) ≡ option_eq nat_eq m d
+same_but : (q : EventKey) (g : ℕ) (m d : Option ℕ) → same_place (place_at q g m) (place_at q g d) ≡ option_eq nat_eq m d
 same_but q g m d = λ i. ear_itself q i && (number_itself g i && option_eq nat_eq m d)
 
 fits_plain : (v : Service) (l : Listeners) → IsListening v l → (r : ObjRef) (kind : EventType) → Fits v l r kind None is_plain
@@ -455,7 +455,7 @@ fits_plain v l listens r kind n g p at there =
     told_place l (ear_at n kind) g None p is_plain (by (lookup (same_ear (ear_at n kind)) l.ears) (data_of p))
     ∙ ap (λ (b : Bool). b && is_plain (data_of p)) (ear_test l.objects r kind n at p (have_sources (all_parts v) l.objects listens.objects p there))
   where
-    q : Ear
+    q : EventKey
     q = ear_at n kind
 
     of : (o : Option ℕ) → is_place (place_at q g None) (option_map (place_at q g) (option_map Some o)) ≡ false
@@ -472,7 +472,7 @@ fits_with v l listens r kind xs h d x stands n g p at there =
     told_place l (ear_at n kind) g (Some d) p (has same_value x) (ap (λ (m : Option (List Value)). is_place (place_at q g (Some d)) (option_map (place_at q g) (number_in m (data_of p)))) known ∙ by (data_of p))
     ∙ ap (λ (b : Bool). b && has same_value x (data_of p)) (ear_test l.objects r kind n at p (have_sources (all_parts v) l.objects listens.objects p there))
   where
-    q : Ear
+    q : EventKey
     q = ear_at n kind
 
     known : lookup (same_ear (ear_at n kind)) l.ears ≡ Some xs
@@ -505,7 +505,7 @@ with_is v l listens g r kind n x at = by (heard l r kind) refl at
     by None h e = absurd cc
     by (Some xs) h e = found_by v l listens g r kind (Some n) (has same_value x) (fits_with v l listens r kind xs h n x (value_at v l listens r kind xs h n x e))
 
-nothing_else : (q : Ear) (g n : ℕ) (o : Option (List Value)) (m : Option Value) → slice_get (values o) n ≡ None → is_place (place_at q g (Some n)) (option_map (place_at q g) (number_in o m)) ≡ false
+nothing_else : (q : EventKey) (g n : ℕ) (o : Option (List Value)) (m : Option Value) → slice_get (values o) n ≡ None → is_place (place_at q g (Some n)) (option_map (place_at q g) (number_in o m)) ≡ false
 nothing_else q g n o None none = same_but q g None (Some n)
 nothing_else q g n None (Some y) none = refl
 nothing_else q g n (Some xs) (Some y) none = of (position (same_value y) xs) refl

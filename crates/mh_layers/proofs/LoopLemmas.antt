@@ -6,14 +6,14 @@ use Rattle.mh_model.proofs.ListLemmas.{and_left, and_right}
 use Rattle.mh_laws.specs.Each.{Among, Each}
 use Rattle.mh_laws.specs.Price.{Price, counted_in}
 use Rattle.mh_laws.proofs.PriceLemmas.{nodes_both, nodes_of}
-use Rattle.mh_layers.specs.declared.costs.Laid.{Laid}
+use Rattle.mh_layers.specs.declared.laying.costs.Laid.{Laid}
 use Rattle.mh_layers.specs.declared.node_key.NodeKey.{NodeKey}
 use Rattle.mh_layers.specs.Layering.{AreWaiting, CountsKept, Grows, Places, Waits, cost_in, has_place, is_laid, key_at, laid_in, place_in}
 use Rattle.mh_layers.specs.Looping as looping
 use Rattle.mh_layers.specs.Looping.{CountsOn, HasLoop}
 use Rattle.mh_layers.specs.NodeKeys.{same_key}
 use Rattle.mh_layers.specs.NodeKeyLaws.{key_itself, keys_are_apart}
-use Rattle.mh_layers.proofs.AskedLemmas.{any_among}
+use Rattle.mh_layers.proofs.SuccessorLemmas.{any_among}
 use Rattle.mh_layers.proofs.KnownLemmas.{one_waits}
 use Rattle.mh_layers.proofs.PlaceLemmas.{none_cost, there_key}
 

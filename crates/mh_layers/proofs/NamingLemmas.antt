@@ -22,7 +22,7 @@ use Rattle.mh_model.specs.declared.act.Argument.{Argument}
 use Rattle.mh_model.specs.declared.act.Argument.TheVariants as argument
 use Rattle.mh_model.specs.declared.config.Config.{Config}
 use Rattle.mh_model.specs.declared.event.Event.{Event}
-use Rattle.mh_model.specs.declared.member.Member.{Member}
+use Rattle.mh_model.specs.declared.object.member.Member.{Member}
 use Rattle.mh_model.specs.declared.object.Fixed.{Fixed}
 use Rattle.mh_model.specs.Configuration.{present}
 use Rattle.mh_model.specs.Groups.{is_initially_active}
@@ -44,10 +44,10 @@ use Rattle.mh_laws.specs.Ways.{Told, Sure, Unsure, Share, Prepares, Runs, Halts,
 use Rattle.mh_laws.proofs.PriceLemmas.{nodes_if, nodes_most, nodes_sum, of_nodes}
 use Rattle.mh_layers.specs.declared.node_key.NodeKey.{NodeKey}
 use Rattle.mh_layers.specs.declared.node_key.NodeKey.TheVariants as key
-use Rattle.mh_layers.specs.Deeds.{number_in}
+use Rattle.mh_layers.specs.Applied.{number_in}
 use Rattle.mh_layers.specs.Listening.{names_event}
 use Rattle.mh_layers.specs.Reading.{IsReading, Reading, flow_read}
-use Rattle.mh_layers.specs.Standings.{effect_named}
+use Rattle.mh_layers.specs.EffectSites.{effect_named}
 use Rattle.mh_layers.specs.Trails.{IsStep}
 use Rattle.mh_layers.proofs.FoundLemmas.{present_found}
 use Rattle.mh_layers.proofs.HeardLemmas.{among_any, any_among}

@@ -7,7 +7,7 @@ use Rattle.mh_laws.specs.Flow.{Flow}
 use Rattle.mh_laws.specs.Layers.{IsLayering}
 use Rattle.mh_laws.specs.Price.{Nodes}
 use Rattle.mh_laws.proofs.PriceLemmas.{nodes_both, nodes_map}
-use Rattle.mh_layers.specs.declared.costs.Laid.{Laid}
+use Rattle.mh_layers.specs.declared.laying.costs.Laid.{Laid}
 use Rattle.mh_layers.specs.declared.node_key.NodeKey.{NodeKey}
 use Rattle.mh_layers.specs.Key.{Key}
 use Rattle.mh_layers.specs.Bridge.{IsHad, IsRead, KeptBy, LaidByNumber, cost_by, has_by, key_rank, rank_by}

@@ -2,7 +2,7 @@
 use Rattle.std.specs.Prelude.{◌≡◌, ◌⊎◌, ◌<◌, ℕ, zero, suc, ◌+◌, Bool, true, false, cond, [], ◌∷◌, length, Option, Some, None, is_some, refl}
 use Rattle.std.proofs.Common.{arith, inl, inr, ap, ◌∙◌, sym, subst}
 use Rattle.indexmap.specs.IndexMap.{insert_entry}
-use Rattle.mh_layers.specs.declared.costs.Laid.{Laid}
+use Rattle.mh_layers.specs.declared.laying.costs.Laid.{Laid}
 use Rattle.mh_layers.specs.declared.node_key.NodeKey.{NodeKey}
 use Rattle.mh_layers.specs.Layering.{Places, place_in, has_place, cost_of, key_at, free, is_free}
 use Rattle.mh_layers.specs.NodeKeys.{same_key}

@@ -28,7 +28,7 @@ use Rattle.mh_layers.proofs.KeyAgreeLemmas.{key_agrees}
 use Rattle.mh_layers.proofs.ReckonLemmas.{by_test}
 use Rattle.mh_layers.proofs.ServeLemmas.{read_of}
 use Rattle.mh_layers.proofs.TrailLemmas.{follows}
-use Rattle.mh_layers.proofs.WebLemmas.{Kept, caused_on}
+use Rattle.mh_layers.proofs.KeyGraphLemmas.{Kept, caused_on}
 
 module _ (r : Reading) (read : IsReading r) where
   abbrev Counted : Key → Key → Type 0

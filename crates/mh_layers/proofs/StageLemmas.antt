@@ -21,30 +21,30 @@ use Rattle.mh_laws.specs.Price.{Price, worth}
 use Rattle.mh_laws.proofs.EachLemmas.{among_all}
 use Rattle.mh_laws.proofs.PriceLemmas.{nodes_both, nodes_map}
 use Rattle.mh_layers.specs.declared.cause.Cause.{Cause}
-use Rattle.mh_layers.specs.declared.costs.Laid.{Laid}
-use Rattle.mh_layers.specs.declared.dearest.Dearest.{Dearest}
+use Rattle.mh_layers.specs.declared.laying.costs.Laid.{Laid}
+use Rattle.mh_layers.specs.declared.ways.dearest.Dearest.{Dearest}
 use Rattle.mh_layers.specs.declared.node_key.NodeKey.{NodeKey}
 use Rattle.mh_layers.specs.declared.node_key.NodeKey.TheVariants as key
-use Rattle.mh_layers.specs.declared.stages.Next.{Next}
-use Rattle.mh_layers.specs.declared.stages.Part.{Part}
-use Rattle.mh_layers.specs.declared.way.Stage.{Stage}
+use Rattle.mh_layers.specs.declared.ways.stages.Next.{Next}
+use Rattle.mh_layers.specs.declared.ways.stages.Part.{Part}
+use Rattle.mh_layers.specs.declared.ways.way.Stage.{Stage}
 use Rattle.mh_layers.specs.Key.{Key, Effect}
 use Rattle.mh_layers.specs.Bridge.{cost_by, key_cost, key_of}
 use Rattle.mh_layers.specs.Caused.{AreReached, CountsFrom, IsNamed}
 use Rattle.mh_layers.specs.Causing.{AreCaused, Counts}
 use Rattle.mh_layers.specs.Choosing.{AreChosen, IsChosen, IsLargest, effect_cost, number_at}
-use Rattle.mh_layers.specs.Cycle.{by_standing, cause_of}
+use Rattle.mh_layers.specs.Cycle.{by_effect_site, cause_of}
 use Rattle.mh_layers.specs.Dearest.{AreStages, IsDearest, IsFirstLargest, IsStage, acts_of, cost_told, price_told}
-use Rattle.mh_layers.specs.Deeds.{number_in}
+use Rattle.mh_layers.specs.Applied.{number_in}
 use Rattle.mh_layers.specs.Known.{known_worth, told, told_of, top}
 use Rattle.mh_layers.specs.Layered.{root_keys}
 use Rattle.mh_layers.specs.Layering.{AreLayers, Places, cost_of, is_laid, laid_in}
 use Rattle.mh_layers.specs.Reading.{IsReading, Reading, Spot, flow_read, heard_read, kept, known_by, name, number, price, spot_in}
 use Rattle.mh_layers.specs.Staging.{AreStagesFrom, AreStagesTo, IsNext, IsPart, IsPartAt, IsStageBy, PutsFrom, act_worth, all_known}
-use Rattle.mh_layers.specs.Standings.{cause_named, effect_named}
+use Rattle.mh_layers.specs.EffectSites.{cause_named, effect_named}
 use Rattle.mh_layers.specs.Trails.{IsActive}
 use Rattle.mh_layers.specs.Stretches.{is_effect_key}
-use Rattle.mh_layers.specs.Web.{effect_number}
+use Rattle.mh_layers.specs.KeyGraph.{effect_number}
 use Rattle.mh_layers.proofs.ActAgreeLemmas.{act_agrees}
 use Rattle.mh_layers.proofs.AgreeLemmas.{Agrees, IsLow}
 use Rattle.mh_layers.proofs.ArrowLemmas.{number_named}
@@ -218,8 +218,8 @@ chosen_dearest r read ts layers all f is k js d named reach best x = record {
   most = λ y puts. subst (λ (n : ℕ). cost_told f y ≤ n) own (subst (λ (n : ℕ). n ≤ d.cost) (exact y puts) (best.most (effect_number r y) (reach.all (key_of y) puts)));
   first = λ y puts e.
       let before = best.first (effect_number r y) (reach.all (key_of y) puts) (exact y puts ∙ e ∙ sym own) in
-      subst (λ (z : Cause). is_lt (by_standing (cause_of r.service y) z) ≡ false) cause
-      (subst (λ (z : Cause). is_lt (by_standing z d.cause) ≡ false) (cause_told r read (effect_number r y) y (on y puts) refl) before);
+      subst (λ (z : Cause). is_lt (by_effect_site (cause_of r.service y) z) ≡ false) cause
+      (subst (λ (z : Cause). is_lt (by_effect_site z d.cause) ≡ false) (cause_told r read (effect_number r y) y (on y puts) refl) before);
 }
   where
     on : (y : costs.Effect) → PutsFrom r k y → IsOn r.service (flow_read r) y

@@ -21,12 +21,12 @@ use Rattle.mh_laws.specs.Layers.{Causes, IsOn}
 use Rattle.mh_laws.specs.Price.{counted_in}
 use Rattle.mh_laws.proofs.EachLemmas.{each_among, from_mapped, got_among}
 use Rattle.mh_flow.specs.Sites.{sites_of}
-use Rattle.mh_layers.specs.declared.arrow.Arrow.{Arrow}
+use Rattle.mh_layers.specs.declared.arrows.arrow.Arrow.{Arrow}
 use Rattle.mh_layers.specs.declared.cause.Cause.{Cause}
 use Rattle.mh_layers.specs.declared.cycle.Best.{Best}
 use Rattle.mh_layers.specs.declared.node_key.NodeKey.{NodeKey}
 use Rattle.mh_layers.specs.declared.node_key.NodeKey.TheVariants as key
-use Rattle.mh_layers.specs.declared.trail.Stretch.{Stretch}
+use Rattle.mh_layers.specs.declared.cycle.trail.Stretch.{Stretch}
 use Rattle.mh_layers.specs.Key.{Key}
 use Rattle.mh_layers.specs.Arrows.{AreFirstArrows, AreGrantedBy, counts, goes_round, granted, is_action_in, is_action_of, is_waited_for, leads, leads_back, meets, puts}
 use Rattle.mh_layers.specs.Bridge.{key_of}
@@ -37,11 +37,11 @@ use Rattle.mh_layers.specs.Keys.{IsMet}
 use Rattle.mh_layers.specs.Layered.{active_keys}
 use Rattle.mh_layers.specs.Layering.{AreLayers, Places, is_laid}
 use Rattle.mh_layers.specs.Reading.{IsReading, Reading, flow_read, heard_read, kept, name, number, price, price_read}
-use Rattle.mh_layers.specs.Standings.{cause_named, effect_named, label_in, node_in}
+use Rattle.mh_layers.specs.EffectSites.{cause_named, effect_named, label_in, node_in}
 use Rattle.mh_layers.specs.Stretches.{AreArrowsOf, IsStretch, is_effect_key, keys_along, stretches}
 use Rattle.mh_layers.specs.Trails.{IsActive, IsArrowFor, IsArrowOf, IsStep, LeadsTo}
-use Rattle.mh_layers.specs.Walk.{AreBest, IsBest, IsWebOf, causes_along, unlaid}
-use Rattle.mh_layers.specs.Web.{IsWeb, counted, effect_number, effects_along, if_effect}
+use Rattle.mh_layers.specs.Walk.{AreBest, IsBest, IsKeyGraphOf, causes_along, unlaid}
+use Rattle.mh_layers.specs.KeyGraph.{IsKeyGraph, counted, effect_number, effects_along, if_effect}
 use Rattle.mh_layers.proofs.BridgeLemmas.{met_kept}
 use Rattle.mh_layers.proofs.CausingLemmas.{counted_met, keys_cause}
 use Rattle.mh_layers.proofs.ChainLemmas.{counts_more}
@@ -50,7 +50,7 @@ use Rattle.mh_layers.proofs.LayeredLemmas.{listed_on}
 use Rattle.mh_layers.proofs.ReadingLemmas.{numbers_are_names}
 use Rattle.mh_layers.proofs.ServeLemmas.{read_of}
 use Rattle.mh_layers.proofs.WalkLemmas.{causes_effects, from_filtered, named_back, some_of, take_whole}
-use Rattle.mh_layers.proofs.WebLemmas.{Kept, active_kept, counted_numbered}
+use Rattle.mh_layers.proofs.KeyGraphLemmas.{Kept, active_kept, counted_numbered}
 
 -- KEYS ONE BEHIND THE OTHER
 
@@ -91,7 +91,7 @@ keys_more ks p a j at =
 abbrev GoesAlong : Reading → List NodeKey → NodeKey → List Step → ℕ → Type 0
 GoesAlong r ks k p u = (z : NodeKey) × (slice_get ks u ≡ Some z) × Goes r k (keys_along ks p) z
 
-chain_goes : (r : Reading) (ks : List NodeKey) (label : NodeKey → ℕ) (g : Graph) → IsWeb r ks label g → (n : ℕ) (k : NodeKey) → slice_get ks n ≡ Some k → (p : List Step) (u : ℕ) → Chain g (arrows_of g n) p u → GoesAlong r ks k p u
+chain_goes : (r : Reading) (ks : List NodeKey) (label : NodeKey → ℕ) (g : Graph) → IsKeyGraph r ks label g → (n : ℕ) (k : NodeKey) → slice_get ks n ≡ Some k → (p : List Step) (u : ℕ) → Chain g (arrows_of g n) p u → GoesAlong r ks k p u
 chain_goes r ks label g web n k at p u (chains.begin a there) =
     let next = web.arrows n k at a there in
     (next.to, next.place, subst (λ (js : List NodeKey). Goes r k js next.to) (sym (keys_more ks [] a next.to next.place)) (next.counts, refl))
@@ -200,7 +200,7 @@ each_stretch r k [] z ways = tt
 each_stretch r k (s ∷ ss) z ways = (ways.1, each_stretch r s.to ss z ways.2)
 
 -- of a cycle of the web they lead round
-pub ways_round : (r : Reading) → IsReading r → (ks : List NodeKey) (label : NodeKey → ℕ) (g : Graph) → IsWeb r ks label g → (n : ℕ) (k : NodeKey) → slice_get ks n ≡ Some k → IsActive r k → (p : List Step) → Chain g (arrows_of g n) p n → Ways r k (stretches k None (keys_along ks p)) k
+pub ways_round : (r : Reading) → IsReading r → (ks : List NodeKey) (label : NodeKey → ℕ) (g : Graph) → IsKeyGraph r ks label g → (n : ℕ) (k : NodeKey) → slice_get ks n ≡ Some k → IsActive r k → (p : List Step) → Chain g (arrows_of g n) p n → Ways r k (stretches k None (keys_along ks p)) k
 ways_round r read ks label g web n k at active p chain =
     let goes = chain_goes r ks label g web n k at p n chain in
     let last : goes.0 ≡ k = some_same (sym goes.1 ∙ at) in
@@ -343,11 +343,11 @@ first_arrows r k ss arrows ways are cycle = record { cycle = cycle; round = by s
 -- OF THE FIRST CYCLE
 
 -- the first effect on a cycle, among all active effects that are not laid: the stretches of its trail lead round
-pub ways_found : (r : Reading) → IsReading r → (ts : Places) (all left roots tried ks : List NodeKey) (g : Graph) (best : Option Best) (b : Best) (p : List Step) → all ≡ active_keys r → left ≡ unlaid ts all → roots ≡ left → tried ≡ left → IsWebOf r roots ks g → AreBest r ks g tried best → best ≡ Some b → p ≡ b.trail.items
+pub ways_found : (r : Reading) → IsReading r → (ts : Places) (all left roots tried ks : List NodeKey) (g : Graph) (best : Option Best) (b : Best) (p : List Step) → all ≡ active_keys r → left ≡ unlaid ts all → roots ≡ left → tried ≡ left → IsKeyGraphOf r roots ks g → AreBest r ks g tried best → best ≡ Some b → p ≡ b.trail.items
     → Ways r b.key (stretches b.key None (keys_along ks p)) b.key
 ways_found r read ts all left roots tried ks g best b p every is these those web found some trail =
     subst (λ (q : List Step). Ways r b.key (stretches b.key None (keys_along ks q)) b.key) (sym trail)
-    (ways_round r read ks (label_in r web.standings) g web.web (node_in ks b.key) b.key place active b.trail.items own.first.chain)
+    (ways_round r read ks (label_in r web.effect_sites) g web.web (node_in ks b.key) b.key place active b.trail.items own.first.chain)
   where
     own : IsBest r ks g tried b
     own = subst (AreBest r ks g tried) some found
@@ -363,12 +363,12 @@ ways_found r read ts all left roots tried ks g best b p every is these those web
     active : IsActive r b.key
     active = let x = listed_on r b.key listed in subst (IsActive r) x.2 (active_named r read x.0 x.1)
 
-pub steps_found : (r : Reading) → IsReading r → (ts : Places) (all left roots tried ks : List NodeKey) (g : Graph) (best : Option Best) (b : Best) (p : List Step) → all ≡ active_keys r → left ≡ unlaid ts all → roots ≡ left → tried ≡ left → IsWebOf r roots ks g → AreBest r ks g tried best → best ≡ Some b → p ≡ b.trail.items
+pub steps_found : (r : Reading) → IsReading r → (ts : Places) (all left roots tried ks : List NodeKey) (g : Graph) (best : Option Best) (b : Best) (p : List Step) → all ≡ active_keys r → left ≡ unlaid ts all → roots ≡ left → tried ≡ left → IsKeyGraphOf r roots ks g → AreBest r ks g tried best → best ≡ Some b → p ≡ b.trail.items
     → Each (IsStretch r) (stretches b.key None (keys_along ks p))
 steps_found r read ts all left roots tried ks g best b p every is these those web found some trail =
     each_stretch r b.key (stretches b.key None (keys_along ks p)) b.key (ways_found r read ts all left roots tried ks g best b p every is these those web found some trail)
 
-pub arrows_found : (r : Reading) → IsReading r → (ts : Places) → AreLayers (price r) (kept r) ts → (all left roots tried ks : List NodeKey) (g : Graph) (best : Option Best) (b : Best) (p : List Step) (arrows : List Arrow) → all ≡ active_keys r → left ≡ unlaid ts all → roots ≡ left → tried ≡ left → IsWebOf r roots ks g → AreBest r ks g tried best → best ≡ Some b → p ≡ b.trail.items
+pub arrows_found : (r : Reading) → IsReading r → (ts : Places) → AreLayers (price r) (kept r) ts → (all left roots tried ks : List NodeKey) (g : Graph) (best : Option Best) (b : Best) (p : List Step) (arrows : List Arrow) → all ≡ active_keys r → left ≡ unlaid ts all → roots ≡ left → tried ≡ left → IsKeyGraphOf r roots ks g → AreBest r ks g tried best → best ≡ Some b → p ≡ b.trail.items
     → AreArrowsOf r (stretches b.key None (keys_along ks p)) arrows → AreFirstArrows r.service (flow_read r) arrows
 arrows_found r read ts layers all left roots tried ks g best b p arrows every is these those web found some trail are =
     let ways = ways_found r read ts all left roots tried ks g best b p every is these those web found some trail in

@@ -3,7 +3,7 @@ use Rattle.std.specs.Prelude.{◌≡◌, ◌⊎◌, ◌<◌, ◌≤◌, ◌+◌,
 use Rattle.std.specs.declared.cmp.Ordering.{Ordering}
 use Rattle.std.specs.declared.cmp.Ordering.TheVariants.{Less, Equal, Greater}
 use Rattle.std.specs.Cmp.{IsTotalOrder, then_total, on_total, nat_cmp_total, tied_itself}
-use Rattle.std.specs.Cmp.Lexicographic.{slice_cmp, nat_list_cmp_total, options_total}
+use Rattle.std.specs.Cmp.Lexicographic.{slice_cmp}
 use Rattle.std.specs.Option.{option_map_or}
 use Rattle.std.specs.Ordering.{is_lt, nat_cmp, ordering_then}
 use Rattle.std.proofs.Common.{arith, inl, inr, ap, ◌∙◌, sym, subst, length-append, true≢false}
@@ -11,7 +11,6 @@ use Rattle.std.proofs.lemmas.List.{length-map, map-append, take_all, take_more}
 use Rattle.mh_paths.specs.declared.graph.Arrow.{Arrow}
 use Rattle.mh_paths.specs.declared.graph.Graph.{Graph}
 use Rattle.mh_paths.specs.Chains.{IsFirstCycle, NoCycle, labels_along}
-use Rattle.mh_model.specs.declared.config.Config.{Config}
 use Rattle.mh_model.specs.Service.{Service}
 use Rattle.mh_flow.specs.Solved.{Solved}
 use Rattle.mh_laws.specs.Costs as costs
@@ -25,33 +24,31 @@ use Rattle.mh_layers.specs.declared.node_key.NodeKey.{NodeKey}
 use Rattle.mh_layers.specs.Key.{Key, Effect}
 use Rattle.mh_layers.specs.Bridge.{key_of}
 use Rattle.mh_layers.specs.Cycle as cycle
-use Rattle.mh_layers.specs.Cycle.{IsCycle, IsFirstCycle as IsFirst, AreFirstCycle, Leads, NoCycles, by_config, by_place, by_standing, cause_of}
+use Rattle.mh_layers.specs.Cycle.{IsCycle, IsFirstCycle as IsFirst, AreFirstCycle, Leads, NoCycles, by_place, by_effect_site, cause_of}
 use Rattle.mh_layers.specs.Layered.{active_keys}
 use Rattle.mh_layers.specs.Layering.{AreLayers, Places, is_laid}
 use Rattle.mh_layers.specs.Named.{IsEffectKept}
 use Rattle.mh_layers.specs.Reading.{IsReading, Reading, flow_read, heard_read, kept, number, price}
 use Rattle.mh_layers.specs.Stretches.{is_effect_key}
-use Rattle.mh_layers.specs.Standings.{cause_named, causes_to, effect_named, label_in, node_in}
-use Rattle.mh_layers.specs.Walk.{AreBest, IsBest, IsTried, IsWebOf, causes_along, unlaid}
-use Rattle.mh_layers.specs.Web.{CyclesAreTold, effect_number, effect_to, effects_along}
+use Rattle.mh_layers.specs.EffectSites.{cause_named, causes_to, effect_named, label_in, node_in}
+use Rattle.mh_layers.specs.Walk.{AreBest, IsBest, IsTried, IsKeyGraphOf, causes_along, unlaid}
+use Rattle.mh_layers.specs.KeyGraph.{CyclesAreTold, effect_number, effect_to, effects_along}
+use Rattle.mh_flow.proofs.OrderLemmas.{config_total, reference_total}
 use Rattle.mh_layers.proofs.CausingLemmas.{effect_kept, keys_cause}
 use Rattle.mh_layers.proofs.ChainLemmas.{counts_met}
 use Rattle.mh_layers.proofs.GraphLemmas.{node_found}
 use Rattle.mh_layers.proofs.LayeredLemmas.{listed_kept, listed_on, on_listed}
 use Rattle.mh_layers.proofs.ReadingLemmas.{numbers_are_names}
 use Rattle.mh_layers.proofs.ServeLemmas.{read_of}
-use Rattle.mh_layers.proofs.StandingLemmas.{labels_order, reference_total}
-use Rattle.mh_layers.proofs.WebLemmas.{no_laid_cycle, webs_tell}
+use Rattle.mh_layers.proofs.EffectSiteLemmas.{labels_order}
+use Rattle.mh_layers.proofs.KeyGraphLemmas.{no_laid_cycle, key_graphs_tell}
 
 -- ORDER
-
-config_total : IsTotalOrder by_config
-config_total = then_total (on_total (λ (c : Config). c.app) nat_list_cmp_total) (on_total (λ (c : Config). c.scene) (options_total nat_list_cmp_total))
 
 place_total : IsTotalOrder by_place
 place_total = then_total (on_total (λ (x : Cause). x.at) reference_total) (on_total (λ (x : Cause). x.index) nat_cmp_total)
 
-cause_total : IsTotalOrder by_standing
+cause_total : IsTotalOrder by_effect_site
 cause_total = then_total place_total (on_total (λ (x : Cause). x.config) config_total)
 
 less_of : (o : Ordering) → is_lt o ≡ true → o ≡ Less
@@ -59,16 +56,16 @@ less_of Less e = refl
 less_of Equal e = absurd cc
 less_of Greater e = absurd cc
 
-pub before_none : (x : Cause) → is_lt (by_standing x x) ≡ true → ⊥
+pub before_none : (x : Cause) → is_lt (by_effect_site x x) ≡ true → ⊥
 before_none x e = true≢false (sym e ∙ ap is_lt (tied_itself cause_total x))
 
-pub before_on : (x y z : Cause) → is_lt (by_standing x y) ≡ true → is_lt (by_standing y z) ≡ true → is_lt (by_standing x z) ≡ true
-before_on x y z e f = ap is_lt (cause_total.trans x y z (less_of (by_standing x y) e) (less_of (by_standing y z) f))
+pub before_on : (x y z : Cause) → is_lt (by_effect_site x y) ≡ true → is_lt (by_effect_site y z) ≡ true → is_lt (by_effect_site x z) ≡ true
+before_on x y z e f = ap is_lt (cause_total.trans x y z (less_of (by_effect_site x y) e) (less_of (by_effect_site y z) f))
 
 -- ONE MORE KEY
 
 abbrev comes_first : Cause → Option Best → Bool
-comes_first x best = option_map_or (λ (b : Best). is_lt (by_standing x b.cause)) best true
+comes_first x best = option_map_or (λ (b : Best). is_lt (by_effect_site x b.cause)) best true
 
 pub behind_one : {P : NodeKey → Type 0} (seen : List NodeKey) (k : NodeKey) → ((j : NodeKey) → Among seen j → P j) → P k → (j : NodeKey) → Among (seen ++ k ∷ []) j → P j
 behind_one {P} seen k all own j there = by (among_either seen (k ∷ []) j there)
@@ -78,7 +75,7 @@ behind_one {P} seen k all own j there = by (among_either seen (k ∷ []) j there
     by (inr (inl same)) = subst P same own
     by (inr (inr never)) = absurd cc
 
-still_best : (r : Reading) (ks : List NodeKey) (g : Graph) (seen : List NodeKey) (k : NodeKey) (b : Best) → IsBest r ks g seen b → (is_lt (by_standing (cause_named r k) b.cause) ≡ true → NoCycle g (node_in ks k)) → IsBest r ks g (seen ++ k ∷ []) b
+still_best : (r : Reading) (ks : List NodeKey) (g : Graph) (seen : List NodeKey) (k : NodeKey) (b : Best) → IsBest r ks g seen b → (is_lt (by_effect_site (cause_named r k) b.cause) ≡ true → NoCycle g (node_in ks k)) → IsBest r ks g (seen ++ k ∷ []) b
 still_best r ks g seen k b best own = record {
   there = among_left seen (k ∷ []) b.key best.there;
   cause = best.cause;
@@ -87,10 +84,10 @@ still_best r ks g seen k b best own = record {
 }
 
 -- it does not come before the best
-pub tried_later : (r : Reading) (ks : List NodeKey) (g : Graph) (k : NodeKey) (x : Cause) (best : Option Best) → x ≡ cause_named r k → option_map_or (λ (b : Best). is_lt (by_standing x b.cause)) best true ≡ false → IsTried r ks g k best best
+pub tried_later : (r : Reading) (ks : List NodeKey) (g : Graph) (k : NodeKey) (x : Cause) (best : Option Best) → x ≡ cause_named r k → option_map_or (λ (b : Best). is_lt (by_effect_site x b.cause)) best true ≡ false → IsTried r ks g k best best
 tried_later r ks g k x None is later = absurd cc
 tried_later r ks g k x (Some b) is later = record {
-  best = λ seen best. still_best r ks g seen k b best (λ e. absurd (true≢false (sym e ∙ ap (λ (y : Cause). is_lt (by_standing y b.cause)) (sym is) ∙ later)));
+  best = λ seen best. still_best r ks g seen k b best (λ e. absurd (true≢false (sym e ∙ ap (λ (y : Cause). is_lt (by_effect_site y b.cause)) (sym is) ∙ later)));
 }
 
 -- it is on no cycle
@@ -99,21 +96,21 @@ tried_none r ks g k n None is none = record { best = λ seen best. behind_one se
 tried_none r ks g k n (Some b) is none = record { best = λ seen best. still_best r ks g seen k b best (λ e. subst (NoCycle g) is none) }
 
 -- it is the best now
-pub tried_found : (r : Reading) (ks : List NodeKey) (g : Graph) (k : NodeKey) (n : ℕ) (x : Cause) (b : Best) (old new : Option Best) → x ≡ cause_named r k → n ≡ node_in ks k → option_map_or (λ (b : Best). is_lt (by_standing x b.cause)) old true ≡ true → b.key ≡ k → b.cause ≡ x → IsFirstCycle g n b.trail.items → new ≡ Some b
+pub tried_found : (r : Reading) (ks : List NodeKey) (g : Graph) (k : NodeKey) (n : ℕ) (x : Cause) (b : Best) (old new : Option Best) → x ≡ cause_named r k → n ≡ node_in ks k → option_map_or (λ (b : Best). is_lt (by_effect_site x b.cause)) old true ≡ true → b.key ≡ k → b.cause ≡ x → IsFirstCycle g n b.trail.items → new ≡ Some b
     → IsTried r ks g k old new
 tried_found r ks g k n x b old new is at first own cause found now = record {
   best = λ seen best. subst (AreBest r ks g (seen ++ k ∷ [])) (sym now) (record {
     there = among_right seen (k ∷ []) b.key (inl (sym own));
     cause = cause ∙ is ∙ ap (cause_named r) (sym own);
     first = subst (λ (m : ℕ). IsFirstCycle g m b.trail.items) (at ∙ ap (node_in ks) (sym own)) found;
-    soonest = behind_one seen k (none seen old best first) (λ e. absurd (before_none x (subst (λ (y : Cause). is_lt (by_standing y x) ≡ true) (sym is) (subst (λ (y : Cause). is_lt (by_standing (cause_named r k) y) ≡ true) cause e))));
+    soonest = behind_one seen k (none seen old best first) (λ e. absurd (before_none x (subst (λ (y : Cause). is_lt (by_effect_site y x) ≡ true) (sym is) (subst (λ (y : Cause). is_lt (by_effect_site (cause_named r k) y) ≡ true) cause e))));
   });
 }
   where
-    none : (seen : List NodeKey) (o : Option Best) → AreBest r ks g seen o → option_map_or (λ (b : Best). is_lt (by_standing x b.cause)) o true ≡ true → (j : NodeKey) → Among seen j → is_lt (by_standing (cause_named r j) b.cause) ≡ true → NoCycle g (node_in ks j)
+    none : (seen : List NodeKey) (o : Option Best) → AreBest r ks g seen o → option_map_or (λ (b : Best). is_lt (by_effect_site x b.cause)) o true ≡ true → (j : NodeKey) → Among seen j → is_lt (by_effect_site (cause_named r j) b.cause) ≡ true → NoCycle g (node_in ks j)
     none seen None best before j there e = best j there
     none seen (Some a) best before j there e =
-        best.soonest j there (before_on (cause_named r j) x a.cause (subst (λ (y : Cause). is_lt (by_standing (cause_named r j) y) ≡ true) cause e) before)
+        best.soonest j there (before_on (cause_named r j) x a.cause (subst (λ (y : Cause). is_lt (by_effect_site (cause_named r j) y) ≡ true) cause e) before)
 
 pub best_more : (r : Reading) (ks : List NodeKey) (g : Graph) (xs : List NodeKey) (i : ℕ) (d : NodeKey) (old new : Option Best) → i < length xs → AreBest r ks g (take i xs) old → IsTried r ks g (get_or xs i d) old new → AreBest r ks g (take (i + 1) xs) new
 best_more r ks g xs i d old new less so_far tried =
@@ -214,7 +211,7 @@ front_taken {X} x ls y along is =
 
 -- THE FIRST CYCLE
 
-module _ (r : Reading) (read : IsReading r) (ts : Places) (layers : AreLayers (price r) (kept r) ts) (ks : List NodeKey) (g : Graph) (web : IsWebOf r (unlaid ts (active_keys r)) ks g) where
+module _ (r : Reading) (read : IsReading r) (ts : Places) (layers : AreLayers (price r) (kept r) ts) (ks : List NodeKey) (g : Graph) (web : IsKeyGraphOf r (unlaid ts (active_keys r)) ks g) where
   -- an effect that puts itself to work is not laid
   on_left : (x : costs.Effect) (zs : List costs.Effect) → IsCycle r.service (flow_read r) x zs → Among (unlaid ts (active_keys r)) (effect_number r x)
   on_left x zs own = by (is_laid ts (effect_number r x)) refl
@@ -231,7 +228,7 @@ module _ (r : Reading) (read : IsReading r) (ts : Places) (layers : AreLayers (p
   -- and is on a cycle of keys
   keys_on : (x : costs.Effect) (zs : List costs.Effect) → IsCycle r.service (flow_read r) x zs → NoCycle g (node_in ks (effect_number r x)) → ⊥
   keys_on x zs own none =
-      let way = (webs_tell r ks (label_in r web.standings) g read web.web x own.on (node_in ks (effect_number r x)) (node_there (effect_number r x) (on_left x zs own))).there zs own.leads in
+      let way = (key_graphs_tell r ks (label_in r web.effect_sites) g read web.web x own.on (node_in ks (effect_number r x)) (node_there (effect_number r x) (on_left x zs own))).there zs own.leads in
       none way.0 way.1
 
   pub none_found : AreBest r ks g (unlaid ts (active_keys r)) None → NoCycles r.service (flow_read r)
@@ -241,19 +238,19 @@ module _ (r : Reading) (read : IsReading r) (ts : Places) (layers : AreLayers (p
   abbrev IsAtWork : costs.Effect → Type 0
   IsAtWork x = IsOn r.service (flow_read r) x × Puts r.service (flow_read r) x
 
-  order : (x y : costs.Effect) → IsAtWork x → IsAtWork y → nat_cmp (label_in r web.standings (effect_number r x)) (label_in r web.standings (effect_number r y)) ≡ by_place (cause_of r.service x) (cause_of r.service y)
+  order : (x y : costs.Effect) → IsAtWork x → IsAtWork y → nat_cmp (label_in r web.effect_sites (effect_number r x)) (label_in r web.effect_sites (effect_number r y)) ≡ by_place (cause_of r.service x) (cause_of r.service y)
   order x y on also =
-      labels_order r (active_keys r) web.standings web.are (effect_number r x) (effect_number r y)
+      labels_order r (active_keys r) web.effect_sites web.are (effect_number r x) (effect_number r y)
       (on_listed r read x on.1.0 on.0 on.1.1) (on_listed r read y also.1.0 also.0 also.1.1)
       ∙ (λ i. by_place (cause_back r read x on.0 i) (cause_back r read y also.0 i))
 
-  long : (x : costs.Effect) (zs : List costs.Effect) → length (map (λ z. label_in r web.standings (effect_number r z)) (zs ++ x ∷ [])) ≡ length zs + 1
-  long x zs = length-map (zs ++ x ∷ []) (λ z. label_in r web.standings (effect_number r z)) ∙ length-append zs (x ∷ [])
+  long : (x : costs.Effect) (zs : List costs.Effect) → length (map (λ z. label_in r web.effect_sites (effect_number r z)) (zs ++ x ∷ [])) ≡ length zs + 1
+  long x zs = length-map (zs ++ x ∷ []) (λ z. label_in r web.effect_sites (effect_number r z)) ∙ length-append zs (x ∷ [])
 
   compared : (x : costs.Effect) (ys zs : List costs.Effect) → Each IsAtWork (ys ++ x ∷ []) → Each IsAtWork (zs ++ x ∷ []) → length ys ≡ length zs → slice_cmp by_place (map (cause_of r.service) ys) (map (cause_of r.service) zs) ≡ Less
-      → slice_cmp nat_cmp (map (λ z. label_in r web.standings (effect_number r z)) (ys ++ x ∷ [])) (map (λ z. label_in r web.standings (effect_number r z)) (zs ++ x ∷ [])) ≡ Less
+      → slice_cmp nat_cmp (map (λ z. label_in r web.effect_sites (effect_number r z)) (ys ++ x ∷ [])) (map (λ z. label_in r web.effect_sites (effect_number r z)) (zs ++ x ∷ [])) ≡ Less
   compared x ys zs on also same less =
-      labels_compare (λ z. label_in r web.standings (effect_number r z)) (cause_of r.service) IsAtWork order (ys ++ x ∷ []) (zs ++ x ∷ []) on also
+      labels_compare (λ z. label_in r web.effect_sites (effect_number r z)) (cause_of r.service) IsAtWork order (ys ++ x ∷ []) (zs ++ x ∷ []) on also
       ∙ (λ i. slice_cmp by_place (map-append (cause_of r.service) ys (x ∷ []) i) (map-append (cause_of r.service) zs (x ∷ []) i))
       ∙ less_in_front by_place (map (cause_of r.service) ys) (map (cause_of r.service) zs) (cause_of r.service x ∷ []) (cause_of r.service x ∷ [])
       (length-map ys (cause_of r.service) ∙ same ∙ sym (length-map zs (cause_of r.service))) less
@@ -270,10 +267,10 @@ module _ (r : Reading) (read : IsReading r) (ts : Places) (layers : AreLayers (p
       on : IsOn r.service (flow_read r) x
       on = effect.1
 
-      tells : CyclesAreTold r ks (label_in r web.standings) g x (node_in ks b.key)
-      tells = webs_tell r ks (label_in r web.standings) g read web.web x on (node_in ks b.key) (node_there b.key best.there ∙ ap (λ (k : NodeKey). Some k) (sym effect.2))
+      tells : CyclesAreTold r ks (label_in r web.effect_sites) g x (node_in ks b.key)
+      tells = key_graphs_tell r ks (label_in r web.effect_sites) g read web.web x on (node_in ks b.key) (node_there b.key best.there ∙ ap (λ (k : NodeKey). Some k) (sym effect.2))
 
-      told : (zs : List costs.Effect) × Leads r.service (flow_read r) x zs x × (map (effect_number r) (zs ++ x ∷ []) ≡ effects_along ks b.trail.items) × (labels_along b.trail.items ≡ map (λ z. label_in r web.standings (effect_number r z)) (zs ++ x ∷ []))
+      told : (zs : List costs.Effect) × Leads r.service (flow_read r) x zs x × (map (effect_number r) (zs ++ x ∷ []) ≡ effects_along ks b.trail.items) × (labels_along b.trail.items ≡ map (λ z. label_in r web.effect_sites (effect_number r z)) (zs ++ x ∷ []))
       told = tells.told b.trail.items best.first.chain
 
       zs : List costs.Effect
@@ -282,14 +279,14 @@ module _ (r : Reading) (read : IsReading r) (ts : Places) (layers : AreLayers (p
       own : b.cause ≡ cause_of r.service x
       own = best.cause ∙ ap (cause_named r) (sym effect.2) ∙ cause_back r read x on
 
-      not_before : (y : costs.Effect) (ys : List costs.Effect) → IsCycle r.service (flow_read r) y ys → is_lt (by_standing (cause_of r.service y) (cause_of r.service x)) ≡ false
-      not_before y ys also = by (is_lt (by_standing (cause_of r.service y) (cause_of r.service x))) refl
+      not_before : (y : costs.Effect) (ys : List costs.Effect) → IsCycle r.service (flow_read r) y ys → is_lt (by_effect_site (cause_of r.service y) (cause_of r.service x)) ≡ false
+      not_before y ys also = by (is_lt (by_effect_site (cause_of r.service y) (cause_of r.service x))) refl
         where
-          by : (c : Bool) → is_lt (by_standing (cause_of r.service y) (cause_of r.service x)) ≡ c → is_lt (by_standing (cause_of r.service y) (cause_of r.service x)) ≡ false
+          by : (c : Bool) → is_lt (by_effect_site (cause_of r.service y) (cause_of r.service x)) ≡ c → is_lt (by_effect_site (cause_of r.service y) (cause_of r.service x)) ≡ false
           by false e = e
           by true e =
               absurd (keys_on y ys also (best.soonest (effect_number r y) (on_left y ys also)
-              ((λ i. is_lt (by_standing (cause_back r read y also.on i) (own i))) ∙ e)))
+              ((λ i. is_lt (by_effect_site (cause_back r read y also.on i) (own i))) ∙ e)))
 
       first : IsFirst r.service (flow_read r) x zs
       first = record {
@@ -326,17 +323,17 @@ left_kept r read ts all left xs every is same =
     subst (λ (zs : List NodeKey). Each (kept r) zs) (sym (same ∙ is ∙ ap (unlaid ts) every))
     (among_each (kept r) (unlaid ts (active_keys r)) (λ k there. each_among (kept r) (active_keys r) k (listed_kept r read) (from_filtered (λ j. not (is_laid ts j)) (active_keys r) k there)))
 
-pub none_of : (r : Reading) → IsReading r → (ts : Places) → AreLayers (price r) (kept r) ts → (all left xs ys ks : List NodeKey) (g : Graph) (best : Option Best) → all ≡ active_keys r → left ≡ unlaid ts all → xs ≡ left → ys ≡ left → IsWebOf r xs ks g → AreBest r ks g ys best → best ≡ None → NoCycles r.service (flow_read r)
+pub none_of : (r : Reading) → IsReading r → (ts : Places) → AreLayers (price r) (kept r) ts → (all left xs ys ks : List NodeKey) (g : Graph) (best : Option Best) → all ≡ active_keys r → left ≡ unlaid ts all → xs ≡ left → ys ≡ left → IsKeyGraphOf r xs ks g → AreBest r ks g ys best → best ≡ None → NoCycles r.service (flow_read r)
 none_of r read ts layers all left xs ys ks g best every is same also web found none =
     let these : left ≡ unlaid ts (active_keys r) = is ∙ ap (unlaid ts) every in
-    none_found r read ts layers ks g (subst (λ (zs : List NodeKey). IsWebOf r zs ks g) (same ∙ these) web)
+    none_found r read ts layers ks g (subst (λ (zs : List NodeKey). IsKeyGraphOf r zs ks g) (same ∙ these) web)
     (subst (AreBest r ks g (unlaid ts (active_keys r))) none (subst (λ (zs : List NodeKey). AreBest r ks g zs best) (also ∙ these) found))
 
-pub some_of : (r : Reading) → IsReading r → (ts : Places) → AreLayers (price r) (kept r) ts → (all left xs ys ks : List NodeKey) (g : Graph) (best : Option Best) (b : Best) (cs : List Cause) → all ≡ active_keys r → left ≡ unlaid ts all → xs ≡ left → ys ≡ left → IsWebOf r xs ks g → AreBest r ks g ys best → best ≡ Some b
+pub some_of : (r : Reading) → IsReading r → (ts : Places) → AreLayers (price r) (kept r) ts → (all left xs ys ks : List NodeKey) (g : Graph) (best : Option Best) (b : Best) (cs : List Cause) → all ≡ active_keys r → left ≡ unlaid ts all → xs ≡ left → ys ≡ left → IsKeyGraphOf r xs ks g → AreBest r ks g ys best → best ≡ Some b
     → cs ≡ take (length (causes_along r ks b.trail.items)) (b.cause ∷ causes_along r ks b.trail.items) → AreFirstCycle r.service (flow_read r) cs
 some_of r read ts layers all left xs ys ks g best b cs every is same also web tried some =
     let these : left ≡ unlaid ts (active_keys r) = is ∙ ap (unlaid ts) every in
-    found r read ts layers ks g (subst (λ (zs : List NodeKey). IsWebOf r zs ks g) (same ∙ these) web) b cs
+    found r read ts layers ks g (subst (λ (zs : List NodeKey). IsKeyGraphOf r zs ks g) (same ∙ these) web) b cs
     (subst (AreBest r ks g (unlaid ts (active_keys r))) some (subst (λ (zs : List NodeKey). AreBest r ks g zs best) (also ∙ these) tried))
 
 -- of the service and the flow that were read

@@ -16,7 +16,7 @@ use Rattle.mh_laws.proofs.EachLemmas.{among_all, got_among}
 use Rattle.mh_laws.proofs.NodeLemmas.{config_among}
 use Rattle.mh_layers.specs.declared.bounds.InputKind.{InputKind}
 use Rattle.mh_layers.specs.declared.bounds.InputKind.TheVariants as kind
-use Rattle.mh_layers.specs.declared.way.Way.{Way}
+use Rattle.mh_layers.specs.declared.ways.way.Way.{Way}
 use Rattle.mh_layers.specs.Key.{Key, Taken}
 use Rattle.mh_layers.specs.Bridge.{key_of}
 use Rattle.mh_layers.specs.Caused.{IsNamed}

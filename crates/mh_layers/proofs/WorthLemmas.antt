@@ -13,8 +13,8 @@ use Rattle.mh_laws.specs.Costs.{effect_at}
 use Rattle.mh_laws.specs.Each.{Each}
 use Rattle.mh_laws.specs.Price.{Price, Nothing, if_price, sum_price}
 use Rattle.mh_laws.specs.View.{act, acts}
-use Rattle.mh_layers.specs.declared.costs.Laid.{Laid}
-use Rattle.mh_layers.specs.declared.dearest.Dearest.{Dearest}
+use Rattle.mh_layers.specs.declared.laying.costs.Laid.{Laid}
+use Rattle.mh_layers.specs.declared.ways.dearest.Dearest.{Dearest}
 use Rattle.mh_layers.specs.declared.node_key.NodeKey.{NodeKey}
 use Rattle.mh_layers.specs.declared.node_key.NodeKey.TheVariants as key
 use Rattle.mh_layers.specs.Key.{Key}
@@ -22,20 +22,20 @@ use Rattle.mh_layers.specs.Bridge.{key_of}
 use Rattle.mh_layers.specs.Choosing.{AreChosen, effect_cost}
 use Rattle.mh_layers.specs.Cycle.{first_number}
 use Rattle.mh_layers.specs.Dearest.{acts_of}
-use Rattle.mh_layers.specs.Deeds.{number_in}
+use Rattle.mh_layers.specs.Applied.{number_in}
 use Rattle.mh_layers.specs.Keys.{IsKept, effect_of}
 use Rattle.mh_layers.specs.Known.{added, known_worth, told}
 use Rattle.mh_layers.specs.Layering.{AreLayers, Places, cost_in, cost_of, laid_in}
 use Rattle.mh_layers.specs.Reading.{IsReading, Reading, Spot, around_at, flow_read, heard_read, kept, known_by, name, number, price, price_read, spot_in}
 use Rattle.mh_layers.specs.Staging.{IsCostly, IsKnown, act_worth}
-use Rattle.mh_layers.specs.Standings.{cause_named, effect_named}
+use Rattle.mh_layers.specs.EffectSites.{cause_named, effect_named}
 use Rattle.mh_layers.specs.Stretches.{is_effect_key}
 use Rattle.mh_layers.specs.Taking.{or_nothing}
 use Rattle.mh_layers.specs.Trails.{IsActive}
 use Rattle.mh_layers.proofs.ArrowLemmas.{number_named}
 use Rattle.mh_layers.proofs.NamedLemmas.{known_numbered}
 use Rattle.mh_layers.proofs.ReadingLemmas.{numbers_are_names}
-use Rattle.mh_layers.proofs.WebLemmas.{active_kept}
+use Rattle.mh_layers.proofs.KeyGraphLemmas.{active_kept}
 
 -- THE EFFECT
 

@@ -23,10 +23,10 @@ use Rattle.mh_laws.specs.Layers.{Causes}
 use Rattle.mh_laws.specs.Safe.{exchanged}
 use Rattle.mh_laws.specs.Price.{Price, counted_in}
 use Rattle.mh_flow.specs.Sites.{Site, sites_of}
-use Rattle.mh_layers.specs.declared.arrow.Arrow.{Arrow}
-use Rattle.mh_layers.specs.declared.arrow.By.{By}
-use Rattle.mh_layers.specs.declared.arrow.By.TheVariants as by
-use Rattle.mh_layers.specs.declared.arrow.Held.{Held}
+use Rattle.mh_layers.specs.declared.arrows.arrow.Arrow.{Arrow}
+use Rattle.mh_layers.specs.declared.arrows.arrow.By.{By}
+use Rattle.mh_layers.specs.declared.arrows.arrow.By.TheVariants as by
+use Rattle.mh_layers.specs.declared.arrows.arrow.Held.{Held}
 use Rattle.mh_layers.specs.declared.cause.Cause.{Cause}
 use Rattle.mh_layers.specs.Cycle.{AreFirstCycle, first_number}
 use Rattle.mh_layers.specs.Keys.{data_of, waits_for}

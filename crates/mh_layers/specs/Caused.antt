@@ -4,12 +4,12 @@ use Rattle.indexmap.specs.IndexSet.{insert_all}
 use Rattle.mh_laws.specs.Each.{Among}
 use Rattle.mh_layers.specs.declared.node_key.NodeKey.{NodeKey}
 use Rattle.mh_layers.specs.Key.{Key}
-use Rattle.mh_layers.specs.Asked.{AreCounted}
+use Rattle.mh_layers.specs.Successors.{AreCounted}
 use Rattle.mh_layers.specs.Causing.{Counts}
 use Rattle.mh_layers.specs.NodeKeys.{same_key}
 use Rattle.mh_layers.specs.Reading.{Reading, flow_read, heard_read, kept, name, number, price}
 use Rattle.mh_layers.specs.Stretches.{is_effect_key}
-use Rattle.mh_layers.specs.Web.{counted}
+use Rattle.mh_layers.specs.KeyGraph.{counted}
 
 -- the number is that of its key, which may have a cost
 pub record IsNamed (r : Reading) (k : NodeKey) : Type 0 where

@@ -3,14 +3,14 @@ use Rattle.std.specs.Prelude.{◌≡◌, ◌<◌, ◌≤◌, ◌==◌, ◌&&◌,
 use Rattle.std.specs.Ordering.{is_lt}
 use Rattle.mh_laws.specs.Each.{Among}
 use Rattle.mh_layers.specs.declared.cause.Cause.{Cause}
-use Rattle.mh_layers.specs.declared.dearest.Dearest.{Dearest}
+use Rattle.mh_layers.specs.declared.ways.dearest.Dearest.{Dearest}
 use Rattle.mh_layers.specs.declared.node_key.NodeKey.{NodeKey}
 use Rattle.mh_layers.specs.declared.node_key.NodeKey.TheVariants as key
-use Rattle.mh_layers.specs.Cycle.{by_standing}
+use Rattle.mh_layers.specs.Cycle.{by_effect_site}
 use Rattle.mh_layers.specs.Dearest.{IsFirstLargest}
 use Rattle.mh_layers.specs.Layering.{Places, cost_in}
 use Rattle.mh_layers.specs.Reading.{Reading}
-use Rattle.mh_layers.specs.Standings.{cause_named}
+use Rattle.mh_layers.specs.EffectSites.{cause_named}
 use Rattle.mh_layers.specs.Taking.{or_nothing}
 
 -- what is laid of an effect's cost; of another key nothing
@@ -25,7 +25,7 @@ pub record IsChosen (r : Reading) (ts : Places) (seen : List NodeKey) (b : Deare
   pub cost : b.cost ≡ effect_cost ts b.key
   pub costs : 0 < b.cost
   pub most : (k : NodeKey) → Among seen k → effect_cost ts k ≤ b.cost
-  pub first : (k : NodeKey) → Among seen k → effect_cost ts k ≡ b.cost → is_lt (by_standing (cause_named r k) b.cause) ≡ false
+  pub first : (k : NodeKey) → Among seen k → effect_cost ts k ≡ b.cost → is_lt (by_effect_site (cause_named r k) b.cause) ≡ false
 
 -- or none costs anything
 abbrev pub AreChosen : Reading → Places → List NodeKey → Option Dearest → Type 0
@@ -33,7 +33,7 @@ AreChosen r ts seen None = (k : NodeKey) → Among seen k → effect_cost ts k �
 AreChosen r ts seen (Some b) = IsChosen r ts seen b
 
 abbrev pub is_dearer : ℕ → Cause → Dearest → Bool
-is_dearer n x b = nat_lt b.cost n || (n == b.cost && is_lt (by_standing x b.cause))
+is_dearer n x b = nat_lt b.cost n || (n == b.cost && is_lt (by_effect_site x b.cause))
 
 -- with one more key that was seen
 pub record IsSeen (r : Reading) (ts : Places) (k : NodeKey) (old new : Option Dearest) : Type 0 where

@@ -1,14 +1,13 @@
 -- Effects that put themselves to work, by way of others: the first of them, and the first of the shortest ways.
 use Rattle.std.specs.Prelude.{◌≡◌, ◌≢◌, ◌≤◌, ℕ, suc, false, take, List, [], ◌∷◌, length, map, slice_get, Option, None}
 use Rattle.std.specs.List.{flat_map}
-use Rattle.std.specs.Option.{option_cmp, option_map, option_map_or}
+use Rattle.std.specs.Option.{option_map, option_map_or}
 use Rattle.std.specs.Ordering.{is_lt, nat_cmp, on, then_cmp}
 use Rattle.std.specs.declared.cmp.Ordering.{Ordering}
 use Rattle.std.specs.declared.cmp.Ordering.TheVariants.{Less}
 use Rattle.std.specs.Cmp.Lexicographic.{slice_cmp}
 use Rattle.mh_group.specs.declared.action_name.ActionName.{ActionName}
 use Rattle.mh_model.specs.declared.act.Act.{Act}
-use Rattle.mh_model.specs.declared.config.Config.{Config}
 use Rattle.mh_model.specs.declared.object.Fixed.{Fixed}
 use Rattle.mh_model.specs.Configuration.{present}
 use Rattle.mh_model.specs.Service.{Service, part_at}
@@ -16,6 +15,7 @@ use Rattle.mh_laws.specs.Costs.{Effect, effect_at, effects}
 use Rattle.mh_laws.specs.Flow.{Flow}
 use Rattle.mh_laws.specs.Layers.{Causes, IsOn}
 use Rattle.mh_laws.specs.Least.{by_reference}
+use Rattle.mh_flow.specs.Orders.{by_config}
 use Rattle.mh_layers.specs.declared.cause.Cause.{Cause}
 
 -- the first effect puts the last to work, by way of those between, each of which puts the next to work
@@ -54,17 +54,14 @@ cause_of v x = record { config = x.config; at = x.object; index = index_of v x; 
 abbrev pub by_place : Cause → Cause → Ordering
 by_place = then_cmp (on (λ x. x.at) by_reference) (on (λ x. x.index) nat_cmp)
 
-abbrev pub by_config : Config → Config → Ordering
-by_config = then_cmp (on (λ c. c.app) (slice_cmp nat_cmp)) (on (λ c. c.scene) (option_cmp (slice_cmp nat_cmp)))
-
-abbrev pub by_standing : Cause → Cause → Ordering
-by_standing = then_cmp by_place (on (λ x. x.config) by_config)
+abbrev pub by_effect_site : Cause → Cause → Ordering
+by_effect_site = then_cmp by_place (on (λ x. x.config) by_config)
 
 -- THE FIRST CYCLE. The effect puts itself to work, and none that comes before it does; by way of these, and of no fewer; and of
 -- as many, of none whose places come before theirs.
 pub record IsFirstCycle (v : Service) (w : Flow) (x : Effect) (zs : List Effect) : Type 0 where
   pub cycle : IsCycle v w x zs
-  pub first : (y : Effect) (ys : List Effect) → IsCycle v w y ys → is_lt (by_standing (cause_of v y) (cause_of v x)) ≡ false
+  pub first : (y : Effect) (ys : List Effect) → IsCycle v w y ys → is_lt (by_effect_site (cause_of v y) (cause_of v x)) ≡ false
   pub shortest : (ys : List Effect) → IsCycle v w x ys → length zs ≤ length ys
   pub least :
       (ys : List Effect) → IsCycle v w x ys → length ys ≡ length zs →

@@ -13,9 +13,9 @@ use Rattle.mh_laws.specs.Layers.{Causes, IsCost}
 use Rattle.mh_laws.specs.Price.{Price, counted_in, worth}
 use Rattle.mh_layers.specs.declared.bounds.InputKind.{InputKind}
 use Rattle.mh_layers.specs.declared.bounds.InputKind.TheVariants as kind
-use Rattle.mh_layers.specs.declared.way.Stage.{Stage}
-use Rattle.mh_layers.specs.declared.way.Way.{Way}
-use Rattle.mh_layers.specs.Cycle.{by_standing, cause_of}
+use Rattle.mh_layers.specs.declared.ways.way.Stage.{Stage}
+use Rattle.mh_layers.specs.declared.ways.way.Way.{Way}
+use Rattle.mh_layers.specs.Cycle.{by_effect_site, cause_of}
 use Rattle.mh_layers.specs.Keys.{takes}
 use Rattle.mh_layers.specs.Known.{top}
 
@@ -41,7 +41,7 @@ pub record IsDearest (v : Service) (f : Costing) (Is : Effect → Type 0) (x : E
   pub one : Is x
   pub costs : 0 < cost_told f x
   pub most : (y : Effect) → Is y → cost_told f y ≤ cost_told f x
-  pub first : (y : Effect) → Is y → cost_told f y ≡ cost_told f x → is_lt (by_standing (cause_of v y) (cause_of v x)) ≡ false
+  pub first : (y : Effect) → Is y → cost_told f y ≡ cost_told f x → is_lt (by_effect_site (cause_of v y) (cause_of v x)) ≡ false
 
 -- the actions of an effect
 abbrev pub acts_of : Service → Effect → List Act

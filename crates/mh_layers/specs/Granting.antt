@@ -16,7 +16,7 @@ use Rattle.mh_model.specs.Reference.{same_key, same_ref}
 use Rattle.mh_model.specs.Service.{Service}
 use Rattle.mh_laws.specs.Flow.{Flow, Sets, reached}
 use Rattle.mh_laws.specs.Safe.{exchanged}
-use Rattle.mh_layers.specs.declared.arrow.Held.{Held}
+use Rattle.mh_layers.specs.declared.arrows.arrow.Held.{Held}
 
 abbrev pub held_so : ObjRef → ObjRef → Held
 held_so r q = record { by = r; at = q }

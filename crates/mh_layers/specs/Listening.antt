@@ -24,9 +24,9 @@ use Rattle.mh_laws.specs.Flow.{Flow}
 use Rattle.mh_laws.specs.Price.{Price, Node, Plus, sum_price}
 use Rattle.mh_flow.specs.Chart.{all_parts}
 use Rattle.mh_layers.specs.declared.node_key.NodeKey.{NodeKey}
-use Rattle.mh_layers.specs.declared.place.Ear.{Ear}
-use Rattle.mh_layers.specs.declared.place.Share.{Share}
-use Rattle.mh_layers.specs.declared.place.Place.{Place}
+use Rattle.mh_layers.specs.declared.listening.listener_slot.EventKey.{EventKey}
+use Rattle.mh_layers.specs.declared.listening.listener_slot.Share.{Share}
+use Rattle.mh_layers.specs.declared.listening.listener_slot.ListenerSlot.{ListenerSlot}
 use Rattle.mh_layers.specs.Key.{Key, Effect}
 use Rattle.mh_layers.specs.Keys.{Heard, HearsAll, data_of, links_with, waits_for}
 use Rattle.mh_layers.specs.Known.{known_worth}
@@ -66,13 +66,13 @@ objects_of ps = insert_all same_key [] (flat_map mentioned ps)
 
 -- Ears: a source, and a type of its events
 
-abbrev pub same_ear : Ear → Ear → Bool
+abbrev pub same_ear : EventKey → EventKey → Bool
 same_ear a b = a.source == b.source && a.kind == b.kind
 
-abbrev pub ear_at : ℕ → EventType → Ear
+abbrev pub ear_at : ℕ → EventType → EventKey
 ear_at n kind = record { source = n; kind = number_of kind }
 
-abbrev pub ear_with : List ObjRef → ObjRef → EventType → Option Ear
+abbrev pub ear_with : List ObjRef → ObjRef → EventType → Option EventKey
 ear_with os r kind = option_map (λ n. ear_at n kind) (position (same_key r) os)
 
 -- the type of events for which a link waits
@@ -84,10 +84,10 @@ abbrev pub names_event : Fixed → Bool
 names_event p = is_some (source_of p) && is_some (type_of p)
 
 -- the events for which a link waits
-abbrev pub ear_of : List ObjRef → Fixed → Option Ear
+abbrev pub ear_of : List ObjRef → Fixed → Option EventKey
 ear_of os p = option_and_then (λ r. option_and_then (λ kind. ear_with os r kind) (type_of p)) (source_of p)
 
-abbrev pub is_ear : Ear → Option Ear → Bool
+abbrev pub is_ear : EventKey → Option EventKey → Bool
 is_ear q None = false
 is_ear q (Some e) = same_ear e q
 
@@ -96,10 +96,10 @@ is_ear q (Some e) = same_ear e q
 abbrev pub same_share : Share → Share → Bool
 same_share a b = a.group == b.group && option_eq nat_eq a.value b.value
 
-abbrev pub same_place : Place → Place → Bool
+abbrev pub same_place : ListenerSlot → ListenerSlot → Bool
 same_place a b = same_ear a.ear b.ear && same_share a.share b.share
 
-abbrev pub place_at : Ear → ℕ → Option ℕ → Place
+abbrev pub place_at : EventKey → ℕ → Option ℕ → ListenerSlot
 place_at e g n = record { ear = e; share = record { group = g; value = n } }
 
 -- which of the values that are named the data of a link is: none, where it has no data, or the value with this number
@@ -109,28 +109,28 @@ number_in None (Some x) = None
 number_in (Some xs) (Some x) = option_map Some (position (same_value x) xs)
 
 -- the place of a link of the group with this number
-abbrev pub place_of : List ObjRef → List (Ear × List Value) → ℕ → Fixed → Option Place
+abbrev pub place_of : List ObjRef → List (EventKey × List Value) → ℕ → Fixed → Option ListenerSlot
 place_of os es g p =
     option_and_then (λ e. option_map (place_at e g) (number_in (lookup (same_ear e) es) (data_of p))) (ear_of os p)
 
-abbrev pub is_place : Place → Option Place → Bool
+abbrev pub is_place : ListenerSlot → Option ListenerSlot → Bool
 is_place q None = false
 is_place q (Some k) = same_place k q
 
 -- the links at a place
-abbrev pub listed : Place → List (Place × List Fixed) → List Fixed
+abbrev pub listed : ListenerSlot → List (ListenerSlot × List Fixed) → List Fixed
 listed q ls = unwrap_or (lookup (same_place q) ls) []
 
 -- those of the group with this number
-abbrev pub lists_in : List ObjRef → List (Ear × List Value) → Place → ℕ → List Fixed → List Fixed
+abbrev pub lists_in : List ObjRef → List (EventKey × List Value) → ListenerSlot → ℕ → List Fixed → List Fixed
 lists_in os es q g ps = filter (λ p. is_place q (place_of os es g p)) ps
 
-abbrev pub lists_at : List ObjRef → List (Ear × List Value) → Place → ℕ → Option (List ℕ × List Fixed) → List Fixed
+abbrev pub lists_at : List ObjRef → List (EventKey × List Value) → ListenerSlot → ℕ → Option (List ℕ × List Fixed) → List Fixed
 lists_at os es q g None = []
 lists_at os es q g (Some e) = lists_in os es q g e.1
 
 -- those of these groups, of which the first has this number
-abbrev pub lists_from : List ObjRef → List (Ear × List Value) → Place → ℕ → List (List ℕ × List Fixed) → List Fixed
+abbrev pub lists_from : List ObjRef → List (EventKey × List Value) → ListenerSlot → ℕ → List (List ℕ × List Fixed) → List Fixed
 lists_from os es q g [] = []
 lists_from os es q g (e ∷ gs) = lists_in os es q g e.1 ++ lists_from os es q (suc g) gs
 
@@ -140,22 +140,22 @@ pub record Listeners : Type 0 where
   -- all objects, and all sources that links name
   pub objects : List ObjRef
   -- the data that links name, by the events for which they wait
-  pub ears : List (Ear × List Value)
+  pub ears : List (EventKey × List Value)
   -- the links, by their places
-  pub lists : List (Place × List Fixed)
+  pub lists : List (ListenerSlot × List Fixed)
 
 -- these are the objects of the service, what its links name, and the links themselves
 pub record IsListening (v : Service) (l : Listeners) : Type 0 where
   pub objects : l.objects ≡ objects_of (all_parts v)
-  pub ears : (q : Ear) → lookup (same_ear q) l.ears ≡ named (λ p. is_ear q (ear_of l.objects p)) None (all_parts v)
-  pub lists : (q : Place) → listed q l.lists ≡ lists_from l.objects l.ears q 0 v.groups
+  pub ears : (q : EventKey) → lookup (same_ear q) l.ears ≡ named (λ p. is_ear q (ear_of l.objects p)) None (all_parts v)
+  pub lists : (q : ListenerSlot) → listed q l.lists ≡ lists_from l.objects l.ears q 0 v.groups
 
 -- what data is named of the events of this type of a source
 abbrev pub heard : Listeners → Heard
 heard l r kind = option_and_then (λ e. lookup (same_ear e) l.ears) (ear_with l.objects r kind)
 
 -- the place of the links of the group with this number
-abbrev pub place_with : List ObjRef → Option ℕ → ObjRef → EventType → Option ℕ → Option Place
+abbrev pub place_with : List ObjRef → Option ℕ → ObjRef → EventType → Option ℕ → Option ListenerSlot
 place_with os g r kind n = option_and_then (λ e. option_map (λ h. place_at e h n) g) (ear_with os r kind)
 
 -- the links of the group with this number that wait for such events, and have no data, or the value with this number

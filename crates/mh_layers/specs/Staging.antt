@@ -6,12 +6,12 @@ use Rattle.mh_laws.specs.Costs.{Costing, Effect}
 use Rattle.mh_laws.specs.Layers.{IsCost}
 use Rattle.mh_laws.specs.View.{act}
 use Rattle.mh_layers.specs.declared.bounds.InputKind.{InputKind}
-use Rattle.mh_layers.specs.declared.dearest.Dearest.{Dearest}
+use Rattle.mh_layers.specs.declared.ways.dearest.Dearest.{Dearest}
 use Rattle.mh_layers.specs.declared.node_key.NodeKey.{NodeKey}
-use Rattle.mh_layers.specs.declared.stages.Next.{Next}
-use Rattle.mh_layers.specs.declared.stages.Part.{Part}
-use Rattle.mh_layers.specs.declared.way.Stage.{Stage}
-use Rattle.mh_layers.specs.declared.way.Way.{Way}
+use Rattle.mh_layers.specs.declared.ways.stages.Next.{Next}
+use Rattle.mh_layers.specs.declared.ways.stages.Part.{Part}
+use Rattle.mh_layers.specs.declared.ways.way.Stage.{Stage}
+use Rattle.mh_layers.specs.declared.ways.way.Way.{Way}
 use Rattle.mh_layers.specs.Key.{Taken}
 use Rattle.mh_layers.specs.Bridge.{key_of}
 use Rattle.mh_layers.specs.Caused.{CountsFrom, IsNamed}
@@ -20,7 +20,7 @@ use Rattle.mh_layers.specs.Dearest.{AreStages, IsFirstLargest, IsWay, acts_of}
 use Rattle.mh_layers.specs.Known.{known_worth}
 use Rattle.mh_layers.specs.Layering.{Places}
 use Rattle.mh_layers.specs.Reading.{Reading, around_at, flow_read, known_by, number, spot_in}
-use Rattle.mh_layers.specs.Standings.{cause_named, effect_named}
+use Rattle.mh_layers.specs.EffectSites.{cause_named, effect_named}
 
 -- what is told of the cost of an action
 abbrev pub act_worth : Reading → Places → Config → Act → Result ℕ NodeKey

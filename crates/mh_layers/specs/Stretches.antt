@@ -2,10 +2,10 @@
 use Rattle.std.specs.Prelude.{◌≡◌, false, true, Bool, if◌then◌else◌, List, [], ◌∷◌, Option, Some, None, slice_get, unwrap_or}
 use Rattle.std.specs.List.{filter_map}
 use Rattle.mh_paths.specs.declared.graph.Arrow.{Arrow as Step}
-use Rattle.mh_layers.specs.declared.arrow.Arrow.{Arrow}
+use Rattle.mh_layers.specs.declared.arrows.arrow.Arrow.{Arrow}
 use Rattle.mh_layers.specs.declared.node_key.NodeKey.{NodeKey}
 use Rattle.mh_layers.specs.declared.node_key.NodeKey.TheVariants as key
-use Rattle.mh_layers.specs.declared.trail.Stretch.{Stretch}
+use Rattle.mh_layers.specs.declared.cycle.trail.Stretch.{Stretch}
 use Rattle.mh_layers.specs.Reading.{Reading}
 use Rattle.mh_layers.specs.Trails.{IsArrowOf, IsStep}
 

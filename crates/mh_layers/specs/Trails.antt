@@ -9,15 +9,15 @@ use Rattle.mh_laws.specs.Each.{Among}
 use Rattle.mh_laws.specs.Flow.{Flow}
 use Rattle.mh_laws.specs.Layers.{IsOn}
 use Rattle.mh_flow.specs.Sites.{sites_of}
-use Rattle.mh_layers.specs.declared.arrow.Arrow.{Arrow}
+use Rattle.mh_layers.specs.declared.arrows.arrow.Arrow.{Arrow}
 use Rattle.mh_layers.specs.declared.node_key.NodeKey.{NodeKey}
 use Rattle.mh_layers.specs.Arrows.{AreGrantedBy, counts, granted, is_action_in, is_action_of, is_waited_for, number_by}
 use Rattle.mh_layers.specs.Bridge.{key_of}
 use Rattle.mh_layers.specs.Causing.{Counts, is_effect}
 use Rattle.mh_layers.specs.Cycle.{cause_of}
 use Rattle.mh_layers.specs.Reading.{Reading, flow_read, heard_read, name}
-use Rattle.mh_layers.specs.Standings.{effect_named}
-use Rattle.mh_layers.specs.Web.{counted, effect_number}
+use Rattle.mh_layers.specs.EffectSites.{effect_named}
+use Rattle.mh_layers.specs.KeyGraph.{counted, effect_number}
 
 -- the key is that of an active effect
 pub record IsActive (r : Reading) (k : NodeKey) : Type 0 where

@@ -9,23 +9,23 @@ use Rattle.mh_laws.specs.Each.{Among, Each}
 use Rattle.mh_layers.specs.declared.cause.Cause.{Cause}
 use Rattle.mh_layers.specs.declared.cycle.Best.{Best}
 use Rattle.mh_layers.specs.declared.node_key.NodeKey.{NodeKey}
-use Rattle.mh_layers.specs.declared.standing.Standing.{Standing}
-use Rattle.mh_layers.specs.Cycle.{by_standing}
+use Rattle.mh_layers.specs.declared.cycle.effect_site.EffectSite.{EffectSite}
+use Rattle.mh_layers.specs.Cycle.{by_effect_site}
 use Rattle.mh_layers.specs.Layered.{active_keys}
 use Rattle.mh_layers.specs.Layering.{Places, is_laid}
 use Rattle.mh_layers.specs.Reading.{Reading}
-use Rattle.mh_layers.specs.Standings.{AreStandings, cause_named, causes_to, label_in, node_in}
-use Rattle.mh_layers.specs.Web.{IsWeb}
+use Rattle.mh_layers.specs.EffectSites.{AreEffectSites, cause_named, causes_to, label_in, node_in}
+use Rattle.mh_layers.specs.KeyGraph.{IsKeyGraph}
 
 -- those that are not laid
 abbrev pub unlaid : Places → List NodeKey → List NodeKey
 unlaid ts ks = filter (λ k. not (is_laid ts k)) ks
 
 -- the web of these keys, with labels for the places of all active effects
-pub record IsWebOf (r : Reading) (roots ks : List NodeKey) (g : Graph) : Type 0 where
-  pub standings : List Standing
-  pub are : AreStandings r (active_keys r) standings
-  pub web : IsWeb r ks (label_in r standings) g
+pub record IsKeyGraphOf (r : Reading) (roots ks : List NodeKey) (g : Graph) : Type 0 where
+  pub effect_sites : List EffectSite
+  pub are : AreEffectSites r (active_keys r) effect_sites
+  pub web : IsKeyGraph r ks (label_in r effect_sites) g
   pub listed : Each (Among ks) roots
 
 -- of the keys that were seen this is the first that is on a cycle, and its first cycle
@@ -34,7 +34,7 @@ pub record IsBest (r : Reading) (ks : List NodeKey) (g : Graph) (seen : List Nod
   pub cause : b.cause ≡ cause_named r b.key
   pub first : IsFirstCycle g (node_in ks b.key) b.trail.items
   pub soonest :
-      (k : NodeKey) → Among seen k → is_lt (by_standing (cause_named r k) b.cause) ≡ true → NoCycle g (node_in ks k)
+      (k : NodeKey) → Among seen k → is_lt (by_effect_site (cause_named r k) b.cause) ≡ true → NoCycle g (node_in ks k)
 
 -- or none is on one
 abbrev pub AreBest : Reading → List NodeKey → Graph → List NodeKey → Option Best → Type 0

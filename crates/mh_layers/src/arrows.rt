@@ -2,34 +2,40 @@
 //!
 //! Promise: the arrow is one of an action of the first effect that puts the other to work, as the flow allows; there is one for
 //! each step.
+
+pub(crate) mod applied;
+pub mod arrow;
+pub(crate) mod granting;
+pub(crate) mod putting;
+
 ghost use Rattle.std.specs.Prelude.{◌≡◌, Some, IfOk};
 ghost use Rattle.mh_model.specs.Configuration.{present};
 ghost use Rattle.mh_model.specs.Service.{part_at};
-ghost use Rattle.mh_layers.specs.Deeds.{number_in};
+ghost use Rattle.mh_layers.specs.Applied.{number_in};
 ghost use Rattle.mh_layers.specs.Granting.{held_for};
 ghost use Rattle.mh_layers.specs.Listening.{source_of as source_of_lem};
 ghost use Rattle.mh_layers.specs.Reading.{IsReading, flow_read, spot_in};
-ghost use Rattle.mh_layers.specs.Standings.{effect_named};
+ghost use Rattle.mh_layers.specs.EffectSites.{effect_named};
 ghost use Rattle.mh_layers.specs.Trails.{IsActive, IsArrowOf, IsStep};
 
-use crate::arrow::{Arrow, By};
-use crate::at::At;
+use crate::arrows::applied::{AppliedAction, doing_of};
+use crate::arrows::arrow::{Arrow, By};
+use crate::arrows::granting::held_for;
+use crate::arrows::putting::by_of;
 use crate::cause::Cause;
-use crate::deeds::{Doing, doing_of};
-use crate::ears::source_of;
+use crate::cycle::effect_site::cause_at;
 use crate::effects::effect_acts;
-use crate::granting::held_for;
-use crate::net::Net;
+use crate::listening::named_data::source_of;
 use crate::node_key::NodeKey;
+use crate::numbered::NumberedService;
+use crate::numbered::at::At;
 use crate::numbering::number_behind;
-use crate::putting::by_of;
-use crate::standing::cause_at;
 use mh_base::Seq;
 use mh_model::Fixed;
 use std::alloc::{AllocError, Global};
 
 /// The configuration of the effect.
-pub(crate) fn config_of<'a>(net: &'a Net<'_>, key: &NodeKey) -> At<'a>
+pub(crate) fn config_of<'a>(net: &'a NumberedService<'_>, key: &NodeKey) -> At<'a>
     requires reading { IsReading net.now }
     requires active { IsActive net.now key.now }
     ensures { result ≡ spot_in net.now (effect_named net.now key.now).config }
@@ -79,7 +85,7 @@ fn arrow_by(
     here: &At<'_>,
     cause: Cause,
     index: usize,
-    doing: &Doing<'_>,
+    doing: &AppliedAction<'_>,
     aim: &Fixed,
     by: By,
 ) -> Result<Arrow, AllocError>
@@ -133,7 +139,7 @@ fn arrow_between(
 /// The arrow from an effect to another, to which the first of its keys leads.
 pub(crate) fn arrow_for(
     alloc: Global,
-    net: &Net<'_>,
+    net: &NumberedService<'_>,
     from: &NodeKey,
     first: &NodeKey,
     to: &NodeKey,

@@ -2,6 +2,13 @@
 //!
 //! Promise: of all active effects that put themselves to work, by way of others, the first is told by its place and
 //! configuration, with the first of the shortest ways; and none only where no effect does.
+
+pub(crate) mod effect_site;
+pub(crate) mod key_graph;
+pub(crate) mod order;
+pub(crate) mod successors;
+pub(crate) mod trail;
+
 ghost use Rattle.std.specs.Prelude.{◌≡◌, true, Some, IfNone, IfOk, IfSome, OnOk};
 ghost use Rattle.std.specs.Option.{option_map_or};
 ghost use Rattle.std.specs.Ordering.{is_lt};
@@ -9,7 +16,7 @@ ghost use Rattle.mh_flow.specs.Solved.{IsFlowOf, flow_in};
 ghost use Rattle.mh_paths.specs.Chains.{IsFirstCycle, NoCycle};
 ghost use Rattle.mh_laws.specs.Each.{Each};
 ghost use Rattle.mh_layers.specs.Arrows.{AreFirstArrows};
-ghost use Rattle.mh_layers.specs.Cycle.{NoCycles, by_standing};
+ghost use Rattle.mh_layers.specs.Cycle.{NoCycles, by_effect_site};
 ghost use Rattle.mh_layers.specs.Layered.{active_keys};
 ghost use Rattle.mh_layers.specs.Layering.{AreLayers};
 ghost use Rattle.mh_layers.specs.Named.{IsEffectKept};
@@ -17,16 +24,16 @@ ghost use Rattle.mh_layers.specs.Ranked.{IsOrder};
 ghost use Rattle.mh_layers.specs.Reading.{IsReading, flow_read, kept, price};
 ghost use Rattle.mh_layers.specs.Walk.{AreBest, IsTried, unlaid};
 
-use crate::arrow::Arrow;
+use crate::arrows::arrow::Arrow;
 use crate::cause::Cause;
+use crate::cycle::effect_site::{by_effect_site, cause_of};
+use crate::cycle::key_graph::{KeyGraph, node_of, web_of};
+use crate::cycle::order::Order;
+use crate::cycle::trail::arrows_along;
+use crate::laying::roots::push_effects;
 use crate::laying::{LayersError, Laying};
-use crate::net::Net;
 use crate::node_key::NodeKey;
-use crate::order::Order;
-use crate::roots::push_effects;
-use crate::standing::{by_standing, cause_of};
-use crate::trail::arrows_along;
-use crate::web::{Web, node_of, web_of};
+use crate::numbered::NumberedService;
 use mh_flow::{Equipped, Flow};
 use std::alloc::{AllocError, Global};
 
@@ -40,11 +47,11 @@ pub(crate) struct Best {
 
 /// Whether the cause comes before the best.
 fn comes_first(cause: &Cause, best: &Option<Best>) -> bool
-    ensures { result ≡ option_map_or (λ b. is_lt (by_standing cause.now b.cause)) best.now true }
+    ensures { result ≡ option_map_or (λ b. is_lt (by_effect_site cause.now b.cause)) best.now true }
 {
     match best {
         None => true,
-        Some(best) => by_standing(cause, &best.cause).is_lt(),
+        Some(best) => by_effect_site(cause, &best.cause).is_lt(),
     }
 }
 
@@ -59,7 +66,7 @@ fn set(best: &mut Option<Best>, key: NodeKey, cause: Cause, trail: Vec<mh_paths:
 #[tactic(auto, using(crate::proofs::OrderLemmas::passed_by))]
 fn cycle_through(
     alloc: Global,
-    web: &Web,
+    web: &KeyGraph,
     order: &Order,
     node: usize,
 ) -> Result<Option<Vec<mh_paths::Arrow>>, AllocError>
@@ -77,8 +84,8 @@ fn cycle_through(
 #[tactic(auto, using(crate::proofs::WalkLemmas::tried_later, crate::proofs::WalkLemmas::tried_none, crate::proofs::WalkLemmas::tried_found))]
 fn try_key(
     alloc: Global,
-    net: &Net<'_>,
-    web: &Web,
+    net: &NumberedService<'_>,
+    web: &KeyGraph,
     order: &Order,
     best: &mut Option<Best>,
     key: &NodeKey,
@@ -104,8 +111,8 @@ fn try_key(
 /// The first of these that is on a cycle.
 fn first_of(
     alloc: Global,
-    net: &Net<'_>,
-    web: &Web,
+    net: &NumberedService<'_>,
+    web: &KeyGraph,
     keys: &[NodeKey],
 ) -> Result<Option<Best>, AllocError>
     requires { Each (IsEffectKept net.now) keys.now }
@@ -133,7 +140,7 @@ fn unlaid(alloc: Global, laying: &Laying, keys: &[NodeKey]) -> Result<Vec<NodeKe
 }
 
 /// The keys of all active effects that have actions.
-fn effects(alloc: Global, net: &Net<'_>) -> Result<Vec<NodeKey>, AllocError>
+fn effects(alloc: Global, net: &NumberedService<'_>) -> Result<Vec<NodeKey>, AllocError>
     ensures { IfOk result (λ keys. keys.items ≡ active_keys net.now) }
 {
     let mut keys = Vec::new(alloc);
@@ -144,7 +151,7 @@ fn effects(alloc: Global, net: &Net<'_>) -> Result<Vec<NodeKey>, AllocError>
 /// The first cycle, where these layers are laid and these are the keys of all active effects.
 fn cycle_in(
     alloc: Global,
-    net: &Net<'_>,
+    net: &NumberedService<'_>,
     laying: &Laying,
     keys: &[NodeKey],
 ) -> Result<Option<Vec<Arrow>>, AllocError>
@@ -178,7 +185,7 @@ pub fn first_cycle(
     ensures some { IfOk result (λ found. IfSome found (λ arrows. AreFirstArrows service.now (flow_in service.now flow.now) arrows.items)) }
     ensures none { IfOk result (λ found. IfNone found (NoCycles service.now (flow_in service.now flow.now))) }
 {
-    let net = Net::of(alloc, service, flow)?;
+    let net = NumberedService::of(alloc, service, flow)?;
     net.read();
     let keys = effects(alloc, &net)?;
     let mut laying = Laying::new(alloc)?;

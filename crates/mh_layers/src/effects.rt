@@ -4,19 +4,10 @@
 ghost use Rattle.std.specs.Prelude.{◌≡◌, [], get_or};
 ghost use Rattle.std.specs.List.{flat_map};
 ghost use Rattle.mh_laws.specs.Costs.{effect_at};
-ghost use Rattle.mh_model.specs.Tokens.{members as members_lem};
 
 use mh_group::Attribute;
-use mh_model::held::as_members;
-use mh_model::parts::effect_of;
+use mh_model::parts::{effect_of, members};
 use mh_model::{Act, Fixed, Member};
-
-/// The members of a group of objects.
-pub(crate) fn members(part: &Fixed) -> &[Member]
-    ensures { result.now ≡ members_lem part.now }
-{
-    as_members(part.properties.get(Attribute::TokenGroupItems))
-}
 
 /// The slot with this number of these members.
 fn slot_at(members: &[Member], number: usize) -> &[Act]

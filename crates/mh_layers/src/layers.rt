@@ -16,10 +16,10 @@ ghost use Rattle.mh_layers.specs.Reading.{config_number, number as number_of_key
 ghost use Rattle.mh_layers.specs.Taking.{bound_laid, bounds_laid, largest_from, or_nothing, taken_laid};
 
 use crate::bounds::{Bounds, InputKind};
+use crate::laying::roots::{roots, start_number};
 use crate::laying::{LayersError, Laying, lay};
-use crate::net::Net;
 use crate::node_key::NodeKey;
-use crate::roots::{roots, start_number};
+use crate::numbered::NumberedService;
 use mh_base::ObjRef;
 use mh_flow::{Equipped, Flow};
 use mh_model::Config;
@@ -29,7 +29,7 @@ use std::marker::Model;
 /// Costs and ranks of the effects of a service, and the bounds of its start and its inputs.
 #[derive(Drop)]
 pub struct Layers<'a> {
-    net: Net<'a>,
+    net: NumberedService<'a>,
     laying: Laying,
     bounds: Bounds,
 }
@@ -102,7 +102,7 @@ fn taken_cost(laying: &Laying, config: usize, kind: InputKind) -> u64
 /// What it costs in the configuration.
 #[tactic(auto, unfolding(crate::specs::Taking::taken_laid))]
 pub(crate) fn cost_in_config(
-    net: &Net<'_>,
+    net: &NumberedService<'_>,
     laying: &Laying,
     config: &Config,
     kind: InputKind,
@@ -114,7 +114,7 @@ pub(crate) fn cost_in_config(
 
 /// What the start costs, where this is the number of its configuration.
 #[tactic(auto, unfolding(crate::specs::Taking::taken_laid))]
-fn start_cost(net: &Net<'_>, laying: &Laying, start: usize) -> u64
+fn start_cost(net: &NumberedService<'_>, laying: &Laying, start: usize) -> u64
     requires { start ≡ config_number net.now (starting net.now.service) }
     ensures { result ≡ taken_laid net.now laying.now InputKind.Start (starting net.now.service) }
 {
@@ -128,7 +128,7 @@ fn larger(first: u64, second: u64) -> u64
 }
 
 /// The most that an input of the kind costs in any of these.
-fn most_in(net: &Net<'_>, laying: &Laying, configs: &[Config], kind: InputKind) -> u64
+fn most_in(net: &NumberedService<'_>, laying: &Laying, configs: &[Config], kind: InputKind) -> u64
     ensures { result ≡ largest_from (taken_laid net.now laying.now kind) 0 configs.now }
 {
     let mut most: u64 = 0;
@@ -139,13 +139,13 @@ fn most_in(net: &Net<'_>, laying: &Laying, configs: &[Config], kind: InputKind) 
 }
 
 /// The most that an input of the kind costs in any configuration.
-fn bound(net: &Net<'_>, laying: &Laying, kind: InputKind) -> u64
+fn bound(net: &NumberedService<'_>, laying: &Laying, kind: InputKind) -> u64
     ensures { result ≡ bound_laid net.now laying.now kind }
 {
     most_in(net, laying, net.configs(), kind)
 }
 
-fn bounds_of(net: &Net<'_>, laying: &Laying, start: usize) -> Bounds
+fn bounds_of(net: &NumberedService<'_>, laying: &Laying, start: usize) -> Bounds
     requires { start ≡ config_number net.now (starting net.now.service) }
     ensures { result ≡ bounds_laid net.now laying.now }
 {
@@ -160,7 +160,7 @@ fn bounds_of(net: &Net<'_>, laying: &Laying, start: usize) -> Bounds
 }
 
 /// What is laid of a net, with its bounds.
-fn with_bounds<'a>(net: Net<'a>, laying: Laying, start: usize) -> Layers<'a>
+fn with_bounds<'a>(net: NumberedService<'a>, laying: Laying, start: usize) -> Layers<'a>
     requires { start ≡ config_number net (starting net.service) }
     ensures { result ≡ record { reading = net.entry; places = laying; bounds = bounds_laid net.entry laying } }
 {
@@ -183,7 +183,7 @@ pub fn lay_service<'a>(
     ensures cycle { IsErrOf result LayersError.Cycle → (rank : _) → IsLayering service.now (flow_in service.now flow.now) rank → ⊥ }
     ensures looped { IsErrOf result LayersError.Cycle → NoCycles service.now (flow_in service.now flow.now) → ⊥ }
 {
-    let net = Net::of(alloc, service, flow)?;
+    let net = NumberedService::of(alloc, service, flow)?;
     net.read();
     let keys = roots(alloc, &net)?;
     let start = start_number(&net)?;

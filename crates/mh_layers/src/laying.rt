@@ -1,13 +1,19 @@
 //! Layers: costs and ranks of keys and of all that they count, or that there are no ranks.
+
+pub mod costs;
+pub(crate) mod diving;
+pub(crate) mod roots;
+pub mod sums;
+
 ghost use Rattle.std.specs.Prelude.{◌≡◌, [], None, true, false, length, OnOk, OnErr, IfOk, IsErrOf};
 ghost use Rattle.std.specs.List.{list_all};
 ghost use Rattle.mh_laws.specs.Each.{Each};
 ghost use Rattle.mh_layers.specs.Layering.{AreLayers, AreWaiting, CountsKept, Grows, IsNoted, IsPlaced, IsSettled, IsStep, IsWaiting, IsWaitingAt, NoneRanked, has_place, is_laid, laid_in};
 ghost use Rattle.mh_layers.specs.Looping.{HasLoop};
 
-use crate::costs::{Costs, Laid};
+use crate::laying::costs::{Costs, Laid};
+use crate::laying::sums::CostOrMissing;
 use crate::node_key::NodeKey;
-use crate::sums::Worth;
 use std::alloc::{AllocError, Global};
 use std::marker::Model;
 
@@ -26,7 +32,7 @@ pub trait Prices {
     ghost kept: { Self → NodeKeyLem → Type 0 };
 
     /// What a key costs, or the first that it counts whose cost is not known. Each that it counts is asked for.
-    fn worth(&self, costs: &Costs, key: &NodeKey) -> Result<Worth, AllocError>
+    fn worth(&self, costs: &Costs, key: &NodeKey) -> Result<CostOrMissing, AllocError>
         ensures { kept self.now key.now → IfOk result (λ worth. worth ≡ known_worth (told (cost_in costs.now)) (price self.now key.now)) };
 }
 
@@ -59,7 +65,7 @@ pub struct Laying {
 
 impl Model for Laying {
     ghost use Rattle.std.specs.Prelude.{List, Option};
-    ghost use Rattle.mh_layers.specs.declared.costs.Laid.{Laid as LaidLem};
+    ghost use Rattle.mh_layers.specs.declared.laying.costs.Laid.{Laid as LaidLem};
     ghost use Rattle.mh_layers.specs.declared.node_key.NodeKey.{NodeKey as NodeKeyLem};
     ghost use Rattle.mh_layers.specs.Layering.{AreBelow, HasRoom};
 

@@ -3,6 +3,11 @@
 //!
 //! Promise: of each group exactly the links that wait for such an event are found, in their order, by their data; and
 //! the data that is named is each once in one list, which leaves none out.
+
+pub(crate) mod listener_slot;
+pub(crate) mod lists;
+pub(crate) mod named_data;
+
 ghost use Rattle.std.specs.Prelude.{◌≡◌, ◌∷◌, [], ◌&&◌, IfOk, OnOk, None, Some, filter, length, position, slice_get};
 ghost use Rattle.std.specs.List.{flat_map};
 ghost use Rattle.std.specs.Option.{option_copied};
@@ -15,10 +20,10 @@ ghost use Rattle.mh_layers.specs.Keys as keys;
 ghost use Rattle.mh_layers.specs.Listening as spec;
 ghost use Rattle.mh_layers.specs.Listening.{AllAreHeard, HeardIsNamed, IsListening, ObjectsAreNumbered, SumsOverLinks, ValuesAreNumbered, heard, listed, mentioned};
 
-use crate::ears::{Ears, ear_with, ears_of, source_of};
-use crate::lists::{Lists, lists_of, place_with};
-use crate::place::Place;
-use crate::values::Values;
+use crate::listening::listener_slot::ListenerSlot;
+use crate::listening::lists::{Lists, lists_of, place_with};
+use crate::listening::named_data::{Ears, ear_with, ears_of, source_of};
+use crate::numbered::values::Values;
 use indexmap::{IndexMap, IndexSet};
 use mh_base::{EventType, GroupName, ObjRef, Seq};
 use mh_flow::Equipped;
@@ -149,7 +154,7 @@ impl Listeners {
         }
     }
 
-    fn list(&self, place: &Place) -> &[FixedPart]
+    fn list(&self, place: &ListenerSlot) -> &[FixedPart]
         ensures { result.now ≡ listed place.now self.now.lists }
     {
         match self.lists.get(place) {

@@ -1,6 +1,18 @@
 //! What each key of a net comes to.
 //!
 //! Promise: the price of the key is added to the sum, by the numbers of keys.
+
+pub(crate) mod entries;
+pub(crate) mod fired;
+pub(crate) mod inputs;
+pub(crate) mod late;
+pub(crate) mod leaving;
+pub(crate) mod meter;
+pub(crate) mod meters;
+pub(crate) mod priced;
+pub(crate) mod taken;
+pub(crate) mod walk;
+
 ghost use Rattle.std.specs.Prelude.{◌≡◌, true};
 ghost use Rattle.mh_prices.specs.Meter.{Adds};
 ghost use Rattle.mh_layers.specs.declared.node_key.NodeKey.TheVariants as key_lem;
@@ -10,15 +22,15 @@ ghost use Rattle.mh_layers.specs.Reading.{has_config, has_hearing, has_names, ha
 
 use crate::bounds::InputKind;
 use crate::effects::effect_acts;
-use crate::entries::configs_most;
-use crate::fired::fired;
-use crate::leaving::{entering, leave};
-use crate::meter::Meter;
-use crate::named::{hearing, object, standing};
-use crate::net::Net;
 use crate::node_key::{Hears, NodeKey};
-use crate::taken::taken;
-use crate::walk::Walk;
+use crate::numbered::NumberedService;
+use crate::numbered::named::{hearing, object, standing};
+use crate::price::entries::configs_most;
+use crate::price::fired::fired;
+use crate::price::leaving::{entering, leave};
+use crate::price::meter::Meter;
+use crate::price::taken::taken;
+use crate::price::walk::Walk;
 use mh_base::{EventType, ObjRef};
 use mh_prices::{acts, change};
 use std::alloc::AllocError;
@@ -50,7 +62,7 @@ fn effect<M: Meter>(
 // Keys
 
 fn effect_key<M: Meter>(
-    net: &Net<'_>,
+    net: &NumberedService<'_>,
     meter: &M,
     config: usize,
     at: usize,
@@ -69,7 +81,7 @@ fn effect_key<M: Meter>(
 }
 
 fn fired_key<M: Meter>(
-    net: &Net<'_>,
+    net: &NumberedService<'_>,
     meter: &M,
     config: usize,
     source: usize,
@@ -91,7 +103,7 @@ fn fired_key<M: Meter>(
 
 #[tactic(auto, using(crate::proofs::OntoLemmas::entry_adds))]
 fn entry_key<M: Meter>(
-    net: &Net<'_>,
+    net: &NumberedService<'_>,
     meter: &M,
     source: usize,
     kind: EventType,
@@ -109,7 +121,7 @@ fn entry_key<M: Meter>(
 }
 
 fn change_key<M: Meter>(
-    net: &Net<'_>,
+    net: &NumberedService<'_>,
     meter: &M,
     config: usize,
     list: usize,
@@ -126,7 +138,7 @@ fn change_key<M: Meter>(
 }
 
 fn leave_key<M: Meter>(
-    net: &Net<'_>,
+    net: &NumberedService<'_>,
     meter: &M,
     config: usize,
     all: bool,
@@ -141,7 +153,7 @@ fn leave_key<M: Meter>(
 }
 
 fn enter_key<M: Meter>(
-    net: &Net<'_>,
+    net: &NumberedService<'_>,
     meter: &M,
     config: usize,
     sum: M::Sum,
@@ -155,7 +167,7 @@ fn enter_key<M: Meter>(
 }
 
 fn taken_key<M: Meter>(
-    net: &Net<'_>,
+    net: &NumberedService<'_>,
     meter: &M,
     config: usize,
     kind: InputKind,
@@ -171,7 +183,7 @@ fn taken_key<M: Meter>(
 
 /// What the key with this number comes to.
 pub(crate) fn price<M: Meter>(
-    net: &Net<'_>,
+    net: &NumberedService<'_>,
     meter: &M,
     key: &NodeKey,
     sum: M::Sum,

@@ -6,7 +6,7 @@ ghost use Rattle.std.specs.Prelude.{◌≡◌, ◌+◌, ◌<◌, ◌^◌, length
 ghost use Rattle.std.specs.List.{flat_map};
 ghost use Rattle.mh_laws.specs.Ways.{slots_of};
 
-use crate::effects::members;
+use mh_model::parts::members;
 use mh_model::{Effect, Fixed, Member};
 use std::alloc::{AllocError, Global};
 

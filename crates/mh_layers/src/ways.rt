@@ -2,6 +2,12 @@
 //! it puts to work there, the dearest that this one puts to work, and so on.
 //!
 //! Promise: of effects that cost as much the first is told, by its place and then by its configuration.
+
+pub(crate) mod caused;
+pub(crate) mod dearest;
+pub(crate) mod stages;
+pub mod way;
+
 ghost use Rattle.std.specs.Prelude.{◌≡◌, ◌<◌, length, map, slice_get, true, Some, IfOk, IsErrOf};
 ghost use Rattle.std.specs.List.{list_all};
 ghost use Rattle.mh_model.specs.Configuration.{starting as starting_lem};
@@ -16,22 +22,22 @@ ghost use Rattle.mh_layers.specs.Staging.{AreWays, IsWayIn, IsWayOf};
 ghost use Rattle.mh_layers.specs.Taking.{taken_laid};
 
 use crate::bounds::InputKind;
-use crate::dearest::{first_largest, number_at};
+use crate::cycle::effect_site::copied_config;
 use crate::layers::cost_in_config;
+use crate::laying::roots::{roots, starting};
 use crate::laying::{LayersError, Laying, lay};
-use crate::net::Net;
 use crate::node_key::NodeKey;
-use crate::roots::{roots, starting};
-use crate::stages::stages_from;
-use crate::standing::copied_config;
-use crate::way::Way;
+use crate::numbered::NumberedService;
+use crate::ways::dearest::{first_largest, number_at};
+use crate::ways::stages::stages_from;
+use crate::ways::way::Way;
 use mh_flow::{Equipped, Flow};
 use mh_model::Config;
 use std::alloc::{AllocError, Global};
 use std::slice;
 
 /// The configurations in which an input of the kind may be taken.
-fn configs_for<'b>(net: &'b Net<'_>, start: &'b Config, kind: InputKind) -> &'b [Config]
+fn configs_for<'b>(net: &'b NumberedService<'_>, start: &'b Config, kind: InputKind) -> &'b [Config]
     requires { start.now ≡ starting_lem net.now.service }
     ensures { result.now ≡ configs_for net.now.service (flow_read net.now) kind }
 {
@@ -44,7 +50,7 @@ fn configs_for<'b>(net: &'b Net<'_>, start: &'b Config, kind: InputKind) -> &'b 
 /// What an input of the kind costs in each of these.
 fn costs_in(
     alloc: Global,
-    net: &Net<'_>,
+    net: &NumberedService<'_>,
     laying: &Laying,
     configs: &[Config],
     kind: InputKind,
@@ -61,7 +67,7 @@ fn costs_in(
 /// The way of the kind that begins in this configuration, where it costs so much.
 fn way_in(
     alloc: Global,
-    net: &Net<'_>,
+    net: &NumberedService<'_>,
     laying: &Laying,
     config: &Config,
     kind: InputKind,
@@ -95,7 +101,7 @@ fn config_at<'b>(configs: &'b [Config], place: usize) -> &'b Config
 /// The dearest way of the kind.
 fn way_of(
     alloc: Global,
-    net: &Net<'_>,
+    net: &NumberedService<'_>,
     laying: &Laying,
     start: &Config,
     kind: InputKind,
@@ -120,7 +126,7 @@ fn way_of(
 #[tactic(auto, using(crate::proofs::WayLemmas::ways_all))]
 fn ways_of(
     alloc: Global,
-    net: &Net<'_>,
+    net: &NumberedService<'_>,
     laying: &Laying,
     start: &Config,
     kinds: &[InputKind],
@@ -149,7 +155,11 @@ const KINDS: [InputKind; 6] = [
 ];
 
 /// The dearest way of each kind, where these layers are laid.
-fn ways_in(alloc: Global, net: &Net<'_>, laying: &Laying) -> Result<Vec<Way>, AllocError>
+fn ways_in(
+    alloc: Global,
+    net: &NumberedService<'_>,
+    laying: &Laying,
+) -> Result<Vec<Way>, AllocError>
     requires reading { IsReading net.now }
     requires layers { AreLayers (price net.now) (kept net.now) laying.now }
     requires laid { list_all (is_laid laying.now) (root_keys net.now) ≡ true }
@@ -171,7 +181,7 @@ pub fn dearest_ways(
     ensures ways { IfOk result (λ ways. AreDearestWays service.now (flow_in service.now flow.now) ways.items) }
     ensures cycle { IsErrOf result LayersError.Cycle → (rank : _) → IsLayering service.now (flow_in service.now flow.now) rank → ⊥ }
 {
-    let net = Net::of(alloc, service, flow)?;
+    let net = NumberedService::of(alloc, service, flow)?;
     net.read();
     let keys = roots(alloc, &net)?;
     match lay(alloc, &net, keys.as_slice()) {

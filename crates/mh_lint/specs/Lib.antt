@@ -2,6 +2,9 @@ pub mod Findings
 pub mod Laws
 pub mod Telling
 pub mod Rules
+pub mod Uses
+pub mod Sights
+pub mod Sources
 pub mod Notes
 pub mod NoteLines
 pub mod Lint

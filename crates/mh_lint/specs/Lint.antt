@@ -20,4 +20,4 @@ pub record IsNeverText (all : Bool) (v : Service) (w : Flow) (fs : List Source) 
 pub record IsLintText (q : Asked) (v : Service) (w : Flow) (fs : List Source) (text : List ℕ) : Type 0 where
   pub alive : Alive
   pub is : IsAliveOf v w alive
-  pub lines : text ≡ never_words v fs (findings q.all v w.configs alive) ++ notes_words q.allowed v fs (notes v)
+  pub lines : text ≡ never_words v fs (findings q.all v w.configs alive) ++ notes_words q.allowed v fs (notes q.all fs v)

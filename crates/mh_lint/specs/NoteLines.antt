@@ -1,8 +1,7 @@
 -- The lines of notes, and which notes are told: a rule is turned off for all files, or by a comment in one.
 use Rattle.std.specs.Prelude.{ℕ, ◌==◌, Bool, false, ◌||◌, if◌then◌else◌, List, [], ◌++◌, codes, take, Option, Some, None}
-use Rattle.std.specs.List.{find, flat_map, list_any}
+use Rattle.std.specs.List.{flat_map, list_any}
 use Rattle.std.specs.Option.{option_map}
-use Rattle.std.specs.Str.{bytes_eq}
 use Rattle.bstr.specs.Text.{lines_of, without_terminator}
 use Rattle.mh_base.specs.declared.obj_ref.ObjRef.{ObjRef}
 use Rattle.mh_model.specs.Service.{Service}
@@ -15,13 +14,14 @@ use Rattle.mh_lint.specs.declared.rule.Allowed.{Allowed}
 use Rattle.mh_lint.specs.declared.rule.Rule.{Rule}
 use Rattle.mh_lint.specs.Notes.{ends_in}
 use Rattle.mh_lint.specs.Rules.{has, rule_text, rule_word}
+use Rattle.mh_lint.specs.Sources.{allow_words, file_of}
 use Rattle.mh_lint.specs.Telling.{front_words, object_words, place_behind, place_words}
 
 -- WHICH ARE TOLD
 
 -- what a line ends in that turns the rule off for its file
 unfoldable pub comment_words : Rule → List ℕ
-comment_words x = codes "// lint: allow " ++ rule_word x
+comment_words x = allow_words ++ rule_word x
 
 abbrev pub turns_off : List ℕ → List ℕ → Bool
 turns_off words line = ends_in words (without_terminator line)
@@ -32,9 +32,6 @@ allows words bytes = list_any (turns_off words) (lines_of bytes)
 abbrev pub file_allows : Option Source → List ℕ → Bool
 file_allows None words = false
 file_allows (Some f) words = allows words f.1.items
-
-abbrev pub file_of : List Source → List ℕ → Option Source
-file_of fs g = find (λ (f : Source). bytes_eq f.0 g) fs
 
 abbrev pub is_allowed : Allowed → List Source → Note → Bool
 is_allowed a fs n = has a n.rule || file_allows (file_of fs n.at.group) (comment_words n.rule)

@@ -3,25 +3,37 @@ use Rattle.std.specs.Prelude.{ℕ, ◌+◌, ◌-◌, ◌==◌, Bool, true, false
 use Rattle.std.specs.List.{flat_map, list_any, position}
 use Rattle.std.specs.Ordering.{int_eq}
 use Rattle.std.specs.Str.{bytes_eq}
+use Rattle.mh_base.specs.declared.event.EventType.{EventType}
+use Rattle.mh_base.specs.declared.event.EventType.TheVariants as event
 use Rattle.mh_base.specs.declared.obj_ref.ObjRef.{ObjRef}
+use Rattle.mh_base.specs.declared.value.Value.{Value}
 use Rattle.mh_base.specs.declared.value.Value.TheVariants as value
 use Rattle.mh_group.specs.declared.action_name.ActionName.{ActionName}
 use Rattle.mh_group.specs.declared.action_name.ActionName.TheVariants as action
 use Rattle.mh_group.specs.declared.attribute.Attribute.TheVariants as attribute
-use Rattle.mh_group.specs.Table.{is_application, is_link}
+use Rattle.mh_group.specs.declared.class.Class.{Class}
+use Rattle.mh_group.specs.Table.{is_application, is_link, is_variable, is_visible}
 use Rattle.mh_model.specs.declared.act.Act.{Act}
 use Rattle.mh_model.specs.declared.act.Argument.{Argument}
 use Rattle.mh_model.specs.declared.act.Argument.TheVariants as argument
 use Rattle.mh_model.specs.declared.act.Target.{Target}
 use Rattle.mh_model.specs.declared.act.Target.TheVariants as target
 use Rattle.mh_model.specs.declared.object.Fixed.{Fixed}
-use Rattle.mh_model.specs.Groups.{is_initially_active}
+use Rattle.mh_model.specs.declared.object.member.Member.{Member}
+use Rattle.mh_model.specs.Groups.{is_initially_active, is_shared}
 use Rattle.mh_model.specs.Late.{is_late_scene}
-use Rattle.mh_model.specs.Property.{held, as_effect}
+use Rattle.mh_model.specs.Property.{held, as_effect, as_event, as_value}
 use Rattle.mh_model.specs.Service.{Service}
+use Rattle.mh_model.specs.Tokens.{members}
+use Rattle.mh_told.specs.Reading.{Source}
+use Rattle.mh_lint.specs.declared.heard.Heard.{Heard}
 use Rattle.mh_lint.specs.declared.note.Note.{Note}
 use Rattle.mh_lint.specs.declared.rule.Rule.{Rule}
 use Rattle.mh_lint.specs.declared.rule.Rule.TheVariants as rule
+use Rattle.mh_lint.specs.declared.seen.Seen.{Seen}
+use Rattle.mh_lint.specs.Sights.{covers_none, cuts_words, hides_words, is_off}
+use Rattle.mh_lint.specs.Sources.{file_of, has_unknown, is_called_else, is_to_come}
+use Rattle.mh_lint.specs.Uses.{Uses, is_heard, is_used, uses}
 
 -- of the action with this number of the object, from 1 on, or with 0 of the object itself
 abbrev pub note : Rule → ObjRef → ℕ → Note
@@ -86,16 +98,31 @@ leaves gs _ t = false
 abbrev pub leaves_at_once : List (List ℕ) → Act → Bool
 leaves_at_once gs a = leaves gs a.name a.target
 
--- what is noted of an action, behind one that leads away or not
-abbrev pub of_act : ObjRef → ℕ → Bool → Act → List Note
-of_act r n behind a =
-    if_so behind rule.BehindTransition r n ++ if_so (divides_by_zero a) rule.DivisionByZero r n
-    ++ if_so (has_negative a) rule.NegativeSize r n ++ if_so (has_no_colour a) rule.ColourOctets r n
+-- a timer that is set with a number of its own, and that no link hears
+abbrev pub sets_unheard : List Heard → Target → List Argument → Bool
+sets_unheard hs (target.Direct r) (argument.Direct (value.Int n) ∷ moment ∷ more) = not (is_heard hs r n)
+sets_unheard hs _ _ = false
 
--- of the actions of an effect, of which the first has this number; the late scenes are given
-unfoldable pub of_acts : List (List ℕ) → ObjRef → ℕ → Bool → List Act → List Note
-of_acts gs r n behind [] = []
-of_acts gs r n behind (a ∷ more) = of_act r n behind a ++ of_acts gs r (n + 1) (leaves_at_once gs a) more
+abbrev pub is_timing : ActionName → Bool
+is_timing action.SetTimer = true
+is_timing _ = false
+
+abbrev pub is_unheard : Uses → Act → Bool
+is_unheard u a = is_timing a.name && sets_unheard u.heard a.target a.arguments
+
+-- THE ACTIONS OF AN OBJECT, each with whether it stands behind one that leads away
+
+abbrev pub seen_as : Bool → Act → Seen
+seen_as behind a = record { act = a; is_behind = behind }
+
+-- of one effect, where the late scenes are given
+unfoldable pub seen_from : List (List ℕ) → Bool → List Act → List Seen
+seen_from gs behind [] = []
+seen_from gs behind (a ∷ more) = seen_as behind a ∷ seen_from gs (leaves_at_once gs a) more
+
+-- of the slots of a member
+abbrev pub seen_in : List (List ℕ) → Member → List Seen
+seen_in gs m = flat_map (seen_from gs false) m.slots
 
 abbrev pub start_up : Fixed → List Act
 start_up p = as_effect (held attribute.OnStartUp p.properties)
@@ -106,10 +133,23 @@ close_down p = as_effect (held attribute.OnCloseDown p.properties)
 abbrev pub link_effect : Fixed → List Act
 link_effect p = as_effect (held attribute.LinkEffect p.properties)
 
--- of a group: its start-up and its close-down
-abbrev pub of_group_acts : List (List ℕ) → Fixed → List Note
-of_group_acts gs p =
-    of_acts gs p.key 1 false (start_up p) ++ of_acts gs p.key (length (start_up p) + 1) false (close_down p)
+-- in the order in which they are counted
+abbrev pub seen_of : List (List ℕ) → Fixed → List Seen
+seen_of gs p =
+    seen_from gs false (start_up p) ++ seen_from gs false (close_down p) ++ seen_from gs false (link_effect p)
+    ++ flat_map (seen_in gs) (members p)
+
+-- what is noted of an action
+unfoldable pub of_act : Uses → ObjRef → ℕ → Seen → List Note
+of_act u r n x =
+    if_so x.is_behind rule.BehindTransition r n ++ if_so (divides_by_zero x.act) rule.DivisionByZero r n
+    ++ if_so (has_negative x.act) rule.NegativeSize r n ++ if_so (has_no_colour x.act) rule.ColourOctets r n
+    ++ if_so (is_unheard u x.act) rule.UnheardTimer r n
+
+-- of actions, of which the first has this number
+unfoldable pub of_acts : Uses → ObjRef → ℕ → List Seen → List Note
+of_acts u r n [] = []
+of_acts u r n (x ∷ more) = of_act u r n x ++ of_acts u r (n + 1) more
 
 -- OBJECTS
 
@@ -117,13 +157,49 @@ abbrev pub is_empty : List Act → Bool
 is_empty [] = true
 is_empty (a ∷ more) = false
 
--- of a link: that it does nothing, and its actions
-abbrev pub of_link : List (List ℕ) → Fixed → List Note
-of_link gs p =
-    if_so (is_empty (link_effect p)) rule.NoActions p.key 0 ++ of_acts gs p.key 1 false (link_effect p)
+abbrev pub does_nothing : Fixed → Bool
+does_nothing p = is_link p.class && is_empty (link_effect p)
 
-abbrev pub of_object : List (List ℕ) → Fixed → List Note
-of_object gs p = if is_link p.class then of_link gs p else of_group_acts gs p
+abbrev pub is_unread : Uses → Fixed → Bool
+is_unread u p = is_variable p.class && not (is_used u.read p.key)
+
+-- what is noted of a visible by what it looks like
+unfoldable pub of_look : Uses → Fixed → List Note
+of_look u p =
+    if_so (is_off u p) rule.OffScreen p.key 0 ++ if_so (covers_none u p) rule.CoversNoCell p.key 0
+    ++ if_so (cuts_words u p) rule.CutText p.key 0 ++ if_so (hides_words u p) rule.TextInItsColour p.key 0
+
+-- the link hears that its own application runs: that comes once, and before any transition
+abbrev pub is_start_of : List ℕ → Option EventType → Option Value → Bool
+is_start_of g (Some event.IsRunning) (Some (value.Object r)) = r.number == 0 && bytes_eq r.group g
+is_start_of g _ _ = false
+
+abbrev pub hears_start : Fixed → Bool
+hears_start p = is_start_of p.key.group (as_event (held attribute.EventType p.properties)) (as_value (held attribute.EventSource p.properties))
+
+abbrev pub can_end : Class → Bool
+can_end c = is_link c || is_visible c
+
+-- an item of an application runs from the start, ends with the first transition that there is, and is run by nothing again
+abbrev pub is_lost : Uses → Fixed → Bool
+is_lost u p =
+    u.has_transition && can_end p.class && is_initially_active p && not (is_shared p) && not (is_used u.run p.key)
+    && not (hears_start p)
+
+-- of an object, in a group that is an application whose items run, or not
+unfoldable pub of_itself : Uses → Bool → Fixed → List Note
+of_itself u is_of_application p =
+    if_so (is_of_application && is_lost u p) rule.NotShared p.key 0 ++ if_so (does_nothing p) rule.NoActions p.key 0
+    ++ if_so (is_unread u p) rule.UnreadVariable p.key 0 ++ of_look u p
+
+-- content that has to arrive is told where all is asked for
+abbrev pub of_content : Bool → List Source → Fixed → List Note
+of_content all fs p = if_so (all && is_to_come fs p) rule.ContentToCome p.key 0
+
+-- of an object: of itself, of its content and of its actions
+unfoldable pub of_object : Bool → List Source → Uses → List (List ℕ) → Bool → Fixed → List Note
+of_object all fs u gs is_of_application p =
+    of_itself u is_of_application p ++ of_content all fs p ++ of_acts u p.key 1 (seen_of gs p)
 
 -- GROUPS
 
@@ -143,12 +219,23 @@ of_start gs p items =
     if is_application p.class && list_any is_initially_active items
     then led_away p.key (position (leaves_at_once gs) (start_up p)) else []
 
+-- by the file of a group
+unfoldable pub of_file : List Source → ObjRef → List Note
+of_file fs r =
+    if_so (is_backup r.group) rule.EditorBackup r 0
+    ++ if_so (is_called_else (file_of fs r.group) r.group) rule.IdentifierDiffers r 0
+    ++ if_so (has_unknown (file_of fs r.group)) rule.UnknownRule r 0
+
+-- an application that stays when it starts, so that its items run
+abbrev pub runs_items : List (List ℕ) → Fixed → Bool
+runs_items gs p = is_application p.class && not (list_any (leaves_at_once gs) (start_up p))
+
 -- of a group, whose first object is the group itself
-abbrev pub of_parts : List (List ℕ) → List Fixed → List Note
-of_parts gs [] = []
-of_parts gs (p ∷ items) =
-    if_so (is_backup p.key.group) rule.EditorBackup p.key 0 ++ of_start gs p items ++ flat_map (of_object gs) (p ∷ items)
+abbrev pub of_parts : Bool → List Source → Uses → List (List ℕ) → List Fixed → List Note
+of_parts all fs u gs [] = []
+of_parts all fs u gs (p ∷ items) =
+    of_file fs p.key ++ of_start gs p items ++ flat_map (of_object all fs u gs (runs_items gs p)) (p ∷ items)
 
 -- of all groups, in their order
-abbrev pub notes : Service → List Note
-notes v = flat_map (λ g. of_parts v.late g.1) v.groups
+abbrev pub notes : Bool → List Source → Service → List Note
+notes all fs v = flat_map (λ g. of_parts all fs (uses v) v.late g.1) v.groups

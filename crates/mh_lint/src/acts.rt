@@ -6,6 +6,8 @@ ghost use Rattle.std.specs.List.{list_any};
 ghost use Rattle.mh_model.specs.Late.{is_late_scene};
 ghost use Rattle.mh_lint.specs.Notes as spec;
 
+use crate::heard::Heard;
+use crate::uses::{Uses, is_heard};
 use mh_base::{GroupName, Value};
 use mh_group::ActionName;
 use mh_model::{Act, Argument, Target};
@@ -129,4 +131,30 @@ pub(crate) fn leaves_at_once(late: &[GroupName], act: &Act) -> bool
     ensures { result ≡ spec.leaves_at_once late.now act.now }
 {
     leaves(late, act.name, &act.target)
+}
+
+/// Whether a timer is set with a number of its own, and no link hears it.
+fn sets_unheard(heard: &[Heard], target: &Target, arguments: &[Argument]) -> bool
+    ensures { result ≡ spec.sets_unheard heard.now target.now arguments.now }
+{
+    match (target, arguments) {
+        (Target::Direct(group), [Argument::Direct(Value::Int(number)), _, ..]) => {
+            !is_heard(heard, group, *number)
+        }
+        _ => false,
+    }
+}
+
+fn is_timing(name: ActionName) -> bool
+    ensures { result ≡ spec.is_timing name }
+{
+    matches!(name, ActionName::SetTimer)
+}
+
+/// Whether it sets a timer that no link hears.
+pub(crate) fn is_unheard(uses: &Uses, act: &Act) -> bool
+    ensures { result ≡ spec.is_unheard uses.now act.now }
+{
+    is_timing(act.name)
+        && sets_unheard(uses.heard.as_slice(), &act.target, act.arguments.as_slice())
 }

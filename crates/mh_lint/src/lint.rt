@@ -22,7 +22,7 @@ use std::alloc::{AllocError, Global};
 /// What is asked for.
 #[derive(Clone, Copy)]
 pub struct Asked {
-    /// Whether what follows from other findings is told, too.
+    /// Whether what follows from other findings is told, too, and what is still to come.
     pub all: bool,
     /// The rules of notes that are turned off.
     pub allowed: Allowed,
@@ -41,7 +41,7 @@ pub fn lint_text(
     ensures { IfOk result (IsLintText asked service.now (flow_in service.now flow.now) files.now) }
 {
     let mut text = never_text(alloc, service, flow, files, asked.all)?;
-    put_all_notes(alloc, &mut text, service, files, asked.allowed)?;
+    put_all_notes(alloc, &mut text, service, files, asked)?;
     Ok(text)
 }
 
@@ -69,10 +69,11 @@ fn put_all_notes(
     text: &mut Text,
     service: &Equipped<'_>,
     files: &[(GroupName, Vec<u8>)],
-    allowed: Allowed,
+    asked: Asked,
 ) -> Result<(), AllocError>
-    ensures { OnOk result (text.new ≡ text.old ++ notes_words allowed service.now files.now (notes_lem service.now)) }
+    ensures { OnOk result (text.new
+        ≡ text.old ++ notes_words asked.allowed service.now files.now (notes_lem asked.all files.now service.now)) }
 {
-    let notes = notes_of(alloc, service)?;
-    put_notes(alloc, text, allowed, service, files, notes.as_slice())
+    let notes = notes_of(alloc, service, files, asked.all)?;
+    put_notes(alloc, text, asked.allowed, service, files, notes.as_slice())
 }

@@ -31,7 +31,7 @@ fn comment(alloc: Global, rule: Rule) -> Result<Text, AllocError>
 }
 
 /// A line without its line feed and a carriage return before it.
-fn without_terminator(line: &[u8]) -> &[u8]
+pub(crate) fn without_terminator(line: &[u8]) -> &[u8]
     ensures { result.now ≡ without_terminator line.now }
 {
     match line {

@@ -2,7 +2,7 @@
 use Rattle.std.specs.Prelude.{◌≡◌, ℕ, ◌+◌, ◌-◌, ◌<◌, ◌≤◌, ◌&&◌, Bool, true, false, List, [], ◌∷◌, ◌++◌, length, replicate, refl}
 use Rattle.std.proofs.Common.{ap, ◌∙◌, sym, arith, add-one, append-nil, append_assoc}
 use Rattle.std.proofs.lemmas.List.{length-append}
-use Rattle.mh_model.specs.declared.cell.Cell.{Cell}
+use Rattle.mh_model.specs.declared.picture.cell.Cell.{Cell}
 use Rattle.mh_look.specs.Cells.{filled}
 
 pub same_cell : (a b c d e f : ℕ) → a ≡ d → b ≡ e → c ≡ f → ◌≡◌ {A = Cell} (record { scalar = a; fore = b; back = c }) (record { scalar = d; fore = e; back = f })

@@ -13,9 +13,9 @@ use Rattle.bstr.specs.Utf8.{lossy_chars}
 use Rattle.mh_told.specs.Printing.{character}
 use Rattle.mh_look.specs.LineWords.{is_in_word}
 use Rattle.mh_look.specs.Octets.{hex_text, octet_words, shown_octet}
-use Rattle.mh_look.specs.Shown.{is_order, harmless}
+use Rattle.mh_terminal.specs.Frames.{is_order, harmless, plain}
 use Rattle.mh_look.specs.Wrapping.{columns, wrapped, paragraph}
-use Rattle.mh_look.specs.Places.{plain, is_shown, IsHarmless, Line, spaced, column, characters_of, first_shown, size_shown, cut_mark, front_mark, back_mark, mark_width, meant, line_at, place_words, shown_line, caret_line, window, shown_at, shown_place, PlacesAreHarmless}
+use Rattle.mh_look.specs.Places.{is_shown, IsHarmless, Line, spaced, column, characters_of, first_shown, size_shown, cut_mark, front_mark, back_mark, mark_width, meant, line_at, place_words, shown_line, caret_line, window, shown_at, shown_place, PlacesAreHarmless}
 
 or_true : (b : Bool) → (b || true) ≡ true
 or_true true = refl

@@ -1,4 +1,3 @@
-pub mod RangeLemmas
 pub mod EscapeLemmas
 pub mod ImageLemmas
 pub mod HarmlessLemmas

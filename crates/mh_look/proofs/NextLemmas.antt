@@ -3,7 +3,7 @@ use Rattle.std.specs.Prelude.{◌≡◌, ℕ, ◌+◌, ◌<◌, ◌==◌, ◌&&�
 use Rattle.std.specs.List.{list_all}
 use Rattle.std.proofs.Common.{ap, ◌∙◌, sym, arith, inl, inr, append-nil, append_assoc, eqb-true}
 use Rattle.std.proofs.lemmas.List.{length-append, map-append, replicate-append-replicate}
-use Rattle.mh_model.specs.declared.cell.Cell.{Cell}
+use Rattle.mh_model.specs.declared.picture.cell.Cell.{Cell}
 use Rattle.mh_told.specs.Frame.{Run, begun, longer, fits, behind, is_blank, is_space, place, characters, run_text, runs_from}
 use Rattle.mh_model.specs.Picture.{black}
 use Rattle.mh_told.specs.Stretch.{runs_at}

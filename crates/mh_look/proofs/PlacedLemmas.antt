@@ -17,7 +17,7 @@ use Rattle.mh_look.specs.Services.{landmark_for, shown_for, shown_service}
 use Rattle.mh_look.specs.Sources.{NamedFile, Source, by_number, by_numbers, count_named, in_source, is_marked, marks_named, named_words, object_in, shown_action, shown_actions, shown_byte, shown_if_marked, shown_in, shown_landmark, shown_line, shown_line_from, shown_mark, shown_named, shown_detail, shown_numbered, shown_object, shown_object_in, shown_offset, shown_named_at, shown_refused, shown_rest, shown_written_from, source_named, is_octets}
 use Rattle.mh_look.specs.Spots.{Spot}
 use Rattle.mh_look.specs.Values.{detail_in}
-use Rattle.mh_look.specs.declared.explanation.marked.TheConstants.{HAVE_CHANGED}
+use Rattle.mh_look.specs.declared.explanation.place.marked.TheConstants.{HAVE_CHANGED}
 use Rattle.mh_look.specs.Wrapping.{paragraph}
 use Rattle.mh_look.specs.Why.{shown_spot, shown_late, shown_tags, shown_script}
 use Rattle.mh_look.proofs.HarmlessLemmas.{◌⌢◌, harmless_codes, harmless_octet, harmless_paragraph, harmless_place}

@@ -5,7 +5,7 @@ use Rattle.std.proofs.Common.{ap, ◌∙◌, sym, arith, get_or}
 use Rattle.std.proofs.lemmas.List.{take_all}
 use Rattle.std.proofs.lemmas.List.Folds.{list_all_more, list_all_at, list_any_more, list_any_at}
 use Rattle.std.proofs.lemmas.Slice.Zip.{get_or-zip, length-zip}
-use Rattle.mh_model.specs.declared.cell.Cell.{Cell}
+use Rattle.mh_model.specs.declared.picture.cell.Cell.{Cell}
 use Rattle.mh_model.specs.Planes.{Planes}
 use Rattle.mh_model.specs.Picture.{cell_of, black}
 use Rattle.mh_told.specs.Frame.{row_cells, same_cell, differ}

@@ -2,7 +2,7 @@
 use Rattle.std.proofs.Common.{◌≡◌, ℕ, suc, List, ap, ◌∙◌}
 use Rattle.mh_base.specs.Reading.{whole}
 use Rattle.mh_text.specs.Left.{lexed}
-use Rattle.mh_look.specs.declared.explanation.values.Walk.{Walk}
+use Rattle.mh_look.specs.declared.explanation.place.values.Walk.{Walk}
 use Rattle.mh_look.specs.Values.{behind_by, behind_in, value_by, value_in}
 
 pub value_more : (n m : ℕ) (w behind : Walk) (bs rest : List ℕ) → n ≡ suc m

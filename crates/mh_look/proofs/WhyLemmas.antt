@@ -7,12 +7,12 @@ use Rattle.std.specs.Str.{bytes_eq}
 use Rattle.bstr.specs.Text.{lines_of, without_terminator}
 use Rattle.mh_model.specs.declared.config.Config.{Config}
 use Rattle.mh_cause.specs.declared.detail.Detail.TheVariants as detail
-use Rattle.mh_flow.specs.declared.link.Link.{Link}
-use Rattle.mh_layers.specs.declared.arrow.Arrow.{Arrow}
+use Rattle.mh_flow.specs.declared.chain.link.Link.{Link}
+use Rattle.mh_layers.specs.declared.arrows.arrow.Arrow.{Arrow}
 use Rattle.mh_layers.specs.declared.bounds.InputKind.{InputKind}
 use Rattle.mh_layers.specs.declared.bounds.InputKind.TheVariants as kind
-use Rattle.mh_layers.specs.declared.way.Stage.{Stage}
-use Rattle.mh_layers.specs.declared.way.Way.{Way}
+use Rattle.mh_layers.specs.declared.ways.way.Stage.{Stage}
+use Rattle.mh_layers.specs.declared.ways.way.Way.{Way}
 use Rattle.mh_text.specs.Landmarks.{Through}
 use Rattle.mh_look.specs.Advice.{row_with, bounds, refusals, services, tags, faults, readings}
 use Rattle.mh_look.specs.Cases.{case_advice, case_words, is_verdict}

@@ -4,7 +4,7 @@ use Rattle.std.specs.Borrow.{Bor}
 use Rattle.std.specs.List.{find}
 use Rattle.std.specs.Option.{option_map_or}
 use Rattle.std.specs.Str.{bytes_eq}
-use Rattle.mh_look.specs.declared.explanation.advice_tables.TheConstants as table
+use Rattle.mh_look.specs.declared.explanation.advice.tables.TheConstants as table
 use Rattle.mh_look.specs.declared.explanation.bound.TheConstants as table_of_bounds
 use Rattle.mh_look.specs.declared.explanation.circle.TheConstants as table_of_events
 use Rattle.mh_look.specs.declared.explanation.object.TheConstants as table_of_objects

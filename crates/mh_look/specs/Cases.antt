@@ -8,7 +8,7 @@ use Rattle.mh_cause.specs.declared.detail.Detail.TheVariants as detail
 use Rattle.mh_cause.specs.Causes.{cause, mend}
 use Rattle.mh_cause.specs.Details.{detail_of}
 use Rattle.mh_cause.specs.Refusing.{Refused}
-use Rattle.mh_flow.specs.declared.link.Link.{Link}
+use Rattle.mh_flow.specs.declared.chain.link.Link.{Link}
 use Rattle.mh_layers.specs.declared.bounds.InputKind.{InputKind}
 use Rattle.mh_layers.specs.Bounding.{kind_word}
 use Rattle.mh_verify.specs.declared.refusal.Place.{Place}

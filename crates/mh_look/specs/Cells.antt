@@ -3,7 +3,7 @@ use Rattle.std.specs.Prelude.{ℕ, ◌+◌, ◌-◌, ◌≡◌, ◌<◌, ◌≤�
 use Rattle.std.specs.List.{list_all}
 use Rattle.std.specs.Fmt.{decimal}
 use lib.Utf8.{scalar}
-use Rattle.mh_model.specs.declared.cell.Cell.{Cell}
+use Rattle.mh_model.specs.declared.picture.cell.Cell.{Cell}
 use Rattle.mh_told.specs.Frame.{runs}
 use Rattle.mh_model.specs.Picture.{black}
 use Rattle.mh_told.specs.Printing.{hex_colour}

@@ -1,7 +1,7 @@
 -- The rows of a frame, one by one, and what the readers of them promise.
 use Rattle.std.specs.Prelude.{ℕ, ◌≡◌, ◌≢◌, if◌then◌else◌, List, [], ◌∷◌, ◌++◌, length, codes, Option, Some}
 use Rattle.std.specs.Fmt.{decimal}
-use Rattle.mh_model.specs.declared.cell.Cell.{Cell}
+use Rattle.mh_model.specs.declared.picture.cell.Cell.{Cell}
 use Rattle.mh_model.specs.Planes.{Planes}
 use Rattle.mh_told.specs.Frame.{differ, row_line, row_changes}
 use Rattle.mh_told.specs.Printing.{two_digits}

@@ -8,9 +8,9 @@ use Rattle.mh_base.specs.declared.value.Value.{Value}
 use Rattle.mh_base.specs.declared.value.Value.TheVariants as value
 use Rattle.mh_group.specs.Words.{action_word, event_word}
 use Rattle.mh_model.specs.declared.event.Event.{Event}
-use Rattle.mh_layers.specs.declared.arrow.Arrow.{Arrow}
-use Rattle.mh_layers.specs.declared.arrow.By.{By}
-use Rattle.mh_layers.specs.declared.arrow.By.TheVariants as by
+use Rattle.mh_layers.specs.declared.arrows.arrow.Arrow.{Arrow}
+use Rattle.mh_layers.specs.declared.arrows.arrow.By.{By}
+use Rattle.mh_layers.specs.declared.arrows.arrow.By.TheVariants as by
 use Rattle.mh_look.specs.declared.explanation.circle.TheConstants.{PUTS_TO_WORK, MAKES_EVENT, FOR_WHICH, CALLS_SLOT, ENTERS, LEAVES, STARTS_UP, CLOSES_DOWN}
 use Rattle.mh_look.specs.Advice.{Row, cell, event_data, events, row_with}
 use Rattle.mh_look.specs.Sources.{Source, shown_action}

@@ -1,8 +1,8 @@
 -- The command line: the subcommands and options that there are, and what the words ask for. How words are read
 -- against them, what is refused and under which kind, are the definitions of `clap`.
-use Rattle.std.specs.Prelude.{◌≡◌, ◌≢◌, ℕ, Bool, true, false, if◌then◌else◌, List, [], ◌∷◌, Option, Some, None, Result, MatchResult, codes, unwrap_or, option_map}
-use Rattle.std.specs.List.{list_any}
-use Rattle.std.specs.Option.{option_map_or}
+use Rattle.std.specs.Prelude.{◌≡◌, ◌≢◌, ℕ, Bool, true, false, if◌then◌else◌, List, [], ◌∷◌, Option, Some, None, Result, MatchResult, codes, is_none, unwrap_or, option_map}
+use Rattle.std.specs.List.{find, list_any}
+use Rattle.std.specs.Option.{option_map_or, option_or}
 use Rattle.std.specs.Str.{bytes_eq}
 use Rattle.std.specs.Str.Parse.{digits_value, without_leading_plus}
 use Rattle.clap.specs.Words.{App, IsAmong, Kinds, Row, Rule, Text, all_of, first_of, kind_of, new_app, new_rule, with_rule, with_subcommand}
@@ -15,7 +15,8 @@ use Rattle.clap.specs.declared.error.kind.ErrorKind.TheVariants as kind
 use Rattle.mh_lint.specs.declared.rule.Allowed.{Allowed}
 use Rattle.mh_lint.specs.declared.rule.Rule.{Rule as NoteRule}
 use Rattle.mh_lint.specs.declared.rule.Rule.TheVariants as rule
-use Rattle.mh_lint.specs.Rules.{rule_word}
+use Rattle.mh_lint.specs.Rules.{rule_named, rule_word, rules}
+use Rattle.mh_misread.specs.Likeness.{is_like}
 use Rattle.mh_look.specs.declared.command_line.Explain.{Explain}
 use Rattle.mh_look.specs.declared.command_line.Task.{Task}
 use Rattle.mh_look.specs.declared.command_line.Task.TheVariants as task
@@ -163,7 +164,7 @@ pub data Asked : Type 0 where
   drawn : (report : Text) (frame : Option ℕ) (folder : Option Text) → Asked
   compared : (first second : Text) (lines : Bool) → Asked
   explained : Explained → Asked
-  linted : (service : Explained) (all : Bool) (allowed : Allowed) → Asked
+  linted : (service : Explained) (all : Bool) (allowed : Allowed) (unknown : Option Text) → Asked
 
 -- the value of an argument; each that is read here is required or has a default
 abbrev pub text_of : Text → List Row → Text
@@ -232,16 +233,42 @@ allows rows x = list_any (λ name. bytes_eq name (rule_word x)) (unwrap_or (all_
 abbrev pub allowed : List Row → Allowed
 allowed rows = record {
   editor_backup = allows rows rule.EditorBackup;
+  identifier_differs = allows rows rule.IdentifierDiffers;
+  unknown_rule = allows rows rule.UnknownRule;
   start_leads_away = allows rows rule.StartLeadsAway;
+  not_shared = allows rows rule.NotShared;
   no_actions = allows rows rule.NoActions;
   behind_transition = allows rows rule.BehindTransition;
   division_by_zero = allows rows rule.DivisionByZero;
   negative_size = allows rows rule.NegativeSize;
   colour_octets = allows rows rule.ColourOctets;
+  unheard_timer = allows rows rule.UnheardTimer;
+  unread_variable = allows rows rule.UnreadVariable;
+  off_screen = allows rows rule.OffScreen;
+  covers_no_cell = allows rows rule.CoversNoCell;
+  cut_text = allows rows rule.CutText;
+  text_in_its_colour = allows rows rule.TextInItsColour;
+  content_to_come = allows rows rule.ContentToCome;
 }
 
+-- no rule has this name
+abbrev pub is_no_rule : Text → Bool
+is_no_rule name = is_none (rule_named name)
+
+-- the first of those that are named that is none
+abbrev pub unknown : List Row → Option Text
+unknown rows = find is_no_rule (unwrap_or (all_of (codes "allow") rows) [])
+
 abbrev pub linting : List Row → Asked
-linting rows = linted (service_of rows) (is_set (codes "all") rows) (allowed rows)
+linting rows = linted (service_of rows) (is_set (codes "all") rows) (allowed rows) (unknown rows)
+
+-- the rule that is meant by a name, if one is like it
+
+abbrev pub like_rule : ℕ → Text → Option NoteRule
+like_rule changes name = find (λ x. is_like changes name (rule_word x)) rules
+
+abbrev pub near_rule : Text → Option NoteRule
+near_rule name = option_or (like_rule 1 name) (option_or (like_rule 2 name) (like_rule 3 name))
 
 -- the subcommand of this name
 abbrev pub asked_under : Text → List Row → Asked
@@ -276,7 +303,7 @@ said (task.Page report script) = paged report.now (option_map (λ s. s.now) scri
 said (task.Image report frame folder) = drawn report.now frame (option_map (λ s. s.now) folder)
 said (task.Diff first second lines) = compared first.now second.now lines
 said (task.Why e) = explained (explained_as e)
-said (task.Lint l) = linted (explained_as l.service) l.asked.all l.asked.allowed
+said (task.Lint l) = linted (explained_as l.service) l.asked.all l.asked.allowed (option_map (λ s. s.now) l.unknown)
 
 -- Why words ask for nothing that can be done.
 

@@ -7,7 +7,7 @@ use Rattle.std.specs.Str.{bytes_eq}
 use Rattle.mh_misread.specs.declared.mistake.Mistake.{Mistake}
 use Rattle.mh_misread.specs.Misreads.{misread_of}
 use Rattle.mh_misread.specs.Resuming.{mistakes, text_from}
-use Rattle.mh_look.specs.declared.explanation.further.TheConstants.{READ_ON}
+use Rattle.mh_look.specs.declared.explanation.unread.further.TheConstants.{READ_ON}
 use Rattle.mh_look.specs.Advice.{advice, files}
 use Rattle.mh_look.specs.LineWords.{number_in}
 use Rattle.mh_look.specs.Misreading.{case_text}

@@ -3,7 +3,7 @@ use Rattle.std.specs.Prelude.{ℕ, Bool, ◌&&◌, ◌||◌, if◌then◌else◌
 use Rattle.std.specs.List.{find}
 use Rattle.std.specs.Option.{option_map_or}
 use Rattle.mh_misread.specs.Likeness.{is_like as is_like_word}
-use Rattle.mh_look.specs.declared.explanation.missing.TheConstants.{BYTE_ORDER_MARK, HAS_MARK, HAS_COMMENT, HAS_NO_BRACE, IS_THERE, NO_GROUP, NO_FILE, LIES_THERE, IS_CALLED}
+use Rattle.mh_look.specs.declared.explanation.unread.missing.TheConstants.{BYTE_ORDER_MARK, HAS_MARK, HAS_COMMENT, HAS_NO_BRACE, IS_THERE, NO_GROUP, NO_FILE, LIES_THERE, IS_CALLED}
 use Rattle.mh_look.specs.Painting.{begins_with}
 use Rattle.mh_look.specs.Sources.{Source, source_named}
 use Rattle.mh_look.specs.Wrapping.{paragraph}

@@ -11,7 +11,8 @@ use Rattle.mh_look.specs.declared.report.Part.TheVariants as part
 use Rattle.mh_look.specs.Report.{Report}
 use Rattle.mh_look.specs.Frames.{differs_at}
 use Rattle.mh_look.specs.Posts.{behind_stop, up_to_stop}
-use Rattle.mh_look.specs.Shown.{harmless, turns, line_of, passed}
+use Rattle.mh_terminal.specs.Frames.{harmless, turns}
+use Rattle.mh_look.specs.Shown.{line_of, passed}
 use Rattle.mh_look.specs.declared.page.outline.TheConstants.{HEAD, FOOT, STYLE, BACKGROUND, ROW_END, FRAME_BEGIN, FRAME_TITLE_END, FRAME_END}
 
 -- Text in a page.

@@ -7,12 +7,8 @@ use Rattle.bstr.specs.Text.{lines_of, without_terminator}
 use Rattle.bstr.specs.Utf8.{lossy_chars}
 use Rattle.mh_told.specs.Printing.{character}
 use Rattle.mh_look.specs.LineWords.{is_in_word}
-use Rattle.mh_look.specs.Shown.{is_order, harmless}
+use Rattle.mh_terminal.specs.Frames.{is_order, harmless, plain}
 use Rattle.mh_look.specs.Wrapping.{paragraph}
-
--- the bytes as text without orders; a byte that is of no character is U+FFFD
-abbrev pub plain : List ℕ → List ℕ
-plain bs = flat_map (λ c. character (harmless c)) (lossy_chars bs)
 
 -- Text that gives a terminal no order: it is the characters of a list in which the line feed is the only order.
 abbrev pub is_shown : ℕ → Bool

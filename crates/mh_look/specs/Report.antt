@@ -1,7 +1,7 @@
 -- A report: what happened, part by part, and how it is printed.
 use Rattle.std.specs.Prelude.{ℕ, ◌+◌, ◌<◌, ◌^◌, ◌≡◌, ◌&&◌, nat_lt, Bool, true, List, [], ◌∷◌, ◌++◌}
 use Rattle.mh_base.specs.Path.{is_path}
-use Rattle.mh_model.specs.declared.cell.Cell.{Cell}
+use Rattle.mh_model.specs.declared.picture.cell.Cell.{Cell}
 use Rattle.mh_model.specs.declared.fault.Fault.{Fault}
 use Rattle.mh_model.specs.Planes.{Planes, IsWhole, blank}
 use Rattle.mh_model.specs.Picture.{cell_of}

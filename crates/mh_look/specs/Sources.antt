@@ -21,8 +21,8 @@ use Rattle.mh_told.specs.Reading.{Source as File, is_group_file, table_of}
 use Rattle.mh_told.specs.declared.unplayable.Unplayable.{Unplayable}
 use Rattle.mh_cause.specs.declared.detail.Detail.{Detail}
 use Rattle.mh_look.specs.Meant.{Sought, mentions}
-use Rattle.mh_look.specs.declared.explanation.marked.TheConstants.{HAVE_CHANGED}
-use Rattle.mh_look.specs.declared.explanation.named.TheConstants.{STANDS_HERE, STAND_IN}
+use Rattle.mh_look.specs.declared.explanation.place.marked.TheConstants.{HAVE_CHANGED}
+use Rattle.mh_look.specs.declared.explanation.place.named.TheConstants.{STANDS_HERE, STAND_IN}
 use Rattle.mh_look.specs.declared.explanation.place.TheConstants.{AS_PRINTED}
 use Rattle.mh_look.specs.LineWords.{number_in}
 use Rattle.mh_look.specs.Octets.{shown_octet}

@@ -2,7 +2,7 @@
 use Rattle.std.specs.Prelude.{ℕ, ◌+◌, ◌/◌, ◌%◌, ◌==◌, if◌then◌else◌, List, [], ◌∷◌, ◌++◌, codes}
 use Rattle.std.specs.Fmt.{decimal}
 use Rattle.std.specs.Option.{option_map_or}
-use Rattle.mh_model.specs.declared.cell.Cell.{Cell}
+use Rattle.mh_model.specs.declared.picture.cell.Cell.{Cell}
 use Rattle.mh_model.specs.Planes.{Planes}
 use Rattle.mh_model.specs.Picture.{cell_of}
 use Rattle.mh_told.specs.Printing.{hex_colour, quoted}
@@ -11,7 +11,7 @@ use Rattle.mh_look.specs.declared.comparison.difference.Difference.TheVariants a
 use Rattle.mh_look.specs.declared.comparison.telling.TheConstants.{SAME, FIRST_HAS_MORE, SECOND_HAS_MORE, ONE_DIFFERS, MORE_DIFFER}
 use Rattle.mh_look.specs.Frames.{changed_cells, first_difference, pictures}
 use Rattle.mh_look.specs.Report.{Report}
-use Rattle.mh_look.specs.Shown.{harmless}
+use Rattle.mh_terminal.specs.Frames.{harmless}
 
 -- a character as reports print it, and no order to a terminal
 unfoldable pub mark : ℕ → List ℕ

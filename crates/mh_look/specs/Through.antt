@@ -6,7 +6,7 @@ use Rattle.std.specs.List.{list_any}
 use Rattle.std.specs.Option.{option_map_or}
 use Rattle.std.specs.Str.{bytes_eq}
 use Rattle.mh_base.specs.declared.obj_ref.ObjRef.{ObjRef}
-use Rattle.mh_flow.specs.declared.link.Link.{Link}
+use Rattle.mh_flow.specs.declared.chain.link.Link.{Link}
 use Rattle.mh_text.specs.Landmarks.{Through, variables_at}
 use Rattle.mh_text.specs.declared.mark.Mark.{Mark}
 use Rattle.mh_text.specs.Marks.{mark_of}

@@ -4,10 +4,10 @@ use Rattle.std.specs.Prelude.{ℕ, zero, suc, ◌-◌, ◌==◌, Bool, true, fal
 use Rattle.mh_base.specs.Reading.{whole}
 use Rattle.mh_cause.specs.declared.detail.Detail.{Detail}
 use Rattle.mh_cause.specs.declared.detail.Detail.TheVariants as detail
-use Rattle.mh_text.specs.declared.token_kind.TokenKind.{TokenKind}
-use Rattle.mh_text.specs.declared.token_kind.TokenKind.TheVariants as kind
+use Rattle.mh_text.specs.declared.token.kind.TokenKind.{TokenKind}
+use Rattle.mh_text.specs.declared.token.kind.TokenKind.TheVariants as kind
 use Rattle.mh_text.specs.Left.{Lexed, finished, bad, token, lexed}
-use Rattle.mh_look.specs.declared.explanation.values.Walk.{Walk}
+use Rattle.mh_look.specs.declared.explanation.place.values.Walk.{Walk}
 use Rattle.mh_look.specs.Meant.{depth_behind, ends_action}
 
 -- The value with a number, from 0 on, of the list that the first bracket opens

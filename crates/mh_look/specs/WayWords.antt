@@ -8,8 +8,8 @@ use Rattle.mh_group.specs.Words.{action_word}
 use Rattle.mh_model.specs.declared.config.Config.{Config}
 use Rattle.mh_layers.specs.declared.bounds.InputKind.{InputKind}
 use Rattle.mh_layers.specs.declared.bounds.InputKind.TheVariants as kind
-use Rattle.mh_layers.specs.declared.way.Stage.{Stage}
-use Rattle.mh_layers.specs.declared.way.Way.{Way}
+use Rattle.mh_layers.specs.declared.ways.way.Stage.{Stage}
+use Rattle.mh_layers.specs.declared.ways.way.Way.{Way}
 use Rattle.mh_layers.specs.Bounding.{kind_word}
 use Rattle.mh_look.specs.declared.explanation.line.TheConstants.{SHOWS_NONE, SHOWS_SCENE}
 use Rattle.mh_look.specs.declared.explanation.way.TheConstants.{FILES_COME_TO, COSTS_MOST, STARTS, PUTS_FIRST, PUTS_NEXT, DEAREST_ACTION, PUTS_NONE}

@@ -6,7 +6,7 @@ use Rattle.mh_laws.specs.Costs.{Effect}
 use Rattle.mh_laws.specs.Layers.{IsLayering}
 use Rattle.mh_flow.specs.Equipment.{equipped}
 use Rattle.mh_flow.specs.Solved.{IsFlowOf, Solved, flow_in}
-use Rattle.mh_layers.specs.declared.way.Way.{Way}
+use Rattle.mh_layers.specs.declared.ways.way.Way.{Way}
 use Rattle.mh_layers.specs.Dearest.{AreDearestWays}
 use Rattle.mh_told.specs.Reading.{Source as File, service_tagged}
 

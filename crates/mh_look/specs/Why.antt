@@ -6,9 +6,9 @@ use Rattle.std.specs.Str.{bytes_eq}
 use Rattle.bstr.specs.Text.{lines_of, without_terminator}
 use Rattle.mh_cause.specs.declared.detail.Detail.{Detail}
 use Rattle.mh_cause.specs.declared.detail.Detail.TheVariants as detail
-use Rattle.mh_flow.specs.declared.link.Link.{Link}
-use Rattle.mh_layers.specs.declared.arrow.Arrow.{Arrow}
-use Rattle.mh_layers.specs.declared.way.Way.{Way}
+use Rattle.mh_flow.specs.declared.chain.link.Link.{Link}
+use Rattle.mh_layers.specs.declared.arrows.arrow.Arrow.{Arrow}
+use Rattle.mh_layers.specs.declared.ways.way.Way.{Way}
 use Rattle.mh_told.specs.Reading.{Source as File}
 use Rattle.mh_look.specs.declared.explanation.line.TheConstants.{STANDS_IN, MEMBERS_OF, SO_IT_IS, SHOWS_NONE, SHOWS_SCENE, THE_ACTION, WAS_STUCK, LEADS_TO, CIRCLE_THROUGH, COMES_BY, EFFECT_WITH, PUTS_ITSELF, HANDS_ON, WRITES_IT, IS_BYTE, OF_FILE, TOLD_OF, IS_LINE, IS_CONTEXT, CONTEXTS}
 use Rattle.mh_look.specs.Advice.{advice, cell, row_with, services, tags, faults, objects, readings}
@@ -22,7 +22,8 @@ use Rattle.mh_look.specs.LineWords.{first_word, behind_first, last_word, before_
 use Rattle.mh_look.specs.Misreading.{file_advice}
 use Rattle.mh_look.specs.Meant.{sought_in}
 use Rattle.mh_look.specs.Missing.{missing}
-use Rattle.mh_look.specs.Places.{plain, IsHarmless}
+use Rattle.mh_terminal.specs.Frames.{plain}
+use Rattle.mh_look.specs.Places.{IsHarmless}
 use Rattle.mh_look.specs.Posts.{posts_told, script_behind, script_bytes}
 use Rattle.mh_look.specs.ScriptTexts.{script_told}
 use Rattle.mh_look.specs.Services.{shown_service}

@@ -4,7 +4,7 @@ use Rattle.std.specs.List.{flat_map, prefix_len}
 use Rattle.bstr.specs.Utf8.{lossy_chars}
 use Rattle.mh_told.specs.Printing.{character}
 use Rattle.mh_look.specs.LineWords.{is_in_word}
-use Rattle.mh_look.specs.Shown.{harmless}
+use Rattle.mh_terminal.specs.Frames.{harmless}
 
 abbrev pub columns : ℕ
 columns = 80

@@ -63,6 +63,8 @@ pub struct Lint<'a> {
     pub service: Explain<'a>,
     /// What is told of an accepted one.
     pub asked: Asked,
+    /// The first name among the rules that are turned off that no rule has.
+    pub unknown: Option<&'a str>,
 }
 
 /// What is explained.

@@ -1,5 +1,6 @@
 //! What is done for each subcommand: a report is read whole, and then what is asked for is written.
 
+pub mod answering;
 pub(crate) mod explaining;
 pub(crate) mod linting;
 
@@ -12,8 +13,9 @@ use crate::image::image_of;
 use crate::page::page_of;
 use crate::report::frames::frame_at;
 use crate::report::{Part, Report};
-use crate::show::{put_frame, put_report};
+use crate::show::put_report;
 use mh_model::Picture;
+use mh_terminal::put_frame;
 use mh_told::text::Text;
 use std::alloc::{AllocError, Global};
 use std::io::Write;
@@ -33,6 +35,18 @@ pub enum Outcome {
     Unread,
     /// It is written what is found of an accepted service.
     Found,
+}
+
+impl Outcome {
+    /// The exit status that tells so: 0 where it is written, 1 where two reports differ, a service is refused or something
+    /// is found of it, 2 where it cannot be read.
+    pub fn status(self) -> u8 {
+        match self {
+            Outcome::Written => 0,
+            Outcome::Different | Outcome::Refused | Outcome::Found => 1,
+            Outcome::Unread => 2,
+        }
+    }
 }
 
 /// Does a task, and answers what came of it. Whether a terminal reads what is written is told by the caller.

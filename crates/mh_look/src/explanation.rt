@@ -2,33 +2,29 @@
 //! with the places in the files, the causes and the mends.
 //!
 //! Promise: what is explained is exactly what `specs/Why` says.
+//!
+//! A line is told by its first word (`line`): a refusal in `refused`, the lines behind it in `more`, bounds in
+//! `bound` and what makes them dear in `way`, what cannot be read in `unread`, a fault in `fault`. Where it
+//! stands is shown by `place`.
 
 pub(crate) mod advice;
-pub(crate) mod advice_tables;
 pub(crate) mod bound;
 pub mod case;
 pub(crate) mod circle;
 pub(crate) mod fault;
-pub(crate) mod further;
 pub(crate) mod ground;
 pub(crate) mod keyword;
 pub(crate) mod line;
-pub(crate) mod marked;
 pub(crate) mod meant;
-pub(crate) mod misread;
-pub(crate) mod missing;
 pub(crate) mod more;
-pub(crate) mod named;
 pub(crate) mod object;
 pub(crate) mod past;
 pub(crate) mod place;
 pub(crate) mod refused;
 pub(crate) mod service;
-pub(crate) mod spot;
 pub(crate) mod through;
 pub(crate) mod token;
 pub(crate) mod unread;
-pub(crate) mod values;
 pub(crate) mod variable;
 pub(crate) mod way;
 pub(crate) mod words;

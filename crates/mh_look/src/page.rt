@@ -17,9 +17,10 @@ use crate::page::outline::{
 };
 use crate::page::posted::{left_behind, put_posted, tells_more};
 use crate::report::{Part, Report};
-use crate::show::{frames_up_to, harmless, put_line, turns};
+use crate::show::{frames_up_to, put_line};
 use mh_model::picture::{COLUMNS, ROWS};
 use mh_model::{Cell, Picture};
+use mh_terminal::{harmless, turns};
 use mh_told::text::Text;
 use mh_told::told::put_total;
 use std::alloc::{AllocError, Global};

@@ -10,12 +10,12 @@ pub(crate) mod window;
 ghost use Rattle.std.specs.Prelude.{◌≡◌, ◌≤◌, ◌<◌, ◌^◌, ◌++◌, OnOk, IfOk, length, take, drop, replicate};
 ghost use Rattle.bstr.specs.Text.{without_terminator};
 ghost use Rattle.bstr.specs.Utf8.{lossy_chars};
-ghost use Rattle.mh_look.specs.Places.{characters_of, plain, PlacesAreHarmless, line_at, spaced, place_words, shown_at, shown_place};
+ghost use Rattle.mh_look.specs.Places.{characters_of, PlacesAreHarmless, line_at, spaced, place_words, shown_at, shown_place};
 
 use crate::place::window::{first_shown, put_window};
-use crate::show::{harmless, put_character};
 use crate::wrap::put_paragraph;
 use bstr::ByteSlice;
+use mh_terminal::harmless;
 use mh_told::text::Text;
 use std::alloc::{AllocError, Global};
 
@@ -39,17 +39,6 @@ pub fn place_text(
 pub fn places_are_harmless()
     ensures { PlacesAreHarmless }
 {}
-
-/// Puts bytes as text that gives a terminal no order: what is of no character is U+FFFD, and so is
-/// an order.
-pub(crate) fn put_plain(text: &mut Text, bytes: &[u8]) -> Result<(), AllocError>
-    ensures { OnOk result (text.new ≡ text.old ++ plain bytes.now) }
-{
-    for character in bytes.chars() {
-        put_character(text, harmless(character as u32))?;
-    }
-    Ok(())
-}
 
 /// Puts where so many bytes stand in a file of this name behind so many others: the line and the
 /// column, from 1 on, the line itself, and carets.

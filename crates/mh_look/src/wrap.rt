@@ -6,11 +6,11 @@ ghost use Rattle.std.specs.List.{flat_map, prefix_len};
 ghost use Rattle.bstr.specs.Utf8.{lossy_chars};
 ghost use Rattle.mh_told.specs.Printing.{character};
 ghost use Rattle.mh_look.specs.LineWords.{is_in_word};
-ghost use Rattle.mh_look.specs.Shown.{harmless};
+ghost use Rattle.mh_terminal.specs.Frames.{harmless};
 ghost use Rattle.mh_look.specs.Wrapping.{columns, wrapped, paragraph};
 
-use crate::show::{harmless, put_character};
 use bstr::ByteSlice;
+use mh_terminal::{harmless, put_character};
 use mh_told::text::Text;
 use std::alloc::{AllocError, Global};
 

@@ -10,14 +10,14 @@ use Rattle.mh_group.specs.declared.class.Class.TheVariants as class
 use Rattle.mh_actions.specs.declared.ordering.Reorder.{Reorder}
 use Rattle.mh_actions.specs.declared.ordering.Reorder.TheVariants as reorder
 use Rattle.mh_display.specs.Surface.{Surface, is_stale, IsClean, IsRight, Spoils}
-use Rattle.mh_model.specs.declared.cell.Cell.{Cell}
+use Rattle.mh_model.specs.declared.picture.cell.Cell.{Cell}
 use Rattle.mh_model.specs.declared.object.Body.{Body}
 use Rattle.mh_model.specs.declared.object.Fixed.{Fixed}
 use Rattle.mh_model.specs.declared.object.Object.{Object}
 use Rattle.mh_model.specs.Bodies.{given}
 use Rattle.mh_model.specs.Stack.{without, just_above, just_below}
 use Rattle.mh_group.specs.declared.attribute.Attribute.TheVariants as attribute
-use Rattle.mh_model.specs.declared.line.Line.{Line}
+use Rattle.mh_model.specs.declared.picture.line.Line.{Line}
 use Rattle.mh_model.specs.Looks.{Paint, nothing, paint_by, text_paint, area_of, colour_of, transparent_black, opaque_white, lines_of_text, shown_text}
 use Rattle.mh_model.specs.Picture.{cell_of, back_or, back_under, mark_or, mark_under, is_seen, painted, paint_at, cell_at, picture}
 use Rattle.mh_model.specs.Planes.{Planes, IsWhole, blank}

@@ -26,8 +26,8 @@ use Rattle.mh_model.specs.State.{State, Objects, all}
 use Rattle.mh_model.specs.Step.{done}
 use Rattle.mh_model.specs.Stuck.{stuck}
 use Rattle.mh_model.proofs.PartLemmas.{part_at-parts}
-use Rattle.mh_machine.specs.declared.summing.Sum.{Sum}
-use Rattle.mh_machine.specs.declared.summing.Sum.TheVariants as sum
+use Rattle.mh_machine.specs.declared.stepping.summing.Sum.{Sum}
+use Rattle.mh_machine.specs.declared.stepping.summing.Sum.TheVariants as sum
 use Rattle.mh_machine.specs.Plans.{taken_from}
 use Rattle.mh_machine.specs.Rest.{Does}
 use Rattle.mh_machine.specs.Sums.{Becomes, IsNumber, IsSum, NumberIf}

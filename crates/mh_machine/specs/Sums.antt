@@ -5,8 +5,8 @@ use Rattle.mh_group.specs.declared.action_name.ActionName.{ActionName}
 use Rattle.mh_group.specs.declared.class.Class.TheVariants as class
 use Rattle.mh_model.specs.declared.object.Object.{Object}
 use Rattle.mh_model.specs.Bodies.{changed_by, given}
-use Rattle.mh_machine.specs.declared.summing.Sum.{Sum}
-use Rattle.mh_machine.specs.declared.summing.Sum.TheVariants as sum
+use Rattle.mh_machine.specs.declared.stepping.summing.Sum.{Sum}
+use Rattle.mh_machine.specs.declared.stepping.summing.Sum.TheVariants as sum
 use Rattle.mh_machine.specs.ByClass.{is_sum}
 
 -- what becomes of the body of the number

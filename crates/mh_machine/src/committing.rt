@@ -1,6 +1,10 @@
 //! A plan is carried out: room is made first, then bodies are changed, and behind that nothing can fail.
 //!
 //! What most steps do has a shorter way: batches that are put, and one body that is changed, need no plan.
+
+pub(crate) mod applying;
+pub(crate) mod room;
+
 ghost use Rattle.std.specs.Prelude.{◌≡◌, ◌+◌, ◌<◌, ◌≤◌, ◌^◌, true, [], OnOk, OnErr, vec_len, vec_capacity};
 ghost use Rattle.mh_model.specs.Bodies.{given};
 ghost use Rattle.mh_model.specs.Edits.{edited};
@@ -8,10 +12,10 @@ ghost use Rattle.mh_model.specs.Rules.{changed};
 ghost use Rattle.mh_work.specs.Batches.{written};
 ghost use Rattle.mh_machine.specs.Plans.{change_at, committed, halt_plan, put_for_first, taken_from, changed_as, rewaited, queued, noted};
 
-use crate::applying::apply;
-use crate::interacting::{end_of, interact};
+use crate::committing::applying::apply;
+use crate::committing::room::make_room;
+use crate::plan::focus::{end_of, interact};
 use crate::plan::{Awaiting, Plan};
-use crate::room::make_room;
 use crate::works::Works;
 use mh_base::{ObjRef, Value};
 use mh_carousel::Carousel;

@@ -1,4 +1,15 @@
 //! Plans: what an item does, worked out before anything is changed.
+
+pub(crate) mod acting;
+pub(crate) mod answering;
+pub(crate) mod calling;
+pub(crate) mod exchanging;
+pub(crate) mod focus;
+pub(crate) mod lives;
+pub(crate) mod loading;
+pub(crate) mod transitions;
+pub(crate) mod widgets;
+
 ghost use Rattle.std.specs.Prelude.{◌≡◌, [], Some};
 ghost use Rattle.mh_machine.specs.Plans.{plan_of};
 

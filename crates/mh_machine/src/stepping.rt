@@ -1,4 +1,11 @@
 //! One step: an item is planned and carried out, or what waits first is taken.
+
+pub(crate) mod advancing;
+pub(crate) mod ordering;
+pub(crate) mod summing;
+pub(crate) mod testing;
+pub(crate) mod turning;
+
 ghost use Rattle.std.specs.Prelude.{◌≡◌, ◌+◌, ◌<◌, ◌^◌, None, true, false, IfOk, OnOk, OnErr};
 ghost use Rattle.mh_model.specs.Faults.{fault_known};
 ghost use Rattle.mh_model.specs.Known.{known_in};

@@ -11,7 +11,7 @@ ghost use Rattle.mh_machine.specs.Taking.{shifted};
 
 use crate::Stepped;
 use crate::inputs::{WaitingFor, content_events, engine_event, key_batches, stream_events};
-use crate::interacting::copied_interaction;
+use crate::plan::focus::copied_interaction;
 use crate::stage::Stage;
 use crate::works::Works;
 use mh_carousel::Carousel;

@@ -12,7 +12,7 @@ use Rattle.mh_group.specs.declared.shape.Shape.TheVariants as shape
 use Rattle.mh_misread.specs.declared.part.Part.TheVariants as part
 use Rattle.mh_group.specs.Table.{shape_of}
 use Rattle.mh_group.specs.Words.{action_word, actions, events}
-use Rattle.mh_text.specs.declared.token_kind.TokenKind.{TokenKind}
+use Rattle.mh_text.specs.declared.token.kind.TokenKind.{TokenKind}
 use Rattle.mh_misread.specs.declared.part.Listed.TheVariants as listed
 use Rattle.mh_misread.specs.declared.part.Row.TheVariants as row
 use Rattle.mh_misread.specs.Misreads.{first_token}

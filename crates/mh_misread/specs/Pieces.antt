@@ -3,8 +3,8 @@ use Rattle.std.specs.Prelude.{ℕ, zero, suc, Bool, false, ◌==◌, nat_lt, if�
 use Rattle.mh_base.specs.Reading.{Rest, whole}
 use Rattle.mh_group.specs.declared.attribute.Attribute.{Attribute}
 use Rattle.mh_group.specs.Table.{attribute_number}
-use Rattle.mh_text.specs.declared.token_kind.TokenKind.{TokenKind}
-use Rattle.mh_text.specs.declared.token_kind.TokenKind.TheVariants as kind
+use Rattle.mh_text.specs.declared.token.kind.TokenKind.{TokenKind}
+use Rattle.mh_text.specs.declared.token.kind.TokenKind.TheVariants as kind
 use Rattle.mh_text.specs.Left.{Lexed, finished, bad, token, lexed}
 use Rattle.mh_misread.specs.declared.name.Name.{Name}
 use Rattle.mh_misread.specs.declared.name.Name.TheVariants as name

@@ -3,8 +3,8 @@ use Rattle.std.specs.Prelude.{ℕ, zero, suc, ◌-◌, Bool, true, false, not, �
 use Rattle.std.specs.List.{filter, prefix_len}
 use Rattle.mh_base.specs.Reading.{whole}
 use Rattle.mh_group.specs.declared.class.Class.TheVariants as class
-use Rattle.mh_text.specs.declared.token_kind.TokenKind.{TokenKind}
-use Rattle.mh_text.specs.declared.token_kind.TokenKind.TheVariants as kind
+use Rattle.mh_text.specs.declared.token.kind.TokenKind.{TokenKind}
+use Rattle.mh_text.specs.declared.token.kind.TokenKind.TheVariants as kind
 use Rattle.mh_text.specs.Gives.{Refusal}
 use Rattle.mh_text.specs.Left.{Lexed, finished, bad, token, lexed}
 use Rattle.mh_text.specs.Numbers.{number_of}

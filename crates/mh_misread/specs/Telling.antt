@@ -9,8 +9,8 @@ use Rattle.mh_base.specs.declared.event.EventType.{EventType}
 use Rattle.mh_group.specs.declared.shape.Need.{Need}
 use Rattle.mh_group.specs.Table.{shape_of, takes, needs_of, optional_of}
 use Rattle.mh_group.specs.Words.{classes, class_word, attributes, attribute_word, action_word, event_word, justification_word}
-use Rattle.mh_text.specs.declared.token_kind.TokenKind.{TokenKind}
-use Rattle.mh_text.specs.declared.token_kind.TokenKind.TheVariants as token_kind
+use Rattle.mh_text.specs.declared.token.kind.TokenKind.{TokenKind}
+use Rattle.mh_text.specs.declared.token.kind.TokenKind.TheVariants as token_kind
 use Rattle.mh_misread.specs.declared.name.Name.{Name}
 use Rattle.mh_misread.specs.declared.name.Name.TheVariants as name
 use Rattle.mh_misread.specs.declared.part.Row.TheVariants as row

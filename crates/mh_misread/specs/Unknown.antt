@@ -6,8 +6,8 @@ use Rattle.mh_group.specs.declared.shape.Shape.TheVariants as shape
 use Rattle.mh_group.specs.declared.shape.Need.TheVariants as need
 use Rattle.mh_group.specs.Table.{shape_of}
 use Rattle.mh_model.specs.declared.key.Key.{Key}
-use Rattle.mh_text.specs.declared.token_kind.TokenKind.{TokenKind}
-use Rattle.mh_text.specs.declared.token_kind.TokenKind.TheVariants as token_kind
+use Rattle.mh_text.specs.declared.token.kind.TokenKind.{TokenKind}
+use Rattle.mh_text.specs.declared.token.kind.TokenKind.TheVariants as token_kind
 use Rattle.mh_misread.specs.declared.name.Name.{Name}
 use Rattle.mh_misread.specs.declared.nearest.Table.{Table}
 use Rattle.mh_misread.specs.declared.nearest.Table.TheVariants as table

@@ -6,13 +6,11 @@
 //! `mh_group`, so that a row more in these needs no text here.
 #![tactic(auto)]
 
-mod alike;
 mod cause;
 mod found;
 mod gap;
 pub mod goal;
 mod key_word;
-mod likeness;
 mod limits;
 mod mend;
 pub mod misread;
@@ -24,7 +22,6 @@ mod phrases;
 mod piece;
 mod resuming;
 pub mod slip;
-mod slip_mend;
 mod span;
 mod stack;
 mod syntax;
@@ -35,8 +32,8 @@ mod words;
 
 pub use cause::put_cause;
 pub use found::put_hex_byte;
-pub use likeness::is_like;
 pub use mend::put_mend;
 pub use misread::{Misread, misread_of};
 pub use mistake::{Mistake, mistakes};
+pub use nearest::likeness::is_like;
 pub use resuming::text_from;

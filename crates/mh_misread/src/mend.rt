@@ -2,18 +2,18 @@
 ghost use Rattle.std.specs.Prelude.{◌≡◌, ◌++◌, OnOk};
 ghost use Rattle.mh_misread.specs.Mending.{name_mend, key_mend, fields_mend, events_mend, plain_mend, is_event_shape, is_event_part, event_mend, wanted_mend, unknown_mend, open_mend, is_in_reference, row_for, closing, closing_mend, not_taken_mend, lacks_mend, unwanted_mend, range_mend, mend};
 
-use crate::alike::{name_found, put_alike_for};
 use crate::found::{put_marked, put_written};
 use crate::goal::Goal;
 use crate::limits::limits_of;
 use crate::misread::Misread;
 use crate::name::Name;
+use crate::nearest::alike::{name_found, put_alike_for};
 use crate::part::{Part, Row, part_at};
 use crate::phrases::{
     BARE_NAME_MEND, BEHIND_MEND, BEHIND_STRING_MEND, ONE_OF_EVENTS, ONE_OF_FIELDS, TAKE_AWAY_OR,
     TIGHT_MEND, TWICE_MEND, WHERE_IT_ENDS, WRITE_ITS,
 };
-use crate::slip_mend::put_slip_mend;
+use crate::slip::mend::put_slip_mend;
 use crate::span::behind;
 use crate::wanted::{
     put_classes_taking, put_event_words, put_field_row, put_fields_of, put_row_written, put_wanted,

@@ -1,4 +1,7 @@
 //! `Slip`: what is wrong at a place where no token begins.
+
+pub(crate) mod mend;
+
 ghost use Rattle.std.specs.Prelude.{◌≡◌, ◌≤◌, length};
 ghost use Rattle.std.specs.List.{prefix_len};
 ghost use Rattle.mh_text.specs.Bytes.{is_text_byte, is_quoted_byte};

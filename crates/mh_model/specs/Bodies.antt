@@ -8,9 +8,9 @@ use Rattle.mh_group.specs.declared.action_name.ActionName.TheVariants as action
 use Rattle.mh_group.specs.declared.attribute.Attribute.{Attribute}
 use Rattle.mh_group.specs.declared.attribute.Attribute.TheVariants as attribute
 use Rattle.mh_group.specs.Table.{has_content, is_token_group}
-use Rattle.mh_model.specs.declared.drawing.Drawing.{Drawing}
-use Rattle.mh_model.specs.declared.drawing.Figure.{Figure}
-use Rattle.mh_model.specs.declared.drawing.Figure.TheVariants as figure
+use Rattle.mh_model.specs.declared.picture.drawing.Drawing.{Drawing}
+use Rattle.mh_model.specs.declared.picture.drawing.Figure.{Figure}
+use Rattle.mh_model.specs.declared.picture.drawing.Figure.TheVariants as figure
 use Rattle.mh_model.specs.declared.held.Held.{Held}
 use Rattle.mh_model.specs.declared.held.Held.TheVariants as of
 use Rattle.mh_model.specs.declared.object.Body.{Body}

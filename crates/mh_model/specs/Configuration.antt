@@ -85,10 +85,6 @@ is_among cs c = list_any (same_config c) cs
 abbrev pub names : (Class → Bool) → Service → List (List ℕ)
 names is_class s = filter (is_group_of is_class s) (map (λ e. e.0) s.groups)
 
--- there is one application at most, and one scene
-abbrev pub is_single : Service → Bool
-is_single s = nat_le (length (names is_application s)) 1 && nat_le (length (names is_scene s)) 1
-
 abbrev pub with_scenes : List (List ℕ) → List ℕ → List Config
 with_scenes scenes app = record { app = app; scene = None } ∷ map (λ g. record { app = app; scene = Some g }) scenes
 

@@ -6,12 +6,12 @@ use Rattle.std.specs.Int.{int_div_euclid}
 use Rattle.std.specs.Int.RustNames.{unsigned_abs}
 use Rattle.std.specs.Ordering.{int_eq}
 use Rattle.mh_base.specs.declared.area.Area.{Area}
-use Rattle.mh_model.specs.declared.drawing.Drawing.{Drawing}
-use Rattle.mh_model.specs.declared.drawing.Figure.{Figure}
-use Rattle.mh_model.specs.declared.drawing.Figure.TheVariants as figure
-use Rattle.mh_model.specs.declared.drawing.Point.{Point}
-use Rattle.mh_model.specs.declared.drawing.Spot.{Spot}
-use Rattle.mh_model.specs.declared.drawing.Stroke.{Stroke}
+use Rattle.mh_model.specs.declared.picture.drawing.Drawing.{Drawing}
+use Rattle.mh_model.specs.declared.picture.drawing.Figure.{Figure}
+use Rattle.mh_model.specs.declared.picture.drawing.Figure.TheVariants as figure
+use Rattle.mh_model.specs.declared.picture.drawing.Point.{Point}
+use Rattle.mh_model.specs.declared.picture.drawing.Spot.{Spot}
+use Rattle.mh_model.specs.declared.picture.drawing.Stroke.{Stroke}
 use Rattle.mh_model.specs.Boxes.{column_of, row_of, x_of, y_of, box_back}
 
 -- how far the last cell is from the first one, to the right and downwards

@@ -1,8 +1,11 @@
 -- The keys: their numbers, and which of them a register lets through.
-use Rattle.std.specs.Prelude.{Bool, true, false, not, if◌then◌else◌, ℤ, pos}
+use Rattle.std.specs.Prelude.{Bool, true, false, not, if◌then◌else◌, ℤ, pos, List, [], ◌∷◌}
 use Rattle.std.specs.Ordering.{int_eq}
 use Rattle.mh_model.specs.declared.key.Key.{Key}
 use Rattle.mh_model.specs.declared.key.Key.TheVariants.{Up, Down, Left, Right, Digit0, Digit1, Digit2, Digit3, Digit4, Digit5, Digit6, Digit7, Digit8, Digit9, Select, Cancel, Red, Green, Yellow, Blue, Text}
+
+abbrev pub keys : List Key
+keys = Up ∷ Down ∷ Left ∷ Right ∷ Digit0 ∷ Digit1 ∷ Digit2 ∷ Digit3 ∷ Digit4 ∷ Digit5 ∷ Digit6 ∷ Digit7 ∷ Digit8 ∷ Digit9 ∷ Select ∷ Cancel ∷ Red ∷ Green ∷ Yellow ∷ Blue ∷ Text ∷ []
 
 -- the number of a key, which is the data of its event
 abbrev pub key_number : Key → ℤ

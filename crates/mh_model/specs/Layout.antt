@@ -4,8 +4,8 @@ use Rattle.std.specs.List.{flat_map}
 use Rattle.mh_base.specs.declared.area.Area.{Area}
 use Rattle.mh_group.specs.declared.justification.Justification.{Justification}
 use Rattle.mh_group.specs.declared.justification.Justification.TheVariants as justification
-use Rattle.mh_model.specs.declared.line.Line.{Line}
-use Rattle.mh_model.specs.declared.line.Form.{Form}
+use Rattle.mh_model.specs.declared.picture.line.Line.{Line}
+use Rattle.mh_model.specs.declared.picture.line.Form.{Form}
 use Rattle.mh_model.specs.Boxes.{columns_of, rows_of, first_column, first_row}
 use Rattle.mh_model.specs.Lines.{paragraphs, lines_of}
 use Rattle.mh_model.specs.Scalars.{scalars_of}

@@ -4,8 +4,8 @@ use Rattle.std.specs.List.{list_any}
 use Rattle.mh_base.specs.declared.obj_ref.ObjRef.{ObjRef}
 use Rattle.mh_group.specs.declared.attribute.Attribute.TheVariants as attribute
 use Rattle.mh_group.specs.Table.{is_list_group}
-use Rattle.mh_model.specs.declared.listing.Entry.{Entry}
-use Rattle.mh_model.specs.declared.member.Member.{Member}
+use Rattle.mh_model.specs.declared.object.listing.Entry.{Entry}
+use Rattle.mh_model.specs.declared.object.member.Member.{Member}
 use Rattle.mh_model.specs.declared.object.Fixed.{Fixed}
 use Rattle.mh_model.specs.Listed.{Listed}
 use Rattle.mh_model.specs.Property.{held, as_members}

@@ -15,7 +15,7 @@ use Rattle.mh_group.specs.declared.written.Position.{Position}
 use Rattle.mh_group.specs.Same.{are_same}
 use Rattle.mh_model.specs.declared.item.Item.{Item}
 use Rattle.mh_model.specs.declared.item.Item.TheVariants as item
-use Rattle.mh_model.specs.declared.listing.Entry.{Entry}
+use Rattle.mh_model.specs.declared.object.listing.Entry.{Entry}
 use Rattle.mh_model.specs.declared.object.Body.{Body}
 use Rattle.mh_model.specs.declared.object.Fixed.{Fixed}
 use Rattle.mh_model.specs.Listed.{Listed}

@@ -1,6 +1,6 @@
 -- Three planes of as many numbers as the picture has cells.
 use Rattle.std.specs.Prelude.{◌≡◌, ℕ, List, length, replicate, slice_set}
-use Rattle.mh_model.specs.declared.cell.Cell.{Cell}
+use Rattle.mh_model.specs.declared.picture.cell.Cell.{Cell}
 
 -- the characters, their colours and the colours behind them, row by row
 pub record Planes : Type 0 where

@@ -29,6 +29,31 @@ pub enum Key {
     Text,
 }
 
+/// All keys.
+pub const KEYS: [Key; 21] = [
+    Key::Up,
+    Key::Down,
+    Key::Left,
+    Key::Right,
+    Key::Digit0,
+    Key::Digit1,
+    Key::Digit2,
+    Key::Digit3,
+    Key::Digit4,
+    Key::Digit5,
+    Key::Digit6,
+    Key::Digit7,
+    Key::Digit8,
+    Key::Digit9,
+    Key::Select,
+    Key::Cancel,
+    Key::Red,
+    Key::Green,
+    Key::Yellow,
+    Key::Blue,
+    Key::Text,
+];
+
 impl Key {
     /// The number of the key, which is the data of its event.
     pub fn number(self) -> i32

@@ -6,10 +6,10 @@ ghost use Rattle.std.specs.Prelude.{◌≡◌, IfOk, None};
 ghost use Rattle.std.specs.Option.{option_copied};
 ghost use Rattle.mh_model.specs.Faults as spec;
 
+use crate::wrong::arguments::{arguments, timer};
+use crate::wrong::calls::called;
+use crate::wrong::objects::target;
 use crate::wrong::{Rank, Wrong};
-use crate::wrong_arguments::{arguments, timer};
-use crate::wrong_calls::called;
-use crate::wrong_objects::target;
 use crate::{Act, Fault, FaultKind, Param, Reason};
 use mh_base::ObjRef;
 use mh_group::{ActionName, Class};

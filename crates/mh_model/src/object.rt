@@ -1,4 +1,9 @@
 //! Objects of the machine: what their files say of them, and what has changed.
+
+pub mod listing;
+pub mod member;
+pub mod shared_group;
+
 ghost use Rattle.std.specs.Prelude.{◌≡◌, ◌==◌, ◌&&◌, IfOk, [], Some, None};
 ghost use Rattle.std.specs.Option.{option_copied};
 ghost use Rattle.mh_model.specs.Property.{read, value_held};

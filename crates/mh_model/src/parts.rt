@@ -4,10 +4,12 @@ ghost use Rattle.std.specs.Option.{option_copied};
 ghost use Rattle.mh_model.specs.Service.{part_at};
 ghost use Rattle.mh_model.specs.Reference.{same_ref, group_ref};
 ghost use Rattle.mh_model.specs.Property.{held, as_effect};
+ghost use Rattle.mh_model.specs.Groups.{is_initially_active, is_shared};
+ghost use Rattle.mh_model.specs.Tokens.{members as members_lem};
 ghost use Rattle.mh_model.specs.Faults.{is_transition};
 
-use crate::held::as_effect;
-use crate::{Act, Fixed, FixedPart};
+use crate::held::{as_bool, as_effect, as_members};
+use crate::{Act, Fixed, FixedPart, Member};
 use mh_base::{GroupName, ObjRef};
 use mh_group::{ActionName, Attribute};
 use std::alloc::AllocError;
@@ -56,6 +58,27 @@ pub fn effect_of(part: &Fixed, attribute: Attribute) -> &[Act]
     ensures { result.now ≡ as_effect (held attribute part.now.properties) }
 {
     as_effect(part.properties.get(attribute))
+}
+
+/// The members of a group of objects; none of any other object.
+pub fn members(part: &Fixed) -> &[Member]
+    ensures { result.now ≡ members_lem part.now }
+{
+    as_members(part.properties.get(Attribute::TokenGroupItems))
+}
+
+/// Whether the object runs as soon as its group is active.
+pub fn is_initially_active(part: &Fixed) -> bool
+    ensures { result ≡ is_initially_active part.now }
+{
+    part.class.is_runnable() && as_bool(part.properties.get(Attribute::InitiallyActive), true)
+}
+
+/// Whether the object of an application goes on where a scene is left.
+pub fn is_shared(part: &Fixed) -> bool
+    ensures { result ≡ is_shared part.now }
+{
+    as_bool(part.properties.get(Attribute::Shared), false)
 }
 
 /// Whether the action leads to a group, a scene or an application.

@@ -1,4 +1,10 @@
 //! `Picture`: what is shown, cell by cell, in three planes of numbers.
+
+pub mod boxes;
+pub mod cell;
+pub mod drawing;
+pub mod line;
+
 ghost use Rattle.std.specs.Prelude.{◌≡◌, ◌<◌, IfOk, length, slice_index, slice_set, ◌∷◌, [], replicate, vec_len};
 ghost use Rattle.mh_model.specs.Planes.{IsWhole, blank, flat};
 ghost use Rattle.mh_model.specs.Picture.{cell_of};

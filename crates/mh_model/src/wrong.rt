@@ -2,6 +2,12 @@
 //!
 //! Promise: whoever judges gives each reason a rank, or none, which passes it over; the first of the lowest
 //! rank is named. Nothing is copied until it is known which that is.
+
+pub(crate) mod arguments;
+pub(crate) mod calls;
+pub(crate) mod fit;
+pub(crate) mod objects;
+
 ghost use Rattle.std.specs.Prelude.{◌≡◌};
 ghost use Rattle.std.specs.Option.{option_copied};
 ghost use Rattle.mh_model.specs.Faults as spec;

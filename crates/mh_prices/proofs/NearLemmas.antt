@@ -16,7 +16,7 @@ use Rattle.mh_group.specs.Table.{has_content, is_link, is_list_group, is_runnabl
 use Rattle.mh_base.specs.declared.value.Kind.{Kind}
 use Rattle.mh_model.specs.declared.act.Argument.{Argument}
 use Rattle.mh_model.specs.declared.act.Argument.TheVariants as argument
-use Rattle.mh_model.specs.declared.member.Member.{Member}
+use Rattle.mh_model.specs.declared.object.member.Member.{Member}
 use Rattle.mh_model.specs.declared.object.Fixed.{Fixed}
 use Rattle.mh_model.specs.Faults.{is_transition}
 use Rattle.mh_model.specs.Groups.{is_initially_active, is_shared}

@@ -14,21 +14,8 @@ ghost use Rattle.mh_prices.specs.Meter.{Adds};
 use crate::life::{halt, run};
 use crate::view::{Groups, Lists};
 use mh_base::{EventType, GroupName};
-use mh_group::Attribute;
-use mh_model::held::as_bool;
+use mh_model::parts::{is_initially_active, is_shared};
 use mh_model::{Fixed, FixedPart};
-
-fn is_initially_active(part: &Fixed) -> bool
-    ensures { result ≡ groups.is_initially_active part.now }
-{
-    part.class.is_runnable() && as_bool(part.properties.get(Attribute::InitiallyActive), true)
-}
-
-fn is_shared(part: &Fixed) -> bool
-    ensures { result ≡ groups.is_shared part.now }
-{
-    as_bool(part.properties.get(Attribute::Shared), false)
-}
 
 /// What is active at first of these runs.
 fn all_run<L: Lists>(lists: &L, parts: &[FixedPart], sum: L::Sum) -> Result<L::Sum, L::Stop>

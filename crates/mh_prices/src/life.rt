@@ -4,8 +4,7 @@
 ghost use Rattle.std.specs.Option.{option_map_or};
 ghost use Rattle.mh_laws.specs.Price.{Nothing, sum_price};
 ghost use Rattle.mh_laws.specs.View as spec;
-ghost use Rattle.mh_model.specs.Tokens as tokens;
-ghost use Rattle.mh_model.specs.declared.member.Member.{Member as MemberLem};
+ghost use Rattle.mh_model.specs.declared.object.member.Member.{Member as MemberLem};
 ghost use Rattle.mh_model.specs.declared.object.Fixed.{Fixed as FixedLem};
 ghost use Rattle.mh_prices.specs.Meter.{Adds};
 ghost use Rattle.std.specs.Prelude.{◌≡◌};
@@ -13,8 +12,8 @@ ghost use Rattle.std.specs.Prelude.{◌≡◌};
 use crate::told::Told;
 use crate::view::{Lists, View};
 use mh_base::{EventType, ObjRef, Value};
-use mh_group::{Attribute, Class};
-use mh_model::held::as_members;
+use mh_group::Class;
+use mh_model::parts::members;
 use mh_model::{Fixed, Member};
 
 /// An object emits an event, of whose data this is known.
@@ -152,12 +151,6 @@ pub fn change<V: View>(view: &V, at: &ObjRef, sum: V::Sum) -> Result<V::Sum, V::
     let sum = emit(view, at, EventType::LastItemPresented, &unsure, sum)?;
     let sum = emit(view, at, EventType::HeadItems, &unsure, sum)?;
     emit(view, at, EventType::TailItems, &unsure, sum)
-}
-
-fn members(part: &Fixed) -> &[Member]
-    ensures { result.now ≡ tokens.members part.now }
-{
-    as_members(part.properties.get(Attribute::TokenGroupItems))
 }
 
 /// A group of objects runs its members, and its token is at the first.

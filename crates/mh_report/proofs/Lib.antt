@@ -1,5 +1,4 @@
 pub mod SinkLemmas
-pub mod SourceLemmas
 pub mod ChangeLemmas
 pub mod PostLemmas
 pub mod PresetLemmas

@@ -1,5 +1,4 @@
 pub mod Sink
-pub mod Source
 pub mod Report
 pub mod Reading
 pub mod Presets

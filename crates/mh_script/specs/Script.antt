@@ -12,6 +12,7 @@ use Rattle.mh_codec.specs.Tags.{Tags}
 use Rattle.mh_group.specs.declared.written.Written.{Written}
 use Rattle.mh_model.specs.Late.{written_at}
 use Rattle.mh_model.specs.declared.input.Input.TheVariants as input
+use Rattle.mh_model.specs.Key.{keys}
 use Rattle.mh_model.specs.declared.key.Key.{Key}
 use Rattle.mh_model.specs.declared.key.Key.TheVariants.{Up, Down, Left, Right, Digit0, Digit1, Digit2, Digit3, Digit4, Digit5, Digit6, Digit7, Digit8, Digit9, Select, Cancel, Red, Green, Yellow, Blue, Text}
 use Rattle.mh_service.specs.Refusals.{File}
@@ -60,9 +61,6 @@ key_name Green = codes "green"
 key_name Yellow = codes "yellow"
 key_name Blue = codes "blue"
 key_name Text = codes "text"
-
-abbrev pub keys : List Key
-keys = Up ∷ Down ∷ Left ∷ Right ∷ Digit0 ∷ Digit1 ∷ Digit2 ∷ Digit3 ∷ Digit4 ∷ Digit5 ∷ Digit6 ∷ Digit7 ∷ Digit8 ∷ Digit9 ∷ Select ∷ Cancel ∷ Red ∷ Green ∷ Yellow ∷ Blue ∷ Text ∷ []
 
 -- the key with this name, if there is one
 abbrev pub key_named : List ℕ → Option Key

@@ -4,33 +4,8 @@ ghost use Rattle.mh_script.specs.Script.{key_name, key_named, integer_of, with_d
 
 use hex::FromHexError;
 use mh_base::Octets;
-use mh_model::Key;
+use mh_model::{KEYS, Key};
 use std::alloc::{AllocError, Global};
-
-/// All keys.
-const KEYS: [Key; 21] = [
-    Key::Up,
-    Key::Down,
-    Key::Left,
-    Key::Right,
-    Key::Digit0,
-    Key::Digit1,
-    Key::Digit2,
-    Key::Digit3,
-    Key::Digit4,
-    Key::Digit5,
-    Key::Digit6,
-    Key::Digit7,
-    Key::Digit8,
-    Key::Digit9,
-    Key::Select,
-    Key::Cancel,
-    Key::Red,
-    Key::Green,
-    Key::Yellow,
-    Key::Blue,
-    Key::Text,
-];
 
 /// The key that a script calls so, if there is one.
 pub fn key_named(name: &[u8]) -> Option<Key>

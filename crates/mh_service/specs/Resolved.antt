@@ -41,7 +41,7 @@ use Rattle.mh_model.specs.declared.act.Target.TheVariants as target
 use Rattle.mh_model.specs.declared.held.Held.{Held}
 use Rattle.mh_model.specs.declared.held.Held.TheVariants as held
 use Rattle.mh_model.specs.declared.held.Property.{Property}
-use Rattle.mh_model.specs.declared.member.Member.{Member as HeldMember}
+use Rattle.mh_model.specs.declared.object.member.Member.{Member as HeldMember}
 use Rattle.mh_model.specs.declared.object.Fixed.{Fixed}
 
 -- References. A number alone is an object of the group in which it is written.

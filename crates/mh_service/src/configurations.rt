@@ -4,7 +4,7 @@
 //! of the groups. Which of them are reached is left to `mh_flow`.
 ghost use Rattle.std.specs.Prelude.{◌≡◌, ◌++◌, true, false, None, Some, IfOk, OnOk, map, length, nat_le};
 ghost use Rattle.mh_group.specs.Table.{is_scene, is_application};
-ghost use Rattle.mh_model.specs.Configuration.{configurations, names as names_lem, is_single, with_scenes, is_group_of, is_service, same_config};
+ghost use Rattle.mh_model.specs.Configuration.{configurations, names as names_lem, with_scenes, is_group_of, is_service, same_config};
 ghost use Rattle.mh_model.specs.Service.{part_at};
 ghost use Rattle.mh_model.specs.Reference.{group_ref, same_ref};
 ghost use Rattle.std.specs.List.{flat_map, IsDistinct};
@@ -47,27 +47,6 @@ impl Service {
         let scenes = self.names(alloc, Wanted::Scenes)?;
         let configs = all_with_scenes(alloc, applications.as_slice(), scenes.as_slice())?;
         Ok(configs)
-    }
-
-    /// Whether there is one application at most, and one scene.
-    pub fn is_single(&self) -> bool
-        ensures { result ≡ is_single self.now }
-    {
-        self.has_one_at_most(Wanted::Applications) && self.has_one_at_most(Wanted::Scenes)
-    }
-
-    fn has_one_at_most(&self, wanted: Wanted) -> bool
-        ensures { result ≡ nat_le (length (names_lem (is_wanted wanted) self.now)) 1 }
-    {
-        let mut one = false;
-        let mut several = false;
-        for name in self.groups().keys() {
-            if self.is_of(name, wanted) {
-                several = several || one;
-                one = true;
-            }
-        }
-        !several
     }
 
     /// Whether a group of this name is an application.

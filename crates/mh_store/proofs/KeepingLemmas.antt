@@ -9,7 +9,7 @@ use Rattle.mh_group.specs.Table.{attribute_number}
 use Rattle.mh_model.specs.declared.held.Held.{Held}
 use Rattle.mh_model.specs.declared.edit.Edit.{Edit}
 use Rattle.mh_model.specs.declared.edit.Edit.TheVariants as edit
-use Rattle.mh_model.specs.declared.line.Line.{Line}
+use Rattle.mh_model.specs.declared.picture.line.Line.{Line}
 use Rattle.mh_model.specs.declared.object.Body.{Body}
 use Rattle.mh_model.specs.declared.object.Fixed.{Fixed}
 use Rattle.mh_model.specs.declared.object.Object.{Object}

@@ -4,8 +4,8 @@ use Rattle.std.proofs.Common.{inl, inr, ap, ◌∙◌, sym, subst, append_assoc,
 use Rattle.std.proofs.lemmas.Bool.{le-leb, lt-leb}
 use Rattle.std.proofs.lemmas.Bool.Decides.{eqb_tells}
 use Rattle.std.proofs.lemmas.List.{length-drop, get_or-drop, take-append-le}
-use Rattle.mh_model.specs.declared.line.Line.{Line}
-use Rattle.mh_model.specs.declared.line.Form.{Form}
+use Rattle.mh_model.specs.declared.picture.line.Line.{Line}
+use Rattle.mh_model.specs.declared.picture.line.Form.{Form}
 use Rattle.mh_model.specs.Layout.{placed}
 use Rattle.mh_model.specs.Lines.{last_space, cut_at, next_at, lines_in, lines_of}
 

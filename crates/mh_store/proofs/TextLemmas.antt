@@ -4,8 +4,8 @@ use Rattle.std.specs.List.{flat_map, position, position_or_len, slice_split}
 use Rattle.std.proofs.Common.{ap, ◌∙◌, sym, subst, append-nil, append_assoc, add-one}
 use Rattle.std.proofs.lemmas.List.{map-append, take-append-le}
 use Rattle.mh_base.proofs.PathLemmas.{position-some, position-none, slice_split-cut, slice_split-uncut}
-use Rattle.mh_model.specs.declared.line.Line.{Line}
-use Rattle.mh_model.specs.declared.line.Form.{Form}
+use Rattle.mh_model.specs.declared.picture.line.Line.{Line}
+use Rattle.mh_model.specs.declared.picture.line.Form.{Form}
 use Rattle.mh_model.specs.Lines.{paragraphs}
 use Rattle.mh_model.specs.Layout.{placed, lines_in_form, text_lines}
 

@@ -11,8 +11,8 @@ use crate::layout::lay_out;
 use crate::looks::{area_of, is_push_button, justification, shown_text, wraps};
 use mh_base::{Area, Octets, Seq};
 use mh_group::Attribute;
-use mh_model::boxes::{columns_of, rows_of};
 use mh_model::held::as_pair;
+use mh_model::picture::boxes::{columns_of, rows_of};
 use mh_model::{Edit, Held, Line, Object};
 use std::alloc::{AllocError, Global};
 

@@ -6,7 +6,7 @@ use crate::scalars::scalars_of;
 use crate::wrapping::lines_of_text;
 use mh_base::Area;
 use mh_group::Justification;
-use mh_model::boxes::{columns_of, rows_of};
+use mh_model::picture::boxes::{columns_of, rows_of};
 use mh_model::{Form, Line};
 use std::alloc::{AllocError, Global};
 

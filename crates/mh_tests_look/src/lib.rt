@@ -10,13 +10,9 @@ mod examples;
 #[cfg(test)]
 mod lint;
 #[cfg(test)]
-mod lint_planted;
-#[cfg(test)]
 mod looking;
 #[cfg(test)]
 mod misread;
-#[cfg(test)]
-mod misread_further;
 #[cfg(test)]
 mod painting;
 #[cfg(test)]
@@ -27,29 +23,3 @@ mod places;
 mod reading;
 #[cfg(test)]
 mod why;
-#[cfg(test)]
-mod why_absent;
-#[cfg(test)]
-mod why_bounds;
-#[cfg(test)]
-mod why_calls;
-#[cfg(test)]
-mod why_classes;
-#[cfg(test)]
-mod why_files;
-#[cfg(test)]
-mod why_folders;
-#[cfg(test)]
-mod why_kinds;
-#[cfg(test)]
-mod why_large;
-#[cfg(test)]
-mod why_plays;
-#[cfg(test)]
-mod why_refusals;
-#[cfg(test)]
-mod why_scripts;
-#[cfg(test)]
-mod why_tags;
-#[cfg(test)]
-mod why_verdict;

@@ -3,9 +3,10 @@
 use bstr::ByteSlice;
 use mh_look::{
     Adler, Crc, Difference, Report, compare, compared, frame_at, image_of, is_inked, page_of,
-    put_escaped, put_frame, put_report, read_report,
+    put_escaped, put_report, read_report,
 };
 use mh_model::Picture;
+use mh_terminal::put_frame;
 use mh_told::text::Text;
 use std::alloc::Global;
 

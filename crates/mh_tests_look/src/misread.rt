@@ -1,6 +1,9 @@
 //! Texts that are not read, each with what is told of it, word for word: a case for each thing that can be wrong.
 //!
 //! A case is one of those of `why`.
+
+mod further;
+
 use crate::cases::all_hold;
 use crate::why::Explained;
 

@@ -3,6 +3,22 @@
 //!
 //! A case is a block of lines as those of `playing`: what it shows, what is done, and the files; the answer is
 //! what is explained of what is written.
+
+mod absent;
+mod bounds;
+mod calls;
+mod classes;
+mod files;
+mod folders;
+mod kinds;
+mod large;
+mod plays;
+mod refusals;
+mod scripts;
+mod statuses;
+mod tags;
+mod verdict;
+
 use crate::cases::all_hold;
 use mh_flow::Link;
 use mh_layers::Arrow;

@@ -5,7 +5,7 @@ use Rattle.mh_base.specs.Reading.{Rest, whole}
 use Rattle.mh_text.specs.declared.sign.Sign.{Sign}
 use Rattle.mh_text.specs.declared.sign.Sign.TheVariants as sign
 use Rattle.mh_text.specs.declared.text_error.Why.{Why}
-use Rattle.mh_text.specs.declared.token_kind.TokenKind.{TokenKind}
+use Rattle.mh_text.specs.declared.token.kind.TokenKind.{TokenKind}
 use Rattle.mh_text.specs.Signs.{sign_of}
 use Rattle.mh_text.specs.Words.{needs_gap}
 use Rattle.mh_text.specs.Rest.{Left, Piece, piece, bad_at}

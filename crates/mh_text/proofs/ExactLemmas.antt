@@ -5,8 +5,8 @@ use Rattle.std.proofs.Math.Seq.{take-append_seam, drop-append_seam}
 use Rattle.std.proofs.lemmas.Bool.Decides.{nat_tests}
 use Rattle.std.proofs.lemmas.Bool.{and_parts, or_parts}
 use Rattle.mh_base.specs.Reading.{Rest}
-use Rattle.mh_text.specs.declared.token_kind.TokenKind.{TokenKind}
-use Rattle.mh_text.specs.declared.token_kind.TokenKind.TheVariants as kind
+use Rattle.mh_text.specs.declared.token.kind.TokenKind.{TokenKind}
+use Rattle.mh_text.specs.declared.token.kind.TokenKind.TheVariants as kind
 use Rattle.mh_text.specs.Bytes.{is_letter, is_digit, is_letter_or_digit, is_hexadecimal, is_text_byte, is_quoted_byte, begins_with}
 use Rattle.mh_text.specs.Lexing.{gap_length, is_escaped, number_length, keyword_length, text_length, quoted_length, behind_first, number_or_word, bare_token_at, token_at}
 use Rattle.mh_text.specs.Left.{finished, token, cut, lexed_at, lexed}

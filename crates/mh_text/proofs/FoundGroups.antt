@@ -15,7 +15,7 @@ use Rattle.mh_group.specs.Words.{class_word, attribute_word}
 use Rattle.mh_group.proofs.ShapeLemmas.{items_shape}
 use Rattle.mh_group.specs.Table.{shape_of, takes, is_group_class, is_items_shape}
 use Rattle.mh_group.specs.Fit.{has_attribute}
-use Rattle.mh_text.specs.declared.token_kind.TokenKind.TheVariants as kind
+use Rattle.mh_text.specs.declared.token.kind.TokenKind.TheVariants as kind
 use Rattle.mh_text.specs.declared.sign.Sign.{Sign}
 use Rattle.mh_text.specs.declared.sign.Sign.TheVariants as sign
 use Rattle.mh_text.specs.declared.text_error.Why.TheVariants as why

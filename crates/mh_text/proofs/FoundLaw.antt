@@ -5,8 +5,8 @@ use Rattle.mh_base.specs.Reading.{Rest, whole}
 use Rattle.mh_base.specs.Limits.{largest_file}
 use Rattle.mh_base.proofs.ReadingLemmas.{went, if_not_ok, ok_same, is_file}
 use Rattle.mh_group.specs.declared.written.Written.{Written as Group}
-use Rattle.mh_text.specs.declared.token_kind.TokenKind.{TokenKind}
-use Rattle.mh_text.specs.declared.token_kind.TokenKind.TheVariants as kind
+use Rattle.mh_text.specs.declared.token.kind.TokenKind.{TokenKind}
+use Rattle.mh_text.specs.declared.token.kind.TokenKind.TheVariants as kind
 use Rattle.mh_text.specs.declared.sign.Sign.{Sign}
 use Rattle.mh_text.specs.declared.sign.Sign.TheVariants as sign
 use Rattle.mh_text.specs.declared.text_error.Why.{Why}

@@ -17,7 +17,7 @@ use Rattle.mh_group.specs.declared.action.EventData.{EventData}
 use Rattle.mh_group.specs.Holdable.{colour_octets}
 use Rattle.mh_group.specs.Words.{event_word, justification_word}
 use Rattle.mh_group.specs.Fit.{is_field_length}
-use Rattle.mh_text.specs.declared.token_kind.TokenKind.TheVariants as kind
+use Rattle.mh_text.specs.declared.token.kind.TokenKind.TheVariants as kind
 use Rattle.mh_text.specs.declared.sign.Sign.{Sign}
 use Rattle.mh_text.specs.declared.sign.Sign.TheVariants as sign
 use Rattle.mh_text.specs.declared.text_error.Why.{Why}

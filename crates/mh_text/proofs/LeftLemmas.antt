@@ -1,10 +1,10 @@
 -- What is left in a text, token by token.
 use Rattle.std.proofs.Common.{◌≡◌, ℕ, zero, suc, ◌+◌, ◌<◌, Bool, true, false, ◌==◌, if◌then◌else◌, List, [], ◌∷◌, length, drop, Option, Some, None, IfSome, Result, Ok, Err, refl, ap, ◌∙◌, arith, length-drop}
-use Rattle.mh_text.specs.declared.token_kind.TokenKind.{TokenKind}
+use Rattle.mh_text.specs.declared.token.kind.TokenKind.{TokenKind}
 use Rattle.std.specs.List.{prefix_len}
 use Rattle.std.proofs.lemmas.Bool.Decides.{nat_tests}
 use Rattle.mh_base.specs.Reading.{Rest, refused}
-use Rattle.mh_text.specs.declared.token_kind.TokenKind.TheVariants.{Word}
+use Rattle.mh_text.specs.declared.token.kind.TokenKind.TheVariants.{Word}
 use Rattle.mh_text.specs.Bytes.{is_digit, is_letter}
 use Rattle.mh_text.specs.Lexing.{gap_length, token_at, bare_token_at, number_length, behind_first, number_or_word}
 use Rattle.mh_text.specs.Signs.{sign_of}

@@ -16,7 +16,7 @@ use Rattle.mh_group.proofs.MisfitLemmas.{if_no_none, or_none, AreRight, are_righ
 use Rattle.mh_group.proofs.ShapeLemmas.{items_unfit}
 use Rattle.mh_group.specs.Table.{attribute_number, shape_of, takes, is_group_class, is_items_shape}
 use Rattle.mh_group.specs.Fit.{fits, has_required, ingredient_misfit, ingredients_misfit, written_items, is_group, has_attribute}
-use Rattle.mh_text.specs.declared.token_kind.TokenKind.TheVariants as kind
+use Rattle.mh_text.specs.declared.token.kind.TokenKind.TheVariants as kind
 use Rattle.mh_text.specs.declared.sign.Sign.{Sign}
 use Rattle.mh_text.specs.declared.sign.Sign.TheVariants as sign
 use Rattle.mh_text.specs.declared.text_error.Why.TheVariants as why

@@ -16,8 +16,8 @@ use Rattle.mh_group.specs.declared.action.EventData.{EventData}
 use Rattle.mh_group.specs.declared.action.EventData.TheVariants as of_data
 use Rattle.mh_group.specs.Holdable.{colour_octets}
 use Rattle.mh_group.specs.Words.{event_word, justification_word}
-use Rattle.mh_text.specs.declared.token_kind.TokenKind.{TokenKind}
-use Rattle.mh_text.specs.declared.token_kind.TokenKind.TheVariants as kind
+use Rattle.mh_text.specs.declared.token.kind.TokenKind.{TokenKind}
+use Rattle.mh_text.specs.declared.token.kind.TokenKind.TheVariants as kind
 use Rattle.mh_text.specs.declared.sign.Sign.{Sign}
 use Rattle.mh_text.specs.declared.sign.Sign.TheVariants as sign
 use Rattle.mh_text.specs.declared.octet_text.Escape.TheVariants.{Outside}

@@ -2,8 +2,8 @@
 use Rattle.std.proofs.Common.{◌≡◌, ℕ, List, [], ◌∷◌, map, Option, Some, None, Result, Ok, ap, sym, ◌∙◌, subst}
 use Rattle.mh_base.specs.Reading.{◌>>=◌}
 use Rattle.mh_base.proofs.ReadingLemmas.{went}
-use Rattle.mh_text.specs.declared.token_kind.TokenKind.{TokenKind}
-use Rattle.mh_text.specs.declared.token_kind.TokenKind.TheVariants as kind
+use Rattle.mh_text.specs.declared.token.kind.TokenKind.{TokenKind}
+use Rattle.mh_text.specs.declared.token.kind.TokenKind.TheVariants as kind
 use Rattle.mh_text.specs.declared.sign.Sign.{Sign}
 use Rattle.mh_text.specs.declared.sign.Sign.TheVariants as sign
 use Rattle.mh_text.specs.declared.text_error.Why.{Why}

@@ -29,7 +29,7 @@ use Rattle.mh_group.specs.Holdable.{colour_octets, is_plain, is_integer, is_numb
 use Rattle.mh_group.specs.Words.{class_word, attribute_word, action_word, event_word, justification_word}
 use Rattle.mh_group.specs.Table.{attribute_number, is_group_class}
 use Rattle.mh_group.specs.Fit.{rises_above, is_rising, before_items, is_group, misfit_of, fields_misfit, ingredient_misfit, ingredients_misfit, items_of, written_items}
-use Rattle.mh_text.specs.declared.token_kind.TokenKind.TheVariants as kind
+use Rattle.mh_text.specs.declared.token.kind.TokenKind.TheVariants as kind
 use Rattle.mh_text.specs.Words.{Written}
 use Rattle.mh_text.specs.Words.IsGap.{blank, nothing as no_gap}
 use Rattle.mh_text.specs.Spelling.{IsOpenBrace, IsCloseBrace, IsKeyword, IsInteger, AreOctets, IsTruth, IsRef, IsTyped, IsContent, IsData, IsParameter, IsAction, AreSeveral, IsListOf, IsMember, IsPosition, IsNextScene, IsSetting, IsField, NoneTwice, AreFieldsOf, IsIngredient, IsBody, Spells}

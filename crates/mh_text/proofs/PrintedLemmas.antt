@@ -22,8 +22,8 @@ use Rattle.mh_group.specs.declared.action.Typed.{Typed}
 use Rattle.mh_group.specs.declared.action.Typed.TheVariants as of_typed
 use Rattle.mh_group.specs.Holdable.{is_integer, is_number, is_name, is_octets, is_plain, is_reference, is_generic, is_typed, is_content, is_data, is_list}
 use Rattle.mh_group.specs.Words.{kind_word}
-use Rattle.mh_text.specs.declared.token_kind.TokenKind.{TokenKind}
-use Rattle.mh_text.specs.declared.token_kind.TokenKind.TheVariants as kind
+use Rattle.mh_text.specs.declared.token.kind.TokenKind.{TokenKind}
+use Rattle.mh_text.specs.declared.token.kind.TokenKind.TheVariants as kind
 use Rattle.mh_text.specs.Bytes.{is_digit, is_text_byte, is_quoted_byte, is_hexadecimal, hexadecimal_value, number_behind, negated}
 use Rattle.mh_text.specs.Words.{Quotes, AreDigits, IsWord, needs_gap, Written, AreWords}
 use Rattle.mh_text.specs.Words.IsGap.{blank, nothing as no_gap}

@@ -18,7 +18,7 @@ use Rattle.mh_base.specs.declared.value.Kind.TheVariants as of_kind
 use Rattle.mh_base.specs.Kinds.{kinds}
 use Rattle.mh_group.specs.declared.justification.Justification.{Justification}
 use Rattle.mh_group.specs.declared.justification.Justification.TheVariants as justification
-use Rattle.mh_text.specs.declared.token_kind.TokenKind.TheVariants as kind
+use Rattle.mh_text.specs.declared.token.kind.TokenKind.TheVariants as kind
 use Rattle.mh_text.specs.declared.sign.Sign.{Sign}
 use Rattle.mh_text.specs.declared.sign.Sign.TheVariants as sign
 use Rattle.mh_text.specs.declared.text_error.Why.{Why}

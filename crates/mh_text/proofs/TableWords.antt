@@ -13,7 +13,7 @@ use Rattle.mh_group.specs.declared.action_name.ActionName.TheVariants as action
 use Rattle.mh_group.specs.declared.justification.Justification.{Justification}
 use Rattle.mh_group.specs.declared.justification.Justification.TheVariants as justification
 use Rattle.mh_group.specs.Words.{class_word, attribute_word, action_word, event_word, justification_word}
-use Rattle.mh_text.specs.declared.token_kind.TokenKind.TheVariants.{Keyword, Word}
+use Rattle.mh_text.specs.declared.token.kind.TokenKind.TheVariants.{Keyword, Word}
 use Rattle.mh_text.specs.Bytes.{is_letter, is_letter_or_digit}
 use Rattle.mh_text.specs.Words.{IsWord}
 

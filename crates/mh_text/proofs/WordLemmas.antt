@@ -3,8 +3,8 @@ use Rattle.std.proofs.Common.{◌≡◌, ℕ, ◌+◌, ◌<◌, ◌≢◌, inl, 
 use Rattle.std.specs.List.{list_all, list_any}
 use Rattle.std.proofs.lemmas.Bool.Decides.{nat_tests}
 use Rattle.std.proofs.lemmas.Bool.{and_parts, or_parts}
-use Rattle.mh_text.specs.declared.token_kind.TokenKind.{TokenKind}
-use Rattle.mh_text.specs.declared.token_kind.TokenKind.TheVariants as kind
+use Rattle.mh_text.specs.declared.token.kind.TokenKind.{TokenKind}
+use Rattle.mh_text.specs.declared.token.kind.TokenKind.TheVariants as kind
 use Rattle.mh_text.specs.Bytes.{is_space, is_letter, is_digit, is_letter_or_digit}
 use Rattle.mh_text.specs.Lexing.{gap_length}
 use Rattle.mh_text.specs.Words.{IsLine, IsGap, nothing, blank, comment, IsLastGap, IsWord, needs_gap, Written, AreWords}

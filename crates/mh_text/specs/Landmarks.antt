@@ -8,8 +8,8 @@ use Rattle.mh_text.specs.declared.sign.Sign.{Sign}
 use Rattle.mh_text.specs.declared.sign.Sign.TheVariants as sign
 use Rattle.mh_text.specs.declared.landmark.Sight.{Sight as WrittenSight}
 use Rattle.mh_text.specs.declared.landmark.Sight.TheVariants as written
-use Rattle.mh_text.specs.declared.landmarking.Front.{Front}
-use Rattle.mh_text.specs.declared.landmarking.Front.TheVariants as front
+use Rattle.mh_text.specs.declared.landmark.landmarking.Front.{Front}
+use Rattle.mh_text.specs.declared.landmark.landmarking.Front.TheVariants as front
 use Rattle.mh_text.specs.declared.variables.Coming.{Coming as WrittenComing}
 use Rattle.mh_text.specs.declared.variables.Coming.TheVariants as coming
 use Rattle.mh_text.specs.Rest.{Piece}

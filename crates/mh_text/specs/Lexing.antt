@@ -2,8 +2,8 @@
 -- the token there.
 use Rattle.std.specs.Prelude.{ℕ, ◌+◌, Bool, true, false, ◌&&◌, not, ◌==◌, if◌then◌else◌, List, [], ◌∷◌, take, drop, Option, Some, None}
 use Rattle.std.specs.List.{prefix_len}
-use Rattle.mh_text.specs.declared.token_kind.TokenKind.{TokenKind}
-use Rattle.mh_text.specs.declared.token_kind.TokenKind.TheVariants.{OpenBrace, CloseBrace, OpenParenthesis, CloseParenthesis, Keyword, Word, Integer, Text, Quoted}
+use Rattle.mh_text.specs.declared.token.kind.TokenKind.{TokenKind}
+use Rattle.mh_text.specs.declared.token.kind.TokenKind.TheVariants.{OpenBrace, CloseBrace, OpenParenthesis, CloseParenthesis, Keyword, Word, Integer, Text, Quoted}
 use Rattle.mh_text.specs.declared.lexing.ByteSet.{ByteSet}
 use Rattle.mh_text.specs.declared.lexing.ByteSet.TheVariants as set
 use Rattle.mh_text.specs.Bytes.{is_space, is_letter, is_digit, is_letter_or_digit, is_hexadecimal, is_text_byte, is_quoted_byte, begins_with}

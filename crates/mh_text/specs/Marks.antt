@@ -10,7 +10,7 @@ use Rattle.mh_text.specs.declared.sign.Sign.TheVariants as sign
 use Rattle.mh_text.specs.declared.mark.Mark.{Mark}
 use Rattle.mh_text.specs.declared.mark.Turn.{Turn}
 use Rattle.mh_text.specs.declared.mark.Turn.TheVariants as turn
-use Rattle.mh_text.specs.declared.marking.Spot.{Spot}
+use Rattle.mh_text.specs.declared.mark.marking.Spot.{Spot}
 use Rattle.mh_text.specs.Rest.{Left, Piece}
 use Rattle.mh_text.specs.Left.{left}
 

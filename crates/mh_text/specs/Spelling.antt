@@ -32,8 +32,8 @@ use Rattle.mh_group.specs.Holdable.{colour_octets}
 use Rattle.mh_group.specs.Words.{class_word, attribute_word, action_word, event_word, justification_word, kind_word}
 use Rattle.mh_group.specs.Table.{attribute_number}
 use Rattle.mh_group.specs.Fit.{is_group}
-use Rattle.mh_text.specs.declared.token_kind.TokenKind.{TokenKind}
-use Rattle.mh_text.specs.declared.token_kind.TokenKind.TheVariants as kind
+use Rattle.mh_text.specs.declared.token.kind.TokenKind.{TokenKind}
+use Rattle.mh_text.specs.declared.token.kind.TokenKind.TheVariants as kind
 use Rattle.mh_text.specs.Bytes.{number_behind, negated}
 use Rattle.mh_text.specs.Words.{Written, AreWords, AreDigits, Quotes}
 

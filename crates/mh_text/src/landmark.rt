@@ -1,4 +1,7 @@
 //! `Landmark`: where a class, the number of an ingredient or a name stands in a text.
+
+pub(crate) mod landmarking;
+
 use std::marker::Model;
 
 /// What stands at a landmark.

@@ -1,5 +1,8 @@
 //! `Mark`: where an action or the list of members of an object stands in a text; and which of the marks has
 //! the number by which a report names an action.
+
+pub(crate) mod marking;
+
 ghost use Rattle.std.specs.Prelude.{◌≡◌, ◌<◌, length, slice_get};
 ghost use Rattle.std.specs.List.{filter, find};
 ghost use Rattle.mh_text.specs.Marks.{is_in, is_list_of, is_action_of, actions_of, mark_of};

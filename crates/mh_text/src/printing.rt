@@ -1,4 +1,9 @@
 //! The printer of groups: the group itself, its ingredients and fields.
+
+pub(crate) mod member;
+pub(crate) mod printable;
+pub(crate) mod value;
+
 ghost use Rattle.std.specs.Prelude.{◌≡◌, ◌≢◌, ◌++◌, ◌&&◌, true, false, IfOk, OnOk, IfErr};
 ghost use Rattle.mh_group.specs.Holdable.{is_list, has_settings, is_ingredient, is_holdable};
 ghost use Rattle.mh_group.specs.Fit.{written_items};
@@ -7,8 +12,10 @@ ghost use Rattle.mh_text.specs.Spelling.{Spells};
 ghost use Rattle.mh_text.specs.Printed.{items as items_lem, body, printed, passes_limit, Refuses, Puts};
 
 use crate::TextError;
-use crate::printable::{PAST_LIMIT, Printable, print_list, print_several, put_keyword, put_word};
-use crate::printing_value::{put_integer, put_named, put_natural};
+use crate::printing::printable::{
+    PAST_LIMIT, Printable, print_list, print_several, put_keyword, put_word,
+};
+use crate::printing::value::{put_integer, put_named, put_natural};
 use mh_base::{LARGEST_FILE, Seq};
 use mh_group::{Attribute, Field, Group, Ingredient, Setting, Written, event_word, group};
 use std::alloc::Global;

@@ -1,5 +1,8 @@
 //! `Tokens`: the tokens of a text, each the slice at its span, in order. Between two of them stands
 //! nothing but white space and comments. What a token means is left to `sign`.
+
+pub mod kind;
+
 ghost use Rattle.std.specs.Prelude.{◌≡◌, ◌+◌, length, MatchResult, MatchOption};
 ghost use Rattle.mh_base.specs.Reading.{whole};
 ghost use Rattle.mh_text.specs.Left.{lexed, finished, token, IsBad};

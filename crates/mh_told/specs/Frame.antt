@@ -2,7 +2,7 @@
 use Rattle.std.specs.Prelude.{ℕ, ◌+◌, ◌-◌, ◌*◌, ◌==◌, Bool, ◌&&◌, not, if◌then◌else◌, List, [], ◌∷◌, ◌++◌, length, take, map, codes}
 use Rattle.std.specs.List.{suffix_len, list_all, list_any, flat_map, range_with_len, zip}
 use Rattle.std.specs.Fmt.{decimal}
-use Rattle.mh_model.specs.declared.cell.Cell.{Cell}
+use Rattle.mh_model.specs.declared.picture.cell.Cell.{Cell}
 use Rattle.mh_model.specs.Planes.{Planes}
 use Rattle.mh_model.specs.Picture.{cell_of}
 use Rattle.mh_told.specs.Printing.{two_digits, hex_colour, quoted}

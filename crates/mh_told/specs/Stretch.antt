@@ -1,6 +1,6 @@
 -- Runs as they lie in the planes of a picture.
 use Rattle.std.specs.Prelude.{ℕ, ◌+◌, ◌*◌, ◌==◌, ◌&&◌, Bool, List, [], ◌∷◌, drop, slice_index, slice_range}
-use Rattle.mh_model.specs.declared.cell.Cell.{Cell}
+use Rattle.mh_model.specs.declared.picture.cell.Cell.{Cell}
 use Rattle.mh_model.specs.Planes.{Planes}
 use Rattle.mh_told.specs.Frame.{Run, begun, runs_from, row_cells}
 

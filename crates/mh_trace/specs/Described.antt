@@ -15,7 +15,7 @@ use Rattle.mh_model.specs.declared.held.Held.{Held}
 use Rattle.mh_model.specs.declared.held.Held.TheVariants as of
 use Rattle.mh_model.specs.declared.held.Property.{Property}
 use Rattle.mh_model.specs.declared.interaction.Interaction.{Interaction}
-use Rattle.mh_model.specs.declared.listing.Entry.{Entry}
+use Rattle.mh_model.specs.declared.object.listing.Entry.{Entry}
 use Rattle.mh_model.specs.declared.object.Body.{Body}
 use Rattle.mh_model.specs.declared.object.Object.{Object}
 use Rattle.mh_model.specs.declared.transition.Transition.{Transition}

@@ -9,8 +9,7 @@ use crate::row::{GroupRow, Row};
 use crate::site::{EffectKind, Site};
 use mh_base::{GroupName, ObjRef};
 use mh_group::{Attribute, Class};
-use mh_model::held::as_members;
-use mh_model::parts::effect_of;
+use mh_model::parts::{effect_of, members};
 use mh_model::{Act, Effect, Fixed, FixedPart, Member};
 use mh_service::Service;
 use std::alloc::{AllocError, Global};
@@ -89,12 +88,7 @@ fn push_part(rows: &mut Vec<Row>, done: &[Site], part: &Fixed) -> Result<(), All
     push_effect(rows, done, at, EffectKind::StartUp, start)?;
     push_effect(rows, done, at, EffectKind::CloseDown, close)?;
     push_effect(rows, done, at, EffectKind::Link, link)?;
-    push_members(
-        rows,
-        done,
-        at,
-        as_members(part.properties.get(Attribute::TokenGroupItems)),
-    )
+    push_members(rows, done, at, members(part))
 }
 
 fn push_members(

@@ -9,11 +9,11 @@ use Rattle.mh_group.specs.declared.action_name.ActionName.{ActionName}
 use Rattle.mh_group.specs.Words.{action_word}
 use Rattle.mh_model.specs.declared.config.Config.{Config}
 use Rattle.mh_laws.specs.Budget.{Bounds}
-use Rattle.mh_flow.specs.declared.link.Link.{Link}
+use Rattle.mh_flow.specs.declared.chain.link.Link.{Link}
 use Rattle.mh_layers.specs.declared.bounds.InputKind.{InputKind}
 use Rattle.mh_layers.specs.declared.bounds.InputKind.TheVariants as input
 use Rattle.mh_layers.specs.Bounding.{kind_word}
-use Rattle.mh_layers.specs.declared.arrow.Arrow.{Arrow}
+use Rattle.mh_layers.specs.declared.arrows.arrow.Arrow.{Arrow}
 use Rattle.mh_layers.specs.declared.cause.Cause.{Cause}
 use Rattle.mh_verify.specs.declared.refusal.Place.{Place}
 use Rattle.mh_verify.specs.declared.refusal.Refusal.{Refusal}

@@ -11,7 +11,7 @@ use Rattle.mh_laws.specs.Least.{IsLeast}
 use Rattle.mh_laws.proofs.LayerLemmas.{costs_exist}
 use Rattle.mh_laws.proofs.NodeLemmas.{effect_nodes}
 use Rattle.mh_laws.proofs.PriceLemmas.{of_nodes}
-use Rattle.mh_layers.specs.declared.arrow.Arrow.{Arrow}
+use Rattle.mh_layers.specs.declared.arrows.arrow.Arrow.{Arrow}
 use Rattle.mh_layers.specs.declared.bounds.InputKind.{InputKind}
 use Rattle.mh_layers.specs.declared.bounds.InputKind.TheVariants as kind
 use Rattle.mh_layers.specs.Arrows.{AreFirstArrows}

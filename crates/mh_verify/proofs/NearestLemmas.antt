@@ -14,7 +14,7 @@ use Rattle.mh_model.specs.declared.config.Config.{Config}
 use Rattle.mh_model.specs.Service.{Service}
 use Rattle.mh_laws.specs.Flow.{has}
 use Rattle.mh_laws.specs.Least.{Derived, Held, by_reference}
-use Rattle.mh_flow.specs.declared.link.Link.{Link}
+use Rattle.mh_flow.specs.declared.chain.link.Link.{Link}
 use Rattle.mh_flow.specs.Chains.{Brings, by_spot}
 use Rattle.mh_flow.specs.Nearest.{IsNearest}
 use Rattle.mh_flow.specs.Solved.{Solved, IsFlowOf, flow_in}

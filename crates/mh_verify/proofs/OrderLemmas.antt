@@ -8,20 +8,17 @@ use Rattle.std.specs.Cmp.{Equal-is, IsTotalOrder, then_total, on_total, nat_cmp_
 use Rattle.std.specs.Cmp.Lexicographic.{nat_list_cmp_total, options_total}
 use Rattle.mh_verify.specs.declared.refusal.Found.{Found}
 use Rattle.mh_verify.specs.declared.refusal.Place.{Place}
-use Rattle.mh_model.specs.declared.config.Config.{Config}
 use Rattle.mh_verify.specs.Kinds.{kind_number}
-use Rattle.mh_verify.specs.Order.{order, by_place, by_config, is_before}
+use Rattle.mh_verify.specs.Order.{order, by_place, is_before}
 use Rattle.mh_verify.specs.Least.{lesser, least_of}
 use Rattle.mh_flow.proofs.ContainsLemmas.{no_member, first_or_behind}
+use Rattle.mh_flow.proofs.OrderLemmas.{config_total}
 
 places_total : IsTotalOrder by_place
 places_total = then_total (then_total (on_total (λ (p : Place). p.group) nat_list_cmp_total) (on_total (λ (p : Place). p.object) nat_cmp_total)) (on_total (λ (p : Place). p.index) nat_cmp_total)
 
-configs_total : IsTotalOrder by_config
-configs_total = then_total (on_total (λ (c : Config). c.app) nat_list_cmp_total) (on_total (λ (c : Config). c.scene) (options_total nat_list_cmp_total))
-
 order_total : IsTotalOrder order
-order_total = then_total (then_total (on_total (λ (x : Found). x.place) places_total) (on_total (λ (x : Found). kind_number x.kind) (options_total nat_cmp_total))) (on_total (λ (x : Found). x.config) configs_total)
+order_total = then_total (then_total (on_total (λ (x : Found). x.place) places_total) (on_total (λ (x : Found). kind_number x.kind) (options_total nat_cmp_total))) (on_total (λ (x : Found). x.config) config_total)
 
 -- Any total order.
 module _ {K : Type 0} {R : K → K → Ordering} (o : IsTotalOrder R) where

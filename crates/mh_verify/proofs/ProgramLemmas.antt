@@ -17,7 +17,7 @@ use Rattle.mh_model.specs.declared.act.Act.{Act}
 use Rattle.mh_model.specs.declared.act.Argument.{Argument}
 use Rattle.mh_model.specs.declared.act.Argument.TheVariants as argument
 use Rattle.mh_model.specs.declared.config.Config.{Config}
-use Rattle.mh_model.specs.declared.member.Member.{Member}
+use Rattle.mh_model.specs.declared.object.member.Member.{Member}
 use Rattle.mh_model.specs.declared.object.Fixed.{Fixed}
 use Rattle.mh_model.specs.declared.program.Signature.{Signature}
 use Rattle.mh_model.specs.Configuration.{present, scene_parts}
@@ -34,8 +34,8 @@ use Rattle.mh_laws.specs.Safe.{exchanged}
 use Rattle.mh_laws.specs.Ways.{Changes, Drops, Halts, Prepares, Runs, Sends, Share, Slots, Sure, Tells, Told, Unsure, ways}
 use Rattle.mh_flow.specs.Equipment.{equipped}
 use Rattle.mh_flow.specs.Sites.{Site, sites_of}
-use Rattle.mh_layers.specs.declared.arrow.Arrow.{Arrow}
-use Rattle.mh_layers.specs.declared.arrow.By.{By}
+use Rattle.mh_layers.specs.declared.arrows.arrow.Arrow.{Arrow}
+use Rattle.mh_layers.specs.declared.arrows.arrow.By.{By}
 use Rattle.mh_layers.specs.Arrows.{counts, goes_round, granted, is_action_in, is_action_of, is_waited_for, leads, leads_back, meets, number_by, put_by, puts}
 
 module _ (s : Service) (programs : List Signature) where

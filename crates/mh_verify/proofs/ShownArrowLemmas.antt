@@ -19,8 +19,8 @@ use Rattle.mh_flow.proofs.EquippedLemmas.{keys_itself, service_itself}
 use Rattle.mh_flow.proofs.HoldingLemmas.{holder_of_held}
 use Rattle.mh_flow.proofs.ListedLemmas.{is_listed}
 use Rattle.mh_flow.proofs.PresentLemmas.{passing_from}
-use Rattle.mh_layers.specs.declared.arrow.Arrow.{Arrow}
-use Rattle.mh_layers.specs.declared.arrow.Held.{Held}
+use Rattle.mh_layers.specs.declared.arrows.arrow.Arrow.{Arrow}
+use Rattle.mh_layers.specs.declared.arrows.arrow.Held.{Held}
 use Rattle.mh_layers.specs.Arrows.{AreGrantedBy, IsGrantedBy}
 use Rattle.mh_verify.specs.Evidence.{is_arrow_of, is_by_holder, is_configuration}
 use Rattle.mh_verify.proofs.ShownPlaceLemmas.{passes_own}

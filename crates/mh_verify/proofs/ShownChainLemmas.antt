@@ -22,7 +22,7 @@ use Rattle.mh_laws.specs.Describing.{says}
 use Rattle.mh_laws.specs.Flow.{fills, is_given, is_holder, is_list_in, is_reference_in, reads_reference, refers}
 use Rattle.mh_laws.specs.Least as least
 use Rattle.mh_laws.specs.Least.{Comes, Derived, Fact}
-use Rattle.mh_flow.specs.declared.link.Link.{Link}
+use Rattle.mh_flow.specs.declared.chain.link.Link.{Link}
 use Rattle.mh_flow.specs.Chains.{Brings, IsDone, filled, first_link, original, passed, read, site_link, written}
 use Rattle.mh_flow.specs.Chart.{firsts, handed_argument}
 use Rattle.mh_flow.specs.Equipment.{equipped}

@@ -16,10 +16,10 @@ use Rattle.mh_model.specs.Service.{Service}
 use Rattle.mh_model.proofs.ListLemmas.{some_same}
 use Rattle.mh_laws.specs.Flow.{Flow}
 use Rattle.mh_laws.specs.Least.{by_reference}
-use Rattle.mh_flow.specs.declared.link.Link.{Link}
+use Rattle.mh_flow.specs.declared.chain.link.Link.{Link}
 use Rattle.mh_flow.specs.Chains.{Brings, IsFirstChain, by_spot}
 use Rattle.mh_flow.proofs.ContainsLemmas.{no_member, here, first_or_behind}
-use Rattle.mh_flow.proofs.OrderLemmas.{order_total as reference_total}
+use Rattle.mh_flow.proofs.OrderLemmas.{reference_total}
 use Rattle.mh_verify.specs.declared.coming.Coming.{Coming}
 use Rattle.mh_verify.specs.declared.refusal.Found.{Found}
 use Rattle.mh_verify.specs.Least.{sooner}

@@ -20,12 +20,12 @@ use Rattle.mh_model.specs.Reference.{same_key}
 use Rattle.mh_model.specs.Service.{Service, group_parts}
 use Rattle.mh_laws.specs.Active.{known_with}
 use Rattle.mh_laws.specs.Flow.{Sets, fills, is_given, is_list_in, is_reference_in}
-use Rattle.mh_flow.specs.declared.link.Link.{Link}
+use Rattle.mh_flow.specs.declared.chain.link.Link.{Link}
 use Rattle.mh_flow.specs.Chart.{firsts, handed_argument}
 use Rattle.mh_flow.specs.Sites.{Site, sites, sites_of}
 use Rattle.mh_flow.specs.Solved.{is_holder_in}
-use Rattle.mh_layers.specs.declared.arrow.Arrow.{Arrow}
-use Rattle.mh_layers.specs.declared.arrow.Held.{Held}
+use Rattle.mh_layers.specs.declared.arrows.arrow.Arrow.{Arrow}
+use Rattle.mh_layers.specs.declared.arrows.arrow.Held.{Held}
 use Rattle.mh_layers.specs.Arrows.{goes_round, same_action}
 use Rattle.mh_verify.specs.declared.refusal.Place.{Place}
 use Rattle.mh_verify.specs.declared.refusal.Refusal.{Refusal}

@@ -4,7 +4,7 @@ use Rattle.std.specs.Ordering.{is_lt, is_ne}
 use Rattle.std.specs.Cmp.Lexicographic.{slice_cmp}
 use Rattle.mh_base.specs.declared.obj_ref.ObjRef.{ObjRef}
 use Rattle.mh_laws.specs.Least.{by_reference}
-use Rattle.mh_flow.specs.declared.link.Link.{Link}
+use Rattle.mh_flow.specs.declared.chain.link.Link.{Link}
 use Rattle.mh_flow.specs.Chains.{by_spot}
 use Rattle.mh_verify.specs.declared.refusal.Found.{Found}
 use Rattle.mh_model.specs.Service.{Service}

@@ -21,7 +21,7 @@ use Rattle.mh_model.specs.Service.{Service}
 use Rattle.mh_laws.specs.Active.{item_wrongs, known_with}
 use Rattle.mh_laws.specs.Flow.{Flow, Sets, has}
 use Rattle.mh_laws.specs.Least.{by_reference}
-use Rattle.mh_flow.specs.declared.link.Link.{Link}
+use Rattle.mh_flow.specs.declared.chain.link.Link.{Link}
 use Rattle.mh_flow.specs.Chains.{Brings, IsFirstChain, by_spot}
 use Rattle.mh_flow.specs.Sites.{Site, sites_of}
 use Rattle.mh_verify.specs.declared.coming.Coming.{Coming}

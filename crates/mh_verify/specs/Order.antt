@@ -16,7 +16,7 @@ use Rattle.mh_laws.specs.Flow.{Flow, reached}
 use Rattle.mh_laws.specs.Layers.{IsCost, IsLayering}
 use Rattle.mh_laws.specs.Least.{IsLeast}
 use Rattle.mh_layers.specs.declared.bounds.InputKind.{InputKind}
-use Rattle.mh_layers.specs.declared.arrow.Arrow.{Arrow}
+use Rattle.mh_layers.specs.declared.arrows.arrow.Arrow.{Arrow}
 use Rattle.mh_layers.specs.Arrows.{AreFirstArrows}
 use Rattle.mh_layers.specs.Bounding.{IsFirstAbove}
 use Rattle.mh_verify.specs.declared.coming.Coming.{Coming}
@@ -26,6 +26,7 @@ use Rattle.mh_verify.specs.declared.refusal.Refusal.{Refusal}
 use Rattle.mh_verify.specs.declared.refusal.RefusalKind.{RefusalKind}
 use Rattle.mh_verify.specs.declared.refusal.RefusalKind.TheVariants as kind
 use Rattle.mh_flow.specs.Equipment.{equipped}
+use Rattle.mh_flow.specs.Orders.{by_config}
 use Rattle.mh_verify.specs.Free.{most_cost}
 use Rattle.mh_verify.specs.Kinds.{kind_number}
 use Rattle.mh_verify.specs.Naming.{IsNamed}
@@ -33,9 +34,6 @@ use Rattle.mh_verify.specs.Refusals.{refusals_in}
 
 abbrev pub by_place : Place → Place → Ordering
 by_place = then_cmp (then_cmp (on (λ p. p.group) (slice_cmp nat_cmp)) (on (λ p. p.object) nat_cmp)) (on (λ p. p.index) nat_cmp)
-
-abbrev pub by_config : Config → Config → Ordering
-by_config = then_cmp (on (λ c. c.app) (slice_cmp nat_cmp)) (on (λ c. c.scene) (option_cmp (slice_cmp nat_cmp)))
 
 abbrev pub order : Found → Found → Ordering
 order = then_cmp (then_cmp (on (λ x. x.place) by_place) (on (λ x. kind_number x.kind) (option_cmp nat_cmp))) (on (λ x. x.config) by_config)

@@ -9,7 +9,7 @@ use Rattle.mh_laws.specs.Flow.{Flow}
 use Rattle.mh_laws.specs.Layers.{IsCost, IsLayering}
 use Rattle.mh_flow.specs.Solved.{Solved, flow_in}
 use Rattle.mh_layers.specs.declared.bounds.InputKind.{InputKind}
-use Rattle.mh_layers.specs.declared.arrow.Arrow.{Arrow}
+use Rattle.mh_layers.specs.declared.arrows.arrow.Arrow.{Arrow}
 use Rattle.mh_layers.specs.declared.cause.Cause.{Cause}
 use Rattle.mh_layers.specs.Arrows.{AreFirstArrows}
 use Rattle.mh_layers.specs.Bounding.{IsFirstAbove}

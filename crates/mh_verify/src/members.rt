@@ -18,8 +18,8 @@ use crate::telling::{Scope, copied};
 use crate::{Found, Place, RefusalKind};
 use mh_base::ObjRef;
 use mh_flow::Present;
-use mh_flow::sites::members;
 use mh_group::Class;
+use mh_model::parts::members;
 use mh_model::{Fixed, FixedPart, Member, Reason, Wrong};
 use std::alloc::AllocError;
 

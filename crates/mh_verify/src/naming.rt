@@ -16,7 +16,7 @@ use crate::telling::Scope;
 use crate::{Coming, Found, RefusalKind};
 use mh_base::{ObjRef, Seq};
 use mh_flow::chain::chain;
-use mh_flow::nearest::nearest_of;
+use mh_flow::chain::nearest::nearest_of;
 use mh_flow::{Equipped, Flow, Link};
 use mh_model::{Config, Rank, Reason};
 use std::alloc::{AllocError, Global};

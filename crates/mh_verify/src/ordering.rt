@@ -7,16 +7,15 @@ ghost use Rattle.std.specs.Ordering.{is_ne, nat_cmp};
 ghost use Rattle.std.specs.Cmp.Lexicographic.{slice_cmp};
 ghost use Rattle.mh_verify.specs.Kinds.{kind_number};
 ghost use Rattle.mh_verify.specs.Least.{lesser};
-ghost use Rattle.mh_laws.specs.Least.{by_reference};
 ghost use Rattle.mh_flow.specs.Chains.{by_spot};
 ghost use Rattle.mh_verify.specs.Least.{may_be_sooner, sooner};
 ghost use Rattle.mh_verify.specs.Naming.{by_coming};
-ghost use Rattle.mh_verify.specs.Order.{by_place, by_config, order};
+ghost use Rattle.mh_verify.specs.Order.{by_place, order};
 
 use crate::{Coming, Found, Place, RefusalKind};
-use mh_base::{GroupName, ObjRef};
+use mh_base::ObjRef;
 use mh_flow::Link;
-use mh_model::Config;
+use mh_flow::order::{by_config, by_reference};
 use std::cmp::Ordering;
 
 fn by_place(first: &Place, second: &Place) -> Ordering
@@ -26,25 +25,6 @@ fn by_place(first: &Place, second: &Place) -> Ordering
     group
         .then(first.object.cmp(&second.object))
         .then(first.index.cmp(&second.index))
-}
-
-/// By name of the application, then of the scene; no scene comes before any.
-fn by_config(first: &Config, second: &Config) -> Ordering
-    ensures { result ≡ by_config first.now second.now }
-{
-    let app = first.app.as_bytes().cmp(&second.app.as_bytes());
-    app.then(by_scene(&first.scene, &second.scene))
-}
-
-fn by_scene(first: &Option<GroupName>, second: &Option<GroupName>) -> Ordering
-    ensures { result ≡ option_cmp (slice_cmp nat_cmp) first.now second.now }
-{
-    match (first, second) {
-        (None, None) => Ordering::Equal,
-        (None, Some(_)) => Ordering::Less,
-        (Some(_), None) => Ordering::Greater,
-        (Some(first), Some(second)) => first.as_bytes().cmp(&second.as_bytes()),
-    }
 }
 
 fn order(first: &Found, second: &Found) -> Ordering
@@ -79,13 +59,6 @@ pub fn lesser(best: Option<Found>, found: Found) -> Found
 }
 
 // How references came
-
-fn by_reference(first: &ObjRef, second: &ObjRef) -> Ordering
-    ensures { result ≡ by_reference first.now second.now }
-{
-    let group = first.group.as_bytes().cmp(&second.group.as_bytes());
-    group.then(first.number.cmp(&second.number))
-}
 
 fn by_spot(first: &Link, second: &Link) -> Ordering
     ensures { result ≡ by_spot first.now second.now }

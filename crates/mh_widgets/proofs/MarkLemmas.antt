@@ -1,7 +1,7 @@
 -- An item that is selected, or no longer is, by its place.
 use Rattle.std.specs.Prelude.{◌≡◌, ℕ, zero, suc, Bool, List, [], ◌∷◌, slice_index_or, slice_set, refl}
 use Rattle.std.proofs.Common.{ap}
-use Rattle.mh_model.specs.declared.listing.Entry.{Entry}
+use Rattle.mh_model.specs.declared.object.listing.Entry.{Entry}
 use Rattle.mh_model.specs.Lists.{marked_at}
 
 abbrev marked : Bool → Entry → Entry

@@ -9,7 +9,7 @@ use crate::slices::{behind_of, front_of};
 use mh_base::ObjRef;
 use mh_group::{Attribute, Position};
 use mh_model::held::{as_bool, as_positions};
-use mh_model::listing::is_listed;
+use mh_model::object::listing::is_listed;
 use mh_model::{Entry, Fixed, Item, Listing};
 use std::alloc::AllocError;
 use std::marker::Model;

@@ -11,7 +11,7 @@ use crate::cells::{before_first, wraps};
 use crate::entries::push_copies;
 use mh_base::{ObjRef, Value};
 use mh_group::ActionName;
-use mh_model::listing::is_listed;
+use mh_model::object::listing::is_listed;
 use mh_model::parts::same_ref;
 use mh_model::{Entry, Fixed, Listing};
 use std::alloc::{AllocError, Global};

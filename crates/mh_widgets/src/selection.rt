@@ -2,7 +2,7 @@
 ghost use Rattle.std.specs.Prelude.{◌≡◌, ◌<◌, ◌+◌, ◌^◌, length, slice_get, vec_len, IfOk, IfSome};
 ghost use Rattle.std.specs.List.{position};
 ghost use Rattle.mh_group.specs.Table.{is_visible};
-ghost use Rattle.mh_model.specs.declared.listing.Entry.{Entry as EntryValue};
+ghost use Rattle.mh_model.specs.declared.object.listing.Entry.{Entry as EntryValue};
 ghost use Rattle.mh_model.specs.Lists as spec;
 ghost use Rattle.mh_model.specs.Lists.{selection_worked};
 ghost use Rattle.mh_widgets.specs.Does.{Does, placed_by, placed_with};

@@ -13,8 +13,9 @@ use crate::done::Done;
 use crate::events::count_event;
 use mh_base::{EventType, ObjRef, Value};
 use mh_group::{ActionName, Attribute, Class};
-use mh_model::held::{as_members, as_positions, as_rows};
-use mh_model::{Edit, Effect, Fixed, Member, Object};
+use mh_model::held::{as_positions, as_rows};
+use mh_model::parts::members;
+use mh_model::{Edit, Effect, Fixed, Object};
 use std::alloc::{AllocError, Global};
 
 /// What Move or MoveTo makes of the group at this reference: where there is another position to which
@@ -117,12 +118,6 @@ fn token_places(fixed: &Fixed) -> usize
         Class::ListGroup => as_positions(fixed.properties.get(Attribute::Positions)).len(),
         _ => members(fixed).len(),
     }
-}
-
-fn members(fixed: &Fixed) -> &[Member]
-    ensures { result.now ≡ spec.members fixed.now }
-{
-    as_members(fixed.properties.get(Attribute::TokenGroupItems))
 }
 
 /// What CallActionSlot puts: what the slot with this number does, of the member that has the token.

@@ -10,8 +10,7 @@ ghost use Rattle.mh_work.specs.Batches.{items_of, written};
 use crate::batch::Batch;
 use mh_base::{EventType, GroupName, ObjRef};
 use mh_group::Attribute;
-use mh_model::held::as_bool;
-use mh_model::parts::{group_ref, part_at};
+use mh_model::parts::{group_ref, is_initially_active, is_shared, part_at};
 use mh_model::{Event, Fixed, FixedPart, Held, Item};
 use std::alloc::{AllocError, Global};
 
@@ -177,18 +176,6 @@ fn push_group_effect(
         Some(part) => push_effect(batches, part, attribute),
         None => Ok(()),
     }
-}
-
-fn is_initially_active(part: &Fixed) -> bool
-    ensures { result ≡ is_initially_active part.now }
-{
-    part.class.is_runnable() && as_bool(part.properties.get(Attribute::InitiallyActive), true)
-}
-
-fn is_shared(part: &Fixed) -> bool
-    ensures { result ≡ is_shared part.now }
-{
-    as_bool(part.properties.get(Attribute::Shared), false)
 }
 
 /// Puts a Run of each initially active part behind these batches.

@@ -2,16 +2,15 @@
 ghost use Rattle.std.specs.Prelude.{◌≡◌, ◌&&◌, ◌++◌, [], IfOk, OnOk};
 ghost use Rattle.std.specs.Option.{option_copied};
 ghost use Rattle.mh_model.specs.Lifecycle as spec;
-ghost use Rattle.mh_model.specs.Tokens.{members as members_lem};
 ghost use Rattle.mh_work.specs.Loading.{prepare_told, run_told, content_told};
 ghost use Rattle.mh_work.specs.Batches.{written};
 
 use crate::batch::Batch;
 use crate::groups::plain_event;
 use mh_base::{EventType, ObjRef, Value};
-use mh_group::{Attribute, Class};
-use mh_model::held::as_members;
-use mh_model::{Event, Fixed, Item, Member, Object};
+use mh_group::Class;
+use mh_model::parts::members;
+use mh_model::{Event, Item, Member, Object};
 use mh_widgets::lists::{list_halted, list_started};
 use std::alloc::{AllocError, Global};
 
@@ -212,13 +211,6 @@ pub fn push_items(batches: &mut Vec<Batch>, items: Vec<Item>) -> Result<(), Allo
         batches.push(Batch::One(item))?;
     }
     Ok(())
-}
-
-/// The members of a group of objects.
-fn members(fixed: &Fixed) -> &[Member]
-    ensures { result.now ≡ members_lem fixed.now }
-{
-    as_members(fixed.properties.get(Attribute::TokenGroupItems))
 }
 
 /// What is put when the object is to stop, in this list.

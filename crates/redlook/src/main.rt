@@ -2,16 +2,13 @@
 //! read and done by `mh_look`, and here is the exit status.
 #![tactic(auto)]
 
-use mh_look::{CommandLineError, Failure, Outcome, done, line_of};
+use mh_look::{CommandLineError, Failure, done, line_of};
 use std::io::IsTerminal;
 use std::process::ExitCode;
 use std::rt::Runtime;
 use std::{env, io};
 
-/// The exit status where two reports differ, a service is refused, or something is found of it.
-const DIFFERENT: u8 = 1;
-
-/// The exit status where a report, a frame or a service could not be had, or the command line is wrong.
+/// The exit status where the command line is wrong.
 const REFUSED: u8 = 2;
 
 /// The exit status where memory or writing failed.
@@ -37,13 +34,11 @@ fn status_of<R: Runtime + AllocGlobal>(rt: &R, is_terminal: bool) -> io::Result<
         }
     };
     match done(rt, &task, is_terminal) {
-        Ok(Outcome::Written) => Ok(0),
-        Ok(Outcome::Different | Outcome::Refused | Outcome::Found) => Ok(DIFFERENT),
-        Ok(Outcome::Unread) => Ok(REFUSED),
+        Ok(outcome) => Ok(outcome.status()),
         Err(Failure::Failed) => Ok(FAILED),
         Err(failure) => {
             eprintln!(rt; "redlook: {failure}")?;
-            Ok(REFUSED)
+            Ok(failure.status())
         }
     }
 }

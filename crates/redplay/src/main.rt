@@ -3,11 +3,11 @@
 #![tactic(auto)]
 
 pub mod command_line;
-pub mod gather;
 mod program;
 
 use command_line::{NoTask, Source, Task, line_of};
-use gather::{Ungathered, gather, read_file, read_named, read_script};
+use mh_base::GroupName;
+use mh_folder::{Folder, Unread, folder_of, read_file, read_input, read_named};
 pub use mh_report::{
     ListSink, Notation, Options, PlayError, Sink, Status, WriterSink, check_bytes, convert_bytes,
     play_bytes,
@@ -42,11 +42,11 @@ fn run<R: Runtime + AllocGlobal>(rt: &R) -> io::Result<u8> {
     };
     match done(rt, &task) {
         Ok(status) => Ok(status),
-        Err(Ungathered::Unreadable(name)) => {
+        Err(Unread::File(name)) => {
             println!(rt; "read {name}")?;
             Ok(Status::Unreadable.code())
         }
-        Err(Ungathered::NoMemory) => Ok(FAILED),
+        Err(Unread::NoMemory) => Ok(FAILED),
     }
 }
 
@@ -59,7 +59,7 @@ fn words_of<R: Runtime + AllocGlobal>(rt: &R) -> io::Result<Option<Vec<String>>>
     }
 }
 
-fn done<R: Runtime + AllocGlobal>(rt: &R, task: &Task) -> Result<u8, Ungathered> {
+fn done<R: Runtime + AllocGlobal>(rt: &R, task: &Task) -> Result<u8, Unread> {
     match task {
         Task::Check(source) => checked(rt, source),
         Task::Play {
@@ -72,8 +72,20 @@ fn done<R: Runtime + AllocGlobal>(rt: &R, task: &Task) -> Result<u8, Ungathered>
     }
 }
 
-fn checked<R: Runtime + AllocGlobal>(rt: &R, source: &Source) -> Result<u8, Ungathered> {
-    let files = gather(rt, source.folder)?;
+/// The files of a folder, all of which have to be read.
+fn files_of<R: Runtime + AllocGlobal>(
+    rt: &R,
+    folder: &str,
+) -> Result<Vec<(GroupName, Vec<u8>)>, Unread> {
+    let Folder { files, unread } = folder_of(rt, folder)?;
+    match unread {
+        Some(name) => Err(Unread::File(name)),
+        None => Ok(files),
+    }
+}
+
+fn checked<R: Runtime + AllocGlobal>(rt: &R, source: &Source) -> Result<u8, Unread> {
+    let files = files_of(rt, source.folder)?;
     let options = chosen(rt, source, 0, false)?;
     let mut sink = WriterSink {
         writer: io::writer(rt),
@@ -89,9 +101,9 @@ fn played<R: Runtime + AllocGlobal>(
     script: &str,
     mjd: u32,
     lenient: bool,
-) -> Result<u8, Ungathered> {
-    let files = gather(rt, source.folder)?;
-    let script = read_script(rt, script)?;
+) -> Result<u8, Unread> {
+    let files = files_of(rt, source.folder)?;
+    let script = read_input(rt, script)?;
     let options = chosen(rt, source, mjd, lenient)?;
     let mut sink = WriterSink {
         writer: io::writer(rt),
@@ -107,7 +119,7 @@ fn converted<R: Runtime + AllocGlobal>(
     file: &str,
     to: Notation,
     tags: Option<&str>,
-) -> Result<u8, Ungathered> {
+) -> Result<u8, Unread> {
     let bytes = read_file(rt, file, file)?;
     let options = Options {
         start: Vec::new(rt.alloc()),
@@ -137,7 +149,7 @@ fn chosen<R: Runtime + AllocGlobal>(
     source: &Source,
     mjd: u32,
     lenient: bool,
-) -> Result<Options, Ungathered> {
+) -> Result<Options, Unread> {
     let late = read_option(rt, source.late)?;
     let tags = read_option(rt, source.tags)?;
     Ok(Options {
@@ -153,7 +165,7 @@ fn chosen<R: Runtime + AllocGlobal>(
 fn read_option<R: Runtime + AllocGlobal>(
     rt: &R,
     name: Option<&str>,
-) -> Result<Option<Vec<u8>>, Ungathered> {
+) -> Result<Option<Vec<u8>>, Unread> {
     match name {
         Some(name) => Ok(Some(read_named(rt, name)?)),
         None => Ok(None),

@@ -1,8 +1,8 @@
 //! What the words of `lint` ask for.
 //!
 //! Promise: each function answers what the definition of its name in `specs/CommandLine` says.
-ghost use Rattle.std.specs.Prelude.{◌≡◌};
-ghost use Rattle.std.specs.List.{list_any};
+ghost use Rattle.std.specs.Prelude.{◌≡◌, option_map};
+ghost use Rattle.std.specs.List.{find, list_any};
 ghost use Rattle.std.specs.Str.{bytes_eq};
 ghost use Rattle.clap.specs.Words.{found_of, rows_of};
 ghost use Rattle.mh_look.specs.CommandLine.{explained_as, said};
@@ -10,7 +10,8 @@ ghost use Rattle.mh_look.specs.CommandLine as spec;
 
 use crate::command_line::{Explain, Given, Lint, Task, is_set, named, text_of};
 use clap::ArgMatches;
-use mh_lint::{Allowed, Asked, Rule};
+use mh_lint::{Allowed, Asked, RULES, Rule};
+use mh_misread::is_like;
 
 /// What is looked for in a service.
 pub(crate) fn linting<'a>(given: &ArgMatches<'a>) -> Task<'a>
@@ -23,6 +24,7 @@ pub(crate) fn linting<'a>(given: &ArgMatches<'a>) -> Task<'a>
     Task::Lint(Lint {
         service: service_of(given),
         asked,
+        unknown: unknown(given),
     })
 }
 
@@ -51,12 +53,22 @@ fn allowed(given: &ArgMatches<'_>) -> Allowed
 {
     Allowed {
         editor_backup: allows(given, Rule::EditorBackup),
+        identifier_differs: allows(given, Rule::IdentifierDiffers),
+        unknown_rule: allows(given, Rule::UnknownRule),
         start_leads_away: allows(given, Rule::StartLeadsAway),
+        not_shared: allows(given, Rule::NotShared),
         no_actions: allows(given, Rule::NoActions),
         behind_transition: allows(given, Rule::BehindTransition),
         division_by_zero: allows(given, Rule::DivisionByZero),
         negative_size: allows(given, Rule::NegativeSize),
         colour_octets: allows(given, Rule::ColourOctets),
+        unheard_timer: allows(given, Rule::UnheardTimer),
+        unread_variable: allows(given, Rule::UnreadVariable),
+        off_screen: allows(given, Rule::OffScreen),
+        covers_no_cell: allows(given, Rule::CoversNoCell),
+        cut_text: allows(given, Rule::CutText),
+        text_in_its_colour: allows(given, Rule::TextInItsColour),
+        content_to_come: allows(given, Rule::ContentToCome),
     }
 }
 
@@ -74,4 +86,49 @@ fn is_among(names: &[&str], word: &[u8]) -> bool
     ensures { result ≡ list_any (λ name. bytes_eq name.now word.now) names.now }
 {
     names.iter().any(|name| name.as_bytes() == word)
+}
+
+/// The first name that no rule has.
+fn unknown<'a>(given: &ArgMatches<'a>) -> Option<&'a str>
+    ensures { option_map (λ s. s.now) result ≡ spec.unknown (rows_of (found_of given.now)) }
+{
+    match given.get_strs("allow") {
+        Some(names) => first_unknown(names),
+        None => None,
+    }
+}
+
+fn first_unknown<'a>(names: &[&'a str]) -> Option<&'a str>
+    ensures { result ≡ find (λ name. spec.is_no_rule name.now) names.now }
+{
+    names.iter().copied().find(|name| is_no_rule(*name))
+}
+
+fn is_no_rule(name: &str) -> bool
+    ensures { result ≡ spec.is_no_rule name.now }
+{
+    Rule::of_word(name.as_bytes()).is_none()
+}
+
+/// The rule whose name so many changes make of this one.
+fn like_rule(changes: usize, name: &[u8]) -> Option<Rule>
+    ensures { result ≡ spec.like_rule changes name.now }
+{
+    RULES
+        .iter()
+        .copied()
+        .find(|rule| is_like(changes, name, rule.word()))
+}
+
+/// The rule that is meant by a name, if one is like it.
+pub(crate) fn near_rule(name: &[u8]) -> Option<Rule>
+    ensures { result ≡ spec.near_rule name.now }
+{
+    if let Some(rule) = like_rule(1, name) {
+        return Some(rule);
+    }
+    match like_rule(2, name) {
+        Some(rule) => Some(rule),
+        None => like_rule(3, name),
+    }
 }

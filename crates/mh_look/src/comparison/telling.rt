@@ -6,9 +6,9 @@ ghost use Rattle.mh_look.specs.Telling.{mark, colours_line, cell_line, place_lin
 use crate::comparison::difference::{Difference, changed_cells, first_difference};
 use crate::report::frames::next_frame;
 use crate::report::{Part, Report};
-use crate::show::harmless;
 use mh_model::picture::{CELLS, COLUMNS};
 use mh_model::{Cell, Picture};
+use mh_terminal::harmless;
 use mh_told::text::Text;
 use std::alloc::{AllocError, Global};
 

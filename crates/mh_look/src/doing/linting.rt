@@ -1,11 +1,14 @@
 //! What is done for `lint`: the files are read, the service is checked, and the lines on it are written; where it is not
 //! accepted, what is explained of that.
 use crate::command_line::Lint;
+use crate::command_line::linting::near_rule;
 use crate::doing::Outcome;
-use crate::doing::explaining::{Read, explained_of, is_painted, read_given, written_in};
-use crate::files::service::{Folder, folder_of};
+use crate::doing::answering::{Answer, Read, answer_of};
+use crate::doing::explaining::{is_painted, read_given, written_in};
 use crate::files::source::Failure;
 use crate::lint::lint_of;
+use mh_folder::{Folder, folder_of};
+use mh_lint::RULES;
 use mh_told::text::Text;
 use std::alloc::{AllocError, Global};
 use std::rt::Runtime;
@@ -16,13 +19,19 @@ pub(crate) fn linted<R: Runtime + AllocGlobal>(
     wanted: &Lint<'_>,
     is_terminal: bool,
 ) -> Result<Outcome, Failure> {
+    if let Some(name) = wanted.unknown {
+        return Err(no_rule(rt.alloc(), name)?);
+    }
     let service = &wanted.service;
     let is_painted = is_painted(rt.alloc(), service.color, is_terminal)?;
     let given = read_given(rt, &service.given)?;
     let folder = folder_of(rt, service.folder)?;
     match lines_on(rt.alloc(), wanted, &given, &folder)? {
         Some(text) => written_in(rt, &text, outcome_of(&text), is_painted),
-        None => explained_of(rt, service, &given, &folder, is_painted),
+        None => {
+            let Answer { text, outcome } = answer_of(rt.alloc(), service, &given, &folder, None)?;
+            written_in(rt, &text, outcome, is_painted)
+        }
     }
 }
 
@@ -52,4 +61,30 @@ fn outcome_of(text: &Text) -> Outcome {
     } else {
         Outcome::Found
     }
+}
+
+/// This name is that of no rule.
+fn no_rule(alloc: Global, name: &str) -> Result<Failure, AllocError> {
+    let written = String::from_str(alloc, name)?;
+    Ok(match near_rule(name.as_bytes()) {
+        Some(rule) => Failure::NoRule(written, text_of(alloc, rule.word())?),
+        None => Failure::NoRuleLike(written, all_rules(alloc)?),
+    })
+}
+
+/// The names of all rules.
+fn all_rules(alloc: Global) -> Result<String, AllocError> {
+    let mut names = Text::new(alloc);
+    for rule in &RULES {
+        if !names.as_slice().is_empty() {
+            names.put(b", ")?;
+        }
+        names.put(rule.word())?;
+    }
+    text_of(alloc, names.as_slice())
+}
+
+fn text_of(alloc: Global, bytes: &[u8]) -> Result<String, AllocError> {
+    let copied = Vec::from_slice(alloc, bytes)?;
+    Ok(String::from_utf8(copied).unwrap_or(String::new(alloc)))
 }

@@ -1,10 +1,13 @@
 //! What is told of each number and kind that `redplay` prints: the cause and the mend, by the tables of
-//! `advice_tables`.
+//! `tables`.
+
+pub(crate) mod tables;
+
 ghost use Rattle.std.specs.Prelude.{◌≡◌, ◌++◌, ◌<◌, OnOk, map};
 ghost use Rattle.std.specs.Option.{option_map};
 ghost use Rattle.mh_look.specs.Advice.{cells, cell, row_text, row_with, advice, refusals, files, services, tags, faults, readings};
 
-use crate::explanation::advice_tables::{FAULTS, FILES, READINGS, REFUSALS, SERVICES, TAGS};
+use crate::explanation::advice::tables::{FAULTS, FILES, READINGS, REFUSALS, SERVICES, TAGS};
 use crate::wrap::put_sentence;
 use mh_told::text::Text;
 use std::alloc::{AllocError, Global};

@@ -1,4 +1,5 @@
-//! The cause and the mend of a refusal, by its case.
+//! The cause and the mend of a refusal, by its case: of what names a reference as `mh_cause` tells them, of a
+//! cycle and of too many steps as they are told here.
 ghost use Rattle.std.specs.Prelude.{◌≡◌, ◌++◌, IfOk, OnOk};
 ghost use Rattle.std.specs.Option.{option_copied};
 ghost use Rattle.mh_look.specs.Cases.{case_advice, case_words, cycle_cause, holder_of, is_verdict, plain_cause, plain_mend, refused_of, steps_cause, refusal_cause, refusal_detail, refusal_mend};

@@ -9,12 +9,12 @@ use crate::explanation::ground::Ground;
 use crate::explanation::keyword::Keyword;
 use crate::explanation::more::{put_by, put_cause, put_config, put_named};
 use crate::explanation::past::Past;
+use crate::explanation::place::spot::Spot;
 use crate::explanation::refused::put_refused;
-use crate::explanation::spot::Spot;
 use crate::explanation::unread::{put_file, put_script, put_service, put_tags, put_unread};
 use crate::explanation::words::{behind_first, first_word};
-use crate::place::put_plain;
 use crate::wrap::put_paragraph;
+use mh_terminal::put_plain;
 use mh_told::text::Text;
 use std::alloc::{AllocError, Global};
 

@@ -11,12 +11,12 @@ use crate::explanation::ground::Ground;
 use crate::explanation::line::{
     CIRCLE_THROUGH, COMES_BY, HANDS_ON, LEADS_TO, SHOWS_NONE, SHOWS_SCENE, SO_IT_IS, WRITES_IT,
 };
-use crate::explanation::missing::put_missing;
 use crate::explanation::object::objects;
 use crate::explanation::past::Past;
 use crate::explanation::place::put_object_place;
-use crate::explanation::spot::{Spot, put_object};
+use crate::explanation::place::spot::{Spot, put_object};
 use crate::explanation::through::put_through;
+use crate::explanation::unread::missing::put_missing;
 use crate::explanation::words::{before_last, first_word, last_word, number_in};
 use crate::files::shown::Source;
 use crate::wrap::put_paragraph;

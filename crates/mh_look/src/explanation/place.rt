@@ -1,4 +1,10 @@
 //! Places of actions and objects, as an author is shown them.
+
+pub(crate) mod marked;
+pub(crate) mod named;
+pub(crate) mod spot;
+pub(crate) mod values;
+
 ghost use Rattle.std.specs.Prelude.{◌≡◌, ◌++◌, OnOk, IfOk};
 ghost use Rattle.std.specs.Option.{option_copied};
 ghost use Rattle.mh_text.specs.Landmarks.{sight_of};

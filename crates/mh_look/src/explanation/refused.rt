@@ -7,7 +7,7 @@ use crate::explanation::case::put_case_advice;
 use crate::explanation::ground::Ground;
 use crate::explanation::line::{EFFECT_WITH, MEMBERS_OF, PUTS_ITSELF, STANDS_IN};
 use crate::explanation::past::Past;
-use crate::explanation::spot::Spot;
+use crate::explanation::place::spot::Spot;
 use crate::explanation::way::put_bound;
 use crate::explanation::words::{before_last, behind_first, first_word, last_word};
 use crate::script::posts::put_posts;

@@ -8,8 +8,8 @@ ghost use Rattle.mh_look.specs.LineWords.{before_last, behind_first};
 ghost use Rattle.mh_look.specs.Spots.{spot};
 ghost use Rattle.mh_look.specs.Through.{held_words, holder_text, is_held, is_variable, own_text, reached_by, reaches, several, through_at, through_by, through_numbered, through_told, variables_numbered};
 
-use crate::explanation::marked::is_marked;
-use crate::explanation::spot::Spot;
+use crate::explanation::place::marked::is_marked;
+use crate::explanation::place::spot::Spot;
 use crate::explanation::variable::{put_group, put_more, put_variable};
 use crate::explanation::words::{before_last, behind_first, first_word, last_word, number_in};
 use crate::files::shown::{Source, source_named};

@@ -1,4 +1,9 @@
 //! What is told of the lines on files, groups and scripts that are not taken.
+
+pub(crate) mod further;
+pub(crate) mod misread;
+pub(crate) mod missing;
+
 ghost use Rattle.std.specs.Prelude.{◌≡◌, ◌++◌, OnOk, codes};
 ghost use Rattle.std.specs.Option.{option_copied};
 ghost use Rattle.mh_look.specs.Sources.{shown_line, shown_offset, by_number};
@@ -6,14 +11,14 @@ ghost use Rattle.mh_look.specs.Why as spec;
 ghost use Rattle.mh_look.specs.Why.{shown_late, shown_script, shown_tags, tag_words};
 
 use crate::explanation::advice::{put_advice, readings, services, tags};
-use crate::explanation::further::put_further;
 use crate::explanation::ground::Ground;
 use crate::explanation::line::{CONTEXTS, IS_BYTE, IS_CONTEXT, IS_LINE, OF_FILE, TOLD_OF};
-use crate::explanation::misread::put_file_advice;
-use crate::explanation::missing::put_missing;
 use crate::explanation::place::put_offset;
+use crate::explanation::place::spot::Spot;
 use crate::explanation::service::put_service as put_group;
-use crate::explanation::spot::Spot;
+use crate::explanation::unread::further::put_further;
+use crate::explanation::unread::misread::put_file_advice;
+use crate::explanation::unread::missing::put_missing;
 use crate::explanation::words::{behind_first, first_word, number_in};
 use crate::files::named_file::{NamedFile, put_numbered_line, put_written_line};
 use crate::files::shown::Source;

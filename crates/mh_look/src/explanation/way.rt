@@ -1,4 +1,4 @@
-//! What is told of a bound.
+//! What makes a bound dear: the dearest way to it, effect by effect.
 ghost use Rattle.std.specs.Prelude.{◌≡◌, ◌++◌, OnOk, codes};
 ghost use Rattle.std.specs.Fmt.{decimal};
 ghost use Rattle.std.specs.List.{flat_map};

@@ -1,6 +1,7 @@
 //! Reports and other output, read from files or from standard input.
 use crate::report::printed::is_verdict;
 use crate::report::{ReadError, Report, read_report};
+use mh_folder::Unread;
 use std::alloc::{AllocError, AllocFailed, Global};
 use std::io::Read;
 use std::rt::Runtime;
@@ -25,6 +26,12 @@ pub enum Failure {
     /// When to write in colours is told by no such word.
     #[error("--color is auto, always or never, and not {0}")]
     NoWhen(String),
+    /// No rule has this name; the rule that is meant.
+    #[error("--allow names a rule, and {0} is none; the nearest is {1}")]
+    NoRule(String, String),
+    /// No rule has this name, nor one that is like it; the names of all.
+    #[error("--allow names a rule, and {0} is none; the rules are {1}")]
+    NoRuleLike(String, String),
     /// There is no frame with this number.
     #[error("there is no frame {0}")]
     NoFrame(u64),
@@ -39,6 +46,17 @@ pub enum Failure {
     Failed,
 }
 
+impl Failure {
+    /// The exit status that tells so: 4 where memory or writing failed, 2 where a report, a frame or a service could not be
+    /// had.
+    pub fn status(&self) -> u8 {
+        match self {
+            Failure::Failed => 4,
+            _ => 2,
+        }
+    }
+}
+
 impl From<AllocError> for Failure {
     fn from(_refused: AllocError) -> Failure {
         Failure::Failed
@@ -48,6 +66,15 @@ impl From<AllocError> for Failure {
 impl<T: Drop> From<AllocFailed<T>> for Failure {
     fn from(_refused: AllocFailed<T>) -> Failure {
         Failure::Failed
+    }
+}
+
+impl From<Unread> for Failure {
+    fn from(unread: Unread) -> Failure {
+        match unread {
+            Unread::File(name) => Failure::Unreadable(name),
+            Unread::NoMemory => Failure::Failed,
+        }
     }
 }
 
@@ -77,7 +104,7 @@ fn no_report(alloc: Global, name: &str, bytes: &[u8], line: usize) -> Failure {
 }
 
 /// The bytes of the file with this name, or of standard input for `-`.
-pub(crate) fn output_of<R: Runtime + AllocGlobal>(rt: &R, name: &str) -> Result<Vec<u8>, Failure> {
+pub fn output_of<R: Runtime + AllocGlobal>(rt: &R, name: &str) -> Result<Vec<u8>, Failure> {
     match bytes_of(rt, name) {
         Ok(bytes) => Ok(bytes),
         Err(error) => Err(unreadable(rt.alloc(), &error, called(name))),
@@ -119,7 +146,7 @@ pub(crate) fn unwritable(alloc: Global, error: &io::Error, name: &str) -> Failur
 }
 
 /// What is called by this name cannot be read.
-pub(crate) fn unread(alloc: Global, name: &str) -> Failure {
+fn unread(alloc: Global, name: &str) -> Failure {
     match String::from_str(alloc, name) {
         Ok(name) => Failure::Unreadable(name),
         Err(_) => Failure::Failed,

@@ -7,8 +7,8 @@ ghost use Rattle.mh_told.specs.Printing.{character};
 ghost use Rattle.mh_look.specs.LineWords.{is_in_word};
 ghost use Rattle.mh_look.specs.Places.{back_mark, caret_line, cut_at, first_shown, front_mark, last_space, mark_width, shown_line, size_shown, window, word_behind};
 
-use crate::place::{put_plain, put_repeated};
-use crate::show::put_character;
+use crate::place::put_repeated;
+use mh_terminal::{put_character, put_plain};
 use mh_told::text::Text;
 use std::alloc::{AllocError, Global};
 

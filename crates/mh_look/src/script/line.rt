@@ -6,7 +6,7 @@ ghost use Rattle.mh_look.specs.Advice.{cells};
 ghost use Rattle.mh_look.specs.ScriptTexts.{cause_text, command_mend, fault_text, fault_words, form_text, key_mend, mend_text, missing_scene, near_form_text, near_key_text, nearest_text, numbered_line, own_mend, return_text, script_line, script_told, whole_text, word_of};
 
 use crate::explanation::advice::{cell, put_advice, readings, row_with};
-use crate::explanation::missing::put_missing;
+use crate::explanation::unread::missing::put_missing;
 use crate::explanation::words::{behind_first, first_word, number_in};
 use crate::files::named_file::NamedFile;
 use crate::files::shown::Source;

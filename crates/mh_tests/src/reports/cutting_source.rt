@@ -1,7 +1,7 @@
 //! Sources that stop giving bytes, and sources that go on for long.
 ghost use Rattle.std.specs.Prelude.{◌≡◌, ◌≤◌, length};
 
-use mh_report::{Source, Tally};
+use mh_folder::{Source, Tally};
 
 /// A source that gives its bytes, at most so many a read, in so many reads. Those behind them fail.
 #[derive(Drop)]

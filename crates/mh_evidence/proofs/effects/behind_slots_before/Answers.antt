@@ -1,6 +1,6 @@
 use Rattle.std.proofs.Common.{◌≤◌, List, length, arith}
 use Rattle.mh_model.specs.declared.act.Act.{Act}
-use Rattle.mh_model.specs.declared.member.Member.{Member}
+use Rattle.mh_model.specs.declared.object.member.Member.{Member}
 use Rattle.mh_evidence.proofs.EffectLemmas.{taken_behind}
 use Rattle.mh_evidence.proofs.effects.behind_slots_before.Goals as goal
 

@@ -1,6 +1,6 @@
 use Rattle.std.proofs.Common.{Some, List, ap, ◌∙◌}
 use Rattle.mh_model.specs.declared.act.Act.{Act}
-use Rattle.mh_model.specs.declared.member.Member.{Member}
+use Rattle.mh_model.specs.declared.object.member.Member.{Member}
 use Rattle.mh_evidence.proofs.EffectLemmas.{found_behind, found_next}
 use Rattle.mh_evidence.proofs.effects.slot_at.Goals as goal
 

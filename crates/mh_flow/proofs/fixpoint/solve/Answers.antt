@@ -1,8 +1,8 @@
 use Rattle.std.proofs.Common.{arith, ◌≡◌, ◌++◌, ◌∷◌, [], ap, ◌∙◌, sym, subst, ℕ, List, length, length-append}
 use Rattle.std.specs.List.{Contains}
-use Rattle.mh_flow.specs.declared.net.Fact.{Fact}
-use Rattle.mh_flow.specs.declared.net.Item.{Item}
-use Rattle.mh_flow.specs.Net.{begun}
+use Rattle.mh_flow.specs.declared.fixpoint.constraints.Fact.{Fact}
+use Rattle.mh_flow.specs.declared.fixpoint.constraints.Item.{Item}
+use Rattle.mh_flow.specs.Constraints.{begun}
 use Rattle.mh_flow.specs.Gathering.{View, view, nothing, IsSound, IsClosed}
 use Rattle.mh_flow.specs.Sets.{IsLeast}
 use Rattle.mh_flow.proofs.FixpointLemmas.{nothing_sound, nothing_closed, taken_sound, taken_known, taken_closed, taken_in, solved, no_items}

@@ -1,7 +1,7 @@
 use Rattle.std.proofs.Common.{◌++◌, ap, ◌∙◌, suc, ◌+◌, drop, length, List}
 use Rattle.std.specs.List.{flat_map}
 use Rattle.mh_model.specs.declared.act.Act.{Act}
-use Rattle.mh_model.specs.declared.member.Member.{Member}
+use Rattle.mh_model.specs.declared.object.member.Member.{Member}
 use Rattle.mh_flow.specs.Sites.{through_effects}
 use Rattle.mh_flow.proofs.SiteLemmas.{slots_behind, drop_next}
 use Rattle.mh_flow.proofs.sites.push_members.Goals as goal

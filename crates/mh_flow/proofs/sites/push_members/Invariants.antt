@@ -1,6 +1,6 @@
 use Rattle.std.proofs.Common.{◌≡◌, ◌++◌, drop, suc, length}
 use Rattle.std.specs.List.{flat_map}
-use Rattle.mh_model.specs.declared.member.Member.{Member}
+use Rattle.mh_model.specs.declared.object.member.Member.{Member}
 use Rattle.mh_flow.specs.Sites.{through_effects}
 use Rattle.mh_flow.proofs.sites.push_members.Given as goal
 

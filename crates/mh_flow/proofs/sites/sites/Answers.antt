@@ -1,6 +1,6 @@
 use Rattle.std.proofs.Common.{◌++◌, ◌∷◌, [], ap, ◌∙◌, suc, length, List}
 use Rattle.std.specs.List.{flat_map}
-use Rattle.mh_model.specs.declared.member.Member.{Member}
+use Rattle.mh_model.specs.declared.object.member.Member.{Member}
 use Rattle.mh_flow.specs.Sites.{Site, through_effects}
 use Rattle.mh_flow.proofs.SiteLemmas.{slots_behind}
 use Rattle.mh_flow.proofs.sites.sites.Goals as goal

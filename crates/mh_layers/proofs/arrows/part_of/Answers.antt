@@ -6,7 +6,7 @@ use Rattle.mh_model.specs.declared.config.Config.{Config}
 use Rattle.mh_model.specs.Configuration.{present}
 use Rattle.mh_model.specs.Service.{part_at}
 use Rattle.mh_layers.specs.Reading.{Reading}
-use Rattle.mh_layers.specs.Standings.{effect_named}
+use Rattle.mh_layers.specs.EffectSites.{effect_named}
 use Rattle.mh_layers.proofs.ActiveLemmas.{named_object, object_there, part_there}
 use Rattle.mh_layers.proofs.arrows.part_of.Goals as goal
 

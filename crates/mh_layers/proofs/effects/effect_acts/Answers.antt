@@ -1,6 +1,6 @@
 use Rattle.std.proofs.Common.{◌≤◌, ◌-◌, [], List, arith, get_or, ap, ◌∙◌, sym}
 use Rattle.std.specs.List.{flat_map}
-use Rattle.mh_model.specs.declared.member.Member.{Member}
+use Rattle.mh_model.specs.declared.object.member.Member.{Member}
 use Rattle.mh_laws.specs.Ways.{slots_of}
 use Rattle.mh_layers.proofs.EffectLemmas.{behind_three}
 use Rattle.mh_layers.proofs.effects.effect_acts.Goals as goal

@@ -2,7 +2,7 @@ use Rattle.std.specs.Prelude.{◌≡◌, length, get_or, List, []}
 use Rattle.std.proofs.Common.{arith, ap, suc}
 use Rattle.mh_laws.specs.Costs.{effects}
 use Rattle.mh_model.specs.declared.act.Act.{Act}
-use Rattle.mh_layers.proofs.StandingLemmas.{acts_more}
+use Rattle.mh_layers.proofs.EffectSiteLemmas.{acts_more}
 use Rattle.mh_layers.proofs.numbering.acts_before.Goals as goal
 
 pub loop-place-preserved : goal.loop-place-preserved

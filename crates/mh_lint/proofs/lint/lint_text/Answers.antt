@@ -6,7 +6,7 @@ use Rattle.mh_lint.proofs.lint.lint_text.Goals as goal
 pub returns : goal.returns
 returns c =
     let v = c.args.service.now in
-    let added = notes_words c.args.asked.allowed v c.args.files.now (notes v) in
+    let added = notes_words c.args.asked.allowed v c.args.files.now (notes c.args.asked.all c.args.files.now v) in
     record {
       alive = c.in_ok-text.ensures.alive;
       is = c.in_ok-text.ensures.is;

@@ -4,7 +4,7 @@ use Rattle.std.proofs.Common.{ap, arith, append_assoc, ◌∙◌}
 use Rattle.std.proofs.lemmas.Result.{on_ok_weaker}
 use Rattle.mh_look.specs.Page.{page_cell, page_row}
 use Rattle.mh_look.specs.declared.page.outline.TheConstants.{ROW_END}
-use Rattle.mh_look.proofs.RangeLemmas.{one_more, closed}
+use Rattle.mh_terminal.proofs.RangeLemmas.{one_more, closed}
 use Rattle.mh_look.proofs.page.put_row.Goals as goal
 
 pub loop-column-preserved : goal.loop-column-preserved

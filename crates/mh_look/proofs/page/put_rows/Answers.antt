@@ -1,5 +1,5 @@
 use Rattle.mh_look.specs.Page.{page_row}
-use Rattle.mh_look.proofs.RangeLemmas.{one_more}
+use Rattle.mh_terminal.proofs.RangeLemmas.{one_more}
 use Rattle.mh_look.proofs.page.put_rows.Goals as goal
 
 pub loop-row-preserved : goal.loop-row-preserved

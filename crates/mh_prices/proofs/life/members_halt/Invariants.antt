@@ -1,7 +1,7 @@
 use Rattle.std.proofs.Common.{◌≡◌, drop}
 use Rattle.mh_laws.specs.Price.{sum_price}
 use Rattle.mh_laws.specs.View as spec
-use Rattle.mh_model.specs.declared.member.Member.{Member}
+use Rattle.mh_model.specs.declared.object.member.Member.{Member}
 use Rattle.mh_prices.specs.Meter.{onto}
 use Rattle.mh_prices.proofs.life.members_halt.Given as goal
 

@@ -2,8 +2,8 @@ use Rattle.std.proofs.Common.{◌≡◌, ◌∙◌, List, Option, IfNone, IfOk, 
 use Rattle.std.specs.List.{Contains}
 use Rattle.mh_base.specs.declared.obj_ref.ObjRef.{ObjRef}
 use Rattle.mh_laws.specs.Least.{Derived, Held}
-use Rattle.mh_flow.specs.declared.link.Link.{Link}
-use Rattle.mh_flow.specs.declared.nearest.Nearest.{Nearest}
+use Rattle.mh_flow.specs.declared.chain.link.Link.{Link}
+use Rattle.mh_flow.specs.declared.chain.nearest.Nearest.{Nearest}
 use Rattle.mh_flow.specs.Nearest.{IsNearest}
 use Rattle.mh_flow.specs.Solved.{flow_in}
 use Rattle.mh_verify.specs.Naming.{AreHeld, AreNoSooner, IsBest}

@@ -2,7 +2,7 @@ use Rattle.std.specs.Prelude.{codes}
 use Rattle.std.proofs.lemmas.Result.{on_ok_weaker}
 use Rattle.mh_told.specs.Printing.{hex_colour}
 use Rattle.mh_look.specs.Telling.{colours_line}
-use Rattle.mh_look.proofs.RangeLemmas.{three_put}
+use Rattle.mh_terminal.proofs.RangeLemmas.{three_put}
 use Rattle.mh_look.proofs.comparison.telling.put_colours.Goals as goal
 
 pub returns : goal.returns

@@ -2,7 +2,7 @@ use Rattle.std.specs.Prelude.{ℕ, List, ◌++◌, Option, IfSome, Vec}
 use Rattle.std.specs.declared.alloc.Global.{Global}
 use Rattle.std.proofs.Common.{ap, ◌∙◌, subst}
 use Rattle.std.specs.Option.{option_map}
-use Rattle.mh_model.specs.declared.cell.Cell.{Cell}
+use Rattle.mh_model.specs.declared.picture.cell.Cell.{Cell}
 use Rattle.mh_told.specs.Frame.{row_cells, row_line}
 use Rattle.mh_look.specs.Reading.{IsRow}
 use Rattle.mh_look.specs.Cells.{AreCellsFound}

@@ -1,5 +1,5 @@
 use Rattle.std.proofs.Common.{◌∙◌, ap, arith, List}
-use Rattle.mh_model.specs.declared.cell.Cell.{Cell}
+use Rattle.mh_model.specs.declared.picture.cell.Cell.{Cell}
 use Rattle.mh_look.specs.Cells.{filled}
 use Rattle.mh_look.proofs.CellLemmas.{filled_one}
 use Rattle.mh_look.proofs.report.run.fill_up.Goals as goal

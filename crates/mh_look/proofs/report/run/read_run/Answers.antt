@@ -2,7 +2,7 @@ use Rattle.std.specs.Prelude.{◌≡◌, ℕ, List, true}
 use Rattle.std.proofs.Common.{◌∙◌, ap, arith}
 use Rattle.std.specs.List.{list_all}
 use lib.Utf8.{scalar}
-use Rattle.mh_model.specs.declared.cell.Cell.{Cell}
+use Rattle.mh_model.specs.declared.picture.cell.Cell.{Cell}
 use Rattle.mh_look.specs.Report.{is_shown}
 use Rattle.mh_look.specs.Cells.{with_run}
 use Rattle.mh_look.proofs.ReadLemmas.{no_place, no_characters, many_characters, run_found, shown_run}

@@ -2,7 +2,7 @@ use Rattle.std.proofs.Common.{rules, sym, subst, ℤ, to_z, of_z, w32}
 use Rattle.std.proofs.Math.Facts.{to_z-of_z}
 use Rattle.std.specs.Option.{option_copied}
 use Rattle.mh_model.specs.State.{State}
-use Rattle.mh_machine.specs.declared.summing.Sum.{Sum}
+use Rattle.mh_machine.specs.declared.stepping.summing.Sum.{Sum}
 use Rattle.mh_machine.specs.Rest.{Does}
 use Rattle.mh_machine.specs.Sums.{IsSum}
 use Rattle.mh_machine.proofs.SumLemmas.{stays, comes}

@@ -1,6 +1,0 @@
-use Rattle.std.proofs.Common.{◌≡◌, ◌++◌, drop}
-use Rattle.mh_flow.specs.Routes.{links_of}
-use Rattle.mh_flow.proofs.routes.links_of.Given as goal
-
-abbrev pub invariant-loop-arrow : goal.invariant-loop-arrow
-invariant-loop-arrow l = l.links.items ++ links_of l.places.keys l.spots.keys (drop l.arrow-index l.trail) ≡ links_of l.places.keys l.spots.keys l.trail

@@ -1,6 +1,0 @@
-use Rattle.std.proofs.Common.{◌≡◌, ◌++◌, drop}
-use Rattle.mh_flow.specs.Routes.{starts_of}
-use Rattle.mh_flow.proofs.routes.starts_of.Given as goal
-
-abbrev pub invariant-loop-made : goal.invariant-loop-made
-invariant-loop-made l = l.starts.items ++ starts_of l.places.keys l.spots.keys (drop l.made-index l.moves) ≡ starts_of l.places.keys l.spots.keys l.moves

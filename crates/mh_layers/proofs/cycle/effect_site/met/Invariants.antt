@@ -1,0 +1,9 @@
+use Rattle.std.proofs.Common.{◌≡◌, [], drop, map}
+use Rattle.indexmap.specs.IndexSet.{insert_all}
+use Rattle.mh_layers.specs.EffectSites.{same_effect_site, effect_site_named}
+use Rattle.mh_layers.proofs.cycle.effect_site.met.Given as goal
+
+abbrev pub invariant-loop-key : goal.invariant-loop-key
+invariant-loop-key l =
+    insert_all same_effect_site l.effect_sites.keys (map (effect_site_named l.net) (drop l.key-index l.keys))
+    ≡ insert_all same_effect_site [] (map (effect_site_named l.net) l.keys)

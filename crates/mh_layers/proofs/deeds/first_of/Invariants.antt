@@ -1,6 +1,0 @@
-use Rattle.std.proofs.Common.{take}
-use Rattle.mh_layers.specs.Deeds.{NoneCounts}
-use Rattle.mh_layers.proofs.deeds.first_of.Given as goal
-
-abbrev pub invariant-loop-at : goal.invariant-loop-at
-invariant-loop-at l = NoneCounts l.here.reading l.here.config l.act (take l.at-index l.objects) l.key

@@ -1,5 +1,0 @@
-use Rattle.mh_layers.proofs.ReadingLemmas.{numbers_are_names}
-use Rattle.mh_layers.proofs.net.numbers_are_names.Goals as goal
-
-pub returns : goal.returns
-returns c = numbers_are_names

@@ -1,9 +1,0 @@
-use Rattle.std.proofs.Common.{◌≡◌, ◌++◌, drop}
-use Rattle.std.specs.List.{flat_map}
-use Rattle.mh_layers.specs.Layered.{active_keys, keys_active}
-use Rattle.mh_layers.specs.Reading.{flow_read}
-use Rattle.mh_layers.proofs.roots.push_effects.Given as goal
-
-abbrev pub invariant-loop-config : goal.invariant-loop-config
-invariant-loop-config l =
-    l.keys.items ++ flat_map (keys_active l.net) (drop l.config-index (flow_read l.net).configs) ≡ l.initial.keys.items ++ active_keys l.net

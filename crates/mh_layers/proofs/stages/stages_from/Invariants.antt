@@ -1,9 +1,0 @@
-use Rattle.std.proofs.Common.{◌^◌, ◌-◌, length}
-use Rattle.mh_layers.specs.Staging.{AreStagesTo}
-use Rattle.mh_layers.proofs.stages.stages_from.Given as goal
-
-abbrev pub invariant-loop-stages : goal.invariant-loop-stages
-invariant-loop-stages l = AreStagesTo l.net l.fn.root l.stages.items l.key
-
-abbrev pub decreases-loop-stages : goal.decreases-loop-stages
-decreases-loop-stages l = 2 ^ 64 - length l.stages.items

@@ -1,9 +1,0 @@
-use Rattle.std.proofs.Common.{◌≡◌, ◌++◌, drop, map}
-use Rattle.mh_layers.specs.Standings.{label_in}
-use Rattle.mh_layers.specs.Web.{label_to}
-use Rattle.mh_layers.proofs.standing.labels_of.Given as goal
-
-abbrev pub invariant-loop-key : goal.invariant-loop-key
-invariant-loop-key l =
-    l.labels.items ++ map (label_to (label_in l.net l.standings.keys)) (drop l.key-index l.keys)
-    ≡ map (label_to (label_in l.net l.standings.keys)) l.keys

@@ -1,0 +1,264 @@
+//! Effects by their numbers, as causes; and labels for their places.
+//!
+//! Promise: a cause is that of the effect with the number, and labels are in the order of places.
+ghost use Rattle.std.specs.Prelude.{◌≡◌, ◌∷◌, [], map, slice_get, None, true, IfOk, OnOk};
+ghost use Rattle.std.specs.Option.{option_copied, option_map, option_map_or};
+ghost use Rattle.indexmap.specs.IndexSet.{insert_all};
+ghost use Rattle.mh_laws.specs.Costs.{effect_at};
+ghost use Rattle.mh_laws.specs.Each.{Each};
+ghost use Rattle.mh_layers.specs.Cycle as spec;
+ghost use Rattle.mh_layers.specs.Named.{IsEffectKept};
+ghost use Rattle.mh_layers.specs.Reading.{has_config, has_object, kept};
+ghost use Rattle.mh_layers.specs.EffectSites.{AreEffectSites, cause_by, cause_named, label_in, same_effect_site, effect_site_cmp, effect_site_named, effect_site_number};
+ghost use Rattle.mh_layers.specs.KeyGraph.{label_to};
+
+use crate::cause::Cause;
+use crate::effects::effect_acts;
+use crate::node_key::NodeKey;
+use crate::numbered::NumberedService;
+use crate::numbering::first_number;
+use indexmap::IndexSet;
+use mh_base::ObjRef;
+use mh_flow::order::{by_config, by_reference};
+use mh_group::ActionName;
+use mh_model::{Act, Config, Fixed};
+use std::alloc::{AllocError, Global};
+use std::cmp::Ordering;
+
+/// The place of an action: its object, and its number through the object's effects.
+#[derive(Drop, PartialEq, Eq, Hash)]
+pub struct EffectSite {
+    pub at: ObjRef,
+    pub index: usize,
+}
+
+// Causes
+
+/// The number of the first action of the effect with this number, of the object that is present, if one is.
+fn index_in(alloc: Global, part: Option<&Fixed>, number: usize) -> Result<usize, AllocError>
+    ensures { IfOk result (λ index. index ≡ option_map_or (spec.first_number number) (option_copied part.entry) 1) }
+{
+    match part {
+        None => Ok(1),
+        Some(part) => first_number(alloc, part, number),
+    }
+}
+
+/// The name of the first of these actions.
+fn first_name(acts: &[Act]) -> Option<ActionName>
+    ensures { result ≡ option_map (λ a. a.name) (slice_get acts.now 0) }
+{
+    match acts.first() {
+        None => None,
+        Some(act) => Some(act.name),
+    }
+}
+
+fn action_in(part: Option<&Fixed>, number: usize) -> Option<ActionName>
+    ensures { result ≡ option_map_or (λ p. option_map (λ a. a.name) (slice_get (effect_at p number) 0)) (option_copied part.entry) None }
+{
+    match part {
+        None => None,
+        Some(part) => first_name(effect_acts(part, number)),
+    }
+}
+
+pub(crate) fn copied_config(config: &Config) -> Result<Config, AllocError>
+    ensures { IfOk result (λ copy. copy ≡ config.now) }
+{
+    config.clone()
+}
+
+pub(crate) fn copied_reference(at: &ObjRef) -> Result<ObjRef, AllocError>
+    ensures { IfOk result (λ copy. copy ≡ at.now) }
+{
+    at.clone()
+}
+
+/// The effect as a cause.
+pub(crate) fn cause_at(
+    net: &NumberedService<'_>,
+    config: &Config,
+    at: &ObjRef,
+    number: usize,
+) -> Result<Cause, AllocError>
+    ensures { IfOk result (λ cause. cause ≡ spec.cause_of net.now.service (record { config = config.now; object = at.now; number = number })) }
+{
+    let present = net.present(config);
+    let part = present.find(at);
+    let action = action_in(part, number);
+    let index = index_in(net.allocator(), part, number)?;
+    let config = copied_config(config)?;
+    let at = copied_reference(at)?;
+    Ok(Cause {
+        config,
+        at,
+        index,
+        action,
+    })
+}
+
+/// The effect with these numbers as a cause.
+#[tactic(auto, using(crate::proofs::EffectSiteLemmas::cause_found))]
+fn cause_by(
+    net: &NumberedService<'_>,
+    config: usize,
+    object: usize,
+    number: usize,
+) -> Result<Cause, AllocError>
+    requires config { has_config net.now config ≡ true }
+    requires object { has_object net.now object ≡ true }
+    ensures { IfOk result (λ cause. cause ≡ cause_by net.now config object number) }
+{
+    let Some(config) = net.config_at(config) else {
+        unreachable!();
+    };
+    let Some(at) = net.object_at(object) else {
+        unreachable!();
+    };
+    let cause = cause_at(net, config, at, number)?;
+    Ok(cause)
+}
+
+/// The effect with this number as a cause.
+pub(crate) fn cause_of(net: &NumberedService<'_>, key: &NodeKey) -> Result<Cause, AllocError>
+    requires { IsEffectKept net.now key.now }
+    ensures { IfOk result (λ cause. cause ≡ cause_named net.now key.now) }
+{
+    net.read();
+    match key {
+        NodeKey::Effect(config, object, number) => cause_by(net, *config, *object, *number),
+        _ => unreachable!(),
+    }
+}
+
+// Orders
+
+fn by_place(first: &Cause, second: &Cause) -> Ordering
+    ensures { result ≡ spec.by_place first.now second.now }
+{
+    by_reference(&first.at, &second.at).then(first.index.cmp(&second.index))
+}
+
+/// By place, then by configuration.
+pub(crate) fn by_effect_site(first: &Cause, second: &Cause) -> Ordering
+    ensures { result ≡ spec.by_effect_site first.now second.now }
+{
+    by_place(first, second).then(by_config(&first.config, &second.config))
+}
+
+// Labels
+
+fn by_order(first: &EffectSite, second: &EffectSite) -> Ordering
+    ensures { result ≡ effect_site_cmp first.now second.now }
+{
+    by_reference(&first.at, &second.at).then(first.index.cmp(&second.index))
+}
+
+/// Where the effect with this number stands.
+fn place_of(net: &NumberedService<'_>, key: &NodeKey) -> Result<EffectSite, AllocError>
+    requires { IsEffectKept net.now key.now }
+    ensures { IfOk result (λ standing. standing ≡ effect_site_named net.now key.now) }
+{
+    let cause = cause_of(net, key)?;
+    Ok(EffectSite {
+        at: cause.at,
+        index: cause.index,
+    })
+}
+
+/// Puts where it stands among these.
+fn put(
+    effect_sites: &mut IndexSet<EffectSite>,
+    net: &NumberedService<'_>,
+    key: &NodeKey,
+) -> Result<(), AllocError>
+    requires { IsEffectKept net.now key.now }
+    ensures { OnOk result (effect_sites.new.keys ≡ insert_all same_effect_site effect_sites.old.keys (effect_site_named net.now key.now ∷ [])) }
+{
+    effect_sites.insert(place_of(net, key)?)?;
+    Ok(())
+}
+
+/// Where these effects stand, as they come.
+fn met(
+    alloc: Global,
+    net: &NumberedService<'_>,
+    keys: &[NodeKey],
+) -> Result<IndexSet<EffectSite>, AllocError>
+    requires { Each (IsEffectKept net.now) keys.now }
+    ensures { IfOk result (λ effect_sites. effect_sites.keys ≡ insert_all same_effect_site [] (map (effect_site_named net.now) keys.now)) }
+{
+    let mut effect_sites = IndexSet::new(alloc);
+    for key in keys {
+        put(&mut effect_sites, net, key)?;
+    }
+    Ok(effect_sites)
+}
+
+/// Where these effects stand, in the order of places.
+pub(crate) fn standings_of(
+    alloc: Global,
+    net: &NumberedService<'_>,
+    keys: &[NodeKey],
+) -> Result<IndexSet<EffectSite>, AllocError>
+    requires { Each (IsEffectKept net.now) keys.now }
+    ensures { IfOk result (λ effect_sites. AreEffectSites net.now keys.now effect_sites.keys) }
+{
+    let mut effect_sites = met(alloc, net, keys)?;
+    effect_sites.sort_by(by_order)?;
+    Ok(effect_sites)
+}
+
+/// The number of the place.
+fn number_of(effect_sites: &IndexSet<EffectSite>, standing: &EffectSite) -> usize
+    ensures { result ≡ effect_site_number effect_sites.now.keys standing.now }
+{
+    effect_sites.get_index_of(standing).unwrap_or(0)
+}
+
+/// The label of an arrow to an effect: the number of its place.
+fn label_of(
+    net: &NumberedService<'_>,
+    effect_sites: &IndexSet<EffectSite>,
+    key: &NodeKey,
+) -> Result<u64, AllocError>
+    requires { IsEffectKept net.now key.now }
+    ensures { IfOk result (λ label. label ≡ label_in net.now effect_sites.now.keys key.now) }
+{
+    let place = place_of(net, key)?;
+    Ok(number_of(effect_sites, &place) as u64)
+}
+
+/// The label of an arrow to this key, if it has one.
+#[tactic(auto, using(crate::proofs::EffectSiteLemmas::label_tells))]
+fn label_to(
+    net: &NumberedService<'_>,
+    effect_sites: &IndexSet<EffectSite>,
+    key: &NodeKey,
+) -> Result<Option<u64>, AllocError>
+    requires { kept net.now key.now }
+    ensures { IfOk result (λ label. label ≡ label_to (label_in net.now effect_sites.now.keys) key.now) }
+{
+    match key {
+        NodeKey::Effect(..) => Ok(Some(label_of(net, effect_sites, key)?)),
+        _ => Ok(None),
+    }
+}
+
+/// The labels of arrows to these keys.
+pub(crate) fn labels_of(
+    alloc: Global,
+    net: &NumberedService<'_>,
+    effect_sites: &IndexSet<EffectSite>,
+    keys: &[NodeKey],
+) -> Result<Vec<Option<u64>>, AllocError>
+    requires { Each (kept net.now) keys.now }
+    ensures { IfOk result (λ labels. labels.items ≡ map (label_to (label_in net.now effect_sites.now.keys)) keys.now) }
+{
+    let mut labels = Vec::new(alloc);
+    for key in keys {
+        labels.push(label_to(net, effect_sites, key)?)?;
+    }
+    Ok(labels)
+}

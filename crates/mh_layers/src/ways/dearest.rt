@@ -1,0 +1,140 @@
+//! The effect that costs most among keys, and the first of numbers that is largest.
+//!
+//! Promise: of effects that cost as much the first is told, by its place and then by its configuration; and none only where
+//! none costs anything.
+ghost use Rattle.std.specs.Prelude.{◌≡◌, ◌<◌, length, nat_lt, true, Some, IfOk, OnOk};
+ghost use Rattle.std.specs.Option.{option_map_or};
+ghost use Rattle.mh_laws.specs.Each.{Each};
+ghost use Rattle.mh_layers.specs.Layering.{cost_in};
+ghost use Rattle.mh_layers.specs.Reading.{kept};
+ghost use Rattle.mh_layers.specs.Taking.{or_nothing};
+ghost use Rattle.mh_layers.specs.Choosing.{AreChosen, IsLargest, IsSeen, effect_cost, is_dearer, number_at};
+
+use crate::cause::Cause;
+use crate::cycle::effect_site::{by_effect_site, cause_of};
+use crate::laying::Laying;
+use crate::node_key::NodeKey;
+use crate::numbered::NumberedService;
+use std::alloc::AllocError;
+
+/// An effect that costs something.
+#[derive(Drop)]
+pub(crate) struct Dearest {
+    pub key: NodeKey,
+    pub cause: Cause,
+    pub cost: u64,
+}
+
+fn laid_cost(laying: &Laying, key: &NodeKey) -> u64
+    ensures { result ≡ or_nothing (cost_in laying.now key.now) }
+{
+    match laying.costs().laid(key) {
+        None => 0,
+        Some(laid) => laid.cost,
+    }
+}
+
+/// What the effect costs; another key nothing.
+fn effect_cost(laying: &Laying, key: &NodeKey) -> u64
+    ensures { result ≡ effect_cost laying.now key.now }
+{
+    match key {
+        NodeKey::Effect(..) => laid_cost(laying, key),
+        _ => 0,
+    }
+}
+
+/// Whether what costs so much comes before the best.
+fn comes_before(cost: u64, cause: &Cause, best: &Dearest) -> bool
+    ensures { result ≡ is_dearer cost cause.now best.now }
+{
+    best.cost < cost || (cost == best.cost && by_effect_site(cause, &best.cause).is_lt())
+}
+
+fn is_best(cost: u64, cause: &Cause, best: &Option<Dearest>) -> bool
+    ensures { result ≡ option_map_or (is_dearer cost cause.now) best.now true }
+{
+    match best {
+        None => true,
+        Some(best) => comes_before(cost, cause, best),
+    }
+}
+
+fn set(best: &mut Option<Dearest>, key: NodeKey, cause: Cause, cost: u64)
+    ensures { best.new ≡ Some (record { key = key; cause = cause; cost = cost }) }
+{
+    *best = Some(Dearest { key, cause, cost });
+}
+
+/// The key is the best, if it is an effect that comes before it.
+#[tactic(auto, using(crate::proofs::DearestLemmas::seen_nothing, crate::proofs::DearestLemmas::seen_later, crate::proofs::DearestLemmas::seen_best))]
+fn see(
+    net: &NumberedService<'_>,
+    laying: &Laying,
+    best: &mut Option<Dearest>,
+    key: &NodeKey,
+) -> Result<(), AllocError>
+    requires { kept net.now key.now }
+    ensures { OnOk result (IsSeen net.now laying.now key.now best.old best.new) }
+{
+    let cost = effect_cost(laying, key);
+    if cost == 0 {
+        return Ok(());
+    }
+    let cause = cause_of(net, key)?;
+    if !is_best(cost, &cause, best) {
+        return Ok(());
+    }
+    set(best, *key, cause, cost);
+    Ok(())
+}
+
+/// The dearest effect of these keys.
+#[tactic(auto, using(crate::proofs::DearestLemmas::chosen_all))]
+pub(crate) fn dearest_of(
+    net: &NumberedService<'_>,
+    laying: &Laying,
+    keys: &[NodeKey],
+) -> Result<Option<Dearest>, AllocError>
+    requires { Each (kept net.now) keys.now }
+    ensures { IfOk result (λ best. AreChosen net.now laying.now keys.now best) }
+{
+    let mut best = None;
+    for key in keys {
+        see(net, laying, &mut best, key)?;
+    }
+    Ok(best)
+}
+
+// Numbers
+
+/// The number at this place; behind all nothing.
+pub(crate) fn number_at(numbers: &[u64], place: usize) -> u64
+    ensures { result ≡ number_at numbers.now place }
+{
+    match numbers.get(place) {
+        None => 0,
+        Some(number) => *number,
+    }
+}
+
+fn is_larger(numbers: &[u64], place: usize, best: usize) -> bool
+    ensures { result ≡ nat_lt (number_at numbers.now best) (number_at numbers.now place) }
+{
+    number_at(numbers, best) < number_at(numbers, place)
+}
+
+/// The place of the first of these that is largest.
+#[tactic(auto, using(crate::proofs::DearestLemmas::largest_begins, crate::proofs::DearestLemmas::largest_new, crate::proofs::DearestLemmas::largest_same, crate::proofs::DearestLemmas::largest_all))]
+pub(crate) fn first_largest(numbers: &[u64]) -> usize
+    requires { 0 < length numbers.now }
+    ensures { IsLargest numbers.now result }
+{
+    let mut best = 0;
+    for place in 1..numbers.len() {
+        if is_larger(numbers, place, best) {
+            best = place;
+        }
+    }
+    best
+}

@@ -1,0 +1,6 @@
+use Rattle.std.proofs.Common.{rules}
+use Rattle.std.proofs.Math.Facts.{to_z-of_z}
+use Rattle.mh_lint.proofs.sights.ends_left.Goals as goal
+
+pub returns : goal.returns
+returns c = search (rules, to_z-of_z)

@@ -1,0 +1,245 @@
+//! What is gathered of all objects of a service and of all their actions.
+//!
+//! Promise: each function answers, or puts behind the others, what the definition of the same matter in `specs/Uses` says.
+ghost use Rattle.std.specs.Prelude.{◌≡◌, ◌++◌, IfOk, OnOk};
+ghost use Rattle.std.specs.List.{flat_map, list_any};
+ghost use Rattle.mh_model.specs.Effects.{actions};
+ghost use Rattle.mh_model.specs.Tokens.{member_actions};
+ghost use Rattle.mh_lint.specs.Uses as spec;
+
+use crate::heard::Heard;
+use crate::uses::reading::{
+    push_added, push_changed, push_grouped, push_heard, push_listed, push_read,
+};
+use crate::uses::{Change, Uses};
+use mh_flow::Equipped;
+use mh_group::{ActionName, Attribute};
+use mh_model::parts::{effect_of, members};
+use mh_model::{Act, Effect, Fixed, FixedPart, Member, Target};
+use std::alloc::{AllocError, Global};
+
+// OBJECTS AND ACTIONS
+
+fn push_objects(objects: &mut Vec<FixedPart>, parts: &[FixedPart]) -> Result<(), AllocError>
+    ensures { OnOk result (objects.new.items ≡ objects.old.items ++ parts.now) }
+{
+    for part in parts {
+        objects.push(part.clone()?)?;
+    }
+    Ok(())
+}
+
+/// All objects of the service.
+fn objects_of(alloc: Global, service: &Equipped<'_>) -> Result<Vec<FixedPart>, AllocError>
+    ensures { IfOk result (λ objects. objects.items ≡ spec.objects service.now) }
+{
+    let mut objects = Vec::new(alloc);
+    for parts in service.groups().values() {
+        push_objects(&mut objects, parts.as_slice())?;
+    }
+    Ok(objects)
+}
+
+fn copied(act: &Act) -> Result<Act, AllocError>
+    ensures { IfOk result (λ copy. copy ≡ act.now) }
+{
+    act.clone()
+}
+
+fn push_acts(all: &mut Vec<Act>, acts: &[Act]) -> Result<(), AllocError>
+    ensures { OnOk result (all.new.items ≡ all.old.items ++ acts.now) }
+{
+    for act in acts {
+        all.push(copied(act)?)?;
+    }
+    Ok(())
+}
+
+fn push_slots(all: &mut Vec<Act>, slots: &[Effect]) -> Result<(), AllocError>
+    ensures { OnOk result (all.new.items ≡ all.old.items ++ flat_map (λ slot. slot) slots.now) }
+{
+    for slot in slots {
+        push_acts(all, slot.as_slice())?;
+    }
+    Ok(())
+}
+
+fn push_members(all: &mut Vec<Act>, members: &[Member]) -> Result<(), AllocError>
+    ensures { OnOk result (all.new.items ≡ all.old.items ++ flat_map member_actions members.now) }
+{
+    for member in members {
+        push_slots(all, member.slots.as_slice())?;
+    }
+    Ok(())
+}
+
+fn push_actions(all: &mut Vec<Act>, part: &Fixed) -> Result<(), AllocError>
+    ensures { OnOk result (all.new.items ≡ all.old.items ++ actions part.now) }
+{
+    push_acts(all, effect_of(part, Attribute::OnStartUp))?;
+    push_acts(all, effect_of(part, Attribute::OnCloseDown))?;
+    push_acts(all, effect_of(part, Attribute::LinkEffect))?;
+    push_members(all, members(part))
+}
+
+/// All actions of these objects.
+fn actions_of(alloc: Global, objects: &[FixedPart]) -> Result<Vec<Act>, AllocError>
+    ensures { IfOk result (λ acts. acts.items ≡ flat_map actions objects.now) }
+{
+    let mut acts = Vec::new(alloc);
+    push_all_actions(&mut acts, objects)?;
+    Ok(acts)
+}
+
+fn push_all_actions(acts: &mut Vec<Act>, objects: &[FixedPart]) -> Result<(), AllocError>
+    ensures { OnOk result (acts.new.items ≡ acts.old.items ++ flat_map actions objects.now) }
+{
+    for object in objects {
+        push_actions(acts, object.get())?;
+    }
+    Ok(())
+}
+
+// WHAT THEY ARE DONE TO
+
+fn push_all_changed(
+    targets: &mut Vec<Target>,
+    change: Change,
+    acts: &[Act],
+) -> Result<(), AllocError>
+    ensures { OnOk result (targets.new.items ≡ targets.old.items ++ flat_map (spec.changed_by change) acts.now) }
+{
+    for act in acts {
+        push_changed(targets, change, act)?;
+    }
+    Ok(())
+}
+
+fn push_all_added(targets: &mut Vec<Target>, acts: &[Act]) -> Result<(), AllocError>
+    ensures { OnOk result (targets.new.items ≡ targets.old.items ++ flat_map spec.added_by acts.now) }
+{
+    for act in acts {
+        push_added(targets, act)?;
+    }
+    Ok(())
+}
+
+fn push_all_listed(targets: &mut Vec<Target>, objects: &[FixedPart]) -> Result<(), AllocError>
+    ensures { OnOk result (targets.new.items ≡ targets.old.items ++ flat_map spec.listed_by objects.now) }
+{
+    for object in objects {
+        push_listed(targets, object.get())?;
+    }
+    Ok(())
+}
+
+fn push_all_grouped(targets: &mut Vec<Target>, objects: &[FixedPart]) -> Result<(), AllocError>
+    ensures { OnOk result (targets.new.items ≡ targets.old.items ++ flat_map spec.grouped_by objects.now) }
+{
+    for object in objects {
+        push_grouped(targets, object.get())?;
+    }
+    Ok(())
+}
+
+/// What is done to which actions change this.
+fn changed_of(alloc: Global, change: Change, acts: &[Act]) -> Result<Vec<Target>, AllocError>
+    ensures { IfOk result (λ targets. targets.items ≡ flat_map (spec.changed_by change) acts.now) }
+{
+    let mut targets = Vec::new(alloc);
+    push_all_changed(&mut targets, change, acts)?;
+    Ok(targets)
+}
+
+/// What is moved.
+fn moved_of(alloc: Global, objects: &[FixedPart], acts: &[Act]) -> Result<Vec<Target>, AllocError>
+    ensures { IfOk result (λ targets. targets.items ≡ (spec.uses_of objects.now acts.now).moved) }
+{
+    let mut targets = changed_of(alloc, Change::Position, acts)?;
+    push_all_added(&mut targets, acts)?;
+    push_all_listed(&mut targets, objects)?;
+    Ok(targets)
+}
+
+/// What is run.
+fn run_of(alloc: Global, objects: &[FixedPart], acts: &[Act]) -> Result<Vec<Target>, AllocError>
+    ensures { IfOk result (λ targets. targets.items ≡ (spec.uses_of objects.now acts.now).run) }
+{
+    let mut targets = changed_of(alloc, Change::Running, acts)?;
+    push_all_added(&mut targets, acts)?;
+    push_all_grouped(&mut targets, objects)?;
+    Ok(targets)
+}
+
+fn push_all_read(targets: &mut Vec<Target>, acts: &[Act]) -> Result<(), AllocError>
+    ensures { OnOk result (targets.new.items ≡ targets.old.items ++ flat_map spec.read_by acts.now) }
+{
+    for act in acts {
+        push_read(targets, act)?;
+    }
+    Ok(())
+}
+
+/// Which variables are read.
+fn read_of(alloc: Global, acts: &[Act]) -> Result<Vec<Target>, AllocError>
+    ensures { IfOk result (λ targets. targets.items ≡ flat_map spec.read_by acts.now) }
+{
+    let mut targets = Vec::new(alloc);
+    push_all_read(&mut targets, acts)?;
+    Ok(targets)
+}
+
+fn push_all_heard(heard: &mut Vec<Heard>, objects: &[FixedPart]) -> Result<(), AllocError>
+    ensures { OnOk result (heard.new.items ≡ heard.old.items ++ flat_map spec.heard_by objects.now) }
+{
+    for object in objects {
+        push_heard(heard, object.get())?;
+    }
+    Ok(())
+}
+
+/// What is heard of timers.
+fn heard_of(alloc: Global, objects: &[FixedPart]) -> Result<Vec<Heard>, AllocError>
+    ensures { IfOk result (λ heard. heard.items ≡ flat_map spec.heard_by objects.now) }
+{
+    let mut heard = Vec::new(alloc);
+    push_all_heard(&mut heard, objects)?;
+    Ok(heard)
+}
+
+fn is_transit(name: ActionName) -> bool
+    ensures { result ≡ spec.is_transit name }
+{
+    matches!(name, ActionName::TransitionTo)
+}
+
+fn has_transition(acts: &[Act]) -> bool
+    ensures { result ≡ list_any (λ a. spec.is_transit a.name) acts.now }
+{
+    acts.iter().any(|act| is_transit(act.name))
+}
+
+/// What these objects hear, and these actions are done to.
+fn uses_in(alloc: Global, objects: &[FixedPart], acts: &[Act]) -> Result<Uses, AllocError>
+    ensures { IfOk result (λ uses. uses ≡ spec.uses_of objects.now acts.now) }
+{
+    Ok(Uses {
+        moved: moved_of(alloc, objects, acts)?,
+        resized: changed_of(alloc, Change::Size, acts)?,
+        reworded: changed_of(alloc, Change::Words, acts)?,
+        tinted: changed_of(alloc, Change::Colour, acts)?,
+        run: run_of(alloc, objects, acts)?,
+        read: read_of(alloc, acts)?,
+        heard: heard_of(alloc, objects)?,
+        has_transition: has_transition(acts),
+    })
+}
+
+/// What there is of this in all objects of the service and all actions of all their effects.
+pub(crate) fn uses_of(alloc: Global, service: &Equipped<'_>) -> Result<Uses, AllocError>
+    ensures { IfOk result (λ uses. uses ≡ spec.uses service.now) }
+{
+    let objects = objects_of(alloc, service)?;
+    let acts = actions_of(alloc, objects.as_slice())?;
+    uses_in(alloc, objects.as_slice(), acts.as_slice())
+}

@@ -1,6 +1,0 @@
-use Rattle.std.proofs.Common.{rules}
-use Rattle.std.proofs.Math.Facts.{to_z-of_z}
-use Rattle.mh_model.proofs.boxes.rows_of.Goals as goal
-
-pub returns : goal.returns
-returns c = search (rules, to_z-of_z)
