@@ -1,6 +1,6 @@
 #!/usr/bin/env python3
 """Holds docs/WRITING.md, examples/recipes and the tests together: each file that the page shows is, line by line, the one of its
-folder; and each file, script and report of a recipe stands in crates/mh_tests/src/reports/writing.rt, white space apart. Run it at the top of the
+folder; and each file, script and report of a recipe stands in crates/mh_tests_reports/src/writing.rt, white space apart. Run it at the top of the
 repository; it prints what differs, and ends with 1 if something does."""
 
 import os
@@ -9,7 +9,7 @@ import sys
 
 PAGE = "docs/WRITING.md"
 RECIPES = "examples/recipes"
-TESTS = "crates/mh_tests/src/reports/writing.rt"
+TESTS = "crates/mh_tests_reports/src/writing.rt"
 
 
 def text(path):

@@ -1,5 +1,5 @@
 #!/usr/bin/env python3
-"""Holds what `redlook why` does with files and folders to what docs/LOOKING.md says, where no test of mh_tests can: the exit status, and words
+"""Holds what `redlook why` does with files and folders to what docs/LOOKING.md says, where no test can: the exit status, and words
 of what is written. Run it with the program that is meant, `bench/words/statuses.py crates/redlook/out/redlook`; it prints each case that
 differs, and ends with 1 if there is one."""
 

@@ -32,19 +32,19 @@ split_below (suc i) (suc n) less = by (split_below i n (omega (arith, less)))
     by (inr e) = inr (ap suc e)
 
 -- so many of these facts are known, and there is no other edge
-pub record IsAdding (net : ConstraintSystem) (fact : ℕ → Fact) (count : ℕ) (initial now : View) : Type 0 where
-  pub sound : IsSound net now
-  pub step : IsStep net initial now
+pub record IsAdding (system : ConstraintSystem) (fact : ℕ → Fact) (count : ℕ) (initial now : View) : Type 0 where
+  pub sound : IsSound system now
+  pub step : IsStep system initial now
   pub edges : now.edges ≡ initial.edges
   pub put : (i : ℕ) → i < count → IsIn now (item.Member (fact i))
 
-pub add_none : (net : ConstraintSystem) (fact : ℕ → Fact) (a : View) → IsSound net a → IsAdding net fact 0 a a
-add_none net fact a sound = record { sound = sound; step = same_step net a; edges = refl; put = λ i less. absurd (omega (arith, less)) }
+pub add_none : (system : ConstraintSystem) (fact : ℕ → Fact) (a : View) → IsSound system a → IsAdding system fact 0 a a
+add_none system fact a sound = record { sound = sound; step = same_step system a; edges = refl; put = λ i less. absurd (omega (arith, less)) }
 
-pub add_next : (net : ConstraintSystem) (fact : ℕ → Fact) (count : ℕ) (a b c : View) → IsAdding net fact count a b → IsSound net c → IsStep net b c → c.edges ≡ b.edges → IsIn c (item.Member (fact count)) → IsAdding net fact (count + 1) a c
-add_next net fact count a b c k sound step edges put = record {
+pub add_next : (system : ConstraintSystem) (fact : ℕ → Fact) (count : ℕ) (a b c : View) → IsAdding system fact count a b → IsSound system c → IsStep system b c → c.edges ≡ b.edges → IsIn c (item.Member (fact count)) → IsAdding system fact (count + 1) a c
+add_next system fact count a b c k sound step edges put = record {
   sound = sound;
-  step = then_step net a b c k.step step;
+  step = then_step system a b c k.step step;
   edges = edges ∙ k.edges;
   put = λ i less. by i (split_below i count less);
 }

@@ -37,7 +37,7 @@ use Rattle.mh_flow.specs.declared.chart.Set.TheVariants as set
 use Rattle.mh_flow.specs.Bridge.{DerivedIsHeld, DerivedIsInFlow, DerivedIsReached, HeldExactly, HeldIsDerived, HoldersHold, IsHeldAt, is_held_at, NumbersFit, RowsAreLeast, UntargetedOpensNothing}
 use Rattle.mh_flow.specs.Chart.{Chart, IsChart, config_number, goes_on, member_of, node_from, node_of, argument_of, handed_argument, read_by}
 use Rattle.mh_flow.specs.Opening as opening
-use Rattle.mh_flow.specs.Opening.{member, net_of}
+use Rattle.mh_flow.specs.Opening.{member, system_of}
 use Rattle.mh_flow.specs.Solved.{flow_of, is_holder_in, is_reached, reached_configs, set_of}
 use Rattle.mh_flow.specs.Solved as solved
 use Rattle.mh_flow.proofs.ConfigLemmas as configs
@@ -74,7 +74,7 @@ pub holders_hold : HoldersHold
 holders_hold v c r q is keys d = holder_of_held v c r q is keys d
 
 -- what stands at the number is held
-named_is_derived : (v : Service) (ch : Chart) (rows : List (List Bool)) (c : Config) (r q : ObjRef) (u m : ℕ) → IsChart v ch → sets.IsLeast (net_of v ch) rows → node_of v ch c r ≡ Some u → slice_get ch.members m ≡ Some q → has rows u m ≡ true → Derived v (Held c r q)
+named_is_derived : (v : Service) (ch : Chart) (rows : List (List Bool)) (c : Config) (r q : ObjRef) (u m : ℕ) → IsChart v ch → sets.IsLeast (system_of v ch) rows → node_of v ch c r ≡ Some u → slice_get ch.members m ≡ Some q → has rows u m ≡ true → Derived v (Held c r q)
 named_is_derived v ch rows c r q u m is s e names h = by (lookup (same_config c) ch.configs) refl e
   where
     by : (o : Option Bases) → lookup (same_config c) ch.configs ≡ o → option_and_then (node_from v c r) o ≡ Some u → Derived v (Held c r q)
@@ -86,7 +86,7 @@ named_is_derived v ch rows c r q u m is s e names h = by (lookup (same_config c)
 pub held_is_derived : HeldIsDerived
 held_is_derived v ch rows c r q u m is s e f h = named_is_derived v ch rows c r q u m is s e (member_at_number ch q m f) h
 
-held_by_number : (v : Service) (ch : Chart) (rows : List (List Bool)) (c : Config) (r q : ObjRef) → IsChart v ch → sets.IsLeast (net_of v ch) rows → is_held_at v ch rows c r q ≡ true → Derived v (Held c r q)
+held_by_number : (v : Service) (ch : Chart) (rows : List (List Bool)) (c : Config) (r q : ObjRef) → IsChart v ch → sets.IsLeast (system_of v ch) rows → is_held_at v ch rows c r q ≡ true → Derived v (Held c r q)
 held_by_number v ch rows c r q is s h = by (node_of v ch c r) refl (member_of ch q) refl h
   where
     by : (o : Option ℕ) → node_of v ch c r ≡ o → (m : Option ℕ) → member_of ch q ≡ m → option_map_or (λ (u : ℕ). option_map_or (has rows u) m false) o false ≡ true → Derived v (Held c r q)
@@ -111,7 +111,7 @@ derived_is_reached v ch rows c is s d =
     let among : Contains (map (λ (e : Config × Bases). e.0) ch.configs) c = mapped (λ (e : Config × Bases). e.0) ch.configs (c, at.bases) (get_member ch.configs at.number (c, at.bases) at.is.at) in
     configs.among_of (reached_configs ch rows) c (passing (is_reached ch rows) (map (λ (e : Config × Bases). e.0) ch.configs) c reached among)
 
-reached_is_derived : (v : Service) (ch : Chart) (rows : List (List Bool)) (c : Config) → IsChart v ch → sets.IsLeast (net_of v ch) rows → reached (flow_of v ch rows) c ≡ true → Derived v (Reached c)
+reached_is_derived : (v : Service) (ch : Chart) (rows : List (List Bool)) (c : Config) → IsChart v ch → sets.IsLeast (system_of v ch) rows → reached (flow_of v ch rows) c ≡ true → Derived v (Reached c)
 reached_is_derived v ch rows c is s h =
     by (config_number ch c) refl (passing_from (is_reached ch rows) (map (λ (e : Config × Bases). e.0) ch.configs) c (configs.member_of (reached_configs ch rows) c h)).0
   where
@@ -131,7 +131,7 @@ derived_is_in_flow v ch rows c r q is s d =
     (subst (λ (z : Bool). Contains (if z then option_map_or (λ (u : ℕ). solved.named ch.members (members_of rows u)) (node_of v ch c r) [] else []) q) (sym holder)
     (subst (λ (o : Option ℕ). Contains (option_map_or (λ (u : ℕ). solved.named ch.members (members_of rows u)) o []) q) (sym held.is_node) names))
 
-in_flow_is_derived : (v : Service) (ch : Chart) (rows : List (List Bool)) (c : Config) (r q : ObjRef) → IsChart v ch → sets.IsLeast (net_of v ch) rows → is_held ((flow_of v ch rows).sets c) r q ≡ true → Derived v (Held c r q)
+in_flow_is_derived : (v : Service) (ch : Chart) (rows : List (List Bool)) (c : Config) (r q : ObjRef) → IsChart v ch → sets.IsLeast (system_of v ch) rows → is_held ((flow_of v ch rows).sets c) r q ≡ true → Derived v (Held c r q)
 in_flow_is_derived v ch rows c r q is s h =
     let some = member_any (same_ref q) (set_of v ch rows c r) h in
     let among : Contains (set_of v ch rows c r) q = subst (λ (x : ObjRef). Contains (set_of v ch rows c r) x) (sym (same_ref-same q some.0 some.1)) some.2 in
@@ -197,7 +197,7 @@ exact_solves v w k = record {
   leads = λ c at. each_of (IsLed v w c) (active_actions (present v c)) (λ a active. led_of v w c a k (k.arrived c at) active);
 }
 
-flow_exact : (v : Service) (ch : Chart) (rows : List (List Bool)) → IsChart v ch → sets.IsLeast (net_of v ch) rows → IsExact v (flow_of v ch rows)
+flow_exact : (v : Service) (ch : Chart) (rows : List (List Bool)) → IsChart v ch → sets.IsLeast (system_of v ch) rows → IsExact v (flow_of v ch rows)
 flow_exact v ch rows is s = record {
   arrived = λ c h. reached_is_derived v ch rows c is s h;
   kept = λ c r q h. in_flow_is_derived v ch rows c r q is s h;

@@ -19,22 +19,22 @@ use Rattle.mh_flow.specs.declared.chain.link.Link.{Link}
 use Rattle.mh_flow.specs.declared.chain.moves.Holder.{Holder}
 use Rattle.mh_flow.specs.declared.chain.moves.ActionSite.{ActionSite}
 use Rattle.mh_flow.specs.declared.chain.moves.Move.{Move}
-use Rattle.mh_flow.specs.Chains.{by_spot}
+use Rattle.mh_flow.specs.Chains.{by_action_site}
 use Rattle.mh_flow.specs.Moves.{links_at, links_by, Follows, begin, onward, IsFirstOf}
-use Rattle.mh_flow.specs.Routes.{AreSpots, same_spot, same_place, place_number, places_of, spot_number, arrow_of, start_of, starts_of, with_move, rows_from, rows_of, link_between, link_of, links_of}
+use Rattle.mh_flow.specs.Routes.{AreActionSites, same_action_site, same_place, place_number, places_of, action_site_number, arrow_of, start_of, starts_of, with_move, rows_from, rows_of, link_between, link_of, links_of}
 use Rattle.mh_flow.proofs.ContainsLemmas.{no_member, here, behind, first_or_behind, in_joined, joined_from}
 use Rattle.mh_flow.proofs.ChainRowLemmas.{items_of, row, graph_row, arrow_length, arrow_comes, arrow_stays, arrow_or_new, no_arrows}
-use Rattle.mh_flow.proofs.ChainNumberLemmas.{placed, spotted, has_to, has_source, sorted_numbers}
+use Rattle.mh_flow.proofs.ChainNumberLemmas.{placed, with_its_action_site, has_to, has_source, sorted_numbers}
 
-abbrev spot_of : Link → ActionSite
-spot_of l = record { key = l.key; index = l.index }
+abbrev action_site_of : Link → ActionSite
+action_site_of l = record { key = l.key; index = l.index }
 
--- its spot is among these
+-- its action site is among these
 abbrev HasNumber : List ActionSite → Link → Type 0
-HasNumber ss l = list_any (same_spot (spot_of l)) ss ≡ true
+HasNumber ss l = list_any (same_action_site (action_site_of l)) ss ≡ true
 
 abbrev number_of : List ActionSite → Link → ℕ
-number_of ss l = spot_number ss (spot_of l)
+number_of ss l = action_site_number ss (action_site_of l)
 
 -- Links in the order of their numbers.
 
@@ -46,12 +46,12 @@ numbers_joined : (ss : List ActionSite) (ls ks : List Link) → HaveNumbers ss l
 numbers_joined ss [] ks h k = k
 numbers_joined ss (l ∷ ls) ks h k = (h.0, numbers_joined ss ls ks h.1 k)
 
-module _ (ms : List Move) (ss : List ActionSite) (are : AreSpots ms ss) where
-  same_order : (ls ks : List Link) → HaveNumbers ss ls → HaveNumbers ss ks → slice_cmp nat_cmp (map (number_of ss) ls) (map (number_of ss) ks) ≡ slice_cmp by_spot ls ks
+module _ (ms : List Move) (ss : List ActionSite) (are : AreActionSites ms ss) where
+  same_order : (ls ks : List Link) → HaveNumbers ss ls → HaveNumbers ss ks → slice_cmp nat_cmp (map (number_of ss) ls) (map (number_of ss) ks) ≡ slice_cmp by_action_site ls ks
   same_order [] [] h k = refl
   same_order [] (y ∷ ks) h k = refl
   same_order (x ∷ ls) [] h k = refl
-  same_order (x ∷ ls) (y ∷ ks) h k = λ i. ordering_then (sorted_numbers ms ss are (spot_of x) (spot_of y) h.0 k.0 i) (same_order ls ks h.1 k.1 i)
+  same_order (x ∷ ls) (y ∷ ks) h k = λ i. ordering_then (sorted_numbers ms ss are (action_site_of x) (action_site_of y) h.0 k.0 i) (same_order ls ks h.1 k.1 i)
 
   abbrev ps : List Holder
   ps = places_of ms
@@ -59,26 +59,26 @@ module _ (ms : List Move) (ss : List ActionSite) (are : AreSpots ms ss) where
   -- A move and its arrow.
 
   links_numbered : (m : Move) → Contains ms m → HaveNumbers ss (links_by m)
-  links_numbered m k = by m.spot refl
+  links_numbered m k = by m.action_site refl
     where
-      by : (o : Option ActionSite) → m.spot ≡ o → HaveNumbers ss (links_at o m.to.at)
+      by : (o : Option ActionSite) → m.action_site ≡ o → HaveNumbers ss (links_at o m.to.at)
       by None e = tt
       by (Some s) e = (are.each m s k e, tt)
 
   move_link : (m : Move) → Contains ms m → link_of ps ss (arrow_of ps ss m) ≡ links_by m
-  move_link m k = by m.spot refl ∙ refl
+  move_link m k = by m.action_site refl ∙ refl
     where
       at : slice_get ps (place_number ps m.to) ≡ Some m.to
       at = (placed ps m.to (has_to ms m k)).0
 
-      by : (o : Option ActionSite) → m.spot ≡ o → link_between (option_and_then (slice_get ss) (option_map (spot_number ss) o)) (slice_get ps (place_number ps m.to)) ≡ links_at o m.to.at
+      by : (o : Option ActionSite) → m.action_site ≡ o → link_between (option_and_then (slice_get ss) (option_map (action_site_number ss) o)) (slice_get ps (place_number ps m.to)) ≡ links_at o m.to.at
       by None e = refl
-      by (Some s) e = ap (λ (x : Option ActionSite). link_between x (slice_get ps (place_number ps m.to))) (spotted ss s (are.each m s k e)).0 ∙ ap (link_between (Some s)) at
+      by (Some s) e = ap (λ (x : Option ActionSite). link_between x (slice_get ps (place_number ps m.to))) (with_its_action_site ss s (are.each m s k e)).0 ∙ ap (link_between (Some s)) at
 
   move_labels : (m : Move) → labels_of (arrow_of ps ss m) ≡ map (number_of ss) (links_by m)
-  move_labels m = by m.spot
+  move_labels m = by m.action_site
     where
-      by : (o : Option ActionSite) → option_to_list (option_map (spot_number ss) o) ≡ map (number_of ss) (links_at o m.to.at)
+      by : (o : Option ActionSite) → option_to_list (option_map (action_site_number ss) o) ≡ map (number_of ss) (links_at o m.to.at)
       by None = refl
       by (Some s) = refl
 
@@ -250,7 +250,7 @@ module _ (ms : List Move) (ss : List ActionSite) (are : AreSpots ms ss) where
         shortest : length (links_of ps ss c) ≤ length ks
         shortest = omega (arith, own_length, other_length, first.shortest other.0 other.1)
 
-        not_less : length ks ≡ length (links_of ps ss c) → slice_cmp by_spot ks (links_of ps ss c) ≢ Less
+        not_less : length ks ≡ length (links_of ps ss c) → slice_cmp by_action_site ks (links_of ps ss c) ≢ Less
         not_less e less =
             first.first other.0 other.1 (other_length ∙ e ∙ sym own_length)
             ((λ i. slice_cmp nat_cmp (other_labels i) (mine.labels i))
@@ -283,7 +283,7 @@ rows_are ps ss rows (m ∷ xs) = rows_are ps ss (with_move ps ss rows m m.from) 
     one None = refl
     one (Some p) = arrow_length rows (place_number ps p) (arrow_of ps ss m)
 
-module _ (ms : List Move) (goal : Holder) (ks : List Holder) (ss : List ActionSite) (g : Graph) (from : List Arrow) (t : Table) (n : ℕ) (are : AreSpots ms ss) (places : ks ≡ places_of ms) (is : items_of g.nodes.items ≡ rows_of ks ss ms) (begins : from ≡ starts_of ks ss ms) (first : AreFirst g from t) (at : Some n ≡ position (same_place goal) ks) where
+module _ (ms : List Move) (goal : Holder) (ks : List Holder) (ss : List ActionSite) (g : Graph) (from : List Arrow) (t : Table) (n : ℕ) (are : AreActionSites ms ss) (places : ks ≡ places_of ms) (is : items_of g.nodes.items ≡ rows_of ks ss ms) (begins : from ≡ starts_of ks ss ms) (first : AreFirst g from t) (at : Some n ≡ position (same_place goal) ks) where
   pub number_within : n < length ks → n < length t
   number_within h =
       let nodes : length t ≡ length g.nodes.items = first.nodes in

@@ -18,7 +18,7 @@ use Rattle.mh_laws.specs.Least.{by_reference}
 use Rattle.mh_flow.specs.declared.chain.moves.Holder.{Holder}
 use Rattle.mh_flow.specs.declared.chain.moves.ActionSite.{ActionSite}
 use Rattle.mh_flow.specs.declared.chain.moves.Move.{Move}
-use Rattle.mh_flow.specs.Routes.{AreSpots, same_place, same_spot, spot_cmp, place_number, spot_number, with_place, with_source, places_from, places_of, with_spot, with_spot_of, spots_from}
+use Rattle.mh_flow.specs.Routes.{AreActionSites, same_place, same_action_site, action_site_cmp, place_number, action_site_number, with_place, with_source, places_from, places_of, with_action_site, with_action_site_of, action_sites_from}
 use Rattle.mh_model.specs.Reference.{same_key}
 use Rattle.mh_flow.proofs.ContainsLemmas.{both, halves, no_member, here, behind, first_or_behind}
 use Rattle.mh_flow.proofs.ConfigLemmas.{config_is, config_itself}
@@ -47,15 +47,15 @@ place_is a b h =
 place_itself : (a : Holder) → same_place a a ≡ true
 place_itself a = both _ _ (config_itself a.config) (key_itself a.at)
 
-spot_is : (a b : ActionSite) → same_spot a b ≡ true → a ≡ b
-spot_is a b h =
+action_site_is : (a b : ActionSite) → same_action_site a b ≡ true → a ≡ b
+action_site_is a b h =
     let two = halves _ _ h in
     let k = key_is a.key b.key two.0 in
     let n : a.index ≡ b.index = (Decides-eqb a.index b.index).0 two.1 in
     λ i. record { key = k i; index = n i }
 
-spot_itself : (a : ActionSite) → same_spot a a ≡ true
-spot_itself a = both _ _ (key_itself a.key) ((Decides-eqb a.index a.index).1 refl)
+action_site_itself : (a : ActionSite) → same_action_site a a ≡ true
+action_site_itself a = both _ _ (key_itself a.key) ((Decides-eqb a.index a.index).1 refl)
 
 -- Where something stands that passes a test.
 
@@ -86,8 +86,8 @@ standing {X} same is xs x h =
 pub placed : (ps : List Holder) (p : Holder) → list_any (same_place p) ps ≡ true → (slice_get ps (place_number ps p) ≡ Some p) × (place_number ps p < length ps)
 placed ps p h = standing same_place place_is ps p h
 
-pub spotted : (ss : List ActionSite) (s : ActionSite) → list_any (same_spot s) ss ≡ true → (slice_get ss (spot_number ss s) ≡ Some s) × (spot_number ss s < length ss)
-spotted ss s h = standing same_spot spot_is ss s h
+pub with_its_action_site : (ss : List ActionSite) (s : ActionSite) → list_any (same_action_site s) ss ≡ true → (slice_get ss (action_site_number ss s) ≡ Some s) × (action_site_number ss s < length ss)
+with_its_action_site ss s h = standing same_action_site action_site_is ss s h
 
 -- Membership by tests.
 
@@ -163,42 +163,42 @@ has_to ms m k = places_to [] ms m k
 pub has_source : (ms : List Move) (m : Move) (p : Holder) → Contains ms m → m.from ≡ Some p → HasPlace (places_of ms) p
 has_source ms m p k e = places_source [] ms m p k e
 
--- Spots of moves.
+-- ActionSites of moves.
 
-abbrev HasSpot : List ActionSite → ActionSite → Type 0
-HasSpot ss s = list_any (same_spot s) ss ≡ true
+abbrev HasActionSite : List ActionSite → ActionSite → Type 0
+HasActionSite ss s = list_any (same_action_site s) ss ≡ true
 
-spot_of_there : (ss : List ActionSite) (o : Option ActionSite) (s : ActionSite) → o ≡ Some s → HasSpot (with_spot_of ss o) s
-spot_of_there ss None s e = cc
-spot_of_there ss (Some t) s e = subst (λ (x : ActionSite). HasSpot (with_spot ss t) x) (some_same e) (put_there same_spot spot_itself ss t (list_any (same_spot t) ss) refl)
+action_site_of_there : (ss : List ActionSite) (o : Option ActionSite) (s : ActionSite) → o ≡ Some s → HasActionSite (with_action_site_of ss o) s
+action_site_of_there ss None s e = cc
+action_site_of_there ss (Some t) s e = subst (λ (x : ActionSite). HasActionSite (with_action_site ss t) x) (some_same e) (put_there same_action_site action_site_itself ss t (list_any (same_action_site t) ss) refl)
 
-spot_of_stays : (ss : List ActionSite) (o : Option ActionSite) (s : ActionSite) → HasSpot ss s → HasSpot (with_spot_of ss o) s
-spot_of_stays ss None s h = h
-spot_of_stays ss (Some t) s h = put_stays same_spot spot_itself spot_is ss s t (list_any (same_spot t) ss) h
+action_site_of_stays : (ss : List ActionSite) (o : Option ActionSite) (s : ActionSite) → HasActionSite ss s → HasActionSite (with_action_site_of ss o) s
+action_site_of_stays ss None s h = h
+action_site_of_stays ss (Some t) s h = put_stays same_action_site action_site_itself action_site_is ss s t (list_any (same_action_site t) ss) h
 
-spots_stay : (ss : List ActionSite) (ms : List Move) (s : ActionSite) → HasSpot ss s → HasSpot (spots_from ss ms) s
-spots_stay ss [] s h = h
-spots_stay ss (m ∷ ms) s h = spots_stay (with_spot_of ss m.spot) ms s (spot_of_stays ss m.spot s h)
+action_sites_stay : (ss : List ActionSite) (ms : List Move) (s : ActionSite) → HasActionSite ss s → HasActionSite (action_sites_from ss ms) s
+action_sites_stay ss [] s h = h
+action_sites_stay ss (m ∷ ms) s h = action_sites_stay (with_action_site_of ss m.action_site) ms s (action_site_of_stays ss m.action_site s h)
 
-has_spot : (ss : List ActionSite) (ms : List Move) (m : Move) (s : ActionSite) → Contains ms m → m.spot ≡ Some s → HasSpot (spots_from ss ms) s
-has_spot ss [] m s k e = absurd (no_member m k)
-has_spot ss (x ∷ ms) m s k e = by (first_or_behind x ms m k) (λ k. has_spot (with_spot_of ss x.spot) ms m s k e)
+has_action_site : (ss : List ActionSite) (ms : List Move) (m : Move) (s : ActionSite) → Contains ms m → m.action_site ≡ Some s → HasActionSite (action_sites_from ss ms) s
+has_action_site ss [] m s k e = absurd (no_member m k)
+has_action_site ss (x ∷ ms) m s k e = by (first_or_behind x ms m k) (λ k. has_action_site (with_action_site_of ss x.action_site) ms m s k e)
   where
-    by : (x ≡ m) ⊎ Contains ms m → (Contains ms m → HasSpot (spots_from ss (x ∷ ms)) s) → HasSpot (spots_from ss (x ∷ ms)) s
-    by (inl same) ih = spots_stay (with_spot_of ss x.spot) ms s (spot_of_there ss x.spot s (ap (λ (y : Move). y.spot) same ∙ e))
+    by : (x ≡ m) ⊎ Contains ms m → (Contains ms m → HasActionSite (action_sites_from ss (x ∷ ms)) s) → HasActionSite (action_sites_from ss (x ∷ ms)) s
+    by (inl same) ih = action_sites_stay (with_action_site_of ss x.action_site) ms s (action_site_of_there ss x.action_site s (ap (λ (y : Move). y.action_site) same ∙ e))
     by (inr k) ih = ih k
 
 -- Order.
 
-pub spot_total : IsTotalOrder spot_cmp
-spot_total = then_total (on_total (λ (s : ActionSite). s.key) (then_total (on_total (λ (r : ObjRef). r.group) nat_list_cmp_total) (on_total (λ (r : ObjRef). r.number) nat_cmp_total))) (on_total (λ (s : ActionSite). s.index) nat_cmp_total)
+pub action_site_total : IsTotalOrder action_site_cmp
+action_site_total = then_total (on_total (λ (s : ActionSite). s.key) (then_total (on_total (λ (r : ObjRef). r.group) nat_list_cmp_total) (on_total (λ (r : ObjRef). r.number) nat_cmp_total))) (on_total (λ (s : ActionSite). s.index) nat_cmp_total)
 
 both_equal : (a b : Ordering) → ordering_then a b ≡ Equal → (a ≡ Equal) × (b ≡ Equal)
 both_equal Less b e = cc
 both_equal Equal b e = (refl, e)
 both_equal Greater b e = cc
 
-tied_is : (a b : ActionSite) → spot_cmp a b ≡ Equal → a ≡ b
+tied_is : (a b : ActionSite) → action_site_cmp a b ≡ Equal → a ≡ b
 tied_is a b e =
     let two = both_equal (by_reference a.key b.key) (nat_cmp a.index b.index) e in
     let ref = both_equal (slice_cmp nat_cmp a.key.group b.key.group) (nat_cmp a.key.number b.key.number) two.0 in
@@ -207,44 +207,44 @@ tied_is a b e =
     let i = exact_unsigned a.index b.index two.1 in
     λ j. record { key = record { number = n j; group = g j }; index = i j }
 
--- the spots in order, and all of those of the moves
-pub are_spots : (ms : List Move) (ss : List ActionSite) → IsSorted spot_cmp ss → ((s : ActionSite) → list_any (same_spot s) ss ≡ list_any (same_spot s) (spots_from [] ms)) → AreSpots ms ss
-are_spots ms ss sorted same = record { sorted = sorted; each = λ m s k e. same s ∙ has_spot [] ms m s k e }
+-- the action sites in order, and all of those of the moves
+pub are_action_sites : (ms : List Move) (ss : List ActionSite) → IsSorted action_site_cmp ss → ((s : ActionSite) → list_any (same_action_site s) ss ≡ list_any (same_action_site s) (action_sites_from [] ms)) → AreActionSites ms ss
+are_action_sites ms ss sorted same = record { sorted = sorted; each = λ m s k e. same s ∙ has_action_site [] ms m s k e }
 
--- numbers of spots are in the order of spots
+-- numbers of action sites are in the order of action sites
 got : {X : Type 0} (xs : List X) (n : ℕ) (x d : X) → slice_get xs n ≡ Some x → get_or xs n d ≡ x
 got [] n x d e = cc
 got (y ∷ xs) zero x d e = some_same e
 got (y ∷ xs) (suc n) x d e = got xs n x d e
 
-not_below : (ss : List ActionSite) → IsSorted spot_cmp ss → (i j : ℕ) (a b : ActionSite) → i ≤ j → j < length ss → slice_get ss i ≡ Some a → slice_get ss j ≡ Some b → is_lt (spot_cmp b a) ≡ false
+not_below : (ss : List ActionSite) → IsSorted action_site_cmp ss → (i j : ℕ) (a b : ActionSite) → i ≤ j → j < length ss → slice_get ss i ≡ Some a → slice_get ss j ≡ Some b → is_lt (action_site_cmp b a) ≡ false
 not_below ss up i j a b less within at_i at_j =
-    let far = sorted_far (λ x y. is_lt (spot_cmp x y)) (ranks_by spot_total (λ (s : ActionSite). s)) ss up i j a less within in
-    subst (λ (z : ActionSite). is_lt (spot_cmp z a) ≡ false) (got ss j b a at_j) (subst (λ (z : ActionSite). is_lt (spot_cmp (get_or ss j a) z) ≡ false) (got ss i a a at_i) far)
+    let far = sorted_far (λ x y. is_lt (action_site_cmp x y)) (ranks_by action_site_total (λ (s : ActionSite). s)) ss up i j a less within in
+    subst (λ (z : ActionSite). is_lt (action_site_cmp z a) ≡ false) (got ss j b a at_j) (subst (λ (z : ActionSite). is_lt (action_site_cmp (get_or ss j a) z) ≡ false) (got ss i a a at_i) far)
 
-pub sorted_numbers : (ms : List Move) (ss : List ActionSite) → AreSpots ms ss → (a b : ActionSite) → HasSpot ss a → HasSpot ss b → nat_cmp (spot_number ss a) (spot_number ss b) ≡ spot_cmp a b
+pub sorted_numbers : (ms : List Move) (ss : List ActionSite) → AreActionSites ms ss → (a b : ActionSite) → HasActionSite ss a → HasActionSite ss b → nat_cmp (action_site_number ss a) (action_site_number ss b) ≡ action_site_cmp a b
 sorted_numbers ms ss are a b ha hb = by (nat_cmp i j) refl (ranked i j (nat_cmp i j) refl)
   where
     i : ℕ
-    i = spot_number ss a
+    i = action_site_number ss a
 
     j : ℕ
-    j = spot_number ss b
+    j = action_site_number ss b
 
     at_a : (slice_get ss i ≡ Some a) × (i < length ss)
-    at_a = spotted ss a ha
+    at_a = with_its_action_site ss a ha
 
     at_b : (slice_get ss j ≡ Some b) × (j < length ss)
-    at_b = spotted ss b hb
+    at_b = with_its_action_site ss b hb
 
-    before : (x y : ActionSite) → spot_number ss x < spot_number ss y → is_lt (spot_cmp y x) ≡ false → (r : Ordering) → spot_cmp x y ≡ r → r ≡ Less
+    before : (x y : ActionSite) → action_site_number ss x < action_site_number ss y → is_lt (action_site_cmp y x) ≡ false → (r : Ordering) → action_site_cmp x y ≡ r → r ≡ Less
     before x y less never Less e = refl
-    before x y less never Equal e = let same = ap (spot_number ss) (tied_is x y e) in absurd (omega (arith, same, less))
-    before x y less never Greater e = let k : is_lt (spot_cmp y x) ≡ true = ap is_lt (spot_total.antisymm y x ∙ ap ordering_reverse e) in cc
+    before x y less never Equal e = let same = ap (action_site_number ss) (tied_is x y e) in absurd (omega (arith, same, less))
+    before x y less never Greater e = let k : is_lt (action_site_cmp y x) ≡ true = ap is_lt (action_site_total.antisymm y x ∙ ap ordering_reverse e) in cc
 
-    by : (r : Ordering) → nat_cmp i j ≡ r → MatchOrdering r (i < j) (i ≡ j) (j < i) → nat_cmp i j ≡ spot_cmp a b
-    by Less e h = e ∙ sym (before a b h (not_below ss are.sorted i j a b (omega (arith, h)) at_b.1 at_a.0 at_b.0) (spot_cmp a b) refl)
+    by : (r : Ordering) → nat_cmp i j ≡ r → MatchOrdering r (i < j) (i ≡ j) (j < i) → nat_cmp i j ≡ action_site_cmp a b
+    by Less e h = e ∙ sym (before a b h (not_below ss are.sorted i j a b (omega (arith, h)) at_b.1 at_a.0 at_b.0) (action_site_cmp a b) refl)
     by Equal e h =
         let same : Some a ≡ Some b = sym at_a.0 ∙ ap (slice_get ss) h ∙ at_b.0 in
-        e ∙ sym (tied_itself spot_total a) ∙ ap (spot_cmp a) (some_same same)
-    by Greater e h = e ∙ ap ordering_reverse (sym (before b a h (not_below ss are.sorted j i b a (omega (arith, h)) at_a.1 at_b.0 at_a.0) (spot_cmp b a) refl)) ∙ sym (spot_total.antisymm a b)
+        e ∙ sym (tied_itself action_site_total a) ∙ ap (action_site_cmp a) (some_same same)
+    by Greater e h = e ∙ ap ordering_reverse (sym (before b a h (not_below ss are.sorted j i b a (omega (arith, h)) at_a.1 at_b.0 at_a.0) (action_site_cmp b a) refl)) ∙ sym (action_site_total.antisymm a b)

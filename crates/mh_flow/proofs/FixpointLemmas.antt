@@ -11,10 +11,10 @@ use Rattle.mh_flow.specs.Constraints.{ConstraintSystem, Derived}
 use Rattle.mh_flow.specs.Gathering.{View, nothing, IsIn, IsSound, IsDue, IsClosed}
 use Rattle.mh_flow.specs.Sets.{IsLeast}
 
-pub record IsSearching (net : ConstraintSystem) (g : View) : Type 0 where
-  pub sound : IsSound net g
-  pub starts : (x : Item) → Contains net.starts x → IsIn g x
-  pub closed : IsClosed net g []
+pub record IsSearching (system : ConstraintSystem) (g : View) : Type 0 where
+  pub sound : IsSound system g
+  pub starts : (x : Item) → Contains system.starts x → IsIn g x
+  pub closed : IsClosed system g []
 
 -- Nothing
 
@@ -37,26 +37,26 @@ no_width zero u = refl
 no_width (suc n) zero = refl
 no_width (suc n) (suc u) = no_width n u
 
-pub nothing_sound : (net : ConstraintSystem) → IsSound net (nothing net.nodes)
-nothing_sound net = record {
-  bits = length_replicate net.nodes [];
-  members = length_replicate net.nodes [];
-  edges = length_replicate net.nodes [];
-  width = λ u. inl (no_width net.nodes u);
-  listed = λ u q k. let never = none_has net.nodes u q k in absurd cc;
-  known = λ u q k. let never = no_row net.nodes u q k in absurd cc;
+pub nothing_sound : (system : ConstraintSystem) → IsSound system (nothing system.nodes)
+nothing_sound system = record {
+  bits = length_replicate system.nodes [];
+  members = length_replicate system.nodes [];
+  edges = length_replicate system.nodes [];
+  width = λ u. inl (no_width system.nodes u);
+  listed = λ u q k. let never = none_has system.nodes u q k in absurd cc;
+  known = λ u q k. let never = no_row system.nodes u q k in absurd cc;
   derived = derived;
   waiting = λ x k. absurd (omega (arith, k.1));
 }
   where
-    derived : (x : Item) → IsIn (nothing net.nodes) x → Derived net x
-    derived (item.Member x) k = let never = none_has net.nodes x.node x.member k in absurd cc
-    derived (item.Edge u v) k = let never = no_row net.nodes u v k in absurd cc
+    derived : (x : Item) → IsIn (nothing system.nodes) x → Derived system x
+    derived (item.Member x) k = let never = none_has system.nodes x.node x.member k in absurd cc
+    derived (item.Edge u v) k = let never = no_row system.nodes u v k in absurd cc
 
-pub nothing_closed : (net : ConstraintSystem) → IsClosed net (nothing net.nodes) []
-nothing_closed net = record {
-  along = λ u v q h k. let never = none_has net.nodes u q k in absurd cc;
-  opened = λ f k. let never = none_has net.nodes f.node f.member k in absurd cc;
+pub nothing_closed : (system : ConstraintSystem) → IsClosed system (nothing system.nodes) []
+nothing_closed system = record {
+  along = λ u v q h k. let never = none_has system.nodes u q k in absurd cc;
+  opened = λ f k. let never = none_has system.nodes f.node f.member k in absurd cc;
 }
 
 -- One that waits is taken
@@ -64,8 +64,8 @@ nothing_closed net = record {
 abbrev pub without_last : View → List Fact → View
 without_last g rest = record g { pending = rest }
 
-pub taken_sound : (net : ConstraintSystem) (g : View) (rest : List Fact) (f : Fact) → g.pending ≡ rest ++ f ∷ [] → IsSound net g → IsSound net (without_last g rest)
-taken_sound net g rest f e k = record {
+pub taken_sound : (system : ConstraintSystem) (g : View) (rest : List Fact) (f : Fact) → g.pending ≡ rest ++ f ∷ [] → IsSound system g → IsSound system (without_last g rest)
+taken_sound system g rest f e k = record {
   bits = k.bits;
   members = k.members;
   edges = k.edges;
@@ -76,15 +76,15 @@ taken_sound net g rest f e k = record {
   waiting = λ x h. k.waiting x (subst (λ (t : List Fact). Contains t x) (sym e) (Contains-append_left rest (f ∷ []) x h));
 }
   where
-    derived : (x : Item) → IsIn (without_last g rest) x → Derived net x
+    derived : (x : Item) → IsIn (without_last g rest) x → Derived system x
     derived (item.Member x) h = k.derived (item.Member x) h
     derived (item.Edge u v) h = k.derived (item.Edge u v) h
 
-pub taken_known : (net : ConstraintSystem) (g : View) (rest : List Fact) (f : Fact) → g.pending ≡ rest ++ f ∷ [] → IsSound net g → has g.bits f.node f.member ≡ true
-taken_known net g rest f e k = k.waiting f (subst (λ (t : List Fact). Contains t f) (sym e) (Contains-append_right rest (f ∷ []) f (0, search rules, refl)))
+pub taken_known : (system : ConstraintSystem) (g : View) (rest : List Fact) (f : Fact) → g.pending ≡ rest ++ f ∷ [] → IsSound system g → has g.bits f.node f.member ≡ true
+taken_known system g rest f e k = k.waiting f (subst (λ (t : List Fact). Contains t f) (sym e) (Contains-append_right rest (f ∷ []) f (0, search rules, refl)))
 
-pub taken_closed : (net : ConstraintSystem) (g : View) (rest : List Fact) (f : Fact) → g.pending ≡ rest ++ f ∷ [] → IsClosed net g [] → IsClosed net (without_last g rest) (f ∷ [])
-taken_closed net g rest f e k = record {
+pub taken_closed : (system : ConstraintSystem) (g : View) (rest : List Fact) (f : Fact) → g.pending ≡ rest ++ f ∷ [] → IsClosed system g [] → IsClosed system (without_last g rest) (f ∷ [])
+taken_closed system g rest f e k = record {
   along = λ u v q h is. by u v q (k.along u v q h is);
   opened = λ x is. open_by x (k.opened x is);
 }
@@ -101,7 +101,7 @@ taken_closed net g rest f e k = record {
     same (item.Member x) h = h
     same (item.Edge u v) h = h
 
-    open_by : (x : Fact) → ((y : Item) → Contains (net.opens x) y → IsIn g y) ⊎ IsDue g [] x → ((y : Item) → Contains (net.opens x) y → IsIn (without_last g rest) y) ⊎ IsDue (without_last g rest) (f ∷ []) x
+    open_by : (x : Fact) → ((y : Item) → Contains (system.opens x) y → IsIn g y) ⊎ IsDue g [] x → ((y : Item) → Contains (system.opens x) y → IsIn (without_last g rest) y) ⊎ IsDue (without_last g rest) (f ∷ []) x
     open_by x (inl h) = inl (λ y c. same y (h y c))
     open_by x (inr h) = inr (due h)
 
@@ -111,8 +111,8 @@ taken_in g rest (item.Edge u v) h = h
 
 -- Nothing waits any more
 
-pub solved : (net : ConstraintSystem) (g : View) → IsSearching net g → g.pending ≡ [] → IsLeast net g.bits
-solved net g k e = record {
+pub solved : (system : ConstraintSystem) (g : View) → IsSearching system g → g.pending ≡ [] → IsLeast system g.bits
+solved system g k e = record {
   edges = g.edges;
   height = k.sound.bits;
   starts = k.starts;
@@ -125,7 +125,7 @@ solved net g k e = record {
     never f (inl h) = absurd (omega (arith, (subst (λ (t : List Fact). Contains t f) e h).1))
     never f (inr h) = absurd (omega (arith, h.1))
 
-    opened : (f : Fact) (x : Item) → Contains (net.opens f) x → ((y : Item) → Contains (net.opens f) y → IsIn g y) ⊎ IsDue g [] f → IsIn g x
+    opened : (f : Fact) (x : Item) → Contains (system.opens f) x → ((y : Item) → Contains (system.opens f) y → IsIn g y) ⊎ IsDue g [] f → IsIn g x
     opened f x c (inl all) = all x c
     opened f x c (inr due) = let n = never f due in absurd cc
 

@@ -38,7 +38,7 @@ use Rattle.mh_flow.specs.declared.chart.Bases.{Bases}
 use Rattle.mh_flow.specs.declared.chart.Set.{Set}
 use Rattle.mh_flow.specs.Chart.{Chart, IsChart, config_number, firsts, member_of, node_from, handed_argument}
 use Rattle.mh_flow.specs.Opening as opening
-use Rattle.mh_flow.specs.Opening.{member, member_at, edge_at, net_of, opens}
+use Rattle.mh_flow.specs.Opening.{member, member_at, edge_at, system_of, opens}
 use Rattle.mh_flow.specs.Solved.{is_holder_in}
 use Rattle.mh_flow.proofs.ContainsLemmas.{here, behind, in_joined}
 use Rattle.mh_flow.proofs.ListedLemmas.{is_listed, same_application}
@@ -192,7 +192,7 @@ held_opens v ch k c b w q u i x is at e f m =
     (subst (λ (o : Option ObjRef). Contains (opening.by_variable v ch k c b w o) x) (sym (member_at_number ch q i f)) m))))
 
 -- all that an action does is there, where its target comes to the object
-does_there : (v : Service) (ch : Chart) (rows : List (List Bool)) (k : ℕ) (c : Config) (b : Bases) (a : Act) (r : ObjRef) (x : Item) → IsChart v ch → (s : IsLeast (net_of v ch) rows) → IsNumber ch c k b → has rows 0 k ≡ true → Contains (active_actions (present v c)) a → ComesWhere v ch rows c a.target r → Contains (opening.does v ch k c b a r) x → IsThere rows s.edges x
+does_there : (v : Service) (ch : Chart) (rows : List (List Bool)) (k : ℕ) (c : Config) (b : Bases) (a : Act) (r : ObjRef) (x : Item) → IsChart v ch → (s : IsLeast (system_of v ch) rows) → IsNumber ch c k b → has rows 0 k ≡ true → Contains (active_actions (present v c)) a → ComesWhere v ch rows c a.target r → Contains (opening.does v ch k c b a r) x → IsThere rows s.edges x
 does_there v ch rows k c b a r x is s number reached active comes m = by a.target refl comes
   where
     by : (t : Target) → a.target ≡ t → ComesWhere v ch rows c t r → IsThere rows s.edges x
@@ -240,9 +240,9 @@ in_edge_at o p u w e f = subst (λ (a : Option ℕ). Contains (edge_at a p) (ite
 
 -- What is derived, by its cases
 
--- the chart, and least sets of its net
+-- the chart, and least sets of its system
 abbrev AreLeast : Service → Chart → List (List Bool) → Type 0
-AreLeast v ch rows = IsLeast (net_of v ch) rows
+AreLeast v ch rows = IsLeast (system_of v ch) rows
 
 reached_in : (ch : Chart) (rows : List (List Bool)) (c : Config) (n : ℕ) → config_number ch c ≡ Some n → has rows 0 n ≡ true → IsReachedIn ch rows c
 reached_in ch rows c n e h = let number = is_numbered ch c n e in record { number = n; bases = number.bases; is = record { number = e; at = number.at }; has = h }
@@ -373,8 +373,8 @@ derived_known v ch rows is s _ (led c a r d h active comes e) =
 derived_known v ch rows is s _ (passed c a r d g p q h active comes e scene among held) =
     passed_known v ch rows c d a r g p q is s (derived_known v ch rows is s (Reached c) h) active (derived_known v ch rows is s (Comes c a.target r) comes) e scene among (own_holder v c p q is.service is.keys among held) (derived_known v ch rows is s (Held c p.key q) held)
 
-pub reached_is_known : (v : Service) (ch : Chart) (rows : List (List Bool)) (c : Config) → IsChart v ch → IsLeast (net_of v ch) rows → Derived v (Reached c) → IsReachedIn ch rows c
+pub reached_is_known : (v : Service) (ch : Chart) (rows : List (List Bool)) (c : Config) → IsChart v ch → IsLeast (system_of v ch) rows → Derived v (Reached c) → IsReachedIn ch rows c
 reached_is_known v ch rows c is s d = derived_known v ch rows is s (Reached c) d
 
-pub held_is_known : (v : Service) (ch : Chart) (rows : List (List Bool)) (c : Config) (r q : ObjRef) → IsChart v ch → IsLeast (net_of v ch) rows → Derived v (Held c r q) → HeldWhere v ch rows c r q
+pub held_is_known : (v : Service) (ch : Chart) (rows : List (List Bool)) (c : Config) (r q : ObjRef) → IsChart v ch → IsLeast (system_of v ch) rows → Derived v (Held c r q) → HeldWhere v ch rows c r q
 held_is_known v ch rows c r q is s d = derived_known v ch rows is s (Held c r q) d

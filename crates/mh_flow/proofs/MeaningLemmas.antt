@@ -30,14 +30,14 @@ use Rattle.mh_laws.specs.Least.{Derived, Reached, Held, Comes, Hands, start, nam
 use Rattle.mh_flow.specs.declared.fixpoint.constraints.Fact.{Fact}
 use Rattle.mh_flow.specs.declared.fixpoint.constraints.Item.{Item}
 use Rattle.mh_flow.specs.declared.fixpoint.constraints.Item.TheVariants as item
-use Rattle.mh_flow.specs.Constraints as net
+use Rattle.mh_flow.specs.Constraints as system
 use Rattle.mh_flow.specs.Constraints.{ConstraintSystem, IsFit}
 use Rattle.mh_flow.specs.declared.chart.Bases.{Bases}
 use Rattle.mh_flow.specs.declared.chart.Set.{Set}
 use Rattle.mh_flow.specs.declared.chart.Set.TheVariants as set
 use Rattle.mh_flow.specs.Chart.{Chart, IsChart, config_number, firsts, member_of, node_from, handed_argument}
 use Rattle.mh_flow.specs.Opening as opening
-use Rattle.mh_flow.specs.Opening.{member, member_at, edge_at, net_of, opens, wider}
+use Rattle.mh_flow.specs.Opening.{member, member_at, edge_at, system_of, opens, wider}
 use Rattle.mh_flow.proofs.ContainsLemmas.{halves, first_or_behind, joined_from, no_member}
 use Rattle.mh_flow.proofs.MentionLemmas.{HoldsFirst, holds_first}
 use Rattle.mh_flow.proofs.NumberLemmas.{IsAt, is_node, is_numbered, led_set_at, member_at_number, reached_set}
@@ -64,7 +64,7 @@ IsMeant v ch (item.Edge u w) = (q : ℕ) → Means v ch (slice_get ch.sets u) q 
 
 -- it is within bounds, and meant where this is so
 pub record IsGood (v : Service) (ch : Chart) (P : Type 0) (x : Item) : Type 0 where
-  pub fits : net.fits (net_of v ch) x
+  pub fits : system.fits (system_of v ch) x
   pub meant : P → IsMeant v ch x
 
 in_option : {X : Type 0} (o : Option X) (x : X) → Contains (option_to_list o) x → o ≡ Some x
@@ -345,7 +345,7 @@ opened_good v ch f x is m = by (slice_get ch.sets f.node) m
     by None l = absurd (no_member x l)
     by (Some s) l = set_good v ch f.member s x is l
 
-start_good : (v : Service) (ch : Chart) (x : Item) → IsChart v ch → Contains (net_of v ch).starts x → IsGood v ch (Unit {0}) x
+start_good : (v : Service) (ch : Chart) (x : Item) → IsChart v ch → Contains (system_of v ch).starts x → IsGood v ch (Unit {0}) x
 start_good v ch x is m = by (config_number ch (starting v)) refl m
   where
     zeroth : slice_get ch.sets 0 ≡ Some set.Reached
@@ -362,14 +362,14 @@ start_good v ch x is m = by (config_number ch (starting v)) refl m
 
 -- The laws
 
-pub numbers_fit : (v : Service) (ch : Chart) → IsChart v ch → IsFit (net_of v ch)
+pub numbers_fit : (v : Service) (ch : Chart) → IsChart v ch → IsFit (system_of v ch)
 numbers_fit v ch is = record {
   starts = λ x m. (start_good v ch x is m).fits;
   opened = λ f x m. (opened_good v ch f x is m).fits;
 }
 
--- what is derived by the net means what is derived
-pub derived_means : (v : Service) (ch : Chart) → IsChart v ch → (x : Item) → net.Derived (net_of v ch) x → IsMeant v ch x
-derived_means v ch is _ (net.begun x m) = (start_good v ch x is m).meant tt
-derived_means v ch is _ (net.opened f x d m) = (opened_good v ch f x is m).meant (derived_means v ch is (item.Member f) d)
-derived_means v ch is _ (net.along u w q e d) = derived_means v ch is (item.Edge u w) e q (derived_means v ch is (member u q) d)
+-- what is derived by the system means what is derived
+pub derived_means : (v : Service) (ch : Chart) → IsChart v ch → (x : Item) → system.Derived (system_of v ch) x → IsMeant v ch x
+derived_means v ch is _ (system.begun x m) = (start_good v ch x is m).meant tt
+derived_means v ch is _ (system.opened f x d m) = (opened_good v ch f x is m).meant (derived_means v ch is (item.Member f) d)
+derived_means v ch is _ (system.along u w q e d) = derived_means v ch is (item.Edge u w) e q (derived_means v ch is (member u q) d)

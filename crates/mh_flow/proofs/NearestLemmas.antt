@@ -11,7 +11,7 @@ use Rattle.mh_laws.specs.Least.{Derived, Held, IsLeast}
 use Rattle.mh_flow.specs.declared.chain.link.Link.{Link}
 use Rattle.mh_flow.specs.declared.chain.moves.Move.{Move}
 use Rattle.mh_flow.specs.declared.chain.moves.Holder.{Holder}
-use Rattle.mh_flow.specs.Chains.{Brings, by_spot}
+use Rattle.mh_flow.specs.Chains.{Brings, by_action_site}
 use Rattle.mh_flow.specs.Chart.{with_references}
 use Rattle.mh_flow.specs.Moves.{Follows, IsFirstOf}
 use Rattle.mh_flow.specs.Nearest.{IsNearest}
@@ -33,9 +33,9 @@ among_once qs q m = among q (with_references [] qs) (any_references q [] qs ∙ 
 
 -- Links that are level begin with links of one place.
 
-level_origin : (v : Service) (os qs : List ObjRef) (ls : List Link) → AreOrigins v qs ls os → (p q : ObjRef) → Begins v p ls → (ks : List Link) → Begins v q ks → Contains qs q → slice_cmp by_spot ks ls ≡ Equal → Contains os q
+level_origin : (v : Service) (os qs : List ObjRef) (ls : List Link) → AreOrigins v qs ls os → (p q : ObjRef) → Begins v p ls → (ks : List Link) → Begins v q ks → Contains qs q → slice_cmp by_action_site ks ls ≡ Equal → Contains os q
 level_origin v os qs ls origins p q (l, rest, is, there) ks (k, others, at, own) m level =
-    let heads : slice_cmp by_spot (k ∷ others) (l ∷ rest) ≡ Equal = subst (λ (xs : List Link). slice_cmp by_spot xs (l ∷ rest) ≡ Equal) at (subst (λ (xs : List Link). slice_cmp by_spot ks xs ≡ Equal) is level) in
+    let heads : slice_cmp by_action_site (k ∷ others) (l ∷ rest) ≡ Equal = subst (λ (xs : List Link). slice_cmp by_action_site xs (l ∷ rest) ≡ Equal) at (subst (λ (xs : List Link). slice_cmp by_action_site ks xs ≡ Equal) is level) in
     origins.each l rest q is m (subst (λ (xs : List ObjRef). Contains xs q) (level_begun v k l (first_level k l others rest heads)) own)
 
 module _ (v : Service) (w : Flow) (least : IsLeast v w) (qs : List ObjRef) (c : Config) (r : ObjRef) where

@@ -24,7 +24,7 @@ use Rattle.mh_laws.specs.Costs.{effects}
 use Rattle.mh_laws.specs.Describing.{says}
 use Rattle.mh_laws.specs.Least.{by_reference}
 use Rattle.mh_flow.specs.declared.chain.link.Link.{Link}
-use Rattle.mh_flow.specs.Chains.{Brings, original, written, read, filled, passed, by_spot, first_link, site_link}
+use Rattle.mh_flow.specs.Chains.{Brings, original, written, read, filled, passed, by_action_site, first_link, site_link}
 use Rattle.mh_flow.specs.Chart.{all_parts, firsts, handed}
 use Rattle.mh_flow.specs.Origins.{AreOrigins, begun, begun_at, begun_by, begun_in, first_begun}
 use Rattle.mh_flow.specs.Sites.{Site, numbered, sites, sites_of, through_effects}
@@ -101,15 +101,15 @@ both_level Greater b e = absurd cc
 level_number : (m n : ℕ) → nat_cmp m n ≡ Equal → m ≡ n
 level_number m n e = eqb-true m n ((unsigned_po.matches_eq m n).1 (ap Some e))
 
-pub level_begun : (v : Service) (k l : Link) → by_spot k l ≡ Equal → begun v k ≡ begun v l
+pub level_begun : (v : Service) (k l : Link) → by_action_site k l ≡ Equal → begun v k ≡ begun v l
 level_begun v k l e =
     let two = both_level (by_reference k.key l.key) (nat_cmp k.index l.index) e in
     let key : k.key ≡ l.key = same_ref-same k.key l.key (level_same k.key l.key two.0) in
     let index : k.index ≡ l.index = level_number k.index l.index two.1 in
     λ i. begun v (record { key = key i; index = index i; written = k.written })
 
-pub first_level : (k l : Link) (ks ls : List Link) → slice_cmp by_spot (k ∷ ks) (l ∷ ls) ≡ Equal → by_spot k l ≡ Equal
-first_level k l ks ls e = (both_level (by_spot k l) (slice_cmp by_spot ks ls) e).0
+pub first_level : (k l : Link) (ks ls : List Link) → slice_cmp by_action_site (k ∷ ks) (l ∷ ls) ≡ Equal → by_action_site k l ≡ Equal
+first_level k l ks ls e = (both_level (by_action_site k l) (slice_cmp by_action_site ks ls) e).0
 
 -- In the words of the code.
 

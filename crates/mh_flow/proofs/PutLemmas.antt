@@ -13,15 +13,15 @@ use Rattle.mh_flow.specs.Rows.{row, has}
 use Rattle.mh_flow.proofs.StepLemmas.{then_step, lone}
 
 -- so many of these are put
-pub record IsPutting (net : ConstraintSystem) (In : Item → View → Type 0) (items : List Item) (index : ℕ) (initial now : View) : Type 0 where
-  pub sound : IsSound net now
-  pub step : IsStep net initial now
+pub record IsPutting (system : ConstraintSystem) (In : Item → View → Type 0) (items : List Item) (index : ℕ) (initial now : View) : Type 0 where
+  pub sound : IsSound system now
+  pub step : IsStep system initial now
   pub put : (x : Item) → Contains (take index items) x → In x now
 
-pub put_next : (net : ConstraintSystem) (items : List Item) (index : ℕ) (d : Item) (a b c : View) → index < length items → IsPutting net (λ y g. IsIn g y) items index a b → IsSound net c → IsStep net b c → IsIn c (slice_index_or items index d) → IsPutting net (λ y g. IsIn g y) items (index + 1) a c
-put_next net items index d a b c less k sound step put = record {
+pub put_next : (system : ConstraintSystem) (items : List Item) (index : ℕ) (d : Item) (a b c : View) → index < length items → IsPutting system (λ y g. IsIn g y) items index a b → IsSound system c → IsStep system b c → IsIn c (slice_index_or items index d) → IsPutting system (λ y g. IsIn g y) items (index + 1) a c
+put_next system items index d a b c less k sound step put = record {
   sound = sound;
-  step = then_step net a b c k.step step;
+  step = then_step system a b c k.step step;
   put = λ y h. by y (Contains-append_cases (take index items) (slice_index_or items index d ∷ []) y (subst (λ (t : List Item). Contains t y) (take_more items index d less) h));
 }
   where
@@ -30,8 +30,8 @@ put_next net items index d a b c less k sound step put = record {
     by y (inr h) = subst (λ (z : Item). IsIn c z) (lone (slice_index_or items index d) y h) put
 
 -- a fact that has been followed is due no more
-pub followed : (net : ConstraintSystem) (g : View) (f : Fact) → ((x : Item) → Contains (net.opens f) x → IsIn g x) → ((v : ℕ) → Contains (row g.edges f.node) v → has g.bits v f.member ≡ true) → IsClosed net g (f ∷ []) → IsClosed net g []
-followed net g f all spread k = record { along = λ u v q e h. along_it u v q e (k.along u v q e h); opened = λ x h. opened_it x (k.opened x h) }
+pub followed : (system : ConstraintSystem) (g : View) (f : Fact) → ((x : Item) → Contains (system.opens f) x → IsIn g x) → ((v : ℕ) → Contains (row g.edges f.node) v → has g.bits v f.member ≡ true) → IsClosed system g (f ∷ []) → IsClosed system g []
+followed system g f all spread k = record { along = λ u v q e h. along_it u v q e (k.along u v q e h); opened = λ x h. opened_it x (k.opened x h) }
   where
     along_it : (u v q : ℕ) → Contains (row g.edges u) v → (has g.bits v q ≡ true) ⊎ IsDue g (f ∷ []) (record { node = u; member = q }) → (has g.bits v q ≡ true) ⊎ IsDue g [] (record { node = u; member = q })
     along_it u v q e (inl h) = inl h
@@ -41,17 +41,17 @@ followed net g f all spread k = record { along = λ u v q e h. along_it u v q e 
         let at : has g.bits v f.member ≡ true = spread v (subst (λ (x : Fact). Contains (row g.edges x.node) v) (sym same) e) in
         inl (subst (λ (x : Fact). has g.bits v x.member ≡ true) same at)
 
-    opened_it : (x : Fact) → ((y : Item) → Contains (net.opens x) y → IsIn g y) ⊎ IsDue g (f ∷ []) x → ((y : Item) → Contains (net.opens x) y → IsIn g y) ⊎ IsDue g [] x
+    opened_it : (x : Fact) → ((y : Item) → Contains (system.opens x) y → IsIn g y) ⊎ IsDue g (f ∷ []) x → ((y : Item) → Contains (system.opens x) y → IsIn g y) ⊎ IsDue g [] x
     opened_it x (inl h) = inl h
     opened_it x (inr (inl h)) = inr (inl h)
-    opened_it x (inr (inr h)) = inl (subst (λ (z : Fact). (y : Item) → Contains (net.opens z) y → IsIn g y) (lone f x h) all)
+    opened_it x (inr (inr h)) = inl (subst (λ (z : Fact). (y : Item) → Contains (system.opens z) y → IsIn g y) (lone f x h) all)
 
 -- all that is derived is within bounds
-pub derived_fits : (net : ConstraintSystem) → IsFit net → (x : Item) → Derived net x → fits net x
-derived_fits net k x (begun y h) = k.starts y h
-derived_fits net k x (opened f y d h) = k.opened f y h
-derived_fits net k x (along u v q e d) =
-    ((derived_fits net k (item.Edge u v) e).1, (derived_fits net k (item.Member (record { node = u; member = q })) d).1)
+pub derived_fits : (system : ConstraintSystem) → IsFit system → (x : Item) → Derived system x → fits system x
+derived_fits system k x (begun y h) = k.starts y h
+derived_fits system k x (opened f y d h) = k.opened f y h
+derived_fits system k x (along u v q e d) =
+    ((derived_fits system k (item.Edge u v) e).1, (derived_fits system k (item.Member (record { node = u; member = q })) d).1)
 
 -- what one more of a list puts behind what the ones before it did
 pub one_put : {X A : Type 0} (f : X → List A) (xs : List X) (i : ℕ) (x : X) (all before now : List A) → i < length xs → x ≡ slice_index_or xs i x → now ≡ before ++ f x → before ++ flat_map f (drop i xs) ≡ all

@@ -11,10 +11,10 @@ use Rattle.mh_flow.specs.Constraints.{ConstraintSystem, Derived, begun, opened, 
 use Rattle.mh_flow.specs.Sets.{IsThere, IsLeast, members_of}
 
 -- all that is derived is in the least sets
-pub all_there : (net : ConstraintSystem) (rows : List (List Bool)) (k : IsLeast net rows) (x : Item) → Derived net x → IsThere rows k.edges x
-all_there net rows k x (begun y h) = k.starts y h
-all_there net rows k x (opened f y d h) = k.opened f (all_there net rows k (item.Member f) d) y h
-all_there net rows k x (along u v q e d) = k.along u v q (all_there net rows k (item.Edge u v) e) (all_there net rows k (item.Member (record { node = u; member = q })) d)
+pub all_there : (system : ConstraintSystem) (rows : List (List Bool)) (k : IsLeast system rows) (x : Item) → Derived system x → IsThere rows k.edges x
+all_there system rows k x (begun y h) = k.starts y h
+all_there system rows k x (opened f y d h) = k.opened f (all_there system rows k (item.Member f) d) y h
+all_there system rows k x (along u v q e d) = k.along u v q (all_there system rows k (item.Edge u v) e) (all_there system rows k (item.Member (record { node = u; member = q })) d)
 
 place_in : (n : ℕ) (bs : List Bool) (q : ℕ) → is_at bs q ≡ true → Contains (places_from n bs) (n + q)
 place_in n [] q e = absurd cc

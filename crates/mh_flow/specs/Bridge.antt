@@ -16,17 +16,17 @@ use Rattle.mh_flow.specs.Rows.{has}
 use Rattle.mh_flow.specs.Sets as sets
 use Rattle.mh_flow.specs.declared.chart.Bases.{Bases}
 use Rattle.mh_flow.specs.Chart.{Chart, IsChart, member_of, node_of}
-use Rattle.mh_flow.specs.Opening.{by_variable, net_of}
+use Rattle.mh_flow.specs.Opening.{by_variable, system_of}
 use Rattle.mh_flow.specs.Solved.{flow_of, is_holder_in}
 
 -- what is opened is within bounds
 abbrev pub NumbersFit : Type 0
-NumbersFit = (v : Service) (ch : Chart) → IsChart v ch → IsFit (net_of v ch)
+NumbersFit = (v : Service) (ch : Chart) → IsChart v ch → IsFit (system_of v ch)
 
 -- the flow that least rows say is the least
 abbrev pub RowsAreLeast : Type 0
 RowsAreLeast =
-    (v : Service) (ch : Chart) (rows : List (List Bool)) → IsChart v ch → sets.IsLeast (net_of v ch) rows →
+    (v : Service) (ch : Chart) (rows : List (List Bool)) → IsChart v ch → sets.IsLeast (system_of v ch) rows →
     IsLeast v (flow_of v ch rows)
 
 -- the reference is held, by numbers: the set of the object has it
@@ -41,13 +41,13 @@ pub record IsHeldAt (v : Service) (ch : Chart) (rows : List (List Bool)) (c : Co
 abbrev pub DerivedIsHeld : Type 0
 DerivedIsHeld =
     (v : Service) (ch : Chart) (rows : List (List Bool)) (c : Config) (r q : ObjRef) → IsChart v ch →
-    sets.IsLeast (net_of v ch) rows → Derived v (Held c r q) → IsHeldAt v ch rows c r q
+    sets.IsLeast (system_of v ch) rows → Derived v (Held c r q) → IsHeldAt v ch rows c r q
 
 -- and nothing else is
 abbrev pub HeldIsDerived : Type 0
 HeldIsDerived =
     (v : Service) (ch : Chart) (rows : List (List Bool)) (c : Config) (r q : ObjRef) (u m : ℕ) → IsChart v ch →
-    sets.IsLeast (net_of v ch) rows → node_of v ch c r ≡ Some u → member_of ch q ≡ Some m →
+    sets.IsLeast (system_of v ch) rows → node_of v ch c r ≡ Some u → member_of ch q ≡ Some m →
     has rows u m ≡ true → Derived v (Held c r q)
 
 -- whether it is held, by numbers
@@ -58,7 +58,7 @@ is_held_at v ch rows c r q =
 abbrev pub HeldExactly : Type 0
 HeldExactly =
     (v : Service) (ch : Chart) (rows : List (List Bool)) (c : Config) (r q : ObjRef) → IsChart v ch →
-    sets.IsLeast (net_of v ch) rows → (is_held_at v ch rows c r q ≡ true) ↔ Derived v (Held c r q)
+    sets.IsLeast (system_of v ch) rows → (is_held_at v ch rows c r q ≡ true) ↔ Derived v (Held c r q)
 
 -- what holds a reference is a variable of references or a list, and is present
 abbrev pub HoldersHold : Type 0
@@ -70,12 +70,12 @@ HoldersHold =
 abbrev pub DerivedIsInFlow : Type 0
 DerivedIsInFlow =
     (v : Service) (ch : Chart) (rows : List (List Bool)) (c : Config) (r q : ObjRef) → IsChart v ch →
-    sets.IsLeast (net_of v ch) rows → Derived v (Held c r q) → is_held ((flow_of v ch rows).sets c) r q ≡ true
+    sets.IsLeast (system_of v ch) rows → Derived v (Held c r q) → is_held ((flow_of v ch rows).sets c) r q ≡ true
 
 abbrev pub DerivedIsReached : Type 0
 DerivedIsReached =
     (v : Service) (ch : Chart) (rows : List (List Bool)) (c : Config) → IsChart v ch →
-    sets.IsLeast (net_of v ch) rows → Derived v (Reached c) → reached (flow_of v ch rows) c ≡ true
+    sets.IsLeast (system_of v ch) rows → Derived v (Reached c) → reached (flow_of v ch rows) c ≡ true
 
 -- a variable through which no action has its target opens nothing
 abbrev pub UntargetedOpensNothing : Type 0

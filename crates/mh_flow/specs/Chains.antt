@@ -63,11 +63,11 @@ pub data Brings (v : Service) (q : ObjRef) : List Link → Config → ObjRef →
       → Brings v q ls d p.key
 
 -- Places are in the order of their objects, and those of one object by their numbers.
-abbrev pub by_spot : Link → Link → Ordering
-by_spot = then_cmp (on (λ l. l.key) by_reference) (on (λ l. l.index) nat_cmp)
+abbrev pub by_action_site : Link → Link → Ordering
+by_action_site = then_cmp (on (λ l. l.key) by_reference) (on (λ l. l.index) nat_cmp)
 
 -- the links bring the reference there, no fewer do, and of those that are as many none whose places come before
 pub record IsFirstChain (v : Service) (q : ObjRef) (c : Config) (r : ObjRef) (ls : List Link) : Type 0 where
   pub brings : Brings v q ls c r
   pub shortest : (ms : List Link) → Brings v q ms c r → length ls ≤ length ms
-  pub first : (ms : List Link) → Brings v q ms c r → length ms ≡ length ls → slice_cmp by_spot ms ls ≢ Less
+  pub first : (ms : List Link) → Brings v q ms c r → length ms ≡ length ls → slice_cmp by_action_site ms ls ≢ Less

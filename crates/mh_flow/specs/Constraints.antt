@@ -14,17 +14,17 @@ pub record ConstraintSystem : Type 0 where
 
 -- the sets that are named are there, and so is the member
 abbrev pub fits : ConstraintSystem → Item → Type 0
-fits net (item.Member f) = (f.node < net.nodes) × (f.member < net.width)
-fits net (item.Edge u v) = (u < net.nodes) × (v < net.nodes)
+fits system (item.Member f) = (f.node < system.nodes) × (f.member < system.width)
+fits system (item.Edge u v) = (u < system.nodes) × (v < system.nodes)
 
 -- all that is said fits
-pub record IsFit (net : ConstraintSystem) : Type 0 where
-  pub starts : (x : Item) → Contains net.starts x → fits net x
-  pub opened : (f : Fact) (x : Item) → Contains (net.opens f) x → fits net x
+pub record IsFit (system : ConstraintSystem) : Type 0 where
+  pub starts : (x : Item) → Contains system.starts x → fits system x
+  pub opened : (f : Fact) (x : Item) → Contains (system.opens f) x → fits system x
 
 -- what is there at the start; what a derived member opens; a derived member, along a derived edge
-pub data Derived (net : ConstraintSystem) : Item → Type 0 where
-  begun : (x : Item) → Contains net.starts x → Derived net x
-  opened : (f : Fact) (x : Item) → Derived net (item.Member f) → Contains (net.opens f) x → Derived net x
-  along : (u v q : ℕ) → Derived net (item.Edge u v) → Derived net (item.Member (record { node = u; member = q })) →
-      Derived net (item.Member (record { node = v; member = q }))
+pub data Derived (system : ConstraintSystem) : Item → Type 0 where
+  begun : (x : Item) → Contains system.starts x → Derived system x
+  opened : (f : Fact) (x : Item) → Derived system (item.Member f) → Contains (system.opens f) x → Derived system x
+  along : (u v q : ℕ) → Derived system (item.Edge u v) → Derived system (item.Member (record { node = u; member = q })) →
+      Derived system (item.Member (record { node = v; member = q }))

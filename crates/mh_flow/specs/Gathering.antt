@@ -32,14 +32,14 @@ abbrev pub IsIn : View → Item → Type 0
 IsIn g x = IsThere g.bits g.edges x
 
 -- all that is known is derived, members are listed, and what is pending is known
-pub record IsSound (net : ConstraintSystem) (g : View) : Type 0 where
-  pub bits : length g.bits ≡ net.nodes
-  pub members : length g.members ≡ net.nodes
-  pub edges : length g.edges ≡ net.nodes
-  pub width : (u : ℕ) → (width_at g.bits u ≡ 0) ⊎ (width_at g.bits u ≡ net.width)
+pub record IsSound (system : ConstraintSystem) (g : View) : Type 0 where
+  pub bits : length g.bits ≡ system.nodes
+  pub members : length g.members ≡ system.nodes
+  pub edges : length g.edges ≡ system.nodes
+  pub width : (u : ℕ) → (width_at g.bits u ≡ 0) ⊎ (width_at g.bits u ≡ system.width)
   pub listed : (u q : ℕ) → has g.bits u q ≡ true → Contains (row g.members u) q
   pub known : (u q : ℕ) → Contains (row g.members u) q → has g.bits u q ≡ true
-  pub derived : (x : Item) → IsIn g x → Derived net x
+  pub derived : (x : Item) → IsIn g x → Derived system x
   pub waiting : (f : Fact) → Contains g.pending f → has g.bits f.node f.member ≡ true
 
 -- a fact is pending, or one of these
@@ -47,25 +47,25 @@ abbrev pub IsDue : View → List Fact → Fact → Type 0
 IsDue g more f = Contains g.pending f ⊎ Contains more f
 
 -- the consequences of what is known are known, but for those of what is due
-pub record IsClosed (net : ConstraintSystem) (g : View) (more : List Fact) : Type 0 where
+pub record IsClosed (system : ConstraintSystem) (g : View) (more : List Fact) : Type 0 where
   pub along : (u v q : ℕ) → Contains (row g.edges u) v → has g.bits u q ≡ true →
       (has g.bits v q ≡ true) ⊎ IsDue g more (record { node = u; member = q })
   pub opened : (f : Fact) → has g.bits f.node f.member ≡ true →
-      ((x : Item) → Contains (net.opens f) x → IsIn g x) ⊎ IsDue g more f
+      ((x : Item) → Contains (system.opens f) x → IsIn g x) ⊎ IsDue g more f
 
 -- how much can still come: a bit that is not set is one to set and one to follow
 abbrev pub left : ConstraintSystem → View → ℕ
-left net g = free net.width g.bits + free net.width g.bits + length g.pending
+left system g = free system.width g.bits + free system.width g.bits + length g.pending
 
 -- what is known grows, what is new is pending, and less is left
-pub record IsStep (net : ConstraintSystem) (old new : View) : Type 0 where
+pub record IsStep (system : ConstraintSystem) (old new : View) : Type 0 where
   pub grows : (x : Item) → IsIn old x → IsIn new x
   pub fresh : (f : Fact) → has new.bits f.node f.member ≡ true →
       (has old.bits f.node f.member ≡ true) ⊎ Contains new.pending f
   pub stays : (f : Fact) → Contains old.pending f → Contains new.pending f
   pub longer : AreLonger old.members new.members
-  pub keeps : (more : List Fact) → IsClosed net old more → IsClosed net new more
-  pub less : left net new ≤ left net old
+  pub keeps : (more : List Fact) → IsClosed system old more → IsClosed system new more
+  pub less : left system new ≤ left system old
 
 -- all that was in a set has gone to another
 abbrev pub HasGone : View → View → ℕ → ℕ → Type 0
@@ -77,4 +77,4 @@ IsSpread g f = (v : ℕ) → Contains (row g.edges f.node) v → has g.bits v f.
 
 -- where only this fact was due beside what is pending, it is no more
 abbrev pub IsFollowed : ConstraintSystem → View → View → Fact → Type 0
-IsFollowed net old new f = IsClosed net old (f ∷ []) → IsClosed net new []
+IsFollowed system old new f = IsClosed system old (f ∷ []) → IsClosed system new []

@@ -8,15 +8,15 @@ use Rattle.mh_flow.specs.declared.chain.link.Link.{Link}
 use Rattle.mh_flow.specs.declared.chain.moves.Holder.{Holder}
 use Rattle.mh_flow.specs.declared.chain.moves.ActionSite.{ActionSite}
 use Rattle.mh_flow.specs.declared.chain.moves.Move.{Move}
-use Rattle.mh_flow.specs.Chains.{link, by_spot}
+use Rattle.mh_flow.specs.Chains.{link, by_action_site}
 
--- what is written at the object from this spot
+-- what is written at the object from this action site
 abbrev pub links_at : Option ActionSite → ObjRef → List Link
 links_at None r = []
 links_at (Some s) r = link s.key s.index r ∷ []
 
 abbrev pub links_by : Move → List Link
-links_by m = links_at m.spot m.to.at
+links_by m = links_at m.action_site m.to.at
 
 -- these are the links of moves that lead to the place: the first comes from nowhere, and each other from the place to
 -- which the one before it leads
@@ -25,8 +25,8 @@ pub data Follows (ms : List Move) : List Link → Holder → Type 0 where
   onward : (ls : List Link) (p : Holder) (m : Move) → Follows ms ls p → Contains ms m → m.from ≡ Some p
       → Follows ms (ls ++ links_by m) m.to
 
--- the links lead to the place, no fewer do, and of those that are as many none whose spots come before
+-- the links lead to the place, no fewer do, and of those that are as many none whose action sites come before
 pub record IsFirstOf (ms : List Move) (p : Holder) (ls : List Link) : Type 0 where
   pub follows : Follows ms ls p
   pub shortest : (ks : List Link) → Follows ms ks p → length ls ≤ length ks
-  pub first : (ks : List Link) → Follows ms ks p → length ks ≡ length ls → slice_cmp by_spot ks ls ≢ Less
+  pub first : (ks : List Link) → Follows ms ks p → length ks ≡ length ls → slice_cmp by_action_site ks ls ≢ Less

@@ -156,8 +156,8 @@ opens v ch f = option_map_or (opened_in v ch f.member) (slice_get ch.sets f.node
 abbrev pub wider : ℕ → ℕ → ℕ
 wider a b = if nat_lt a b then b else a
 
-abbrev pub net_of : Service → Chart → ConstraintSystem
-net_of v ch = record {
+abbrev pub system_of : Service → Chart → ConstraintSystem
+system_of v ch = record {
   nodes = length ch.sets;
   width = wider (length ch.members) (length ch.configs);
   starts = member_at (Some 0) (config_number ch (starting v));

@@ -1,4 +1,4 @@
--- Moves by numbers: those of places and of spots, and the graph whose arrows are moves.
+-- Moves by numbers: those of places and of action sites, and the graph whose arrows are moves.
 use Rattle.std.specs.Prelude.{◌≡◌, ℕ, zero, suc, Bool, ◌&&◌, true, ◌==◌, if◌then◌else◌, List, [], ◌∷◌, ◌++◌, length, position, replicate, slice_get, unwrap_or, Option, Some, None, option_and_then}
 use Rattle.std.specs.List.{Contains, flat_map, list_any}
 use Rattle.std.specs.List.Sorted.{IsSorted}
@@ -18,12 +18,12 @@ use Rattle.mh_flow.specs.Chains.{link}
 abbrev pub same_place : Holder → Holder → Bool
 same_place a b = same_config a.config b.config && same_key a.at b.at
 
-abbrev pub same_spot : ActionSite → ActionSite → Bool
-same_spot a b = same_key a.key b.key && a.index == b.index
+abbrev pub same_action_site : ActionSite → ActionSite → Bool
+same_action_site a b = same_key a.key b.key && a.index == b.index
 
 -- by the object, then by the number
-abbrev pub spot_cmp : ActionSite → ActionSite → Ordering
-spot_cmp = then_cmp (on (λ s. s.key) by_reference) (on (λ s. s.index) nat_cmp)
+abbrev pub action_site_cmp : ActionSite → ActionSite → Ordering
+action_site_cmp = then_cmp (on (λ s. s.key) by_reference) (on (λ s. s.index) nat_cmp)
 
 -- What moves speak of, each once
 
@@ -41,22 +41,22 @@ places_from ps (m ∷ ms) = places_from (with_place (with_source ps m.from) m.to
 abbrev pub places_of : List Move → List Holder
 places_of ms = places_from [] ms
 
--- the spots of these moves are among these, which are in order
-pub record AreSpots (ms : List Move) (ss : List ActionSite) : Type 0 where
-  pub sorted : IsSorted spot_cmp ss
-  pub each : (m : Move) (s : ActionSite) → Contains ms m → m.spot ≡ Some s → list_any (same_spot s) ss ≡ true
+-- the action sites of these moves are among these, which are in order
+pub record AreActionSites (ms : List Move) (ss : List ActionSite) : Type 0 where
+  pub sorted : IsSorted action_site_cmp ss
+  pub each : (m : Move) (s : ActionSite) → Contains ms m → m.action_site ≡ Some s → list_any (same_action_site s) ss ≡ true
 
 -- Numbers
 
 abbrev pub place_number : List Holder → Holder → ℕ
 place_number ps p = unwrap_or (position (same_place p) ps) 0
 
-abbrev pub spot_number : List ActionSite → ActionSite → ℕ
-spot_number ss s = unwrap_or (position (same_spot s) ss) 0
+abbrev pub action_site_number : List ActionSite → ActionSite → ℕ
+action_site_number ss s = unwrap_or (position (same_action_site s) ss) 0
 
 -- a move as an arrow
 abbrev pub arrow_of : List Holder → List ActionSite → Move → Arrow
-arrow_of ps ss m = record { label = option_map (spot_number ss) m.spot; to = place_number ps m.to }
+arrow_of ps ss m = record { label = option_map (action_site_number ss) m.action_site; to = place_number ps m.to }
 
 abbrev pub start_of : List Holder → List ActionSite → Move → Option Holder → List Arrow
 start_of ps ss m None = arrow_of ps ss m ∷ []
@@ -86,7 +86,7 @@ rows_of ps ss ms = rows_from ps ss (replicate (length ps) []) ms
 
 -- Links
 
--- what an arrow with this spot to this place is
+-- what an arrow with this action site to this place is
 abbrev pub link_between : Option ActionSite → Option Holder → List Link
 link_between (Some s) (Some p) = link s.key s.index p.at ∷ []
 link_between _ _ = []
@@ -97,15 +97,15 @@ link_of ps ss a = link_between (option_and_then (slice_get ss) a.label) (slice_g
 abbrev pub links_of : List Holder → List ActionSite → List Arrow → List Link
 links_of ps ss trail = flat_map (link_of ps ss) trail
 
--- The spots of moves, each once
+-- The action sites of moves, each once
 
-abbrev pub with_spot : List ActionSite → ActionSite → List ActionSite
-with_spot ss s = if list_any (same_spot s) ss then ss else ss ++ s ∷ []
+abbrev pub with_action_site : List ActionSite → ActionSite → List ActionSite
+with_action_site ss s = if list_any (same_action_site s) ss then ss else ss ++ s ∷ []
 
-abbrev pub with_spot_of : List ActionSite → Option ActionSite → List ActionSite
-with_spot_of ss None = ss
-with_spot_of ss (Some s) = with_spot ss s
+abbrev pub with_action_site_of : List ActionSite → Option ActionSite → List ActionSite
+with_action_site_of ss None = ss
+with_action_site_of ss (Some s) = with_action_site ss s
 
-abbrev pub spots_from : List ActionSite → List Move → List ActionSite
-spots_from ss [] = ss
-spots_from ss (m ∷ ms) = spots_from (with_spot_of ss m.spot) ms
+abbrev pub action_sites_from : List ActionSite → List Move → List ActionSite
+action_sites_from ss [] = ss
+action_sites_from ss (m ∷ ms) = action_sites_from (with_action_site_of ss m.action_site) ms

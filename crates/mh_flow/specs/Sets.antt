@@ -14,14 +14,14 @@ IsThere rows edges (item.Edge u v) = Contains (row edges u) v
 
 -- the least sets. There are edges such that what is there at the start is there, what a member opens is there, members
 -- go along edges, and all that is there is derived.
-pub record IsLeast (net : ConstraintSystem) (rows : List (List Bool)) : Type 0 where
+pub record IsLeast (system : ConstraintSystem) (rows : List (List Bool)) : Type 0 where
   pub edges : List (List ℕ)
-  pub height : length rows ≡ net.nodes
-  pub starts : (x : Item) → Contains net.starts x → IsThere rows edges x
+  pub height : length rows ≡ system.nodes
+  pub starts : (x : Item) → Contains system.starts x → IsThere rows edges x
   pub opened : (f : Fact) → has rows f.node f.member ≡ true →
-      (x : Item) → Contains (net.opens f) x → IsThere rows edges x
+      (x : Item) → Contains (system.opens f) x → IsThere rows edges x
   pub along : (u v q : ℕ) → Contains (row edges u) v → has rows u q ≡ true → has rows v q ≡ true
-  pub derived : (x : Item) → IsThere rows edges x → Derived net x
+  pub derived : (x : Item) → IsThere rows edges x → Derived system x
 
 -- the members of a set, from the smallest up
 abbrev pub members_of : List (List Bool) → ℕ → List ℕ

@@ -11,7 +11,7 @@ use Rattle.mh_model.specs.Service.{Service}
 use Rattle.mh_laws.specs.Flow.{Flow, is_holder}
 use Rattle.mh_laws.specs.Least.{IsLeast}
 use Rattle.mh_flow.specs.Chart.{Chart, IsChart, config_number, node_of, place_in}
-use Rattle.mh_flow.specs.Opening.{net_of}
+use Rattle.mh_flow.specs.Opening.{system_of}
 use Rattle.mh_flow.specs.Rows.{has}
 use Rattle.mh_flow.specs.Sets.{IsLeast as IsSolved, members_of}
 
@@ -49,7 +49,7 @@ flow_in v f = flow_of v f.chart f.rows
 -- it is the least flow of the service
 pub record IsFlowOf (v : Service) (f : Solved) : Type 0 where
   pub chart : IsChart v f.chart
-  pub solved : IsSolved (net_of v f.chart) f.rows
+  pub solved : IsSolved (system_of v f.chart) f.rows
   pub least : IsLeast v (flow_in v f)
 
 -- What is held, in the order in which the objects are present.

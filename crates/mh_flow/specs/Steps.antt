@@ -29,22 +29,22 @@ use Rattle.mh_flow.specs.Solved.{held_by}
 abbrev pub place : Config → ObjRef → Holder
 place c r = record { config = c; at = r }
 
-abbrev pub first_spot : Fixed → ActionSite
-first_spot p = record { key = p.key; index = 0 }
+abbrev pub first_action_site : Fixed → ActionSite
+first_action_site p = record { key = p.key; index = 0 }
 
-abbrev pub site_spot : Site → ActionSite
-site_spot x = record { key = x.key; index = x.index }
+abbrev pub action_site_at : Site → ActionSite
+action_site_at x = record { key = x.key; index = x.index }
 
 -- a reference comes from nowhere; from a place; and stays with what holds it
 
 abbrev pub comes : ActionSite → Holder → Move
-comes s p = record { from = None; spot = Some s; to = p }
+comes s p = record { from = None; action_site = Some s; to = p }
 
 abbrev pub goes : Holder → ActionSite → Holder → Move
-goes o s p = record { from = Some o; spot = Some s; to = p }
+goes o s p = record { from = Some o; action_site = Some s; to = p }
 
 abbrev pub stays : Holder → Holder → Move
-stays o p = record { from = Some o; spot = None; to = p }
+stays o p = record { from = Some o; action_site = None; to = p }
 
 -- the reference is one of these
 abbrev pub is_one_of : List ObjRef → ObjRef → Bool
@@ -80,17 +80,17 @@ holds g r = list_any (is_one_of g.sought) (g.sets r)
 -- the object has one of them at first
 abbrev pub first_moves : SearchedConfig → Fixed → List Move
 first_moves g p =
-    if list_any (is_one_of g.sought) (firsts p) then comes (first_spot p) (there g p.key) ∷ [] else []
+    if list_any (is_one_of g.sought) (firsts p) then comes (first_action_site p) (there g p.key) ∷ [] else []
 
 -- Actions. Each function says what the action at a site does where its target comes to an object.
 
 -- it writes one of them there; it hands on what a variable holds
 abbrev pub written_moves : SearchedConfig → Site → ObjRef → ObjRef → List Move
-written_moves g x r y = if is_one_of g.sought y then comes (site_spot x) (there g r) ∷ [] else []
+written_moves g x r y = if is_one_of g.sought y then comes (action_site_at x) (there g r) ∷ [] else []
 
 abbrev pub read_moves : SearchedConfig → Site → ObjRef → ObjRef → List Move
 read_moves g x r y =
-    if is_reference_in g.present y && holds g y then goes (there g y) (site_spot x) (there g r) ∷ [] else []
+    if is_reference_in g.present y && holds g y then goes (there g y) (action_site_at x) (there g r) ∷ [] else []
 
 -- the argument brings one of them to the object
 abbrev pub handed_moves : SearchedConfig → Site → ObjRef → Argument → List Move
@@ -107,7 +107,7 @@ given_moves g x r =
 -- the variable receives what the list has
 abbrev pub received_moves : SearchedConfig → Site → ObjRef → ObjRef → List Move
 received_moves g x r y =
-    if is_reference_in g.present y then goes (there g r) (site_spot x) (there g y) ∷ [] else []
+    if is_reference_in g.present y then goes (there g r) (action_site_at x) (there g y) ∷ [] else []
 
 abbrev pub filled_moves : SearchedConfig → Site → ObjRef → List Move
 filled_moves g x r =

@@ -19,8 +19,8 @@ use std::alloc::{AllocError, Global};
 
 /// All that follows from the start, and nothing else.
 pub fn solve<R: Rules>(alloc: Global, rules: &R) -> Result<Sets, AllocError>
-    requires { IsFit (R.net rules.now) }
-    ensures { IfOk result (λ sets. IsLeast (R.net rules.now) sets) }
+    requires { IsFit (R.system rules.now) }
+    ensures { IfOk result (λ sets. IsLeast (R.system rules.now) sets) }
 {
     let mut gathered = Gathered::nothing(alloc, rules.nodes())?;
     let mut items = Vec::new(alloc);

@@ -41,9 +41,9 @@ impl<'a> Model for Opening<'a> {
 }
 
 impl<'a> Rules for Opening<'a> {
-    ghost use Rattle.mh_flow.specs.Opening.{net_of};
+    ghost use Rattle.mh_flow.specs.Opening.{system_of};
 
-    ghost net = { λ o. net_of o.service o.chart };
+    ghost system = { λ o. system_of o.service o.chart };
 
     fn nodes(&self) -> usize {
         self.chart.sets()

@@ -25,14 +25,14 @@ pub struct Folder {
 /// What the folder holds; an error where it cannot be listed itself.
 pub fn folder_of<R: Runtime + AllocGlobal>(rt: &R, top: &str) -> Result<Folder, Unread> {
     let alloc = rt.alloc();
-    if let Err(error) = fs::read_dir(rt, top) {
-        return Err(unreadable(alloc, &error, top));
-    }
     let mut found = found_in(rt, top)?;
     let mut files = Vec::new(alloc);
     for path in &found.files {
+        let Some(name) = name_of(alloc, path.as_bytes())? else {
+            continue;
+        };
         match read_found(rt, top, path.as_str()) {
-            Ok(bytes) => files.push((named(alloc, path.as_bytes())?, bytes))?,
+            Ok(bytes) => files.push((name, bytes))?,
             Err(why) => note(&mut found.unread, why)?,
         }
     }
@@ -44,14 +44,6 @@ pub fn folder_of<R: Runtime + AllocGlobal>(rt: &R, top: &str) -> Result<Folder, 
     drop(paths);
     drop(listed);
     Ok(Folder { files, unread })
-}
-
-/// The name of a group with this path, which is one that a group can have.
-fn named(alloc: Global, path: &[u8]) -> Result<GroupName, Unread> {
-    match GroupName::of_path(alloc, path) {
-        Ok(name) => Ok(name),
-        Err(_) => Err(Unread::NoMemory),
-    }
 }
 
 /// Keeps the first that could not be read; an error where it was memory that lacked.
@@ -76,7 +68,7 @@ fn read_found<R: Runtime + AllocGlobal>(rt: &R, top: &str, path: &str) -> Result
     }
 }
 
-/// What may be a file of a service, in order, and what first could not be listed.
+/// What may be a file of a service, in order, and what first could not be listed; an error where the folder itself cannot.
 fn found_in<R: Runtime + AllocGlobal>(rt: &R, top: &str) -> Result<Found, Unread> {
     let alloc = rt.alloc();
     let mut found = Found {
@@ -84,7 +76,9 @@ fn found_in<R: Runtime + AllocGlobal>(rt: &R, top: &str) -> Result<Found, Unread
         listed: BTreeSet::new(alloc),
         unread: None,
     };
-    let mut folders = vec![in alloc; String::new(alloc)]?;
+    let mut folders = Vec::new(alloc);
+    found.list(rt, top, "", top, &mut folders)?;
+    folders.sort()?;
     for _ in 0..u64::MAX {
         if folders.is_empty() {
             break;
@@ -116,7 +110,7 @@ impl Found {
     ) -> Result<Vec<String>, Unread> {
         let mut inner = Vec::new(rt.alloc());
         for folder in folders {
-            if let Err(why) = self.list(rt, top, folder.as_str(), &mut inner) {
+            if let Err(why) = self.list(rt, top, folder.as_str(), folder.as_str(), &mut inner) {
                 note(&mut self.unread, why)?;
             }
         }
@@ -124,27 +118,28 @@ impl Found {
         Ok(inner)
     }
 
-    /// The same for one folder.
+    /// The same for one folder; an error calls it by this name.
     fn list<R: Runtime + AllocGlobal>(
         &mut self,
         rt: &R,
         top: &str,
         path: &str,
+        name: &str,
         inner: &mut Vec<String>,
     ) -> Result<(), Unread> {
         let alloc = rt.alloc();
         let place = joined(alloc, top, path)?;
-        self.enter(rt, place.as_str(), path)?;
+        self.enter(rt, place.as_str(), name)?;
         let entries = match fs::read_dir(rt, place.as_str()) {
             Ok(entries) => entries,
-            Err(error) => return Err(unreadable(alloc, &error, path)),
+            Err(error) => return Err(unreadable(alloc, &error, name)),
         };
         for entry in entries {
             match entry {
                 Ok(entry) => self.add(rt, top, joined(alloc, path, entry.file_name())?, inner)?,
                 // a name that is no text is no name of a group
                 Err(error) if error.kind() == io::ErrorKind::InvalidFilename => {}
-                Err(error) => return Err(unreadable(alloc, &error, path)),
+                Err(error) => return Err(unreadable(alloc, &error, name)),
             }
         }
         Ok(())
@@ -155,16 +150,16 @@ impl Found {
         &mut self,
         rt: &R,
         place: &str,
-        path: &str,
+        name: &str,
     ) -> Result<(), Unread> {
         match fs::metadata(rt, place) {
             Ok(about) => {
                 if !self.listed.insert((about.dev(), about.ino()))? {
-                    return Err(unread(rt.alloc(), path));
+                    return Err(unread(rt.alloc(), name));
                 }
                 Ok(())
             }
-            Err(error) => Err(unreadable(rt.alloc(), &error, path)),
+            Err(error) => Err(unreadable(rt.alloc(), &error, name)),
         }
     }
 
@@ -177,7 +172,7 @@ impl Found {
         path: String,
         inner: &mut Vec<String>,
     ) -> Result<(), Unread> {
-        if !is_path(rt.alloc(), path.as_bytes())? {
+        if name_of(rt.alloc(), path.as_bytes())?.is_none() {
             return Ok(());
         }
         let place = joined(rt.alloc(), top, path.as_str())?;
@@ -189,10 +184,11 @@ impl Found {
     }
 }
 
-fn is_path(alloc: Global, path: &[u8]) -> Result<bool, AllocError> {
+/// The name of the group with this path; none where no group can have it.
+fn name_of(alloc: Global, path: &[u8]) -> Result<Option<GroupName>, AllocError> {
     match GroupName::of_path(alloc, path) {
-        Ok(_) => Ok(true),
-        Err(NameError::BadName) => Ok(false),
+        Ok(name) => Ok(Some(name)),
+        Err(NameError::BadName) => Ok(None),
         Err(NameError::NoMemory) => Err(AllocError),
     }
 }

@@ -16,12 +16,12 @@ use Rattle.mh_prices.proofs.NearLemmas.{NearDone, done_near}
 use Rattle.mh_layers.specs.Key.{Leave}
 use Rattle.mh_layers.specs.Keys.{objects}
 use Rattle.mh_layers.proofs.AgreeLemmas.{Agrees, SameSets, Setting, agrees_largest, agrees_node, agrees_one, agrees_passes, agrees_plus, agrees_sets, agrees_sum}
-use Rattle.mh_layers.proofs.LifeAgreeLemmas.{all_lists, exchange_agrees, net}
+use Rattle.mh_layers.proofs.LifeAgreeLemmas.{all_lists, exchange_agrees, numbered_service}
 
-pub leaving : {A : Type 0} (s : Setting A) (c : Config) → reached s.flow c ≡ true → (all : Bool) → Agrees s 6 ((net s c).leave all) (costs.leaves s.service s.flow c all)
+pub leaving : {A : Type 0} (s : Setting A) (c : Config) → reached s.flow c ≡ true → (all : Bool) → Agrees s 6 ((numbered_service s c).leave all) (costs.leaves s.service s.flow c all)
 leaving s c here all = agrees_node s 6 (Leave c all) here (omega arith)
 
-near : {A : Type 0} (s : Setting A) (c : Config) → reached s.flow c ≡ true → (n : ActionName) (xs : List Argument) (r : ObjRef) → NearDone (λ q. Agrees s 6) (Agrees s 6) SameSets (net s c) (costs.around s.service s.flow c) n xs r
+near : {A : Type 0} (s : Setting A) (c : Config) → reached s.flow c ≡ true → (n : ActionName) (xs : List Argument) (r : ObjRef) → NearDone (λ q. Agrees s 6) (Agrees s 6) SameSets (numbered_service s c) (costs.around s.service s.flow c) n xs r
 near s c here n xs r = record {
   lists = all_lists s 6 (omega arith) c here;
   leave = leaving s c here;
@@ -30,24 +30,24 @@ near s c here n xs r = record {
   sent = λ x i more e. refl;
 }
 
-pub done_agrees : {A : Type 0} (s : Setting A) (c : Config) → reached s.flow c ≡ true → (n : ActionName) (xs : List Argument) (r : ObjRef) → Agrees s 6 (view.done_to (net s c) n xs r) (costs.done_to s.service s.flow c n xs r)
+pub done_agrees : {A : Type 0} (s : Setting A) (c : Config) → reached s.flow c ≡ true → (n : ActionName) (xs : List Argument) (r : ObjRef) → Agrees s 6 (view.done_to (numbered_service s c) n xs r) (costs.done_to s.service s.flow c n xs r)
 done_agrees s c here n xs r =
     done_near (λ q. Agrees s 6) (Agrees s 6) SameSets (λ q. agrees_passes s 6) (agrees_passes s 6) (λ q o u a. a) (agrees_sets s 6)
-    (net s c) (costs.around s.service s.flow c) n xs r (near s c here n xs r)
+    (numbered_service s c) (costs.around s.service s.flow c) n xs r (near s c here n xs r)
 
 -- the targets of both are the same
 same_targets : {A : Type 0} (s : Setting A) (c : Config) (x : Target) → view.targets (objects s.service s.flow s.heard c) x ≡ view.targets (costs.objects s.service s.flow c) x
 same_targets s c (target.Direct r) = refl
 same_targets s c (target.Through x) = refl
 
-pub act_agrees : {A : Type 0} (s : Setting A) (c : Config) → reached s.flow c ≡ true → (a : Act) → Agrees s 6 (view.act (net s c) a) (costs.act s.service s.flow c a)
+pub act_agrees : {A : Type 0} (s : Setting A) (c : Config) → reached s.flow c ≡ true → (a : Act) → Agrees s 6 (view.act (numbered_service s c) a) (costs.act s.service s.flow c a)
 act_agrees s c here a =
-    agrees_plus s 6 One (most_price (view.done_to (net s c) a.name a.arguments) (view.targets (objects s.service s.flow s.heard c) a.target))
+    agrees_plus s 6 One (most_price (view.done_to (numbered_service s c) a.name a.arguments) (view.targets (objects s.service s.flow s.heard c) a.target))
     One (most_price (costs.done_to s.service s.flow c a.name a.arguments) (view.targets (costs.objects s.service s.flow c) a.target)) (agrees_one s 6)
-    (subst (λ (ts : List ObjRef). Agrees s 6 (most_price (view.done_to (net s c) a.name a.arguments) (view.targets (objects s.service s.flow s.heard c) a.target)) (most_price (costs.done_to s.service s.flow c a.name a.arguments) ts))
+    (subst (λ (ts : List ObjRef). Agrees s 6 (most_price (view.done_to (numbered_service s c) a.name a.arguments) (view.targets (objects s.service s.flow s.heard c) a.target)) (most_price (costs.done_to s.service s.flow c a.name a.arguments) ts))
     (same_targets s c a.target)
-    (agrees_largest s 6 (view.done_to (net s c) a.name a.arguments) (costs.done_to s.service s.flow c a.name a.arguments) (view.targets (objects s.service s.flow s.heard c) a.target)
+    (agrees_largest s 6 (view.done_to (numbered_service s c) a.name a.arguments) (costs.done_to s.service s.flow c a.name a.arguments) (view.targets (objects s.service s.flow s.heard c) a.target)
     (λ r there. done_agrees s c here a.name a.arguments r)))
 
-pub acts_agree : {A : Type 0} (s : Setting A) (c : Config) → reached s.flow c ≡ true → (xs : List Act) → Agrees s 6 (view.acts (net s c) xs) (costs.acts_price s.service s.flow c xs)
-acts_agree s c here xs = agrees_sum s 6 (view.act (net s c)) (costs.act s.service s.flow c) xs (λ a there. act_agrees s c here a)
+pub acts_agree : {A : Type 0} (s : Setting A) (c : Config) → reached s.flow c ≡ true → (xs : List Act) → Agrees s 6 (view.acts (numbered_service s c) xs) (costs.acts_price s.service s.flow c xs)
+acts_agree s c here xs = agrees_sum s 6 (view.act (numbered_service s c)) (costs.act s.service s.flow c) xs (λ a there. act_agrees s c here a)

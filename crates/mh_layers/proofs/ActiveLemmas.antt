@@ -17,7 +17,7 @@ use Rattle.mh_layers.proofs.ListeningLemmas.{objects_numbered, present_among, te
 use Rattle.mh_layers.proofs.MetLemmas.{found_among, there_found}
 use Rattle.mh_layers.proofs.PositionLemmas.{position_is, position_there, put_all}
 use Rattle.mh_layers.proofs.ReadingLemmas.{setting_itself, tells_settings}
-use Rattle.mh_layers.proofs.SpotLemmas.{got_there}
+use Rattle.mh_layers.proofs.ContextLemmas.{got_there}
 use Rattle.mh_layers.proofs.KeyGraphLemmas.{active_kept}
 
 config_at : (r : Reading) (c : Config) → reached (flow_read r) c ≡ true → slice_get (settings r) (config_number r c) ≡ Some c

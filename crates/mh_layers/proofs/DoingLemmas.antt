@@ -23,7 +23,7 @@ use Rattle.mh_layers.specs.declared.node_key.NodeKey.TheVariants as key
 use Rattle.mh_layers.specs.Key.{Key, Effect}
 use Rattle.mh_layers.specs.Applied.{CountsKey, AppliedAction, IsApplied, NoneApplied, NoneCounts, number_in, puts_so}
 use Rattle.mh_layers.specs.Keys.{effect_of}
-use Rattle.mh_layers.specs.Reading.{Reading, around_at, flow_read, heard_read, number, price_read, spot_in}
+use Rattle.mh_layers.specs.Reading.{Reading, around_at, flow_read, heard_read, number, price_read, context_in}
 use Rattle.mh_layers.specs.EffectSites.{effect_named}
 use Rattle.mh_layers.specs.Trails.{IsStep}
 use Rattle.mh_layers.proofs.SuccessorLemmas.{among_got, got_pushed}
@@ -36,14 +36,14 @@ abbrev IsPut : Reading → Config → List Act → Key → Type 0
 IsPut r c acts k =
     (a : Act) × Among acts a × (t : ObjRef) × Among (targets (flow_read r) c a.target) t × Among (counted_in (puts_so r c a t)) k
 
-same_targets : (r : Reading) (c : Config) (x : Target) → view.targets (around_at (spot_in r c)).lists.view x ≡ targets (flow_read r) c x
+same_targets : (r : Reading) (c : Config) (x : Target) → view.targets (around_at (context_in r c)).lists.view x ≡ targets (flow_read r) c x
 same_targets r c (target.Direct t) = refl
 same_targets r c (target.Through q) = refl
 
-act_puts : (r : Reading) (c : Config) (acts : List Act) (a : Act) → Among acts a → Nodes (IsPut r c acts) (view.act (around_at (spot_in r c)) a)
+act_puts : (r : Reading) (c : Config) (acts : List Act) (a : Act) → Among acts a → Nodes (IsPut r c acts) (view.act (around_at (context_in r c)) a)
 act_puts r c acts a own = (
   tt,
-  nodes_most (IsPut r c acts) (puts_so r c a) (view.targets (around_at (spot_in r c)).lists.view a.target)
+  nodes_most (IsPut r c acts) (puts_so r c a) (view.targets (around_at (context_in r c)).lists.view a.target)
       (λ t there. nodes_of (IsPut r c acts) (puts_so r c a t)
       (λ k counted. (a, own, t, subst (λ (ts : List ObjRef). Among ts t) (same_targets r c a.target) there, counted))),
 )
@@ -51,8 +51,8 @@ act_puts r c acts a own = (
 effect_puts : (r : Reading) (c : Config) (o : ObjRef) (n : ℕ) (part : Fixed) → part_at o (present r.service c) ≡ Some part → Nodes (IsPut r c (effect_at part n)) (price_read r (Effect c o n))
 effect_puts r c o n part at =
     subst (λ (m : Option Fixed). Nodes (IsPut r c (effect_at part n)) (option_map_or (effect_of r.service (flow_read r) (heard_read r) c n) m Nothing)) (sym at)
-    (nodes_if (IsPut r c (effect_at part n)) (is_active (present r.service c) part) (view.acts (around_at (spot_in r c)) (effect_at part n))
-    (λ active. nodes_sum (IsPut r c (effect_at part n)) (view.act (around_at (spot_in r c))) (effect_at part n)
+    (nodes_if (IsPut r c (effect_at part n)) (is_active (present r.service c) part) (view.acts (around_at (context_in r c)) (effect_at part n))
+    (λ active. nodes_sum (IsPut r c (effect_at part n)) (view.act (around_at (context_in r c))) (effect_at part n)
     (λ a own. act_puts r c (effect_at part n) a own)))
 
 -- The action

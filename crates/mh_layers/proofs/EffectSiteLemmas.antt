@@ -65,17 +65,17 @@ cause_found r c o n config at cause found there is =
 
 -- PLACES
 
-standing_itself : (a : EffectSite) → same_effect_site a a ≡ true
-standing_itself a = λ i. tells_objects.itself a.at i && (Decides-eqb a.index a.index).1 refl i
+context_itself : (a : EffectSite) → same_effect_site a a ≡ true
+context_itself a = λ i. tells_objects.itself a.at i && (Decides-eqb a.index a.index).1 refl i
 
-standing_one : (a b : EffectSite) → same_effect_site a b ≡ true → a ≡ b
-standing_one a b h =
+effect_site_one : (a b : EffectSite) → same_effect_site a b ≡ true → a ≡ b
+effect_site_one a b h =
     let at : a.at ≡ b.at = tells_objects.one a.at b.at (and_left (same_ref_key a.at b.at) (a.index == b.index) h) in
     let index : a.index ≡ b.index = (Decides-eqb a.index b.index).0 (and_right (same_ref_key a.at b.at) (a.index == b.index) h) in
     λ i. record { at = at i; index = index i }
 
-tells_standings : TellsOne same_effect_site
-tells_standings = record { itself = standing_itself; one = standing_one }
+tells_effect_sites : TellsOne same_effect_site
+tells_effect_sites = record { itself = context_itself; one = effect_site_one }
 
 pub effect_site_total : IsTotalOrder effect_site_cmp
 effect_site_total = then_total (on_total (λ (s : EffectSite). s.at) reference_total) (on_total (λ (s : EffectSite). s.index) nat_cmp_total)
@@ -95,18 +95,18 @@ tied_is a b e =
     λ j. record { at = record { number = n j; group = g j }; index = i j }
 
 -- the places in order, and all of those of these effects
-pub are_standings : (r : Reading) (ks : List NodeKey) (ss : List EffectSite) → IsSorted effect_site_cmp ss → ((s : EffectSite) → list_any (same_effect_site s) ss ≡ list_any (same_effect_site s) (insert_all same_effect_site [] (map (effect_site_named r) ks))) → AreEffectSites r ks ss
-are_standings r ks ss sorted same = record {
+pub are_effect_sites : (r : Reading) (ks : List NodeKey) (ss : List EffectSite) → IsSorted effect_site_cmp ss → ((s : EffectSite) → list_any (same_effect_site s) ss ≡ list_any (same_effect_site s) (insert_all same_effect_site [] (map (effect_site_named r) ks))) → AreEffectSites r ks ss
+are_effect_sites r ks ss sorted same = record {
   sorted = sorted;
-  each = λ k there. same (effect_site_named r k) ∙ put_all same_effect_site standing_itself [] (map (effect_site_named r) ks) (effect_site_named r k) (among_mapped (effect_site_named r) ks k there);
+  each = λ k there. same (effect_site_named r k) ∙ put_all same_effect_site context_itself [] (map (effect_site_named r) ks) (effect_site_named r k) (among_mapped (effect_site_named r) ks k there);
 }
 
 -- what is among them stands at its number
-standing_there : (ss : List EffectSite) (s : EffectSite) → list_any (same_effect_site s) ss ≡ true → (slice_get ss (effect_site_number ss s) ≡ Some s) × (effect_site_number ss s < length ss)
-standing_there ss s h =
+context_there : (ss : List EffectSite) (s : EffectSite) → list_any (same_effect_site s) ss ≡ true → (slice_get ss (effect_site_number ss s) ≡ Some s) × (effect_site_number ss s < length ss)
+context_there ss s h =
     let at = position_there (same_effect_site s) ss h in
     let number : effect_site_number ss s ≡ at.0 = ap (λ (o : Option ℕ). unwrap_or o 0) at.1 in
-    let got : slice_get ss (effect_site_number ss s) ≡ Some s = ap (slice_get ss) number ∙ position_is same_effect_site tells_standings ss s at.0 at.1 in
+    let got : slice_get ss (effect_site_number ss s) ≡ Some s = ap (slice_get ss) number ∙ position_is same_effect_site tells_effect_sites ss s at.0 at.1 in
     (got, slice_get_within ss (effect_site_number ss s) s got)
 
 not_below : (ss : List EffectSite) → IsSorted effect_site_cmp ss → (i j : ℕ) (a b : EffectSite) → i ≤ j → j < length ss → slice_get ss i ≡ Some a → slice_get ss j ≡ Some b → is_lt (effect_site_cmp b a) ≡ false
@@ -125,10 +125,10 @@ sorted_numbers ss sorted a b ha hb = by (nat_cmp i j) refl (ranked i j (nat_cmp 
     j = effect_site_number ss b
 
     at_a : (slice_get ss i ≡ Some a) × (i < length ss)
-    at_a = standing_there ss a ha
+    at_a = context_there ss a ha
 
     at_b : (slice_get ss j ≡ Some b) × (j < length ss)
-    at_b = standing_there ss b hb
+    at_b = context_there ss b hb
 
     before : (x y : EffectSite) → effect_site_number ss x < effect_site_number ss y → is_lt (effect_site_cmp y x) ≡ false → (r : Ordering) → effect_site_cmp x y ≡ r → r ≡ Less
     before x y less never Less e = refl

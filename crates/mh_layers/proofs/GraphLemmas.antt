@@ -1,4 +1,4 @@
--- The graph of the rows is the web of their keys.
+-- The graph of the rows is the key graph of their keys.
 use Rattle.std.specs.Prelude.{◌≡◌, ◌<◌, ◌≤◌, ◌+◌, ℕ, zero, suc, Bool, true, false, ◌||◌, List, [], ◌∷◌, ◌++◌, drop, get_or, length, map, slice_get, unwrap_or, Option, Some, None, Vec, refl}
 use Rattle.std.specs.List.{AllByRecursion, Contains, IsDistinct, list_any}
 use Rattle.std.specs.Option.{option_map, option_map_or}
@@ -100,7 +100,7 @@ label_found label ks k there =
 contained : {X : Type 0} (xs : List X) (x : X) → Contains xs x → Among xs x
 contained xs x there = each_contained (Among xs) xs x (among_each (Among xs) xs (λ y h. h)) there
 
--- what is known of a web's parts
+-- what is known of a key graph's parts
 record Parts (r : Reading) (ks : List NodeKey) (rs : List (Vec NodeKey Global)) (mark : NodeKey → ℕ) (g : Graph) : Type 0 where
   pub rows : AreRows (price r) (kept r) ks rs
   pub all : slice_get ks (length rs) ≡ None
@@ -153,8 +153,8 @@ module _ (r : Reading) (ks : List NodeKey) (rows : List (Vec NodeKey Global)) (m
         label_found mark ks j there,
       )
 
-  is_web : IsKeyGraph r ks mark g
-  is_web = record {
+  is_key_graph : IsKeyGraph r ks mark g
+  is_key_graph = record {
     nodes =
         sym (length-map g.nodes.items (λ (row : Vec Arrow Global). row.items)) ∙ ap length are.nodes
         ∙ length-map rows (λ (row : Vec NodeKey Global). map (arrow_by ks (map (label_to mark) ks)) row.items) ∙ long;
@@ -164,14 +164,14 @@ module _ (r : Reading) (ks : List NodeKey) (rows : List (Vec NodeKey Global)) (m
     all = arrow_there;
   }
 
--- a web of roots
-pub web_made : (r : Reading) (roots all firsts ks : List NodeKey) (rows : List (Vec NodeKey Global)) (ss : List EffectSite) (ls : List (Option ℕ)) (g : Graph) → all ≡ active_keys r → firsts ≡ insert_all same_key [] roots → Stays firsts ks → AreRows (price r) (kept r) ks rows → slice_get ks (length rows) ≡ None
+-- a key graph of roots
+pub key_graph_made : (r : Reading) (roots all firsts ks : List NodeKey) (rows : List (Vec NodeKey Global)) (ss : List EffectSite) (ls : List (Option ℕ)) (g : Graph) → all ≡ active_keys r → firsts ≡ insert_all same_key [] roots → Stays firsts ks → AreRows (price r) (kept r) ks rows → slice_get ks (length rows) ≡ None
     → IsDistinct same_key ks → AreEffectSites r all ss → ls ≡ map (label_to (label_in r ss)) ks
     → map (λ (row : Vec Arrow Global). row.items) g.nodes.items ≡ map (λ (row : Vec NodeKey Global). map (arrow_by ks ls) row.items) rows → IsKeyGraphOf r roots ks g
-web_made r roots all firsts ks rows ss ls g every first stays are full once effect_sites labels nodes = record {
+key_graph_made r roots all firsts ks rows ss ls g every first stays are full once effect_sites labels nodes = record {
   effect_sites = ss;
   are = subst (λ (is : List NodeKey). AreEffectSites r is ss) every effect_sites;
-  web = is_web r ks rows (label_in r ss) g (record {
+  key_graph = is_key_graph r ks rows (label_in r ss) g (record {
     rows = are;
     all = full;
     once = once;

@@ -24,7 +24,7 @@ use Rattle.mh_layers.specs.Keys.{effect_of, IsKept, level, price_of, stands_for}
 use Rattle.mh_layers.proofs.ActAgreeLemmas.{acts_agree}
 use Rattle.mh_layers.proofs.AgreeLemmas.{Agrees, Setting, agrees_then, effects_come}
 use Rattle.mh_layers.proofs.FiredLemmas.{entry_agrees, fired_agrees}
-use Rattle.mh_layers.proofs.LifeAgreeLemmas.{change_agrees, leave_agrees, net, own_enter_agrees}
+use Rattle.mh_layers.proofs.LifeAgreeLemmas.{change_agrees, leave_agrees, numbered_service, own_enter_agrees}
 use Rattle.mh_layers.proofs.MetLemmas.{found_among, on_of, reached_among, same_itself}
 use Rattle.mh_layers.proofs.TakenAgreeLemmas.{taken_agrees}
 use Rattle.mh_layers.proofs.ReckonLemmas.{Below, all_below, below_among, below_same, both_below}
@@ -126,8 +126,8 @@ effect_agrees {A} s x on = by (on_is s x on)
     by k =
         subst (λ (r : ObjRef). Agrees s 6 (price_of s.service s.flow s.heard (Effect x.config r x.number)) (costs.effect_price s.service s.flow (record { config = x.config; object = r; number = x.number }))) (sym k.object)
         (subst (λ (o : Option Fixed). Agrees s 6 (option_map_or (effect_of s.service s.flow s.heard x.config x.number) o Nothing) (costs.effect_price s.service s.flow (record { config = x.config; object = k.part.key; number = x.number }))) (sym (s.found x.config k.part k.there))
-        (subst (λ (b : Bool). Agrees s 6 (if_price b (view.acts (net s x.config) (costs.effect_at k.part x.number))) (costs.effect_price s.service s.flow (record { config = x.config; object = k.part.key; number = x.number }))) (sym k.active)
-        (agrees_then s 6 (view.acts (net s x.config) (costs.effect_at k.part x.number)) (costs.acts_price s.service s.flow x.config (costs.effect_at k.part x.number)) (costs.effect_price s.service s.flow (record { config = x.config; object = k.part.key; number = x.number }))
+        (subst (λ (b : Bool). Agrees s 6 (if_price b (view.acts (numbered_service s x.config) (costs.effect_at k.part x.number))) (costs.effect_price s.service s.flow (record { config = x.config; object = k.part.key; number = x.number }))) (sym k.active)
+        (agrees_then s 6 (view.acts (numbered_service s x.config) (costs.effect_at k.part x.number)) (costs.acts_price s.service s.flow x.config (costs.effect_at k.part x.number)) (costs.effect_price s.service s.flow (record { config = x.config; object = k.part.key; number = x.number }))
         (acts_agree s x.config k.here (costs.effect_at k.part x.number)) (one_object s x.config k.part x.number k.there))))
 
 -- an effect of a configuration that may be reached is active, or its price is nothing
@@ -143,18 +143,18 @@ on_or_nothing {A} s c r n here = by (part_at r (present s.service c)) refl
     priced : Option Fixed → Price Key
     priced o = option_map_or (effect_of s.service s.flow s.heard c n) o Nothing
 
-    numbered : (p : Fixed) → part_at r (present s.service c) ≡ Some p → is_active (present s.service c) p ≡ true → (b : Bool) → nat_le (suc n) (length (costs.effects p)) ≡ b → IsOn s.service s.flow (record { config = c; object = r; number = n }) ⊎ (view.acts (net s c) (costs.effect_at p n) ≡ Nothing)
+    numbered : (p : Fixed) → part_at r (present s.service c) ≡ Some p → is_active (present s.service c) p ≡ true → (b : Bool) → nat_le (suc n) (length (costs.effects p)) ≡ b → IsOn s.service s.flow (record { config = c; object = r; number = n }) ⊎ (view.acts (numbered_service s c) (costs.effect_at p n) ≡ Nothing)
     numbered p e active true less =
         let at = found_among r (present s.service c) p e in
         inl (subst (λ (q : ObjRef). IsOn s.service s.flow (record { config = c; object = q; number = n })) (sym at.0)
         (on_of s.service s.flow c p n here at.1 active (leb-true (suc n) (length (costs.effects p)) less)))
     numbered p e active false less =
-        inr (ap (λ (xs : List Act). view.acts (net s c) xs) (got_none (costs.effects p) n (past (leb-false (suc n) (length (costs.effects p)) less))))
+        inr (ap (λ (xs : List Act). view.acts (numbered_service s c) xs) (got_none (costs.effects p) n (past (leb-false (suc n) (length (costs.effects p)) less))))
       where
         past : {m : ℕ} → m < suc n → m ≤ n
         past h = omega (arith, h)
 
-    of : (p : Fixed) → part_at r (present s.service c) ≡ Some p → (b : Bool) → is_active (present s.service c) p ≡ b → IsOn s.service s.flow (record { config = c; object = r; number = n }) ⊎ (if_price b (view.acts (net s c) (costs.effect_at p n)) ≡ Nothing)
+    of : (p : Fixed) → part_at r (present s.service c) ≡ Some p → (b : Bool) → is_active (present s.service c) p ≡ b → IsOn s.service s.flow (record { config = c; object = r; number = n }) ⊎ (if_price b (view.acts (numbered_service s c) (costs.effect_at p n)) ≡ Nothing)
     of p e true active = numbered p e active (nat_le (suc n) (length (costs.effects p))) refl
     of p e false active = inr refl
 

@@ -116,8 +116,8 @@ record Reaches (r : Reading) (ks : List NodeKey) (g : Graph) (n : ℕ) (k : Node
 
 counts_chain : (r : Reading) (ks : List NodeKey) (label : NodeKey → ℕ) (g : Graph) → IsReading r → IsKeyGraph r ks label g → (n : ℕ) (p : List Arrow) (u : ℕ) (k j : Key) (y : costs.Effect) → j ≡ key_of y → Kept r k → slice_get ks u ≡ Some (number r k) → Walk g n p u → CountsIn r k j
     → Reaches r ks g n (effect_number r y) (labels_along p ++ label (effect_number r y) ∷ [])
-counts_chain r ks label g read web n p u k j y is kept at walk (causing.once a b there) =
-    let next = web.all u (number r k) at (number r j) (counts_number r read k kept j there) in
+counts_chain r ks label g read key_graph n p u k j y is kept at walk (causing.once a b there) =
+    let next = key_graph.all u (number r k) at (number r j) (counts_number r read k kept j there) in
     record {
       path = p ++ next.0 ∷ [];
       node = next.0.to;
@@ -125,10 +125,10 @@ counts_chain r ks label g read web n p u k j y is kept at walk (causing.once a b
       place = next.2 ∙ ap (λ (i : Key). Some (number r i)) is;
       along = labels_more p next.0 (Some (label (effect_number r y))) (next.3 ∙ ap (λ (i : Key). label_to label (number r i)) is);
     }
-counts_chain r ks label g read web n p u k j y is kept at walk (causing.onward a i b there quiet more) =
-    let next = web.all u (number r k) at (number r i) (counts_number r read k kept i there) in
+counts_chain r ks label g read key_graph n p u k j y is kept at walk (causing.onward a i b there quiet more) =
+    let next = key_graph.all u (number r k) at (number r i) (counts_number r read k kept i there) in
     let chain = chain_more g n p u next.0 walk next.1 in
-    let rest = counts_chain r ks label g read web n (p ++ next.0 ∷ []) next.0.to i j y is (counted_kept r.service (flow_read r) (heard_read r) (read_of r read) k i kept there) next.2 (along (p ++ next.0 ∷ []) next.0.to chain) more in
+    let rest = counts_chain r ks label g read key_graph n (p ++ next.0 ∷ []) next.0.to i j y is (counted_kept r.service (flow_read r) (heard_read r) (read_of r read) k i kept there) next.2 (along (p ++ next.0 ∷ []) next.0.to chain) more in
     record {
       path = rest.path;
       node = rest.node;
@@ -139,13 +139,13 @@ counts_chain r ks label g read web n p u k j y is kept at walk (causing.onward a
 
 leads_chain : (r : Reading) (ks : List NodeKey) (label : NodeKey → ℕ) (g : Graph) → IsReading r → IsKeyGraph r ks label g → (n : ℕ) (p : List Arrow) (u : ℕ) (x : costs.Effect) (zs : List costs.Effect) (z : costs.Effect) → IsActive r x → slice_get ks u ≡ Some (effect_number r x) → Walk g n p u → LeadsIn r x zs z
     → Reaches r ks g n (effect_number r z) (labels_along p ++ labels_at r label (zs ++ z ∷ []))
-leads_chain r ks label g read web n p u x zs z on at walk (cycle.once a b causes) =
-    counts_chain r ks label g read web n p u (key_of x) (key_of z) z refl (active_kept r read x on) at walk
+leads_chain r ks label g read key_graph n p u x zs z on at walk (cycle.once a b causes) =
+    counts_chain r ks label g read key_graph n p u (key_of x) (key_of z) z refl (active_kept r read x on) at walk
     ((keys_cause r.service (flow_read r) (heard_read r) (read_of r read) x on).counted z causes)
-leads_chain r ks label g read web n p u x zs z on at walk (cycle.onward a y ys b causes more) =
+leads_chain r ks label g read key_graph n p u x zs z on at walk (cycle.onward a y ys b causes more) =
     let counts = (keys_cause r.service (flow_read r) (heard_read r) (read_of r read) x on).counted y causes in
-    let first = counts_chain r ks label g read web n p u (key_of x) (key_of y) y refl (active_kept r read x on) at walk counts in
-    let rest = leads_chain r ks label g read web n first.path first.node y ys z (caused_on r read x y on causes) first.place (along first.path first.node first.chain) more in
+    let first = counts_chain r ks label g read key_graph n p u (key_of x) (key_of y) y refl (active_kept r read x on) at walk counts in
+    let rest = leads_chain r ks label g read key_graph n first.path first.node y ys z (caused_on r read x y on causes) first.place (along first.path first.node first.chain) more in
     record {
       path = rest.path;
       node = rest.node;
@@ -159,12 +159,12 @@ leads_chain r ks label g read web n p u x zs z on at walk (cycle.onward a y ys b
 -- each effect on a way from one that has a node has a node too
 pub leads_listed : (r : Reading) (ks : List NodeKey) (label : NodeKey → ℕ) (g : Graph) → IsReading r → IsKeyGraph r ks label g → (n : ℕ) (x : costs.Effect) (zs : List costs.Effect) (z : costs.Effect) → IsOn r.service (flow_read r) x → slice_get ks n ≡ Some (effect_number r x) → Leads r.service (flow_read r) x zs z
     → Each (λ y. Among ks (effect_number r y)) (zs ++ z ∷ [])
-leads_listed r ks label g read web n x zs z on at (cycle.once a b causes) =
-    let way = leads_chain r ks label g read web n [] n x [] z on at nothing (cycle.once x z causes) in
+leads_listed r ks label g read key_graph n x zs z on at (cycle.once a b causes) =
+    let way = leads_chain r ks label g read key_graph n [] n x [] z on at nothing (cycle.once x z causes) in
     (got_among ks way.node (effect_number r z) way.place, tt)
-leads_listed r ks label g read web n x zs z on at (cycle.onward a y ys b causes more) =
-    let way = leads_chain r ks label g read web n [] n x [] y on at nothing (cycle.once x y causes) in
-    (got_among ks way.node (effect_number r y) way.place, leads_listed r ks label g read web way.node y ys z (caused_on r read x y on causes) way.place more)
+leads_listed r ks label g read key_graph n x zs z on at (cycle.onward a y ys b causes more) =
+    let way = leads_chain r ks label g read key_graph n [] n x [] y on at nothing (cycle.once x y causes) in
+    (got_among ks way.node (effect_number r y) way.place, leads_listed r ks label g read key_graph way.node y ys z (caused_on r read x y on causes) way.place more)
 
 -- From chains to ways of effects
 
@@ -252,31 +252,31 @@ seen_key r ks label read x p s a j met counts place is = seen_other r ks label r
 -- one more arrow, from the node of a key all of whose keys the last effect counts
 seen_more : (r : Reading) (ks : List NodeKey) (label : NodeKey → ℕ) (g : Graph) → IsReading r → IsKeyGraph r ks label g → (x : costs.Effect) (p : List Arrow) (s : Going r ks label x p) (u : ℕ) (k : Key) → Kept r k → slice_get ks u ≡ Some (number r k) → ((j : Key) → Counted r k j → CountsIn r (key_of s.last) j) → (a : Arrow) → Contains (arrows_of g u) a
     → Seen r ks label x (p ++ a ∷ []) a.to
-seen_more r ks label g read web x p s u k kept at counts a there =
-    let arrow = web.arrows u (number r k) at a there in
+seen_more r ks label g read key_graph x p s u k kept at counts a there =
+    let arrow = key_graph.arrows u (number r k) at a there in
     let next = number_counts r read k kept arrow.to arrow.counts in
     seen_key r ks label read x p s a next.0 (counted_met r.service (flow_read r) (heard_read r) (read_of r read) k next.0 kept next.1) (counts next.0 next.1)
     (arrow.place ∙ ap (λ (n : NodeKey). Some n) (sym next.2)) (arrow.label ∙ ap (label_to label) (sym next.2))
 
 seen_next : (r : Reading) (ks : List NodeKey) (label : NodeKey → ℕ) (g : Graph) → IsReading r → IsKeyGraph r ks label g → (x : costs.Effect) (p : List Arrow) (u : ℕ) → Seen r ks label x p u → (a : Arrow) → Contains (arrows_of g u) a → Seen r ks label x (p ++ a ∷ []) a.to
-seen_next r ks label g read web x p u s a there = by s.stands
+seen_next r ks label g read key_graph x p u s a there = by s.stands
   where
     by : IsAt r x s.behind s.at ⊎ IsBetween r x s.behind s.at → Seen r ks label x (p ++ a ∷ []) a.to
     by (inl here) =
-        seen_more r ks label g read web x p
+        seen_more r ks label g read key_graph x p
         (record { behind = s.behind; last = here.last; led = subst (λ (es : List costs.Effect). Led r.service (flow_read r) x es here.last) (sym here.effects) (somewhere here.front here.last here.leads); on = here.on; labels = s.labels; names = s.names })
         u s.at s.keeps s.place (λ j counts. causing.once (key_of here.last) j (subst (λ (k : Key). Counted r k j) here.own counts)) a there
     by (inr here) =
-        seen_more r ks label g read web x p
+        seen_more r ks label g read key_graph x p
         (record { behind = s.behind; last = here.last; led = here.led; on = here.on; labels = s.labels; names = s.names })
         u s.at s.keeps s.place (λ j counts. counts_more r.service (flow_read r) (heard_read r) (key_of here.last) s.at j here.counts here.quiet counts) a there
 
 seen_chain : (r : Reading) (ks : List NodeKey) (label : NodeKey → ℕ) (g : Graph) → IsReading r → IsKeyGraph r ks label g → (x : costs.Effect) → IsActive r x → (n : ℕ) → slice_get ks n ≡ Some (effect_number r x) → (p : List Arrow) (u : ℕ) → Chain g (arrows_of g n) p u → Seen r ks label x p u
-seen_chain r ks label g read web x on n at p u (chains.begin a there) =
-    seen_more r ks label g read web x [] (record { behind = []; last = x; led = nowhere; on = on; labels = refl; names = refl })
+seen_chain r ks label g read key_graph x on n at p u (chains.begin a there) =
+    seen_more r ks label g read key_graph x [] (record { behind = []; last = x; led = nowhere; on = on; labels = refl; names = refl })
     n (key_of x) (active_kept r read x on) at (λ j counts. causing.once (key_of x) j counts) a there
-seen_chain r ks label g read web x on n at p u (chains.onward c m a chain there) =
-    seen_next r ks label g read web x c m (seen_chain r ks label g read web x on n at c m chain) a there
+seen_chain r ks label g read key_graph x on n at p u (chains.onward c m a chain there) =
+    seen_next r ks label g read key_graph x c m (seen_chain r ks label g read key_graph x on n at c m chain) a there
 
 abbrev Tells : (r : Reading) → List NodeKey → (NodeKey → ℕ) → costs.Effect → List Arrow → Type 0
 Tells r ks label x p =
@@ -302,11 +302,11 @@ seen_whole r ks label read x on p n at s = by s.stands
     by (inr here) = absurd (true≢false (sym (ap is_effect same) ∙ here.quiet))
 
 pub key_graphs_tell : KeyGraphsTell
-key_graphs_tell r ks label g read web x on n at = record {
+key_graphs_tell r ks label g read key_graph x on n at = record {
   there = λ zs leads.
-      let way = leads_chain r ks label g read web n [] n x zs x on at nothing leads in
-      (way.path, subst (λ (m : ℕ). Chain g (arrows_of g n) way.path m) (web.once way.node n (effect_number r x) way.place at) way.chain, way.along);
-  told = λ p chain. seen_whole r ks label read x on p n at (seen_chain r ks label g read web x on n at p n chain);
+      let way = leads_chain r ks label g read key_graph n [] n x zs x on at nothing leads in
+      (way.path, subst (λ (m : ℕ). Chain g (arrows_of g n) way.path m) (key_graph.once way.node n (effect_number r x) way.place at) way.chain, way.along);
+  told = λ p chain. seen_whole r ks label read x on p n at (seen_chain r ks label g read key_graph x on n at p n chain);
 }
 
 -- WHAT IS LAID IS ON NO CYCLE. Ranks fall from effect to effect.

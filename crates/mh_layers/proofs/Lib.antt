@@ -24,7 +24,7 @@ pub mod PositionLemmas
 pub mod LinkSumLemmas
 pub mod ListeningLemmas
 pub mod ReadingLemmas
-pub mod SpotLemmas
+pub mod ContextLemmas
 pub mod EffectLemmas
 pub mod ServeLemmas
 pub mod BoundLemmas

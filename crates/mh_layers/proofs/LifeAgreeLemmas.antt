@@ -22,15 +22,15 @@ use Rattle.mh_laws.specs.Ways.{slots_of}
 use Rattle.mh_laws.proofs.EachLemmas.{from_range}
 use Rattle.mh_prices.proofs.NearLemmas.{NearLists, NearViews, change_near, enter_near, halt_near, leave_all_near, leave_scene_near, run_near}
 use Rattle.mh_layers.specs.Key.{Key, Effect, Change, Enter}
-use Rattle.mh_layers.specs.Keys.{effect, entered, group_effect, is_caused, leave_price, lists, net_around, objects, scene_closes}
+use Rattle.mh_layers.specs.Keys.{effect, entered, group_effect, is_caused, leave_price, lists, around_of, objects, scene_closes}
 use Rattle.mh_layers.proofs.AgreeLemmas.{Agrees, SameSets, Setting, agrees_if, agrees_largest, agrees_node, agrees_nothing, agrees_one, agrees_passes, agrees_plus, agrees_sets, agrees_wider, effects_come}
 use Rattle.mh_layers.proofs.FiredLemmas.{heard_agrees}
 use Rattle.mh_layers.proofs.MetLemmas.{found_among, group_active, group_whole, on_of, other_active, part_of}
 use Rattle.mh_layers.proofs.ReckonLemmas.{plus_right, sum_joined}
 
 -- a configuration that may be reached, by keys
-abbrev pub net : {A : Type 0} → Setting A → Config → Around Key
-net s c = net_around s.service s.flow s.heard c
+abbrev pub numbered_service : {A : Type 0} → Setting A → Config → Around Key
+numbered_service s c = around_of s.service s.flow s.heard c
 
 -- Slots
 
@@ -181,7 +181,7 @@ entered_exchanged v c g = by (is_group_of is_application v g)
     by true = refl
     by false = refl
 
-pub exchange_agrees : {A : Type 0} (s : Setting A) (c : Config) (g : List ℕ) → Agrees s 6 ((net s c).exchange g) (costs.exchange s.service s.flow c g)
+pub exchange_agrees : {A : Type 0} (s : Setting A) (c : Config) (g : List ℕ) → Agrees s 6 ((numbered_service s c).exchange g) (costs.exchange s.service s.flow c g)
 exchange_agrees {A} s c g =
     agrees_plus s 6 One (if_price (reached s.flow (exchanged s.service c g)) (Node (Enter (exchanged s.service c g)))) One
     (if_price (reached s.flow (exchanged s.service c g)) (costs.enter s.service s.flow (exchanged s.service c g) g)) (agrees_one s 6)

@@ -27,7 +27,7 @@ use Rattle.mh_layers.specs.Key.{Key, Entry, Hearing, Plain, With, Any}
 use Rattle.mh_layers.specs.Keys.{data_of, fired_at, fired_if_there, heard_with, hearing, links_with, values, waits_for}
 use Rattle.mh_layers.specs.Listening.{link_node}
 use Rattle.mh_layers.specs.Numbered.{numbered, through}
-use Rattle.mh_layers.specs.Reading.{IsReading, Reading, Spot, dealt_by, fired_by, heard_read, hears_among, hears_number, hears_told, number, spot_in, there_by}
+use Rattle.mh_layers.specs.Reading.{IsReading, Reading, CostContext, dealt_by, fired_by, heard_read, hears_among, hears_number, hears_told, number, context_in, there_by}
 
 -- one sum for another
 pub adds_as : {K L S M N T E : Type 0} (seen : T → S) (m : Meter K S M) (n : Meter L S N) (p : Price K) (q : Price L) (s t : T) (r : Result T E) → onto m p (seen t) ≡ onto n q (seen s) → Adds seen m p t r → Adds seen n q s r
@@ -134,29 +134,29 @@ by_name {K} {L} seen g m p q s r same h =
 
 -- Events
 
-fired_numbered : (r : Reading) (c : Config) (o : ObjRef) (kind : EventType) (g : Hearing) → fired_by (spot_in r c) o kind (hears_number r o kind g) ≡ numbered (number r) (fired_at c o kind g)
+fired_numbered : (r : Reading) (c : Config) (o : ObjRef) (kind : EventType) (g : Hearing) → fired_by (context_in r c) o kind (hears_number r o kind g) ≡ numbered (number r) (fired_at c o kind g)
 fired_numbered r c o kind Plain = refl
 fired_numbered r c o kind (With x) = refl
 fired_numbered r c o kind Any = refl
 
-there_numbered : (r : Reading) (c : Config) (o : ObjRef) (kind : EventType) (g : Hearing) → there_by (spot_in r c) o kind (hears_number r o kind g) ≡ numbered (number r) (fired_if_there r.service c o kind g)
+there_numbered : (r : Reading) (c : Config) (o : ObjRef) (kind : EventType) (g : Hearing) → there_by (context_in r c) o kind (hears_number r o kind g) ≡ numbered (number r) (fired_if_there r.service c o kind g)
 there_numbered r c o kind g = by (is_there o (present r.service c))
   where
-    by : (b : Bool) → if_price b (fired_by (spot_in r c) o kind (hears_number r o kind g)) ≡ numbered (number r) (if_price b (fired_at c o kind g))
+    by : (b : Bool) → if_price b (fired_by (context_in r c) o kind (hears_number r o kind g)) ≡ numbered (number r) (if_price b (fired_at c o kind g))
     by true = fired_numbered r c o kind g
     by false = refl
 
 dealt_numbered : (r : Reading) (c : Config) (o : ObjRef) (kind : EventType) (g : Hearing)
-    → dealt_by (spot_in r c) o kind (hears_number r o kind g) ≡ numbered (number r) (if is_sync kind then fired_if_there r.service c o kind g else Node (Entry o kind g))
+    → dealt_by (context_in r c) o kind (hears_number r o kind g) ≡ numbered (number r) (if is_sync kind then fired_if_there r.service c o kind g else Node (Entry o kind g))
 dealt_numbered r c o kind g = by (is_sync kind)
   where
     by : (b : Bool)
-        → (if b then there_by (spot_in r c) o kind (hears_number r o kind g) else Node (number r (Entry o kind g)))
+        → (if b then there_by (context_in r c) o kind (hears_number r o kind g) else Node (number r (Entry o kind g)))
         ≡ numbered (number r) (if b then fired_if_there r.service c o kind g else Node (Entry o kind g))
     by true = there_numbered r c o kind g
     by false = refl
 
-pub heard_adds : {S M T E : Type 0} (seen : T → S) (m : Meter NodeKey S M) (s : Spot) (o : ObjRef) (kind : EventType) (d : Told) (g : Hears) (t : T) (r : Result T E)
+pub heard_adds : {S M T E : Type 0} (seen : T → S) (m : Meter NodeKey S M) (s : CostContext) (o : ObjRef) (kind : EventType) (d : Told) (g : Hears) (t : T) (r : Result T E)
     → hears_told s.reading o kind d ≡ Some g → Adds seen m (dealt_by s o kind g) t r
     → Adds seen (through (number s.reading) m) (heard_with s.reading.service s.config o kind d (heard_read s.reading o kind)) t r
 heard_adds {S} {M} {T} {E} seen m s o kind d g t r told h = by (heard_read s.reading o kind) refl told
@@ -173,7 +173,7 @@ heard_adds {S} {M} {T} {E} seen m s o kind d g t r told h = by (heard_read s.rea
     by (Some xs) e is =
         by_name seen (number s.reading) m (dealt_by s o kind g) (heard_with s.reading.service s.config o kind d (Some xs)) t r (of xs e (some_same is)) h
 
-pub unheard_adds : {S M : Type 0} (m : Meter NodeKey S M) (s : Spot) (o : ObjRef) (kind : EventType) (d : Told) (x y : S)
+pub unheard_adds : {S M : Type 0} (m : Meter NodeKey S M) (s : CostContext) (o : ObjRef) (kind : EventType) (d : Told) (x y : S)
     → hears_told s.reading o kind d ≡ None → y ≡ onto m (if is_sync kind then Nothing else One) x
     → y ≡ onto (through (number s.reading) m) (heard_with s.reading.service s.config o kind d (heard_read s.reading o kind)) x
 unheard_adds {S} m s o kind d x y told is = is ∙ by (heard_read s.reading o kind) told
@@ -190,16 +190,16 @@ unheard_adds {S} m s o kind d x y told is = is ∙ by (heard_read s.reading o ki
 -- Entries
 
 configs_numbered : (r : Reading) (o : ObjRef) (kind : EventType) (g : Hearing) (cs : List Config)
-    → most_price (λ c. there_by (spot_in r c) o kind (hears_number r o kind g)) cs ≡ numbered (number r) (most_price (λ c. fired_if_there r.service c o kind g) cs)
+    → most_price (λ c. there_by (context_in r c) o kind (hears_number r o kind g)) cs ≡ numbered (number r) (most_price (λ c. fired_if_there r.service c o kind g) cs)
 configs_numbered r o kind g [] = refl
 configs_numbered r o kind g (c ∷ cs) = λ i. Most (there_numbered r c o kind g i) (configs_numbered r o kind g cs i)
 
 pub entry_adds : {S M T E : Type 0} (seen : T → S) (m : Meter NodeKey S M) (r : Reading) (o : ObjRef) (kind : EventType) (g : Hearing) (n : Hears) (cs : List Config) (s t : T) (x : Result T E)
-    → n ≡ hears_number r o kind g → seen t ≡ m.one (seen s) → Adds seen m (most_price (λ c. there_by (spot_in r c) o kind n) cs) t x
+    → n ≡ hears_number r o kind g → seen t ≡ m.one (seen s) → Adds seen m (most_price (λ c. there_by (context_in r c) o kind n) cs) t x
     → Adds seen (through (number r) m) (Plus One (most_price (λ c. fired_if_there r.service c o kind g) cs)) s x
 entry_adds {S} {M} {T} {E} seen m r o kind g n cs s t x is one h =
-    adds_as seen m (through (number r) m) (most_price (λ c. there_by (spot_in r c) o kind n) cs) (Plus One (most_price (λ c. fired_if_there r.service c o kind g) cs)) s t x
-    (ap (λ (y : Hears). onto m (most_price (λ c. there_by (spot_in r c) o kind y) cs) (seen t)) is
+    adds_as seen m (through (number r) m) (most_price (λ c. there_by (context_in r c) o kind n) cs) (Plus One (most_price (λ c. fired_if_there r.service c o kind g) cs)) s t x
+    (ap (λ (y : Hears). onto m (most_price (λ c. there_by (context_in r c) o kind y) cs) (seen t)) is
     ∙ (λ i. onto m (configs_numbered r o kind g cs i) (one i))
     ∙ sym (through_onto (number r) m (most_price (λ c. fired_if_there r.service c o kind g) cs) (m.one (seen s)))) h
 
@@ -210,6 +210,6 @@ absent r read c o e =
     ap (λ (p : Option Fixed). option_map_or (λ q. true) p false)
     (sym (part_entered r.service c o read.flow.chart.named) ∙ ap (λ (b : Bool). option_map (λ (h : Home). h.part) (cond b (lookup (same_ref o) (indexed r.service)) None)) e)
 
-pub absent_adds : {S M : Type 0} (m : Meter NodeKey S M) (r : Reading) (c : Config) (o : ObjRef) (kind : EventType) (g : Hears) (s : S) (b : Bool) → IsReading r → b ≡ is_entered c o.group → b ≡ false → s ≡ onto m (there_by (spot_in r c) o kind g) s
+pub absent_adds : {S M : Type 0} (m : Meter NodeKey S M) (r : Reading) (c : Config) (o : ObjRef) (kind : EventType) (g : Hears) (s : S) (b : Bool) → IsReading r → b ≡ is_entered c o.group → b ≡ false → s ≡ onto m (there_by (context_in r c) o kind g) s
 absent_adds m r c o kind g s b read entered none =
-    sym (ap (λ (d : Bool). onto m (if_price d (fired_by (spot_in r c) o kind g)) s) (absent r read c o (sym entered ∙ none)))
+    sym (ap (λ (d : Bool). onto m (if_price d (fired_by (context_in r c) o kind g)) s) (absent r read c o (sym entered ∙ none)))

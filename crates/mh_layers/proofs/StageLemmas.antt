@@ -39,7 +39,7 @@ use Rattle.mh_layers.specs.Applied.{number_in}
 use Rattle.mh_layers.specs.Known.{known_worth, told, told_of, top}
 use Rattle.mh_layers.specs.Layered.{root_keys}
 use Rattle.mh_layers.specs.Layering.{AreLayers, Places, cost_of, is_laid, laid_in}
-use Rattle.mh_layers.specs.Reading.{IsReading, Reading, Spot, flow_read, heard_read, kept, known_by, name, number, price, spot_in}
+use Rattle.mh_layers.specs.Reading.{IsReading, Reading, CostContext, flow_read, heard_read, kept, known_by, name, number, price, context_in}
 use Rattle.mh_layers.specs.Staging.{AreStagesFrom, AreStagesTo, IsNext, IsPart, IsPartAt, IsStageBy, PutsFrom, act_worth, all_known}
 use Rattle.mh_layers.specs.EffectSites.{cause_named, effect_named}
 use Rattle.mh_layers.specs.Trails.{IsActive}
@@ -154,14 +154,14 @@ part_found r ts c acts costs seen n m p known same largest is part = record {
 }
 
 -- the actions are those of the effect
-pub acts_found : (r : Reading) (ts us : Places) (k : NodeKey) (s : Spot) (p : Fixed) (n : ℕ) (acts : List Act) (part : Part) → us ≡ ts → s ≡ spot_in r (effect_named r k).config → part_at (effect_named s.reading k).object (present s.reading.service s.config) ≡ Some p → n ≡ number_in k
+pub acts_found : (r : Reading) (ts us : Places) (k : NodeKey) (s : CostContext) (p : Fixed) (n : ℕ) (acts : List Act) (part : Part) → us ≡ ts → s ≡ context_in r (effect_named r k).config → part_at (effect_named s.reading k).object (present s.reading.service s.config) ≡ Some p → n ≡ number_in k
     → acts ≡ effect_at p n → IsPart s.reading us s.config acts part → IsPart r ts (effect_named r k).config (acts_of r.service (effect_named r k)) part
-acts_found r ts us k s p n acts part laid spot found number are is =
+acts_found r ts us k s p n acts part laid context found number are is =
     subst (λ (xs : List Act). IsPart r ts (effect_named r k).config xs part) own
-    (subst (λ (vs : Places). IsPart r vs (effect_named r k).config acts part) laid (subst (λ (t : Spot). IsPart t.reading us t.config acts part) spot is))
+    (subst (λ (vs : Places). IsPart r vs (effect_named r k).config acts part) laid (subst (λ (t : CostContext). IsPart t.reading us t.config acts part) context is))
   where
     found_so : part_at (effect_named r k).object (present r.service (effect_named r k).config) ≡ Some p
-    found_so = subst (λ (t : Spot). part_at (effect_named t.reading k).object (present t.reading.service t.config) ≡ Some p) spot found
+    found_so = subst (λ (t : CostContext). part_at (effect_named t.reading k).object (present t.reading.service t.config) ≡ Some p) context found
 
     own : acts ≡ acts_of r.service (effect_named r k)
     own =

@@ -32,7 +32,7 @@ use Rattle.mh_layers.specs.Keys.{every_timer, fired_of, has_groups, heard_key, i
 use Rattle.mh_layers.proofs.ActAgreeLemmas.{leaving}
 use Rattle.mh_layers.proofs.AgreeLemmas.{Agrees, Setting, agrees_if, agrees_largest, agrees_most, agrees_node, agrees_nothing, agrees_one, agrees_plus, agrees_sum, agrees_then, agrees_wider, effects_come}
 use Rattle.mh_layers.proofs.FiredLemmas.{emit_agrees, heard_agrees, silent_fired}
-use Rattle.mh_layers.proofs.LifeAgreeLemmas.{exchange_agrees, net, turned}
+use Rattle.mh_layers.proofs.LifeAgreeLemmas.{exchange_agrees, numbered_service, turned}
 use Rattle.mh_layers.proofs.ReckonLemmas.{sum_filtered}
 use Rattle.mh_layers.proofs.TimerLemmas.{every_once, once_filtered}
 
@@ -137,9 +137,9 @@ contents_agree s c here =
     (λ p there. content_agrees s c here p)
 
 -- a transition that waits for a scene
-scene_change_agrees : {A : Type 0} (s : Setting A) (c : Config) → reached s.flow c ≡ true → (g : List ℕ) → Agrees s 6 (inputs.scene_change (net s c) g) (costs.scene_change s.service s.flow c g)
+scene_change_agrees : {A : Type 0} (s : Setting A) (c : Config) → reached s.flow c ≡ true → (g : List ℕ) → Agrees s 6 (inputs.scene_change (numbered_service s c) g) (costs.scene_change s.service s.flow c g)
 scene_change_agrees s c here g =
-    agrees_plus s 6 ((net s c).leave false) ((net s c).exchange g) (costs.leaves s.service s.flow c false) (costs.exchange s.service s.flow c g)
+    agrees_plus s 6 ((numbered_service s c).leave false) ((numbered_service s c).exchange g) (costs.leaves s.service s.flow c false) (costs.exchange s.service s.flow c g)
     (leaving s c here false) (exchange_agrees s c g)
 
 -- All kinds
@@ -174,7 +174,7 @@ taken_agrees s c here groups kind.Arrive =
     begun s 6 (Most contents changes) (Most contents_of changes_of)
     (agrees_most s 6 contents changes contents_of changes_of
     (agrees_wider s 4 6 contents contents_of (omega arith) (contents_agree s c here))
-    (agrees_largest s 6 (inputs.scene_change (net s c)) (costs.scene_change s.service s.flow c) (costs.late_scenes s.service s.flow c) (λ g there. scene_change_agrees s c here g)))
+    (agrees_largest s 6 (inputs.scene_change (numbered_service s c)) (costs.scene_change s.service s.flow c) (costs.late_scenes s.service s.flow c) (λ g there. scene_change_agrees s c here g)))
   where
     contents : Price Key
     contents = sum_price (inputs.content_told (own s c)) (present s.service c)
@@ -183,7 +183,7 @@ taken_agrees s c here groups kind.Arrive =
     contents_of = sum_price (λ (p : Fixed). content_of s p (part_at p.key (present s.service c))) (present s.service c)
 
     changes : Price Key
-    changes = most_price (inputs.scene_change (net s c)) (costs.late_scenes s.service s.flow c)
+    changes = most_price (inputs.scene_change (numbered_service s c)) (costs.late_scenes s.service s.flow c)
 
     changes_of : Price costs.Effect
     changes_of = most_price (costs.scene_change s.service s.flow c) (costs.late_scenes s.service s.flow c)

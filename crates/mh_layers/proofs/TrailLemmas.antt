@@ -1,4 +1,4 @@
--- A cycle of the web parted at its effects: its stretches are steps, and arrows of such go round.
+-- A cycle of the key graph parted at its effects: its stretches are steps, and arrows of such go round.
 use Rattle.std.specs.Prelude.{◌≡◌, ◌⊎◌, ◌<◌, ◌≤◌, ◌+◌, ℕ, Bool, true, false, ◌&&◌, not, if◌then◌else◌, List, [], ◌∷◌, ◌++◌, flat_map, get_or, length, map, slice_get, take, unwrap_or, Option, Some, None, refl}
 use Rattle.std.specs.List.{cons_option, list_any}
 use Rattle.std.specs.Option.{option_map_or}
@@ -87,17 +87,17 @@ keys_more : (ks : List NodeKey) (p : List Step) (a : Step) (j : NodeKey) → sli
 keys_more ks p a j at =
     filter_map-append (λ (b : Step). slice_get ks b.to) p (a ∷ []) ∙ ap (λ (o : Option NodeKey). keys_along ks p ++ cons_option o []) at
 
--- so do the keys along a chain of the web
+-- so do the keys along a chain of the key graph
 abbrev GoesAlong : Reading → List NodeKey → NodeKey → List Step → ℕ → Type 0
 GoesAlong r ks k p u = (z : NodeKey) × (slice_get ks u ≡ Some z) × Goes r k (keys_along ks p) z
 
 chain_goes : (r : Reading) (ks : List NodeKey) (label : NodeKey → ℕ) (g : Graph) → IsKeyGraph r ks label g → (n : ℕ) (k : NodeKey) → slice_get ks n ≡ Some k → (p : List Step) (u : ℕ) → Chain g (arrows_of g n) p u → GoesAlong r ks k p u
-chain_goes r ks label g web n k at p u (chains.begin a there) =
-    let next = web.arrows n k at a there in
+chain_goes r ks label g key_graph n k at p u (chains.begin a there) =
+    let next = key_graph.arrows n k at a there in
     (next.to, next.place, subst (λ (js : List NodeKey). Goes r k js next.to) (sym (keys_more ks [] a next.to next.place)) (next.counts, refl))
-chain_goes r ks label g web n k at p u (chains.onward c m a chain there) =
-    let before = chain_goes r ks label g web n k at c m chain in
-    let next = web.arrows m before.0 before.1 a there in (
+chain_goes r ks label g key_graph n k at p u (chains.onward c m a chain there) =
+    let before = chain_goes r ks label g key_graph n k at c m chain in
+    let next = key_graph.arrows m before.0 before.1 a there in (
       next.to,
       next.place,
       subst (λ (js : List NodeKey). Goes r k js next.to) (sym (keys_more ks c a next.to next.place)) (goes_more r k (keys_along ks c) before.0 next.to before.2 next.counts),
@@ -199,12 +199,12 @@ pub each_stretch : (r : Reading) (k : NodeKey) (ss : List Stretch) (z : NodeKey)
 each_stretch r k [] z ways = tt
 each_stretch r k (s ∷ ss) z ways = (ways.1, each_stretch r s.to ss z ways.2)
 
--- of a cycle of the web they lead round
+-- of a cycle of the key graph they lead round
 pub ways_round : (r : Reading) → IsReading r → (ks : List NodeKey) (label : NodeKey → ℕ) (g : Graph) → IsKeyGraph r ks label g → (n : ℕ) (k : NodeKey) → slice_get ks n ≡ Some k → IsActive r k → (p : List Step) → Chain g (arrows_of g n) p n → Ways r k (stretches k None (keys_along ks p)) k
-ways_round r read ks label g web n k at active p chain =
-    let goes = chain_goes r ks label g web n k at p n chain in
+ways_round r read ks label g key_graph n k at active p chain =
+    let goes = chain_goes r ks label g key_graph n k at p n chain in
     let last : goes.0 ≡ k = some_same (sym goes.1 ∙ at) in
-    ways_of r read k active None k (web.kept n k at) refl (keys_along ks p) k (ap is_effect_key active.own) (subst (λ (z : NodeKey). Goes r k (keys_along ks p) z) last goes.2)
+    ways_of r read k active None k (key_graph.kept n k at) refl (keys_along ks p) k (ap is_effect_key active.own) (subst (λ (z : NodeKey). Goes r k (keys_along ks p) z) last goes.2)
 
 -- THE FIRST EFFECT OF A STEP CAUSES THE LAST
 
@@ -345,15 +345,15 @@ first_arrows r k ss arrows ways are cycle = record { cycle = cycle; round = by s
 -- the first effect on a cycle, among all active effects that are not laid: the stretches of its trail lead round
 pub ways_found : (r : Reading) → IsReading r → (ts : Places) (all left roots tried ks : List NodeKey) (g : Graph) (best : Option Best) (b : Best) (p : List Step) → all ≡ active_keys r → left ≡ unlaid ts all → roots ≡ left → tried ≡ left → IsKeyGraphOf r roots ks g → AreBest r ks g tried best → best ≡ Some b → p ≡ b.trail.items
     → Ways r b.key (stretches b.key None (keys_along ks p)) b.key
-ways_found r read ts all left roots tried ks g best b p every is these those web found some trail =
+ways_found r read ts all left roots tried ks g best b p every is these those key_graph found some trail =
     subst (λ (q : List Step). Ways r b.key (stretches b.key None (keys_along ks q)) b.key) (sym trail)
-    (ways_round r read ks (label_in r web.effect_sites) g web.web (node_in ks b.key) b.key place active b.trail.items own.first.chain)
+    (ways_round r read ks (label_in r key_graph.effect_sites) g key_graph.key_graph (node_in ks b.key) b.key place active b.trail.items own.first.chain)
   where
     own : IsBest r ks g tried b
     own = subst (AreBest r ks g tried) some found
 
     place : slice_get ks (node_in ks b.key) ≡ Some b.key
-    place = node_found ks b.key (each_among (Among ks) roots b.key web.listed (subst (λ (xs : List NodeKey). Among xs b.key) (those ∙ sym these) own.there))
+    place = node_found ks b.key (each_among (Among ks) roots b.key key_graph.listed (subst (λ (xs : List NodeKey). Among xs b.key) (those ∙ sym these) own.there))
 
     listed : Among (active_keys r) b.key
     listed =
@@ -365,17 +365,17 @@ ways_found r read ts all left roots tried ks g best b p every is these those web
 
 pub steps_found : (r : Reading) → IsReading r → (ts : Places) (all left roots tried ks : List NodeKey) (g : Graph) (best : Option Best) (b : Best) (p : List Step) → all ≡ active_keys r → left ≡ unlaid ts all → roots ≡ left → tried ≡ left → IsKeyGraphOf r roots ks g → AreBest r ks g tried best → best ≡ Some b → p ≡ b.trail.items
     → Each (IsStretch r) (stretches b.key None (keys_along ks p))
-steps_found r read ts all left roots tried ks g best b p every is these those web found some trail =
-    each_stretch r b.key (stretches b.key None (keys_along ks p)) b.key (ways_found r read ts all left roots tried ks g best b p every is these those web found some trail)
+steps_found r read ts all left roots tried ks g best b p every is these those key_graph found some trail =
+    each_stretch r b.key (stretches b.key None (keys_along ks p)) b.key (ways_found r read ts all left roots tried ks g best b p every is these those key_graph found some trail)
 
 pub arrows_found : (r : Reading) → IsReading r → (ts : Places) → AreLayers (price r) (kept r) ts → (all left roots tried ks : List NodeKey) (g : Graph) (best : Option Best) (b : Best) (p : List Step) (arrows : List Arrow) → all ≡ active_keys r → left ≡ unlaid ts all → roots ≡ left → tried ≡ left → IsKeyGraphOf r roots ks g → AreBest r ks g tried best → best ≡ Some b → p ≡ b.trail.items
     → AreArrowsOf r (stretches b.key None (keys_along ks p)) arrows → AreFirstArrows r.service (flow_read r) arrows
-arrows_found r read ts layers all left roots tried ks g best b p arrows every is these those web found some trail are =
-    let ways = ways_found r read ts all left roots tried ks g best b p every is these those web found some trail in
+arrows_found r read ts layers all left roots tried ks g best b p arrows every is these those key_graph found some trail are =
+    let ways = ways_found r read ts all left roots tried ks g best b p every is these those key_graph found some trail in
     let own : IsBest r ks g tried b = subst (AreBest r ks g tried) some found in
     let along = causes_round r ks p b.key b.cause arrows ways are own.cause in
     first_arrows r b.key (stretches b.key None (keys_along ks p)) arrows ways are
-    (some_of r read ts layers all left roots tried ks g best b (causes arrows) every is these those web found some
+    (some_of r read ts layers all left roots tried ks g best b (causes arrows) every is these those key_graph found some
     (along ∙ ap (λ (q : List Step). take (length (causes_along r ks q)) (b.cause ∷ causes_along r ks q)) trail))
 
 -- IN A LOOP

@@ -211,7 +211,7 @@ front_taken {X} x ls y along is =
 
 -- THE FIRST CYCLE
 
-module _ (r : Reading) (read : IsReading r) (ts : Places) (layers : AreLayers (price r) (kept r) ts) (ks : List NodeKey) (g : Graph) (web : IsKeyGraphOf r (unlaid ts (active_keys r)) ks g) where
+module _ (r : Reading) (read : IsReading r) (ts : Places) (layers : AreLayers (price r) (kept r) ts) (ks : List NodeKey) (g : Graph) (key_graph : IsKeyGraphOf r (unlaid ts (active_keys r)) ks g) where
   -- an effect that puts itself to work is not laid
   on_left : (x : costs.Effect) (zs : List costs.Effect) → IsCycle r.service (flow_read r) x zs → Among (unlaid ts (active_keys r)) (effect_number r x)
   on_left x zs own = by (is_laid ts (effect_number r x)) refl
@@ -223,12 +223,12 @@ module _ (r : Reading) (read : IsReading r) (ts : Places) (layers : AreLayers (p
           among_filtered (λ k. not (is_laid ts k)) (active_keys r) (effect_number r x) (ap not e) (on_listed r read x put.0 own.on put.1)
 
   node_there : (k : NodeKey) → Among (unlaid ts (active_keys r)) k → slice_get ks (node_in ks k) ≡ Some k
-  node_there k there = node_found ks k (each_among (Among ks) (unlaid ts (active_keys r)) k web.listed there)
+  node_there k there = node_found ks k (each_among (Among ks) (unlaid ts (active_keys r)) k key_graph.listed there)
 
   -- and is on a cycle of keys
   keys_on : (x : costs.Effect) (zs : List costs.Effect) → IsCycle r.service (flow_read r) x zs → NoCycle g (node_in ks (effect_number r x)) → ⊥
   keys_on x zs own none =
-      let way = (key_graphs_tell r ks (label_in r web.effect_sites) g read web.web x own.on (node_in ks (effect_number r x)) (node_there (effect_number r x) (on_left x zs own))).there zs own.leads in
+      let way = (key_graphs_tell r ks (label_in r key_graph.effect_sites) g read key_graph.key_graph x own.on (node_in ks (effect_number r x)) (node_there (effect_number r x) (on_left x zs own))).there zs own.leads in
       none way.0 way.1
 
   pub none_found : AreBest r ks g (unlaid ts (active_keys r)) None → NoCycles r.service (flow_read r)
@@ -238,19 +238,19 @@ module _ (r : Reading) (read : IsReading r) (ts : Places) (layers : AreLayers (p
   abbrev IsAtWork : costs.Effect → Type 0
   IsAtWork x = IsOn r.service (flow_read r) x × Puts r.service (flow_read r) x
 
-  order : (x y : costs.Effect) → IsAtWork x → IsAtWork y → nat_cmp (label_in r web.effect_sites (effect_number r x)) (label_in r web.effect_sites (effect_number r y)) ≡ by_place (cause_of r.service x) (cause_of r.service y)
+  order : (x y : costs.Effect) → IsAtWork x → IsAtWork y → nat_cmp (label_in r key_graph.effect_sites (effect_number r x)) (label_in r key_graph.effect_sites (effect_number r y)) ≡ by_place (cause_of r.service x) (cause_of r.service y)
   order x y on also =
-      labels_order r (active_keys r) web.effect_sites web.are (effect_number r x) (effect_number r y)
+      labels_order r (active_keys r) key_graph.effect_sites key_graph.are (effect_number r x) (effect_number r y)
       (on_listed r read x on.1.0 on.0 on.1.1) (on_listed r read y also.1.0 also.0 also.1.1)
       ∙ (λ i. by_place (cause_back r read x on.0 i) (cause_back r read y also.0 i))
 
-  long : (x : costs.Effect) (zs : List costs.Effect) → length (map (λ z. label_in r web.effect_sites (effect_number r z)) (zs ++ x ∷ [])) ≡ length zs + 1
-  long x zs = length-map (zs ++ x ∷ []) (λ z. label_in r web.effect_sites (effect_number r z)) ∙ length-append zs (x ∷ [])
+  long : (x : costs.Effect) (zs : List costs.Effect) → length (map (λ z. label_in r key_graph.effect_sites (effect_number r z)) (zs ++ x ∷ [])) ≡ length zs + 1
+  long x zs = length-map (zs ++ x ∷ []) (λ z. label_in r key_graph.effect_sites (effect_number r z)) ∙ length-append zs (x ∷ [])
 
   compared : (x : costs.Effect) (ys zs : List costs.Effect) → Each IsAtWork (ys ++ x ∷ []) → Each IsAtWork (zs ++ x ∷ []) → length ys ≡ length zs → slice_cmp by_place (map (cause_of r.service) ys) (map (cause_of r.service) zs) ≡ Less
-      → slice_cmp nat_cmp (map (λ z. label_in r web.effect_sites (effect_number r z)) (ys ++ x ∷ [])) (map (λ z. label_in r web.effect_sites (effect_number r z)) (zs ++ x ∷ [])) ≡ Less
+      → slice_cmp nat_cmp (map (λ z. label_in r key_graph.effect_sites (effect_number r z)) (ys ++ x ∷ [])) (map (λ z. label_in r key_graph.effect_sites (effect_number r z)) (zs ++ x ∷ [])) ≡ Less
   compared x ys zs on also same less =
-      labels_compare (λ z. label_in r web.effect_sites (effect_number r z)) (cause_of r.service) IsAtWork order (ys ++ x ∷ []) (zs ++ x ∷ []) on also
+      labels_compare (λ z. label_in r key_graph.effect_sites (effect_number r z)) (cause_of r.service) IsAtWork order (ys ++ x ∷ []) (zs ++ x ∷ []) on also
       ∙ (λ i. slice_cmp by_place (map-append (cause_of r.service) ys (x ∷ []) i) (map-append (cause_of r.service) zs (x ∷ []) i))
       ∙ less_in_front by_place (map (cause_of r.service) ys) (map (cause_of r.service) zs) (cause_of r.service x ∷ []) (cause_of r.service x ∷ [])
       (length-map ys (cause_of r.service) ∙ same ∙ sym (length-map zs (cause_of r.service))) less
@@ -267,10 +267,10 @@ module _ (r : Reading) (read : IsReading r) (ts : Places) (layers : AreLayers (p
       on : IsOn r.service (flow_read r) x
       on = effect.1
 
-      tells : CyclesAreTold r ks (label_in r web.effect_sites) g x (node_in ks b.key)
-      tells = key_graphs_tell r ks (label_in r web.effect_sites) g read web.web x on (node_in ks b.key) (node_there b.key best.there ∙ ap (λ (k : NodeKey). Some k) (sym effect.2))
+      tells : CyclesAreTold r ks (label_in r key_graph.effect_sites) g x (node_in ks b.key)
+      tells = key_graphs_tell r ks (label_in r key_graph.effect_sites) g read key_graph.key_graph x on (node_in ks b.key) (node_there b.key best.there ∙ ap (λ (k : NodeKey). Some k) (sym effect.2))
 
-      told : (zs : List costs.Effect) × Leads r.service (flow_read r) x zs x × (map (effect_number r) (zs ++ x ∷ []) ≡ effects_along ks b.trail.items) × (labels_along b.trail.items ≡ map (λ z. label_in r web.effect_sites (effect_number r z)) (zs ++ x ∷ []))
+      told : (zs : List costs.Effect) × Leads r.service (flow_read r) x zs x × (map (effect_number r) (zs ++ x ∷ []) ≡ effects_along ks b.trail.items) × (labels_along b.trail.items ≡ map (λ z. label_in r key_graph.effect_sites (effect_number r z)) (zs ++ x ∷ []))
       told = tells.told b.trail.items best.first.chain
 
       zs : List costs.Effect
@@ -324,16 +324,16 @@ left_kept r read ts all left xs every is same =
     (among_each (kept r) (unlaid ts (active_keys r)) (λ k there. each_among (kept r) (active_keys r) k (listed_kept r read) (from_filtered (λ j. not (is_laid ts j)) (active_keys r) k there)))
 
 pub none_of : (r : Reading) → IsReading r → (ts : Places) → AreLayers (price r) (kept r) ts → (all left xs ys ks : List NodeKey) (g : Graph) (best : Option Best) → all ≡ active_keys r → left ≡ unlaid ts all → xs ≡ left → ys ≡ left → IsKeyGraphOf r xs ks g → AreBest r ks g ys best → best ≡ None → NoCycles r.service (flow_read r)
-none_of r read ts layers all left xs ys ks g best every is same also web found none =
+none_of r read ts layers all left xs ys ks g best every is same also key_graph found none =
     let these : left ≡ unlaid ts (active_keys r) = is ∙ ap (unlaid ts) every in
-    none_found r read ts layers ks g (subst (λ (zs : List NodeKey). IsKeyGraphOf r zs ks g) (same ∙ these) web)
+    none_found r read ts layers ks g (subst (λ (zs : List NodeKey). IsKeyGraphOf r zs ks g) (same ∙ these) key_graph)
     (subst (AreBest r ks g (unlaid ts (active_keys r))) none (subst (λ (zs : List NodeKey). AreBest r ks g zs best) (also ∙ these) found))
 
 pub some_of : (r : Reading) → IsReading r → (ts : Places) → AreLayers (price r) (kept r) ts → (all left xs ys ks : List NodeKey) (g : Graph) (best : Option Best) (b : Best) (cs : List Cause) → all ≡ active_keys r → left ≡ unlaid ts all → xs ≡ left → ys ≡ left → IsKeyGraphOf r xs ks g → AreBest r ks g ys best → best ≡ Some b
     → cs ≡ take (length (causes_along r ks b.trail.items)) (b.cause ∷ causes_along r ks b.trail.items) → AreFirstCycle r.service (flow_read r) cs
-some_of r read ts layers all left xs ys ks g best b cs every is same also web tried some =
+some_of r read ts layers all left xs ys ks g best b cs every is same also key_graph tried some =
     let these : left ≡ unlaid ts (active_keys r) = is ∙ ap (unlaid ts) every in
-    found r read ts layers ks g (subst (λ (zs : List NodeKey). IsKeyGraphOf r zs ks g) (same ∙ these) web) b cs
+    found r read ts layers ks g (subst (λ (zs : List NodeKey). IsKeyGraphOf r zs ks g) (same ∙ these) key_graph) b cs
     (subst (AreBest r ks g (unlaid ts (active_keys r))) some (subst (λ (zs : List NodeKey). AreBest r ks g zs best) (also ∙ these) tried))
 
 -- of the service and the flow that were read

@@ -26,7 +26,7 @@ use Rattle.mh_layers.specs.Applied.{number_in}
 use Rattle.mh_layers.specs.Keys.{IsKept, effect_of}
 use Rattle.mh_layers.specs.Known.{added, known_worth, told}
 use Rattle.mh_layers.specs.Layering.{AreLayers, Places, cost_in, cost_of, laid_in}
-use Rattle.mh_layers.specs.Reading.{IsReading, Reading, Spot, around_at, flow_read, heard_read, kept, known_by, name, number, price, price_read, spot_in}
+use Rattle.mh_layers.specs.Reading.{IsReading, Reading, CostContext, around_at, flow_read, heard_read, kept, known_by, name, number, price, price_read, context_in}
 use Rattle.mh_layers.specs.Staging.{IsCostly, IsKnown, act_worth}
 use Rattle.mh_layers.specs.EffectSites.{cause_named, effect_named}
 use Rattle.mh_layers.specs.Stretches.{is_effect_key}
@@ -107,27 +107,27 @@ acts_known r read ts layers k active some p at = by (is_active (present r.servic
         ∙ sym (known_numbered (number r) (told (cost_in ts)) (price_read r (name r k)))
         ∙ layers.comes k laid.0 (effect_kept r read k active) laid.1
 
-    worth : known_worth (known_by r ts) (if_price (is_active (present r.service x.config) p) (acts (around_at (spot_in r x.config)) (effect_at p x.number))) ≡ Ok laid.0.cost
+    worth : known_worth (known_by r ts) (if_price (is_active (present r.service x.config) p) (acts (around_at (context_in r x.config)) (effect_at p x.number))) ≡ Ok laid.0.cost
     worth =
         ap (λ (o : Option Fixed). known_worth (known_by r ts) (option_map_or (effect_of r.service (flow_read r) (heard_read r) x.config x.number) o Nothing)) (sym at) ∙ known
 
-    by : (b : Bool) → known_worth (known_by r ts) (if_price b (acts (around_at (spot_in r x.config)) (effect_at p x.number))) ≡ Ok laid.0.cost
+    by : (b : Bool) → known_worth (known_by r ts) (if_price b (acts (around_at (context_in r x.config)) (effect_at p x.number))) ≡ Ok laid.0.cost
         → Each (λ a. IsKnown (act_worth r ts x.config a)) (effect_at p x.number) × (0 < length (effect_at p x.number))
     by true e = (
-      each_known (known_by r ts) (act (around_at (spot_in r x.config))) (effect_at p x.number) laid.0.cost e,
-      some_acts (known_by r ts) (act (around_at (spot_in r x.config))) (effect_at p x.number) laid.0.cost e less,
+      each_known (known_by r ts) (act (around_at (context_in r x.config))) (effect_at p x.number) laid.0.cost e,
+      some_acts (known_by r ts) (act (around_at (context_in r x.config))) (effect_at p x.number) laid.0.cost e less,
     )
-    by false e = let none = ok_one 0 laid.0.cost (known_worth (known_by r ts) (if_price false (acts (around_at (spot_in r x.config)) (effect_at p x.number)))) refl e in absurd (omega (arith, none, less))
+    by false e = let none = ok_one 0 laid.0.cost (known_worth (known_by r ts) (if_price false (acts (around_at (context_in r x.config)) (effect_at p x.number)))) refl e in absurd (omega (arith, none, less))
 
 -- as they are found
 pub acts_costly : (r : Reading) → IsReading r → (ts us : Places) → AreLayers (price r) (kept r) ts → us ≡ ts → (k : NodeKey) → IsActive r k → 0 < effect_cost ts k
-    → (s : Spot) → s ≡ spot_in r (effect_named r k).config → (p : Fixed) → part_at (effect_named s.reading k).object (present s.reading.service s.config) ≡ Some p
+    → (s : CostContext) → s ≡ context_in r (effect_named r k).config → (p : Fixed) → part_at (effect_named s.reading k).object (present s.reading.service s.config) ≡ Some p
     → (n : ℕ) → n ≡ number_in k → (xs : List Act) → xs ≡ effect_at p n → Each (λ a. IsKnown (act_worth s.reading us s.config a)) xs × (0 < length xs)
-acts_costly r read ts us layers laid k active some s spot p at n number xs are =
+acts_costly r read ts us layers laid k active some s context p at n number xs are =
     subst (λ (ys : List Act). Each (λ a. IsKnown (act_worth s.reading us s.config a)) ys × (0 < length ys)) (sym own)
-    (subst (λ (t : Spot). Each (λ a. IsKnown (act_worth t.reading us t.config a)) (effect_at p (effect_named r k).number) × (0 < length (effect_at p (effect_named r k).number))) (sym spot)
+    (subst (λ (t : CostContext). Each (λ a. IsKnown (act_worth t.reading us t.config a)) (effect_at p (effect_named r k).number) × (0 < length (effect_at p (effect_named r k).number))) (sym context)
     (subst (λ (vs : Places). Each (λ a. IsKnown (act_worth r vs (effect_named r k).config a)) (effect_at p (effect_named r k).number) × (0 < length (effect_at p (effect_named r k).number))) (sym laid)
-    (acts_known r read ts layers k active some p (subst (λ (t : Spot). part_at (effect_named t.reading k).object (present t.reading.service t.config) ≡ Some p) spot at))))
+    (acts_known r read ts layers k active some p (subst (λ (t : CostContext). part_at (effect_named t.reading k).object (present t.reading.service t.config) ≡ Some p) context at))))
   where
     own : xs ≡ effect_at p (effect_named r k).number
     own = are ∙ ap (effect_at p) (number ∙ sym (number_named r k))
@@ -145,10 +145,10 @@ offset_within r k p n offset at number less =
     subst (λ (m : ℕ). offset < length (effect_at p m)) (number_named r k ∙ sym number)
     (subst (λ (o : Option Fixed). offset < length (option_map_or (λ (q : Fixed). effect_at q (effect_named r k).number) o [])) at less)
 
--- at a spot
-pub part_here : (r : Reading) (k : NodeKey) (s : Spot) (p : Fixed) → s ≡ spot_in r (effect_named r k).config → part_at (effect_named s.reading k).object (present s.reading.service s.config) ≡ Some p
+-- at a context
+pub part_here : (r : Reading) (k : NodeKey) (s : CostContext) (p : Fixed) → s ≡ context_in r (effect_named r k).config → part_at (effect_named s.reading k).object (present s.reading.service s.config) ≡ Some p
     → part_at (effect_named r k).object (present r.service (effect_named r k).config) ≡ Some p
-part_here r k s p spot at = subst (λ (t : Spot). part_at (effect_named t.reading k).object (present t.reading.service t.config) ≡ Some p) spot at
+part_here r k s p context at = subst (λ (t : CostContext). part_at (effect_named t.reading k).object (present t.reading.service t.config) ≡ Some p) context at
 
 pub not_err : (w : Result ℕ NodeKey) (k : NodeKey) (n : ℕ) → w ≡ Err k → w ≡ Ok n → ⊥
 not_err w k n h e = let both = sym h ∙ e in absurd cc

@@ -11,11 +11,11 @@ use Rattle.mh_layers.specs.declared.node_key.NodeKey.{NodeKey}
 use Rattle.mh_layers.specs.declared.node_key.NodeKey.TheVariants as key
 use Rattle.mh_layers.specs.Key.{Key}
 use Rattle.mh_layers.specs.Numbered.{numbered}
-use Rattle.mh_layers.specs.Reading.{Reading, around_at, flow_read, number, spot_in}
+use Rattle.mh_layers.specs.Reading.{Reading, around_at, flow_read, number, context_in}
 
 -- what the action comes to, done to the object in the configuration
 abbrev pub puts_so : Reading → Config → Act → ObjRef → Price Key
-puts_so r c a t = done_to (around_at (spot_in r c)) a.name a.arguments t
+puts_so r c a t = done_to (around_at (context_in r c)) a.name a.arguments t
 
 -- it counts the key
 abbrev pub CountsKey : Reading → Config → Act → ObjRef → NodeKey → Type 0

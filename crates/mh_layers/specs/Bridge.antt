@@ -13,7 +13,7 @@ use Rattle.mh_laws.specs.Price.{Price, counted_in, worth, Nodes}
 use Rattle.mh_laws.specs.View as view
 use Rattle.mh_laws.specs.Ways.{Told}
 use Rattle.mh_layers.specs.Key.{Key, Effect}
-use Rattle.mh_layers.specs.Keys.{Heard, HearsAll, IsKept, IsMet, level, lists, net_around, objects, price_of, stands_for}
+use Rattle.mh_layers.specs.Keys.{Heard, HearsAll, IsKept, IsMet, level, lists, around_of, objects, price_of, stands_for}
 use Rattle.mh_layers.specs.Known.{top}
 use Rattle.mh_layers.specs.Layering.{AreLayers, CountsKept, NoneRanked, Places, cost_in, is_laid, rank_in}
 use Rattle.mh_layers.specs.Numbered.{AreNamed, numbered}
@@ -42,8 +42,8 @@ pub record PricesAgree (v : Service) (w : Flow) (h : Heard) (c : Config) : Type 
   pub run : (r : ObjRef) → ComesTo v w (view.run (lists v w h c) r) (costs.run v w c r)
   pub halt : (r : ObjRef) → ComesTo v w (view.halt (lists v w h c) r) (costs.halt v w c r)
   pub change : (r : ObjRef) → ComesTo v w (view.change (objects v w h c) r) (costs.change v w c r)
-  pub exchange : (g : List ℕ) → ComesTo v w ((net_around v w h c).exchange g) (costs.exchange v w c g)
-  pub act : (a : Act) → ComesTo v w (view.act (net_around v w h c) a) (costs.act v w c a)
+  pub exchange : (g : List ℕ) → ComesTo v w ((around_of v w h c).exchange g) (costs.exchange v w c g)
+  pub act : (a : Act) → ComesTo v w (view.act (around_of v w h c) a) (costs.act v w c a)
 
 abbrev pub KeysAgree : Type 0
 KeysAgree = (v : Service) (w : Flow) (h : Heard) → IsRead v w h → (c : Config) → reached w c ≡ true → PricesAgree v w h c

@@ -34,11 +34,11 @@ abbrev pub cause_named : Reading → NodeKey → Cause
 cause_named r k = cause_of r.service (effect_named r k)
 
 -- where a cause stands
-abbrev pub standing_of : Cause → EffectSite
-standing_of x = record { at = x.at; index = x.index }
+abbrev pub effect_site_of : Cause → EffectSite
+effect_site_of x = record { at = x.at; index = x.index }
 
 abbrev pub effect_site_named : Reading → NodeKey → EffectSite
-effect_site_named r k = standing_of (cause_named r k)
+effect_site_named r k = effect_site_of (cause_named r k)
 
 abbrev pub same_effect_site : EffectSite → EffectSite → Bool
 same_effect_site a b = same_ref_key a.at b.at && a.index == b.index

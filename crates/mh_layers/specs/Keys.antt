@@ -109,8 +109,8 @@ lists v w h c = record {
   change = λ r. if is_list_in (present v c) r then Node (Change c r) else view.change (objects v w h c) r;
 }
 
-abbrev pub net_around : Service → Flow → Heard → Config → Around Key
-net_around v w h c = record {
+abbrev pub around_of : Service → Flow → Heard → Config → Around Key
+around_of v w h c = record {
   lists = lists v w h c;
   leave = λ all. Node (Leave c all);
   exchange = λ g. Plus One (if_price (reached w (exchanged v c g)) (Node (Enter (exchanged v c g))));
@@ -170,7 +170,7 @@ taken_price v w h c kind.Engine =
     Plus One (fired_of c (group_ref c.app) event.EngineEvent (h (group_ref c.app) event.EngineEvent))
 taken_price v w h c kind.Arrive =
     Plus One (Most (sum_price (inputs.content_told (objects v w h c)) (present v c))
-    (most_price (inputs.scene_change (net_around v w h c)) (costs.late_scenes v w c)))
+    (most_price (inputs.scene_change (around_of v w h c)) (costs.late_scenes v w c)))
 
 -- the group that is entered when a configuration is
 abbrev pub entered : Config → Option (List ℕ) → List ℕ
@@ -179,7 +179,7 @@ entered c (Some g) = g
 
 -- an effect that is not active costs nothing
 abbrev pub effect_of : Service → Flow → Heard → Config → ℕ → Fixed → Price Key
-effect_of v w h c n p = if_price (is_active (present v c) p) (view.acts (net_around v w h c) (costs.effect_at p n))
+effect_of v w h c n p = if_price (is_active (present v c) p) (view.acts (around_of v w h c) (costs.effect_at p n))
 
 abbrev pub price_of : Service → Flow → Heard → Key → Price Key
 price_of v w h (Effect c r n) = option_map_or (effect_of v w h c n) (part_at r (present v c)) Nothing

@@ -28,7 +28,7 @@ use Rattle.mh_layers.specs.declared.node_key.NodeKey.{NodeKey}
 use Rattle.mh_layers.specs.declared.node_key.NodeKey.TheVariants as key
 use Rattle.mh_layers.specs.Key.{Key, Effect, Fired, Entry, Change, Leave, Enter, Taken, Hearing, Plain, With, Any}
 use Rattle.mh_layers.specs.Bridge.{AreNumbers, KeptBy}
-use Rattle.mh_layers.specs.Keys.{Heard, every_timer, hearing, net_around, price_of, values}
+use Rattle.mh_layers.specs.Keys.{Heard, every_timer, hearing, around_of, price_of, values}
 use Rattle.mh_layers.specs.Known.{told}
 use Rattle.mh_layers.specs.Layering.{Places, cost_in}
 use Rattle.mh_layers.specs.Listening.{IsListening, Listeners, heard}
@@ -176,55 +176,55 @@ price r n = numbered (number r) (price_read r (name r n))
 abbrev pub kept : Reading → NodeKey → Type 0
 kept r n = KeptBy r.service (flow_read r) (heard_read r) (name r) n
 
--- A net, and what is asked of it
+-- A numbered service, and what is asked of it
 
 -- the configurations in the order of the flow, each once under its number, and what is held in each; and the timers that can
 -- be set
-pub record IsNet (r : Reading) (cs keys : List Config) (lists : List (List (List ObjRef))) (ts : List TimerKey) : Type 0 where
+pub record IsNumberedService (r : Reading) (cs keys : List Config) (lists : List (List (List ObjRef))) (ts : List TimerKey) : Type 0 where
   pub reading : IsReading r
   pub all : cs ≡ (flow_read r).configs
   pub once : keys ≡ settings r
   pub held : lists ≡ map (held_in r.service r.flow) keys
   pub timers : ts ≡ every_timer r.service (flow_read r)
 
--- a configuration of a net
-pub record Spot : Type 0 where
+-- a configuration of a numbered service
+pub record CostContext : Type 0 where
   pub reading : Reading
   pub config : Config
 
-abbrev pub around_at : Spot → Around Key
-around_at s = net_around s.reading.service (flow_read s.reading) (heard_read s.reading) s.config
+abbrev pub around_at : CostContext → Around Key
+around_at s = around_of s.reading.service (flow_read s.reading) (heard_read s.reading) s.config
 
 -- what is known of a key, by its number
 abbrev pub known_by : Reading → Places → Key → Result ℕ NodeKey
 known_by r ts k = told (cost_in ts) (number r k)
 
 -- a configuration by its number, and by its name
-abbrev pub spot_at : Reading → ℕ → Spot
-spot_at r n = record { reading = r; config = config_named r n }
+abbrev pub context_at : Reading → ℕ → CostContext
+context_at r n = record { reading = r; config = config_named r n }
 
-abbrev pub spot_in : Reading → Config → Spot
-spot_in r c = record { reading = r; config = c }
+abbrev pub context_in : Reading → Config → CostContext
+context_in r c = record { reading = r; config = c }
 
 -- Numbers of keys of the configuration
 
-abbrev pub effect_key : Spot → ObjRef → ℕ → NodeKey
+abbrev pub effect_key : CostContext → ObjRef → ℕ → NodeKey
 effect_key s o n = key.Effect (config_number s.reading s.config) (object_number s.reading o) n
 
-abbrev pub fired_key : Spot → ObjRef → EventType → Hears → NodeKey
+abbrev pub fired_key : CostContext → ObjRef → EventType → Hears → NodeKey
 fired_key s o kind g = key.Fired (config_number s.reading s.config) (object_number s.reading o) kind g
 
 -- what an event of a hearing with this number sets going, all of it, and if its source is there
-abbrev pub fired_by : Spot → ObjRef → EventType → Hears → Price NodeKey
+abbrev pub fired_by : CostContext → ObjRef → EventType → Hears → Price NodeKey
 fired_by s o kind hears.Plain = Node (fired_key s o kind hears.Plain)
 fired_by s o kind (hears.With n) = Plus (Node (fired_key s o kind hears.Plain)) (Node (fired_key s o kind (hears.With n)))
 fired_by s o kind hears.Any = Node (fired_key s o kind hears.Any)
 
-abbrev pub there_by : Spot → ObjRef → EventType → Hears → Price NodeKey
+abbrev pub there_by : CostContext → ObjRef → EventType → Hears → Price NodeKey
 there_by s o kind g = if_price (is_there o (present s.reading.service s.config)) (fired_by s o kind g)
 
 -- such an event is dealt with at once, or waits
-abbrev pub dealt_by : Spot → ObjRef → EventType → Hears → Price NodeKey
+abbrev pub dealt_by : CostContext → ObjRef → EventType → Hears → Price NodeKey
 dealt_by s o kind g = if is_sync kind then there_by s o kind g else Node (key.Entry (object_number s.reading o) kind g)
 
 -- the number of the hearing of an event of which this is known, if a link hears it
@@ -232,7 +232,7 @@ abbrev pub hears_told : Reading → ObjRef → EventType → Told → Option Hea
 hears_told r o kind d = option_map (λ xs. hears_among xs (hearing xs d)) (heard_read r o kind)
 
 -- the number is that of the configuration, and this is present and held there
-pub record IsSpot (s : Spot) (n : ℕ) (ps : List Fixed) (lists : List (List ObjRef)) : Type 0 where
+pub record IsContext (s : CostContext) (n : ℕ) (ps : List Fixed) (lists : List (List ObjRef)) : Type 0 where
   pub read : IsReading s.reading
   pub place : n ≡ config_number s.reading s.config
   pub there : ps ≡ present s.reading.service s.config

@@ -19,12 +19,12 @@ use Rattle.mh_layers.specs.Choosing.{effect_cost}
 use Rattle.mh_layers.specs.Dearest.{AreStages, IsFirstLargest, IsWay, acts_of}
 use Rattle.mh_layers.specs.Known.{known_worth}
 use Rattle.mh_layers.specs.Layering.{Places}
-use Rattle.mh_layers.specs.Reading.{Reading, around_at, flow_read, known_by, number, spot_in}
+use Rattle.mh_layers.specs.Reading.{Reading, around_at, flow_read, known_by, number, context_in}
 use Rattle.mh_layers.specs.EffectSites.{cause_named, effect_named}
 
 -- what is told of the cost of an action
 abbrev pub act_worth : Reading → Places → Config → Act → Result ℕ NodeKey
-act_worth r ts c a = known_worth (known_by r ts) (act (around_at (spot_in r c)) a)
+act_worth r ts c a = known_worth (known_by r ts) (act (around_at (context_in r c)) a)
 
 abbrev pub all_known : List ℕ → List (Result ℕ NodeKey)
 all_known ns = map (λ (n : ℕ). Ok n) ns

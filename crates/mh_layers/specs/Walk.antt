@@ -1,4 +1,4 @@
--- The first cycle, found by its number: the web of the keys that are not laid, and the first of these that is on a cycle.
+-- The first cycle, found by its number: the key graph of the keys that are not laid, and the first of these that is on a cycle.
 use Rattle.std.specs.Prelude.{◌≡◌, not, true, List, [], ◌∷◌, ◌++◌, filter, Option, Some, None}
 use Rattle.std.specs.List.{flat_map}
 use Rattle.std.specs.Ordering.{is_lt}
@@ -21,11 +21,11 @@ use Rattle.mh_layers.specs.KeyGraph.{IsKeyGraph}
 abbrev pub unlaid : Places → List NodeKey → List NodeKey
 unlaid ts ks = filter (λ k. not (is_laid ts k)) ks
 
--- the web of these keys, with labels for the places of all active effects
+-- the key graph of these keys, with labels for the places of all active effects
 pub record IsKeyGraphOf (r : Reading) (roots ks : List NodeKey) (g : Graph) : Type 0 where
   pub effect_sites : List EffectSite
   pub are : AreEffectSites r (active_keys r) effect_sites
-  pub web : IsKeyGraph r ks (label_in r effect_sites) g
+  pub key_graph : IsKeyGraph r ks (label_in r effect_sites) g
   pub listed : Each (Among ks) roots
 
 -- of the keys that were seen this is the first that is on a cycle, and its first cycle

@@ -14,7 +14,7 @@ ghost use Rattle.mh_model.specs.Service.{part_at};
 ghost use Rattle.mh_layers.specs.Applied.{number_in};
 ghost use Rattle.mh_layers.specs.Granting.{held_for};
 ghost use Rattle.mh_layers.specs.Listening.{source_of as source_of_lem};
-ghost use Rattle.mh_layers.specs.Reading.{IsReading, flow_read, spot_in};
+ghost use Rattle.mh_layers.specs.Reading.{IsReading, flow_read, context_in};
 ghost use Rattle.mh_layers.specs.EffectSites.{effect_named};
 ghost use Rattle.mh_layers.specs.Trails.{IsActive, IsArrowOf, IsStep};
 
@@ -35,15 +35,15 @@ use mh_model::Fixed;
 use std::alloc::{AllocError, Global};
 
 /// The configuration of the effect.
-pub(crate) fn config_of<'a>(net: &'a NumberedService<'_>, key: &NodeKey) -> At<'a>
-    requires reading { IsReading net.now }
-    requires active { IsActive net.now key.now }
-    ensures { result ≡ spot_in net.now (effect_named net.now key.now).config }
+pub(crate) fn config_of<'a>(numbered_service: &'a NumberedService<'_>, key: &NodeKey) -> At<'a>
+    requires reading { IsReading numbered_service.now }
+    requires active { IsActive numbered_service.now key.now }
+    ensures { result ≡ context_in numbered_service.now (effect_named numbered_service.now key.now).config }
 {
     let NodeKey::Effect(config, _, _) = key else {
         unreachable!();
     };
-    match At::of(net, *config) {
+    match At::of(numbered_service, *config) {
         None => unreachable!(),
         Some(here) => here,
     }
@@ -60,7 +60,7 @@ pub(crate) fn part_of<'a>(here: &'a At<'_>, key: &NodeKey) -> &'a Fixed
     let NodeKey::Effect(_, number, _) = key else {
         unreachable!();
     };
-    let Some(at) = here.net().object_at(*number) else {
+    let Some(at) = here.numbered_service().object_at(*number) else {
         unreachable!();
     };
     match here.find(at) {
@@ -118,13 +118,18 @@ fn arrow_between(
     requires reading { IsReading here.now.reading }
     requires step { IsStep here.now.reading from.now first.now to.now }
     requires here { here.now.config ≡ (effect_named here.now.reading from.now).config }
-    requires there { there.now ≡ spot_in here.now.reading (effect_named here.now.reading to.now).config }
+    requires there { there.now ≡ context_in here.now.reading (effect_named here.now.reading to.now).config }
     ensures { IfOk result (IsArrowOf here.now.reading from.now to.now) }
 {
     let aim = part_of(there, to);
     let by = by_of(aim, number_of(to))?;
     let part = part_of(here, from);
-    let cause = cause_at(here.net(), here.config(), &part.key, number_of(from))?;
+    let cause = cause_at(
+        here.numbered_service(),
+        here.config(),
+        &part.key,
+        number_of(from),
+    )?;
     let acts = effect_acts(part, number_of(from));
     match doing_of(here, acts, first)? {
         None => unreachable!(),
@@ -139,16 +144,16 @@ fn arrow_between(
 /// The arrow from an effect to another, to which the first of its keys leads.
 pub(crate) fn arrow_for(
     alloc: Global,
-    net: &NumberedService<'_>,
+    numbered_service: &NumberedService<'_>,
     from: &NodeKey,
     first: &NodeKey,
     to: &NodeKey,
 ) -> Result<Arrow, AllocError>
-    requires reading { IsReading net.now }
-    requires step { IsStep net.now from.now first.now to.now }
-    ensures { IfOk result (IsArrowOf net.now from.now to.now) }
+    requires reading { IsReading numbered_service.now }
+    requires step { IsStep numbered_service.now from.now first.now to.now }
+    ensures { IfOk result (IsArrowOf numbered_service.now from.now to.now) }
 {
-    let here = config_of(net, from);
-    let there = config_of(net, to);
+    let here = config_of(numbered_service, from);
+    let there = config_of(numbered_service, to);
     arrow_between(alloc, &here, &there, from, first, to)
 }

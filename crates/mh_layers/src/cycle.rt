@@ -27,7 +27,7 @@ ghost use Rattle.mh_layers.specs.Walk.{AreBest, IsTried, unlaid};
 use crate::arrows::arrow::Arrow;
 use crate::cause::Cause;
 use crate::cycle::effect_site::{by_effect_site, cause_of};
-use crate::cycle::key_graph::{KeyGraph, node_of, web_of};
+use crate::cycle::key_graph::{KeyGraph, key_graph_of, node_of};
 use crate::cycle::order::Order;
 use crate::cycle::trail::arrows_along;
 use crate::laying::roots::push_effects;
@@ -66,40 +66,40 @@ fn set(best: &mut Option<Best>, key: NodeKey, cause: Cause, trail: Vec<mh_paths:
 #[tactic(auto, using(crate::proofs::OrderLemmas::passed_by))]
 fn cycle_through(
     alloc: Global,
-    web: &KeyGraph,
+    key_graph: &KeyGraph,
     order: &Order,
     node: usize,
 ) -> Result<Option<Vec<mh_paths::Arrow>>, AllocError>
-    requires { IsOrder web.now.graph order.now.places.items order.now.behind }
-    ensures some { IfOk result (λ found. IfSome found (λ p. IsFirstCycle web.now.graph node p.items)) }
-    ensures none { IfOk result (λ found. IfNone found (NoCycle web.now.graph node)) }
+    requires { IsOrder key_graph.now.graph order.now.places.items order.now.behind }
+    ensures some { IfOk result (λ found. IfSome found (λ p. IsFirstCycle key_graph.now.graph node p.items)) }
+    ensures none { IfOk result (λ found. IfNone found (NoCycle key_graph.now.graph node)) }
 {
     if order.is_passed(node) {
         return Ok(None);
     }
-    mh_paths::first_cycle(alloc, &web.graph, node)
+    mh_paths::first_cycle(alloc, &key_graph.graph, node)
 }
 
 /// The effect is the best, if it comes before it and is on a cycle.
 #[tactic(auto, using(crate::proofs::WalkLemmas::tried_later, crate::proofs::WalkLemmas::tried_none, crate::proofs::WalkLemmas::tried_found))]
 fn try_key(
     alloc: Global,
-    net: &NumberedService<'_>,
-    web: &KeyGraph,
+    numbered_service: &NumberedService<'_>,
+    key_graph: &KeyGraph,
     order: &Order,
     best: &mut Option<Best>,
     key: &NodeKey,
 ) -> Result<(), AllocError>
-    requires order { IsOrder web.now.graph order.now.places.items order.now.behind }
-    requires effect { IsEffectKept net.now key.now }
-    ensures { OnOk result (IsTried net.now web.now.keys.keys web.now.graph key.now best.old best.new) }
+    requires order { IsOrder key_graph.now.graph order.now.places.items order.now.behind }
+    requires effect { IsEffectKept numbered_service.now key.now }
+    ensures { OnOk result (IsTried numbered_service.now key_graph.now.keys.keys key_graph.now.graph key.now best.old best.new) }
 {
-    let cause = cause_of(net, key)?;
+    let cause = cause_of(numbered_service, key)?;
     if !comes_first(&cause, best) {
         return Ok(());
     }
-    let node = node_of(&web.keys, key);
-    match cycle_through(alloc, web, order, node)? {
+    let node = node_of(&key_graph.keys, key);
+    match cycle_through(alloc, key_graph, order, node)? {
         None => Ok(()),
         Some(trail) => {
             set(best, *key, cause, trail);
@@ -111,17 +111,17 @@ fn try_key(
 /// The first of these that is on a cycle.
 fn first_of(
     alloc: Global,
-    net: &NumberedService<'_>,
-    web: &KeyGraph,
+    numbered_service: &NumberedService<'_>,
+    key_graph: &KeyGraph,
     keys: &[NodeKey],
 ) -> Result<Option<Best>, AllocError>
-    requires { Each (IsEffectKept net.now) keys.now }
-    ensures { IfOk result (λ best. AreBest net.now web.now.keys.keys web.now.graph keys.now best) }
+    requires { Each (IsEffectKept numbered_service.now) keys.now }
+    ensures { IfOk result (λ best. AreBest numbered_service.now key_graph.now.keys.keys key_graph.now.graph keys.now best) }
 {
-    let order = Order::of(alloc, &web.graph)?;
+    let order = Order::of(alloc, &key_graph.graph)?;
     let mut best = None;
     for key in keys {
-        try_key(alloc, net, web, &order, &mut best, key)?;
+        try_key(alloc, numbered_service, key_graph, &order, &mut best, key)?;
     }
     Ok(best)
 }
@@ -140,34 +140,37 @@ fn unlaid(alloc: Global, laying: &Laying, keys: &[NodeKey]) -> Result<Vec<NodeKe
 }
 
 /// The keys of all active effects that have actions.
-fn effects(alloc: Global, net: &NumberedService<'_>) -> Result<Vec<NodeKey>, AllocError>
-    ensures { IfOk result (λ keys. keys.items ≡ active_keys net.now) }
+fn effects(
+    alloc: Global,
+    numbered_service: &NumberedService<'_>,
+) -> Result<Vec<NodeKey>, AllocError>
+    ensures { IfOk result (λ keys. keys.items ≡ active_keys numbered_service.now) }
 {
     let mut keys = Vec::new(alloc);
-    push_effects(&mut keys, net)?;
+    push_effects(&mut keys, numbered_service)?;
     Ok(keys)
 }
 
 /// The first cycle, where these layers are laid and these are the keys of all active effects.
 fn cycle_in(
     alloc: Global,
-    net: &NumberedService<'_>,
+    numbered_service: &NumberedService<'_>,
     laying: &Laying,
     keys: &[NodeKey],
 ) -> Result<Option<Vec<Arrow>>, AllocError>
-    requires layers { AreLayers (price net.now) (kept net.now) laying.now }
-    requires reading { IsReading net.now }
-    requires all { keys.now ≡ active_keys net.now }
-    ensures some { let v = net.now.service in let w = flow_read net.now in IfOk result (λ found. IfSome found (λ arrows. AreFirstArrows v w arrows.items)) }
-    ensures none { let v = net.now.service in let w = flow_read net.now in IfOk result (λ found. IfNone found (NoCycles v w)) }
+    requires layers { AreLayers (price numbered_service.now) (kept numbered_service.now) laying.now }
+    requires reading { IsReading numbered_service.now }
+    requires all { keys.now ≡ active_keys numbered_service.now }
+    ensures some { let v = numbered_service.now.service in let w = flow_read numbered_service.now in IfOk result (λ found. IfSome found (λ arrows. AreFirstArrows v w arrows.items)) }
+    ensures none { let v = numbered_service.now.service in let w = flow_read numbered_service.now in IfOk result (λ found. IfNone found (NoCycles v w)) }
 {
     let left = unlaid(alloc, laying, keys)?;
-    let web = web_of(alloc, net, left.as_slice(), keys)?;
-    match first_of(alloc, net, &web, left.as_slice())? {
+    let key_graph = key_graph_of(alloc, numbered_service, left.as_slice(), keys)?;
+    match first_of(alloc, numbered_service, &key_graph, left.as_slice())? {
         None => Ok(None),
         Some(best) => {
             let trail = best.trail.as_slice();
-            let arrows = arrows_along(alloc, net, &web.keys, best.key, trail)?;
+            let arrows = arrows_along(alloc, numbered_service, &key_graph.keys, best.key, trail)?;
             Ok(Some(arrows))
         }
     }
@@ -185,12 +188,12 @@ pub fn first_cycle(
     ensures some { IfOk result (λ found. IfSome found (λ arrows. AreFirstArrows service.now (flow_in service.now flow.now) arrows.items)) }
     ensures none { IfOk result (λ found. IfNone found (NoCycles service.now (flow_in service.now flow.now))) }
 {
-    let net = NumberedService::of(alloc, service, flow)?;
-    net.read();
-    let keys = effects(alloc, &net)?;
+    let numbered_service = NumberedService::of(alloc, service, flow)?;
+    numbered_service.read();
+    let keys = effects(alloc, &numbered_service)?;
     let mut laying = Laying::new(alloc)?;
-    if let Err(LayersError::NoMemory) = laying.reach(&net, keys.as_slice()) {
+    if let Err(LayersError::NoMemory) = laying.reach(&numbered_service, keys.as_slice()) {
         return Err(AllocError);
     }
-    cycle_in(alloc, &net, &laying, keys.as_slice())
+    cycle_in(alloc, &numbered_service, &laying, keys.as_slice())
 }

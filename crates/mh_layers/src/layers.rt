@@ -29,7 +29,7 @@ use std::marker::Model;
 /// Costs and ranks of the effects of a service, and the bounds of its start and its inputs.
 #[derive(Drop)]
 pub struct Layers<'a> {
-    net: NumberedService<'a>,
+    numbered_service: NumberedService<'a>,
     laying: Laying,
     bounds: Bounds,
 }
@@ -40,7 +40,7 @@ impl<'a> Model for Layers<'a> {
     ghost Value = { Layered };
 
     ghost view = { λ l. record {
-      reading = l.net;
+      reading = l.numbered_service;
       places = l.laying;
       bounds = l.bounds;
     } };
@@ -80,8 +80,8 @@ impl<'a> Layers<'a> {
         ensures { result ≡ number_of_key self.now.reading (key_of (record { config = config.now; object = at.now; number = number })) }
     {
         NodeKey::Effect(
-            self.net.config_number(config),
-            self.net.object_number(at),
+            self.numbered_service.config_number(config),
+            self.numbered_service.object_number(at),
             number,
         )
     }
@@ -102,21 +102,21 @@ fn taken_cost(laying: &Laying, config: usize, kind: InputKind) -> u64
 /// What it costs in the configuration.
 #[tactic(auto, unfolding(crate::specs::Taking::taken_laid))]
 pub(crate) fn cost_in_config(
-    net: &NumberedService<'_>,
+    numbered_service: &NumberedService<'_>,
     laying: &Laying,
     config: &Config,
     kind: InputKind,
 ) -> u64
-    ensures { result ≡ taken_laid net.now laying.now kind config.now }
+    ensures { result ≡ taken_laid numbered_service.now laying.now kind config.now }
 {
-    taken_cost(laying, net.config_number(config), kind)
+    taken_cost(laying, numbered_service.config_number(config), kind)
 }
 
 /// What the start costs, where this is the number of its configuration.
 #[tactic(auto, unfolding(crate::specs::Taking::taken_laid))]
-fn start_cost(net: &NumberedService<'_>, laying: &Laying, start: usize) -> u64
-    requires { start ≡ config_number net.now (starting net.now.service) }
-    ensures { result ≡ taken_laid net.now laying.now InputKind.Start (starting net.now.service) }
+fn start_cost(numbered_service: &NumberedService<'_>, laying: &Laying, start: usize) -> u64
+    requires { start ≡ config_number numbered_service.now (starting numbered_service.now.service) }
+    ensures { result ≡ taken_laid numbered_service.now laying.now InputKind.Start (starting numbered_service.now.service) }
 {
     taken_cost(laying, start, InputKind::Start)
 }
@@ -128,45 +128,54 @@ fn larger(first: u64, second: u64) -> u64
 }
 
 /// The most that an input of the kind costs in any of these.
-fn most_in(net: &NumberedService<'_>, laying: &Laying, configs: &[Config], kind: InputKind) -> u64
-    ensures { result ≡ largest_from (taken_laid net.now laying.now kind) 0 configs.now }
+fn most_in(
+    numbered_service: &NumberedService<'_>,
+    laying: &Laying,
+    configs: &[Config],
+    kind: InputKind,
+) -> u64
+    ensures { result ≡ largest_from (taken_laid numbered_service.now laying.now kind) 0 configs.now }
 {
     let mut most: u64 = 0;
     for config in configs {
-        most = larger(most, cost_in_config(net, laying, config, kind));
+        most = larger(most, cost_in_config(numbered_service, laying, config, kind));
     }
     most
 }
 
 /// The most that an input of the kind costs in any configuration.
-fn bound(net: &NumberedService<'_>, laying: &Laying, kind: InputKind) -> u64
-    ensures { result ≡ bound_laid net.now laying.now kind }
+fn bound(numbered_service: &NumberedService<'_>, laying: &Laying, kind: InputKind) -> u64
+    ensures { result ≡ bound_laid numbered_service.now laying.now kind }
 {
-    most_in(net, laying, net.configs(), kind)
+    most_in(numbered_service, laying, numbered_service.configs(), kind)
 }
 
-fn bounds_of(net: &NumberedService<'_>, laying: &Laying, start: usize) -> Bounds
-    requires { start ≡ config_number net.now (starting net.now.service) }
-    ensures { result ≡ bounds_laid net.now laying.now }
+fn bounds_of(numbered_service: &NumberedService<'_>, laying: &Laying, start: usize) -> Bounds
+    requires { start ≡ config_number numbered_service.now (starting numbered_service.now.service) }
+    ensures { result ≡ bounds_laid numbered_service.now laying.now }
 {
     Bounds {
-        start: start_cost(net, laying, start),
-        key: bound(net, laying, InputKind::Key),
-        tick: bound(net, laying, InputKind::Tick),
-        stream: bound(net, laying, InputKind::Stream),
-        engine: bound(net, laying, InputKind::Engine),
-        arrive: bound(net, laying, InputKind::Arrive),
+        start: start_cost(numbered_service, laying, start),
+        key: bound(numbered_service, laying, InputKind::Key),
+        tick: bound(numbered_service, laying, InputKind::Tick),
+        stream: bound(numbered_service, laying, InputKind::Stream),
+        engine: bound(numbered_service, laying, InputKind::Engine),
+        arrive: bound(numbered_service, laying, InputKind::Arrive),
     }
 }
 
-/// What is laid of a net, with its bounds.
-fn with_bounds<'a>(net: NumberedService<'a>, laying: Laying, start: usize) -> Layers<'a>
-    requires { start ≡ config_number net (starting net.service) }
-    ensures { result ≡ record { reading = net.entry; places = laying; bounds = bounds_laid net.entry laying } }
+/// What is laid of a numbered service, with its bounds.
+fn with_bounds<'a>(
+    numbered_service: NumberedService<'a>,
+    laying: Laying,
+    start: usize,
+) -> Layers<'a>
+    requires { start ≡ config_number numbered_service (starting numbered_service.service) }
+    ensures { result ≡ record { reading = numbered_service.entry; places = laying; bounds = bounds_laid numbered_service.entry laying } }
 {
-    let bounds = bounds_of(&net, &laying, start);
+    let bounds = bounds_of(&numbered_service, &laying, start);
     Layers {
-        net,
+        numbered_service,
         laying,
         bounds,
     }
@@ -183,12 +192,12 @@ pub fn lay_service<'a>(
     ensures cycle { IsErrOf result LayersError.Cycle → (rank : _) → IsLayering service.now (flow_in service.now flow.now) rank → ⊥ }
     ensures looped { IsErrOf result LayersError.Cycle → NoCycles service.now (flow_in service.now flow.now) → ⊥ }
 {
-    let net = NumberedService::of(alloc, service, flow)?;
-    net.read();
-    let keys = roots(alloc, &net)?;
-    let start = start_number(&net)?;
-    match lay(alloc, &net, keys.as_slice()) {
-        Ok(laying) => Ok(with_bounds(net, laying, start)),
+    let numbered_service = NumberedService::of(alloc, service, flow)?;
+    numbered_service.read();
+    let keys = roots(alloc, &numbered_service)?;
+    let start = start_number(&numbered_service)?;
+    match lay(alloc, &numbered_service, keys.as_slice()) {
+        Ok(laying) => Ok(with_bounds(numbered_service, laying, start)),
         Err(why) => Err(why),
     }
 }

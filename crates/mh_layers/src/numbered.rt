@@ -50,7 +50,7 @@ pub(crate) struct NumberedService<'a> {
 }
 
 impl<'a> Model for NumberedService<'a> {
-    ghost use Rattle.mh_layers.specs.Reading.{IsNet, Reading};
+    ghost use Rattle.mh_layers.specs.Reading.{IsNumberedService, Reading};
 
     ghost Value = { Reading };
 
@@ -61,7 +61,7 @@ impl<'a> Model for NumberedService<'a> {
     } };
 
     ghost invariant = { λ n.
-        IsNet (record { service = n.service.now; flow = n.flow.now; listeners = n.listeners }) n.all.items n.configs.keys n.held.items n.timers };
+        IsNumberedService (record { service = n.service.now; flow = n.flow.now; listeners = n.listeners }) n.all.items n.configs.keys n.held.items n.timers };
 }
 
 fn value_place(values: &Values, value: &Value) -> usize
@@ -74,16 +74,16 @@ fn value_place(values: &Values, value: &Value) -> usize
 }
 
 impl<'a> NumberedService<'a> {
-    /// The net of a service and its flow.
+    /// The numbered service of a service and its flow.
     pub fn of(
         alloc: Global,
         service: &'a Equipped<'a>,
         flow: &'a Flow,
     ) -> Result<NumberedService<'a>, AllocError>
         requires { IsFlowOf service.now flow.now }
-        ensures service { IfOk result (λ net. net.service ≡ service.now) }
-        ensures flow { IfOk result (λ net. net.flow ≡ flow.now) }
-        ensures reading { IfOk result (λ net. IsReading net) }
+        ensures service { IfOk result (λ numbered_service. numbered_service.service ≡ service.now) }
+        ensures flow { IfOk result (λ numbered_service. numbered_service.flow ≡ flow.now) }
+        ensures reading { IfOk result (λ numbered_service. IsReading numbered_service) }
     {
         let listeners = Listeners::of(alloc, service)?;
         let all = flow.configs(alloc)?;

@@ -1,4 +1,4 @@
-//! What each key of a net comes to.
+//! What each key of a numbered service comes to.
 //!
 //! Promise: the price of the key is added to the sum, by the numbers of keys.
 
@@ -24,7 +24,7 @@ use crate::bounds::InputKind;
 use crate::effects::effect_acts;
 use crate::node_key::{Hears, NodeKey};
 use crate::numbered::NumberedService;
-use crate::numbered::named::{hearing, object, standing};
+use crate::numbered::named::{context_at, hearing, object};
 use crate::price::entries::configs_most;
 use crate::price::fired::fired;
 use crate::price::leaving::{entering, leave};
@@ -62,26 +62,26 @@ fn effect<M: Meter>(
 // Keys
 
 fn effect_key<M: Meter>(
-    net: &NumberedService<'_>,
+    numbered_service: &NumberedService<'_>,
     meter: &M,
     config: usize,
     at: usize,
     number: usize,
     sum: M::Sum,
 ) -> Result<M::Sum, AllocError>
-    requires config { has_config net.now config ≡ true }
-    requires object { has_object net.now at ≡ true }
-    ensures { let r = net.now in let m = through (number_of r) (M.meter meter.now) in
+    requires config { has_config numbered_service.now config ≡ true }
+    requires object { has_object numbered_service.now at ≡ true }
+    ensures { let r = numbered_service.now in let m = through (number_of r) (M.meter meter.now) in
         Adds M.seen m (price_read r (name r (key_lem.Effect config at number))) sum result }
 {
-    let here = standing(net, config);
-    let at = object(net, at);
+    let here = context_at(numbered_service, config);
+    let at = object(numbered_service, at);
     let walk = Walk { here: &here, meter };
     effect(&walk, at, number, sum)
 }
 
 fn fired_key<M: Meter>(
-    net: &NumberedService<'_>,
+    numbered_service: &NumberedService<'_>,
     meter: &M,
     config: usize,
     source: usize,
@@ -89,122 +89,130 @@ fn fired_key<M: Meter>(
     hears: Hears,
     sum: M::Sum,
 ) -> Result<M::Sum, AllocError>
-    requires config { has_config net.now config ≡ true }
-    requires object { has_object net.now source ≡ true }
-    requires hearing { has_hearing net.now (object_named net.now source) kind hears ≡ true }
-    ensures { let r = net.now in let m = through (number_of r) (M.meter meter.now) in
+    requires config { has_config numbered_service.now config ≡ true }
+    requires object { has_object numbered_service.now source ≡ true }
+    requires hearing { has_hearing numbered_service.now (object_named numbered_service.now source) kind hears ≡ true }
+    ensures { let r = numbered_service.now in let m = through (number_of r) (M.meter meter.now) in
         Adds M.seen m (price_read r (name r (key_lem.Fired config source kind hears))) sum result }
 {
-    let here = standing(net, config);
-    let source = object(net, source);
+    let here = context_at(numbered_service, config);
+    let source = object(numbered_service, source);
     let walk = Walk { here: &here, meter };
     fired(&walk, source, kind, hears, sum)
 }
 
 #[tactic(auto, using(crate::proofs::OntoLemmas::entry_adds))]
 fn entry_key<M: Meter>(
-    net: &NumberedService<'_>,
+    numbered_service: &NumberedService<'_>,
     meter: &M,
     source: usize,
     kind: EventType,
     hears: Hears,
     sum: M::Sum,
 ) -> Result<M::Sum, AllocError>
-    requires object { has_object net.now source ≡ true }
-    requires hearing { has_hearing net.now (object_named net.now source) kind hears ≡ true }
-    ensures { let r = net.now in let m = through (number_of r) (M.meter meter.now) in
+    requires object { has_object numbered_service.now source ≡ true }
+    requires hearing { has_hearing numbered_service.now (object_named numbered_service.now source) kind hears ≡ true }
+    ensures { let r = numbered_service.now in let m = through (number_of r) (M.meter meter.now) in
         Adds M.seen m (price_read r (name r (key_lem.Entry source kind hears))) sum result }
 {
-    let source = object(net, source);
-    let hears = hearing(net, source, kind, hears);
-    configs_most(net, meter, source, kind, hears, meter.one(sum))
+    let source = object(numbered_service, source);
+    let hears = hearing(numbered_service, source, kind, hears);
+    configs_most(numbered_service, meter, source, kind, hears, meter.one(sum))
 }
 
 fn change_key<M: Meter>(
-    net: &NumberedService<'_>,
+    numbered_service: &NumberedService<'_>,
     meter: &M,
     config: usize,
     list: usize,
     sum: M::Sum,
 ) -> Result<M::Sum, AllocError>
-    requires config { has_config net.now config ≡ true }
-    requires object { has_object net.now list ≡ true }
-    ensures { let r = net.now in let m = through (number_of r) (M.meter meter.now) in
+    requires config { has_config numbered_service.now config ≡ true }
+    requires object { has_object numbered_service.now list ≡ true }
+    ensures { let r = numbered_service.now in let m = through (number_of r) (M.meter meter.now) in
         Adds M.seen m (price_read r (name r (key_lem.Change config list))) sum result }
 {
-    let here = standing(net, config);
-    let list = object(net, list);
+    let here = context_at(numbered_service, config);
+    let list = object(numbered_service, list);
     change(&Walk { here: &here, meter }, list, sum)
 }
 
 fn leave_key<M: Meter>(
-    net: &NumberedService<'_>,
+    numbered_service: &NumberedService<'_>,
     meter: &M,
     config: usize,
     all: bool,
     sum: M::Sum,
 ) -> Result<M::Sum, AllocError>
-    requires config { has_config net.now config ≡ true }
-    ensures { let r = net.now in let m = through (number_of r) (M.meter meter.now) in
+    requires config { has_config numbered_service.now config ≡ true }
+    ensures { let r = numbered_service.now in let m = through (number_of r) (M.meter meter.now) in
         Adds M.seen m (price_read r (name r (key_lem.Leave config all))) sum result }
 {
-    let here = standing(net, config);
+    let here = context_at(numbered_service, config);
     leave(&Walk { here: &here, meter }, all, sum)
 }
 
 fn enter_key<M: Meter>(
-    net: &NumberedService<'_>,
+    numbered_service: &NumberedService<'_>,
     meter: &M,
     config: usize,
     sum: M::Sum,
 ) -> Result<M::Sum, AllocError>
-    requires config { has_config net.now config ≡ true }
-    ensures { let r = net.now in let m = through (number_of r) (M.meter meter.now) in
+    requires config { has_config numbered_service.now config ≡ true }
+    ensures { let r = numbered_service.now in let m = through (number_of r) (M.meter meter.now) in
         Adds M.seen m (price_read r (name r (key_lem.Enter config))) sum result }
 {
-    let here = standing(net, config);
+    let here = context_at(numbered_service, config);
     entering(&Walk { here: &here, meter }, sum)
 }
 
 fn taken_key<M: Meter>(
-    net: &NumberedService<'_>,
+    numbered_service: &NumberedService<'_>,
     meter: &M,
     config: usize,
     kind: InputKind,
     sum: M::Sum,
 ) -> Result<M::Sum, AllocError>
-    requires config { has_config net.now config ≡ true }
-    ensures { let r = net.now in let m = through (number_of r) (M.meter meter.now) in
+    requires config { has_config numbered_service.now config ≡ true }
+    ensures { let r = numbered_service.now in let m = through (number_of r) (M.meter meter.now) in
         Adds M.seen m (price_read r (name r (key_lem.Taken config kind))) sum result }
 {
-    let here = standing(net, config);
+    let here = context_at(numbered_service, config);
     taken(&Walk { here: &here, meter }, kind, sum)
 }
 
 /// What the key with this number comes to.
 pub(crate) fn price<M: Meter>(
-    net: &NumberedService<'_>,
+    numbered_service: &NumberedService<'_>,
     meter: &M,
     key: &NodeKey,
     sum: M::Sum,
 ) -> Result<M::Sum, AllocError>
-    requires { has_names net.now key.now ≡ true }
-    ensures { let r = net.now in let m = through (number_of r) (M.meter meter.now) in
+    requires { has_names numbered_service.now key.now ≡ true }
+    ensures { let r = numbered_service.now in let m = through (number_of r) (M.meter meter.now) in
         Adds M.seen m (price_read r (name r key.now)) sum result }
 {
     match key {
         NodeKey::Effect(config, at, number) => {
-            effect_key(net, meter, *config, *at, *number, sum)
+            effect_key(numbered_service, meter, *config, *at, *number, sum)
         }
         NodeKey::Fired(config, source, kind, hears) => {
-            fired_key(net, meter, *config, *source, *kind, *hears, sum)
+            fired_key(
+                numbered_service,
+                meter,
+                *config,
+                *source,
+                *kind,
+                *hears,
+                sum,
+            )
         }
         NodeKey::Entry(source, kind, hears) => {
-            entry_key(net, meter, *source, *kind, *hears, sum)
+            entry_key(numbered_service, meter, *source, *kind, *hears, sum)
         }
-        NodeKey::Change(config, list) => change_key(net, meter, *config, *list, sum),
-        NodeKey::Leave(config, all) => leave_key(net, meter, *config, *all, sum),
-        NodeKey::Enter(config) => enter_key(net, meter, *config, sum),
-        NodeKey::Taken(config, kind) => taken_key(net, meter, *config, *kind, sum),
+        NodeKey::Change(config, list) => change_key(numbered_service, meter, *config, *list, sum),
+        NodeKey::Leave(config, all) => leave_key(numbered_service, meter, *config, *all, sum),
+        NodeKey::Enter(config) => enter_key(numbered_service, meter, *config, sum),
+        NodeKey::Taken(config, kind) => taken_key(numbered_service, meter, *config, *kind, sum),
     }
 }

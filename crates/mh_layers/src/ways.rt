@@ -37,29 +37,33 @@ use std::alloc::{AllocError, Global};
 use std::slice;
 
 /// The configurations in which an input of the kind may be taken.
-fn configs_for<'b>(net: &'b NumberedService<'_>, start: &'b Config, kind: InputKind) -> &'b [Config]
-    requires { start.now ≡ starting_lem net.now.service }
-    ensures { result.now ≡ configs_for net.now.service (flow_read net.now) kind }
+fn configs_for<'b>(
+    numbered_service: &'b NumberedService<'_>,
+    start: &'b Config,
+    kind: InputKind,
+) -> &'b [Config]
+    requires { start.now ≡ starting_lem numbered_service.now.service }
+    ensures { result.now ≡ configs_for numbered_service.now.service (flow_read numbered_service.now) kind }
 {
     match kind {
         InputKind::Start => slice::from_ref(start),
-        _ => net.configs(),
+        _ => numbered_service.configs(),
     }
 }
 
 /// What an input of the kind costs in each of these.
 fn costs_in(
     alloc: Global,
-    net: &NumberedService<'_>,
+    numbered_service: &NumberedService<'_>,
     laying: &Laying,
     configs: &[Config],
     kind: InputKind,
 ) -> Result<Vec<u64>, AllocError>
-    ensures { IfOk result (λ costs. costs.items ≡ map (taken_laid net.now laying.now kind) configs.now) }
+    ensures { IfOk result (λ costs. costs.items ≡ map (taken_laid numbered_service.now laying.now kind) configs.now) }
 {
     let mut costs = Vec::new(alloc);
     for config in configs {
-        costs.push(cost_in_config(net, laying, config, kind))?;
+        costs.push(cost_in_config(numbered_service, laying, config, kind))?;
     }
     Ok(costs)
 }
@@ -67,20 +71,25 @@ fn costs_in(
 /// The way of the kind that begins in this configuration, where it costs so much.
 fn way_in(
     alloc: Global,
-    net: &NumberedService<'_>,
+    numbered_service: &NumberedService<'_>,
     laying: &Laying,
     config: &Config,
     kind: InputKind,
     cost: u64,
 ) -> Result<Way, AllocError>
-    requires reading { IsReading net.now }
-    requires layers { AreLayers (price net.now) (kept net.now) laying.now }
-    requires laid { list_all (is_laid laying.now) (root_keys net.now) ≡ true }
-    requires reached { reached (flow_read net.now) config.now ≡ true }
-    ensures { IfOk result (λ way. IsWayIn net.now config.now kind cost way) }
+    requires reading { IsReading numbered_service.now }
+    requires layers { AreLayers (price numbered_service.now) (kept numbered_service.now) laying.now }
+    requires laid { list_all (is_laid laying.now) (root_keys numbered_service.now) ≡ true }
+    requires reached { reached (flow_read numbered_service.now) config.now ≡ true }
+    ensures { IfOk result (λ way. IsWayIn numbered_service.now config.now kind cost way) }
 {
-    let number = net.config_number(config);
-    let stages = stages_from(alloc, net, laying, NodeKey::Taken(number, kind))?;
+    let number = numbered_service.config_number(config);
+    let stages = stages_from(
+        alloc,
+        numbered_service,
+        laying,
+        NodeKey::Taken(number, kind),
+    )?;
     let copy = copied_config(config)?;
     Ok(Way {
         kind,
@@ -101,24 +110,24 @@ fn config_at<'b>(configs: &'b [Config], place: usize) -> &'b Config
 /// The dearest way of the kind.
 fn way_of(
     alloc: Global,
-    net: &NumberedService<'_>,
+    numbered_service: &NumberedService<'_>,
     laying: &Laying,
     start: &Config,
     kind: InputKind,
 ) -> Result<Way, AllocError>
-    requires reading { IsReading net.now }
-    requires layers { AreLayers (price net.now) (kept net.now) laying.now }
-    requires laid { list_all (is_laid laying.now) (root_keys net.now) ≡ true }
-    requires start { start.now ≡ starting_lem net.now.service }
-    ensures { IfOk result (IsWayOf net.now kind) }
+    requires reading { IsReading numbered_service.now }
+    requires layers { AreLayers (price numbered_service.now) (kept numbered_service.now) laying.now }
+    requires laid { list_all (is_laid laying.now) (root_keys numbered_service.now) ≡ true }
+    requires start { start.now ≡ starting_lem numbered_service.now.service }
+    ensures { IfOk result (IsWayOf numbered_service.now kind) }
 {
-    let configs = configs_for(net, start, kind);
-    let costs = costs_in(alloc, net, laying, configs, kind)?;
+    let configs = configs_for(numbered_service, start, kind);
+    let costs = costs_in(alloc, numbered_service, laying, configs, kind)?;
     let numbers = costs.as_slice();
     let place = first_largest(numbers);
     let config = config_at(configs, place);
     let cost = number_at(numbers, place);
-    let way = way_in(alloc, net, laying, config, kind, cost)?;
+    let way = way_in(alloc, numbered_service, laying, config, kind, cost)?;
     Ok(way)
 }
 
@@ -126,20 +135,20 @@ fn way_of(
 #[tactic(auto, using(crate::proofs::WayLemmas::ways_all))]
 fn ways_of(
     alloc: Global,
-    net: &NumberedService<'_>,
+    numbered_service: &NumberedService<'_>,
     laying: &Laying,
     start: &Config,
     kinds: &[InputKind],
 ) -> Result<Vec<Way>, AllocError>
-    requires reading { IsReading net.now }
-    requires layers { AreLayers (price net.now) (kept net.now) laying.now }
-    requires laid { list_all (is_laid laying.now) (root_keys net.now) ≡ true }
-    requires start { start.now ≡ starting_lem net.now.service }
-    ensures { IfOk result (λ ways. AreWays net.now kinds.now ways.items) }
+    requires reading { IsReading numbered_service.now }
+    requires layers { AreLayers (price numbered_service.now) (kept numbered_service.now) laying.now }
+    requires laid { list_all (is_laid laying.now) (root_keys numbered_service.now) ≡ true }
+    requires start { start.now ≡ starting_lem numbered_service.now.service }
+    ensures { IfOk result (λ ways. AreWays numbered_service.now kinds.now ways.items) }
 {
     let mut ways = Vec::new(alloc);
     for kind in kinds {
-        ways.push(way_of(alloc, net, laying, start, *kind)?)?;
+        ways.push(way_of(alloc, numbered_service, laying, start, *kind)?)?;
     }
     Ok(ways)
 }
@@ -157,16 +166,16 @@ const KINDS: [InputKind; 6] = [
 /// The dearest way of each kind, where these layers are laid.
 fn ways_in(
     alloc: Global,
-    net: &NumberedService<'_>,
+    numbered_service: &NumberedService<'_>,
     laying: &Laying,
 ) -> Result<Vec<Way>, AllocError>
-    requires reading { IsReading net.now }
-    requires layers { AreLayers (price net.now) (kept net.now) laying.now }
-    requires laid { list_all (is_laid laying.now) (root_keys net.now) ≡ true }
-    ensures { IfOk result (λ ways. AreDearestWays net.now.service (flow_read net.now) ways.items) }
+    requires reading { IsReading numbered_service.now }
+    requires layers { AreLayers (price numbered_service.now) (kept numbered_service.now) laying.now }
+    requires laid { list_all (is_laid laying.now) (root_keys numbered_service.now) ≡ true }
+    ensures { IfOk result (λ ways. AreDearestWays numbered_service.now.service (flow_read numbered_service.now) ways.items) }
 {
-    let start = starting(net.service())?;
-    let ways = ways_of(alloc, net, laying, &start, &KINDS)?;
+    let start = starting(numbered_service.service())?;
+    let ways = ways_of(alloc, numbered_service, laying, &start, &KINDS)?;
     Ok(ways)
 }
 
@@ -181,11 +190,11 @@ pub fn dearest_ways(
     ensures ways { IfOk result (λ ways. AreDearestWays service.now (flow_in service.now flow.now) ways.items) }
     ensures cycle { IsErrOf result LayersError.Cycle → (rank : _) → IsLayering service.now (flow_in service.now flow.now) rank → ⊥ }
 {
-    let net = NumberedService::of(alloc, service, flow)?;
-    net.read();
-    let keys = roots(alloc, &net)?;
-    match lay(alloc, &net, keys.as_slice()) {
-        Ok(laying) => Ok(ways_in(alloc, &net, &laying)?),
+    let numbered_service = NumberedService::of(alloc, service, flow)?;
+    numbered_service.read();
+    let keys = roots(alloc, &numbered_service)?;
+    match lay(alloc, &numbered_service, keys.as_slice()) {
+        Ok(laying) => Ok(ways_in(alloc, &numbered_service, &laying)?),
         Err(why) => Err(why),
     }
 }

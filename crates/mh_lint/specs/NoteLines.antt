@@ -9,13 +9,14 @@ use Rattle.mh_text.specs.declared.mark.Mark.{Mark}
 use Rattle.mh_text.specs.Marks.{mark_of, marks}
 use Rattle.mh_told.specs.Reading.{Source}
 use Rattle.mh_lint.specs.declared.note.Note.{Note}
-use Rattle.mh_lint.specs.declared.place.Place.{Place}
+use Rattle.mh_places.specs.declared.place.Place.{Place}
+use Rattle.mh_places.specs.Places.{place_at}
 use Rattle.mh_lint.specs.declared.rule.Allowed.{Allowed}
 use Rattle.mh_lint.specs.declared.rule.Rule.{Rule}
 use Rattle.mh_lint.specs.Notes.{ends_in}
 use Rattle.mh_lint.specs.Rules.{has, rule_text, rule_word}
 use Rattle.mh_lint.specs.Sources.{allow_words, file_of}
-use Rattle.mh_lint.specs.Telling.{front_words, object_words, place_behind, place_words}
+use Rattle.mh_lint.specs.Telling.{front_words, object_words, place_words}
 
 -- WHICH ARE TOLD
 
@@ -39,7 +40,7 @@ is_allowed a fs n = has a n.rule || file_allows (file_of fs n.at.group) (comment
 -- PLACES
 
 abbrev pub act_place_in : List ℕ → ℕ → ℕ → Option Place
-act_place_in bs object index = option_map (λ (m : Mark). place_behind (take m.start bs)) (mark_of (marks bs) object index)
+act_place_in bs object index = option_map (λ (m : Mark). place_at bs m.start) (mark_of (marks bs) object index)
 
 abbrev pub act_place_if : Option Source → ℕ → ℕ → Option Place
 act_place_if None object index = None

@@ -1,5 +1,5 @@
 -- What is noted of objects, without a theorem: what seems to be a mistake by the rule of an action or of a class alone.
-use Rattle.std.specs.Prelude.{ℕ, ◌+◌, ◌-◌, ◌==◌, Bool, true, false, ◌&&◌, ◌||◌, not, if◌then◌else◌, List, [], ◌∷◌, ◌++◌, drop, length, codes, Option, Some, None, pos, int_lt}
+use Rattle.std.specs.Prelude.{ℕ, ◌+◌, ◌-◌, ◌==◌, Bool, true, false, ◌&&◌, ◌||◌, not, if◌then◌else◌, List, [], ◌∷◌, ◌++◌, drop, length, codes, Option, Some, None, ℤ, pos, int_lt}
 use Rattle.std.specs.List.{flat_map, list_any, position}
 use Rattle.std.specs.Ordering.{int_eq}
 use Rattle.std.specs.Str.{bytes_eq}
@@ -12,7 +12,7 @@ use Rattle.mh_group.specs.declared.action_name.ActionName.{ActionName}
 use Rattle.mh_group.specs.declared.action_name.ActionName.TheVariants as action
 use Rattle.mh_group.specs.declared.attribute.Attribute.TheVariants as attribute
 use Rattle.mh_group.specs.declared.class.Class.{Class}
-use Rattle.mh_group.specs.Table.{is_application, is_link, is_variable, is_visible}
+use Rattle.mh_group.specs.Table.{is_application, is_link, is_scene, is_variable, is_visible}
 use Rattle.mh_model.specs.declared.act.Act.{Act}
 use Rattle.mh_model.specs.declared.act.Argument.{Argument}
 use Rattle.mh_model.specs.declared.act.Argument.TheVariants as argument
@@ -21,19 +21,21 @@ use Rattle.mh_model.specs.declared.act.Target.TheVariants as target
 use Rattle.mh_model.specs.declared.object.Fixed.{Fixed}
 use Rattle.mh_model.specs.declared.object.member.Member.{Member}
 use Rattle.mh_model.specs.Groups.{is_initially_active, is_shared}
+use Rattle.mh_model.specs.declared.key.Key.{Key}
+use Rattle.mh_model.specs.Key.{key_number, keys, passes}
 use Rattle.mh_model.specs.Late.{is_late_scene}
-use Rattle.mh_model.specs.Property.{held, as_effect, as_event, as_value}
+use Rattle.mh_model.specs.Property.{held, as_effect, as_event, as_int, as_value}
+use Rattle.mh_model.specs.Reference.{same_ref}
 use Rattle.mh_model.specs.Service.{Service}
 use Rattle.mh_model.specs.Tokens.{members}
 use Rattle.mh_told.specs.Reading.{Source}
-use Rattle.mh_lint.specs.declared.heard.Heard.{Heard}
 use Rattle.mh_lint.specs.declared.note.Note.{Note}
 use Rattle.mh_lint.specs.declared.rule.Rule.{Rule}
 use Rattle.mh_lint.specs.declared.rule.Rule.TheVariants as rule
 use Rattle.mh_lint.specs.declared.seen.Seen.{Seen}
 use Rattle.mh_lint.specs.Sights.{covers_none, cuts_words, hides_words, is_off}
 use Rattle.mh_lint.specs.Sources.{file_of, has_unknown, is_called_else, is_to_come}
-use Rattle.mh_lint.specs.Uses.{Uses, is_heard, is_used, uses}
+use Rattle.mh_lint.specs.Uses.{Uses, is_among, is_timing, is_used, uses, waits_in_vain}
 
 -- of the action with this number of the object, from 1 on, or with 0 of the object itself
 abbrev pub note : Rule → ObjRef → ℕ → Note
@@ -98,17 +100,18 @@ leaves gs _ t = false
 abbrev pub leaves_at_once : List (List ℕ) → Act → Bool
 leaves_at_once gs a = leaves gs a.name a.target
 
--- a timer that is set with a number of its own, and that no link hears
-abbrev pub sets_unheard : List Heard → Target → List Argument → Bool
-sets_unheard hs (target.Direct r) (argument.Direct (value.Int n) ∷ moment ∷ more) = not (is_heard hs r n)
-sets_unheard hs _ _ = false
+-- a timer is not heard, and no link of those that wait for one of its group waits in vain: else one of the numbers is the
+-- mistake, and that link has its line
+abbrev pub is_lone : Uses → ObjRef → ℤ → Bool
+is_lone u r n = not (is_among u.heard r n) && not (list_any (waits_in_vain u.timed r) u.heard)
 
-abbrev pub is_timing : ActionName → Bool
-is_timing action.SetTimer = true
-is_timing _ = false
+-- a timer that is set with a number of its own, and that no link hears
+abbrev pub sets_unheard : Uses → Target → List Argument → Bool
+sets_unheard u (target.Direct r) (argument.Direct (value.Int n) ∷ moment ∷ more) = is_lone u r n
+sets_unheard u _ _ = false
 
 abbrev pub is_unheard : Uses → Act → Bool
-is_unheard u a = is_timing a.name && sets_unheard u.heard a.target a.arguments
+is_unheard u a = is_timing a.name && sets_unheard u a.target a.arguments
 
 -- THE ACTIONS OF AN OBJECT, each with whether it stands behind one that leads away
 
@@ -219,6 +222,41 @@ of_start gs p items =
     if is_application p.class && list_any is_initially_active items
     then led_away p.key (position (leaves_at_once gs) (start_up p)) else []
 
+-- KEYS. The register of a scene, as it is written, lets no key with this number through.
+
+abbrev pub is_blocked : ℤ → ℤ → Key → Bool
+is_blocked register n k = int_eq (key_number k) n && not (passes register k)
+
+unfoldable pub blocks : ℤ → ℤ → Bool
+blocks register n = list_any (is_blocked register n) keys
+
+-- the key with this number of that group is such a key of this scene
+abbrev pub is_blocked_at : ObjRef → ℤ → ObjRef → ℤ → Bool
+is_blocked_at r register s n = same_ref s r && blocks register n
+
+-- what a link waits for is such a key
+abbrev pub waits_blocked : ObjRef → ℤ → Option EventType → Option Value → Option Value → Bool
+waits_blocked r register (Some event.UserInput) (Some (value.Object s)) (Some (value.Int n)) = is_blocked_at r register s n
+waits_blocked r register _ _ _ = false
+
+abbrev pub waits_for_blocked : ObjRef → ℤ → Fixed → Bool
+waits_for_blocked r register p =
+    is_link p.class && waits_blocked r register (as_event (held attribute.EventType p.properties))
+    (as_value (held attribute.EventSource p.properties)) (as_value (held attribute.EventData p.properties))
+
+abbrev pub of_key : ObjRef → ℤ → Fixed → List Note
+of_key r register p = if_so (waits_for_blocked r register p) rule.BlockedKey p.key 0
+
+abbrev pub register_at : Fixed → ℤ
+register_at p = as_int (pos 4) (held attribute.InputEventReg p.properties)
+
+-- no action gives the scene another register
+abbrev pub keeps_register : Uses → Fixed → Bool
+keeps_register u p = is_scene p.class && not (is_used u.registered p.key)
+
+abbrev pub of_keys : Uses → Fixed → List Fixed → List Note
+of_keys u p items = if keeps_register u p then flat_map (of_key p.key (register_at p)) items else []
+
 -- by the file of a group
 unfoldable pub of_file : List Source → ObjRef → List Note
 of_file fs r =
@@ -230,11 +268,15 @@ of_file fs r =
 abbrev pub runs_items : List (List ℕ) → Fixed → Bool
 runs_items gs p = is_application p.class && not (list_any (leaves_at_once gs) (start_up p))
 
--- of a group, whose first object is the group itself
+-- of a group and its items
+unfoldable pub of_group : List Source → Uses → List (List ℕ) → Fixed → List Fixed → List Note
+of_group fs u gs p items = of_file fs p.key ++ of_start gs p items ++ of_keys u p items
+
+-- of all objects of a group, of which the first is the group itself
 abbrev pub of_parts : Bool → List Source → Uses → List (List ℕ) → List Fixed → List Note
 of_parts all fs u gs [] = []
 of_parts all fs u gs (p ∷ items) =
-    of_file fs p.key ++ of_start gs p items ++ flat_map (of_object all fs u gs (runs_items gs p)) (p ∷ items)
+    of_group fs u gs p items ++ flat_map (of_object all fs u gs (runs_items gs p)) (p ∷ items)
 
 -- of all groups, in their order
 abbrev pub notes : Bool → List Source → Service → List Note

@@ -1,10 +1,9 @@
 -- The lines of findings: where an object stands, and what of it never happens.
-use Rattle.std.specs.Prelude.{ℕ, ◌+◌, ◌-◌, ◌==◌, Bool, true, false, not, if◌then◌else◌, List, [], ◌++◌, drop, length, take, codes, Option, Some, None, ℤ, pos, int_lt, unsigned_abs}
+use Rattle.std.specs.Prelude.{ℕ, ◌==◌, Bool, true, false, not, if◌then◌else◌, List, [], ◌++◌, codes, Option, Some, None, ℤ, pos, int_lt, unsigned_abs}
 use Rattle.std.specs.Fmt.{decimal}
-use Rattle.std.specs.List.{count_by, find, flat_map, suffix_len}
+use Rattle.std.specs.List.{find, flat_map}
 use Rattle.std.specs.Option.{option_map}
 use Rattle.std.specs.Str.{bytes_eq}
-use Rattle.bstr.specs.Utf8.{lossy_chars}
 use Rattle.mh_base.specs.declared.event.EventType.{EventType}
 use Rattle.mh_base.specs.declared.obj_ref.ObjRef.{ObjRef}
 use Rattle.mh_base.specs.declared.value.Value.{Value}
@@ -16,9 +15,10 @@ use Rattle.mh_model.specs.Property.{held, as_event, as_value}
 use Rattle.mh_model.specs.Service.{Service, group_parts, part_at}
 use Rattle.mh_text.specs.Landmarks.{Landmark, Sight, Class, Number, Name, landmarks}
 use Rattle.mh_told.specs.Reading.{Source}
+use Rattle.mh_places.specs.declared.place.Place.{Place}
+use Rattle.mh_places.specs.Places.{place_at, place_text}
 use Rattle.mh_lint.specs.declared.finding.Finding.{Finding}
 use Rattle.mh_lint.specs.declared.finding.Finding.TheVariants as finding
-use Rattle.mh_lint.specs.declared.place.Place.{Place}
 
 -- Places
 
@@ -28,19 +28,8 @@ is_object n Class = n == 0
 is_object n (Number m) = n == m
 is_object n (Name w) = false
 
-abbrev pub is_no_feed : ℕ → Bool
-is_no_feed b = not (b == 10)
-
--- what stands behind the last line feed
-abbrev pub last_line : List ℕ → List ℕ
-last_line bs = drop (length bs - suffix_len is_no_feed bs) bs
-
--- the line and the column behind these bytes, both from 1 on; a column is a character
-abbrev pub place_behind : List ℕ → Place
-place_behind bs = record { line = 1 + count_by (λ b. b == 10) bs; column = 1 + length (lossy_chars (last_line bs)) }
-
 unfoldable pub place_in : List ℕ → ℕ → Option Place
-place_in bs n = option_map (λ (l : Landmark). place_behind (take l.start bs)) (find (λ (l : Landmark). is_object n l.sight) (landmarks bs))
+place_in bs n = option_map (λ (l : Landmark). place_at bs l.start) (find (λ (l : Landmark). is_object n l.sight) (landmarks bs))
 
 abbrev pub place_if : Option Source → ℕ → Option Place
 place_if None n = None
@@ -51,7 +40,7 @@ place_of fs r = place_if (find (λ (f : Source). bytes_eq f.0 r.group) fs) r.num
 
 unfoldable pub place_words : Option Place → List ℕ
 place_words None = []
-place_words (Some p) = decimal p.line ++ codes ":" ++ decimal p.column ++ codes ":"
+place_words (Some p) = place_text p ++ codes ":"
 
 -- the file, and the place in it where that is found
 unfoldable pub front_words : List Source → ObjRef → List ℕ

@@ -1,6 +1,6 @@
 -- What the actions of a service are done to, wherever they stand and whether or not they are ever done; and what links wait for
 -- timers.
-use Rattle.std.specs.Prelude.{Bool, true, false, if◌then◌else◌, List, [], ◌∷◌, ◌++◌, map, Option, Some, None, ℤ}
+use Rattle.std.specs.Prelude.{Bool, true, false, not, if◌then◌else◌, List, [], ◌∷◌, ◌++◌, map, Option, Some, None, ℤ}
 use Rattle.std.specs.List.{flat_map, list_any}
 use Rattle.std.specs.Ordering.{int_eq}
 use Rattle.mh_base.specs.declared.event.EventType.{EventType}
@@ -24,7 +24,7 @@ use Rattle.mh_model.specs.Property.{held, as_event, as_value}
 use Rattle.mh_model.specs.Reference.{same_ref}
 use Rattle.mh_model.specs.Service.{Service}
 use Rattle.mh_model.specs.Tokens.{members}
-use Rattle.mh_lint.specs.declared.heard.Heard.{Heard}
+use Rattle.mh_lint.specs.declared.timers.Timers.{Timers}
 use Rattle.mh_lint.specs.declared.uses.Change.{Change}
 use Rattle.mh_lint.specs.declared.uses.Change.TheVariants as change
 
@@ -37,6 +37,7 @@ changes change.Words action.SetLabel = true
 changes change.Colour action.SetTextColour = true
 changes change.Running action.Run = true
 changes change.Running action.Activate = true
+changes change.Register action.SetInputRegister = true
 changes c n = false
 
 -- what an action is done to that changes this
@@ -97,16 +98,29 @@ read_by a = tested_by a ++ gone_through a.target ++ flat_map (read_argument (is_
 -- TIMERS
 
 -- what a link that waits for this hears of timers: that with a number, or all of the group
-abbrev pub heard : Option EventType → Option Value → Option Value → List Heard
+abbrev pub heard : Option EventType → Option Value → Option Value → List Timers
 heard (Some event.TimerFired) (Some (value.Object r)) None = record { at = r; id = None } ∷ []
 heard (Some event.TimerFired) (Some (value.Object r)) (Some (value.Int n)) = record { at = r; id = Some n } ∷ []
 heard _ _ _ = []
 
-abbrev pub heard_by : Fixed → List Heard
+abbrev pub heard_by : Fixed → List Timers
 heard_by p =
     if is_link p.class
     then heard (as_event (held attribute.EventType p.properties)) (as_value (held attribute.EventSource p.properties)) (as_value (held attribute.EventData p.properties))
     else []
+
+abbrev pub is_timing : ActionName → Bool
+is_timing action.SetTimer = true
+is_timing _ = false
+
+-- what an action sets: the timer of its number where that is written, else any of the group
+abbrev pub set : Target → List Argument → List Timers
+set (target.Direct r) (argument.Direct (value.Int n) ∷ more) = record { at = r; id = Some n } ∷ []
+set (target.Direct r) more = record { at = r; id = None } ∷ []
+set (target.Through x) more = []
+
+abbrev pub set_by : Act → List Timers
+set_by a = if is_timing a.name then set a.target a.arguments else []
 
 -- ALL OF A SERVICE
 
@@ -117,16 +131,18 @@ is_transit _ = false
 abbrev pub objects : Service → List Fixed
 objects v = flat_map (λ g. g.1) v.groups
 
--- what is moved, given another size, other words, another colour of its text; what is run; which variables are read; what is
--- heard of timers; and that there is a transition
+-- what is moved, given another size, other words, another colour of its text, another register; what is run; which variables
+-- are read; which timers are heard and which are set; and that there is a transition
 pub record Uses : Type 0 where
   pub moved : List Target
   pub resized : List Target
   pub reworded : List Target
   pub tinted : List Target
+  pub registered : List Target
   pub run : List Target
   pub read : List Target
-  pub heard : List Heard
+  pub heard : List Timers
+  pub timed : List Timers
   pub has_transition : Bool
 
 abbrev pub uses_of : List Fixed → List Act → Uses
@@ -135,9 +151,11 @@ uses_of ps acts = record {
   resized = flat_map (changed_by change.Size) acts;
   reworded = flat_map (changed_by change.Words) acts;
   tinted = flat_map (changed_by change.Colour) acts;
+  registered = flat_map (changed_by change.Register) acts;
   run = flat_map (changed_by change.Running) acts ++ flat_map added_by acts ++ flat_map grouped_by ps;
   read = flat_map read_by acts;
   heard = flat_map heard_by ps;
+  timed = flat_map set_by acts;
   has_transition = list_any (λ a. is_transit a.name) acts;
 }
 
@@ -154,13 +172,21 @@ may_be r (target.Through x) = true
 abbrev pub is_used : List Target → ObjRef → Bool
 is_used ts r = list_any (may_be r) ts
 
--- the timer with this number of the group may be heard
-abbrev pub hears_number : Option ℤ → ℤ → Bool
-hears_number None n = true
-hears_number (Some m) n = int_eq m n
+-- the timer with this number of the group may be one of these
+abbrev pub has_number : Option ℤ → ℤ → Bool
+has_number None n = true
+has_number (Some m) n = int_eq m n
 
-abbrev pub hears : ObjRef → ℤ → Heard → Bool
-hears r n h = if same_ref r h.at then hears_number h.id n else false
+abbrev pub may_be_timer : ObjRef → ℤ → Timers → Bool
+may_be_timer r n t = if same_ref r t.at then has_number t.id n else false
 
-abbrev pub is_heard : List Heard → ObjRef → ℤ → Bool
-is_heard hs r n = list_any (hears r n) hs
+abbrev pub is_among : List Timers → ObjRef → ℤ → Bool
+is_among ts r n = list_any (may_be_timer r n) ts
+
+-- a link waits for a timer of the group with a number that none of these has, whose line tells so
+abbrev pub is_unset : List Timers → ObjRef → Option ℤ → Bool
+is_unset ts r None = false
+is_unset ts r (Some n) = not (is_among ts r n)
+
+abbrev pub waits_in_vain : List Timers → ObjRef → Timers → Bool
+waits_in_vain ts r h = if same_ref r h.at then is_unset ts r h.id else false

@@ -5,10 +5,11 @@ ghost use Rattle.std.specs.Prelude.{◌≡◌};
 ghost use Rattle.std.specs.List.{list_any};
 ghost use Rattle.mh_model.specs.Late.{is_late_scene};
 ghost use Rattle.mh_lint.specs.Notes as spec;
+ghost use Rattle.mh_lint.specs.Uses.{waits_in_vain};
 
-use crate::heard::Heard;
-use crate::uses::{Uses, is_heard};
-use mh_base::{GroupName, Value};
+use crate::timers::Timers;
+use crate::uses::{Uses, is_among, is_timing, waits_in_vain};
+use mh_base::{GroupName, ObjRef, Value};
 use mh_group::ActionName;
 use mh_model::{Act, Argument, Target};
 
@@ -133,28 +134,36 @@ pub(crate) fn leaves_at_once(late: &[GroupName], act: &Act) -> bool
     leaves(late, act.name, &act.target)
 }
 
+/// Whether no link hears the timer with this number of the group, and none waits in vain for another of it.
+fn is_lone(uses: &Uses, group: &ObjRef, number: i32) -> bool
+    ensures { result ≡ spec.is_lone uses.now group.now number }
+{
+    let (heard, timed) = (uses.heard.as_slice(), uses.timed.as_slice());
+    !is_among(heard, group, number) && !has_vain(timed, group, heard)
+}
+
+/// Whether a link waits in vain for a timer of the group.
+fn has_vain(timed: &[Timers], group: &ObjRef, heard: &[Timers]) -> bool
+    ensures { result ≡ list_any (waits_in_vain timed.now group.now) heard.now }
+{
+    heard.iter().any(|one| waits_in_vain(timed, group, one))
+}
+
 /// Whether a timer is set with a number of its own, and no link hears it.
-fn sets_unheard(heard: &[Heard], target: &Target, arguments: &[Argument]) -> bool
-    ensures { result ≡ spec.sets_unheard heard.now target.now arguments.now }
+fn sets_unheard(uses: &Uses, target: &Target, arguments: &[Argument]) -> bool
+    ensures { result ≡ spec.sets_unheard uses.now target.now arguments.now }
 {
     match (target, arguments) {
         (Target::Direct(group), [Argument::Direct(Value::Int(number)), _, ..]) => {
-            !is_heard(heard, group, *number)
+            is_lone(uses, group, *number)
         }
         _ => false,
     }
-}
-
-fn is_timing(name: ActionName) -> bool
-    ensures { result ≡ spec.is_timing name }
-{
-    matches!(name, ActionName::SetTimer)
 }
 
 /// Whether it sets a timer that no link hears.
 pub(crate) fn is_unheard(uses: &Uses, act: &Act) -> bool
     ensures { result ≡ spec.is_unheard uses.now act.now }
 {
-    is_timing(act.name)
-        && sets_unheard(uses.heard.as_slice(), &act.target, act.arguments.as_slice())
+    is_timing(act.name) && sets_unheard(uses, &act.target, act.arguments.as_slice())
 }

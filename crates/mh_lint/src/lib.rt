@@ -9,7 +9,7 @@ mod acts;
 mod ending;
 mod finding;
 mod findings;
-mod heard;
+mod keys;
 mod lint;
 mod note;
 mod note_lines;
@@ -23,6 +23,7 @@ mod sharing;
 mod sights;
 mod sources;
 mod telling;
+mod timers;
 mod uses;
 
 pub use finding::Finding;

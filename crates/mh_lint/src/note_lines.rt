@@ -9,12 +9,13 @@ ghost use Rattle.mh_lint.specs.NoteLines as spec;
 
 use crate::ending::ends_in;
 use crate::note::Note;
-use crate::place::{Place, file_of, front_of, place_behind};
+use crate::place::file_of;
 use crate::rule::{Allowed, Rule};
-use crate::telling::{put_front, put_object, put_place};
+use crate::telling::{put_front, put_front_place, put_object};
 use bstr::ByteSlice;
 use mh_base::{GroupName, ObjRef};
 use mh_flow::Equipped;
+use mh_places::{Place, place_at};
 use mh_text::{mark_of, marks};
 use mh_told::text::Text;
 use std::alloc::{AllocError, Global};
@@ -88,7 +89,7 @@ fn act_place_in(
     let marks = marks(alloc, bytes)?;
     match mark_of(marks.as_slice(), object, index) {
         None => Ok(None),
-        Some(mark) => Ok(Some(place_behind(front_of(bytes, mark.start)))),
+        Some(mark) => Ok(Some(place_at(bytes, mark.start))),
     }
 }
 
@@ -121,7 +122,7 @@ fn put_act_front(
     let place = act_place(alloc, files, at, index)?;
     text.put(at.group.as_bytes())?;
     text.put(b":")?;
-    put_place(text, place)
+    put_front_place(text, place)
 }
 
 /// Puts the file, and the place in it of the object, or of its action with this number.

@@ -7,25 +7,24 @@ ghost use Rattle.std.specs.Option.{option_copied};
 ghost use Rattle.mh_lint.specs.Telling as spec;
 
 use crate::finding::Finding;
-use crate::place::{Place, place_of};
+use crate::place::place_of;
 use mh_base::{EventType, GroupName, ObjRef, Value};
 use mh_flow::Equipped;
 use mh_group::{Attribute, event_word};
 use mh_model::Fixed;
 use mh_model::held::{as_event, as_value};
+use mh_places::{Place, put_place};
 use mh_told::text::Text;
 use std::alloc::{AllocError, Global};
 
 #[tactic(auto, unfolding(crate::specs::Telling::place_words))]
-pub(crate) fn put_place(text: &mut Text, place: Option<Place>) -> Result<(), AllocError>
+pub(crate) fn put_front_place(text: &mut Text, place: Option<Place>) -> Result<(), AllocError>
     ensures { OnOk result (text.new ≡ text.old ++ spec.place_words place) }
 {
     match place {
         None => Ok(()),
         Some(place) => {
-            text.put_number(place.line as u64)?;
-            text.put(b":")?;
-            text.put_number(place.column as u64)?;
+            put_place(text, place)?;
             text.put(b":")
         }
     }
@@ -44,7 +43,7 @@ pub(crate) fn put_front(
     let place = place_of(alloc, files, at)?;
     text.put(at.group.as_bytes())?;
     text.put(b":")?;
-    put_place(text, place)
+    put_front_place(text, place)
 }
 
 #[tactic(auto, unfolding(crate::specs::Telling::class_words))]

@@ -8,7 +8,7 @@ pub(crate) mod reading;
 ghost use Rattle.std.specs.Prelude.{◌≡◌};
 ghost use Rattle.mh_lint.specs.Uses as spec;
 
-use crate::heard::Heard;
+use crate::timers::Timers;
 use mh_base::ObjRef;
 use mh_group::ActionName;
 use mh_model::Target;
@@ -26,19 +26,23 @@ pub enum Change {
     Colour,
     /// That it runs, or hears.
     Running,
+    /// Which keys a scene hears.
+    Register,
 }
 
-/// What is moved, given another size, other words, another colour of its text; what is run; which variables are read; what is
-/// heard of timers; and that there is a transition.
+/// What is moved, given another size, other words, another colour of its text, another register; what is run; which
+/// variables are read; which timers are heard and which are set; and that there is a transition.
 #[derive(Drop)]
 pub(crate) struct Uses {
     pub moved: Vec<Target>,
     pub resized: Vec<Target>,
     pub reworded: Vec<Target>,
     pub tinted: Vec<Target>,
+    pub registered: Vec<Target>,
     pub run: Vec<Target>,
     pub read: Vec<Target>,
-    pub heard: Vec<Heard>,
+    pub heard: Vec<Timers>,
+    pub timed: Vec<Timers>,
     pub has_transition: bool,
 }
 
@@ -52,9 +56,11 @@ impl Model for Uses {
       resized = u.resized.items;
       reworded = u.reworded.items;
       tinted = u.tinted.items;
+      registered = u.registered.items;
       run = u.run.items;
       read = u.read.items;
       heard = u.heard.items;
+      timed = u.timed.items;
       has_transition = u.has_transition;
     } };
 }
@@ -69,6 +75,7 @@ pub(crate) fn changes(change: Change, name: ActionName) -> bool
         Change::Words => matches!(name, ActionName::SetData | ActionName::SetLabel),
         Change::Colour => matches!(name, ActionName::SetTextColour),
         Change::Running => matches!(name, ActionName::Run | ActionName::Activate),
+        Change::Register => matches!(name, ActionName::SetInputRegister),
     }
 }
 
@@ -88,8 +95,8 @@ pub(crate) fn is_used(targets: &[Target], at: &ObjRef) -> bool
     targets.iter().any(|target| may_be(at, target))
 }
 
-fn hears_number(id: Option<i32>, number: i32) -> bool
-    ensures { result ≡ spec.hears_number id number }
+fn has_number(id: Option<i32>, number: i32) -> bool
+    ensures { result ≡ spec.has_number id number }
 {
     match id {
         None => true,
@@ -97,19 +104,46 @@ fn hears_number(id: Option<i32>, number: i32) -> bool
     }
 }
 
-fn hears(at: &ObjRef, number: i32, heard: &Heard) -> bool
-    ensures { result ≡ spec.hears at.now number heard.now }
+fn may_be_timer(at: &ObjRef, number: i32, timers: &Timers) -> bool
+    ensures { result ≡ spec.may_be_timer at.now number timers.now }
 {
-    if same_ref(at, &heard.at) {
-        hears_number(heard.id, number)
+    if same_ref(at, &timers.at) {
+        has_number(timers.id, number)
     } else {
         false
     }
 }
 
-/// Whether the timer with this number of the group may be heard.
-pub(crate) fn is_heard(heard: &[Heard], at: &ObjRef, number: i32) -> bool
-    ensures { result ≡ spec.is_heard heard.now at.now number }
+/// Whether the timer with this number of the group may be one of these.
+pub(crate) fn is_among(timers: &[Timers], at: &ObjRef, number: i32) -> bool
+    ensures { result ≡ spec.is_among timers.now at.now number }
 {
-    heard.iter().any(|one| hears(at, number, one))
+    timers.iter().any(|one| may_be_timer(at, number, one))
+}
+
+fn is_unset(timed: &[Timers], at: &ObjRef, id: Option<i32>) -> bool
+    ensures { result ≡ spec.is_unset timed.now at.now id }
+{
+    match id {
+        None => false,
+        Some(number) => !is_among(timed, at, number),
+    }
+}
+
+/// Whether a link that hears this waits for a timer of the group that is never set.
+pub(crate) fn waits_in_vain(timed: &[Timers], at: &ObjRef, heard: &Timers) -> bool
+    ensures { result ≡ spec.waits_in_vain timed.now at.now heard.now }
+{
+    if same_ref(at, &heard.at) {
+        is_unset(timed, at, heard.id)
+    } else {
+        false
+    }
+}
+
+/// Whether the action sets a timer.
+pub(crate) fn is_timing(name: ActionName) -> bool
+    ensures { result ≡ spec.is_timing name }
+{
+    matches!(name, ActionName::SetTimer)
 }

@@ -32,7 +32,7 @@ pub use doing::{Outcome, done};
 pub use explanation::case::{Case, case_of, no_case};
 pub use explanation::{Known, explanations_are_harmless, why};
 pub use files::named_file::NamedFile;
-pub use files::source::{Failure, output_of};
+pub use files::source::Failure;
 pub use image::checksum::{Adler, Crc};
 pub use image::font::is_inked;
 pub use image::image_of;

@@ -26,6 +26,5 @@ pub use convert::{Notation, convert_bytes};
 pub use options::Options;
 pub use play::play_bytes;
 pub use play_error::PlayError;
-pub use preset::preset_all;
 pub use sink::{ListSink, Sink, WriterSink};
 pub use status::Status;

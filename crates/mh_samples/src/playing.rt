@@ -7,9 +7,9 @@
 //! `octets` for a conversion. What is written ends in a line with the exit status.
 ghost use Rattle.std.specs.Prelude.{◌≡◌, ◌-◌, ◌<◌, ◌^◌};
 
-use crate::cases::{Question, bytes, number};
-use crate::examples::path_and_text;
 use mh_base::GroupName;
+use mh_cases::examples::path_and_text;
+use mh_cases::{Question, bytes, number};
 use mh_report::{
     ListSink, Notation, Options, PlayError, Sink, Status, check_bytes, convert_bytes, play_bytes,
 };

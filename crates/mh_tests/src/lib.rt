@@ -1,8 +1,10 @@
-//! Tests of the libraries through their public calls, with a file of cases for each library.
+//! Tests of the machine, the verifier and what stands between them, through public calls.
 //!
 //! What a contract says is proved where it stands. Here is what no contract says: that the
 //! definitions mean what they should, by values that were worked out by hand, by worked examples and by
-//! octets of another program.
+//! octets of another program. The tests of the notations (`mh_tests_notation`), those of reports and conversions
+//! (`mh_tests_reports`) and those of what is explained (`mh_tests_look`) stand apart, so that all are proved side
+//! by side.
 #![tactic(auto)]
 
 #[cfg(test)]
@@ -11,7 +13,3 @@ mod cases;
 mod judging;
 #[cfg(test)]
 mod machine;
-#[cfg(test)]
-mod notation;
-#[cfg(test)]
-mod reports;

@@ -1,6 +1,5 @@
 //! Services and the machine that plays them: objects, programs, files, and what is seen.
 
-pub(crate) mod calls;
 pub(crate) mod display;
 pub(crate) mod engine;
 pub(crate) mod files;

@@ -1,5 +1,5 @@
-//! The assertion over a table of cases; the rest of it stands in `mh_samples`.
-use mh_samples::cases::{Question, first_wrong};
+//! The assertion over a table of cases; the rest of it stands in `mh_cases`.
+use mh_cases::{Question, first_wrong};
 use std::alloc::Global;
 use std::process::Abort;
 

@@ -2,10 +2,11 @@
 
 mod noted;
 mod planted;
+mod refused;
 
 use crate::cases::all_hold;
+use mh_cases::{Question, said};
 use mh_look::{Allowed, Asked, lint_of};
-use mh_samples::cases::{Question, said};
 use mh_samples::playing::sources;
 use std::alloc::Global;
 
@@ -18,6 +19,7 @@ fn allowed(no_actions: bool) -> Allowed {
         start_leads_away: false,
         not_shared: false,
         no_actions,
+        blocked_key: false,
         behind_transition: false,
         division_by_zero: false,
         negative_size: false,

@@ -1,8 +1,8 @@
 //! Places in files, as an author is shown them.
 use crate::cases::all_hold;
 use bstr::ByteSlice;
+use mh_cases::{Question, number, repeated, said};
 use mh_look::place_text;
-use mh_samples::cases::{Question, number, repeated, said};
 use std::alloc::Global;
 
 /// An offset, a size, the name of a file and its bytes, and what is shown.

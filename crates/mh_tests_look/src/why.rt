@@ -20,10 +20,10 @@ mod tags;
 mod verdict;
 
 use crate::cases::all_hold;
+use mh_cases::{Question, bytes};
 use mh_flow::Link;
 use mh_layers::Arrow;
 use mh_look::{Case, Known, NamedFile, Verdict, case_of, no_case, verdict_on, ways_of, why};
-use mh_samples::cases::{Question, bytes};
 use mh_samples::playing::{File, outcome, sources};
 use std::alloc::Global;
 

@@ -18,7 +18,7 @@ use Rattle.mh_trace.specs.declared.site.EffectKind.{EffectKind}
 use Rattle.mh_trace.specs.declared.site.EffectKind.TheVariants as kind
 use Rattle.mh_trace.specs.declared.site.Site.{Site}
 use Rattle.mh_trace.specs.Sites.{is_in}
-use Rattle.mh_trace.specs.Trace.{Tracing, add_site, add_name}
+use Rattle.mh_trace.specs.Trace.{Directory, Tracing, add_site, add_name, written_at}
 use Rattle.mh_trace.specs.Words.{place_text}
 
 -- What was done and entered by several scripts, each once
@@ -90,12 +90,19 @@ row_word_by false false n = part_word n
 abbrev pub row_word : Bool → Row → List ℕ
 row_word tap x = row_word_by tap (is_whole x) x.done
 
-unfoldable pub row_line : Bool → Row → List ℕ
-row_line tap x =
-    row_word tap x ++ place_text x.object x.kind ++ codes ", " ++ decimal x.done ++ codes " of " ++ decimal x.all ++ 10 ∷ []
+-- the first action of an effect
+abbrev pub first_site : Row → Site
+first_site x = record { object = x.object; kind = x.kind; number = 1 }
 
-abbrev pub row_lines : Bool → List Row → List ℕ
-row_lines tap xs = flat_map (row_line tap) xs
+unfoldable pub row_counts : Row → List ℕ
+row_counts x = codes ", " ++ decimal x.done ++ codes " of " ++ decimal x.all
+
+unfoldable pub row_line : Bool → Directory → Row → List ℕ
+row_line tap ws x =
+    row_word tap x ++ place_text x.object x.kind ++ row_counts x ++ written_at ws (first_site x) ++ 10 ∷ []
+
+abbrev pub row_lines : Bool → Directory → List Row → List ℕ
+row_lines tap ws xs = flat_map (row_line tap ws) xs
 
 -- GROUPS. Each has a row: whether it was entered. The first part of a group is the group itself.
 
@@ -146,15 +153,15 @@ unfoldable pub covered_line : Bool → ℕ → ℕ → List ℕ
 covered_line tap n all =
     (if tap then codes "# " else []) ++ codes "covered " ++ decimal n ++ codes " of " ++ decimal all ++ 10 ∷ []
 
-unfoldable pub cover_by : Bool → List Row → List GroupRow → List ℕ
-cover_by tap xs ys =
-    plan_line tap (length xs + length ys) ++ row_lines tap xs ++ group_lines tap ys
+unfoldable pub cover_by : Bool → Directory → List Row → List GroupRow → List ℕ
+cover_by tap ws xs ys =
+    plan_line tap (length xs + length ys) ++ row_lines tap ws xs ++ group_lines tap ys
     ++ covered_line tap (whole_count xs + entered_count ys) (length xs + length ys)
 
 -- the groups of a service, each by its parts
 abbrev pub all_parts : Service → List (List Fixed)
 all_parts v = map (λ e. e.1) v.groups
 
--- THE COVERAGE OF A SERVICE by what was done and entered; `tap` for test harnesses
-abbrev pub cover_text : Bool → Covering → Service → List ℕ
-cover_text tap x v = cover_by tap (all_rows x.done (all_parts v)) (all_groups x.entered (all_parts v))
+-- THE COVERAGE OF A SERVICE by what was done and entered, with where effects are written; `tap` for test harnesses
+abbrev pub cover_text : Bool → Directory → Covering → Service → List ℕ
+cover_text tap ws x v = cover_by tap ws (all_rows x.done (all_parts v)) (all_groups x.entered (all_parts v))

@@ -1,7 +1,7 @@
 -- The trace of a script: a line a step, and what a step, a command and a script make of what is traced.
 use Rattle.std.specs.Prelude.{ℕ, zero, suc, ◌+◌, ◌-◌, ◌==◌, ◌&&◌, Bool, true, false, not, if◌then◌else◌, List, [], ◌∷◌, ◌++◌, codes, drop, length, slice_get, Option, Some, None}
 use Rattle.std.specs.Fmt.{decimal}
-use Rattle.std.specs.List.{list_any}
+use Rattle.std.specs.List.{find, list_any}
 use Rattle.std.specs.Str.{bytes_eq}
 use Rattle.mh_base.specs.declared.obj_ref.ObjRef.{ObjRef}
 use Rattle.mh_group.specs.declared.action_name.ActionName.{ActionName}
@@ -47,17 +47,34 @@ use Rattle.mh_trace.specs.Ears.{ears, key_note, told}
 use Rattle.mh_trace.specs.Sites.{group_sites, heard_sites, same_site, slot_sites}
 use Rattle.mh_trace.specs.Words.{input_text, item_text, ref_text, site_text, waiting_text}
 
+-- Where actions are written, as it is told behind their places: a list from places to texts
+
+abbrev pub Directory : Type 0
+Directory = List (Site × List ℕ)
+
+abbrev pub is_entry_of : Site → Site × List ℕ → Bool
+is_entry_of x e = same_site x e.0
+
+abbrev pub written_note : Option (Site × List ℕ) → List ℕ
+written_note None = []
+written_note (Some e) = codes " at " ++ e.1
+
+-- where an action is written, if the directory has it
+unfoldable pub written_at : Directory → Site → List ℕ
+written_at ws x = written_note (find (is_entry_of x) ws)
+
 -- What is traced: the machine's state, where the actions on its work list stand, in their order, which actions were done,
--- and which groups were entered, each once.
+-- and which groups were entered, each once; and where actions are written.
 pub record Tracing : Type 0 where
   pub state : State
   pub places : List Site
   pub done : List Site
   pub entered : List (List ℕ)
+  pub directory : Directory
 
 -- before the first command
-abbrev pub untraced : State → Tracing
-untraced s = record { state = s; places = []; done = []; entered = [] }
+abbrev pub untraced : Directory → State → Tracing
+untraced ws s = record { state = s; places = []; done = []; entered = []; directory = ws }
 
 -- what the next step works on
 
@@ -171,9 +188,9 @@ entry_text None None = []
 
 -- where an action stands
 
-abbrev pub place_note : Option Site → List ℕ
-place_note None = []
-place_note (Some x) = codes ", " ++ site_text x
+abbrev pub place_note : Directory → Option Site → List ℕ
+place_note ws None = []
+place_note ws (Some x) = codes ", " ++ site_text x ++ written_at ws x
 
 -- to what an action is done whose target is found through a variable
 
@@ -198,9 +215,9 @@ keyed_note _ _ s = []
 unfoldable pub number_text : ℕ → List ℕ
 number_text n = decimal n ++ codes " "
 
-unfoldable pub head_by : Option Item → Option Waiting → State → List Site → List ℕ
-head_by i w s ps =
-    number_text (s.taken + 1) ++ entry_text i w ++ place_note (place_of i ps) ++ through_note i (all s.objects)
+unfoldable pub head_by : Directory → Option Item → Option Waiting → State → List Site → List ℕ
+head_by ws i w s ps =
+    number_text (s.taken + 1) ++ entry_text i w ++ place_note ws (place_of i ps) ++ through_note i (all s.objects)
     ++ keyed_note i w s ++ ears (told i w s) (all s.objects)
 
 -- What comes of it
@@ -314,6 +331,7 @@ noted i x b p = record {
   places = places_with (starts x.begun p.state) x.closing (put_sites b x.opened) (places_behind i p.places);
   done = done_with b x.place p.done;
   entered = entered_with i p.entered;
+  directory = p.directory;
 }
 
 abbrev pub settled : Option Item → Seen → Stepped → Tracing → Tracing
@@ -330,7 +348,7 @@ traced_step p = traced_by (front p.state) p
 
 abbrev pub line_by : Option Item → Tracing → List ℕ
 line_by i p =
-    head_by i (first p.state) p.state p.places
+    head_by p.directory i (first p.state) p.state p.places
     ++ settled_text (seen_of i p.state p.places) (answer_of p.state) (step p.state)
 
 abbrev pub step_line : Tracing → List ℕ

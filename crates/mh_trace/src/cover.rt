@@ -1,7 +1,9 @@
 //! What traces have covered of a service: which actions of each effect were done, and which groups were entered.
 ghost use Rattle.std.specs.Prelude.{◌≡◌, ◌++◌, ◌≤◌, OnOk, IfOk, length};
 ghost use Rattle.mh_trace.specs.Cover as spec;
+ghost use Rattle.mh_trace.specs.Trace.{written_at};
 
+use crate::directory::put_written;
 use crate::places::{add_name, add_site};
 use crate::row::{GroupRow, Row};
 use crate::rows::{all_groups, all_rows};
@@ -49,13 +51,25 @@ impl Covered {
     }
 
     /// The lines on all effects and groups of the service, and a count; `tap` as test harnesses read them.
-    pub fn text(&self, alloc: Global, service: &Service, tap: bool) -> Result<Text, AllocError>
-        ensures { IfOk result (λ text. text ≡ spec.cover_text tap self.now service.now) }
+    pub fn text(
+        &self,
+        alloc: Global,
+        service: &Service,
+        directory: &[(Site, Text)],
+        tap: bool,
+    ) -> Result<Text, AllocError>
+        ensures { IfOk result (λ text. text ≡ spec.cover_text tap directory.now self.now service.now) }
     {
         let rows = all_rows(alloc, service, self.done.as_slice())?;
         let groups = all_groups(alloc, service, self.entered.as_slice())?;
         let mut text = Text::new(alloc);
-        put_cover(&mut text, tap, rows.as_slice(), groups.as_slice())?;
+        put_cover(
+            &mut text,
+            tap,
+            directory,
+            rows.as_slice(),
+            groups.as_slice(),
+        )?;
         Ok(text)
     }
 }
@@ -82,15 +96,16 @@ fn add_names(names: &mut Vec<GroupName>, more: &[GroupName]) -> Result<(), Alloc
 fn put_cover(
     text: &mut Text,
     tap: bool,
+    directory: &[(Site, Text)],
     rows: &[Row],
     groups: &[GroupRow],
 ) -> Result<(), AllocError>
-    ensures { OnOk result (text.new ≡ text.old ++ spec.cover_by tap rows.now groups.now) }
+    ensures { OnOk result (text.new ≡ text.old ++ spec.cover_by tap directory.now rows.now groups.now) }
 {
     let count = rows.len() as u64 + groups.len() as u64;
     let covered = whole_count(rows) as u64 + entered_count(groups) as u64;
     put_plan(text, tap, count)?;
-    put_rows(text, tap, rows)?;
+    put_rows(text, tap, directory, rows)?;
     put_groups(text, tap, groups)?;
     put_covered(text, tap, covered, count)
 }
@@ -107,26 +122,64 @@ fn put_plan(text: &mut Text, tap: bool, count: u64) -> Result<(), AllocError>
     text.put(b"\n")
 }
 
-fn put_rows(text: &mut Text, tap: bool, rows: &[Row]) -> Result<(), AllocError>
-    ensures { OnOk result (text.new ≡ text.old ++ spec.row_lines tap rows.now) }
+fn put_rows(
+    text: &mut Text,
+    tap: bool,
+    directory: &[(Site, Text)],
+    rows: &[Row],
+) -> Result<(), AllocError>
+    ensures { OnOk result (text.new ≡ text.old ++ spec.row_lines tap directory.now rows.now) }
 {
     for row in rows {
-        put_row(text, tap, row)?;
+        put_row(text, tap, directory, row)?;
     }
     Ok(())
 }
 
 #[tactic(auto, unfolding(crate::specs::Cover::row_line))]
-fn put_row(text: &mut Text, tap: bool, row: &Row) -> Result<(), AllocError>
-    ensures { OnOk result (text.new ≡ text.old ++ spec.row_line tap row.now) }
+fn put_row(
+    text: &mut Text,
+    tap: bool,
+    directory: &[(Site, Text)],
+    row: &Row,
+) -> Result<(), AllocError>
+    ensures { OnOk result (text.new ≡ text.old ++ spec.row_line tap directory.now row.now) }
 {
     text.put(row_word(tap, row))?;
     put_place(text, &row.object, row.kind)?;
+    put_counts(text, row)?;
+    put_first_place(text, directory, row)?;
+    text.put(b"\n")
+}
+
+/// Puts how many actions of an effect were done, and how many it has.
+#[tactic(auto, unfolding(crate::specs::Cover::row_counts))]
+fn put_counts(text: &mut Text, row: &Row) -> Result<(), AllocError>
+    ensures { OnOk result (text.new ≡ text.old ++ spec.row_counts row.now) }
+{
     text.put(b", ")?;
     text.put_number(row.done as u64)?;
     text.put(b" of ")?;
-    text.put_number(row.all as u64)?;
-    text.put(b"\n")
+    text.put_number(row.all as u64)
+}
+
+/// Puts where the first action of an effect is written.
+fn put_first_place(text: &mut Text, directory: &[(Site, Text)], row: &Row) -> Result<(), AllocError>
+    ensures { OnOk result (text.new ≡ text.old ++ written_at directory.now (spec.first_site row.now)) }
+{
+    let site = first_site(row)?;
+    put_written(text, directory, &site)
+}
+
+/// The first action of an effect.
+fn first_site(row: &Row) -> Result<Site, AllocError>
+    ensures { IfOk result (λ site. site ≡ spec.first_site row.now) }
+{
+    Ok(Site {
+        object: row.object.clone()?,
+        kind: row.kind,
+        number: 1,
+    })
 }
 
 fn row_word(tap: bool, row: &Row) -> &'static [u8]

@@ -4,6 +4,7 @@ ghost use Rattle.std.specs.Option.{option_copied};
 ghost use Rattle.mh_model.specs.State.{all};
 ghost use Rattle.mh_trace.specs.Trace as spec;
 
+use crate::directory::put_written;
 use crate::ears::{put_ears, put_key_note, told};
 use crate::seen::place_of;
 use crate::site::Site;
@@ -24,15 +25,16 @@ pub fn put_head(
     front: &Option<Item>,
     machine: &Machine,
     places: &[Site],
+    directory: &[(Site, Text)],
 ) -> Result<(), AllocError>
     requires { machine.now.taken + 1 < 2 ^ 64 }
     ensures { OnOk result (text.new
-        ≡ text.old ++ spec.head_by front.now (spec.first machine.now) machine.now places.now) }
+        ≡ text.old ++ spec.head_by directory.now front.now (spec.first machine.now) machine.now places.now) }
 {
     let waiting = machine.queue().first();
     put_number(text, machine.taken() + 1)?;
     put_entry(alloc, text, front, waiting)?;
-    put_place_note(text, front, places)?;
+    put_place_note(text, front, places, directory)?;
     put_through(text, front, machine.objects())?;
     put_keyed(alloc, text, front, waiting, machine)?;
     let told = told(front, waiting, machine)?;
@@ -62,21 +64,31 @@ fn put_entry(
     }
 }
 
-fn put_place_note(text: &mut Text, front: &Option<Item>, places: &[Site]) -> Result<(), AllocError>
+fn put_place_note(
+    text: &mut Text,
+    front: &Option<Item>,
+    places: &[Site],
+    directory: &[(Site, Text)],
+) -> Result<(), AllocError>
     ensures { OnOk result (text.new
-        ≡ text.old ++ spec.place_note (spec.place_of front.now places.now)) }
+        ≡ text.old ++ spec.place_note directory.now (spec.place_of front.now places.now)) }
 {
     let place = place_of(front, places)?;
-    put_place_at(text, &place)
+    put_place_at(text, &place, directory)
 }
 
-fn put_place_at(text: &mut Text, place: &Option<Site>) -> Result<(), AllocError>
-    ensures { OnOk result (text.new ≡ text.old ++ spec.place_note place.now) }
+fn put_place_at(
+    text: &mut Text,
+    place: &Option<Site>,
+    directory: &[(Site, Text)],
+) -> Result<(), AllocError>
+    ensures { OnOk result (text.new ≡ text.old ++ spec.place_note directory.now place.now) }
 {
     match place {
         Some(site) => {
             text.put(b", ")?;
-            put_site(text, site)
+            put_site(text, site)?;
+            put_written(text, directory, site)
         }
         None => Ok(()),
     }

@@ -7,6 +7,7 @@
 
 pub mod cover;
 mod described;
+mod directory;
 mod ears;
 mod head;
 mod hearing;
@@ -26,3 +27,4 @@ pub mod words;
 pub use cover::Covered;
 pub use site::{EffectKind, Site};
 pub use tracer::Tracer;
+pub use words::put_ref;

@@ -20,7 +20,7 @@ use std::alloc::{AllocError, Global};
 use std::marker::Model;
 
 /// A machine whose steps are told: with the places of the actions on its work list, the places of those that were
-/// done, and the groups that were entered.
+/// done, the groups that were entered, and a directory of where actions are written.
 #[derive(Drop)]
 pub struct Tracer {
     alloc: Global,
@@ -28,6 +28,7 @@ pub struct Tracer {
     places: Vec<Site>,
     done: Vec<Site>,
     entered: Vec<GroupName>,
+    directory: Vec<(Site, Text)>,
 }
 
 impl Model for Tracer {
@@ -40,13 +41,14 @@ impl Model for Tracer {
       places = t.places.items;
       done = t.done.items;
       entered = t.entered.items;
+      directory = t.directory.items;
     } };
 }
 
 impl Tracer {
-    /// Of a machine that has just begun.
-    pub fn new(alloc: Global, machine: Machine) -> Tracer
-        ensures { result ≡ spec.untraced machine }
+    /// Of a machine that has just begun. What the directory has of the place of an action is told behind it.
+    pub fn new(alloc: Global, machine: Machine, directory: Vec<(Site, Text)>) -> Tracer
+        ensures { result ≡ spec.untraced directory.items machine }
     {
         Tracer {
             alloc,
@@ -54,6 +56,7 @@ impl Tracer {
             places: Vec::new(alloc),
             done: Vec::new(alloc),
             entered: Vec::new(alloc),
+            directory,
         }
     }
 
@@ -207,6 +210,7 @@ impl Tracer {
             front,
             &self.machine,
             self.places.as_slice(),
+            self.directory.as_slice(),
         )?;
         let seen = see(self.alloc, front, &self.machine, self.places.as_slice())?;
         let answer = self.machine.step::<Judged>()?;

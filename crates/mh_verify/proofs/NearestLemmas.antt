@@ -15,7 +15,7 @@ use Rattle.mh_model.specs.Service.{Service}
 use Rattle.mh_laws.specs.Flow.{has}
 use Rattle.mh_laws.specs.Least.{Derived, Held, by_reference}
 use Rattle.mh_flow.specs.declared.chain.link.Link.{Link}
-use Rattle.mh_flow.specs.Chains.{Brings, by_spot}
+use Rattle.mh_flow.specs.Chains.{Brings, by_action_site}
 use Rattle.mh_flow.specs.Nearest.{IsNearest}
 use Rattle.mh_flow.specs.Solved.{Solved, IsFlowOf, flow_in}
 use Rattle.mh_flow.proofs.ContainsLemmas.{no_member, no_members, first_or_behind}
@@ -24,17 +24,17 @@ use Rattle.mh_verify.specs.declared.coming.Coming.{Coming}
 use Rattle.mh_verify.specs.Least.{may_be_sooner}
 use Rattle.mh_verify.specs.Naming.{AreHeld, AreNoSooner, IsBest, IsSoonestOf, is_sooner}
 use Rattle.mh_verify.proofs.OrderLemmas.{not_before}
-use Rattle.mh_verify.proofs.SoonestLemmas.{coming_total, spot_total}
+use Rattle.mh_verify.proofs.SoonestLemmas.{coming_total, action_site_total}
 
 abbrev came : List Link → ObjRef → Coming
 came ls q = record { chain = ls; at = q }
 
 -- links that are no fewer, and whose places come no sooner, did not come sooner, unless the places are the same
-no_sooner : (k b : Coming) → length b.chain ≤ length k.chain → (length k.chain ≡ length b.chain → slice_cmp by_spot k.chain b.chain ≢ Less) → (slice_cmp by_spot k.chain b.chain ≡ Equal → is_lt (by_reference k.at b.at) ≡ false) → is_sooner k b ≡ false
+no_sooner : (k b : Coming) → length b.chain ≤ length k.chain → (length k.chain ≡ length b.chain → slice_cmp by_action_site k.chain b.chain ≢ Less) → (slice_cmp by_action_site k.chain b.chain ≡ Equal → is_lt (by_reference k.at b.at) ≡ false) → is_sooner k b ≡ false
 no_sooner k b long first level =
-    by (nat_cmp (length k.chain) (length b.chain)) (ranked (length k.chain) (length b.chain) (nat_cmp (length k.chain) (length b.chain)) refl) (slice_cmp by_spot k.chain b.chain) refl
+    by (nat_cmp (length k.chain) (length b.chain)) (ranked (length k.chain) (length b.chain) (nat_cmp (length k.chain) (length b.chain)) refl) (slice_cmp by_action_site k.chain b.chain) refl
   where
-    by : (o : Ordering) → MatchOrdering o (length k.chain < length b.chain) (length k.chain ≡ length b.chain) (length b.chain < length k.chain) → (p : Ordering) → slice_cmp by_spot k.chain b.chain ≡ p → is_lt (ordering_then (ordering_then o p) (by_reference k.at b.at)) ≡ false
+    by : (o : Ordering) → MatchOrdering o (length k.chain < length b.chain) (length k.chain ≡ length b.chain) (length b.chain < length k.chain) → (p : Ordering) → slice_cmp by_action_site k.chain b.chain ≡ p → is_lt (ordering_then (ordering_then o p) (by_reference k.at b.at)) ≡ false
     by Less h p e = absurd (omega (arith, h, long))
     by Greater h p e = refl
     by Equal h Less e = absurd (first h e)
@@ -42,11 +42,11 @@ no_sooner k b long first level =
     by Equal h Equal e = level e
 
 -- the same places are as many
-level_length : (xs ys : List Link) → slice_cmp by_spot xs ys ≡ Equal → length xs ≡ length ys
+level_length : (xs ys : List Link) → slice_cmp by_action_site xs ys ≡ Equal → length xs ≡ length ys
 level_length [] [] e = refl
 level_length [] (y ∷ ys) e = cc
 level_length (x ∷ xs) [] e = cc
-level_length (x ∷ xs) (y ∷ ys) e = ap suc (level_length xs ys (both_level (by_spot x y) (slice_cmp by_spot xs ys) e).1)
+level_length (x ∷ xs) (y ∷ ys) e = ap suc (level_length xs ys (both_level (by_action_site x y) (slice_cmp by_action_site xs ys) e).1)
 
 -- Where nothing comes before these links, the best so far stays the best if it came by their places, and the next
 -- reference is no smaller.
@@ -61,7 +61,7 @@ level Equal e = refl
 level Greater e = cc
 
 module _ (s : Service) (c : Config) (v : ObjRef) (ls : List Link) where
-  stays_best : (qs : List ObjRef) (b : Coming) (q : ObjRef) → IsSoonestOf s c v qs b → slice_cmp by_spot b.chain ls ≡ Equal → is_lt (by_reference q b.at) ≡ false → AreNoSooner s c v (q ∷ []) ls → IsSoonestOf s c v (qs ++ q ∷ []) b
+  stays_best : (qs : List ObjRef) (b : Coming) (q : ObjRef) → IsSoonestOf s c v qs b → slice_cmp by_action_site b.chain ls ≡ Equal → is_lt (by_reference q b.at) ≡ false → AreNoSooner s c v (q ∷ []) ls → IsSoonestOf s c v (qs ++ q ∷ []) b
   stays_best qs b q best level behind later = record {
     among = Contains-append_left qs (q ∷ []) b.at best.among;
     chain = best.chain;
@@ -78,7 +78,7 @@ module _ (s : Service) (c : Config) (v : ObjRef) (ls : List Link) where
       own ks m brings =
           let long = later.shortest q ks m brings in
           no_sooner (came ks q) b (omega (arith, as_long, long))
-          (λ same less. later.first q ks m brings (same ∙ as_long) (sym (alike_right (lists_total spot_total) b.chain ls ks level) ∙ less))
+          (λ same less. later.first q ks m brings (same ∙ as_long) (sym (alike_right (lists_total action_site_total) b.chain ls ks level) ∙ less))
           (λ e. behind)
 
       new : (p : ObjRef) (ks : List Link) → Contains (q ∷ []) p → Brings s p ks c v → is_sooner (came ks p) b ≡ false
@@ -90,8 +90,8 @@ module _ (s : Service) (c : Config) (v : ObjRef) (ls : List Link) where
   settled : (qs : List ObjRef) (o : Option Coming) (q : ObjRef) → IsBest s c v qs o → may_be_sooner o ls q ≡ false → AreNoSooner s c v (q ∷ []) ls → IsBest s c v (qs ++ q ∷ []) o
   settled qs None q best e later = cc
   settled qs (Some b) q best e later =
-      let two = neither (is_ne (slice_cmp by_spot b.chain ls)) (is_lt (by_reference q b.at)) e in
-      stays_best qs b q best (level (slice_cmp by_spot b.chain ls) two.0) two.1 later
+      let two = neither (is_ne (slice_cmp by_action_site b.chain ls)) (is_lt (by_reference q b.at)) e in
+      stays_best qs b q best (level (slice_cmp by_action_site b.chain ls) two.0) two.1 later
 
   one_of : (qs : List ObjRef) (q : ObjRef) → Contains qs q → AreNoSooner s c v qs ls → AreNoSooner s c v (q ∷ []) ls
   one_of qs q m all = record {
@@ -114,7 +114,7 @@ module _ (s : Service) (c : Config) (v : ObjRef) (ls : List Link) where
   nearest_best qs os near (Some k) best = record {
     among = near.among k.at best.among;
     chain = best.chain;
-    first = λ q ks m brings. by q ks m brings (slice_cmp by_spot ks ls) refl;
+    first = λ q ks m brings. by q ks m brings (slice_cmp by_action_site ks ls) refl;
   }
     where
       one : Coming
@@ -123,12 +123,12 @@ module _ (s : Service) (c : Config) (v : ObjRef) (ls : List Link) where
       one_later : is_sooner one k ≡ false
       one_later = best.first near.brought.0 ls near.brought.1 near.brought.2
 
-      apart : (q : ObjRef) (ks : List Link) → Contains qs q → Brings s q ks c v → (slice_cmp by_spot ks ls ≡ Equal → ⊥) → is_sooner (came ks q) k ≡ false
+      apart : (q : ObjRef) (ks : List Link) → Contains qs q → Brings s q ks c v → (slice_cmp by_action_site ks ls ≡ Equal → ⊥) → is_sooner (came ks q) k ≡ false
       apart q ks m brings other =
           not_before coming_total (came ks q) one k
           (no_sooner (came ks q) one (near.shortest q ks m brings) (near.first q ks m brings) (λ e. absurd (other e))) one_later
 
-      by : (q : ObjRef) (ks : List Link) → Contains qs q → Brings s q ks c v → (r : Ordering) → slice_cmp by_spot ks ls ≡ r → is_sooner (came ks q) k ≡ false
+      by : (q : ObjRef) (ks : List Link) → Contains qs q → Brings s q ks c v → (r : Ordering) → slice_cmp by_action_site ks ls ≡ r → is_sooner (came ks q) k ≡ false
       by q ks m brings Less e = apart q ks m brings (λ same. let never : Less ≡ Equal = sym e ∙ same in cc)
       by q ks m brings Equal e = best.first q ks (near.level q ks m brings e) brings
       by q ks m brings Greater e = apart q ks m brings (λ same. let never : Greater ≡ Equal = sym e ∙ same in cc)

@@ -17,7 +17,7 @@ use Rattle.mh_model.proofs.ListLemmas.{some_same}
 use Rattle.mh_laws.specs.Flow.{Flow}
 use Rattle.mh_laws.specs.Least.{by_reference}
 use Rattle.mh_flow.specs.declared.chain.link.Link.{Link}
-use Rattle.mh_flow.specs.Chains.{Brings, IsFirstChain, by_spot}
+use Rattle.mh_flow.specs.Chains.{Brings, IsFirstChain, by_action_site}
 use Rattle.mh_flow.proofs.ContainsLemmas.{no_member, here, first_or_behind}
 use Rattle.mh_flow.proofs.OrderLemmas.{reference_total}
 use Rattle.mh_verify.specs.declared.coming.Coming.{Coming}
@@ -26,21 +26,21 @@ use Rattle.mh_verify.specs.Least.{sooner}
 use Rattle.mh_verify.specs.Naming.{AreCandidates, IsBest, IsSoonest, IsSoonestOf, by_coming, candidates_at, is_sooner}
 use Rattle.mh_verify.proofs.OrderLemmas.{after_less, not_before, not_before_itself}
 
-pub spot_total : IsTotalOrder by_spot
-spot_total = then_total (on_total (λ (l : Link). l.key) reference_total) (on_total (λ (l : Link). l.index) nat_cmp_total)
+pub action_site_total : IsTotalOrder by_action_site
+action_site_total = then_total (on_total (λ (l : Link). l.key) reference_total) (on_total (λ (l : Link). l.index) nat_cmp_total)
 
 pub coming_total : IsTotalOrder by_coming
-coming_total = then_total (then_total (on_total (λ (k : Coming). length k.chain) nat_cmp_total) (on_total (λ (k : Coming). k.chain) (lists_total spot_total))) (on_total (λ (k : Coming). k.at) reference_total)
+coming_total = then_total (then_total (on_total (λ (k : Coming). length k.chain) nat_cmp_total) (on_total (λ (k : Coming). k.chain) (lists_total action_site_total))) (on_total (λ (k : Coming). k.at) reference_total)
 
 -- no chain of a reference comes before its first one
 never_sooner : (s : Service) (c : Config) (v : ObjRef) (k : Coming) (ls : List Link) → IsFirstChain s k.at c v k.chain → Brings s k.at ls c v → is_sooner (record { chain = ls; at = k.at }) k ≡ false
 never_sooner s c v k ls first brings =
-    by (nat_cmp (length ls) (length k.chain)) (ranked (length ls) (length k.chain) (nat_cmp (length ls) (length k.chain)) refl) (slice_cmp by_spot ls k.chain) refl
+    by (nat_cmp (length ls) (length k.chain)) (ranked (length ls) (length k.chain) (nat_cmp (length ls) (length k.chain)) refl) (slice_cmp by_action_site ls k.chain) refl
   where
     long : length k.chain ≤ length ls
     long = first.shortest ls brings
 
-    by : (o : Ordering) → MatchOrdering o (length ls < length k.chain) (length ls ≡ length k.chain) (length k.chain < length ls) → (p : Ordering) → slice_cmp by_spot ls k.chain ≡ p → is_lt (ordering_then (ordering_then o p) (by_reference k.at k.at)) ≡ false
+    by : (o : Ordering) → MatchOrdering o (length ls < length k.chain) (length ls ≡ length k.chain) (length k.chain < length ls) → (p : Ordering) → slice_cmp by_action_site ls k.chain ≡ p → is_lt (ordering_then (ordering_then o p) (by_reference k.at k.at)) ≡ false
     by Less h p e = absurd (omega (arith, h, long))
     by Greater h p e = refl
     by Equal h Less e = absurd (first.first ls brings h e)

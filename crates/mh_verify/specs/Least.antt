@@ -5,7 +5,7 @@ use Rattle.std.specs.Cmp.Lexicographic.{slice_cmp}
 use Rattle.mh_base.specs.declared.obj_ref.ObjRef.{ObjRef}
 use Rattle.mh_laws.specs.Least.{by_reference}
 use Rattle.mh_flow.specs.declared.chain.link.Link.{Link}
-use Rattle.mh_flow.specs.Chains.{by_spot}
+use Rattle.mh_flow.specs.Chains.{by_action_site}
 use Rattle.mh_verify.specs.declared.refusal.Found.{Found}
 use Rattle.mh_model.specs.Service.{Service}
 use Rattle.mh_laws.specs.Flow.{Flow}
@@ -33,7 +33,7 @@ sooner (Some b) k = if is_sooner k b then k else b
 -- places of these links, and the reference is no smaller
 abbrev pub may_be_sooner : Option Coming → List Link → ObjRef → Bool
 may_be_sooner None ls q = true
-may_be_sooner (Some b) ls q = is_ne (slice_cmp by_spot b.chain ls) || is_lt (by_reference q b.at)
+may_be_sooner (Some b) ls q = is_ne (slice_cmp by_action_site b.chain ls) || is_lt (by_reference q b.at)
 
 -- what comes first of all that is wrong, with the reference that is named; none where nothing is wrong
 pub record IsFirstNamed (s : Service) (w : Flow) (x : Found) (k : Coming) : Type 0 where

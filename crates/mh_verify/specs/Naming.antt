@@ -22,7 +22,7 @@ use Rattle.mh_laws.specs.Active.{item_wrongs, known_with}
 use Rattle.mh_laws.specs.Flow.{Flow, Sets, has}
 use Rattle.mh_laws.specs.Least.{by_reference}
 use Rattle.mh_flow.specs.declared.chain.link.Link.{Link}
-use Rattle.mh_flow.specs.Chains.{Brings, IsFirstChain, by_spot}
+use Rattle.mh_flow.specs.Chains.{Brings, IsFirstChain, by_action_site}
 use Rattle.mh_flow.specs.Sites.{Site, sites_of}
 use Rattle.mh_verify.specs.declared.coming.Coming.{Coming}
 use Rattle.mh_verify.specs.declared.refusal.Found.{Found}
@@ -61,7 +61,7 @@ pub record IsWrongToo (s : Service) (w : Flow) (x : Found) (q : ObjRef) : Type 0
 
 -- by the number of links, then place by place, then by the references
 abbrev pub by_coming : Coming → Coming → Ordering
-by_coming = then_cmp (then_cmp (on (λ k. length k.chain) nat_cmp) (on (λ k. k.chain) (slice_cmp by_spot))) (on (λ k. k.at) by_reference)
+by_coming = then_cmp (then_cmp (on (λ k. length k.chain) nat_cmp) (on (λ k. k.chain) (slice_cmp by_action_site))) (on (λ k. k.at) by_reference)
 
 abbrev pub is_sooner : Coming → Coming → Bool
 is_sooner k l = is_lt (by_coming k l)
@@ -141,7 +141,7 @@ AreHeld h v qs = (q : ObjRef) → Contains qs q → has h v q ≡ true
 -- no links that bring one of these there come before these links, by number and places
 pub record AreNoSooner (s : Service) (c : Config) (v : ObjRef) (qs : List ObjRef) (ls : List Link) : Type 0 where
   pub shortest : (q : ObjRef) (ks : List Link) → Contains qs q → Brings s q ks c v → length ls ≤ length ks
-  pub first : (q : ObjRef) (ks : List Link) → Contains qs q → Brings s q ks c v → length ks ≡ length ls → slice_cmp by_spot ks ls ≢ Less
+  pub first : (q : ObjRef) (ks : List Link) → Contains qs q → Brings s q ks c v → length ks ≡ length ls → slice_cmp by_action_site ks ls ≢ Less
 
 -- of these the one that came soonest
 pub record IsSoonestOf (s : Service) (c : Config) (v : ObjRef) (qs : List ObjRef) (k : Coming) : Type 0 where

@@ -7,7 +7,7 @@ ghost use Rattle.std.specs.Ordering.{is_ne, nat_cmp};
 ghost use Rattle.std.specs.Cmp.Lexicographic.{slice_cmp};
 ghost use Rattle.mh_verify.specs.Kinds.{kind_number};
 ghost use Rattle.mh_verify.specs.Least.{lesser};
-ghost use Rattle.mh_flow.specs.Chains.{by_spot};
+ghost use Rattle.mh_flow.specs.Chains.{by_action_site};
 ghost use Rattle.mh_verify.specs.Least.{may_be_sooner, sooner};
 ghost use Rattle.mh_verify.specs.Naming.{by_coming};
 ghost use Rattle.mh_verify.specs.Order.{by_place, order};
@@ -60,15 +60,15 @@ pub fn lesser(best: Option<Found>, found: Found) -> Found
 
 // How references came
 
-fn by_spot(first: &Link, second: &Link) -> Ordering
-    ensures { result ≡ by_spot first.now second.now }
+fn by_action_site(first: &Link, second: &Link) -> Ordering
+    ensures { result ≡ by_action_site first.now second.now }
 {
     by_reference(&first.key, &second.key).then(first.index.cmp(&second.index))
 }
 
 /// Place by place.
-fn by_spots(first: &[Link], second: &[Link]) -> Ordering
-    ensures { result ≡ slice_cmp by_spot first.now second.now }
+fn by_action_sites(first: &[Link], second: &[Link]) -> Ordering
+    ensures { result ≡ slice_cmp by_action_site first.now second.now }
 {
     let mut first = first;
     let mut second = second;
@@ -76,7 +76,7 @@ fn by_spots(first: &[Link], second: &[Link]) -> Ordering
         let Some((other, others)) = second.split_first() else {
             return Ordering::Greater;
         };
-        let order = by_spot(link, other);
+        let order = by_action_site(link, other);
         if order.is_ne() {
             return order;
         }
@@ -96,7 +96,7 @@ fn by_coming(first: &Coming, second: &Coming) -> Ordering
 {
     let links = first.chain.len().cmp(&second.chain.len());
     links
-        .then(by_spots(first.chain.as_slice(), second.chain.as_slice()))
+        .then(by_action_sites(first.chain.as_slice(), second.chain.as_slice()))
         .then(by_reference(&first.at, &second.at))
 }
 
@@ -129,7 +129,7 @@ pub fn may_be_sooner(best: &Option<Coming>, links: &[Link], at: &ObjRef) -> bool
 
 /// Whether the reference came by other places than those of this chain.
 fn is_apart(best: &Coming, links: &[Link]) -> bool
-    ensures { result ≡ is_ne (slice_cmp by_spot best.now.chain links.now) }
+    ensures { result ≡ is_ne (slice_cmp by_action_site best.now.chain links.now) }
 {
-    by_spots(best.chain.as_slice(), links).is_ne()
+    by_action_sites(best.chain.as_slice(), links).is_ne()
 }

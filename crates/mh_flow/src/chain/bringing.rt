@@ -8,7 +8,9 @@ ghost use Rattle.mh_model.specs.Arguments.{receivers};
 ghost use Rattle.mh_flow.specs.Steps as spec;
 
 use crate::chain::moves::Move;
-use crate::chain::searched_config::{SearchedConfig, first_spot, push_comes, push_goes, site_spot};
+use crate::chain::searched_config::{
+    SearchedConfig, action_site_at, first_action_site, push_comes, push_goes,
+};
 use crate::chain::sought::{is_first, is_sought};
 use crate::opening::doing::fills;
 use crate::references::handed;
@@ -23,7 +25,7 @@ impl<'a> SearchedConfig<'a> {
         ensures { let g = spec.ground_of self.now in OnOk result (moves.new.items ≡ moves.old.items ++ spec.first_moves g part.now) }
     {
         if is_first(self.sought, part) {
-            push_comes(moves, first_spot(part)?, self.place(&part.key)?)?;
+            push_comes(moves, first_action_site(part)?, self.place(&part.key)?)?;
         }
         Ok(())
     }
@@ -54,7 +56,7 @@ impl<'a> SearchedConfig<'a> {
             OnOk result (moves.new.items ≡ moves.old.items ++ spec.written_moves g site.now at.now written.now) }
     {
         if is_sought(self.sought, written) {
-            push_comes(moves, site_spot(site)?, self.place(at)?)?;
+            push_comes(moves, action_site_at(site)?, self.place(at)?)?;
         }
         Ok(())
     }
@@ -74,7 +76,7 @@ impl<'a> SearchedConfig<'a> {
             push_goes(
                 moves,
                 self.place(variable)?,
-                site_spot(site)?,
+                action_site_at(site)?,
                 self.place(at)?,
             )?;
         }
@@ -147,7 +149,7 @@ impl<'a> SearchedConfig<'a> {
             push_goes(
                 moves,
                 self.place(at)?,
-                site_spot(site)?,
+                action_site_at(site)?,
                 self.place(variable)?,
             )?;
         }

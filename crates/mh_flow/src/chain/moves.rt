@@ -26,6 +26,6 @@ pub struct Move {
     /// Where it was before; nowhere, where a chain begins.
     pub from: Option<Holder>,
     /// What takes it there; nothing, where an object keeps what it holds from one configuration to the next.
-    pub spot: Option<ActionSite>,
+    pub action_site: Option<ActionSite>,
     pub to: Holder,
 }

@@ -1,10 +1,10 @@
 //! Moves by numbers.
 //!
-//! Promise: each place and each spot has a number, those of spots are in the order of spots, and the graph has an arrow
+//! Promise: each place and each action site has a number, those of action sites are in the order of action sites, and the graph has an arrow
 //! for each move.
 ghost use Rattle.std.specs.Prelude.{◌≡◌, ◌++◌, [], map, replicate, IfOk, OnOk};
 ghost use Rattle.mh_flow.specs.Routes as spec;
-ghost use Rattle.mh_flow.specs.Routes.{AreSpots};
+ghost use Rattle.mh_flow.specs.Routes.{AreActionSites};
 
 use crate::chain::link::Link;
 use crate::chain::moves::{ActionSite, Holder, Move};
@@ -23,14 +23,14 @@ fn copied_place(place: &Holder) -> Result<Holder, AllocError>
     })
 }
 
-/// A copy of the spot.
-fn copied_spot(spot: &ActionSite) -> Result<ActionSite, AllocError>
-    ensures { IfOk result (λ copy. copy ≡ spot.now) }
+/// A copy of the action site.
+fn copied_action_site(action_site: &ActionSite) -> Result<ActionSite, AllocError>
+    ensures { IfOk result (λ copy. copy ≡ action_site.now) }
 {
-    let key = spot.key.clone()?;
+    let key = action_site.key.clone()?;
     Ok(ActionSite {
         key,
-        index: spot.index,
+        index: action_site.index,
     })
 }
 
@@ -72,68 +72,77 @@ fn place_number(places: &IndexSet<Holder>, place: &Holder) -> usize
     places.get_index_of(place).unwrap_or(0)
 }
 
-/// The number of the spot.
-fn spot_number(spots: &IndexSet<ActionSite>, spot: &ActionSite) -> usize
-    ensures { result ≡ spec.spot_number spots.now.keys spot.now }
+/// The number of the action site.
+fn action_site_number(action_sites: &IndexSet<ActionSite>, action_site: &ActionSite) -> usize
+    ensures { result ≡ spec.action_site_number action_sites.now.keys action_site.now }
 {
-    spots.get_index_of(spot).unwrap_or(0)
+    action_sites.get_index_of(action_site).unwrap_or(0)
 }
 
-/// Puts the spot among these, if it is not there.
-fn put_spot(spots: &mut IndexSet<ActionSite>, spot: &ActionSite) -> Result<(), AllocError>
-    ensures { OnOk result (spots.new.keys ≡ spec.with_spot spots.old.keys spot.now) }
+/// Puts the action site among these, if it is not there.
+fn put_action_site(
+    action_sites: &mut IndexSet<ActionSite>,
+    action_site: &ActionSite,
+) -> Result<(), AllocError>
+    ensures { OnOk result (action_sites.new.keys ≡ spec.with_action_site action_sites.old.keys action_site.now) }
 {
-    spots.insert(copied_spot(spot)?)?;
+    action_sites.insert(copied_action_site(action_site)?)?;
     Ok(())
 }
 
-/// Puts the spot of the move among these, if it has one.
-fn put_spot_of(spots: &mut IndexSet<ActionSite>, made: &Move) -> Result<(), AllocError>
-    ensures { OnOk result (spots.new.keys ≡ spec.with_spot_of spots.old.keys made.now.spot) }
+/// Puts the action site of the move among these, if it has one.
+fn put_action_site_of(
+    action_sites: &mut IndexSet<ActionSite>,
+    made: &Move,
+) -> Result<(), AllocError>
+    ensures { OnOk result (action_sites.new.keys ≡ spec.with_action_site_of action_sites.old.keys made.now.action_site) }
 {
-    if let Some(spot) = &made.spot {
-        put_spot(spots, spot)?;
+    if let Some(action_site) = &made.action_site {
+        put_action_site(action_sites, action_site)?;
     }
     Ok(())
 }
 
-/// The spots of the moves, each once, as they come.
-fn spots_met(alloc: Global, moves: &[Move]) -> Result<IndexSet<ActionSite>, AllocError>
-    ensures { IfOk result (λ spots. spots.keys ≡ spec.spots_from [] moves.now) }
+/// The action sites of the moves, each once, as they come.
+fn action_sites_met(alloc: Global, moves: &[Move]) -> Result<IndexSet<ActionSite>, AllocError>
+    ensures { IfOk result (λ action_sites. action_sites.keys ≡ spec.action_sites_from [] moves.now) }
 {
-    let mut spots = IndexSet::new(alloc);
+    let mut action_sites = IndexSet::new(alloc);
     for made in moves {
-        put_spot_of(&mut spots, made)?;
+        put_action_site_of(&mut action_sites, made)?;
     }
-    Ok(spots)
+    Ok(action_sites)
 }
 
 /// By the object, then by the number.
-fn by_spot(first: &ActionSite, second: &ActionSite) -> Ordering
-    ensures { result ≡ spec.spot_cmp first.now second.now }
+fn by_action_site(first: &ActionSite, second: &ActionSite) -> Ordering
+    ensures { result ≡ spec.action_site_cmp first.now second.now }
 {
     let group = first.key.group.as_bytes().cmp(&second.key.group.as_bytes());
     let key = group.then(first.key.number.cmp(&second.key.number));
     key.then(first.index.cmp(&second.index))
 }
 
-/// The spots of the moves, in their order.
-pub(crate) fn spots_of(alloc: Global, moves: &[Move]) -> Result<IndexSet<ActionSite>, AllocError>
-    ensures { IfOk result (λ spots. AreSpots moves.now spots.keys) }
+/// The action sites of the moves, in their order.
+pub(crate) fn action_sites_of(
+    alloc: Global,
+    moves: &[Move],
+) -> Result<IndexSet<ActionSite>, AllocError>
+    ensures { IfOk result (λ action_sites. AreActionSites moves.now action_sites.keys) }
 {
-    let mut spots = spots_met(alloc, moves)?;
-    spots.sort_by(by_spot)?;
-    Ok(spots)
+    let mut action_sites = action_sites_met(alloc, moves)?;
+    action_sites.sort_by(by_action_site)?;
+    Ok(action_sites)
 }
 
 /// The move as an arrow.
-fn arrow_of(places: &IndexSet<Holder>, spots: &IndexSet<ActionSite>, made: &Move) -> Arrow
-    ensures { result ≡ spec.arrow_of places.now.keys spots.now.keys made.now }
+fn arrow_of(places: &IndexSet<Holder>, action_sites: &IndexSet<ActionSite>, made: &Move) -> Arrow
+    ensures { result ≡ spec.arrow_of places.now.keys action_sites.now.keys made.now }
 {
     Arrow {
-        label: match &made.spot {
+        label: match &made.action_site {
             None => None,
-            Some(spot) => Some(spot_number(spots, spot) as u64),
+            Some(action_site) => Some(action_site_number(action_sites, action_site) as u64),
         },
         to: place_number(places, &made.to),
     }
@@ -143,15 +152,15 @@ fn arrow_of(places: &IndexSet<Holder>, spots: &IndexSet<ActionSite>, made: &Move
 pub(crate) fn starts_of(
     alloc: Global,
     places: &IndexSet<Holder>,
-    spots: &IndexSet<ActionSite>,
+    action_sites: &IndexSet<ActionSite>,
     moves: &[Move],
 ) -> Result<Vec<Arrow>, AllocError>
-    ensures { IfOk result (λ starts. starts.items ≡ spec.starts_of places.now.keys spots.now.keys moves.now) }
+    ensures { IfOk result (λ starts. starts.items ≡ spec.starts_of places.now.keys action_sites.now.keys moves.now) }
 {
     let mut starts = Vec::new(alloc);
     for made in moves {
         if made.from.is_none() {
-            starts.push(arrow_of(places, spots, made))?;
+            starts.push(arrow_of(places, action_sites, made))?;
         }
     }
     Ok(starts)
@@ -183,15 +192,15 @@ fn put_arrow(rows: &mut Vec<Vec<Arrow>>, number: usize, arrow: Arrow) -> Result<
 fn put_move(
     rows: &mut Vec<Vec<Arrow>>,
     places: &IndexSet<Holder>,
-    spots: &IndexSet<ActionSite>,
+    action_sites: &IndexSet<ActionSite>,
     made: &Move,
 ) -> Result<(), AllocError>
     ensures { let before = map (λ row. row.items) rows.old.items in OnOk result (map (λ row. row.items) rows.new.items
-        ≡ spec.with_move places.now.keys spots.now.keys before made.now made.now.from) }
+        ≡ spec.with_move places.now.keys action_sites.now.keys before made.now made.now.from) }
 {
     if let Some(from) = &made.from {
         let number = place_number(places, from);
-        put_arrow(rows, number, arrow_of(places, spots, made))?;
+        put_arrow(rows, number, arrow_of(places, action_sites, made))?;
     }
     Ok(())
 }
@@ -200,15 +209,15 @@ fn put_move(
 pub(crate) fn graph_of(
     alloc: Global,
     places: &IndexSet<Holder>,
-    spots: &IndexSet<ActionSite>,
+    action_sites: &IndexSet<ActionSite>,
     moves: &[Move],
 ) -> Result<Graph, AllocError>
     ensures { IfOk result (λ graph. map (λ row. row.items) graph.nodes.items
-        ≡ spec.rows_of places.now.keys spots.now.keys moves.now) }
+        ≡ spec.rows_of places.now.keys action_sites.now.keys moves.now) }
 {
     let mut nodes = empty_rows(alloc, places.len())?;
     for made in moves {
-        put_move(&mut nodes, places, spots, made)?;
+        put_move(&mut nodes, places, action_sites, made)?;
     }
     Ok(Graph { nodes })
 }
@@ -217,22 +226,22 @@ pub(crate) fn graph_of(
 fn put_link(
     links: &mut Vec<Link>,
     places: &IndexSet<Holder>,
-    spots: &IndexSet<ActionSite>,
+    action_sites: &IndexSet<ActionSite>,
     arrow: &Arrow,
 ) -> Result<(), AllocError>
     ensures { OnOk result (links.new.items
-        ≡ links.old.items ++ spec.link_of places.now.keys spots.now.keys arrow.now) }
+        ≡ links.old.items ++ spec.link_of places.now.keys action_sites.now.keys arrow.now) }
 {
     if let Some(label) = arrow.label {
-        if let (Some(spot), Some(place)) = (
-            spots.get_index(label as usize),
+        if let (Some(action_site), Some(place)) = (
+            action_sites.get_index(label as usize),
             places.get_index(arrow.to),
         ) {
-            let key = spot.key.clone()?;
+            let key = action_site.key.clone()?;
             let written = place.at.clone()?;
             links.push(Link {
                 key,
-                index: spot.index,
+                index: action_site.index,
                 written,
             })?;
         }
@@ -244,14 +253,14 @@ fn put_link(
 pub(crate) fn links_of(
     alloc: Global,
     places: &IndexSet<Holder>,
-    spots: &IndexSet<ActionSite>,
+    action_sites: &IndexSet<ActionSite>,
     trail: &[Arrow],
 ) -> Result<Vec<Link>, AllocError>
-    ensures { IfOk result (λ links. links.items ≡ spec.links_of places.now.keys spots.now.keys trail.now) }
+    ensures { IfOk result (λ links. links.items ≡ spec.links_of places.now.keys action_sites.now.keys trail.now) }
 {
     let mut links = Vec::new(alloc);
     for arrow in trail {
-        put_link(&mut links, places, spots, arrow)?;
+        put_link(&mut links, places, action_sites, arrow)?;
     }
     Ok(links)
 }

@@ -6,7 +6,7 @@ ghost use Rattle.mh_flow.specs.Moves.{Follows, IsFirstOf};
 
 use crate::chain::link::Link;
 use crate::chain::moves::{Holder, Move};
-use crate::chain::routes::{graph_of, links_of, places_of, spots_of, starts_of};
+use crate::chain::routes::{action_sites_of, graph_of, links_of, places_of, starts_of};
 use mh_paths::first_chains;
 use std::alloc::{AllocError, Global};
 
@@ -20,15 +20,15 @@ pub(crate) fn first_links(
     ensures none { IfOk result (λ found. IfNone found ((ls : _) → Follows moves.now ls goal.now → ⊥)) }
 {
     let places = places_of(alloc, moves)?;
-    let spots = spots_of(alloc, moves)?;
+    let action_sites = action_sites_of(alloc, moves)?;
     let Some(number) = places.get_index_of(goal) else {
         return Ok(None);
     };
-    let graph = graph_of(alloc, &places, &spots, moves)?;
-    let starts = starts_of(alloc, &places, &spots, moves)?;
+    let graph = graph_of(alloc, &places, &action_sites, moves)?;
+    let starts = starts_of(alloc, &places, &action_sites, moves)?;
     let chains = first_chains(alloc, &graph, starts.as_slice())?;
     match &chains[number] {
         None => Ok(None),
-        Some(trail) => Ok(Some(links_of(alloc, &places, &spots, trail.as_slice())?)),
+        Some(trail) => Ok(Some(links_of(alloc, &places, &action_sites, trail.as_slice())?)),
     }
 }

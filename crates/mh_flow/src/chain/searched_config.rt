@@ -50,17 +50,17 @@ pub(crate) fn place(config: &Config, at: &ObjRef) -> Result<Holder, AllocError>
     Ok(Holder { config, at })
 }
 
-/// The spot of an object.
-pub(crate) fn first_spot(part: &Fixed) -> Result<ActionSite, AllocError>
-    ensures { IfOk result (λ spot. spot ≡ spec.first_spot part.now) }
+/// The action site of an object.
+pub(crate) fn first_action_site(part: &Fixed) -> Result<ActionSite, AllocError>
+    ensures { IfOk result (λ action_site. action_site ≡ spec.first_action_site part.now) }
 {
     let key = part.key.clone()?;
     Ok(ActionSite { key, index: 0 })
 }
 
-/// The spot of an action.
-pub(crate) fn site_spot(site: &Site<'_>) -> Result<ActionSite, AllocError>
-    ensures { IfOk result (λ spot. spot ≡ spec.site_spot site.now) }
+/// The action site of an action.
+pub(crate) fn action_site_at(site: &Site<'_>) -> Result<ActionSite, AllocError>
+    ensures { IfOk result (λ action_site. action_site ≡ spec.action_site_at site.now) }
 {
     let key = site.key.clone()?;
     Ok(ActionSite {
@@ -72,14 +72,14 @@ pub(crate) fn site_spot(site: &Site<'_>) -> Result<ActionSite, AllocError>
 /// Puts behind these that a reference comes to the place.
 pub(crate) fn push_comes(
     moves: &mut Vec<Move>,
-    spot: ActionSite,
+    action_site: ActionSite,
     to: Holder,
 ) -> Result<(), AllocError>
-    ensures { OnOk result (moves.new.items ≡ moves.old.items ++ spec.comes spot to ∷ []) }
+    ensures { OnOk result (moves.new.items ≡ moves.old.items ++ spec.comes action_site to ∷ []) }
 {
     moves.push(Move {
         from: None,
-        spot: Some(spot),
+        action_site: Some(action_site),
         to,
     })?;
     Ok(())
@@ -89,14 +89,14 @@ pub(crate) fn push_comes(
 pub(crate) fn push_goes(
     moves: &mut Vec<Move>,
     from: Holder,
-    spot: ActionSite,
+    action_site: ActionSite,
     to: Holder,
 ) -> Result<(), AllocError>
-    ensures { OnOk result (moves.new.items ≡ moves.old.items ++ spec.goes from spot to ∷ []) }
+    ensures { OnOk result (moves.new.items ≡ moves.old.items ++ spec.goes from action_site to ∷ []) }
 {
     moves.push(Move {
         from: Some(from),
-        spot: Some(spot),
+        action_site: Some(action_site),
         to,
     })?;
     Ok(())
@@ -108,7 +108,7 @@ pub(crate) fn push_stays(moves: &mut Vec<Move>, from: Holder, to: Holder) -> Res
 {
     moves.push(Move {
         from: Some(from),
-        spot: None,
+        action_site: None,
         to,
     })?;
     Ok(())

@@ -23,21 +23,21 @@ pub trait Rules {
     ghost use Rattle.std.specs.Prelude.{◌≡◌, ◌++◌, OnOk};
     ghost use Rattle.mh_flow.specs.Constraints.{ConstraintSystem};
 
-    ghost net: { Self → ConstraintSystem };
+    ghost system: { Self → ConstraintSystem };
 
     /// How many sets there are.
     fn nodes(&self) -> usize
-        ensures { result ≡ (net self.now).nodes };
+        ensures { result ≡ (system self.now).nodes };
 
     /// How many numbers can be members.
     fn width(&self) -> usize
-        ensures { result ≡ (net self.now).width };
+        ensures { result ≡ (system self.now).width };
 
     /// Puts behind these what is there at the start.
     fn starts(&self, items: &mut Vec<Item>) -> Result<(), AllocError>
-        ensures { OnOk result (items.new.items ≡ items.old.items ++ (net self.now).starts) };
+        ensures { OnOk result (items.new.items ≡ items.old.items ++ (system self.now).starts) };
 
     /// Puts behind these what the member opens.
     fn open(&self, fact: Fact, items: &mut Vec<Item>) -> Result<(), AllocError>
-        ensures { OnOk result (items.new.items ≡ items.old.items ++ (net self.now).opens fact) };
+        ensures { OnOk result (items.new.items ≡ items.old.items ++ (system self.now).opens fact) };
 }

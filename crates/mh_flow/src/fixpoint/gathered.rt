@@ -49,11 +49,11 @@ impl Gathered {
 
     /// Lays out the row of bits of a set, if it is not laid out.
     fn lay<R: Rules>(&mut self, rules: &R, node: usize) -> Result<(), AllocError>
-        requires sound { IsSound (R.net rules.now) (view self.old) }
-        requires node { node < (R.net rules.now).nodes }
-        ensures sound { OnOk result (IsSound (R.net rules.now) (view self.new)) }
-        ensures step { OnOk result (IsStep (R.net rules.now) (view self.old) (view self.new)) }
-        ensures laid { OnOk result (LaidOut (R.net rules.now).width node self.old.bits.items self.new.bits.items) }
+        requires sound { IsSound (R.system rules.now) (view self.old) }
+        requires node { node < (R.system rules.now).nodes }
+        ensures sound { OnOk result (IsSound (R.system rules.now) (view self.new)) }
+        ensures step { OnOk result (IsStep (R.system rules.now) (view self.old) (view self.new)) }
+        ensures laid { OnOk result (LaidOut (R.system rules.now).width node self.old.bits.items self.new.bits.items) }
         ensures members { OnOk result (self.new.members ≡ self.old.members) }
         ensures edges { OnOk result (self.new.edges ≡ self.old.edges) }
         ensures pending { OnOk result (self.new.pending ≡ self.old.pending) }
@@ -64,12 +64,12 @@ impl Gathered {
 
     /// A member that may be known.
     pub fn add<R: Rules>(&mut self, rules: &R, fact: Fact) -> Result<(), AllocError>
-        requires sound { IsSound (R.net rules.now) (view self.old) }
-        requires node { fact.node < (R.net rules.now).nodes }
-        requires member { fact.member < (R.net rules.now).width }
-        requires derived { Derived (R.net rules.now) (item.Member fact) }
-        ensures sound { OnOk result (IsSound (R.net rules.now) (view self.new)) }
-        ensures step { OnOk result (IsStep (R.net rules.now) (view self.old) (view self.new)) }
+        requires sound { IsSound (R.system rules.now) (view self.old) }
+        requires node { fact.node < (R.system rules.now).nodes }
+        requires member { fact.member < (R.system rules.now).width }
+        requires derived { Derived (R.system rules.now) (item.Member fact) }
+        ensures sound { OnOk result (IsSound (R.system rules.now) (view self.new)) }
+        ensures step { OnOk result (IsStep (R.system rules.now) (view self.old) (view self.new)) }
         ensures put { OnOk result (IsIn (view self.new) (item.Member fact)) }
         ensures edges { OnOk result (self.new.edges ≡ self.old.edges) }
     {
@@ -84,12 +84,12 @@ impl Gathered {
 
     /// All members of a set that are known into another.
     fn carry<R: Rules>(&mut self, rules: &R, from: usize, to: usize) -> Result<(), AllocError>
-        requires sound { IsSound (R.net rules.now) (view self.old) }
-        requires from { from < (R.net rules.now).nodes }
-        requires to { to < (R.net rules.now).nodes }
-        requires derived { Derived (R.net rules.now) (item.Edge from to) }
-        ensures sound { OnOk result (IsSound (R.net rules.now) (view self.new)) }
-        ensures step { OnOk result (IsStep (R.net rules.now) (view self.old) (view self.new)) }
+        requires sound { IsSound (R.system rules.now) (view self.old) }
+        requires from { from < (R.system rules.now).nodes }
+        requires to { to < (R.system rules.now).nodes }
+        requires derived { Derived (R.system rules.now) (item.Edge from to) }
+        ensures sound { OnOk result (IsSound (R.system rules.now) (view self.new)) }
+        ensures step { OnOk result (IsStep (R.system rules.now) (view self.old) (view self.new)) }
         ensures gone { OnOk result (HasGone (view self.old) (view self.new) from to) }
     {
         // Members that come later are pending, and go along the edge when they are followed.
@@ -108,12 +108,12 @@ impl Gathered {
         from: usize,
         to: usize,
     ) -> Result<(), AllocError>
-        requires sound { IsSound (R.net rules.now) (view self.old) }
-        requires from { from < (R.net rules.now).nodes }
-        requires to { to < (R.net rules.now).nodes }
-        requires derived { Derived (R.net rules.now) (item.Edge from to) }
-        ensures sound { OnOk result (IsSound (R.net rules.now) (view self.new)) }
-        ensures step { OnOk result (IsStep (R.net rules.now) (view self.old) (view self.new)) }
+        requires sound { IsSound (R.system rules.now) (view self.old) }
+        requires from { from < (R.system rules.now).nodes }
+        requires to { to < (R.system rules.now).nodes }
+        requires derived { Derived (R.system rules.now) (item.Edge from to) }
+        ensures sound { OnOk result (IsSound (R.system rules.now) (view self.new)) }
+        ensures step { OnOk result (IsStep (R.system rules.now) (view self.old) (view self.new)) }
         ensures put { OnOk result (IsIn (view self.new) (item.Edge from to)) }
     {
         // Rules may open an edge many times; its members go along it once.
@@ -126,11 +126,11 @@ impl Gathered {
 
     /// A member or an edge.
     pub fn put<R: Rules>(&mut self, rules: &R, item: Item) -> Result<(), AllocError>
-        requires sound { IsSound (R.net rules.now) (view self.old) }
-        requires fits { fits (R.net rules.now) item }
-        requires derived { Derived (R.net rules.now) item }
-        ensures sound { OnOk result (IsSound (R.net rules.now) (view self.new)) }
-        ensures step { OnOk result (IsStep (R.net rules.now) (view self.old) (view self.new)) }
+        requires sound { IsSound (R.system rules.now) (view self.old) }
+        requires fits { fits (R.system rules.now) item }
+        requires derived { Derived (R.system rules.now) item }
+        ensures sound { OnOk result (IsSound (R.system rules.now) (view self.new)) }
+        ensures step { OnOk result (IsStep (R.system rules.now) (view self.old) (view self.new)) }
         ensures put { OnOk result (IsIn (view self.new) item) }
     {
         match item {
@@ -142,11 +142,11 @@ impl Gathered {
 
     /// All these.
     pub fn put_each<R: Rules>(&mut self, rules: &R, items: &[Item]) -> Result<(), AllocError>
-        requires sound { IsSound (R.net rules.now) (view self.old) }
-        requires fits { (x : _) → Contains items.now x → fits (R.net rules.now) x }
-        requires derived { (x : _) → Contains items.now x → Derived (R.net rules.now) x }
-        ensures sound { OnOk result (IsSound (R.net rules.now) (view self.new)) }
-        ensures step { OnOk result (IsStep (R.net rules.now) (view self.old) (view self.new)) }
+        requires sound { IsSound (R.system rules.now) (view self.old) }
+        requires fits { (x : _) → Contains items.now x → fits (R.system rules.now) x }
+        requires derived { (x : _) → Contains items.now x → Derived (R.system rules.now) x }
+        ensures sound { OnOk result (IsSound (R.system rules.now) (view self.new)) }
+        ensures step { OnOk result (IsStep (R.system rules.now) (view self.old) (view self.new)) }
         ensures put { OnOk result ((x : _) → Contains items.now x → IsIn (view self.new) x) }
     {
         for item in items {
@@ -157,11 +157,11 @@ impl Gathered {
 
     /// A member that is known along all edges of its set.
     fn spread<R: Rules>(&mut self, rules: &R, fact: Fact) -> Result<(), AllocError>
-        requires fit { IsFit (R.net rules.now) }
-        requires sound { IsSound (R.net rules.now) (view self.old) }
+        requires fit { IsFit (R.system rules.now) }
+        requires sound { IsSound (R.system rules.now) (view self.old) }
         requires known { IsIn (view self.old) (item.Member fact) }
-        ensures sound { OnOk result (IsSound (R.net rules.now) (view self.new)) }
-        ensures step { OnOk result (IsStep (R.net rules.now) (view self.old) (view self.new)) }
+        ensures sound { OnOk result (IsSound (R.system rules.now) (view self.new)) }
+        ensures step { OnOk result (IsStep (R.system rules.now) (view self.old) (view self.new)) }
         ensures gone { OnOk result (IsSpread (view self.new) fact) }
     {
         let count = count_at(self.edges.as_slice(), fact.node);
@@ -180,12 +180,12 @@ impl Gathered {
         fact: Fact,
         items: &mut Vec<Item>,
     ) -> Result<(), AllocError>
-        requires fit { IsFit (R.net rules.now) }
-        requires sound { IsSound (R.net rules.now) (view self.old) }
+        requires fit { IsFit (R.system rules.now) }
+        requires sound { IsSound (R.system rules.now) (view self.old) }
         requires known { IsIn (view self.old) (item.Member fact) }
-        ensures sound { OnOk result (IsSound (R.net rules.now) (view self.new)) }
-        ensures step { OnOk result (IsStep (R.net rules.now) (view self.old) (view self.new)) }
-        ensures closed { OnOk result (IsFollowed (R.net rules.now) (view self.old) (view self.new) fact) }
+        ensures sound { OnOk result (IsSound (R.system rules.now) (view self.new)) }
+        ensures step { OnOk result (IsStep (R.system rules.now) (view self.old) (view self.new)) }
+        ensures closed { OnOk result (IsFollowed (R.system rules.now) (view self.old) (view self.new) fact) }
     {
         items.clear();
         rules.open(fact, items)?;

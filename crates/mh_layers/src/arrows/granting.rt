@@ -9,7 +9,7 @@ ghost use Rattle.mh_model.specs.Reference.{same_ref as same_ref_lem};
 ghost use Rattle.mh_laws.specs.Flow.{reached};
 ghost use Rattle.mh_laws.specs.Safe.{exchanged};
 ghost use Rattle.mh_layers.specs.Granting.{held_for, held_so, is_held_so, with_had, with_held, with_items, with_led, with_next, with_sent, with_source, with_target};
-ghost use Rattle.mh_layers.specs.Reading.{flow_read, spot_in};
+ghost use Rattle.mh_layers.specs.Reading.{flow_read, context_in};
 
 use crate::arrows::arrow::Held;
 use crate::cycle::effect_site::copied_reference;
@@ -116,16 +116,16 @@ fn hold_lists(held: &mut Vec<Held>, here: &At<'_>, at: &ObjRef) -> Result<(), Al
 }
 
 /// The configuration to which it goes on from here to the group, if that is reached.
-#[tactic(auto, using(crate::proofs::SpotLemmas::named_in, crate::proofs::SpotLemmas::reached_numbered))]
+#[tactic(auto, using(crate::proofs::ContextLemmas::named_in, crate::proofs::ContextLemmas::reached_numbered))]
 fn beyond<'a>(here: &'a At<'_>, group: &GroupName) -> Option<At<'a>>
     ensures some { let s = here.now in let d = exchanged s.reading.service s.config group.now in
-        IfSome result (λ there. there ≡ spot_in s.reading d) }
+        IfSome result (λ there. there ≡ context_in s.reading d) }
     ensures reached { let s = here.now in let d = exchanged s.reading.service s.config group.now in
         is_some result ≡ reached (flow_read s.reading) d }
 {
     match here.exchanged(group) {
         None => None,
-        Some(number) => match At::of(here.net(), number) {
+        Some(number) => match At::of(here.numbered_service(), number) {
             None => unreachable!(),
             Some(there) => Some(there),
         },

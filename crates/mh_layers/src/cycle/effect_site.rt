@@ -77,17 +77,17 @@ pub(crate) fn copied_reference(at: &ObjRef) -> Result<ObjRef, AllocError>
 
 /// The effect as a cause.
 pub(crate) fn cause_at(
-    net: &NumberedService<'_>,
+    numbered_service: &NumberedService<'_>,
     config: &Config,
     at: &ObjRef,
     number: usize,
 ) -> Result<Cause, AllocError>
-    ensures { IfOk result (λ cause. cause ≡ spec.cause_of net.now.service (record { config = config.now; object = at.now; number = number })) }
+    ensures { IfOk result (λ cause. cause ≡ spec.cause_of numbered_service.now.service (record { config = config.now; object = at.now; number = number })) }
 {
-    let present = net.present(config);
+    let present = numbered_service.present(config);
     let part = present.find(at);
     let action = action_in(part, number);
-    let index = index_in(net.allocator(), part, number)?;
+    let index = index_in(numbered_service.allocator(), part, number)?;
     let config = copied_config(config)?;
     let at = copied_reference(at)?;
     Ok(Cause {
@@ -101,33 +101,41 @@ pub(crate) fn cause_at(
 /// The effect with these numbers as a cause.
 #[tactic(auto, using(crate::proofs::EffectSiteLemmas::cause_found))]
 fn cause_by(
-    net: &NumberedService<'_>,
+    numbered_service: &NumberedService<'_>,
     config: usize,
     object: usize,
     number: usize,
 ) -> Result<Cause, AllocError>
-    requires config { has_config net.now config ≡ true }
-    requires object { has_object net.now object ≡ true }
-    ensures { IfOk result (λ cause. cause ≡ cause_by net.now config object number) }
+    requires config { has_config numbered_service.now config ≡ true }
+    requires object { has_object numbered_service.now object ≡ true }
+    ensures { IfOk result (λ cause. cause ≡ cause_by numbered_service.now config object number) }
 {
-    let Some(config) = net.config_at(config) else {
+    let Some(config) = numbered_service.config_at(config) else {
         unreachable!();
     };
-    let Some(at) = net.object_at(object) else {
+    let Some(at) = numbered_service.object_at(object) else {
         unreachable!();
     };
-    let cause = cause_at(net, config, at, number)?;
+    let cause = cause_at(numbered_service, config, at, number)?;
     Ok(cause)
 }
 
 /// The effect with this number as a cause.
-pub(crate) fn cause_of(net: &NumberedService<'_>, key: &NodeKey) -> Result<Cause, AllocError>
-    requires { IsEffectKept net.now key.now }
-    ensures { IfOk result (λ cause. cause ≡ cause_named net.now key.now) }
+pub(crate) fn cause_of(
+    numbered_service: &NumberedService<'_>,
+    key: &NodeKey,
+) -> Result<Cause, AllocError>
+    requires { IsEffectKept numbered_service.now key.now }
+    ensures { IfOk result (λ cause. cause ≡ cause_named numbered_service.now key.now) }
 {
-    net.read();
+    numbered_service.read();
     match key {
-        NodeKey::Effect(config, object, number) => cause_by(net, *config, *object, *number),
+        NodeKey::Effect(config, object, number) => cause_by(
+            numbered_service,
+            *config,
+            *object,
+            *number,
+        ),
         _ => unreachable!(),
     }
 }
@@ -156,11 +164,11 @@ fn by_order(first: &EffectSite, second: &EffectSite) -> Ordering
 }
 
 /// Where the effect with this number stands.
-fn place_of(net: &NumberedService<'_>, key: &NodeKey) -> Result<EffectSite, AllocError>
-    requires { IsEffectKept net.now key.now }
-    ensures { IfOk result (λ standing. standing ≡ effect_site_named net.now key.now) }
+fn place_of(numbered_service: &NumberedService<'_>, key: &NodeKey) -> Result<EffectSite, AllocError>
+    requires { IsEffectKept numbered_service.now key.now }
+    ensures { IfOk result (λ effect_site. effect_site ≡ effect_site_named numbered_service.now key.now) }
 {
-    let cause = cause_of(net, key)?;
+    let cause = cause_of(numbered_service, key)?;
     Ok(EffectSite {
         at: cause.at,
         index: cause.index,
@@ -170,78 +178,78 @@ fn place_of(net: &NumberedService<'_>, key: &NodeKey) -> Result<EffectSite, Allo
 /// Puts where it stands among these.
 fn put(
     effect_sites: &mut IndexSet<EffectSite>,
-    net: &NumberedService<'_>,
+    numbered_service: &NumberedService<'_>,
     key: &NodeKey,
 ) -> Result<(), AllocError>
-    requires { IsEffectKept net.now key.now }
-    ensures { OnOk result (effect_sites.new.keys ≡ insert_all same_effect_site effect_sites.old.keys (effect_site_named net.now key.now ∷ [])) }
+    requires { IsEffectKept numbered_service.now key.now }
+    ensures { OnOk result (effect_sites.new.keys ≡ insert_all same_effect_site effect_sites.old.keys (effect_site_named numbered_service.now key.now ∷ [])) }
 {
-    effect_sites.insert(place_of(net, key)?)?;
+    effect_sites.insert(place_of(numbered_service, key)?)?;
     Ok(())
 }
 
 /// Where these effects stand, as they come.
 fn met(
     alloc: Global,
-    net: &NumberedService<'_>,
+    numbered_service: &NumberedService<'_>,
     keys: &[NodeKey],
 ) -> Result<IndexSet<EffectSite>, AllocError>
-    requires { Each (IsEffectKept net.now) keys.now }
-    ensures { IfOk result (λ effect_sites. effect_sites.keys ≡ insert_all same_effect_site [] (map (effect_site_named net.now) keys.now)) }
+    requires { Each (IsEffectKept numbered_service.now) keys.now }
+    ensures { IfOk result (λ effect_sites. effect_sites.keys ≡ insert_all same_effect_site [] (map (effect_site_named numbered_service.now) keys.now)) }
 {
     let mut effect_sites = IndexSet::new(alloc);
     for key in keys {
-        put(&mut effect_sites, net, key)?;
+        put(&mut effect_sites, numbered_service, key)?;
     }
     Ok(effect_sites)
 }
 
 /// Where these effects stand, in the order of places.
-pub(crate) fn standings_of(
+pub(crate) fn effect_sites_of(
     alloc: Global,
-    net: &NumberedService<'_>,
+    numbered_service: &NumberedService<'_>,
     keys: &[NodeKey],
 ) -> Result<IndexSet<EffectSite>, AllocError>
-    requires { Each (IsEffectKept net.now) keys.now }
-    ensures { IfOk result (λ effect_sites. AreEffectSites net.now keys.now effect_sites.keys) }
+    requires { Each (IsEffectKept numbered_service.now) keys.now }
+    ensures { IfOk result (λ effect_sites. AreEffectSites numbered_service.now keys.now effect_sites.keys) }
 {
-    let mut effect_sites = met(alloc, net, keys)?;
+    let mut effect_sites = met(alloc, numbered_service, keys)?;
     effect_sites.sort_by(by_order)?;
     Ok(effect_sites)
 }
 
 /// The number of the place.
-fn number_of(effect_sites: &IndexSet<EffectSite>, standing: &EffectSite) -> usize
-    ensures { result ≡ effect_site_number effect_sites.now.keys standing.now }
+fn number_of(effect_sites: &IndexSet<EffectSite>, effect_site: &EffectSite) -> usize
+    ensures { result ≡ effect_site_number effect_sites.now.keys effect_site.now }
 {
-    effect_sites.get_index_of(standing).unwrap_or(0)
+    effect_sites.get_index_of(effect_site).unwrap_or(0)
 }
 
 /// The label of an arrow to an effect: the number of its place.
 fn label_of(
-    net: &NumberedService<'_>,
+    numbered_service: &NumberedService<'_>,
     effect_sites: &IndexSet<EffectSite>,
     key: &NodeKey,
 ) -> Result<u64, AllocError>
-    requires { IsEffectKept net.now key.now }
-    ensures { IfOk result (λ label. label ≡ label_in net.now effect_sites.now.keys key.now) }
+    requires { IsEffectKept numbered_service.now key.now }
+    ensures { IfOk result (λ label. label ≡ label_in numbered_service.now effect_sites.now.keys key.now) }
 {
-    let place = place_of(net, key)?;
+    let place = place_of(numbered_service, key)?;
     Ok(number_of(effect_sites, &place) as u64)
 }
 
 /// The label of an arrow to this key, if it has one.
 #[tactic(auto, using(crate::proofs::EffectSiteLemmas::label_tells))]
 fn label_to(
-    net: &NumberedService<'_>,
+    numbered_service: &NumberedService<'_>,
     effect_sites: &IndexSet<EffectSite>,
     key: &NodeKey,
 ) -> Result<Option<u64>, AllocError>
-    requires { kept net.now key.now }
-    ensures { IfOk result (λ label. label ≡ label_to (label_in net.now effect_sites.now.keys) key.now) }
+    requires { kept numbered_service.now key.now }
+    ensures { IfOk result (λ label. label ≡ label_to (label_in numbered_service.now effect_sites.now.keys) key.now) }
 {
     match key {
-        NodeKey::Effect(..) => Ok(Some(label_of(net, effect_sites, key)?)),
+        NodeKey::Effect(..) => Ok(Some(label_of(numbered_service, effect_sites, key)?)),
         _ => Ok(None),
     }
 }
@@ -249,16 +257,16 @@ fn label_to(
 /// The labels of arrows to these keys.
 pub(crate) fn labels_of(
     alloc: Global,
-    net: &NumberedService<'_>,
+    numbered_service: &NumberedService<'_>,
     effect_sites: &IndexSet<EffectSite>,
     keys: &[NodeKey],
 ) -> Result<Vec<Option<u64>>, AllocError>
-    requires { Each (kept net.now) keys.now }
-    ensures { IfOk result (λ labels. labels.items ≡ map (label_to (label_in net.now effect_sites.now.keys)) keys.now) }
+    requires { Each (kept numbered_service.now) keys.now }
+    ensures { IfOk result (λ labels. labels.items ≡ map (label_to (label_in numbered_service.now effect_sites.now.keys)) keys.now) }
 {
     let mut labels = Vec::new(alloc);
     for key in keys {
-        labels.push(label_to(net, effect_sites, key)?)?;
+        labels.push(label_to(numbered_service, effect_sites, key)?)?;
     }
     Ok(labels)
 }

@@ -1,6 +1,6 @@
-//! The web of keys: a graph with an arrow from each key to each that it counts.
+//! The graph of keys, with an arrow from each to each that it counts.
 //!
-//! Promise: the web has all keys that are met on from its roots, each once, and an arrow for each that is counted; the
+//! Promise: the key graph has all keys that are met on from its roots, each once, and an arrow for each that is counted; the
 //! labels of arrows are in the order of the places of effects.
 ghost use Rattle.std.specs.Prelude.{◌≡◌, [], map, IfOk};
 ghost use Rattle.indexmap.specs.IndexSet.{insert_all};
@@ -12,7 +12,7 @@ ghost use Rattle.mh_layers.specs.Reading.{IsReading, kept, price};
 ghost use Rattle.mh_layers.specs.EffectSites.{arrow_by, label_at, node_in};
 ghost use Rattle.mh_layers.specs.Walk.{IsKeyGraphOf};
 
-use crate::cycle::effect_site::{labels_of, standings_of};
+use crate::cycle::effect_site::{effect_sites_of, labels_of};
 use crate::cycle::successors::{put_all, rows_of};
 use crate::node_key::NodeKey;
 use crate::numbered::NumberedService;
@@ -97,24 +97,24 @@ fn keys_of(alloc: Global, roots: &[NodeKey]) -> Result<IndexSet<NodeKey>, AllocE
     Ok(keys)
 }
 
-/// The web of these roots, among all active effects.
-#[tactic(auto, using(crate::proofs::GraphLemmas::web_made, crate::proofs::GraphLemmas::firsts_kept))]
-pub(crate) fn web_of(
+/// The key graph of these roots, among all active effects.
+#[tactic(auto, using(crate::proofs::GraphLemmas::key_graph_made, crate::proofs::GraphLemmas::firsts_kept))]
+pub(crate) fn key_graph_of(
     alloc: Global,
-    net: &NumberedService<'_>,
+    numbered_service: &NumberedService<'_>,
     roots: &[NodeKey],
     all: &[NodeKey],
 ) -> Result<KeyGraph, AllocError>
-    requires counted { CountsKept (price net.now) (kept net.now) }
-    requires kept { Each (kept net.now) roots.now }
-    requires reading { IsReading net.now }
-    requires all { all.now ≡ active_keys net.now }
-    ensures { IfOk result (λ web. IsKeyGraphOf net.now roots.now web.keys.keys web.graph) }
+    requires counted { CountsKept (price numbered_service.now) (kept numbered_service.now) }
+    requires kept { Each (kept numbered_service.now) roots.now }
+    requires reading { IsReading numbered_service.now }
+    requires all { all.now ≡ active_keys numbered_service.now }
+    ensures { IfOk result (λ key_graph. IsKeyGraphOf numbered_service.now roots.now key_graph.keys.keys key_graph.graph) }
 {
     let mut keys = keys_of(alloc, roots)?;
-    let rows = rows_of(alloc, net, &mut keys)?;
-    let effect_sites = standings_of(alloc, net, all)?;
-    let labels = labels_of(alloc, net, &effect_sites, keys.as_slice())?;
+    let rows = rows_of(alloc, numbered_service, &mut keys)?;
+    let effect_sites = effect_sites_of(alloc, numbered_service, all)?;
+    let labels = labels_of(alloc, numbered_service, &effect_sites, keys.as_slice())?;
     let graph = graph_of(alloc, &keys, labels.as_slice(), rows.as_slice())?;
     let _ = keys.len();
     Ok(KeyGraph { keys, graph })

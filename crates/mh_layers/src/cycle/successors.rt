@@ -39,13 +39,13 @@ pub(crate) fn key_at(keys: &IndexSet<NodeKey>, place: usize) -> Option<NodeKey>
 #[tactic(auto, using(crate::proofs::SuccessorLemmas::stays_same, crate::proofs::SuccessorLemmas::stays_all, crate::proofs::SuccessorLemmas::rows_more))]
 fn more(
     alloc: Global,
-    net: &NumberedService<'_>,
+    numbered_service: &NumberedService<'_>,
     keys: &mut IndexSet<NodeKey>,
     rows: &mut Vec<Vec<NodeKey>>,
 ) -> Result<bool, AllocError>
-    requires counted { CountsKept (price net.now) (kept net.now) }
-    requires rows { AreRows (price net.now) (kept net.now) keys.old.keys rows.old.items }
-    ensures rows { OnOk result (AreRows (price net.now) (kept net.now) keys.new.keys rows.new.items) }
+    requires counted { CountsKept (price numbered_service.now) (kept numbered_service.now) }
+    requires rows { AreRows (price numbered_service.now) (kept numbered_service.now) keys.old.keys rows.old.items }
+    ensures rows { OnOk result (AreRows (price numbered_service.now) (kept numbered_service.now) keys.new.keys rows.new.items) }
     ensures stays { OnOk result (Stays keys.old.keys keys.new.keys) }
     ensures all { IfOk result (λ more. more ≡ false → slice_get keys.new.keys (length rows.new.items) ≡ None) }
     ensures less { IfOk result (λ more. more ≡ true → 2 ^ 64 - length rows.new.items < 2 ^ 64 - length rows.old.items) }
@@ -53,7 +53,7 @@ fn more(
     let Some(key) = key_at(keys, rows.len()) else {
         return Ok(false);
     };
-    let row = counted_keys(alloc, net, &key)?;
+    let row = counted_keys(alloc, numbered_service, &key)?;
     put_all(keys, row.as_slice())?;
     rows.push(row)?;
     Ok(true)
@@ -63,18 +63,18 @@ fn more(
 #[tactic(auto, using(crate::proofs::SuccessorLemmas::stays_same, crate::proofs::SuccessorLemmas::stays_on, crate::proofs::SuccessorLemmas::no_rows))]
 pub(crate) fn rows_of(
     alloc: Global,
-    net: &NumberedService<'_>,
+    numbered_service: &NumberedService<'_>,
     keys: &mut IndexSet<NodeKey>,
 ) -> Result<Vec<Vec<NodeKey>>, AllocError>
-    requires counted { CountsKept (price net.now) (kept net.now) }
-    requires kept { Each (kept net.now) keys.old.keys }
-    ensures rows { IfOk result (λ rows. AreRows (price net.now) (kept net.now) keys.new.keys rows.items) }
+    requires counted { CountsKept (price numbered_service.now) (kept numbered_service.now) }
+    requires kept { Each (kept numbered_service.now) keys.old.keys }
+    ensures rows { IfOk result (λ rows. AreRows (price numbered_service.now) (kept numbered_service.now) keys.new.keys rows.items) }
     ensures stays { OnOk result (Stays keys.old.keys keys.new.keys) }
     ensures all { IfOk result (λ rows. slice_get keys.new.keys (length rows.items) ≡ None) }
 {
     let mut rows = Vec::new(alloc);
     loop {
-        if !more(alloc, net, keys, &mut rows)? {
+        if !more(alloc, numbered_service, keys, &mut rows)? {
             return Ok(rows);
         }
     }

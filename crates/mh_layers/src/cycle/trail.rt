@@ -72,16 +72,16 @@ fn stretches_of(alloc: Global, from: NodeKey, keys: &[NodeKey]) -> Result<Vec<St
 /// The arrows of these stretches.
 fn arrows_of(
     alloc: Global,
-    net: &NumberedService<'_>,
+    numbered_service: &NumberedService<'_>,
     parts: &[Stretch],
 ) -> Result<Vec<Arrow>, AllocError>
-    requires reading { IsReading net.now }
-    requires steps { Each (IsStretch net.now) parts.now }
-    ensures { IfOk result (λ arrows. AreArrowsOf net.now parts.now arrows.items) }
+    requires reading { IsReading numbered_service.now }
+    requires steps { Each (IsStretch numbered_service.now) parts.now }
+    ensures { IfOk result (λ arrows. AreArrowsOf numbered_service.now parts.now arrows.items) }
 {
     let mut arrows = Vec::new(alloc);
     for part in parts {
-        arrows.push(arrow_for(alloc, net, &part.from, &part.first, &part.to)?)?;
+        arrows.push(arrow_for(alloc, numbered_service, &part.from, &part.first, &part.to)?)?;
     }
     Ok(arrows)
 }
@@ -89,17 +89,17 @@ fn arrows_of(
 /// The arrows along the trail from the effect on.
 pub(crate) fn arrows_along(
     alloc: Global,
-    net: &NumberedService<'_>,
+    numbered_service: &NumberedService<'_>,
     keys: &IndexSet<NodeKey>,
     from: NodeKey,
     trail: &[mh_paths::Arrow],
 ) -> Result<Vec<Arrow>, AllocError>
-    requires reading { IsReading net.now }
-    requires steps { Each (IsStretch net.now) (stretches from None (keys_along keys.now.keys trail.now)) }
+    requires reading { IsReading numbered_service.now }
+    requires steps { Each (IsStretch numbered_service.now) (stretches from None (keys_along keys.now.keys trail.now)) }
     ensures { let parts = stretches from None (keys_along keys.now.keys trail.now) in
-        IfOk result (λ arrows. AreArrowsOf net.now parts arrows.items) }
+        IfOk result (λ arrows. AreArrowsOf numbered_service.now parts arrows.items) }
 {
     let along = keys_along(alloc, keys, trail)?;
     let parts = stretches_of(alloc, from, along.as_slice())?;
-    arrows_of(alloc, net, parts.as_slice())
+    arrows_of(alloc, numbered_service, parts.as_slice())
 }

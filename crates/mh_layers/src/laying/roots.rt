@@ -37,16 +37,16 @@ fn has_actions(part: &Fixed, number: usize) -> bool
 /// Puts the key of the object's effect with this number, if that has actions.
 fn push_if_acting(
     keys: &mut Vec<NodeKey>,
-    net: &NumberedService<'_>,
+    numbered_service: &NumberedService<'_>,
     config: usize,
     part: &Fixed,
     number: usize,
 ) -> Result<(), AllocError>
     ensures { let acting = filter (has_actions part.now) (number ∷ []) in
-        OnOk result (keys.new.items ≡ keys.old.items ++ map (λ n. key.Effect config (object_number net.now part.now.key) n) acting) }
+        OnOk result (keys.new.items ≡ keys.old.items ++ map (λ n. key.Effect config (object_number numbered_service.now part.now.key) n) acting) }
 {
     if has_actions(part, number) {
-        let object = net.object_number(&part.key);
+        let object = numbered_service.object_number(&part.key);
         keys.push(NodeKey::Effect(config, object, number))?;
     }
     Ok(())
@@ -55,46 +55,46 @@ fn push_if_acting(
 /// Puts the keys of those of the object's first effects that have actions.
 fn push_acting(
     keys: &mut Vec<NodeKey>,
-    net: &NumberedService<'_>,
+    numbered_service: &NumberedService<'_>,
     config: usize,
     part: &Fixed,
     count: usize,
 ) -> Result<(), AllocError>
     ensures { let acting = filter (has_actions part.now) (range_with_len 0 count) in
-        OnOk result (keys.new.items ≡ keys.old.items ++ map (λ n. key.Effect config (object_number net.now part.now.key) n) acting) }
+        OnOk result (keys.new.items ≡ keys.old.items ++ map (λ n. key.Effect config (object_number numbered_service.now part.now.key) n) acting) }
 {
     for number in 0..count {
-        push_if_acting(keys, net, config, part, number)?;
+        push_if_acting(keys, numbered_service, config, part, number)?;
     }
     Ok(())
 }
 
 fn push_part(
     keys: &mut Vec<NodeKey>,
-    net: &NumberedService<'_>,
+    numbered_service: &NumberedService<'_>,
     config: usize,
     part: &Fixed,
 ) -> Result<(), AllocError>
-    ensures { OnOk result (keys.new.items ≡ keys.old.items ++ keys_at net.now config part.now) }
+    ensures { OnOk result (keys.new.items ≡ keys.old.items ++ keys_at numbered_service.now config part.now) }
 {
-    let count = effect_count(net.allocator(), part)?;
-    push_acting(keys, net, config, part, count)
+    let count = effect_count(numbered_service.allocator(), part)?;
+    push_acting(keys, numbered_service, config, part, count)
 }
 
 /// Puts the keys of the effects of those of these parts that are active.
 fn push_active(
     keys: &mut Vec<NodeKey>,
-    net: &NumberedService<'_>,
+    numbered_service: &NumberedService<'_>,
     present: &Present<'_>,
     config: usize,
     parts: &[FixedPart],
 ) -> Result<(), AllocError>
     ensures { let ps = filter (is_active present.now) parts.now in
-        OnOk result (keys.new.items ≡ keys.old.items ++ flat_map (keys_at net.now config) ps) }
+        OnOk result (keys.new.items ≡ keys.old.items ++ flat_map (keys_at numbered_service.now config) ps) }
 {
     for part in parts {
         if present.is_active(part.get()) {
-            push_part(keys, net, config, part.get())?;
+            push_part(keys, numbered_service, config, part.get())?;
         }
     }
     Ok(())
@@ -102,27 +102,27 @@ fn push_active(
 
 fn push_config(
     keys: &mut Vec<NodeKey>,
-    net: &NumberedService<'_>,
+    numbered_service: &NumberedService<'_>,
     config: &Config,
 ) -> Result<(), AllocError>
-    ensures { OnOk result (keys.new.items ≡ keys.old.items ++ keys_active net.now config.now) }
+    ensures { OnOk result (keys.new.items ≡ keys.old.items ++ keys_active numbered_service.now config.now) }
 {
-    let number = net.config_number(config);
-    let present = net.present(config);
+    let number = numbered_service.config_number(config);
+    let present = numbered_service.present(config);
     let (application, scene) = present.parts();
-    push_active(keys, net, &present, number, application)?;
-    push_active(keys, net, &present, number, scene)?;
+    push_active(keys, numbered_service, &present, number, application)?;
+    push_active(keys, numbered_service, &present, number, scene)?;
     Ok(())
 }
 
 pub(crate) fn push_effects(
     keys: &mut Vec<NodeKey>,
-    net: &NumberedService<'_>,
+    numbered_service: &NumberedService<'_>,
 ) -> Result<(), AllocError>
-    ensures { OnOk result (keys.new.items ≡ keys.old.items ++ active_keys net.now) }
+    ensures { OnOk result (keys.new.items ≡ keys.old.items ++ active_keys numbered_service.now) }
 {
-    for config in net.configs() {
-        push_config(keys, net, config)?;
+    for config in numbered_service.configs() {
+        push_config(keys, numbered_service, config)?;
     }
     Ok(())
 }
@@ -143,19 +143,22 @@ fn push_kinds(keys: &mut Vec<NodeKey>, config: usize) -> Result<(), AllocError>
 
 fn push_taken(
     keys: &mut Vec<NodeKey>,
-    net: &NumberedService<'_>,
+    numbered_service: &NumberedService<'_>,
     config: &Config,
 ) -> Result<(), AllocError>
-    ensures { OnOk result (keys.new.items ≡ keys.old.items ++ input_keys net.now config.now) }
+    ensures { OnOk result (keys.new.items ≡ keys.old.items ++ input_keys numbered_service.now config.now) }
 {
-    push_kinds(keys, net.config_number(config))
+    push_kinds(keys, numbered_service.config_number(config))
 }
 
-fn push_inputs(keys: &mut Vec<NodeKey>, net: &NumberedService<'_>) -> Result<(), AllocError>
-    ensures { OnOk result (keys.new.items ≡ keys.old.items ++ flat_map (input_keys net.now) (flow_read net.now).configs) }
+fn push_inputs(
+    keys: &mut Vec<NodeKey>,
+    numbered_service: &NumberedService<'_>,
+) -> Result<(), AllocError>
+    ensures { OnOk result (keys.new.items ≡ keys.old.items ++ flat_map (input_keys numbered_service.now) (flow_read numbered_service.now).configs) }
 {
-    for config in net.configs() {
-        push_taken(keys, net, config)?;
+    for config in numbered_service.configs() {
+        push_taken(keys, numbered_service, config)?;
     }
     Ok(())
 }
@@ -171,21 +174,24 @@ pub(crate) fn starting(service: &Equipped<'_>) -> Result<Config, AllocError>
 }
 
 /// The number of the configuration in which the service starts.
-pub(crate) fn start_number(net: &NumberedService<'_>) -> Result<usize, AllocError>
-    ensures { IfOk result (λ number. number ≡ config_number net.now (starting_lem net.now.service)) }
+pub(crate) fn start_number(numbered_service: &NumberedService<'_>) -> Result<usize, AllocError>
+    ensures { IfOk result (λ number. number ≡ config_number numbered_service.now (starting_lem numbered_service.now.service)) }
 {
-    let start = starting(net.service())?;
-    Ok(net.config_number(&start))
+    let start = starting(numbered_service.service())?;
+    Ok(numbered_service.config_number(&start))
 }
 
 /// The keys of the start, of all inputs and of all active effects that have actions.
-pub(crate) fn roots(alloc: Global, net: &NumberedService<'_>) -> Result<Vec<NodeKey>, AllocError>
-    ensures { IfOk result (λ keys. keys.items ≡ root_keys net.now) }
+pub(crate) fn roots(
+    alloc: Global,
+    numbered_service: &NumberedService<'_>,
+) -> Result<Vec<NodeKey>, AllocError>
+    ensures { IfOk result (λ keys. keys.items ≡ root_keys numbered_service.now) }
 {
     let mut keys = Vec::new(alloc);
-    let start = start_number(net)?;
+    let start = start_number(numbered_service)?;
     keys.push(NodeKey::Taken(start, InputKind::Start))?;
-    push_inputs(&mut keys, net)?;
-    push_effects(&mut keys, net)?;
+    push_inputs(&mut keys, numbered_service)?;
+    push_effects(&mut keys, numbered_service)?;
     Ok(keys)
 }

@@ -1,4 +1,4 @@
-//! `At`: a configuration of a net.
+//! `At`: a configuration of a numbered service.
 //!
 //! Promise: it answers what is present and held in the configuration, and the numbers of its keys.
 ghost use Rattle.std.specs.Prelude.{◌≡◌, ◌++◌, None, Some, position, slice_get, IfNone, IfOk, IfSome};
@@ -12,7 +12,7 @@ ghost use Rattle.mh_laws.specs.Ways.{Sure};
 ghost use Rattle.mh_flow.specs.Sites.{sites_of as sites_of_lem};
 ghost use Rattle.mh_layers.specs.Key.{Change, Enter, Leave};
 ghost use Rattle.mh_layers.specs.Keys.{hearing};
-ghost use Rattle.mh_layers.specs.Reading.{IsReading, config_number, effect_key as effect_number, fired_key as fired_number, flow_read, hears_among, hears_told, lists_read, number as number_of, same_setting, settings, spot_at};
+ghost use Rattle.mh_layers.specs.Reading.{IsReading, config_number, effect_key as effect_number, fired_key as fired_number, flow_read, hears_among, hears_told, lists_read, number as number_of, same_setting, settings, context_at};
 
 use crate::node_key::{Hears, NodeKey};
 use crate::numbered::NumberedService;
@@ -26,10 +26,10 @@ use mh_prices::Told;
 use std::alloc::AllocError;
 use std::marker::Model;
 
-/// A configuration of a net.
+/// A configuration of a numbered service.
 #[derive(Drop)]
 pub(crate) struct At<'a> {
-    net: &'a NumberedService<'a>,
+    numbered_service: &'a NumberedService<'a>,
     number: usize,
     config: &'a Config,
     present: Present<'a>,
@@ -37,18 +37,18 @@ pub(crate) struct At<'a> {
 }
 
 impl<'a> Model for At<'a> {
-    ghost use Rattle.mh_layers.specs.Reading.{IsSpot, Spot};
+    ghost use Rattle.mh_layers.specs.Reading.{IsContext, CostContext};
 
-    ghost Value = { Spot };
+    ghost Value = { CostContext };
 
-    ghost view = { λ a. record { reading = a.net.now; config = a.config.now } };
+    ghost view = { λ a. record { reading = a.numbered_service.now; config = a.config.now } };
 
     ghost invariant = { λ a.
-        IsSpot (record { reading = a.net.now; config = a.config.now }) a.number a.present a.held.now };
+        IsContext (record { reading = a.numbered_service.now; config = a.config.now }) a.number a.present a.held.now };
 }
 
 /// The number of the value among those that are named, as a hearing; where it is not named, that of events without data.
-#[tactic(auto, using(crate::proofs::SpotLemmas::not_named, crate::proofs::SpotLemmas::named_there))]
+#[tactic(auto, using(crate::proofs::ContextLemmas::not_named, crate::proofs::ContextLemmas::named_there))]
 fn hears_value(values: &Values, value: &Value) -> Hears
     ensures { result ≡ hears_among values.now (hearing values.now (Sure (Some value.now))) }
 {
@@ -81,33 +81,33 @@ fn hears_among(values: &Values, told: &Told<'_>) -> Hears
 
 impl<'a> At<'a> {
     /// The configuration with this number.
-    pub fn of(net: &'a NumberedService<'a>, number: usize) -> Option<At<'a>>
-        ensures some { IfSome result (λ at. at ≡ spot_at net.now number) }
-        ensures none { IfNone result (slice_get (settings net.now) number ≡ None) }
+    pub fn of(numbered_service: &'a NumberedService<'a>, number: usize) -> Option<At<'a>>
+        ensures some { IfSome result (λ at. at ≡ context_at numbered_service.now number) }
+        ensures none { IfNone result (slice_get (settings numbered_service.now) number ≡ None) }
     {
-        match net.config_at(number) {
+        match numbered_service.config_at(number) {
             None => None,
-            Some(config) => match net.held_at(number) {
+            Some(config) => match numbered_service.held_at(number) {
                 None => None,
-                Some(held) => Some(At::made(net, number, config, held)),
+                Some(held) => Some(At::made(numbered_service, number, config, held)),
             },
         }
     }
 
     fn made(
-        net: &'a NumberedService<'a>,
+        numbered_service: &'a NumberedService<'a>,
         number: usize,
         config: &'a Config,
         held: &'a Held,
     ) -> At<'a>
-        requires config { slice_get (settings net.now) number ≡ Some config.now }
-        requires held { slice_get (lists_read net.now) number ≡ Some held.now }
-        ensures { result ≡ spot_at net.now number }
+        requires config { slice_get (settings numbered_service.now) number ≡ Some config.now }
+        requires held { slice_get (lists_read numbered_service.now) number ≡ Some held.now }
+        ensures { result ≡ context_at numbered_service.now number }
     {
-        net.read();
-        let present = net.present(config);
+        numbered_service.read();
+        let present = numbered_service.present(config);
         At {
-            net,
+            numbered_service,
             number,
             config,
             present,
@@ -117,11 +117,11 @@ impl<'a> At<'a> {
 
     // What is there
 
-    /// The net.
-    pub fn net(&self) -> &'a NumberedService<'a>
+    /// The numbered service.
+    pub fn numbered_service(&self) -> &'a NumberedService<'a>
         ensures { result.now ≡ self.now.reading }
     {
-        self.net
+        self.numbered_service
     }
 
     /// The configuration.
@@ -184,7 +184,7 @@ impl<'a> At<'a> {
         ensures { let s = self.now in
             IfOk result (λ sites. sites.items ≡ sites_of_lem (present_there s.reading.service s.config)) }
     {
-        sites_of(self.net.allocator(), &self.present)
+        sites_of(self.numbered_service.allocator(), &self.present)
     }
 
     /// Whether the effects of the object can come to be done here.
@@ -199,10 +199,11 @@ impl<'a> At<'a> {
         ensures { let s = self.now in
             result ≡ position (same_setting (exchanged s.reading.service s.config group.now)) (settings s.reading) }
     {
-        if self.net.service().has_application(group) {
-            self.net.place_of(group, None)
+        if self.numbered_service.service().has_application(group) {
+            self.numbered_service.place_of(group, None)
         } else {
-            self.net.place_of(&self.config.app, Some(group))
+            self.numbered_service
+                .place_of(&self.config.app, Some(group))
         }
     }
 
@@ -210,7 +211,7 @@ impl<'a> At<'a> {
     pub fn hears(&self, at: &ObjRef, kind: EventType, told: &Told<'_>) -> Option<Hears>
         ensures { result ≡ hears_told self.now.reading at.now kind told.now }
     {
-        match self.net.values(at, kind) {
+        match self.numbered_service.values(at, kind) {
             None => None,
             Some(values) => Some(hears_among(values, told)),
         }
@@ -229,21 +230,30 @@ impl<'a> At<'a> {
     pub fn effect_key(&self, at: &ObjRef, index: usize) -> NodeKey
         ensures { result ≡ effect_number self.now at.now index }
     {
-        NodeKey::Effect(self.number(), self.net.object_number(at), index)
+        NodeKey::Effect(
+            self.number(),
+            self.numbered_service.object_number(at),
+            index,
+        )
     }
 
     /// What an event sets going that is dealt with at once.
     pub fn fired_key(&self, at: &ObjRef, kind: EventType, hears: Hears) -> NodeKey
         ensures { result ≡ fired_number self.now at.now kind hears }
     {
-        NodeKey::Fired(self.number(), self.net.object_number(at), kind, hears)
+        NodeKey::Fired(
+            self.number(),
+            self.numbered_service.object_number(at),
+            kind,
+            hears,
+        )
     }
 
     /// A change of a list.
     pub fn change_key(&self, at: &ObjRef) -> NodeKey
         ensures { result ≡ number_of self.now.reading (Change self.now.config at.now) }
     {
-        NodeKey::Change(self.number(), self.net.object_number(at))
+        NodeKey::Change(self.number(), self.numbered_service.object_number(at))
     }
 
     /// To leave the scene, or all.

@@ -3,7 +3,7 @@
 //! Promise: what is answered has the number.
 ghost use Rattle.std.specs.Prelude.{◌≡◌, ◌&&◌, is_some, slice_get, true, Some};
 ghost use Rattle.mh_laws.specs.Flow.{reached};
-ghost use Rattle.mh_layers.specs.Reading.{flow_read, has_config, has_hearing, has_names, has_object, hearing_named, hears_number, object_named, spot_at, spot_in, values_read};
+ghost use Rattle.mh_layers.specs.Reading.{flow_read, has_config, has_hearing, has_names, has_object, hearing_named, hears_number, object_named, context_at, context_in, values_read};
 
 use crate::node_key::{Hears, NodeKey};
 use crate::numbered::NumberedService;
@@ -13,23 +13,23 @@ use mh_base::{EventType, ObjRef, Value};
 use mh_model::Config;
 
 /// The configuration with this number.
-pub(crate) fn standing<'a>(net: &'a NumberedService<'a>, number: usize) -> At<'a>
-    requires { has_config net.now number ≡ true }
-    ensures { result ≡ spot_at net.now number }
+pub(crate) fn context_at<'a>(numbered_service: &'a NumberedService<'a>, number: usize) -> At<'a>
+    requires { has_config numbered_service.now number ≡ true }
+    ensures { result ≡ context_at numbered_service.now number }
 {
-    match At::of(net, number) {
+    match At::of(numbered_service, number) {
         None => unreachable!(),
         Some(here) => here,
     }
 }
 
 /// The object with this number.
-#[tactic(auto, using(crate::proofs::SpotLemmas::got_there))]
-pub(crate) fn object<'a>(net: &'a NumberedService<'_>, number: usize) -> &'a ObjRef
-    requires { has_object net.now number ≡ true }
-    ensures { result.now ≡ object_named net.now number }
+#[tactic(auto, using(crate::proofs::ContextLemmas::got_there))]
+pub(crate) fn object<'a>(numbered_service: &'a NumberedService<'_>, number: usize) -> &'a ObjRef
+    requires { has_object numbered_service.now number ≡ true }
+    ensures { result.now ≡ object_named numbered_service.now number }
 {
-    match net.object_at(number) {
+    match numbered_service.object_at(number) {
         None => unreachable!(),
         Some(at) => at,
     }
@@ -48,15 +48,15 @@ fn value_at(values: &Values, number: usize) -> &Value
 
 /// The value with this number.
 fn value<'a>(
-    net: &'a NumberedService<'_>,
+    numbered_service: &'a NumberedService<'_>,
     source: &ObjRef,
     kind: EventType,
     number: usize,
 ) -> &'a Value
-    requires { is_some (slice_get (values_read net.now source.now kind) number) ≡ true }
-    ensures { slice_get (values_read net.now source.now kind) number ≡ Some result.now }
+    requires { is_some (slice_get (values_read numbered_service.now source.now kind) number) ≡ true }
+    ensures { slice_get (values_read numbered_service.now source.now kind) number ≡ Some result.now }
 {
-    match net.values(source, kind) {
+    match numbered_service.values(source, kind) {
         None => unreachable!(),
         Some(values) => value_at(values, number),
     }
@@ -64,50 +64,50 @@ fn value<'a>(
 
 /// The number of the hearing that has this number.
 pub(crate) fn hearing(
-    net: &NumberedService<'_>,
+    numbered_service: &NumberedService<'_>,
     source: &ObjRef,
     kind: EventType,
     hears: Hears,
 ) -> Hears
-    requires { has_hearing net.now source.now kind hears ≡ true }
-    ensures { let r = net.now in result ≡ hears_number r source.now kind (hearing_named r source.now kind hears) }
+    requires { has_hearing numbered_service.now source.now kind hears ≡ true }
+    ensures { let r = numbered_service.now in result ≡ hears_number r source.now kind (hearing_named r source.now kind hears) }
 {
     match hears {
         Hears::With(number) => {
-            let value = value(net, source, kind, number);
-            Hears::With(net.value_number(source, kind, value))
+            let value = value(numbered_service, source, kind, number);
+            Hears::With(numbered_service.value_number(source, kind, value))
         }
         _ => hears,
     }
 }
 
-/// The configuration in the net, which is reached.
-#[tactic(auto, using(crate::proofs::SpotLemmas::named_in))]
-pub(crate) fn reached<'a>(net: &'a NumberedService<'a>, config: &Config) -> At<'a>
-    requires { reached (flow_read net.now) config.now ≡ true }
-    ensures { result ≡ spot_in net.now config.now }
+/// The configuration in the numbered service, which is reached.
+#[tactic(auto, using(crate::proofs::ContextLemmas::named_in))]
+pub(crate) fn reached<'a>(numbered_service: &'a NumberedService<'a>, config: &Config) -> At<'a>
+    requires { reached (flow_read numbered_service.now) config.now ≡ true }
+    ensures { result ≡ context_in numbered_service.now config.now }
 {
-    match net.number_of(config) {
+    match numbered_service.number_of(config) {
         None => unreachable!(),
-        Some(number) => standing(net, number),
+        Some(number) => context_at(numbered_service, number),
     }
 }
 
 // Whether there is something with a number
 
-fn has_config(net: &NumberedService<'_>, number: usize) -> bool
-    ensures { result ≡ has_config net.now number }
+fn has_config(numbered_service: &NumberedService<'_>, number: usize) -> bool
+    ensures { result ≡ has_config numbered_service.now number }
 {
-    match net.config_at(number) {
+    match numbered_service.config_at(number) {
         None => false,
         Some(_) => true,
     }
 }
 
-fn has_object(net: &NumberedService<'_>, number: usize) -> bool
-    ensures { result ≡ has_object net.now number }
+fn has_object(numbered_service: &NumberedService<'_>, number: usize) -> bool
+    ensures { result ≡ has_object numbered_service.now number }
 {
-    match net.object_at(number) {
+    match numbered_service.object_at(number) {
         None => false,
         Some(_) => true,
     }
@@ -122,47 +122,65 @@ fn has_value_at(values: &Values, number: usize) -> bool
     }
 }
 
-fn has_value(net: &NumberedService<'_>, source: &ObjRef, kind: EventType, number: usize) -> bool
-    ensures { result ≡ is_some (slice_get (values_read net.now source.now kind) number) }
+fn has_value(
+    numbered_service: &NumberedService<'_>,
+    source: &ObjRef,
+    kind: EventType,
+    number: usize,
+) -> bool
+    ensures { result ≡ is_some (slice_get (values_read numbered_service.now source.now kind) number) }
 {
-    match net.values(source, kind) {
+    match numbered_service.values(source, kind) {
         None => false,
         Some(values) => has_value_at(values, number),
     }
 }
 
-fn has_hearing(net: &NumberedService<'_>, source: &ObjRef, kind: EventType, hears: Hears) -> bool
-    ensures { result ≡ has_hearing net.now source.now kind hears }
+fn has_hearing(
+    numbered_service: &NumberedService<'_>,
+    source: &ObjRef,
+    kind: EventType,
+    hears: Hears,
+) -> bool
+    ensures { result ≡ has_hearing numbered_service.now source.now kind hears }
 {
     match hears {
-        Hears::With(number) => has_value(net, source, kind, number),
+        Hears::With(number) => has_value(numbered_service, source, kind, number),
         _ => true,
     }
 }
 
-#[tactic(auto, using(crate::proofs::SpotLemmas::got_there))]
-fn has_event(net: &NumberedService<'_>, source: usize, kind: EventType, hears: Hears) -> bool
-    ensures { result ≡ (has_object net.now source && has_hearing net.now (object_named net.now source) kind hears) }
+#[tactic(auto, using(crate::proofs::ContextLemmas::got_there))]
+fn has_event(
+    numbered_service: &NumberedService<'_>,
+    source: usize,
+    kind: EventType,
+    hears: Hears,
+) -> bool
+    ensures { result ≡ (has_object numbered_service.now source && has_hearing numbered_service.now (object_named numbered_service.now source) kind hears) }
 {
-    match net.object_at(source) {
+    match numbered_service.object_at(source) {
         None => false,
-        Some(at) => has_hearing(net, at, kind, hears),
+        Some(at) => has_hearing(numbered_service, at, kind, hears),
     }
 }
 
 /// Whether there are the configuration, the object and the value with the numbers that the key has.
-pub(crate) fn has_names(net: &NumberedService<'_>, key: &NodeKey) -> bool
-    ensures { result ≡ has_names net.now key.now }
+pub(crate) fn has_names(numbered_service: &NumberedService<'_>, key: &NodeKey) -> bool
+    ensures { result ≡ has_names numbered_service.now key.now }
 {
     match key {
-        NodeKey::Effect(config, at, _) => has_config(net, *config) && has_object(net, *at),
+        NodeKey::Effect(config, at, _) => has_config(numbered_service, *config)
+            && has_object(numbered_service, *at),
         NodeKey::Fired(config, source, kind, hears) => {
-            has_config(net, *config) && has_event(net, *source, *kind, *hears)
+            has_config(numbered_service, *config)
+                && has_event(numbered_service, *source, *kind, *hears)
         }
-        NodeKey::Entry(source, kind, hears) => has_event(net, *source, *kind, *hears),
-        NodeKey::Change(config, list) => has_config(net, *config) && has_object(net, *list),
-        NodeKey::Leave(config, _) => has_config(net, *config),
-        NodeKey::Enter(config) => has_config(net, *config),
-        NodeKey::Taken(config, _) => has_config(net, *config),
+        NodeKey::Entry(source, kind, hears) => has_event(numbered_service, *source, *kind, *hears),
+        NodeKey::Change(config, list) => has_config(numbered_service, *config)
+            && has_object(numbered_service, *list),
+        NodeKey::Leave(config, _) => has_config(numbered_service, *config),
+        NodeKey::Enter(config) => has_config(numbered_service, *config),
+        NodeKey::Taken(config, _) => has_config(numbered_service, *config),
     }
 }

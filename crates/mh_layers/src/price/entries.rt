@@ -6,7 +6,7 @@ ghost use Rattle.std.specs.List.{list_all};
 ghost use Rattle.mh_laws.specs.Flow.{reached};
 ghost use Rattle.mh_laws.specs.Price.{most_price};
 ghost use Rattle.mh_prices.specs.Meter.{Adds, raise};
-ghost use Rattle.mh_layers.specs.Reading.{flow_read, spot_in, there_by};
+ghost use Rattle.mh_layers.specs.Reading.{flow_read, context_in, there_by};
 
 use crate::node_key::Hears;
 use crate::numbered::NumberedService;
@@ -22,7 +22,7 @@ use std::alloc::AllocError;
 /// and there no object is looked for.
 #[tactic(auto, using(crate::proofs::OntoLemmas::absent_adds))]
 fn fired_in<M: Meter>(
-    net: &NumberedService<'_>,
+    numbered_service: &NumberedService<'_>,
     meter: &M,
     config: &Config,
     source: &ObjRef,
@@ -30,22 +30,22 @@ fn fired_in<M: Meter>(
     hears: Hears,
     sum: M::Sum,
 ) -> Result<M::Sum, AllocError>
-    requires { reached (flow_read net.now) config.now ≡ true }
-    ensures { let p = there_by (spot_in net.now config.now) source.now kind hears in
+    requires { reached (flow_read numbered_service.now) config.now ≡ true }
+    ensures { let p = there_by (context_in numbered_service.now config.now) source.now kind hears in
         Adds M.seen (M.meter meter.now) p sum result }
 {
-    net.read();
+    numbered_service.read();
     if !is_entered(config, &source.group) {
         return Ok(sum);
     }
-    let here = reached(net, config);
+    let here = reached(numbered_service, config);
     let walk = Walk { here: &here, meter };
     walk.fired_if_there(source, kind, hears, sum)
 }
 
 /// The largest over these configurations.
 fn configs_from<M: Meter>(
-    net: &NumberedService<'_>,
+    numbered_service: &NumberedService<'_>,
     meter: &M,
     configs: &[Config],
     source: &ObjRef,
@@ -54,15 +54,15 @@ fn configs_from<M: Meter>(
     mark: M::Mark,
     sum: M::Sum,
 ) -> Result<(M::Mark, M::Sum), AllocError>
-    requires { list_all (reached (flow_read net.now)) configs.now ≡ true }
-    ensures { let r = net.now in
-        let p = most_price (λ c. there_by (spot_in r c) source.now kind hears) configs.now in
+    requires { list_all (reached (flow_read numbered_service.now)) configs.now ≡ true }
+    ensures { let r = numbered_service.now in
+        let p = most_price (λ c. there_by (context_in r c) source.now kind hears) configs.now in
         IfOk result (λ x. (M.marked x.0, M.seen x.1) ≡ raise (M.meter meter.now) p (M.marked mark, M.seen sum)) }
 {
     let mut mark = mark;
     let mut sum = sum;
     for config in configs {
-        sum = fired_in(net, meter, config, source, kind, hears, sum)?;
+        sum = fired_in(numbered_service, meter, config, source, kind, hears, sum)?;
         (mark, sum) = meter.next(mark, sum);
     }
     Ok((mark, sum))
@@ -70,23 +70,32 @@ fn configs_from<M: Meter>(
 
 /// The largest over all configurations.
 pub(crate) fn configs_most<M: Meter>(
-    net: &NumberedService<'_>,
+    numbered_service: &NumberedService<'_>,
     meter: &M,
     source: &ObjRef,
     kind: EventType,
     hears: Hears,
     sum: M::Sum,
 ) -> Result<M::Sum, AllocError>
-    ensures { let r = net.now in
-        let p = most_price (λ c. there_by (spot_in r c) source.now kind hears) (flow_read r).configs in
+    ensures { let r = numbered_service.now in
+        let p = most_price (λ c. there_by (context_in r c) source.now kind hears) (flow_read r).configs in
         Adds M.seen (M.meter meter.now) p sum result }
 {
-    let Some((first, rest)) = net.configs().split_first() else {
+    let Some((first, rest)) = numbered_service.configs().split_first() else {
         return Ok(sum);
     };
     let (mark, sum) = meter.aside(sum);
-    let sum = fired_in(net, meter, first, source, kind, hears, sum)?;
+    let sum = fired_in(numbered_service, meter, first, source, kind, hears, sum)?;
     let (mark, sum) = meter.next(mark, sum);
-    let (mark, sum) = configs_from(net, meter, rest, source, kind, hears, mark, sum)?;
+    let (mark, sum) = configs_from(
+        numbered_service,
+        meter,
+        rest,
+        source,
+        kind,
+        hears,
+        mark,
+        sum,
+    )?;
     Ok(meter.close(mark, sum))
 }

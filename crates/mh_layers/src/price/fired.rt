@@ -45,7 +45,7 @@ fn scene_plain_links<'a>(here: &'a At<'_>, source: &ObjRef, kind: EventType) -> 
 {
     match here.scene() {
         None => &[],
-        Some(scene) => here.net().plain_links(scene, source, kind),
+        Some(scene) => here.numbered_service().plain_links(scene, source, kind),
     }
 }
 
@@ -60,7 +60,9 @@ fn plain<M: Meter>(
         Adds M.seen m (links_with_lem s.reading.service s.config source.now kind is_plain) sum result }
 {
     let here = walk.here;
-    let application = here.net().plain_links(&here.config().app, source, kind);
+    let application = here
+        .numbered_service()
+        .plain_links(&here.config().app, source, kind);
     let sum = links(walk, application, sum)?;
     links(walk, scene_plain_links(here, source, kind), sum)
 }
@@ -78,7 +80,9 @@ fn scene_links_with<'a>(
 {
     match here.scene() {
         None => &[],
-        Some(scene) => here.net().links_with(scene, source, kind, value),
+        Some(scene) => here
+            .numbered_service()
+            .links_with(scene, source, kind, value),
     }
 }
 
@@ -96,7 +100,7 @@ fn with<M: Meter>(
 {
     let here = walk.here;
     let application = here
-        .net()
+        .numbered_service()
         .links_with(&here.config().app, source, kind, value);
     let sum = links(walk, application, sum)?;
     links(walk, scene_links_with(here, source, kind, value), sum)
@@ -113,7 +117,10 @@ fn one_value<M: Meter>(
     ensures { let s = walk.now.here.now in let m = through (number_of s.reading) (M.meter walk.now.meter.now) in
         Adds M.seen m (Node (Fired s.config source.now kind (With value.now))) sum result }
 {
-    let number = walk.here.net().value_number(source, kind, value);
+    let number = walk
+        .here
+        .numbered_service()
+        .value_number(source, kind, value);
     let key = walk.here.fired_key(source, kind, Hears::With(number));
     walk.meter.node(key, sum)
 }
@@ -170,7 +177,7 @@ fn any<M: Meter>(
 {
     let plain = walk.here.fired_key(source, kind, Hears::Plain);
     let sum = walk.meter.node(plain, sum)?;
-    match walk.here.net().values(source, kind) {
+    match walk.here.numbered_service().values(source, kind) {
         None => Ok(sum),
         Some(values) => values_most(walk, source, kind, values.as_slice(), sum),
     }

@@ -36,7 +36,7 @@ fn leads_to_late(here: &At<'_>, name: ActionName, at: &ObjRef) -> bool
 {
     match name {
         ActionName::TransitionTo => {
-            at.number == 0 && is_late(here.net().service().late(), &at.group)
+            at.number == 0 && is_late(here.numbered_service().service().late(), &at.group)
         }
         _ => false,
     }
@@ -139,7 +139,7 @@ pub(crate) fn changes_from<M: Meter>(
         let p = most_price (inputs.scene_change (around_at s)) late in
         IfOk result (λ x. (M.marked x.0, M.seen x.1) ≡ raise m p (M.marked mark, M.seen sum)) }
 {
-    if walk.here.net().service().late().is_empty() {
+    if walk.here.numbered_service().service().late().is_empty() {
         return Ok((mark, sum));
     }
     let sites = walk.here.sites()?;

@@ -23,14 +23,14 @@ fn scene_parts<'a>(here: &'a At<'_>) -> &'a [FixedPart]
 {
     match here.scene() {
         None => &[],
-        Some(scene) => here.net().service().parts(scene),
+        Some(scene) => here.numbered_service().service().parts(scene),
     }
 }
 
 fn application_parts<'a>(here: &'a At<'_>) -> &'a [FixedPart]
     ensures { result.now ≡ group_parts here.now.reading.service here.now.config.app }
 {
-    here.net().service().parts(&here.config().app)
+    here.numbered_service().service().parts(&here.config().app)
 }
 
 /// The scene is left, or all.
@@ -69,6 +69,6 @@ pub(crate) fn entering<M: Meter>(walk: &Walk<'_, M>, sum: M::Sum) -> Result<M::S
         Adds M.seen m (price_read s.reading (Enter s.config)) sum result }
 {
     let group = entered(walk.here);
-    let parts = walk.here.net().service().parts(group);
+    let parts = walk.here.numbered_service().service().parts(group);
     enter(walk, group, parts, sum)
 }

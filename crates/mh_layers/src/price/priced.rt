@@ -1,4 +1,4 @@
-//! What the keys of a net cost as far as that is known, and which keys they count.
+//! What the keys of a numbered service cost as far as that is known, and which keys they count.
 //!
 //! Promise: a cost is what the key's price comes to, over what is known of keys by their numbers, and all that it counts is told
 //! in one pass.
@@ -38,26 +38,26 @@ impl<'a> Prices for NumberedService<'a> {
 /// What a key comes to whose names are there, over what is known.
 #[tactic(auto, using(crate::proofs::KnowingLemmas::known_numbers))]
 fn worth_of(
-    net: &NumberedService<'_>,
+    numbered_service: &NumberedService<'_>,
     costs: &Costs,
     key: &NodeKey,
 ) -> Result<CostOrMissing, AllocError>
-    requires { has_names net.now key.now ≡ true }
-    ensures { IfOk result (λ worth. worth ≡ known_worth (told (cost_in costs.now)) (price_of net.now key.now)) }
+    requires { has_names numbered_service.now key.now ≡ true }
+    ensures { IfOk result (λ worth. worth ≡ known_worth (told (cost_in costs.now)) (price_of numbered_service.now key.now)) }
 {
-    price(net, &KnownCosts { costs }, key, Ok(0))
+    price(numbered_service, &KnownCosts { costs }, key, Ok(0))
 }
 
 /// The keys that the key counts, each as often as it counts it.
 #[tactic(auto, using(crate::proofs::KnowingLemmas::counted_numbers))]
 pub(crate) fn counted_keys(
     alloc: Global,
-    net: &NumberedService<'_>,
+    numbered_service: &NumberedService<'_>,
     key: &NodeKey,
 ) -> Result<Vec<NodeKey>, AllocError>
-    requires { kept net.now key.now }
-    ensures { IfOk result (λ keys. keys.items ≡ counted_in (price_of net.now key.now)) }
+    requires { kept numbered_service.now key.now }
+    ensures { IfOk result (λ keys. keys.items ≡ counted_in (price_of numbered_service.now key.now)) }
 {
-    net.read();
-    price(net, &CountedKeys, key, Vec::new(alloc))
+    numbered_service.read();
+    price(numbered_service, &CountedKeys, key, Vec::new(alloc))
 }

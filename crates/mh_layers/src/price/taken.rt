@@ -41,7 +41,7 @@ fn fired_of<M: Meter>(
     ensures { let s = walk.now.here.now in let m = through (number_of s.reading) (M.meter walk.now.meter.now) in
         Adds M.seen m (fired_of_lem s.config source.now kind (heard_read s.reading source.now kind)) sum result }
 {
-    match walk.here.net().values(source, kind) {
+    match walk.here.numbered_service().values(source, kind) {
         None => Ok(sum),
         Some(_) => walk
             .meter
@@ -213,7 +213,11 @@ fn tick_input<M: Meter>(walk: &Walk<'_, M>, sum: M::Sum) -> Result<M::Sum, Alloc
     ensures { let s = walk.now.here.now in let m = through (number_of s.reading) (M.meter walk.now.meter.now) in
         Adds M.seen m (price_read s.reading (Taken s.config kind_lem.Tick)) sum result }
 {
-    timers_due(walk, walk.here.net().timers(), walk.meter.one(sum))
+    timers_due(
+        walk,
+        walk.here.numbered_service().timers(),
+        walk.meter.one(sum),
+    )
 }
 
 fn stream_input<M: Meter>(walk: &Walk<'_, M>, sum: M::Sum) -> Result<M::Sum, AllocError>

@@ -1,4 +1,4 @@
-//! `Walk`: a configuration of a net, and what the keys that are counted there are added up to.
+//! `Walk`: a configuration of a numbered service, and what the keys that are counted there are added up to.
 //!
 //! Promise: each answer adds what its price comes to, by the numbers of keys. The walk over prices is that of `mh_prices`.
 ghost use Rattle.std.specs.Prelude.{◌≡◌, ◌+◌, ◌<◌, ◌^◌, if◌then◌else◌, IfOk};
@@ -21,7 +21,7 @@ use mh_model::parts::group_ref;
 use mh_prices::{Around, Groups, Lists, Told, View};
 use std::alloc::AllocError;
 
-/// A configuration of a net, and a meter.
+/// A configuration of a numbered service, and a meter.
 #[derive(Drop)]
 pub(crate) struct Walk<'a, M> {
     pub here: &'a At<'a>,
@@ -105,7 +105,7 @@ impl<'a, M: Meter> Walk<'a, M> {
         if kind.is_sync() {
             self.fired_if_there(at, kind, hears, sum)
         } else {
-            let source = self.here.net().object_number(at);
+            let source = self.here.numbered_service().object_number(at);
             self.meter.node(NodeKey::Entry(source, kind, hears), sum)
         }
     }
@@ -246,7 +246,7 @@ impl<'a, M: Meter> View for Walk<'a, M> {
     }
 
     fn slots(&self, part: &Fixed, sum: M::Sum) -> Result<M::Sum, AllocError> {
-        let count = slot_count(self.here.net().allocator(), part)?;
+        let count = slot_count(self.here.numbered_service().allocator(), part)?;
         self.slots_to(part, count, sum)
     }
 }
@@ -286,7 +286,7 @@ impl<'a, M: Meter> Around for Walk<'a, M> {
         self.meter.node(self.here.leave_key(all), sum)
     }
 
-    #[tactic(auto, using(crate::proofs::SpotLemmas::reached_numbered))]
+    #[tactic(auto, using(crate::proofs::ContextLemmas::reached_numbered))]
     fn exchange(&self, group: &GroupName, sum: M::Sum) -> Result<M::Sum, AllocError> {
         let sum = self.meter.one(sum);
         match self.here.exchanged(group) {

@@ -23,14 +23,14 @@ fn is_effect(key: &NodeKey) -> bool
 /// Puts what the key counts among these.
 fn put_counted(
     alloc: Global,
-    net: &NumberedService<'_>,
+    numbered_service: &NumberedService<'_>,
     found: &mut IndexSet<NodeKey>,
     key: &NodeKey,
 ) -> Result<(), AllocError>
-    requires { kept net.now key.now }
-    ensures { OnOk result (IsPut net.now key.now found.old.keys found.new.keys) }
+    requires { kept numbered_service.now key.now }
+    ensures { OnOk result (IsPut numbered_service.now key.now found.old.keys found.new.keys) }
 {
-    let row = counted_keys(alloc, net, key)?;
+    let row = counted_keys(alloc, numbered_service, key)?;
     put_all(found, row.as_slice())?;
     Ok(())
 }
@@ -39,20 +39,20 @@ fn put_counted(
 #[tactic(auto, using(crate::proofs::CausedLemmas::opened_effect, crate::proofs::CausedLemmas::opened_other))]
 fn open(
     alloc: Global,
-    net: &NumberedService<'_>,
+    numbered_service: &NumberedService<'_>,
     found: &mut IndexSet<NodeKey>,
     place: usize,
     key: &NodeKey,
 ) -> Result<(), AllocError>
-    requires reading { IsReading net.now }
+    requires reading { IsReading numbered_service.now }
     requires there { slice_get found.old.keys place ≡ Some key.now }
-    requires kept { kept net.now key.now }
-    ensures opened { OnOk result (IsOpened net.now place found.old.keys found.new.keys) }
+    requires kept { kept numbered_service.now key.now }
+    ensures opened { OnOk result (IsOpened numbered_service.now place found.old.keys found.new.keys) }
 {
     if is_effect(key) {
         return Ok(());
     }
-    put_counted(alloc, net, found, key)?;
+    put_counted(alloc, numbered_service, found, key)?;
     Ok(())
 }
 
@@ -60,13 +60,13 @@ fn open(
 #[tactic(auto, using(crate::proofs::CausedLemmas::opened_none))]
 fn open_at(
     alloc: Global,
-    net: &NumberedService<'_>,
+    numbered_service: &NumberedService<'_>,
     found: &mut IndexSet<NodeKey>,
     place: usize,
 ) -> Result<bool, AllocError>
-    requires reading { IsReading net.now }
-    requires kept { Each (kept net.now) found.old.keys }
-    ensures opened { OnOk result (IsOpened net.now place found.old.keys found.new.keys) }
+    requires reading { IsReading numbered_service.now }
+    requires kept { Each (kept numbered_service.now) found.old.keys }
+    ensures opened { OnOk result (IsOpened numbered_service.now place found.old.keys found.new.keys) }
     ensures all { IfOk result (λ more. more ≡ false → slice_get found.new.keys place ≡ None) }
     ensures within { IfOk result (λ more. more ≡ true → place < 2 ^ 63) }
 {
@@ -74,7 +74,7 @@ fn open_at(
     match key_at(found, place) {
         None => Ok(false),
         Some(key) => {
-            open(alloc, net, found, place, &key)?;
+            open(alloc, numbered_service, found, place, &key)?;
             Ok(true)
         }
     }
@@ -84,18 +84,18 @@ fn open_at(
 #[tactic(auto, using(crate::proofs::CausedLemmas::opened_first, crate::proofs::CausedLemmas::all_opened))]
 pub(crate) fn reached_from(
     alloc: Global,
-    net: &NumberedService<'_>,
+    numbered_service: &NumberedService<'_>,
     root: &NodeKey,
 ) -> Result<IndexSet<NodeKey>, AllocError>
-    requires reading { IsReading net.now }
-    requires root { IsNamed net.now root.now }
-    ensures { IfOk result (λ found. AreReached net.now root.now found.keys) }
+    requires reading { IsReading numbered_service.now }
+    requires root { IsNamed numbered_service.now root.now }
+    ensures { IfOk result (λ found. AreReached numbered_service.now root.now found.keys) }
 {
     let mut found = IndexSet::new(alloc);
-    put_counted(alloc, net, &mut found, root)?;
+    put_counted(alloc, numbered_service, &mut found, root)?;
     let mut place: usize = 0;
     loop {
-        if !open_at(alloc, net, &mut found, place)? {
+        if !open_at(alloc, numbered_service, &mut found, place)? {
             return Ok(found);
         }
         place += 1;

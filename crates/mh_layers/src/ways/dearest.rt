@@ -69,19 +69,19 @@ fn set(best: &mut Option<Dearest>, key: NodeKey, cause: Cause, cost: u64)
 /// The key is the best, if it is an effect that comes before it.
 #[tactic(auto, using(crate::proofs::DearestLemmas::seen_nothing, crate::proofs::DearestLemmas::seen_later, crate::proofs::DearestLemmas::seen_best))]
 fn see(
-    net: &NumberedService<'_>,
+    numbered_service: &NumberedService<'_>,
     laying: &Laying,
     best: &mut Option<Dearest>,
     key: &NodeKey,
 ) -> Result<(), AllocError>
-    requires { kept net.now key.now }
-    ensures { OnOk result (IsSeen net.now laying.now key.now best.old best.new) }
+    requires { kept numbered_service.now key.now }
+    ensures { OnOk result (IsSeen numbered_service.now laying.now key.now best.old best.new) }
 {
     let cost = effect_cost(laying, key);
     if cost == 0 {
         return Ok(());
     }
-    let cause = cause_of(net, key)?;
+    let cause = cause_of(numbered_service, key)?;
     if !is_best(cost, &cause, best) {
         return Ok(());
     }
@@ -92,16 +92,16 @@ fn see(
 /// The dearest effect of these keys.
 #[tactic(auto, using(crate::proofs::DearestLemmas::chosen_all))]
 pub(crate) fn dearest_of(
-    net: &NumberedService<'_>,
+    numbered_service: &NumberedService<'_>,
     laying: &Laying,
     keys: &[NodeKey],
 ) -> Result<Option<Dearest>, AllocError>
-    requires { Each (kept net.now) keys.now }
-    ensures { IfOk result (λ best. AreChosen net.now laying.now keys.now best) }
+    requires { Each (kept numbered_service.now) keys.now }
+    ensures { IfOk result (λ best. AreChosen numbered_service.now laying.now keys.now best) }
 {
     let mut best = None;
     for key in keys {
-        see(net, laying, &mut best, key)?;
+        see(numbered_service, laying, &mut best, key)?;
     }
     Ok(best)
 }

@@ -117,18 +117,18 @@ fn dearest_act(
 /// The first action of the effect that costs most.
 fn dearest_part(
     alloc: Global,
-    net: &NumberedService<'_>,
+    numbered_service: &NumberedService<'_>,
     laying: &Laying,
     key: &NodeKey,
 ) -> Result<Part, AllocError>
-    requires reading { IsReading net.now }
-    requires active { IsActive net.now key.now }
-    requires layers { AreLayers (price net.now) (kept net.now) laying.now }
+    requires reading { IsReading numbered_service.now }
+    requires active { IsActive numbered_service.now key.now }
+    requires layers { AreLayers (price numbered_service.now) (kept numbered_service.now) laying.now }
     requires costs { 0 < effect_cost laying.now key.now }
-    ensures { let x = effect_named net.now key.now in
-        IfOk result (IsPart net.now laying.now x.config (acts_of net.now.service x)) }
+    ensures { let x = effect_named numbered_service.now key.now in
+        IfOk result (IsPart numbered_service.now laying.now x.config (acts_of numbered_service.now.service x)) }
 {
-    let here = config_of(net, key);
+    let here = config_of(numbered_service, key);
     let fixed = part_of(&here, key);
     let number = number_of(key);
     let acts = effect_acts(fixed, number);
@@ -141,16 +141,16 @@ fn dearest_part(
 /// The number of the action of the effect that stands so far behind its first.
 fn index_of(
     alloc: Global,
-    net: &NumberedService<'_>,
+    numbered_service: &NumberedService<'_>,
     key: &NodeKey,
     offset: usize,
 ) -> Result<usize, AllocError>
-    requires reading { IsReading net.now }
-    requires active { IsActive net.now key.now }
-    requires within { offset < length (acts_of net.now.service (effect_named net.now key.now)) }
-    ensures { IfOk result (λ index. index ≡ (cause_named net.now key.now).index + offset) }
+    requires reading { IsReading numbered_service.now }
+    requires active { IsActive numbered_service.now key.now }
+    requires within { offset < length (acts_of numbered_service.now.service (effect_named numbered_service.now key.now)) }
+    ensures { IfOk result (λ index. index ≡ (cause_named numbered_service.now key.now).index + offset) }
 {
-    let here = config_of(net, key);
+    let here = config_of(numbered_service, key);
     let fixed = part_of(&here, key);
     let index = number_behind(alloc, fixed, number_of(key), offset)?;
     Ok(index)
@@ -159,18 +159,18 @@ fn index_of(
 /// The stage of this effect.
 fn stage_of(
     alloc: Global,
-    net: &NumberedService<'_>,
+    numbered_service: &NumberedService<'_>,
     laying: &Laying,
     dearest: Dearest,
 ) -> Result<Next, AllocError>
-    requires reading { IsReading net.now }
-    requires active { IsActive net.now dearest.key }
-    requires layers { AreLayers (price net.now) (kept net.now) laying.now }
-    requires chosen { IsCostly net.now laying.now dearest }
-    ensures { IfOk result (λ next. IsStageBy net.now laying.now dearest next) }
+    requires reading { IsReading numbered_service.now }
+    requires active { IsActive numbered_service.now dearest.key }
+    requires layers { AreLayers (price numbered_service.now) (kept numbered_service.now) laying.now }
+    requires chosen { IsCostly numbered_service.now laying.now dearest }
+    ensures { IfOk result (λ next. IsStageBy numbered_service.now laying.now dearest next) }
 {
-    let part = dearest_part(alloc, net, laying, &dearest.key)?;
-    let index = index_of(alloc, net, &dearest.key, part.offset)?;
+    let part = dearest_part(alloc, numbered_service, laying, &dearest.key)?;
+    let index = index_of(alloc, numbered_service, &dearest.key, part.offset)?;
     Ok(Next {
         key: dearest.key,
         stage: Stage {
@@ -186,22 +186,22 @@ fn stage_of(
 /// The stage of the dearest effect that the key puts to work, if one costs anything.
 fn next_stage(
     alloc: Global,
-    net: &NumberedService<'_>,
+    numbered_service: &NumberedService<'_>,
     laying: &Laying,
     key: &NodeKey,
 ) -> Result<Option<Next>, AllocError>
-    requires reading { IsReading net.now }
-    requires layers { AreLayers (price net.now) (kept net.now) laying.now }
-    requires laid { list_all (is_laid laying.now) (root_keys net.now) ≡ true }
-    requires named { IsNamed net.now key.now }
-    ensures { IfOk result (λ next. IsNext net.now key.now next) }
+    requires reading { IsReading numbered_service.now }
+    requires layers { AreLayers (price numbered_service.now) (kept numbered_service.now) laying.now }
+    requires laid { list_all (is_laid laying.now) (root_keys numbered_service.now) ≡ true }
+    requires named { IsNamed numbered_service.now key.now }
+    ensures { IfOk result (λ next. IsNext numbered_service.now key.now next) }
 {
-    let found = reached_from(alloc, net, key)?;
+    let found = reached_from(alloc, numbered_service, key)?;
     let keys = found.as_slice();
-    match dearest_of(net, laying, keys)? {
+    match dearest_of(numbered_service, laying, keys)? {
         None => Ok(None),
         Some(dearest) => {
-            let next = stage_of(alloc, net, laying, dearest)?;
+            let next = stage_of(alloc, numbered_service, laying, dearest)?;
             Ok(Some(next))
         }
     }
@@ -211,21 +211,21 @@ fn next_stage(
 #[tactic(auto, using(crate::proofs::StageLemmas::stages_begin, crate::proofs::StageLemmas::stages_more, crate::proofs::StageLemmas::stages_end))]
 pub(crate) fn stages_from(
     alloc: Global,
-    net: &NumberedService<'_>,
+    numbered_service: &NumberedService<'_>,
     laying: &Laying,
     root: NodeKey,
 ) -> Result<Vec<Stage>, AllocError>
-    requires reading { IsReading net.now }
-    requires layers { AreLayers (price net.now) (kept net.now) laying.now }
-    requires laid { list_all (is_laid laying.now) (root_keys net.now) ≡ true }
-    requires named { IsNamed net.now root }
-    ensures { IfOk result (λ stages. AreStagesFrom net.now root stages.items) }
+    requires reading { IsReading numbered_service.now }
+    requires layers { AreLayers (price numbered_service.now) (kept numbered_service.now) laying.now }
+    requires laid { list_all (is_laid laying.now) (root_keys numbered_service.now) ≡ true }
+    requires named { IsNamed numbered_service.now root }
+    ensures { IfOk result (λ stages. AreStagesFrom numbered_service.now root stages.items) }
 {
     let mut stages = Vec::new(alloc);
     let mut key = root;
     loop {
         let _ = stages.len();
-        match next_stage(alloc, net, laying, &key)? {
+        match next_stage(alloc, numbered_service, laying, &key)? {
             None => return Ok(stages),
             Some(next) => {
                 stages.push(next.stage)?;

@@ -7,9 +7,9 @@ ghost use Rattle.mh_model.specs.Effects.{actions};
 ghost use Rattle.mh_model.specs.Tokens.{member_actions};
 ghost use Rattle.mh_lint.specs.Uses as spec;
 
-use crate::heard::Heard;
+use crate::timers::Timers;
 use crate::uses::reading::{
-    push_added, push_changed, push_grouped, push_heard, push_listed, push_read,
+    push_added, push_changed, push_grouped, push_heard, push_listed, push_read, push_set,
 };
 use crate::uses::{Change, Uses};
 use mh_flow::Equipped;
@@ -189,7 +189,7 @@ fn read_of(alloc: Global, acts: &[Act]) -> Result<Vec<Target>, AllocError>
     Ok(targets)
 }
 
-fn push_all_heard(heard: &mut Vec<Heard>, objects: &[FixedPart]) -> Result<(), AllocError>
+fn push_all_heard(heard: &mut Vec<Timers>, objects: &[FixedPart]) -> Result<(), AllocError>
     ensures { OnOk result (heard.new.items ≡ heard.old.items ++ flat_map spec.heard_by objects.now) }
 {
     for object in objects {
@@ -199,12 +199,30 @@ fn push_all_heard(heard: &mut Vec<Heard>, objects: &[FixedPart]) -> Result<(), A
 }
 
 /// What is heard of timers.
-fn heard_of(alloc: Global, objects: &[FixedPart]) -> Result<Vec<Heard>, AllocError>
+fn heard_of(alloc: Global, objects: &[FixedPart]) -> Result<Vec<Timers>, AllocError>
     ensures { IfOk result (λ heard. heard.items ≡ flat_map spec.heard_by objects.now) }
 {
     let mut heard = Vec::new(alloc);
     push_all_heard(&mut heard, objects)?;
     Ok(heard)
+}
+
+fn push_all_set(timed: &mut Vec<Timers>, acts: &[Act]) -> Result<(), AllocError>
+    ensures { OnOk result (timed.new.items ≡ timed.old.items ++ flat_map spec.set_by acts.now) }
+{
+    for act in acts {
+        push_set(timed, act)?;
+    }
+    Ok(())
+}
+
+/// Which timers are set.
+fn timed_of(alloc: Global, acts: &[Act]) -> Result<Vec<Timers>, AllocError>
+    ensures { IfOk result (λ timed. timed.items ≡ flat_map spec.set_by acts.now) }
+{
+    let mut timed = Vec::new(alloc);
+    push_all_set(&mut timed, acts)?;
+    Ok(timed)
 }
 
 fn is_transit(name: ActionName) -> bool
@@ -228,9 +246,11 @@ fn uses_in(alloc: Global, objects: &[FixedPart], acts: &[Act]) -> Result<Uses, A
         resized: changed_of(alloc, Change::Size, acts)?,
         reworded: changed_of(alloc, Change::Words, acts)?,
         tinted: changed_of(alloc, Change::Colour, acts)?,
+        registered: changed_of(alloc, Change::Register, acts)?,
         run: run_of(alloc, objects, acts)?,
         read: read_of(alloc, acts)?,
         heard: heard_of(alloc, objects)?,
+        timed: timed_of(alloc, acts)?,
         has_transition: has_transition(acts),
     })
 }

@@ -6,8 +6,8 @@ ghost use Rattle.std.specs.List.{flat_map};
 ghost use Rattle.std.specs.Option.{option_copied};
 ghost use Rattle.mh_lint.specs.Uses as spec;
 
-use crate::heard::Heard;
-use crate::uses::{Change, changes};
+use crate::timers::Timers;
+use crate::uses::{Change, changes, is_timing};
 use mh_base::{EventType, ObjRef, Value};
 use mh_group::{ActionName, Attribute, Class};
 use mh_model::held::{as_event, as_value};
@@ -170,17 +170,17 @@ pub(crate) fn push_read(targets: &mut Vec<Target>, act: &Act) -> Result<(), Allo
     push_arguments(targets, is_call(act.name), act.arguments.as_slice())
 }
 
-fn push_one(heard: &mut Vec<Heard>, at: &ObjRef, id: Option<i32>) -> Result<(), AllocError>
+fn push_one(heard: &mut Vec<Timers>, at: &ObjRef, id: Option<i32>) -> Result<(), AllocError>
     ensures { OnOk result (heard.new.items ≡ heard.old.items ++ record { at = at.now; id = id } ∷ []) }
 {
     let at = at.clone()?;
-    heard.push(Heard { at, id })?;
+    heard.push(Timers { at, id })?;
     Ok(())
 }
 
 /// What a link that waits for this hears of timers.
 fn push_waited(
-    heard: &mut Vec<Heard>,
+    heard: &mut Vec<Timers>,
     kind: Option<EventType>,
     source: Option<&Value>,
     value: Option<&Value>,
@@ -198,7 +198,7 @@ fn push_waited(
 }
 
 /// What the object hears of timers, if it is a link.
-pub(crate) fn push_heard(heard: &mut Vec<Heard>, part: &Fixed) -> Result<(), AllocError>
+pub(crate) fn push_heard(heard: &mut Vec<Timers>, part: &Fixed) -> Result<(), AllocError>
     ensures { OnOk result (heard.new.items ≡ heard.old.items ++ spec.heard_by part.now) }
 {
     match part.class {
@@ -210,4 +210,31 @@ pub(crate) fn push_heard(heard: &mut Vec<Heard>, part: &Fixed) -> Result<(), All
         ),
         _ => Ok(()),
     }
+}
+
+/// What is set of timers with this target and these arguments.
+fn push_timers(
+    timed: &mut Vec<Timers>,
+    target: &Target,
+    arguments: &[Argument],
+) -> Result<(), AllocError>
+    ensures { OnOk result (timed.new.items ≡ timed.old.items ++ spec.set target.now arguments.now) }
+{
+    match (target, arguments) {
+        (Target::Direct(at), [Argument::Direct(Value::Int(number)), ..]) => {
+            push_one(timed, at, Some(*number))
+        }
+        (Target::Direct(at), _) => push_one(timed, at, None),
+        (Target::Through(_), _) => Ok(()),
+    }
+}
+
+/// What the action sets of timers.
+pub(crate) fn push_set(timed: &mut Vec<Timers>, act: &Act) -> Result<(), AllocError>
+    ensures { OnOk result (timed.new.items ≡ timed.old.items ++ spec.set_by act.now) }
+{
+    if is_timing(act.name) {
+        return push_timers(timed, &act.target, act.arguments.as_slice());
+    }
+    Ok(())
 }

@@ -104,7 +104,7 @@ fn no_report(alloc: Global, name: &str, bytes: &[u8], line: usize) -> Failure {
 }
 
 /// The bytes of the file with this name, or of standard input for `-`.
-pub fn output_of<R: Runtime + AllocGlobal>(rt: &R, name: &str) -> Result<Vec<u8>, Failure> {
+pub(crate) fn output_of<R: Runtime + AllocGlobal>(rt: &R, name: &str) -> Result<Vec<u8>, Failure> {
     match bytes_of(rt, name) {
         Ok(bytes) => Ok(bytes),
         Err(error) => Err(unreadable(rt.alloc(), &error, called(name))),

@@ -7,10 +7,10 @@
 use crate::cases::all_hold;
 use crate::machine::service::Asked;
 use mh_base::{ObjRef, Value};
+use mh_cases::said;
 use mh_group::event_word;
 use mh_layers::{Arrow, By, Held};
 use mh_model::{Config, Event};
-use mh_samples::cases::said;
 use mh_told::text::Text;
 use std::alloc::{AllocError, Global};
 

@@ -3,11 +3,11 @@
 use crate::cases::all_hold;
 use crate::machine::service::Asked;
 use mh_base::{GroupName, ObjRef};
+use mh_cases::{said, word};
 use mh_flow::chain::chain;
 use mh_flow::{Equipped, Flow, Link, flow_of};
 use mh_model::Config;
 use mh_paths::{Arrow, Graph, first_chains, first_cycle, is_chain};
-use mh_samples::cases::{said, word};
 use mh_service::Service;
 use std::alloc::Global;
 

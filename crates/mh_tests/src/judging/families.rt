@@ -1,7 +1,7 @@
 //! Services of many sizes, with ample memory: each plays until nothing is left to do, in as many steps as
 //! were worked out.
 use mh_base::GroupName;
-use mh_samples::cases::put;
+use mh_cases::put;
 use mh_samples::playing::{DAY, File, outcome, played};
 use std::alloc::Global;
 

@@ -1,7 +1,7 @@
 //! The verifier: which services it accepts, and what it says first of the others.
 use crate::cases::all_hold;
 use crate::machine::service::Asked;
-use mh_samples::cases::said;
+use mh_cases::said;
 use mh_samples::playing::Task;
 use mh_service::Service;
 use mh_verify::{Accepted, Refusal, RefusalKind, verify};

@@ -1,10 +1,10 @@
 //! Texts as they are laid out in their boxes, the cells of drawn lines, and rows of pictures.
 use crate::cases::all_hold;
 use mh_base::Area;
+use mh_cases::{Question, bytes, said, word};
 use mh_display::{Picture, changed_rows, character_at, goes_through, lay_out, stroke_of};
 use mh_group::Justification;
 use mh_model::{Drawing, Figure, Line, Point};
-use mh_samples::cases::{Question, bytes, said, word};
 use std::alloc::Global;
 
 /// A justification, whether lines are wrapped, and a box by its place and its size in units; then a text,

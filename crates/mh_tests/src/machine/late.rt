@@ -1,7 +1,7 @@
 //! Scenes whose files come late: what is written of small services, each with its late file.
 use crate::cases::all_hold;
+use mh_cases::{Question, bytes};
 use mh_report::{ListSink, Options, check_bytes, play_bytes};
-use mh_samples::cases::{Question, bytes};
 use mh_samples::playing::{DAY, ended, sources};
 use std::alloc::Global;
 

@@ -1,10 +1,10 @@
 //! Services: names that come twice, many groups, and what objects hold.
 use crate::cases::all_hold;
-use crate::machine::service::{Named, add_named, answer, named};
+use crate::machine::service::answer;
 use mh_base::{GroupName, ObjRef, Seq, Value};
+use mh_cases::{Named, Question, add_named, are, named, number, said, word};
 use mh_group::Attribute;
 use mh_model::{Fixed, FixedPart, Held, Target};
-use mh_samples::cases::{Question, are, number, said, word};
 use mh_service::{Service, double_name, resolving};
 use std::alloc::Global;
 

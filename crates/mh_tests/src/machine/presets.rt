@@ -2,7 +2,7 @@
 //! is said before that.
 use crate::cases::all_hold;
 use mh_base::GroupName;
-use mh_samples::cases::{Question, number, word};
+use mh_cases::{Question, number, word};
 use mh_samples::playing::{DAY, File, played, sources};
 use std::alloc::Global;
 

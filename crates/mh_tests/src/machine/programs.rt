@@ -1,7 +1,7 @@
 //! Resident programs: what the six answer that each engine has, calls that do not fit, and what a call
 //! does to its variables.
 use crate::cases::all_hold;
-use mh_samples::cases::{Question, are, between, quoted};
+use mh_cases::{Question, are, between, quoted};
 use mh_samples::playing::{Task, outcome};
 use std::alloc::Global;
 

@@ -1,52 +1,17 @@
 //! Services: which files make one, and which group is at fault where they do not.
 //!
-//! A case is a block of lines: what it shows; what is asked of the service that starts with `a`; and
-//! behind an `@` each file: its path, how many variables its group has besides and how many actions it
-//! does at its start, if not those of the text, and the text; or a file as in a play.
+//! A case is a block of lines: what it shows; what is asked of the service that starts with `a`; and its
+//! groups (`mh_cases::named`).
 use crate::cases::all_hold;
 use crate::judging::chains::of_flow;
 use crate::judging::evidence::of_evidence;
 use crate::judging::verify::verdict;
 use crate::machine::engine::of_engine;
 use crate::machine::objects::inside;
-use crate::notation::building::grown;
 use mh_base::GroupName;
-use mh_group::Group;
-use mh_samples::cases::{Question, bytes, said, word};
-use mh_samples::examples::path_and_text;
+use mh_cases::{Named, Question, add_named, said, word};
 use mh_service::{Service, ServiceError};
-use mh_text::read_group;
 use std::alloc::Global;
-
-/// A path, and the group there.
-pub type Named = (GroupName, Group);
-
-fn group(alloc: Global, written: &str) -> Option<Group> {
-    if written.starts_with('{') {
-        return read_group(alloc, bytes(alloc, written)?.as_slice()).ok();
-    }
-    let (variables, rest) = written.split_once(' ')?;
-    let (actions, text) = rest.split_once(' ')?;
-    let (variables, actions) = (
-        variables.parse::<u32>().ok()?,
-        actions.parse::<usize>().ok()?,
-    );
-    grown(alloc, bytes(alloc, text)?.as_slice(), variables, actions)
-}
-
-/// The file as a table writes it.
-pub fn named(alloc: Global, file: &str) -> Option<Named> {
-    let (path, written) = path_and_text(file)?;
-    let name = GroupName::of_path(alloc, path.as_bytes()).ok();
-    name.zip(group(alloc, written))
-}
-
-pub fn add_named(alloc: Global, groups: &mut Vec<Named>, files: &str) -> Option<()> {
-    for file in files.split('@') {
-        groups.push(named(alloc, file)?).ok()?;
-    }
-    Some(())
-}
 
 /// What is answered of a service that was made.
 fn of_service(alloc: Global, service: Service, asked: &str) -> Option<Vec<u8>> {

@@ -1,7 +1,7 @@
 //! Variables: sums, conversions and tests at their edges, and values and objects that are named through
 //! a variable.
 use crate::cases::all_hold;
-use mh_samples::cases::{Question, said};
+use mh_cases::{Question, said};
 use mh_samples::playing::{Task, outcome};
 use std::alloc::Global;
 

@@ -1,6 +1,6 @@
 //! What is seen: texts, drawings, the display stack and the lock, by the rows of the picture.
 use crate::cases::all_hold;
-use mh_samples::cases::{Question, are, between, said};
+use mh_cases::{Question, are, between, said};
 use mh_samples::playing::{Task, outcome};
 use std::alloc::Global;
 

@@ -2,7 +2,7 @@
 //! for three.
 use crate::cases::all_hold;
 use crate::lint::lines;
-use mh_samples::cases::Question;
+use mh_cases::Question;
 use std::alloc::Global;
 
 /// A well-made service by its name.
@@ -66,7 +66,7 @@ static FORM: &str = r#"@a {:Application ("~/a" 0) :OnStartUp ( :TransitionTo (("
 
 /// A list that is scrolled, a token that moves, a timer and an event of the engine.
 static LIST: &str = r#"@a {:Application ("~/a" 0) :OnStartUp ( :TransitionTo (("~/s" 0)) ) }
-@s {:Scene ("~/s" 0) :InputEventReg 3 :Items ( {:IntegerVar 1 :OrigValue 1 } {:ObjectRefVar 2 :OrigValue 31 }
+@s {:Scene ("~/s" 0) :InputEventReg 4 :Items ( {:IntegerVar 1 :OrigValue 1 } {:ObjectRefVar 2 :OrigValue 31 }
 {:ListGroup 3 :TokenGroupItems ( (31) (32) (33) ) :Positions ( ( 0 0 ) ( 0 32 ) ) }
 {:TokenGroup 4 :MovementTable ( ( 2 1 ) ) :TokenGroupItems ( (41) (42) ) }
 {:Text 31 :InitiallyActive false :OrigBoxSize 120 16 } {:Text 32 :InitiallyActive false :OrigBoxSize 120 16 } {:Text 33 :InitiallyActive false :OrigBoxSize 120 16 }
@@ -80,7 +80,7 @@ static LIST: &str = r#"@a {:Application ("~/a" 0) :OnStartUp ( :TransitionTo (("
 {:Link 66 :EventSource 0 :EventType EngineEvent :EventData 3 :LinkEffect ( :Unload (50) ) }
 {:Link 67 :EventSource 50 :EventType IsDeleted :LinkEffect ( :Subtract (1 1) ) }
 {:Link 68 :EventSource 0 :EventType UserInput :EventData 103 :LinkEffect ( :SetFirstItem (3 :IndirectRef 1) ) } ) }
-@t {:Scene ("~/t" 0) :InputEventReg 3 :Items ( {:DynamicLineArt 1 :OrigBoxSize 240 160 }
+@t {:Scene ("~/t" 0) :InputEventReg 4 :Items ( {:DynamicLineArt 1 :OrigBoxSize 240 160 }
 {:Link 10 :EventSource 0 :EventType UserInput :EventData 101 :LinkEffect ( :DrawLine (1 0 0 100 100) ) }
 {:Link 11 :EventSource 0 :EventType UserInput :EventData 102 :LinkEffect ( :TransitionTo (("~/s" 0)) ) } ) }"#;
 
@@ -137,18 +137,13 @@ list s@:EventType TokenMovedTo :EventData 2@:EventType TokenMovedTo :EventData t
 board s@:EventType StreamEvent :EventData 5@:EventType StreamEvent :EventData true
 => s:1:365: never: Link 11 waits for StreamEvent with true: none comes with that|;;
 board s@:EventType TimerFired :EventData 5@:EventType TimerFired :EventData 6
-=> s:1:220: never: Link 10 is put to work by nothing: no active action emits TimerFired 6 of Scene 0|s:1:49: note: Scene
-0 sets a timer that no link hears (unheard-timer)|s:1:333: note: Link 10 sets a timer that no link hears (unheard-timer)|;;
+=> s:1:220: never: Link 10 is put to work by nothing: no active action emits TimerFired 6 of Scene 0|;;
 board t@:EventType TimerFired :EventData 7@:EventType TimerFired :EventData 77
-=> t:1:174: never: Link 11 is put to work by nothing: no active action emits TimerFired 77 of Scene 0|t:1:136: note:
-Link 10 sets a timer that no link hears (unheard-timer)|;;
+=> t:1:174: never: Link 11 is put to work by nothing: no active action emits TimerFired 77 of Scene 0|;;
 list s@:EventType TimerFired :EventData 9@:EventType TimerFired :EventData 8
-=> s:1:1045: never: Link 64 is put to work by nothing: no active action emits TimerFired 8 of Scene 0|s:1:796: note:
-Link 61 sets a timer that no link hears (unheard-timer)|;;
+=> s:1:1045: never: Link 64 is put to work by nothing: no active action emits TimerFired 8 of Scene 0|;;
 board a@:EventType TimerFired :EventData 1@:EventType TimerFired :EventData 11
-=> a:1:226: never: Link 4 is put to work by nothing: no active action emits TimerFired 11 of Application 0|a:1:167:
-note: Link 3 sets a timer that no link hears (unheard-timer)|a:1:317: note: Link 4 sets a timer that no link hears
-(unheard-timer)|;;
+=> a:1:226: never: Link 4 is put to work by nothing: no active action emits TimerFired 11 of Application 0|;;
 board t@:SetTimer (0 7 10000 true)@
 => t:1:148: never: Link 11 is put to work by nothing: no active action emits TimerFired 7 of Scene 0|t:1:83: note: Link
 10 does nothing: its effect has no action (no-actions)|;;

@@ -3,7 +3,7 @@
 //! A case is one of those of `why`.
 use crate::cases::all_hold;
 use crate::why::{Explained, explanation};
-use mh_samples::cases::{Question, between, said};
+use mh_cases::{Question, between, said};
 use mh_samples::playing::{DAY, outcome, played, sources};
 use std::alloc::Global;
 

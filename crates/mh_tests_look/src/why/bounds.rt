@@ -4,7 +4,7 @@
 use crate::cases::all_hold;
 use crate::why::Explained;
 use crate::why::statuses::answer_by;
-use mh_samples::cases::{Question, said};
+use mh_cases::{Question, said};
 use std::alloc::Global;
 
 static BOUNDS: &str = r#"

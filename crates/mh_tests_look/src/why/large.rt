@@ -1,7 +1,7 @@
 //! Explanations of what is too large or too many: files, services and inputs that are grown here.
 use crate::why::explanation;
 use mh_base::GroupName;
-use mh_samples::cases::{put, repeated};
+use mh_cases::{put, repeated};
 use mh_samples::playing::{DAY, File, played};
 use std::alloc::Global;
 

@@ -1,7 +1,7 @@
 //! Explanations of lines of scripts that say nothing, word for word.
 use crate::cases::all_hold;
 use crate::why::explanation;
-use mh_samples::cases::{Question, bytes, said};
+use mh_cases::{Question, bytes, said};
 use mh_samples::playing::sources;
 use std::alloc::Global;
 

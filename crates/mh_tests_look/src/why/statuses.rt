@@ -3,9 +3,9 @@
 //! A case is a block of lines: what it shows; the words behind `why`; an output, where one of the words is `output`; and
 //! behind an `@` each file. The answer is the exit status, and behind it what is explained, or why nothing is.
 use crate::cases::all_hold;
+use mh_cases::{Question, bytes};
 use mh_folder::Folder;
 use mh_look::{Answer, Failure, Read, Task, answer_of, line_of};
-use mh_samples::cases::{Question, bytes};
 use mh_samples::playing::sources;
 use std::alloc::Global;
 

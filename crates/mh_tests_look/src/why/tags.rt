@@ -1,7 +1,7 @@
 //! Explanations where a file gives tags, word for word.
 use crate::cases::all_hold;
 use crate::why::explanation;
-use mh_samples::cases::{Question, bytes};
+use mh_cases::{Question, bytes};
 use mh_samples::playing::sources;
 use std::alloc::Global;
 

@@ -2,8 +2,8 @@
 //! itself has is told, word for word: the actions of a circle, and the variables that a chain goes through.
 use crate::cases::all_hold;
 use crate::why::explanation;
+use mh_cases::Question;
 use mh_look::{verdict_on, verdict_text};
-use mh_samples::cases::Question;
 use mh_samples::playing::{File, outcome, sources};
 use std::alloc::Global;
 

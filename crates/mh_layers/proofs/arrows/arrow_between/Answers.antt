@@ -12,7 +12,7 @@ use Rattle.mh_layers.specs.Cycle.{cause_of, first_number}
 use Rattle.mh_layers.specs.Applied.{AppliedAction, IsApplied, NoneApplied, number_in}
 use Rattle.mh_layers.specs.Granting.{held_for}
 use Rattle.mh_layers.specs.Listening.{source_of}
-use Rattle.mh_layers.specs.Reading.{Spot, flow_read}
+use Rattle.mh_layers.specs.Reading.{CostContext, flow_read}
 use Rattle.mh_layers.specs.EffectSites.{cause_named, effect_named}
 use Rattle.mh_layers.proofs.ArrowLemmas.{is_arrow, number_named}
 use Rattle.mh_layers.proofs.DoingLemmas.{step_does}
@@ -24,7 +24,7 @@ use Rattle.mh_layers.proofs.arrows.arrow_between.Goals as goal
 pub by_of-requires : goal.by_of-requires
 by_of-requires c is =
     step_names c.args.here.now.reading c.requires.reading c.args.from.now c.args.first.now c.args.to.now c.requires.step c.part_of-aim.result.now
-    (ap (λ (s : Spot). part_at (effect_named s.reading c.args.to.now).object (present s.reading.service s.config)) (sym c.requires.there) ∙ c.part_of-aim.ensures)
+    (ap (λ (s : CostContext). part_at (effect_named s.reading c.args.to.now).object (present s.reading.service s.config)) (sym c.requires.there) ∙ c.part_of-aim.ensures)
     (sym c.number_of.ensures ∙ is)
 
 pub unreachable-requires : goal.unreachable-requires
@@ -53,9 +53,9 @@ returns c =
     let number = c.number_of-2.ensures ∙ sym (number_named r from) in
     let config = c.config.ensures ∙ c.requires.here in
     let cause : c.in_ok-arrow-in-Some.arrow.cause ≡ cause_named r from = of.cause ∙ c.in_ok-cause.ensures
-    ∙ (λ i. cause_of (c.net.ensures i).service (record { config = config i; object = sym key i; number = number i })) in
+    ∙ (λ i. cause_of (c.numbered_service.ensures i).service (record { config = config i; object = sym key i; number = number i })) in
     is_arrow r c.requires.reading from c.args.first.now c.args.to.now c.requires.step part aim at
-    (ap (λ (s : Spot). part_at (effect_named s.reading c.args.to.now).object (present s.reading.service s.config)) (sym c.requires.there) ∙ c.part_of-aim.ensures)
+    (ap (λ (s : CostContext). part_at (effect_named s.reading c.args.to.now).object (present s.reading.service s.config)) (sym c.requires.there) ∙ c.part_of-aim.ensures)
     doing
     (subst (λ (d : Config). IsApplied r d (effect_at part (number_in from)) c.args.first.now doing) c.requires.here
     (subst (λ (acts : List Act). IsApplied r c.args.here.now.config acts c.args.first.now doing) (c.effect_acts-acts.ensures ∙ ap (effect_at part) c.number_of-3.ensures)

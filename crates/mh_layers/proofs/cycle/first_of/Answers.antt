@@ -11,4 +11,4 @@ pub returns : goal.returns
 returns c = best_all _ _ _ c.args.keys.now c.loop-key.key-index c.loop-key.best (search rules) c.loop-key.invariant
 
 pub try_key-requires-clause-effect : goal.try_key-requires-clause-effect
-try_key-requires-clause-effect c = each_item (IsEffectKept c.args.net.now) c.args.keys.now c.loop-key.key-index _ c.loop-key-test.true c.requires
+try_key-requires-clause-effect c = each_item (IsEffectKept c.args.numbered_service.now) c.args.keys.now c.loop-key.key-index _ c.loop-key-test.true c.requires

@@ -5,10 +5,10 @@ use Rattle.mh_layers.proofs.cycle.try_key.Goals as goal
 
 pub returns-then-not-comes_first : goal.returns-then-not-comes_first
 returns-then-not-comes_first c =
-    tried_later c.args.net.now c.args.web.now.keys.keys c.args.web.now.graph c.args.key.now c.in_ok-cause.cause c.args.best.now c.in_ok-cause.ensures (search rules)
+    tried_later c.args.numbered_service.now c.args.key_graph.now.keys.keys c.args.key_graph.now.graph c.args.key.now c.in_ok-cause.cause c.args.best.now c.in_ok-cause.ensures (search rules)
 
 pub returns-in-Some : goal.returns-in-Some
 returns-in-Some c =
     let b : Best = record { key = c.args.key.now; cause = c.in_ok-cause.cause; trail = c.in-Some.trail } in
-    tried_found c.args.net.now c.args.web.now.keys.keys c.args.web.now.graph c.args.key.now c.node_of-node.result c.in_ok-cause.cause b c.args.best.now c.set.new.best
+    tried_found c.args.numbered_service.now c.args.key_graph.now.keys.keys c.args.key_graph.now.graph c.args.key.now c.node_of-node.result c.in_ok-cause.cause b c.args.best.now c.set.new.best
     c.in_ok-cause.ensures c.node_of-node.ensures (search rules) refl refl (search rules) c.set.ensures

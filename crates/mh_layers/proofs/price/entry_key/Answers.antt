@@ -9,7 +9,7 @@ use Rattle.mh_layers.proofs.price.entry_key.Goals as goal
 
 pub returns : goal.returns
 returns g c =
-    let r = c.args.net.now in
+    let r = c.args.numbered_service.now in
     let m = g.M.Meter.meter c.args.meter.now in
     let kind = c.args.kind in
     let o = c.object-source.result.now in

@@ -2,10 +2,10 @@ use Rattle.std.proofs.Common.{subst}
 use Rattle.mh_prices.specs.Meter.{Adds}
 use Rattle.mh_layers.specs.Key.{Leave}
 use Rattle.mh_layers.specs.Numbered.{through}
-use Rattle.mh_layers.specs.Reading.{Spot, number, price_read}
+use Rattle.mh_layers.specs.Reading.{CostContext, number, price_read}
 use Rattle.mh_layers.proofs.price.leave_key.Goals as goal
 
 pub returns : goal.returns
 returns g c =
     let m = g.M.Meter.meter c.args.meter.now in
-    subst (λ (s : Spot). Adds g.M.Meter.seen (through (number s.reading) m) (price_read s.reading (Leave s.config c.args.all)) c.args.sum c.leave.result) c.standing-here.ensures c.leave.ensures
+    subst (λ (s : CostContext). Adds g.M.Meter.seen (through (number s.reading) m) (price_read s.reading (Leave s.config c.args.all)) c.args.sum c.leave.result) c.context_at-here.ensures c.leave.ensures

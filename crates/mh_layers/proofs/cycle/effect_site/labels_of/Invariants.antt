@@ -5,5 +5,5 @@ use Rattle.mh_layers.proofs.cycle.effect_site.labels_of.Given as goal
 
 abbrev pub invariant-loop-key : goal.invariant-loop-key
 invariant-loop-key l =
-    l.labels.items ++ map (label_to (label_in l.net l.effect_sites.keys)) (drop l.key-index l.keys)
-    ≡ map (label_to (label_in l.net l.effect_sites.keys)) l.keys
+    l.labels.items ++ map (label_to (label_in l.numbered_service l.effect_sites.keys)) (drop l.key-index l.keys)
+    ≡ map (label_to (label_in l.numbered_service l.effect_sites.keys)) l.keys

@@ -5,5 +5,5 @@ use Rattle.mh_layers.proofs.cycle.effect_site.met.Given as goal
 
 abbrev pub invariant-loop-key : goal.invariant-loop-key
 invariant-loop-key l =
-    insert_all same_effect_site l.effect_sites.keys (map (effect_site_named l.net) (drop l.key-index l.keys))
-    ≡ insert_all same_effect_site [] (map (effect_site_named l.net) l.keys)
+    insert_all same_effect_site l.effect_sites.keys (map (effect_site_named l.numbered_service) (drop l.key-index l.keys))
+    ≡ insert_all same_effect_site [] (map (effect_site_named l.numbered_service) l.keys)

@@ -6,5 +6,5 @@ use Rattle.mh_layers.proofs.laying.roots.push_acting.Goals as goal
 
 pub loop-number-preserved : goal.loop-number-preserved
 loop-number-preserved c =
-    numbers_more (λ n. key.Effect c.args.config (object_number c.args.net.now c.args.part.now.key) n) (has_actions c.args.part.now) c.loop-number.number c.args.keys.now.items
+    numbers_more (λ n. key.Effect c.args.config (object_number c.args.numbered_service.now c.args.part.now.key) n) (has_actions c.args.part.now) c.loop-number.number c.args.keys.now.items
     c.loop-number.keys.items c.push_if_acting.new.keys.items c.loop-number.invariant c.in_ok-push_if_acting.ensures

@@ -9,4 +9,4 @@ abbrev pub invariant-loop-number : goal.invariant-loop-number
 invariant-loop-number l =
     l.keys.items
     ≡ l.initial.keys.items
-    ++ map (λ n. key.Effect l.config (object_number l.net l.part.key) n) (filter (has_actions l.part) (range_with_len 0 l.number))
+    ++ map (λ n. key.Effect l.config (object_number l.numbered_service l.part.key) n) (filter (has_actions l.part) (range_with_len 0 l.number))

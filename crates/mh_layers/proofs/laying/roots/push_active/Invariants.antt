@@ -6,5 +6,5 @@ use Rattle.mh_layers.proofs.laying.roots.push_active.Given as goal
 
 abbrev pub invariant-loop-part : goal.invariant-loop-part
 invariant-loop-part l =
-    l.keys.items ++ flat_map (keys_at l.net l.config) (filter (is_active l.present) (drop l.part-index l.parts))
-    ≡ l.initial.keys.items ++ flat_map (keys_at l.net l.config) (filter (is_active l.present) l.parts)
+    l.keys.items ++ flat_map (keys_at l.numbered_service l.config) (filter (is_active l.present) (drop l.part-index l.parts))
+    ≡ l.initial.keys.items ++ flat_map (keys_at l.numbered_service l.config) (filter (is_active l.present) l.parts)

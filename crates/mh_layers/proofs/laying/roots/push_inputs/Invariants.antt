@@ -6,4 +6,4 @@ use Rattle.mh_layers.proofs.laying.roots.push_inputs.Given as goal
 
 abbrev pub invariant-loop-config : goal.invariant-loop-config
 invariant-loop-config l =
-    l.keys.items ++ flat_map (input_keys l.net) (drop l.config-index (flow_read l.net).configs) ≡ l.initial.keys.items ++ flat_map (input_keys l.net) (flow_read l.net).configs
+    l.keys.items ++ flat_map (input_keys l.numbered_service) (drop l.config-index (flow_read l.numbered_service).configs) ≡ l.initial.keys.items ++ flat_map (input_keys l.numbered_service) (flow_read l.numbered_service).configs

@@ -3,7 +3,7 @@ use Rattle.mh_layers.proofs.NamesLemmas.{numbered_has, unnumbered}
 use Rattle.mh_layers.proofs.numbered.named.reached.Goals as goal
 
 pub unreachable-requires : goal.unreachable-requires
-unreachable-requires c = unnumbered c.args.net.now c.args.config.now c.requires (sym c.number_of.ensures ∙ c.in-None.is)
+unreachable-requires c = unnumbered c.args.numbered_service.now c.args.config.now c.requires (sym c.number_of.ensures ∙ c.in-None.is)
 
-pub standing-requires : goal.standing-requires
-standing-requires c = numbered_has c.args.net.now c.args.config.now c.in-Some.number (sym c.number_of.ensures ∙ c.in-Some.is)
+pub context_at-requires : goal.context_at-requires
+context_at-requires c = numbered_has c.args.numbered_service.now c.args.config.now c.in-Some.number (sym c.number_of.ensures ∙ c.in-Some.is)

@@ -6,5 +6,5 @@ use Rattle.mh_layers.proofs.price.entries.configs_most.Goals as goal
 
 pub configs_from-requires : goal.configs_from-requires
 configs_from-requires g c =
-    let w = flow_read c.args.net.now in
+    let w = flow_read c.args.numbered_service.now in
     (parts_pass (reached w) w.configs c.in-Some.first.now c.in-Some.rest.now (all_reached w) (search rules)).1

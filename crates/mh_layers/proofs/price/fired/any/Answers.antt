@@ -19,7 +19,7 @@ returns-in-Some g c =
     let own = g.M.Meter.meter c.args.walk.now.meter.now in
     let m = through (number s.reading) own in
     let f : (Value → Price Key) = λ (x : Value). Node (Fired s.config o kind (With x)) in
-    let same = c.as_slice.ensures ∙ ap values (sym (ap option_copied c.in-Some.is) ∙ c.values.ensures) ∙ ap (λ (r : Reading). values (heard_read r o kind)) c.net.ensures in
+    let same = c.as_slice.ensures ∙ ap values (sym (ap option_copied c.in-Some.is) ∙ c.values.ensures) ∙ ap (λ (r : Reading). values (heard_read r o kind)) c.numbered_service.ensures in
     let first = c.in_ok-sum.ensures ∙ ap (λ (k : NodeKey). own.node k (g.M.Meter.seen c.args.sum)) c.fired_key-plain.ensures in
     adds_as g.M.Meter.seen m m (most_price f c.as_slice.result.now) (Plus (Node (Fired s.config o kind Plain)) (most_price f (values (heard_read s.reading o kind)))) c.args.sum c.in_ok-sum.sum c.values_most.result
     (λ i. onto m (most_price f (same i)) (first i)) c.values_most.ensures

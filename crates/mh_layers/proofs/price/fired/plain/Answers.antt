@@ -16,6 +16,6 @@ returns g c =
     let kind = c.args.kind in
     links_come g.M.Meter.seen m s.reading.service s.config o kind is_plain c.plain_links-application.result.now c.scene_plain_links.result.now c.args.sum c.in_ok-sum.sum c.links-2.result
     (c.plain_links-application.ensures
-    ∙ ap (λ (r : Reading). filter (λ p. waits_for o kind p && is_plain (data_of p)) (group_parts r.service c.config.result.now.app)) c.net.ensures
+    ∙ ap (λ (r : Reading). filter (λ p. waits_for o kind p && is_plain (data_of p)) (group_parts r.service c.config.result.now.app)) c.numbered_service.ensures
     ∙ ap (λ (d : Config). filter (λ p. waits_for o kind p && is_plain (data_of p)) (group_parts s.reading.service d.app)) c.config.ensures)
     c.scene_plain_links.ensures c.in_ok-sum.ensures c.links-2.ensures

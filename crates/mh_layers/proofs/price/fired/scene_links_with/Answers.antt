@@ -13,6 +13,6 @@ returns-in-Some c x at =
     let s = c.args.here.now in
     let o = c.args.source.now in
     let kind = c.args.kind in
-    c.links_with.ensures x (ap (λ (r : Reading). slice_get (values_read r o kind) c.args.value) c.net.ensures ∙ at)
-    ∙ ap (λ (r : Reading). filter (λ p. waits_for o kind p && has same_value x (data_of p)) (group_parts r.service c.in-Some.scene.now)) c.net.ensures
+    c.links_with.ensures x (ap (λ (r : Reading). slice_get (values_read r o kind) c.args.value) c.numbered_service.ensures ∙ at)
+    ∙ ap (λ (r : Reading). filter (λ p. waits_for o kind p && has same_value x (data_of p)) (group_parts r.service c.in-Some.scene.now)) c.numbered_service.ensures
     ∙ ap (λ (g : Option (List ℕ)). filter (λ p. waits_for o kind p && has same_value x (data_of p)) (scene_parts s.reading.service g)) (sym (ap option_copied c.in-Some.is) ∙ c.scene.ensures)

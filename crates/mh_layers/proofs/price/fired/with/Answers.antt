@@ -16,7 +16,7 @@ returns g c x at =
     let o = c.args.source.now in
     let kind = c.args.kind in
     links_come g.M.Meter.seen m s.reading.service s.config o kind (has same_value x) c.links_with-application.result.now c.scene_links_with.result.now c.args.sum c.in_ok-sum.sum c.links-2.result
-    (c.links_with-application.ensures x (ap (λ (r : Reading). slice_get (values_read r o kind) c.args.value) c.net.ensures ∙ at)
-    ∙ ap (λ (r : Reading). filter (λ p. waits_for o kind p && has same_value x (data_of p)) (group_parts r.service c.config.result.now.app)) c.net.ensures
+    (c.links_with-application.ensures x (ap (λ (r : Reading). slice_get (values_read r o kind) c.args.value) c.numbered_service.ensures ∙ at)
+    ∙ ap (λ (r : Reading). filter (λ p. waits_for o kind p && has same_value x (data_of p)) (group_parts r.service c.config.result.now.app)) c.numbered_service.ensures
     ∙ ap (λ (d : Config). filter (λ p. waits_for o kind p && has same_value x (data_of p)) (group_parts s.reading.service d.app)) c.config.ensures)
     (c.scene_links_with.ensures x at) c.in_ok-sum.ensures c.links-2.ensures

@@ -17,7 +17,7 @@ returns g c =
     let v = s.reading.service in
     let m = through (number s.reading) (g.M.Meter.meter c.args.walk.now.meter.now) in
     let group = c.entered-group.result.now in
-    let there = c.parts-parts.ensures ∙ ap (λ (w : Service). group_parts w group) c.service.ensures ∙ ap (λ (r : Reading). group_parts r.service group) c.net.ensures ∙ ap (group_parts v) c.entered-group.ensures in
+    let there = c.parts-parts.ensures ∙ ap (λ (w : Service). group_parts w group) c.service.ensures ∙ ap (λ (r : Reading). group_parts r.service group) c.numbered_service.ensures ∙ ap (group_parts v) c.entered-group.ensures in
     subst (λ (p : Price Key). Adds g.M.Meter.seen m p c.args.sum c.enter.result)
     (λ i. enter (around_at s).lists (group_effect v s.config costs.on_start_up (c.entered-group.ensures i)) (group_ref (c.entered-group.ensures i)) (there i))
     c.enter.ensures

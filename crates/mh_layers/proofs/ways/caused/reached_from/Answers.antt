@@ -6,4 +6,4 @@ put_counted-requires c = c.requires.root.has
 
 pub open_at-requires-clause-kept : goal.open_at-requires-clause-kept
 open_at-requires-clause-kept c =
-    opened_kept c.args.net.now c.requires.reading c.args.root.now c.loop-found.found.keys c.loop-found.place c.requires.root c.loop-found.invariant
+    opened_kept c.args.numbered_service.now c.requires.reading c.args.root.now c.loop-found.found.keys c.loop-found.place c.requires.root c.loop-found.invariant

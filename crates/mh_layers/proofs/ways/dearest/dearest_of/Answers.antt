@@ -8,4 +8,4 @@ loop-key-preserved c =
     chosen_more _ _ c.args.keys.now c.loop-key.key-index _ _ _ c.loop-key-test.true c.loop-key.invariant c.in_ok-see.ensures
 
 pub see-requires : goal.see-requires
-see-requires c = each_item (kept c.args.net.now) c.args.keys.now c.loop-key.key-index _ c.loop-key-test.true c.requires
+see-requires c = each_item (kept c.args.numbered_service.now) c.args.keys.now c.loop-key.key-index _ c.loop-key-test.true c.requires

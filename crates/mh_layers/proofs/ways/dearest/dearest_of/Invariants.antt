@@ -3,4 +3,4 @@ use Rattle.mh_layers.specs.Choosing.{AreChosen}
 use Rattle.mh_layers.proofs.ways.dearest.dearest_of.Given as goal
 
 abbrev pub invariant-loop-key : goal.invariant-loop-key
-invariant-loop-key l = AreChosen l.net l.laying (take l.key-index l.keys) l.best
+invariant-loop-key l = AreChosen l.numbered_service l.laying (take l.key-index l.keys) l.best

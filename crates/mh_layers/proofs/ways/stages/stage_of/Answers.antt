@@ -11,7 +11,7 @@ dearest_part-requires-clause-costs c = subst (λ (n : ℕ). 0 < n) c.requires.ch
 
 pub index_of-requires-clause-within : goal.index_of-requires-clause-within
 index_of-requires-clause-within c =
-    let r = c.args.net.now in
+    let r = c.args.numbered_service.now in
     slice_get_within (acts_of r.service (effect_named r c.args.dearest.key)) c.in_ok-part.part.offset c.in_ok-part.ensures.act c.in_ok-part.ensures.there
 
 pub returns : goal.returns

@@ -8,14 +8,14 @@ use Rattle.mh_flow.proofs.PutLemmas.{put_next}
 use Rattle.mh_flow.proofs.fixpoint.gathered.Gathered.put_each.Goals as goal
 
 pub loop-item-init : goal.loop-item-init
-loop-item-init g c = record { sound = c.requires.sound; step = same_step (g.R.Rules.net c.args.rules.now) (view c.args.self.now); put = λ x h. absurd (omega (arith, h.1)) }
+loop-item-init g c = record { sound = c.requires.sound; step = same_step (g.R.Rules.system c.args.rules.now) (view c.args.self.now); put = λ x h. absurd (omega (arith, h.1)) }
 
 pub put-requires-clause-sound : goal.put-requires-clause-sound
 put-requires-clause-sound g c = c.loop-item.invariant.sound
 
 pub loop-item-preserved : goal.loop-item-preserved
 loop-item-preserved g c =
-    put_next (g.R.Rules.net c.args.rules.now) c.args.items.now c.loop-item.item-index _ (view c.args.self.now) (view c.loop-item.self) (view c.put.new.self) c.loop-item-test.true c.loop-item.invariant c.in_ok-put.ensures.sound c.in_ok-put.ensures.step c.in_ok-put.ensures.put
+    put_next (g.R.Rules.system c.args.rules.now) c.args.items.now c.loop-item.item-index _ (view c.args.self.now) (view c.loop-item.self) (view c.put.new.self) c.loop-item-test.true c.loop-item.invariant c.in_ok-put.ensures.sound c.in_ok-put.ensures.step c.in_ok-put.ensures.put
 
 pub returns-clause-sound : goal.returns-clause-sound
 returns-clause-sound g c = c.loop-item.invariant.sound

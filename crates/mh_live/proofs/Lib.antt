@@ -1,0 +1,4 @@
+pub mod DrawingLemmas
+pub mod HearingLemmas
+pub mod PlaceLemmas
+pub mod ReplayLemmas

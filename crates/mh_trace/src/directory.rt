@@ -1,0 +1,39 @@
+//! Where actions are written, as it is told behind their places.
+ghost use Rattle.std.specs.Prelude.{◌≡◌, ◌++◌, OnOk};
+ghost use Rattle.std.specs.List.{find};
+ghost use Rattle.std.specs.Option.{option_copied};
+ghost use Rattle.mh_trace.specs.Trace as spec;
+
+use crate::site::Site;
+use mh_told::text::Text;
+use std::alloc::AllocError;
+
+/// Puts where an action is written, if the directory has it.
+#[tactic(auto, unfolding(crate::specs::Trace::written_at))]
+pub fn put_written(
+    text: &mut Text,
+    directory: &[(Site, Text)],
+    site: &Site,
+) -> Result<(), AllocError>
+    ensures { OnOk result (text.new ≡ text.old ++ spec.written_at directory.now site.now) }
+{
+    put_entry(text, entry_of(directory, site))
+}
+
+fn entry_of<'a>(directory: &'a [(Site, Text)], site: &Site) -> Option<&'a (Site, Text)>
+    ensures { option_copied result ≡ find (spec.is_entry_of site.now) directory.now }
+{
+    directory.iter().find(|entry| site.is_same(&entry.0))
+}
+
+fn put_entry(text: &mut Text, entry: Option<&(Site, Text)>) -> Result<(), AllocError>
+    ensures { OnOk result (text.new ≡ text.old ++ spec.written_note (option_copied entry.entry)) }
+{
+    match entry {
+        None => Ok(()),
+        Some(entry) => {
+            text.put(b" at ")?;
+            text.put(entry.1.as_slice())
+        }
+    }
+}
