@@ -6,11 +6,8 @@ use mh_base::{EventType, GroupName, ObjRef};
 use mh_group::Class;
 use mh_machine::{Machine, register_of};
 use mh_model::parts::group_ref;
-use mh_model::{KEYS, Key, Object, Timer, Transition};
+use mh_model::{KEYS, Key, LONGEST_TICK, Object, Timer, Transition};
 use std::alloc::{AllocError, Global};
-
-/// The longest tick, in milliseconds.
-const LONGEST_TICK: u32 = 60_000;
 
 /// Of how many timers the moments are tried at once.
 const MOST_TICKS: usize = 4;

@@ -5,11 +5,9 @@ use crate::stimulus::{Stimulus, input_of};
 use crate::timing::Timing;
 use mh_machine::{Judged, Machine, Rest};
 use mh_model::{File, Input, Timer};
+use mh_script::RUN_LIMIT;
 use mh_told::text::Text;
 use std::alloc::{AllocError, Global};
-
-/// The most steps that `run` makes in a script.
-const RUN_LIMIT: u32 = 1_000_000;
 
 /// A machine on which a script is tried.
 #[derive(Drop)]

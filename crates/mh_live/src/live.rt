@@ -11,16 +11,11 @@ use crate::post::{Post, input_of, post_of};
 use crate::record::{opening, recorded};
 use crate::screen::{Screen, keep, screen_of};
 use mh_engine::Engine;
-use mh_model::Input;
+use mh_model::{Input, LONGEST_TICK};
+use mh_script::RUN_LIMIT;
 use mh_told::text::Text;
 use std::alloc::{AllocError, Global};
 use std::marker::Model;
-
-/// The most steps that are made for an input: as many as `run` makes in a script.
-const RUN_LIMIT: u32 = 1_000_000;
-
-/// The most milliseconds of one tick.
-const LONGEST_TICK: u64 = 60_000;
 
 /// An engine that is played from a terminal, with what the terminal shows, the script so far, and the milliseconds that
 /// were ticked.
@@ -151,5 +146,5 @@ fn tick_length(ticked: u64, now: u64) -> u32
     ensures length { result ≡ spec.tick_length ticked now }
     ensures room { ticked + result < 2 ^ 64 }
 {
-    now.saturating_sub(ticked).min(LONGEST_TICK) as u32
+    now.saturating_sub(ticked).min(u64::from(LONGEST_TICK)) as u32
 }

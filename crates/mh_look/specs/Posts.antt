@@ -5,6 +5,7 @@ use Rattle.std.specs.List.{flat_map}
 use Rattle.std.specs.Option.{option_map_or}
 use Rattle.std.specs.Str.{bytes_eq}
 use Rattle.bstr.specs.Text.{lines_of, without_terminator}
+use Rattle.mh_model.specs.Limits.{longest_tick}
 use Rattle.mh_look.specs.declared.script.fault.Command.{Command}
 use Rattle.mh_look.specs.declared.script.fault.Command.TheVariants as command
 use Rattle.mh_look.specs.declared.script.posts.TheConstants.{FIRST_OF, IS_THIS, IS_ZERO, ONE_OF}
@@ -34,7 +35,7 @@ is_stop line = option_map_or is_told (command_of (first_word line)) false
 -- a tick of a length that is refused
 
 abbrev pub is_refused_length : ℕ → Bool
-is_refused_length n = n == 0 || not (nat_le n 60000)
+is_refused_length n = n == 0 || not (nat_le n longest_tick)
 
 abbrev pub is_bad_tick : List ℕ → Bool
 is_bad_tick ws = option_map_or is_refused_length (number_in ws) false

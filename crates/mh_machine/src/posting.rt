@@ -8,11 +8,8 @@ use crate::works::Works;
 use mh_base::GroupName;
 use mh_carousel::is_large;
 use mh_group::same::same_group;
-use mh_model::{File, Input, Obstacle, SharedGroup};
+use mh_model::{File, Input, LONGEST_TICK, Obstacle, SharedGroup};
 use std::alloc::AllocError;
-
-/// How long a tick may be, in milliseconds.
-const LONGEST_TICK: u32 = 60_000;
 
 impl Works {
     /// Why an input cannot join the queue, if it cannot.

@@ -2,11 +2,14 @@
 use crate::{Event, File, Key, SharedGroup};
 use mh_base::GroupName;
 
+/// The most milliseconds of one tick.
+pub const LONGEST_TICK: u32 = 60_000;
+
 /// What comes from outside.
 #[derive(Clone, Drop)]
 pub enum Input {
     Key(Key),
-    /// Time passes: so many milliseconds, 1 to 60,000.
+    /// Time passes: so many milliseconds, 1 to `LONGEST_TICK`.
     Tick(u32),
     /// A stream event with this tag (ISO/IEC 13522-5, StreamEvent).
     Stream(i32),

@@ -35,7 +35,7 @@ pub use event::Event;
 pub use fault::{Fault, FaultKind, Reason};
 pub use file::{File, Wait};
 pub use held::{Held, Properties, Property};
-pub use input::{Input, Move, Obstacle, Waiting};
+pub use input::{Input, LONGEST_TICK, Move, Obstacle, Waiting};
 pub use interaction::Interaction;
 pub use item::Item;
 pub use key::{KEYS, Key};

@@ -12,5 +12,5 @@ mod script;
 mod words;
 
 pub use contents::read_contents;
-pub use script::{Command, ScriptError, read_script};
+pub use script::{Command, RUN_LIMIT, ScriptError, read_script};
 pub use words::{key_name, key_named};

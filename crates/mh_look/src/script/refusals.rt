@@ -5,6 +5,7 @@ ghost use Rattle.mh_look.specs.Posts.{can_be_refused, is_bad_tick, is_of_any, is
 
 use crate::explanation::words::{behind_first, first_word, number_in};
 use crate::script::fault::Command;
+use mh_model::LONGEST_TICK;
 
 /// Whether the output has a line of what this one does.
 pub(crate) fn is_stop(line: &[u8]) -> bool
@@ -84,5 +85,5 @@ fn is_bad_tick(words: &[u8]) -> bool
 fn is_refused_length(length: u32) -> bool
     ensures { result ≡ is_refused_length length }
 {
-    length == 0 || length > 60_000
+    length == 0 || length > LONGEST_TICK
 }
