@@ -25,7 +25,7 @@ use Rattle.mh_laws.specs.Active.{active_actions}
 use Rattle.mh_laws.specs.Costs.{Effect, can_hear, change, effect, emit, enter, entry, event_from, exchange, fired, fired_if_there, group_effect, group_halt, group_run, halt, halt_alone, heard_by, leave_all, leave_scene, link_effect, named_data, on_close_down, on_start_up, rise, rise_of, run, run_alone, scene_closes}
 use Rattle.mh_laws.specs.Each.{Among}
 use Rattle.mh_laws.specs.Flow.{Flow, reached}
-use Rattle.mh_laws.specs.Never.{CountsLiving}
+use Rattle.mh_never.specs.Never.{CountsLiving}
 use Rattle.mh_laws.specs.Price.{Nothing, Price, if_price, sum_price}
 use Rattle.mh_laws.specs.Safe.{exchanged}
 use Rattle.mh_laws.specs.Ways.{IsKnown, Sure, Told, Unsure}

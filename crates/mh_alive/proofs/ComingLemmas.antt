@@ -28,7 +28,7 @@ use Rattle.mh_model.proofs.ServiceLemmas.{same_ref-same}
 use Rattle.mh_laws.specs.Costs.{can_hear, event_from, link_effect}
 use Rattle.mh_laws.specs.Each.{Among}
 use Rattle.mh_laws.specs.Flow.{Flow, reached}
-use Rattle.mh_laws.specs.Never.{Living}
+use Rattle.mh_never.specs.Never.{Living}
 use Rattle.mh_laws.specs.Ways.{Told, Sure, IsKnown}
 use Rattle.mh_laws.proofs.EachLemmas.{among_either, among_filtered, among_joined, among_mapped}
 use Rattle.mh_laws.proofs.NodeLemmas.{config_among}

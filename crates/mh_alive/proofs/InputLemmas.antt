@@ -36,14 +36,14 @@ use Rattle.mh_laws.specs.Costs.{Costing, Effect, TimerKey, arrival, content_entr
 use Rattle.mh_laws.specs.Each.{Among}
 use Rattle.mh_laws.specs.Flow.{Flow, reached}
 use Rattle.mh_laws.specs.Layers.{costs as costs_of}
-use Rattle.mh_laws.specs.Never.{AllPutLiving, IsClosed, ItemsPutLiving, Living, PutsLiving, WaitingPutsLiving}
+use Rattle.mh_never.specs.Never.{AllPutLiving, IsClosed, ItemsPutLiving, Living, PutsLiving, WaitingPutsLiving}
 use Rattle.mh_laws.specs.Price.{Nothing, Price, if_price}
-use Rattle.mh_laws.specs.Running.{IsRunClosed, Runners}
+use Rattle.mh_never.specs.Running.{IsRunClosed, Runners}
 use Rattle.mh_laws.specs.Safe.{behind, config_of}
-use Rattle.mh_laws.specs.Saying.{IsSaidClosed, Sayings}
+use Rattle.mh_never.specs.Saying.{IsSaidClosed, Sayings}
 use Rattle.mh_laws.specs.Ways.{Sure, Unsure}
 use Rattle.mh_laws.proofs.EachLemmas.{among_each, among_joined, among_mapped, each_among, from_joined, from_mapped}
-use Rattle.mh_laws.proofs.NeverLemmas.{never_put as law}
+use Rattle.mh_never.proofs.NeverLemmas.{never_put as law}
 use Rattle.mh_laws.proofs.NodeLemmas.{among_is}
 use Rattle.mh_laws.proofs.PriceLemmas.{nodes_if, nodes_map, nodes_most, nodes_sum}
 use Rattle.mh_alive.specs.Alive.{Alive, InEachRun, IsAliveOf, is_other, never_put}

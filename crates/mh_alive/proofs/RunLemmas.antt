@@ -28,10 +28,10 @@ use Rattle.mh_laws.specs.Costs.{targets}
 use Rattle.mh_laws.specs.Describing.{can_put}
 use Rattle.mh_laws.specs.Each.{Among}
 use Rattle.mh_laws.specs.Flow.{Flow, is_list_in, reached}
-use Rattle.mh_laws.specs.Running.{IsOnlyIn, IsRunClosed, Runners, is_run_piece}
+use Rattle.mh_never.specs.Running.{IsOnlyIn, IsRunClosed, Runners, is_run_piece}
 use Rattle.mh_laws.proofs.EachLemmas.{among_each, among_joined, among_left, among_mapped, among_right, each_among, each_joined}
 use Rattle.mh_laws.proofs.NodeLemmas.{config_among, part_among}
-use Rattle.mh_laws.proofs.RunningLemmas.{never_runs as law}
+use Rattle.mh_never.proofs.RunningLemmas.{never_runs as law}
 use Rattle.mh_alive.specs.Alive.{Alive, InEachRun, IsAliveOf, IsStill, never_runs}
 use Rattle.mh_alive.specs.Runners.{can_run, first_run, items_run, members_run, run_by, run_with, runners, runners_in}
 use Rattle.mh_alive.specs.There.{comes_to}

@@ -27,11 +27,11 @@ use Rattle.mh_laws.specs.Active.{active_actions}
 use Rattle.mh_laws.specs.Costs.{data_sent}
 use Rattle.mh_laws.specs.Each.{Among}
 use Rattle.mh_laws.specs.Flow.{Flow}
-use Rattle.mh_laws.specs.Saying.{IsSaidClosed, IsSaidIn, IsWaitIn, Sayings, is_key_number, is_usual}
+use Rattle.mh_never.specs.Saying.{IsSaidClosed, IsSaidIn, IsWaitIn, Sayings, is_key_number, is_usual}
 use Rattle.mh_laws.specs.Ways.{IsKnown, Told, Sure, Unsure}
 use Rattle.mh_laws.proofs.EachLemmas.{among_joined, each_among}
 use Rattle.mh_laws.proofs.NodeLemmas.{config_among}
-use Rattle.mh_laws.proofs.SayingLemmas.{key_known, never_says as law}
+use Rattle.mh_never.proofs.SayingLemmas.{key_known, never_says as law}
 use Rattle.mh_model.specs.Key.{key_number}
 use Rattle.mh_model.specs.Step.{engine_event, key_event}
 use Rattle.mh_alive.specs.declared.sendings.Sending.{Sending}

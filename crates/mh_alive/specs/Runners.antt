@@ -14,7 +14,7 @@ use Rattle.mh_model.specs.Tokens.{members}
 use Rattle.mh_laws.specs.Active.{active_actions}
 use Rattle.mh_laws.specs.Describing.{can_put}
 use Rattle.mh_laws.specs.Flow.{Flow, Sets}
-use Rattle.mh_laws.specs.Running.{is_run_piece}
+use Rattle.mh_never.specs.Running.{is_run_piece}
 use Rattle.mh_alive.specs.There.{comes_to}
 
 -- an action that can run what it is done to

@@ -18,7 +18,7 @@ use Rattle.mh_model.specs.Service.{Service}
 use Rattle.mh_laws.specs.Active.{active_actions}
 use Rattle.mh_laws.specs.Costs.{data_sent}
 use Rattle.mh_laws.specs.Flow.{Flow}
-use Rattle.mh_laws.specs.Saying.{is_usual}
+use Rattle.mh_never.specs.Saying.{is_usual}
 use Rattle.mh_laws.specs.Ways.{Told, Sure, Unsure}
 use Rattle.mh_alive.specs.declared.sendings.Sending.{Sending}
 

@@ -8,7 +8,7 @@ ghost use Rattle.indexmap.specs.IndexSet.{insert_all};
 ghost use Rattle.mh_laws.specs.Acceptable.{IsAcceptableBy};
 ghost use Rattle.mh_laws.specs.Budget.{IsAccepted};
 ghost use Rattle.mh_laws.specs.Layers.{costs};
-ghost use Rattle.mh_laws.specs.Never.{AllPutLiving};
+ghost use Rattle.mh_never.specs.Never.{AllPutLiving};
 ghost use Rattle.mh_model.specs.Reference.{same_key};
 ghost use Rattle.mh_flow.specs.Solved.{IsFlowOf, flow_in};
 ghost use Rattle.mh_alive.specs.Alive as spec;

@@ -7,7 +7,7 @@ ghost use Rattle.std.specs.Option.{option_copied};
 ghost use Rattle.indexmap.specs.IndexSet.{insert_all};
 ghost use Rattle.mh_base.specs.Event.{number_of};
 ghost use Rattle.mh_laws.specs.Costs.{data_sent};
-ghost use Rattle.mh_laws.specs.Saying as saying;
+ghost use Rattle.mh_never.specs.Saying as saying;
 ghost use Rattle.mh_laws.specs.Ways.{Sure, Unsure};
 ghost use Rattle.mh_model.specs.Saying.{event_numbered};
 ghost use Rattle.mh_alive.specs.Sendings as spec;

@@ -124,7 +124,7 @@ covers_of : (v : Service) (w : Flow) (f : Costing) (b : Bounds) → IsCosted v w
 covers_of v w f b k s p = unmarked_covers s.service w f (subst (λ (x : Service). Covers x w f) (sym p.service) k.covers)
 
 all_awake : (f : Costing) (s : State) → IsAwake (unmarked f) s
-all_awake f s = record { heard = λ e h. each (all s.objects) e; keys = λ x g. refl; engine = λ n. refl }
+all_awake f s = record { heard = λ e h. each (all s.objects) e; keys = λ x g there heard. refl; engine = λ n. refl }
   where
     each : (os : List Object) (e : Event) → Each (λ (o : Object). matches e o ≡ true → true ≡ true) os
     each [] e = tt
@@ -145,12 +145,14 @@ may_item f item.End = tt
 
 plays_on : (v : Service) (w : Flow) (f : Costing) (b : Bounds) → IsCosted v w f b → IsKept w (unmarked f) b (Plays v w)
 plays_on v w f b k = record {
-  ready = λ s p. ready_state (unmarked f) s p.safe (covers_of v w f b k s p) (all_awake f s);
-  attends = λ s p. attends_of w s p.safe p.minds;
-  bounds = λ s p. subst (λ (x : Service). AreBounds x w f b) (sym p.service) k.bounds;
-  item = λ s p i e. ready_item (unmarked f) s p.safe (covers_of v w f b k s p) (all_awake f s) i (may_item f i) (first_item s p.safe i e);
-  free = λ s p i e. free_first s p.safe i e;
-  waits = λ s p x e. from_here (unmarked f) s x (first_waits (present s.service (config_of s)) s.queue x e (p.safe).queue).0 (may_wait f x);
+  readied = record {
+    ready = λ s p. ready_state (unmarked f) s p.safe (covers_of v w f b k s p) (all_awake f s);
+    attends = λ s p. attends_of w s p.safe p.minds;
+    bounds = λ s p. subst (λ (x : Service). AreBounds x w f b) (sym p.service) k.bounds;
+    item = λ s p i e. ready_item (unmarked f) s p.safe (covers_of v w f b k s p) (all_awake f s) i (may_item f i) (first_item s p.safe i e);
+    free = λ s p i e. free_first s p.safe i e;
+    waits = λ s p x e. from_here (unmarked f) s x (first_waits (present s.service (config_of s)) s.queue x e (p.safe).queue).0 (may_wait f x);
+  };
   told = λ s p o. record { safe = safe_by_told s p.safe o; minds = record { timers = (p.minds).timers; readers = (p.minds).readers; late = (p.minds).late; awaited = (p.minds).awaited }; service = p.service };
   stepped = λ s p. record { safe = safe_by_step s p.safe; minds = step_minds w s p.safe p.minds; service = step_serves s p.safe ∙ p.service };
   posted = λ s p i. record { safe = safe_by_posted s p.safe i; minds = posted_minds w s i p.minds; service = posted_serves i s ∙ p.service };
@@ -190,7 +192,7 @@ goes_stepped v w f b k ss budget s t g so = by (s.taken == most_steps) so
     kept = plays_on v w f b k
 
     on : (u : State) → Plays v w u → spent w (unmarked f) b u ≤ budget → Goes v w f b budget (step u)
-    on u p h = goes_of v w f b budget (step u) (kept.stepped u p) (let less = step_spent w (unmarked f) b (Plays v w) kept u p in omega (arith, less, h))
+    on u p h = goes_of v w f b budget (step u) (kept.stepped u p) (let less = step_spent w (unmarked f) b (Plays v w) kept.readied u p in omega (arith, less, h))
 
     with : (c : Option Call) → IsStepWith anything c s t → Goes v w f b budget t
     with None e = subst (Goes v w f b budget) (sym e) (on s (plays_of v w f b budget s g) (spent_of v w f b budget s g))

@@ -52,6 +52,3 @@ pub mod BudgetLemmas
 pub mod SettleLemmas
 pub mod NodeLemmas
 pub mod LayerLemmas
-pub mod RunningLemmas
-pub mod SayingLemmas
-pub mod NeverLemmas

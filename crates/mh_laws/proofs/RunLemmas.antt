@@ -47,14 +47,18 @@ use Rattle.mh_laws.specs.Weighing.{left, Weights}
 abbrev pub spent : Flow → Weights → Bounds → State → ℕ
 spent w f b s = s.taken + left w f b s
 
--- What the law of safety gives: something that holds of each state of a run, from which all that a step needs is known.
-pub record IsKept (w : Flow) (f : Weights) (b : Bounds) (Safe : State → Type 0) : Type 0 where
+-- What the law of safety gives: from something that holds of a state all is known that a step of it needs.
+pub record IsReadied (w : Flow) (f : Weights) (b : Bounds) (Safe : State → Type 0) : Type 0 where
   pub ready : (s : State) → Safe s → Ready w f s
   pub attends : (s : State) → Safe s → Attends w s
   pub bounds : (s : State) → Safe s → AreBounds s.service w f.cost b
   pub item : (s : State) → Safe s → (i : Item) → slice_get s.work 0 ≡ Some i → IsReadyItem w f s i
   pub free : (s : State) → Safe s → (i : Item) → slice_get s.work 0 ≡ Some i → stuck i s ≡ None
   pub waits : (s : State) → Safe s → (x : Waiting) → slice_get s.queue 0 ≡ Some x → IsFromHere f s x
+
+-- and it holds of each state of a run
+pub record IsKept (w : Flow) (f : Weights) (b : Bounds) (Safe : State → Type 0) : Type 0 where
+  pub readied : IsReadied w f b Safe
   pub told : (s : State) → Safe s → (o : Outcome) → Safe (told o s)
   pub stepped : (s : State) → Safe s → Safe (step s)
   pub posted : (s : State) → Safe s → (i : Input) → Safe (posted i s)
@@ -187,7 +191,7 @@ took_counts x s = (taking_leaves x (record s { queue = drop 1 s.queue; taken = s
 pub took_serves : (x : Waiting) (s : State) → (took x s).service ≡ s.service
 took_serves x s = (taking_leaves x (record s { queue = drop 1 s.queue; taken = s.taken + 1 })).1
 
-pub step_spent : (w : Flow) (f : Weights) (b : Bounds) (Safe : State → Type 0) → IsKept w f b Safe → (s : State) → Safe s → spent w f b (step s) ≤ spent w f b s
+pub step_spent : (w : Flow) (f : Weights) (b : Bounds) (Safe : State → Type 0) → IsReadied w f b Safe → (s : State) → Safe s → spent w f b (step s) ≤ spent w f b s
 step_spent w f b Safe k s safe = unless_ended s.ended
   where
     same : (n : ℕ) → n ≤ n

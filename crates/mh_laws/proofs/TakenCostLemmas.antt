@@ -61,7 +61,7 @@ use Rattle.mh_laws.proofs.ItemCostLemmas.{Ready, covered_now, found_part, queue_
 use Rattle.mh_laws.proofs.NodeLemmas.{config_among}
 use Rattle.mh_laws.proofs.PriceLemmas.{le_same, le_trans}
 use Rattle.mh_laws.proofs.SumLemmas.{IsCount, sum_counted}
-use Rattle.mh_laws.specs.Weighing.{left, AreCovered, Weights, work_cost, worth}
+use Rattle.mh_laws.specs.Weighing.{left, AreCovered, Weights, hears_key, work_cost, worth}
 use Rattle.mh_laws.proofs.WeighLemmas.{among_most}
 
 -- an entry costs no less than what is heard of it here
@@ -258,14 +258,14 @@ heard_key_of v c m = option_map_or (λ (g : List ℕ). fired v c (group_ref g) e
 
 key_number_fits : (w : Flow) (f : Weights) (s : State) (k : Ready w f s) (m : Attends w s) (x : Key) (scene : Option (List ℕ)) → s.scene ≡ scene → work_cost s.service w f (config_of s) (key_items x scene (all s.objects)) ≤ worth f (heard_key_of s.service (config_of s) scene)
 key_number_fits w f s k m x None e = le_same 0
-key_number_fits w f s k m x (Some g) e = by (passes (register_of (object_at (group_ref g) (all s.objects))) x)
+key_number_fits w f s k m x (Some g) e = by (passes (register_of (object_at (group_ref g) (all s.objects))) x) refl
   where
     c : Config
     c = config_of s
 
-    by : (t : Bool) → work_cost s.service w f c (if t then heard (key_event x (group_ref g)) (all s.objects) else []) ≤ worth f (fired s.service c (group_ref g) event.UserInput Unsure)
-    by true = le_trans _ _ _ (heard_now w f s k (key_event x (group_ref g)) (m.groups g (inr e)) ((k.woken).keys x g)) (fired_unsure s.service f c (group_ref g) event.UserInput (key_event x (group_ref g)).data)
-    by false = nothing _
+    by : (t : Bool) → hears_key s g x ≡ t → work_cost s.service w f c (if t then heard (key_event x (group_ref g)) (all s.objects) else []) ≤ worth f (fired s.service c (group_ref g) event.UserInput Unsure)
+    by true heard = le_trans _ _ _ (heard_now w f s k (key_event x (group_ref g)) (m.groups g (inr e)) ((k.woken).keys x g e heard)) (fired_unsure s.service f c (group_ref g) event.UserInput (key_event x (group_ref g)).data)
+    by false heard = nothing _
       where
         nothing : (n : ℕ) → 0 ≤ n
         nothing n = omega arith

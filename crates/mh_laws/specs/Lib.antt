@@ -19,8 +19,5 @@ pub mod Costs
 pub mod Layers
 pub mod Budget
 pub mod Weighing
-pub mod Running
-pub mod Saying
-pub mod Never
 pub mod ExampleCounting
 pub mod ExampleLate

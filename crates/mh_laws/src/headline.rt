@@ -1,9 +1,6 @@
 //! The headline, as a law over the definitions.
 ghost use Rattle.mh_laws.specs.Headline.{NeverStuck, RunsAlone};
 ghost use Rattle.mh_laws.specs.Least.{DerivedIsInEach};
-ghost use Rattle.mh_laws.specs.Never.{NeverOthers, NeverPut};
-ghost use Rattle.mh_laws.specs.Running.{NeverRuns};
-ghost use Rattle.mh_laws.specs.Saying.{NeverSays};
 ghost use Rattle.mh_laws.specs.Budget.{NeverWrong, NeverWrongBy, EachIsPaid, Settles, KeepsGoing};
 
 /// The law that from an acceptable service no state of any run is stuck, whatever the day, the files
@@ -37,24 +34,4 @@ pub fn never_wrong()
     ensures paid { EachIsPaid }
     ensures settles { Settles }
     ensures invariant { KeepsGoing }
-{}
-
-/// The law of what never happens. Of an accepted service no action is ever on the work list but those of
-/// effects that are in each set which the start, all inputs and all effects of it lead into: what holds of
-/// all their actions holds of each that comes.
-pub fn never_others()
-    ensures acts { NeverOthers }
-    ensures effects { NeverPut }
-{}
-
-/// The law of what never runs. Of an acceptable service nothing ever runs but what is active at first, what an
-/// active action can run, what a list can have and the members of token groups that run.
-pub fn never_runs()
-    ensures { NeverRuns }
-{}
-
-/// The law of what is never said. Of an acceptable service no event comes but with the data that its type
-/// has, or as an active action sends it.
-pub fn never_says()
-    ensures { NeverSays }
 {}

@@ -5,7 +5,7 @@ use Rattle.mh_model.specs.State.{State}
 use Rattle.mh_laws.specs.Budget.{IsAccepted}
 use Rattle.mh_laws.specs.Each.{Each}
 use Rattle.mh_laws.specs.Layers.{costs}
-use Rattle.mh_laws.specs.Never.{AllPutLiving}
+use Rattle.mh_never.specs.Never.{AllPutLiving}
 use Rattle.mh_laws.specs.Safe.{config_of}
 use Rattle.mh_flow.specs.Index.{is_entered}
 use Rattle.mh_alive.specs.Alive.{Alive, InEachRun, IsAliveOf, IsStill, IsUnsaid, is_other}

@@ -19,7 +19,7 @@ use Rattle.mh_laws.specs.Each.{Among, Each}
 use Rattle.mh_laws.specs.Flow.{Flow, reached}
 use Rattle.mh_laws.specs.Headline.{begun_with}
 use Rattle.mh_laws.specs.Layers.{IsOn, costs}
-use Rattle.mh_laws.specs.Never.{IsAwakeOn, CountsLiving, Living, IsClosed, HoldsOfLiving, IsSo, AreSo, NeverOthers}
+use Rattle.mh_never.specs.Never.{IsAwakeOn, CountsLiving, Living, IsClosed, HoldsOfLiving, IsSo, AreSo, NeverOthers}
 use Rattle.mh_laws.specs.Price.{Price, Nothing, One, Node, Plus, Most, Nodes, most_price, worth}
 use Rattle.mh_laws.specs.Safe.{behind, config_of}
 use Rattle.mh_laws.specs.Weighing.{CoversAll, IsActiveCovered, Weights, acts_cost, item_cost, work_cost}
@@ -34,7 +34,7 @@ use Rattle.mh_model.specs.Receiver.{IsCountedStep, IsMoved, IsStepWith, anything
 use Rattle.mh_model.specs.State.{all}
 use Rattle.mh_model.specs.Step.{obstacle, step}
 use Rattle.mh_laws.specs.Budget.{Bounds, IsPaidRun, paid}
-use Rattle.mh_laws.specs.Running.{IsRunClosed, Runners, RunsOnly}
+use Rattle.mh_never.specs.Running.{IsRunClosed, Runners, RunsOnly}
 use Rattle.mh_base.specs.declared.event.EventType.TheVariants as event
 use Rattle.mh_base.specs.declared.value.Value.TheVariants as value
 use Rattle.mh_model.specs.declared.event.Event.{Event}
@@ -46,22 +46,22 @@ use Rattle.mh_model.specs.Key.{key_number}
 use Rattle.mh_model.specs.Reference.{group_ref}
 use Rattle.mh_model.specs.Service.{parts}
 use Rattle.mh_model.specs.Step.{key_event}
-use Rattle.mh_laws.specs.Never.{AllPutLiving, IsWakeClosed, ItemsPutLiving, NeverPut, PutsLiving, WaitingPutsLiving}
+use Rattle.mh_never.specs.Never.{AllPutLiving, IsWakeClosed, ItemsPutLiving, NeverPut, PutsLiving, WaitingPutsLiving}
 use Rattle.mh_laws.specs.Budget.{queue_cost}
 use Rattle.mh_laws.specs.Costs.{entry, item_price}
 use Rattle.mh_laws.specs.Ways.{Sure}
-use Rattle.mh_laws.specs.Saying.{IsSaidClosed, IsSaidIn, IsWaitIn, Sayings, SaysOnly}
+use Rattle.mh_never.specs.Saying.{IsSaidClosed, IsSaidIn, IsWaitIn, Sayings, SaysOnly}
 use Rattle.mh_laws.proofs.BudgetLemmas.{IsMayWait}
 use Rattle.mh_laws.proofs.FiredLemmas.{matching_hears, matching_runs}
 use Rattle.mh_laws.proofs.ReadyLemmas.{IsMayItem}
-use Rattle.mh_laws.proofs.SayingLemmas.{begun_says, first_item_said, first_wait, key_known, posted_says, step_says, told_says}
+use Rattle.mh_never.proofs.SayingLemmas.{begun_says, first_item_said, first_wait, key_known, posted_says, step_says, told_says}
 use Rattle.mh_laws.proofs.StateLemmas.{parts_present}
 use Rattle.mh_laws.specs.Weighing.{IsAwake}
 use Rattle.mh_laws.proofs.BudgetLemmas.{Plays, each_is_paid, from_here, posted_serves, six_bounds, start_sum, step_serves}
 use Rattle.mh_laws.proofs.MindLemmas.{attends_of, posted_minds, step_minds}
 use Rattle.mh_laws.proofs.ReadyLemmas.{first_item, free_first, ready_item, ready_state}
 use Rattle.mh_laws.proofs.RunLemmas.{IsKept, posted_spent, spent, step_spent}
-use Rattle.mh_laws.proofs.RunningLemmas.{begun_runs, posted_runs, step_runs, told_runs}
+use Rattle.mh_never.proofs.RunningLemmas.{begun_runs, posted_runs, step_runs, told_runs}
 use Rattle.mh_laws.proofs.StepLemmas.{safe_by_begun_with, safe_by_posted, safe_by_step, safe_by_told}
 use Rattle.mh_laws.proofs.TakenLemmas.{first_waits}
 use Rattle.mh_laws.proofs.EachLemmas.{among_each, among_filtered, each_joined}
@@ -298,12 +298,14 @@ may_wait_now y f same (waiting.Input i) h = tt
 
 quiet_on : (v : Service) (w : Flow) (u : Runners) (y : Sayings) (z : Runners) (f : Weights) (b : Bounds) → f.wakes ≡ z → f.may ≡ y → IsRunClosed v w u → IsSaidClosed v w y → IsWakeClosed v w u y z → CoversAll v w f → AreBounds v w f.cost b → IsKept w f b (Quiet v w u y)
 quiet_on v w u y z f b wakes may closed said woken covers bounded = record {
-  ready = λ s p. ready_state f s (p.plays).safe (covers_now s p) (awake_now v w u y z said woken f wakes may s p);
-  attends = λ s p. attends_of w s (p.plays).safe (p.plays).minds;
-  bounds = λ s p. subst (λ (x : Service). AreBounds x w f.cost b) (sym (p.plays).service) bounded;
-  item = λ s p i e. ready_item f s (p.plays).safe (covers_now s p) (awake_now v w u y z said woken f wakes may s p) i (may_item_now y f may i (first_item_said y s i e p.says)) (first_item s (p.plays).safe i e);
-  free = λ s p i e. free_first s (p.plays).safe i e;
-  waits = λ s p x e. from_here f s x (first_waits (present s.service (config_of s)) s.queue x e ((p.plays).safe).queue).0 (may_wait_now y f may x (first_wait y s.queue x e (p.says).queue));
+  readied = record {
+    ready = λ s p. ready_state f s (p.plays).safe (covers_now s p) (awake_now v w u y z said woken f wakes may s p);
+    attends = λ s p. attends_of w s (p.plays).safe (p.plays).minds;
+    bounds = λ s p. subst (λ (x : Service). AreBounds x w f.cost b) (sym (p.plays).service) bounded;
+    item = λ s p i e. ready_item f s (p.plays).safe (covers_now s p) (awake_now v w u y z said woken f wakes may s p) i (may_item_now y f may i (first_item_said y s i e p.says)) (first_item s (p.plays).safe i e);
+    free = λ s p i e. free_first s (p.plays).safe i e;
+    waits = λ s p x e. from_here f s x (first_waits (present s.service (config_of s)) s.queue x e ((p.plays).safe).queue).0 (may_wait_now y f may x (first_wait y s.queue x e (p.says).queue));
+  };
   told = λ s p o. record { plays = record { safe = safe_by_told s (p.plays).safe o; minds = record { timers = ((p.plays).minds).timers; readers = ((p.plays).minds).readers; late = ((p.plays).minds).late; awaited = ((p.plays).minds).awaited }; service = (p.plays).service }; runs = told_runs u s o p.runs; says = told_says y s o p.says };
   stepped = λ s p. record { plays = record { safe = safe_by_step s (p.plays).safe; minds = step_minds w s (p.plays).safe (p.plays).minds; service = step_serves s (p.plays).safe ∙ (p.plays).service }; runs = step_runs u s (p.plays).safe (subst (λ (x : Service). IsRunClosed x w u) (sym (p.plays).service) closed) p.runs; says = step_says y s (p.plays).safe (subst (λ (x : Service). IsSaidClosed x w y) (sym (p.plays).service) said) p.says };
   posted = λ s p i. record { plays = record { safe = safe_by_posted s (p.plays).safe i; minds = posted_minds w s i (p.plays).minds; service = posted_serves i s ∙ (p.plays).service }; runs = posted_runs u s i p.runs; says = posted_says y s i p.says };
@@ -318,7 +320,7 @@ abbrev Within : Flow → Weights → Bounds → (State → Type 0) → ℕ → S
 Within w f b Safe budget s = Safe s × (spent w f b s ≤ budget)
 
 kept_step : (w : Flow) (f : Weights) (b : Bounds) (Safe : State → Type 0) → IsKept w f b Safe → (budget : ℕ) (s : State) → Within w f b Safe budget s → Within w f b Safe budget (step s)
-kept_step w f b Safe k budget s h = (k.stepped s h.0, le_trans _ _ _ (step_spent w f b Safe k s h.0) h.1)
+kept_step w f b Safe k budget s h = (k.stepped s h.0, le_trans _ _ _ (step_spent w f b Safe k.readied s h.0) h.1)
 
 kept_moved : (w : Flow) (f : Weights) (b : Bounds) (Safe : State → Type 0) → IsKept w f b Safe → (ss : List Signature) (m : Move) (budget : ℕ) (s t : State) → Within w f b Safe budget s → IsMoved ss anything m s t → Within w f b Safe (budget + paid b m s) t
 kept_moved w f b Safe k ss (move.Post i) budget s t h so =

@@ -92,7 +92,7 @@ use Rattle.mh_model.specs.Receiver.{IsCountedStep, IsMoved, IsRun, IsStepWith, a
 use Rattle.mh_laws.specs.Headline.{begun_with}
 use Rattle.mh_laws.proofs.BudgetLemmas.{posted_serves, step_serves}
 use Rattle.mh_laws.proofs.StepLemmas.{safe_by_begun_with, safe_by_posted, safe_by_step, safe_by_told}
-use Rattle.mh_laws.specs.Saying.{is_key_number, IsSaidClosed, IsSaidIn, IsWaitIn, NeverSays, Sayings, SaysOnly, event_by, is_usual}
+use Rattle.mh_never.specs.Saying.{is_key_number, IsSaidClosed, IsSaidIn, IsWaitIn, NeverSays, Sayings, SaysOnly, event_by, is_usual}
 use Rattle.mh_laws.specs.Safe.{IsFine, IsSafeBy, IsSafeItem, config_of}
 use Rattle.mh_model.proofs.ListLemmas.{some_same}
 use Rattle.mh_model.specs.Receiver.{told}

@@ -1,5 +1,5 @@
-use Rattle.mh_laws.proofs.NeverLemmas.{never_others, never_put}
-use Rattle.mh_laws.proofs.headline.never_others.Goals as goal
+use Rattle.mh_never.proofs.NeverLemmas.{never_others, never_put}
+use Rattle.mh_never.proofs.law.never_others.Goals as goal
 
 pub returns-clause-acts : goal.returns-clause-acts
 returns-clause-acts c = never_others

@@ -1,0 +1,3 @@
+pub mod RunningLemmas
+pub mod SayingLemmas
+pub mod NeverLemmas
