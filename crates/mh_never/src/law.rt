@@ -1,5 +1,5 @@
 //! What never happens, as laws over the definitions.
-ghost use Rattle.mh_never.specs.Never.{NeverOthers, NeverPut};
+ghost use Rattle.mh_never.specs.Never.{NeverOthers};
 ghost use Rattle.mh_never.specs.Running.{NeverRuns};
 ghost use Rattle.mh_never.specs.Saying.{NeverSays};
 
@@ -7,8 +7,7 @@ ghost use Rattle.mh_never.specs.Saying.{NeverSays};
 /// effects that are in each set which the start, all inputs and all effects of it lead into: what holds of
 /// all their actions holds of each that comes.
 pub fn never_others()
-    ensures acts { NeverOthers }
-    ensures effects { NeverPut }
+    ensures { NeverOthers }
 {}
 
 /// The law of what never runs. Of an acceptable service nothing ever runs but what is active at first, what an
