@@ -256,6 +256,24 @@ timer_listed os k a rs r (argument.Direct (value.Content b) ∷ ys) timer good a
 timer_listed os k a rs r (argument.Through q u ∷ ys) timer good among id x more e = absurd cc
 timer_listed os k a rs r (argument.Receiver q ∷ ys) timer good among id x more e = absurd cc
 
+-- with an action that sets a timer it is one that the action can set
+pub timer_set : {w : Flow} (s : State) (k : IsSafeBy w s) (a : Act) (r : ObjRef) → IsSound w s k a r → a.name ≡ action.SetTimer → (id : ℤ) (x : Value) (more : List Value) → values (all s.objects) a.arguments ≡ value.Int id ∷ x ∷ more → Among (set_by w (config_of s) a) (r.group, id)
+timer_set {w} s k a r is named id x more e =
+    subst (λ (n : ActionName). Among (set_with n a.arguments (targets w c a.target)) (r.group, id)) (sym named)
+    (timer_listed (all s.objects) (known_now s) a (targets w c a.target) r a.arguments
+    (subst (λ (n : ActionName). timer_wrongs n a.arguments ≡ []) named timer)
+    (subst (λ (n : ActionName). arguments_wrongs (known_now s) a (needs_of n) a.arguments ≡ []) named is.good)
+    (target_among w c (present s.service c) a.target r is.may) id x more e)
+  where
+    c : Config
+    c = config_of s
+
+    timer : timer_wrongs a.name a.arguments ≡ []
+    timer =
+        let before = target_wrongs (known_now s) a.name a.target ++ called_wrongs (known_now s) a in
+        empty_right before (timer_wrongs a.name a.arguments)
+        (empty_left (before ++ timer_wrongs a.name a.arguments) (arguments_wrongs (known_now s) a (needs_of a.name) a.arguments) (none_wrong s k a is.fine))
+
 timer_settable : {w : Flow} (s : State) (k : IsSafeBy w s) (a : Act) (r : ObjRef) → IsSound w s k a r → a.name ≡ action.SetTimer → (id : ℤ) (x : Value) (more : List Value) → values (all s.objects) a.arguments ≡ value.Int id ∷ x ∷ more → 1 ≤ often s.service w (r.group, id)
 timer_settable {w} s k a r is named id x more e = one (list_any (same_timer (r.group, id)) (cost.set_timers s.service w)) (any_among (cost.set_timers s.service w) (r.group, id) all_set)
   where
@@ -269,24 +287,10 @@ timer_settable {w} s k a r is named id x more e = one (list_any (same_timer (r.g
     one true h = omega arith
     one false h = absurd cc
 
-    timer : timer_wrongs a.name a.arguments ≡ []
-    timer =
-        let before = target_wrongs (known_now s) a.name a.target ++ called_wrongs (known_now s) a in
-        empty_right before (timer_wrongs a.name a.arguments)
-        (empty_left (before ++ timer_wrongs a.name a.arguments) (arguments_wrongs (known_now s) a (needs_of a.name) a.arguments) (none_wrong s k a is.fine))
-
-    own : Among (set_by w c a) (r.group, id)
-    own =
-        subst (λ (n : ActionName). Among (set_with n a.arguments (targets w c a.target)) (r.group, id)) (sym named)
-        (timer_listed (all s.objects) (known_now s) a (targets w c a.target) r a.arguments
-        (subst (λ (n : ActionName). timer_wrongs n a.arguments ≡ []) named timer)
-        (subst (λ (n : ActionName). arguments_wrongs (known_now s) a (needs_of n) a.arguments ≡ []) named is.good)
-        (target_among w c (present v c) a.target r is.may) id x more e)
-
     all_set : Among (cost.set_timers v w) (r.group, id)
     all_set =
         among_joined (λ (d : Config). flat_map (set_by w d) (active_actions (present v d))) w.configs c (r.group, id) (config_among w.configs c k.among)
-        (among_joined (set_by w c) (active_actions (present v c)) a (r.group, id) (is.fine).active own)
+        (among_joined (set_by w c) (active_actions (present v c)) a (r.group, id) (is.fine).active (timer_set s k a r is named id x more e))
 
 -- a late scene to which an action leads is one of those to which active actions can
 late_awaited : {w : Flow} (s : State) (k : IsSafeBy w s) (a : Act) (r : ObjRef) → IsSound w s k a r → a.name ≡ action.TransitionTo → is_late_scene r.group s.service.late ≡ true → Among (cost.late_scenes s.service w (config_of s)) r.group
