@@ -1,3 +1,6 @@
 pub mod RunningLemmas
 pub mod SayingLemmas
+pub mod TimerLemmas
+pub mod RegisterLemmas
+pub mod SaidLemmas
 pub mod NeverLemmas

@@ -1,6 +1,6 @@
 -- What never happens, by weights: an action that is none of those that may come is marked with more than the whole budget,
 -- and effects that are not in the set cost so much the more; the start and all inputs cost as much as without marks.
-use Rattle.std.specs.Prelude.{◌≡◌, ◌≤◌, ◌<◌, ◌⊎◌, ◌==◌, Option, Some, None, ℕ, zero, suc, ◌+◌, max, Bool, true, false, if◌then◌else◌, List, [], ◌∷◌, filter}
+use Rattle.std.specs.Prelude.{◌≡◌, ◌≤◌, ◌<◌, ◌⊎◌, ◌==◌, Option, Some, None, ℕ, zero, suc, ◌+◌, max, Bool, true, false, if◌then◌else◌, List, [], ◌∷◌, filter, slice_get}
 use Rattle.std.specs.List.{list_all}
 use Rattle.std.proofs.Common.{arith, inl, inr, refl, ap, ◌∙◌, sym, subst}
 use Rattle.std.proofs.Math.Nat.{le-max_left, le-max_right, max-le}
@@ -23,18 +23,20 @@ use Rattle.mh_never.specs.Never.{IsAwakeOn, CountsLiving, Living, IsClosed, Hold
 use Rattle.mh_laws.specs.Price.{Price, Nothing, One, Node, Plus, Most, Nodes, most_price, worth}
 use Rattle.mh_laws.specs.Safe.{behind, config_of}
 use Rattle.mh_laws.specs.Weighing.{CoversAll, IsActiveCovered, Weights, acts_cost, item_cost, work_cost}
-use Rattle.mh_model.proofs.ListLemmas.{and_left, and_right}
+use Rattle.mh_model.proofs.ListLemmas.{and_left, and_right, some_same}
+use Rattle.mh_model.specs.declared.input.Input.{Input}
 use Rattle.mh_model.specs.declared.input.Move.{Move}
 use Rattle.mh_model.specs.declared.input.Move.TheVariants as move
 use Rattle.mh_model.specs.declared.object.Object.{Object}
 use Rattle.mh_model.specs.declared.program.Call.{Call}
+use Rattle.mh_model.specs.declared.program.Outcome.{Outcome}
 use Rattle.mh_model.specs.declared.program.Signature.{Signature}
 use Rattle.mh_model.specs.Limits.{most_steps}
 use Rattle.mh_model.specs.Receiver.{IsCountedStep, IsMoved, IsStepWith, anything, call_next, told}
 use Rattle.mh_model.specs.State.{all}
-use Rattle.mh_model.specs.Step.{obstacle, step}
+use Rattle.mh_model.specs.Step.{obstacle, posted, step}
 use Rattle.mh_laws.specs.Budget.{Bounds, IsPaidRun, paid}
-use Rattle.mh_never.specs.Running.{IsRunClosed, Runners, RunsOnly}
+use Rattle.mh_never.specs.Running.{Doings, IsRunClosed, Runners, RunsOnly}
 use Rattle.mh_base.specs.declared.event.EventType.TheVariants as event
 use Rattle.mh_base.specs.declared.value.Value.TheVariants as value
 use Rattle.mh_model.specs.declared.event.Event.{Event}
@@ -46,7 +48,7 @@ use Rattle.mh_model.specs.Key.{key_number}
 use Rattle.mh_model.specs.Reference.{group_ref}
 use Rattle.mh_model.specs.Service.{parts}
 use Rattle.mh_model.specs.Step.{key_event}
-use Rattle.mh_never.specs.Never.{AllPutLiving, IsWakeClosed, ItemsPutLiving, NeverPut, PutsLiving, WaitingPutsLiving}
+use Rattle.mh_never.specs.Never.{AllPutLiving, IsWakeClosed, ItemsPutLiving, PutsLiving, WaitingPutsLiving}
 use Rattle.mh_laws.specs.Budget.{queue_cost}
 use Rattle.mh_laws.specs.Costs.{entry, item_price}
 use Rattle.mh_laws.specs.Ways.{Sure}
@@ -54,13 +56,15 @@ use Rattle.mh_never.specs.Saying.{IsSaidClosed, IsSaidIn, IsWaitIn, Sayings, Say
 use Rattle.mh_laws.proofs.BudgetLemmas.{IsMayWait}
 use Rattle.mh_laws.proofs.FiredLemmas.{matching_hears, matching_runs}
 use Rattle.mh_laws.proofs.ReadyLemmas.{IsMayItem}
-use Rattle.mh_never.proofs.SayingLemmas.{begun_says, first_item_said, first_wait, key_known, posted_says, step_says, told_says}
+use Rattle.mh_never.proofs.RegisterLemmas.{scene_heard}
+use Rattle.mh_never.proofs.SaidLemmas.{begun_says, posted_says, step_says, told_says}
+use Rattle.mh_never.proofs.SayingLemmas.{first_item_said, first_wait}
 use Rattle.mh_laws.proofs.StateLemmas.{parts_present}
-use Rattle.mh_laws.specs.Weighing.{IsAwake}
+use Rattle.mh_laws.specs.Weighing.{IsAwake, hears_key}
 use Rattle.mh_laws.proofs.BudgetLemmas.{Plays, each_is_paid, from_here, posted_serves, six_bounds, start_sum, step_serves}
 use Rattle.mh_laws.proofs.MindLemmas.{attends_of, posted_minds, step_minds}
 use Rattle.mh_laws.proofs.ReadyLemmas.{first_item, free_first, ready_item, ready_state}
-use Rattle.mh_laws.proofs.RunLemmas.{IsKept, posted_spent, spent, step_spent}
+use Rattle.mh_laws.proofs.RunLemmas.{IsReadied, posted_spent, spent, step_spent}
 use Rattle.mh_never.proofs.RunningLemmas.{begun_runs, posted_runs, step_runs, told_runs}
 use Rattle.mh_laws.proofs.StepLemmas.{safe_by_begun_with, safe_by_posted, safe_by_step, safe_by_told}
 use Rattle.mh_laws.proofs.TakenLemmas.{first_waits}
@@ -131,7 +135,7 @@ grown_worth k r f g (Most p q) h =
 abbrev heavy_cost : ℕ → Living → (Effect → ℕ) → Costing → Costing
 heavy_cost k lives rank g x = if lives x then g x else grown k (suc (rank x)) (g x)
 
-abbrev heavy : ℕ → Living → (Effect → ℕ) → Costing → (Config → Act → Bool) → Runners → Sayings → Weights
+abbrev heavy : ℕ → Living → (Effect → ℕ) → Costing → Doings → Runners → Sayings → Weights
 heavy k lives rank g q u y = record { cost = heavy_cost k lives rank g; mark = λ c a. if q c a then 0 else k; wakes = u; may = y }
 
 living_same : (k : ℕ) (lives : Living) (rank : Effect → ℕ) (g : Costing) (x : Effect) → lives x ≡ true → heavy_cost k lives rank g x ≡ g x
@@ -259,7 +263,7 @@ heard_awake v w u y z closed c among e says [] into h = tt
 heard_awake v w u y z closed c among e says (o ∷ os) into h =
     (λ is. closed.hears c among o.fixed (into o.fixed (inl refl)) (h.0 (matching_runs e o is)) e says (matching_hears e o is), heard_awake v w u y z closed c among e says os (λ p there. into p (inr there)) h.1)
 
-awake_now : (v : Service) (w : Flow) (u : Runners) (y : Sayings) (z : Runners) → IsSaidClosed v w y → IsWakeClosed v w u y z → (f : Weights) → f.wakes ≡ z → f.may ≡ y → (s : State) → Quiet v w u y s → IsAwake f s
+awake_now : {q : Doings} (v : Service) (w : Flow) (u : Runners) (y : Sayings) (z : Runners) → IsSaidClosed v w q y → IsWakeClosed v w u y z → (f : Weights) → f.wakes ≡ z → f.may ≡ y → (s : State) → Quiet v w u y s → IsAwake f s
 awake_now v w u y z said closed f wakes may s p = subst (λ (t : Weights). IsAwake t s) (sym same) (record { heard = heard; keys = keys; engine = λ n. said.usual (group_ref s.application) event.EngineEvent (Some (value.Int n)) refl })
   where
     own : Weights
@@ -276,8 +280,8 @@ awake_now v w u y z said closed f wakes may s p = subst (λ (t : Weights). IsAwa
         heard_awake v w u y z closed (config_of s) ((p.plays).safe).among e says (all s.objects) there
         (each_joined (λ (o : Object). o.body.running ≡ true → u o.fixed.key ≡ true) s.objects.application s.objects.scene ((p.runs).objects).0 ((p.runs).objects).1)
 
-    keys : (x : Key) (g : List ℕ) → y (key_event x (group_ref g)) ≡ true
-    keys x g = said.usual (group_ref g) event.UserInput (Some (value.Int (key_number x))) (key_known x)
+    keys : (x : Key) (g : List ℕ) → s.scene ≡ Some g → hears_key s g x ≡ true → y (key_event x (group_ref g)) ≡ true
+    keys x g there heard = scene_heard y s (p.says).keys (p.plays).safe x g there heard
 
 may_item_now : (y : Sayings) (f : Weights) → f.may ≡ y → (i : Item) → IsSaidIn y i → IsMayItem f i
 may_item_now y f same (item.Emit e) h = ap (λ (t : Sayings). t e) same ∙ h
@@ -296,39 +300,66 @@ may_wait_now : (y : Sayings) (f : Weights) → f.may ≡ y → (x : Waiting) →
 may_wait_now y f same (waiting.Event e) h = ap (λ (t : Sayings). t e) same ∙ h
 may_wait_now y f same (waiting.Input i) h = tt
 
-quiet_on : (v : Service) (w : Flow) (u : Runners) (y : Sayings) (z : Runners) (f : Weights) (b : Bounds) → f.wakes ≡ z → f.may ≡ y → IsRunClosed v w u → IsSaidClosed v w y → IsWakeClosed v w u y z → CoversAll v w f → AreBounds v w f.cost b → IsKept w f b (Quiet v w u y)
-quiet_on v w u y z f b wakes may closed said woken covers bounded = record {
-  readied = record {
-    ready = λ s p. ready_state f s (p.plays).safe (covers_now s p) (awake_now v w u y z said woken f wakes may s p);
-    attends = λ s p. attends_of w s (p.plays).safe (p.plays).minds;
-    bounds = λ s p. subst (λ (x : Service). AreBounds x w f.cost b) (sym (p.plays).service) bounded;
-    item = λ s p i e. ready_item f s (p.plays).safe (covers_now s p) (awake_now v w u y z said woken f wakes may s p) i (may_item_now y f may i (first_item_said y s i e p.says)) (first_item s (p.plays).safe i e);
-    free = λ s p i e. free_first s (p.plays).safe i e;
-    waits = λ s p x e. from_here f s x (first_waits (present s.service (config_of s)) s.queue x e ((p.plays).safe).queue).0 (may_wait_now y f may x (first_wait y s.queue x e (p.says).queue));
-  };
-  told = λ s p o. record { plays = record { safe = safe_by_told s (p.plays).safe o; minds = record { timers = ((p.plays).minds).timers; readers = ((p.plays).minds).readers; late = ((p.plays).minds).late; awaited = ((p.plays).minds).awaited }; service = (p.plays).service }; runs = told_runs u s o p.runs; says = told_says y s o p.says };
-  stepped = λ s p. record { plays = record { safe = safe_by_step s (p.plays).safe; minds = step_minds w s (p.plays).safe (p.plays).minds; service = step_serves s (p.plays).safe ∙ (p.plays).service }; runs = step_runs u s (p.plays).safe (subst (λ (x : Service). IsRunClosed x w u) (sym (p.plays).service) closed) p.runs; says = step_says y s (p.plays).safe (subst (λ (x : Service). IsSaidClosed x w y) (sym (p.plays).service) said) p.says };
-  posted = λ s p i. record { plays = record { safe = safe_by_posted s (p.plays).safe i; minds = posted_minds w s i (p.plays).minds; service = posted_serves i s ∙ (p.plays).service }; runs = posted_runs u s i p.runs; says = posted_says y s i p.says };
+-- all that a step needs is known
+quiet_ready : {q : Doings} (v : Service) (w : Flow) (u : Runners) (y : Sayings) (z : Runners) (f : Weights) (b : Bounds) → f.wakes ≡ z → f.may ≡ y → IsSaidClosed v w q y → IsWakeClosed v w u y z → CoversAll v w f → AreBounds v w f.cost b → IsReadied w f b (Quiet v w u y)
+quiet_ready v w u y z f b wakes may said woken covers bounded = record {
+  ready = λ s p. ready_state f s (p.plays).safe (covers_now s p) (awake_now v w u y z said woken f wakes may s p);
+  attends = λ s p. attends_of w s (p.plays).safe (p.plays).minds;
+  bounds = λ s p. subst (λ (x : Service). AreBounds x w f.cost b) (sym (p.plays).service) bounded;
+  item = λ s p i e. ready_item f s (p.plays).safe (covers_now s p) (awake_now v w u y z said woken f wakes may s p) i (may_item_now y f may i (first_item_said y s i e (p.says).work)) (first_item s (p.plays).safe i e);
+  free = λ s p i e. free_first s (p.plays).safe i e;
+  waits = λ s p x e. from_here f s x (first_waits (present s.service (config_of s)) s.queue x e ((p.plays).safe).queue).0 (may_wait_now y f may x (first_wait y s.queue x e (p.says).queue));
 }
   where
     covers_now : (s : State) → Quiet v w u y s → CoversAll s.service w f
     covers_now s p = subst (λ (x : Service). CoversAll x w f) (sym (p.plays).service) covers
 
--- A budget for anything that is kept
+quiet_told : (v : Service) (w : Flow) (u : Runners) (y : Sayings) (s : State) → Quiet v w u y s → (o : Outcome) → Quiet v w u y (told o s)
+quiet_told v w u y s p o = record {
+  plays = record { safe = safe_by_told s (p.plays).safe o; minds = record { timers = ((p.plays).minds).timers; readers = ((p.plays).minds).readers; late = ((p.plays).minds).late; awaited = ((p.plays).minds).awaited }; service = (p.plays).service };
+  runs = told_runs u s o p.runs;
+  says = told_says y s o p.says;
+}
+
+quiet_posted : (v : Service) (w : Flow) (u : Runners) (y : Sayings) (s : State) → Quiet v w u y s → (i : Input) → Quiet v w u y (posted i s)
+quiet_posted v w u y s p i = record {
+  plays = record { safe = safe_by_posted s (p.plays).safe i; minds = posted_minds w s i (p.plays).minds; service = posted_serves i s ∙ (p.plays).service };
+  runs = posted_runs u s i p.runs;
+  says = posted_says y s i p.says;
+}
+
+-- where what comes first may come
+quiet_stepped : (v : Service) (w : Flow) (q : Doings) (u : Runners) (y : Sayings) → IsRunClosed v w q u → IsSaidClosed v w q y → (s : State) → Quiet v w u y s → ((i : Item) → slice_get s.work 0 ≡ Some i → IsSo q (config_of s) i) → Quiet v w u y (step s)
+quiet_stepped v w q u y closed said s p comes = record {
+  plays = record { safe = safe_by_step s (p.plays).safe; minds = step_minds w s (p.plays).safe (p.plays).minds; service = step_serves s (p.plays).safe ∙ (p.plays).service };
+  runs = step_runs u s (p.plays).safe (subst (λ (x : Service). IsRunClosed x w q u) (sym (p.plays).service) closed) comes p.runs;
+  says = step_says y s (p.plays).safe (subst (λ (x : Service). IsSaidClosed x w q y) (sym (p.plays).service) said) comes p.says;
+}
+
+-- A budget for anything that holds on where less than so much is spent
+
+record IsHeld (w : Flow) (f : Weights) (b : Bounds) (top : ℕ) (Safe : State → Type 0) : Type 0 where
+  readied : IsReadied w f b Safe
+  told : (s : State) → Safe s → (o : Outcome) → Safe (told o s)
+  posted : (s : State) → Safe s → (i : Input) → Safe (posted i s)
+  stepped : (s : State) → Safe s → spent w f b s < top → Safe (step s)
 
 abbrev Within : Flow → Weights → Bounds → (State → Type 0) → ℕ → State → Type 0
 Within w f b Safe budget s = Safe s × (spent w f b s ≤ budget)
 
-kept_step : (w : Flow) (f : Weights) (b : Bounds) (Safe : State → Type 0) → IsKept w f b Safe → (budget : ℕ) (s : State) → Within w f b Safe budget s → Within w f b Safe budget (step s)
-kept_step w f b Safe k budget s h = (k.stepped s h.0, le_trans _ _ _ (step_spent w f b Safe k.readied s h.0) h.1)
+held_step : (w : Flow) (f : Weights) (b : Bounds) (top : ℕ) (Safe : State → Type 0) → IsHeld w f b top Safe → (budget : ℕ) → budget < top → (s : State) → Within w f b Safe budget s → Within w f b Safe budget (step s)
+held_step w f b top Safe k budget below s h = (k.stepped s h.0 (under _ _ _ h.1 below), le_trans _ _ _ (step_spent w f b Safe k.readied s h.0) h.1)
+  where
+    under : (a n m : ℕ) → a ≤ n → n < m → a < m
+    under a n m h l = omega (arith, h, l)
 
-kept_moved : (w : Flow) (f : Weights) (b : Bounds) (Safe : State → Type 0) → IsKept w f b Safe → (ss : List Signature) (m : Move) (budget : ℕ) (s t : State) → Within w f b Safe budget s → IsMoved ss anything m s t → Within w f b Safe (budget + paid b m s) t
-kept_moved w f b Safe k ss (move.Post i) budget s t h so =
+held_moved : (w : Flow) (f : Weights) (b : Bounds) (top : ℕ) (Safe : State → Type 0) → IsHeld w f b top Safe → (ss : List Signature) (m : Move) (budget : ℕ) → budget < top → (s t : State) → Within w f b Safe budget s → IsMoved ss anything m s t → Within w f b Safe (budget + paid b m s) t
+held_moved w f b top Safe k ss (move.Post i) budget below s t h so =
     subst (Within w f b Safe (budget + paid b (move.Post i) s)) (sym so) (k.posted s h.0 i, more _ _ _ _ (posted_spent w f b s i (obstacle i s)) h.1)
   where
     more : (x y p n : ℕ) → x ≤ y + p → y ≤ n → x ≤ n + p
     more x y p n a c = omega (arith, a, c)
-kept_moved w f b Safe k ss move.Step budget s t h so = by (s.taken == most_steps) so
+held_moved w f b top Safe k ss move.Step budget below s t h so = by (s.taken == most_steps) so
   where
     same : (u : State) → Within w f b Safe budget u → Within w f b Safe (budget + 0) u
     same u g = (g.0, plus _ _ g.1)
@@ -337,16 +368,31 @@ kept_moved w f b Safe k ss move.Step budget s t h so = by (s.taken == most_steps
         plus x n a = omega (arith, a)
 
     with : (c : Option Call) → IsStepWith anything c s t → Within w f b Safe (budget + 0) t
-    with None e = subst (Within w f b Safe (budget + 0)) (sym e) (same (step s) (kept_step w f b Safe k budget s h))
-    with (Some c) e = subst (Within w f b Safe (budget + 0)) (sym e.2) (same (step (told e.0 s)) (kept_step w f b Safe k budget (told e.0 s) (k.told s h.0 e.0, h.1)))
+    with None e = subst (Within w f b Safe (budget + 0)) (sym e) (same (step s) (held_step w f b top Safe k budget below s h))
+    with (Some c) e = subst (Within w f b Safe (budget + 0)) (sym e.2) (same (step (told e.0 s)) (held_step w f b top Safe k budget below (told e.0 s) (k.told s h.0 e.0, h.1)))
 
     by : (x : Bool) → IsCountedStep x ss anything s t → Within w f b Safe (budget + 0) t
     by true e = subst (Within w f b Safe (budget + 0)) (sym e) (same s h)
     by false e = with (call_next ss s) e
 
-kept_run : (w : Flow) (f : Weights) (b : Bounds) (Safe : State → Type 0) → IsKept w f b Safe → (ss : List Signature) (ms : List Move) (n m : ℕ) (s t : State) → Within w f b Safe n s → IsPaidRun b ss anything ms n s m t → Within w f b Safe m t
-kept_run w f b Safe k ss [] n m s t h so = subst (λ (x : State). Within w f b Safe m x) (sym so.0) (subst (λ (x : ℕ). Within w f b Safe x s) (sym so.1) h)
-kept_run w f b Safe k ss (x ∷ ms) n m s t h so = kept_run w f b Safe k ss ms (n + paid b x s) m so.0 t (kept_moved w f b Safe k ss x n s so.0 h so.1) so.2
+-- a budget never shrinks
+paid_least : (b : Bounds) (ss : List Signature) (ms : List Move) (n m : ℕ) (s t : State) → IsPaidRun b ss anything ms n s m t → n ≤ m
+paid_least b ss [] n m s t so = equal _ _ so.1
+  where
+    equal : (a d : ℕ) → d ≡ a → a ≤ d
+    equal a d e = omega (arith, e)
+paid_least b ss (x ∷ ms) n m s t so = less _ _ _ (paid_least b ss ms (n + paid b x s) m so.0 t so.2)
+  where
+    less : (a d e : ℕ) → a + d ≤ e → a ≤ e
+    less a d e h = omega (arith, h)
+
+held_run : (w : Flow) (f : Weights) (b : Bounds) (top : ℕ) (Safe : State → Type 0) → IsHeld w f b top Safe → (ss : List Signature) (ms : List Move) (n m : ℕ) → m < top → (s t : State) → Within w f b Safe n s → IsPaidRun b ss anything ms n s m t → Within w f b Safe m t
+held_run w f b top Safe k ss [] n m below s t h so = subst (λ (x : State). Within w f b Safe m x) (sym so.0) (subst (λ (x : ℕ). Within w f b Safe x s) (sym so.1) h)
+held_run w f b top Safe k ss (x ∷ ms) n m below s t h so =
+    held_run w f b top Safe k ss ms (n + paid b x s) m below so.0 t (held_moved w f b top Safe k ss x n (under _ _ _ (paid_least b ss (x ∷ ms) n m s t so) below) s so.0 h so.1) so.2
+  where
+    under : (a n m : ℕ) → a ≤ n → n < m → a < m
+    under a n m h l = omega (arith, h, l)
 
 -- No more than the budget is left, so that nothing on the work list is marked.
 
@@ -381,44 +427,10 @@ unmarked_work v w n lives rank g q u y c (i ∷ is) less =
     second : (a b n : ℕ) → a + b < n → b < n
     second a b n h = omega (arith, h)
 
-pub never_others : NeverOthers
-never_others most v k u runners y said z woken lives closed q holds mjd fs ss ms s so =
-    subst (λ (x : Service). AreSo x q (config_of s) s.work) (end.0.plays).service
-    (unmarked_work s.service k.flow n lives k.rank g q z y (config_of s) s.work (below _ _ _ _ end.1))
-  where
-    g : Costing
-    g = costs v k.flow k.rank
-
-    paid_for : (m : ℕ) × IsPaidRun (bounds k) ss anything ms (bounds k).start (begun_with v mjd fs) m s
-    paid_for = each_is_paid (bounds k) ss ms (bounds k).start (begun_with v mjd fs) s so
-
-    n : ℕ
-    n = suc paid_for.0
-
-    f : Weights
-    f = heavy n lives k.rank g q z y
-
-    begun : Quiet v k.flow u y (begun_with v mjd fs)
-    begun = record {
-      plays = record { safe = safe_by_begun_with v k.acceptable mjd fs; minds = record { timers = λ x. none _; readers = refl; late = λ g h. h; awaited = tt }; service = refl };
-      runs = begun_runs u v mjd fs;
-      says = begun_says y v mjd fs;
-    }
-      where
-        none : (n : ℕ) → 0 ≤ n
-        none n = omega arith
-
-    bounded : AreBounds v k.flow f.cost (bounds k)
-    bounded = heavy_bounds most v k z y lives closed q n
-
-    kept : IsKept k.flow f (bounds k) (Quiet v k.flow u y)
-    kept = quiet_on v k.flow u y z f (bounds k) refl refl runners said woken (heavy_covers most v k z y lives closed q holds n) bounded
-
-    end : Within k.flow f (bounds k) (Quiet v k.flow u y) paid_for.0 s
-    end = kept_run k.flow f (bounds k) (Quiet v k.flow u y) kept ss ms (bounds k).start paid_for.0 (begun_with v mjd fs) s (begun, start_sum _ _ bounded.start) paid_for.1
-
-    below : (t a b n : ℕ) → t + (a + b) ≤ n → a < suc n
-    below t a b n h = omega (arith, h)
+-- what comes first may come
+first_so : (v : Service) (q : Doings) (c : Config) (is : List Item) (i : Item) → slice_get is 0 ≡ Some i → AreSo v q c is → IsSo q c i
+first_so v q c [] i e h = absurd cc
+first_so v q c (j ∷ is) i e h = subst (IsSo q c) (some_same e) h.0
 
 -- EFFECTS. What is within the budget counts none but living effects, and such as cost nothing.
 
@@ -492,27 +504,22 @@ queue_living v w n lives rank g b (waiting.Input i ∷ ws) h = (tt, queue_living
     second : (a b n : ℕ) → a + b < n → b < n
     second a b n h = omega (arith, h)
 
--- everything holds of any action
-abbrev any_act : Config → Act → Bool
-any_act c a = true
+-- THE LAW
 
-all_any : (c : Config) (e : List Act) → list_all (any_act c) e ≡ true
-all_any c [] = refl
-all_any c (a ∷ e) = all_any c e
-
-pub never_put : NeverPut
-never_put most v k u runners y said z woken lives closed mjd fs ss ms s so =
-    subst (λ (x : Service). AllPutLiving x k.flow g lives s) (end.0.plays).service
-    (record {
-      work = items_living s.service k.flow n lives k.rank g any_act z y (config_of s) s.work (below _ _ _ _ end.1);
-      queue = queue_living s.service k.flow n lives k.rank g (bounds k) s.queue (beside _ _ _ _ end.1);
-    })
+pub never_others : NeverOthers
+never_others most v k q u runners y said z woken lives closed holds mjd fs ss ms s so = record {
+  work = subst (λ (x : Service). AreSo x q (config_of s) s.work) (end.0.plays).service (so_now s (below _ _ _ _ end.1));
+  running = end.0.runs;
+  said = end.0.says;
+  put = subst (λ (x : Service). AllPutLiving x k.flow g lives s) (end.0.plays).service
+      (record {
+        work = items_living s.service k.flow n lives k.rank g q z y (config_of s) s.work (below _ _ _ _ end.1);
+        queue = queue_living s.service k.flow n lives k.rank g (bounds k) s.queue (beside _ _ _ _ end.1);
+      });
+}
   where
     g : Costing
     g = costs v k.flow k.rank
-
-    holds : HoldsOfLiving v k.flow z lives any_act
-    holds c p m on is = all_any c (effect_at p m)
 
     paid_for : (m : ℕ) × IsPaidRun (bounds k) ss anything ms (bounds k).start (begun_with v mjd fs) m s
     paid_for = each_is_paid (bounds k) ss ms (bounds k).start (begun_with v mjd fs) s so
@@ -521,26 +528,40 @@ never_put most v k u runners y said z woken lives closed mjd fs ss ms s so =
     n = suc paid_for.0
 
     f : Weights
-    f = heavy n lives k.rank g any_act z y
+    f = heavy n lives k.rank g q z y
 
     begun : Quiet v k.flow u y (begun_with v mjd fs)
     begun = record {
       plays = record { safe = safe_by_begun_with v k.acceptable mjd fs; minds = record { timers = λ x. none _; readers = refl; late = λ g h. h; awaited = tt }; service = refl };
       runs = begun_runs u v mjd fs;
-      says = begun_says y v mjd fs;
+      says = begun_says y v k.acceptable said mjd fs;
     }
       where
         none : (n : ℕ) → 0 ≤ n
         none n = omega arith
 
     bounded : AreBounds v k.flow f.cost (bounds k)
-    bounded = heavy_bounds most v k z y lives closed any_act n
+    bounded = heavy_bounds most v k z y lives closed q n
 
-    kept : IsKept k.flow f (bounds k) (Quiet v k.flow u y)
-    kept = quiet_on v k.flow u y z f (bounds k) refl refl runners said woken (heavy_covers most v k z y lives closed any_act holds n) bounded
+    so_now : (t : State) → work_cost t.service k.flow f (config_of t) t.work < n → AreSo t.service q (config_of t) t.work
+    so_now t less = unmarked_work t.service k.flow n lives k.rank g q z y (config_of t) t.work less
+
+    part_less : (t a b n : ℕ) → t + (a + b) < n → a < n
+    part_less t a b n h = omega (arith, h)
+
+    held : IsHeld k.flow f (bounds k) n (Quiet v k.flow u y)
+    held = record {
+      readied = quiet_ready v k.flow u y z f (bounds k) refl refl said woken (heavy_covers most v k z y lives closed q holds n) bounded;
+      told = λ t p o. quiet_told v k.flow u y t p o;
+      posted = λ t p i. quiet_posted v k.flow u y t p i;
+      stepped = λ t p less. quiet_stepped v k.flow q u y runners said t p (λ i e. first_so t.service q (config_of t) t.work i e (so_now t (part_less _ _ _ _ less)));
+    }
+
+    last : (m : ℕ) → m < suc m
+    last m = omega arith
 
     end : Within k.flow f (bounds k) (Quiet v k.flow u y) paid_for.0 s
-    end = kept_run k.flow f (bounds k) (Quiet v k.flow u y) kept ss ms (bounds k).start paid_for.0 (begun_with v mjd fs) s (begun, start_sum _ _ bounded.start) paid_for.1
+    end = held_run k.flow f (bounds k) n (Quiet v k.flow u y) held ss ms (bounds k).start paid_for.0 (last paid_for.0) (begun_with v mjd fs) s (begun, start_sum _ _ bounded.start) paid_for.1
 
     below : (t a b n : ℕ) → t + (a + b) ≤ n → a < suc n
     below t a b n h = omega (arith, h)

@@ -87,7 +87,8 @@ use Rattle.mh_model.specs.Receiver.{IsCountedStep, IsMoved, IsRun, IsStepWith, a
 use Rattle.mh_laws.specs.Headline.{begun_with}
 use Rattle.mh_laws.proofs.BudgetLemmas.{posted_serves, step_serves}
 use Rattle.mh_laws.proofs.StepLemmas.{safe_by_begun_with, safe_by_posted, safe_by_step, safe_by_told}
-use Rattle.mh_never.specs.Running.{NeverRuns, AreOnlyIn, IsOnlyIn, IsRunClosed, IsRunIn, Runners, RunsOnly, is_run_piece}
+use Rattle.mh_never.specs.Never.{IsSo}
+use Rattle.mh_never.specs.Running.{Doings, NeverRuns, AreOnlyIn, IsOnlyIn, IsRunClosed, IsRunIn, Runners, RunsOnly, any_act, is_run_piece}
 use Rattle.mh_laws.specs.Safe.{IsFine, IsPartOf, IsSafeBy, IsSafeItem, config_of}
 use Rattle.mh_model.proofs.ListLemmas.{some_same}
 use Rattle.mh_model.specs.Receiver.{told}
@@ -384,11 +385,11 @@ list_now {fw} s k r o e list =
     ap (λ (ps : List Fixed). is_list_in ps r) (sym (parts_present s k)) ∙ ap (λ (m : Option Class). option_map_or is_list_group m false) (class_found r (all s.objects) o e) ∙ list
 
 -- an item that a list has now
-item_runs : {fw : Flow} (u : Runners) (s : State) (k : IsSafeBy fw s) → IsRunClosed s.service fw u → (r : ObjRef) (o : Object) → object_at r (all s.objects) ≡ Some o → is_list_group o.fixed.class ≡ true → (x : ObjRef) → has (sets_of s k) o.fixed.key x ≡ true → u x ≡ true
+item_runs : {fw : Flow} {q : Doings} (u : Runners) (s : State) (k : IsSafeBy fw s) → IsRunClosed s.service fw q u → (r : ObjRef) (o : Object) → object_at r (all s.objects) ≡ Some o → is_list_group o.fixed.class ≡ true → (x : ObjRef) → has (sets_of s k) o.fixed.key x ≡ true → u x ≡ true
 item_runs {fw} u s k closed r o e list x h =
     closed.lists (config_of s) k.among r x (list_now s k r o e list) (subst (λ (q : ObjRef). has (sets_of s k) q x ≡ true) (sym (found_key r (all s.objects) o e)) h)
 
-shown_runs : {fw : Flow} (u : Runners) (s : State) (k : IsSafeBy fw s) → IsRunClosed s.service fw u → (r : ObjRef) (o : Object) → object_at r (all s.objects) ≡ Some o → is_list_group o.fixed.class ≡ true → (running : Bool) → Each (λ (x : ObjRef). u x ≡ true) (shows running o.fixed o.body.list).items
+shown_runs : {fw : Flow} {q : Doings} (u : Runners) (s : State) (k : IsSafeBy fw s) → IsRunClosed s.service fw q u → (r : ObjRef) (o : Object) → object_at r (all s.objects) ≡ Some o → is_list_group o.fixed.class ≡ true → (running : Bool) → Each (λ (x : ObjRef). u x ≡ true) (shows running o.fixed o.body.list).items
 shown_runs {fw} u s k closed r o e list running = each (shows running o.fixed o.body.list).items (shown_among [] o running o.fixed o.body.list (own_among [] o))
   where
     one : (x : ObjRef) → IsListed [] o x → u x ≡ true
@@ -401,7 +402,7 @@ shown_runs {fw} u s k closed r o e list running = each (shows running o.fixed o.
 
 -- Life
 
-group_runs_in : {fw : Flow} (u : Runners) (s : State) (k : IsSafeBy fw s) → IsRunClosed s.service fw u → (r : ObjRef) (o : Object) → object_at r (all s.objects) ≡ Some o → (c : Class) → o.fixed.class ≡ c → AreRunIn u (group_runs c r o)
+group_runs_in : {fw : Flow} {q : Doings} (u : Runners) (s : State) (k : IsSafeBy fw s) → IsRunClosed s.service fw q u → (r : ObjRef) (o : Object) → object_at r (all s.objects) ≡ Some o → (c : Class) → o.fixed.class ≡ c → AreRunIn u (group_runs c r o)
 group_runs_in {fw} u s k closed r o e class.TokenGroup is =
     let part : part_at r (present s.service (config_of s)) ≡ Some o.fixed = ap (part_at r) (sym (parts_present s k)) ∙ part_at-parts r (all s.objects) ∙ ap (λ (m : Option Object). option_map_fixed m) e in
     members_run_in u (members o.fixed) (closed.tokens (config_of s) k.among o.fixed (part_among r (present s.service (config_of s)) o.fixed part) (ap is_token_group is))
@@ -413,7 +414,7 @@ token_told_in : (u : Runners) (c : Class) (r : ObjRef) → AreRunIn u (token_tol
 token_told_in u class.TokenGroup r = (tt, tt)
 token_told_in u _ r = tt
 
-started_in : {fw : Flow} (u : Runners) (s : State) (k : IsSafeBy fw s) → IsRunClosed s.service fw u → (r : ObjRef) → AreRunIn u (started_items r (object_at r (all s.objects)))
+started_in : {fw : Flow} {q : Doings} (u : Runners) (s : State) (k : IsSafeBy fw s) → IsRunClosed s.service fw q u → (r : ObjRef) → AreRunIn u (started_items r (object_at r (all s.objects)))
 started_in {fw} u s k closed r = by (object_at r (all s.objects)) refl
   where
     by : (m : Option Object) → object_at r (all s.objects) ≡ m → AreRunIn u (started_items r m)
@@ -441,7 +442,7 @@ halt_in u r (Some o) = by o.body.running
 
 -- Groups
 
-runs_in : (u : Runners) (v : Service) (w : Flow) (c : Config) → IsRunClosed v w u → reached w c ≡ true → (ps : List Fixed) → ((p : Fixed) → Among ps p → Among (present v c) p) → AreRunIn u (runs (filter is_initially_active ps))
+runs_in : {q : Doings} (u : Runners) (v : Service) (w : Flow) (c : Config) → IsRunClosed v w q u → reached w c ≡ true → (ps : List Fixed) → ((p : Fixed) → Among ps p → Among (present v c) p) → AreRunIn u (runs (filter is_initially_active ps))
 runs_in u v w c closed among [] into = tt
 runs_in u v w c closed among (p ∷ ps) into = by (is_initially_active p) refl (runs_in u v w c closed among ps (λ x there. into x (inr there)))
   where
@@ -453,7 +454,7 @@ part_into : (v : Service) (c : Config) (g : List ℕ) → IsPartOf c g → (p : 
 part_into v c g (inl same) p there = among_left (group_parts v c.app) (scene_parts v c.scene) p (subst (λ (x : List ℕ). Among (group_parts v x) p) same there)
 part_into v c g (inr same) p there = among_right (group_parts v c.app) (scene_parts v c.scene) p (subst (λ (m : Option (List ℕ)). Among (scene_parts v m) p) (sym same) there)
 
-entering_in : (u : Runners) (v : Service) (w : Flow) (c : Config) (g : List ℕ) → IsRunClosed v w u → reached w c ≡ true → IsPartOf c g → AreRunIn u (entering g (group_parts v g))
+entering_in : {q : Doings} (u : Runners) (v : Service) (w : Flow) (c : Config) (g : List ℕ) → IsRunClosed v w q u → reached w c ≡ true → IsPartOf c g → AreRunIn u (entering g (group_parts v g))
 entering_in u v w c g closed among own =
     each_joined (IsRunIn u) (group_effect g (group_parts v g) attribute.OnStartUp ++ runs (filter is_initially_active (group_parts v g))) (plain_event (group_ref g) event.IsRunning ∷ [])
     (each_joined (IsRunIn u) (group_effect g (group_parts v g) attribute.OnStartUp) (runs (filter is_initially_active (group_parts v g)))
@@ -576,7 +577,7 @@ whole_runs u s action.SetTimer vs r h = record { objects = h.objects; work = h.w
 whole_runs u s _ vs r h = h
 
 -- what an action puts that works a widget
-widget_in : {fw : Flow} (u : Runners) (s : State) (k : IsSafeBy fw s) → IsRunClosed s.service fw u → (a : Act) (r : ObjRef) (o : Object) → IsSound fw s k a r → object_at r (all s.objects) ≡ Some o → (list_any is_run_piece (can_put a.name) ≡ true → u r ≡ true) → AreRunIn u (worked a.name (values (all s.objects) a.arguments) r o.fixed o.body).items
+widget_in : {fw : Flow} {q : Doings} (u : Runners) (s : State) (k : IsSafeBy fw s) → IsRunClosed s.service fw q u → (a : Act) (r : ObjRef) (o : Object) → IsSound fw s k a r → object_at r (all s.objects) ≡ Some o → (list_any is_run_piece (can_put a.name) ≡ true → u r ≡ true) → AreRunIn u (worked a.name (values (all s.objects) a.arguments) r o.fixed o.body).items
 widget_in {fw} u s k closed a r o so e run = by (list_any is_list_piece (can_put a.name)) refl
   where
     vs : List Value
@@ -611,12 +612,12 @@ called_runs u said n ps xs r s h = record {
   work = each_joined (IsRunIn u) (call_items n r) s.work (call_items_in u n r) h.work;
 }
 
-sort_runs : {fw : Flow} (u : Runners) (s : State) (k : IsSafeBy fw s) → IsRunClosed s.service fw u → (a : Act) (r : ObjRef) → IsSound fw s k a r → (rest : List Item) (n : ℕ) → AreOnlyIn u s.objects → AreRunIn u rest → (o : Sort) → sort_of a.name ≡ o → RunsOnly u (rule_by o a.name a.arguments r (record s { work = rest; taken = n }))
-sort_runs {fw} u s k closed a r so rest n h behind_it sort.Change same =
+sort_runs : {fw : Flow} {q : Doings} (u : Runners) (s : State) (k : IsSafeBy fw s) → IsRunClosed s.service fw q u → (a : Act) (r : ObjRef) → IsSound fw s k a r → q (config_of s) a ≡ true → (rest : List Item) (n : ℕ) → AreOnlyIn u s.objects → AreRunIn u rest → (o : Sort) → sort_of a.name ≡ o → RunsOnly u (rule_by o a.name a.arguments r (record s { work = rest; taken = n }))
+sort_runs {fw} u s k closed a r so may rest n h behind_it sort.Change same =
     record { objects = only_left u (changed_by a.name (values (all s.objects) a.arguments)) r s.objects (λ p b. changed_stays a.name (values (all s.objects) a.arguments) p b) h; work = behind_it }
-sort_runs {fw} u s k closed a r so rest n h behind_it sort.Ask same =
+sort_runs {fw} u s k closed a r so may rest n h behind_it sort.Ask same =
     record { objects = only_filled u (receivers a.arguments) _ s.objects h; work = behind_it }
-sort_runs {fw} u s k closed a r so rest n h behind_it sort.Put same = record { objects = h; work = by (object_at r (all s.objects)) refl }
+sort_runs {fw} u s k closed a r so may rest n h behind_it sort.Put same = record { objects = h; work = by (object_at r (all s.objects)) refl }
   where
     vs : List Value
     vs = values (all s.objects) a.arguments
@@ -626,15 +627,15 @@ sort_runs {fw} u s k closed a r so rest n h behind_it sort.Put same = record { o
     by (Some o) e =
         each_joined (IsRunIn u) (put_items a.name vs r o) rest
         (pieces_in u r vs o (can_put a.name) (put_items a.name vs r o)
-        (λ some. closed.acts (config_of s) k.among a (so.fine).active some r (target_among fw (config_of s) (present s.service (config_of s)) a.target r so.may))
+        (λ some. closed.acts (config_of s) k.among a (so.fine).active may some r (target_among fw (config_of s) (present s.service (config_of s)) a.target r so.may))
         (λ some. let never = no_put_list a.name same some in absurd cc) (plain_puts a.name vs r o)) behind_it
-sort_runs {fw} u s k closed a r so rest n h behind_it sort.Load same = load_runs u (record s { work = rest; taken = n }) (values (all s.objects) a.arguments) r (record { objects = h; work = behind_it })
-sort_runs {fw} u s k closed a r so rest n h behind_it sort.Call same =
+sort_runs {fw} u s k closed a r so may rest n h behind_it sort.Load same = load_runs u (record s { work = rest; taken = n }) (values (all s.objects) a.arguments) r (record { objects = h; work = behind_it })
+sort_runs {fw} u s k closed a r so may rest n h behind_it sort.Call same =
     let p : Option Fixed = part_at r (parts (all s.objects)) in
     let ps : List Param = unwrap_or (params_in s.service.programs p) [] in
     called_runs u (outcome_at p ps a.arguments (record s { work = rest; taken = n })) a.name ps a.arguments r (record s { work = rest; taken = n }) (record { objects = h; work = behind_it })
-sort_runs {fw} u s k closed a r so rest n h behind_it sort.Order same = record { objects = h; work = behind_it }
-sort_runs {fw} u s k closed a r so rest n h behind_it sort.Widget same = by (object_at r (all s.objects)) refl
+sort_runs {fw} u s k closed a r so may rest n h behind_it sort.Order same = record { objects = h; work = behind_it }
+sort_runs {fw} u s k closed a r so may rest n h behind_it sort.Widget same = by (object_at r (all s.objects)) refl
   where
     vs : List Value
     vs = values (all s.objects) a.arguments
@@ -645,17 +646,17 @@ sort_runs {fw} u s k closed a r so rest n h behind_it sort.Widget same = by (obj
         let w : Worked = worked a.name vs r o.fixed o.body in
         record {
           objects = only_placed u w.placed (changed (λ p b. w.body) r s.objects) (only_changed u (λ p b. w.body) r s.objects (λ x found. subst (λ (y : Object). KeepsOnly u (λ p b. w.body) y) (some_same (sym e ∙ found)) (leaves_only u (λ p b. w.body) o (worked_stays a.name vs r o.fixed o.body))) h);
-          work = each_joined (IsRunIn u) w.items rest (widget_in u s k closed a r o so e (λ some. closed.acts (config_of s) k.among a (so.fine).active some r (target_among fw (config_of s) (present s.service (config_of s)) a.target r so.may))) behind_it;
+          work = each_joined (IsRunIn u) w.items rest (widget_in u s k closed a r o so e (λ some. closed.acts (config_of s) k.among a (so.fine).active may some r (target_among fw (config_of s) (present s.service (config_of s)) a.target r so.may))) behind_it;
         }
-sort_runs {fw} u s k closed a r so rest n h behind_it sort.Interact same = interact_runs u (record s { work = rest; taken = n }) a.name (values (all s.objects) a.arguments) (receivers a.arguments) r (record { objects = h; work = behind_it })
-sort_runs {fw} u s k closed a r so rest n h behind_it sort.Whole same = whole_runs u (record s { work = rest; taken = n }) a.name (values (all s.objects) a.arguments) r (record { objects = h; work = behind_it })
+sort_runs {fw} u s k closed a r so may rest n h behind_it sort.Interact same = interact_runs u (record s { work = rest; taken = n }) a.name (values (all s.objects) a.arguments) (receivers a.arguments) r (record { objects = h; work = behind_it })
+sort_runs {fw} u s k closed a r so may rest n h behind_it sort.Whole same = whole_runs u (record s { work = rest; taken = n }) a.name (values (all s.objects) a.arguments) r (record { objects = h; work = behind_it })
 
-act_runs : {fw : Flow} (u : Runners) (s : State) (k : IsSafeBy fw s) → IsRunClosed s.service fw u → (a : Act) → IsFine s.service fw (config_of s) a → (rest : List Item) (n : ℕ) → AreOnlyIn u s.objects → AreRunIn u rest → RunsOnly u (rule (item.Act a) (record s { work = rest; taken = n }))
-act_runs {fw} u s k closed a fine rest n h behind_it = by (referred a.target (all s.objects)) refl
+act_runs : {fw : Flow} {q : Doings} (u : Runners) (s : State) (k : IsSafeBy fw s) → IsRunClosed s.service fw q u → (a : Act) → IsFine s.service fw (config_of s) a → q (config_of s) a ≡ true → (rest : List Item) (n : ℕ) → AreOnlyIn u s.objects → AreRunIn u rest → RunsOnly u (rule (item.Act a) (record s { work = rest; taken = n }))
+act_runs {fw} u s k closed a fine may rest n h behind_it = by (referred a.target (all s.objects)) refl
   where
     by : (m : Option ObjRef) → referred a.target (all s.objects) ≡ m → RunsOnly u (act_on m a.name a.arguments (record s { work = rest; taken = n }))
     by None e = record { objects = h; work = behind_it }
-    by (Some r) e = sort_runs u s k closed a r (sound_now s k a fine r e) rest n h behind_it (sort_of a.name) refl
+    by (Some r) e = sort_runs u s k closed a r (sound_now s k a fine r e) may rest n h behind_it (sort_of a.name) refl
 
 -- an object that begins to run is of the set
 run_objects : (u : Runners) (s : State) (r : ObjRef) → u r ≡ true → AreOnlyIn u s.objects → AreOnlyIn u (all_placed (run_places (object_at r (all s.objects))) (changed (started (loaded_at s.files (object_at r (all s.objects)))) r s.objects))
@@ -663,44 +664,44 @@ run_objects u s r is h =
     only_placed u (run_places (object_at r (all s.objects))) (changed (started (loaded_at s.files (object_at r (all s.objects)))) r s.objects)
     (only_changed u (started (loaded_at s.files (object_at r (all s.objects)))) r s.objects (λ o found k runs_it. subst (λ (x : ObjRef). u x ≡ true) (found_key r (all s.objects) o found) is) h)
 
-run_work : {fw : Flow} (u : Runners) (s : State) (k : IsSafeBy fw s) → IsRunClosed s.service fw u → (r : ObjRef) (rest : List Item) → AreRunIn u rest → AreRunIn u (run_items s.files r (object_at r (all s.objects)) ++ rest)
+run_work : {fw : Flow} {q : Doings} (u : Runners) (s : State) (k : IsSafeBy fw s) → IsRunClosed s.service fw q u → (r : ObjRef) (rest : List Item) → AreRunIn u rest → AreRunIn u (run_items s.files r (object_at r (all s.objects)) ++ rest)
 run_work {fw} u s k closed r rest behind_it =
     each_joined (IsRunIn u) (run_items s.files r (object_at r (all s.objects))) rest
     (each_joined (IsRunIn u) (rise_items s.files is_unprepared_at r (object_at r (all s.objects))) (started_items r (object_at r (all s.objects))) (rise_in u s.files is_unprepared_at r (object_at r (all s.objects))) (started_in u s k closed r)) behind_it
 
-rule_runs : {fw : Flow} (u : Runners) (s : State) (k : IsSafeBy fw s) → IsRunClosed s.service fw u → (i : Item) → IsSafeItem s.service fw (config_of s) i → IsRunIn u i → (rest : List Item) (n : ℕ) → AreOnlyIn u s.objects → AreRunIn u rest → RunsOnly u (rule i (record s { work = rest; taken = n }))
-rule_runs {fw} u s k closed (item.Act a) safe is rest n h behind_it = act_runs u s k closed a safe rest n h behind_it
-rule_runs {fw} u s k closed (item.Prepare r) safe is rest n h behind_it = record {
+rule_runs : {fw : Flow} {q : Doings} (u : Runners) (s : State) (k : IsSafeBy fw s) → IsRunClosed s.service fw q u → (i : Item) → IsSafeItem s.service fw (config_of s) i → IsSo q (config_of s) i → IsRunIn u i → (rest : List Item) (n : ℕ) → AreOnlyIn u s.objects → AreRunIn u rest → RunsOnly u (rule i (record s { work = rest; taken = n }))
+rule_runs {fw} u s k closed (item.Act a) safe may is rest n h behind_it = act_runs u s k closed a safe may rest n h behind_it
+rule_runs {fw} u s k closed (item.Prepare r) safe may is rest n h behind_it = record {
   objects = only_left u (λ p b. prepared (loaded_at s.files (object_at r (all s.objects))) b) r s.objects (λ p b. if_stays b.available b _ b refl refl) h;
   work = each_joined (IsRunIn u) (prepare_items s.files r (object_at r (all s.objects))) rest (rise_in u s.files is_unavailable_at r (object_at r (all s.objects))) behind_it;
 }
-rule_runs {fw} u s k closed (item.Run r) safe is rest n h behind_it = record { objects = run_objects u s r is h; work = run_work u s k closed r rest behind_it }
-rule_runs {fw} u s k closed (item.RunMember r) safe is rest n h behind_it = record { objects = run_objects u s r is h; work = run_work u s k closed r rest behind_it }
-rule_runs {fw} u s k closed (item.Halt r) safe is rest n h behind_it = record {
+rule_runs {fw} u s k closed (item.Run r) safe may is rest n h behind_it = record { objects = run_objects u s r is h; work = run_work u s k closed r rest behind_it }
+rule_runs {fw} u s k closed (item.RunMember r) safe may is rest n h behind_it = record { objects = run_objects u s r is h; work = run_work u s k closed r rest behind_it }
+rule_runs {fw} u s k closed (item.Halt r) safe may is rest n h behind_it = record {
   objects = only_changed u (λ p b. halted b) r s.objects (λ o found x e. absurd cc) h;
   work = each_joined (IsRunIn u) (halt_items r (object_at r (all s.objects))) rest (halt_in u r (object_at r (all s.objects))) behind_it;
 }
-rule_runs {fw} u s k closed (item.HaltMember r) safe is rest n h behind_it = record {
+rule_runs {fw} u s k closed (item.HaltMember r) safe may is rest n h behind_it = record {
   objects = only_changed u (λ p b. halted b) r s.objects (λ o found x e. absurd cc) h;
   work = each_joined (IsRunIn u) (halt_items r (object_at r (all s.objects))) rest (halt_in u r (object_at r (all s.objects))) behind_it;
 }
-rule_runs {fw} u s k closed (item.Drop r) safe is rest n h behind_it = record {
+rule_runs {fw} u s k closed (item.Drop r) safe may is rest n h behind_it = record {
   objects = only_left u (λ p b. dropped b) r s.objects (λ p b. if_stays b.available _ b b refl refl) h;
   work = each_joined (IsRunIn u) (drop_items r (object_at r (all s.objects))) rest (emit_if_in u (is_available_at (object_at r (all s.objects))) r event.IsDeleted) behind_it;
 }
-rule_runs {fw} u s k closed (item.Emit e) safe is rest n h behind_it = by (is_sync e.kind)
+rule_runs {fw} u s k closed (item.Emit e) safe may is rest n h behind_it = by (is_sync e.kind)
   where
     by : (t : Bool) → RunsOnly u (if t then record s { work = heard e (all s.objects) ++ rest; taken = n } else record s { queue = s.queue ++ waiting.Event e ∷ []; work = rest; taken = n })
     by true = record { objects = h; work = each_joined (IsRunIn u) (heard e (all s.objects)) rest (heard_in u e (all s.objects)) behind_it }
     by false = record { objects = h; work = behind_it }
-rule_runs {fw} u s k closed (item.Enter g) safe is rest n h behind_it =
+rule_runs {fw} u s k closed (item.Enter g) safe may is rest n h behind_it =
     record { objects = h; work = each_joined (IsRunIn u) (entering g (group_parts s.service g)) rest (entering_in u s.service fw (config_of s) g closed k.among safe) behind_it }
-rule_runs {fw} u s k closed (item.Exchange g) safe is rest n h behind_it = by (is_group_of is_application s.service g)
+rule_runs {fw} u s k closed (item.Exchange g) safe may is rest n h behind_it = by (is_group_of is_application s.service g)
   where
     by : (t : Bool) → RunsOnly u (if t then application_exchanged g (record s { work = rest; taken = n }) else scene_exchanged g (record s { work = rest; taken = n }))
     by true = record { objects = (only_fresh u (group_parts s.service g), tt); work = (tt, behind_it) }
     by false = record { objects = (h.0, only_fresh u (group_parts s.service g)); work = (tt, behind_it) }
-rule_runs {fw} u s k closed item.End safe is rest n h behind_it = record { objects = h; work = behind_it }
+rule_runs {fw} u s k closed item.End safe may is rest n h behind_it = record { objects = h; work = behind_it }
 
 -- Taking
 
@@ -777,15 +778,15 @@ first_runs : (u : Runners) (work : List Item) (i : Item) → slice_get work 0 �
 first_runs u [] i e h = absurd cc
 first_runs u (j ∷ rest) i e h = (subst (IsRunIn u) (some_same e) h.0, h.1)
 
-pub step_runs : {fw : Flow} (u : Runners) (s : State) (k : IsSafeBy fw s) → IsRunClosed s.service fw u → RunsOnly u s → RunsOnly u (step s)
-step_runs {fw} u s k closed h = unless_ended s.ended
+pub step_runs : {fw : Flow} {q : Doings} (u : Runners) (s : State) (k : IsSafeBy fw s) → IsRunClosed s.service fw q u → ((i : Item) → slice_get s.work 0 ≡ Some i → IsSo q (config_of s) i) → RunsOnly u s → RunsOnly u (step s)
+step_runs {fw} u s k closed comes h = unless_ended s.ended
   where
     by : (m : Option Item) (x : Option Waiting) → slice_get s.work 0 ≡ m → RunsOnly u (step_by m x s)
     by None None e = h
     by None (Some x) e = taking_runs u (record s { queue = drop 1 s.queue; taken = s.taken + 1 }) x (record { objects = h.objects; work = h.work })
     by (Some i) x e =
         let parts = first_runs u s.work i e h.work in
-        subst (λ (m : Option Fault). RunsOnly u (did m i s)) (sym (free_first s k i e)) (rule_runs u s k closed i (first_item s k i e) parts.0 (drop 1 s.work) (s.taken + 1) h.objects parts.1)
+        subst (λ (m : Option Fault). RunsOnly u (did m i s)) (sym (free_first s k i e)) (rule_runs u s k closed i (first_item s k i e) (comes i e) parts.0 (drop 1 s.work) (s.taken + 1) h.objects parts.1)
 
     unless_ended : (t : Bool) → RunsOnly u (if t then s else step_by (slice_get s.work 0) (slice_get s.queue 0) s)
     unless_ended true = h
@@ -803,22 +804,35 @@ told_runs u s o h = record { objects = h.objects; work = h.work }
 
 -- RUNS
 
+pub any_so : (c : Config) (i : Item) → IsSo any_act c i
+any_so c (item.Act a) = refl
+any_so c (item.Prepare r) = tt
+any_so c (item.Run r) = tt
+any_so c (item.Halt r) = tt
+any_so c (item.RunMember r) = tt
+any_so c (item.HaltMember r) = tt
+any_so c (item.Drop r) = tt
+any_so c (item.Emit e) = tt
+any_so c (item.Enter g) = tt
+any_so c (item.Exchange g) = tt
+any_so c item.End = tt
+
 record Goes_on (v : Service) (w : Flow) (u : Runners) (s : State) : Type 0 where
   safe : IsSafeBy w s
   service : s.service ≡ v
   runs : RunsOnly u s
 
-closed_now : (v : Service) (w : Flow) (u : Runners) (s : State) → IsRunClosed v w u → s.service ≡ v → IsRunClosed s.service w u
-closed_now v w u s closed same = subst (λ (x : Service). IsRunClosed x w u) (sym same) closed
+closed_now : {q : Doings} (v : Service) (w : Flow) (u : Runners) (s : State) → IsRunClosed v w q u → s.service ≡ v → IsRunClosed s.service w q u
+closed_now {q} v w u s closed same = subst (λ (x : Service). IsRunClosed x w q u) (sym same) closed
 
-goes_step : (v : Service) (w : Flow) (u : Runners) → IsRunClosed v w u → (s : State) → Goes_on v w u s → Goes_on v w u (step s)
+goes_step : (v : Service) (w : Flow) (u : Runners) → IsRunClosed v w any_act u → (s : State) → Goes_on v w u s → Goes_on v w u (step s)
 goes_step v w u closed s g = record {
   safe = safe_by_step s g.safe;
   service = step_serves s g.safe ∙ g.service;
-  runs = step_runs u s g.safe (closed_now v w u s closed g.service) g.runs;
+  runs = step_runs u s g.safe (closed_now v w u s closed g.service) (λ i e. any_so (config_of s) i) g.runs;
 }
 
-goes_move : (v : Service) (w : Flow) (u : Runners) → IsRunClosed v w u → (ss : List Signature) (m : Move) (s t : State) → Goes_on v w u s → IsMoved ss anything m s t → Goes_on v w u t
+goes_move : (v : Service) (w : Flow) (u : Runners) → IsRunClosed v w any_act u → (ss : List Signature) (m : Move) (s t : State) → Goes_on v w u s → IsMoved ss anything m s t → Goes_on v w u t
 goes_move v w u closed ss (move.Post i) s t g so =
     subst (Goes_on v w u) (sym so) (record { safe = safe_by_posted s g.safe i; service = posted_serves i s ∙ g.service; runs = posted_runs u s i g.runs })
 goes_move v w u closed ss move.Step s t g so = by (s.taken == most_steps) so
@@ -831,7 +845,7 @@ goes_move v w u closed ss move.Step s t g so = by (s.taken == most_steps) so
     by true e = subst (Goes_on v w u) (sym e) g
     by false e = with (call_next ss s) e
 
-goes_all : (v : Service) (w : Flow) (u : Runners) → IsRunClosed v w u → (ss : List Signature) (ms : List Move) (s t : State) → Goes_on v w u s → IsRun ss anything ms s t → Goes_on v w u t
+goes_all : (v : Service) (w : Flow) (u : Runners) → IsRunClosed v w any_act u → (ss : List Signature) (ms : List Move) (s t : State) → Goes_on v w u s → IsRun ss anything ms s t → Goes_on v w u t
 goes_all v w u closed ss [] s t g so = subst (Goes_on v w u) (sym so) g
 goes_all v w u closed ss (m ∷ ms) s t g so = goes_all v w u closed ss ms so.0 t (goes_move v w u closed ss m s so.0 g so.1) so.2
 

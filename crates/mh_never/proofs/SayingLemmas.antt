@@ -1,4 +1,4 @@
--- No event comes but what is of a closed set.
+-- No event is told, or waits, but what is of a closed set.
 use Rattle.std.specs.Prelude.{◌≡◌, ℕ, suc, ◌+◌, ◌==◌, ◌&&◌, not, nat_lt, Bool, true, false, if◌then◌else◌, cond, List, [], ◌∷◌, ◌++◌, map, filter, length, drop, reverse, slice_get, Option, Some, None, ℤ, pos, negsuc, int_lt, refl}
 use Rattle.std.specs.Option.{is_some}
 use Rattle.std.specs.Ordering.{int_eq}
@@ -92,7 +92,9 @@ use Rattle.mh_model.specs.Receiver.{IsCountedStep, IsMoved, IsRun, IsStepWith, a
 use Rattle.mh_laws.specs.Headline.{begun_with}
 use Rattle.mh_laws.proofs.BudgetLemmas.{posted_serves, step_serves}
 use Rattle.mh_laws.proofs.StepLemmas.{safe_by_begun_with, safe_by_posted, safe_by_step, safe_by_told}
-use Rattle.mh_never.specs.Saying.{is_key_number, IsSaidClosed, IsSaidIn, IsWaitIn, NeverSays, Sayings, SaysOnly, event_by, is_usual}
+use Rattle.mh_never.specs.Never.{IsSo}
+use Rattle.mh_never.specs.Running.{Doings}
+use Rattle.mh_never.specs.Saying.{IsSaidClosed, IsSaidIn, IsWaitIn, Sayings, event_by, is_usual}
 use Rattle.mh_laws.specs.Safe.{IsFine, IsSafeBy, IsSafeItem, config_of}
 use Rattle.mh_model.proofs.ListLemmas.{some_same}
 use Rattle.mh_model.specs.Receiver.{told}
@@ -102,6 +104,14 @@ use Rattle.mh_laws.proofs.EachLemmas.{each_joined}
 
 abbrev AreSaidIn : Sayings → List Item → Type 0
 AreSaidIn u is = Each (IsSaidIn u) is
+
+-- what will be told and what waits is of the set
+pub record Emits (u : Sayings) (s : State) : Type 0 where
+  pub work : AreSaidIn u s.work
+  pub queue : Each (IsWaitIn u) s.queue
+
+abbrev pub IsTimerIn : Sayings → Timer → Type 0
+IsTimerIn u t = u (timer_event t) ≡ true
 
 -- what is said in the usual way is of the set
 abbrev SaysUsual : Sayings → Type 0
@@ -393,12 +403,12 @@ load_items_said u k fs [] r m = tt
 load_items_said u k fs (v ∷ []) r m = emit_if_said u k (is_loadable v && is_available_at m && is_some (comes_to fs v)) r event.ContentAvailable refl
 load_items_said u k fs (v ∷ x ∷ vs) r m = tt
 
-load_says : (u : Sayings) → SaysUsual u → (s : State) (vs : List Value) (r : ObjRef) → SaysOnly u s → SaysOnly u (load_rule vs r s)
+load_says : (u : Sayings) → SaysUsual u → (s : State) (vs : List Value) (r : ObjRef) → Emits u s → Emits u (load_rule vs r s)
 load_says u k s [] r h = h
 load_says u k s (v ∷ x ∷ vs) r h = h
 load_says u k s (v ∷ []) r h = by (is_loadable v)
   where
-    by : (t : Bool) → SaysOnly u (if t then loaded_with v r s else s)
+    by : (t : Bool) → Emits u (if t then loaded_with v r s else s)
     by true = record {
       work = each_joined (IsSaidIn u) (load_items s.files (v ∷ []) r (object_at r (all s.objects))) s.work (load_items_said u k s.files (v ∷ []) r (object_at r (all s.objects))) h.work;
       queue = h.queue;
@@ -413,7 +423,7 @@ interaction_said : (u : Sayings) → SaysUsual u → (vs : List Value) (b : Bool
 interaction_said u k (value.Bool false ∷ []) true r = (k r event.InteractionCompleted None refl, tt)
 interaction_said u k _ b r = tt
 
-interact_says : (u : Sayings) → SaysUsual u → (s : State) (n : ActionName) (vs : List Value) (rs : List ObjRef) (r : ObjRef) → SaysOnly u s → SaysOnly u (interact_rule n vs rs r s)
+interact_says : (u : Sayings) → SaysUsual u → (s : State) (n : ActionName) (vs : List Value) (rs : List ObjRef) (r : ObjRef) → Emits u s → Emits u (interact_rule n vs rs r s)
 interact_says u k s action.SetInteractionStatus vs rs r h = record {
   work = each_joined (IsSaidIn u) (interaction_items vs (is_interacting r s.interaction) r) s.work (interaction_said u k vs (is_interacting r s.interaction) r) h.work;
   queue = h.queue;
@@ -421,15 +431,15 @@ interact_says u k s action.SetInteractionStatus vs rs r h = record {
 interact_says u k s action.GetInteractionStatus vs rs r h = record { work = h.work; queue = h.queue }
 interact_says u k s _ vs rs r h = h
 
-transition_says : (u : Sayings) (n : ActionName) (r : ObjRef) (s : State) → SaysOnly u s → SaysOnly u (transition_rule n r s)
+transition_says : (u : Sayings) (n : ActionName) (r : ObjRef) (s : State) → Emits u s → Emits u (transition_rule n r s)
 transition_says u n r s h = by (is_begun s.transition) (leads_to_late n r s)
   where
-    by : (begun late : Bool) → SaysOnly u (if begun then s else begins_or_waits late n r s)
+    by : (begun late : Bool) → Emits u (if begun then s else begins_or_waits late n r s)
     by true late = h
     by false true = record { work = h.work; queue = h.queue }
     by false false = record { work = out_said u n r s; queue = h.queue }
 
-whole_says : (u : Sayings) (s : State) (n : ActionName) (vs : List Value) (r : ObjRef) → SaysOnly u s → SaysOnly u (whole_rule n vs r s)
+whole_says : (u : Sayings) (s : State) (n : ActionName) (vs : List Value) (r : ObjRef) → Emits u s → Emits u (whole_rule n vs r s)
 whole_says u s action.TransitionTo vs r h = transition_says u action.TransitionTo r s h
 whole_says u s action.Launch vs r h = transition_says u action.Launch r s h
 whole_says u s action.Quit vs r h = transition_says u action.Quit r s h
@@ -438,50 +448,50 @@ whole_says u s action.UnlockScreen vs r h = record { work = h.work; queue = h.qu
 whole_says u s action.SetTimer vs r h = record { work = h.work; queue = h.queue }
 whole_says u s _ vs r h = h
 
-usual_of : (v : Service) (w : Flow) (u : Sayings) → IsSaidClosed v w u → SaysUsual u
+usual_of : {q : Doings} (v : Service) (w : Flow) (u : Sayings) → IsSaidClosed v w q u → SaysUsual u
 usual_of v w u closed r kind d is = closed.usual r kind d is
 
 -- what is sent
-sent_now : {fw : Flow} (u : Sayings) (s : State) (k : IsSafeBy fw s) → IsSaidClosed s.service fw u → (a : Act) (r : ObjRef) (o : Object) → IsSound fw s k a r → a.name ≡ action.SendEvent → AreSaidIn u (put_items a.name (values (all s.objects) a.arguments) r o)
-sent_now {fw} u s k closed a r o so named =
+sent_now : {fw : Flow} {q : Doings} (u : Sayings) (s : State) (k : IsSafeBy fw s) → IsSaidClosed s.service fw q u → (a : Act) (r : ObjRef) (o : Object) → IsSound fw s k a r → q (config_of s) a ≡ true → a.name ≡ action.SendEvent → AreSaidIn u (put_items a.name (values (all s.objects) a.arguments) r o)
+sent_now {fw} u s k closed a r o so may named =
     let direct : has_direct_event (needs_of action.SendEvent) a.arguments ≡ true = subst (λ (n : ActionName). (if is_sending n then has_direct_event (needs_of n) a.arguments else true) ≡ true) named (direct_now s k a so.fine) in
     let good : arguments_wrongs (known_now s) (record a { name = action.SendEvent }) (needs_of action.SendEvent) a.arguments ≡ [] = subst (λ (n : ActionName). arguments_wrongs (known_now s) (record a { name = n }) (needs_of n) a.arguments ≡ []) named so.good in
     let word = word_of (known_now s) (record a { name = action.SendEvent }) a.arguments direct good in
     subst (λ (n : ActionName). AreSaidIn u (put_items n (values (all s.objects) a.arguments) r o)) (sym named)
-    (sent_said u (all s.objects) a.arguments r o word (λ x n more e kind is q d known. closed.sent (config_of s) k.among a (so.fine).active named x n more e kind is q d known))
+    (sent_said u (all s.objects) a.arguments r o word (λ x n more e kind is q d known. closed.sent (config_of s) k.among a (so.fine).active may named x n more e kind is q d known))
 
-sort_says : {fw : Flow} (u : Sayings) (s : State) (k : IsSafeBy fw s) → IsSaidClosed s.service fw u → (a : Act) (r : ObjRef) → IsSound fw s k a r → (rest : List Item) (n : ℕ) → AreSaidIn u rest → Each (IsWaitIn u) s.queue → (o : Sort) → sort_of a.name ≡ o → SaysOnly u (rule_by o a.name a.arguments r (record s { work = rest; taken = n }))
-sort_says {fw} u s k closed a r so rest n behind_it waits sort.Change same = record { work = behind_it; queue = waits }
-sort_says {fw} u s k closed a r so rest n behind_it waits sort.Ask same = record { work = behind_it; queue = waits }
-sort_says {fw} u s k closed a r so rest n behind_it waits sort.Put same = record { work = by (object_at r (all s.objects)); queue = waits }
+sort_says : {fw : Flow} {q : Doings} (u : Sayings) (s : State) (k : IsSafeBy fw s) → IsSaidClosed s.service fw q u → (a : Act) (r : ObjRef) → IsSound fw s k a r → q (config_of s) a ≡ true → (rest : List Item) (n : ℕ) → AreSaidIn u rest → Each (IsWaitIn u) s.queue → (o : Sort) → sort_of a.name ≡ o → Emits u (rule_by o a.name a.arguments r (record s { work = rest; taken = n }))
+sort_says {fw} u s k closed a r so may rest n behind_it waits sort.Change same = record { work = behind_it; queue = waits }
+sort_says {fw} u s k closed a r so may rest n behind_it waits sort.Ask same = record { work = behind_it; queue = waits }
+sort_says {fw} u s k closed a r so may rest n behind_it waits sort.Put same = record { work = by (object_at r (all s.objects)); queue = waits }
   where
     vs : List Value
     vs = values (all s.objects) a.arguments
 
     by : (m : Option Object) → AreSaidIn u (put_items_at a.name vs r m ++ rest)
     by None = behind_it
-    by (Some o) = each_joined (IsSaidIn u) (put_items a.name vs r o) rest (put_said u (usual_of s.service fw u closed) a.name vs r o (λ named. sent_now u s k closed a r o so named)) behind_it
-sort_says {fw} u s k closed a r so rest n behind_it waits sort.Load same = load_says u (usual_of s.service fw u closed) (record s { work = rest; taken = n }) (values (all s.objects) a.arguments) r (record { work = behind_it; queue = waits })
-sort_says {fw} u s k closed a r so rest n behind_it waits sort.Call same =
+    by (Some o) = each_joined (IsSaidIn u) (put_items a.name vs r o) rest (put_said u (usual_of s.service fw u closed) a.name vs r o (λ named. sent_now u s k closed a r o so may named)) behind_it
+sort_says {fw} u s k closed a r so may rest n behind_it waits sort.Load same = load_says u (usual_of s.service fw u closed) (record s { work = rest; taken = n }) (values (all s.objects) a.arguments) r (record { work = behind_it; queue = waits })
+sort_says {fw} u s k closed a r so may rest n behind_it waits sort.Call same =
     record { work = each_joined (IsSaidIn u) (call_items a.name r) rest (call_items_said u (usual_of s.service fw u closed) a.name r) behind_it; queue = waits }
-sort_says {fw} u s k closed a r so rest n behind_it waits sort.Order same = record { work = behind_it; queue = waits }
-sort_says {fw} u s k closed a r so rest n behind_it waits sort.Widget same = by (object_at r (all s.objects))
+sort_says {fw} u s k closed a r so may rest n behind_it waits sort.Order same = record { work = behind_it; queue = waits }
+sort_says {fw} u s k closed a r so may rest n behind_it waits sort.Widget same = by (object_at r (all s.objects))
   where
     vs : List Value
     vs = values (all s.objects) a.arguments
 
-    by : (m : Option Object) → SaysOnly u (widget_at a.name vs r m (record s { work = rest; taken = n }))
+    by : (m : Option Object) → Emits u (widget_at a.name vs r m (record s { work = rest; taken = n }))
     by None = record { work = behind_it; queue = waits }
     by (Some o) = record { work = each_joined (IsSaidIn u) (worked a.name vs r o.fixed o.body).items rest (worked_said u (usual_of s.service fw u closed) a.name vs r o.fixed o.body) behind_it; queue = waits }
-sort_says {fw} u s k closed a r so rest n behind_it waits sort.Interact same = interact_says u (usual_of s.service fw u closed) (record s { work = rest; taken = n }) a.name (values (all s.objects) a.arguments) (receivers a.arguments) r (record { work = behind_it; queue = waits })
-sort_says {fw} u s k closed a r so rest n behind_it waits sort.Whole same = whole_says u (record s { work = rest; taken = n }) a.name (values (all s.objects) a.arguments) r (record { work = behind_it; queue = waits })
+sort_says {fw} u s k closed a r so may rest n behind_it waits sort.Interact same = interact_says u (usual_of s.service fw u closed) (record s { work = rest; taken = n }) a.name (values (all s.objects) a.arguments) (receivers a.arguments) r (record { work = behind_it; queue = waits })
+sort_says {fw} u s k closed a r so may rest n behind_it waits sort.Whole same = whole_says u (record s { work = rest; taken = n }) a.name (values (all s.objects) a.arguments) r (record { work = behind_it; queue = waits })
 
-act_says : {fw : Flow} (u : Sayings) (s : State) (k : IsSafeBy fw s) → IsSaidClosed s.service fw u → (a : Act) → IsFine s.service fw (config_of s) a → (rest : List Item) (n : ℕ) → AreSaidIn u rest → Each (IsWaitIn u) s.queue → SaysOnly u (rule (item.Act a) (record s { work = rest; taken = n }))
-act_says {fw} u s k closed a fine rest n behind_it waits = by (referred a.target (all s.objects)) refl
+act_says : {fw : Flow} {q : Doings} (u : Sayings) (s : State) (k : IsSafeBy fw s) → IsSaidClosed s.service fw q u → (a : Act) → IsFine s.service fw (config_of s) a → q (config_of s) a ≡ true → (rest : List Item) (n : ℕ) → AreSaidIn u rest → Each (IsWaitIn u) s.queue → Emits u (rule (item.Act a) (record s { work = rest; taken = n }))
+act_says {fw} u s k closed a fine may rest n behind_it waits = by (referred a.target (all s.objects)) refl
   where
-    by : (m : Option ObjRef) → referred a.target (all s.objects) ≡ m → SaysOnly u (act_on m a.name a.arguments (record s { work = rest; taken = n }))
+    by : (m : Option ObjRef) → referred a.target (all s.objects) ≡ m → Emits u (act_on m a.name a.arguments (record s { work = rest; taken = n }))
     by None e = record { work = behind_it; queue = waits }
-    by (Some r) e = sort_says u s k closed a r (sound_now s k a fine r e) rest n behind_it waits (sort_of a.name) refl
+    by (Some r) e = sort_says u s k closed a r (sound_now s k a fine r e) may rest n behind_it waits (sort_of a.name) refl
 
 -- what stays of a queue is of the set
 stays_in : (u : Sayings) (p : Waiting → Bool) (ws : List Waiting) → Each (IsWaitIn u) ws → Each (IsWaitIn u) (filter p ws)
@@ -497,52 +507,29 @@ run_work_said u k s r rest behind_it =
     each_joined (IsSaidIn u) (run_items s.files r (object_at r (all s.objects))) rest
     (each_joined (IsSaidIn u) (rise_items s.files is_unprepared_at r (object_at r (all s.objects))) (started_items r (object_at r (all s.objects))) (rise_said u k s.files is_unprepared_at r (object_at r (all s.objects))) (started_said u k r (object_at r (all s.objects)))) behind_it
 
-rule_says : {fw : Flow} (u : Sayings) (s : State) (k : IsSafeBy fw s) → IsSaidClosed s.service fw u → (i : Item) → IsSafeItem s.service fw (config_of s) i → IsSaidIn u i → (rest : List Item) (n : ℕ) → AreSaidIn u rest → Each (IsWaitIn u) s.queue → SaysOnly u (rule i (record s { work = rest; taken = n }))
-rule_says {fw} u s k closed (item.Act a) safe is rest n behind_it waits = act_says u s k closed a safe rest n behind_it waits
-rule_says {fw} u s k closed (item.Prepare r) safe is rest n behind_it waits = record { work = each_joined (IsSaidIn u) (prepare_items s.files r (object_at r (all s.objects))) rest (rise_said u (usual_of s.service fw u closed) s.files is_unavailable_at r (object_at r (all s.objects))) behind_it; queue = waits }
-rule_says {fw} u s k closed (item.Run r) safe is rest n behind_it waits = record { work = run_work_said u (usual_of s.service fw u closed) s r rest behind_it; queue = waits }
-rule_says {fw} u s k closed (item.RunMember r) safe is rest n behind_it waits = record { work = run_work_said u (usual_of s.service fw u closed) s r rest behind_it; queue = waits }
-rule_says {fw} u s k closed (item.Halt r) safe is rest n behind_it waits = record { work = each_joined (IsSaidIn u) (halt_items r (object_at r (all s.objects))) rest (halt_said u (usual_of s.service fw u closed) r (object_at r (all s.objects))) behind_it; queue = waits }
-rule_says {fw} u s k closed (item.HaltMember r) safe is rest n behind_it waits = record { work = each_joined (IsSaidIn u) (halt_items r (object_at r (all s.objects))) rest (halt_said u (usual_of s.service fw u closed) r (object_at r (all s.objects))) behind_it; queue = waits }
-rule_says {fw} u s k closed (item.Drop r) safe is rest n behind_it waits = record { work = each_joined (IsSaidIn u) (drop_items r (object_at r (all s.objects))) rest (emit_if_said u (usual_of s.service fw u closed) (is_available_at (object_at r (all s.objects))) r event.IsDeleted refl) behind_it; queue = waits }
-rule_says {fw} u s k closed (item.Emit e) safe is rest n behind_it waits = by (is_sync e.kind)
+rule_says : {fw : Flow} {q : Doings} (u : Sayings) (s : State) (k : IsSafeBy fw s) → IsSaidClosed s.service fw q u → (i : Item) → IsSafeItem s.service fw (config_of s) i → IsSo q (config_of s) i → IsSaidIn u i → (rest : List Item) (n : ℕ) → AreSaidIn u rest → Each (IsWaitIn u) s.queue → Emits u (rule i (record s { work = rest; taken = n }))
+rule_says {fw} u s k closed (item.Act a) safe may is rest n behind_it waits = act_says u s k closed a safe may rest n behind_it waits
+rule_says {fw} u s k closed (item.Prepare r) safe may is rest n behind_it waits = record { work = each_joined (IsSaidIn u) (prepare_items s.files r (object_at r (all s.objects))) rest (rise_said u (usual_of s.service fw u closed) s.files is_unavailable_at r (object_at r (all s.objects))) behind_it; queue = waits }
+rule_says {fw} u s k closed (item.Run r) safe may is rest n behind_it waits = record { work = run_work_said u (usual_of s.service fw u closed) s r rest behind_it; queue = waits }
+rule_says {fw} u s k closed (item.RunMember r) safe may is rest n behind_it waits = record { work = run_work_said u (usual_of s.service fw u closed) s r rest behind_it; queue = waits }
+rule_says {fw} u s k closed (item.Halt r) safe may is rest n behind_it waits = record { work = each_joined (IsSaidIn u) (halt_items r (object_at r (all s.objects))) rest (halt_said u (usual_of s.service fw u closed) r (object_at r (all s.objects))) behind_it; queue = waits }
+rule_says {fw} u s k closed (item.HaltMember r) safe may is rest n behind_it waits = record { work = each_joined (IsSaidIn u) (halt_items r (object_at r (all s.objects))) rest (halt_said u (usual_of s.service fw u closed) r (object_at r (all s.objects))) behind_it; queue = waits }
+rule_says {fw} u s k closed (item.Drop r) safe may is rest n behind_it waits = record { work = each_joined (IsSaidIn u) (drop_items r (object_at r (all s.objects))) rest (emit_if_said u (usual_of s.service fw u closed) (is_available_at (object_at r (all s.objects))) r event.IsDeleted refl) behind_it; queue = waits }
+rule_says {fw} u s k closed (item.Emit e) safe may is rest n behind_it waits = by (is_sync e.kind)
   where
-    by : (t : Bool) → SaysOnly u (if t then record s { work = heard e (all s.objects) ++ rest; taken = n } else record s { queue = s.queue ++ waiting.Event e ∷ []; work = rest; taken = n })
+    by : (t : Bool) → Emits u (if t then record s { work = heard e (all s.objects) ++ rest; taken = n } else record s { queue = s.queue ++ waiting.Event e ∷ []; work = rest; taken = n })
     by true = record { work = each_joined (IsSaidIn u) (heard e (all s.objects)) rest (heard_said u e (all s.objects)) behind_it; queue = waits }
     by false = record { work = behind_it; queue = each_joined (IsWaitIn u) s.queue (waiting.Event e ∷ []) waits (is, tt) }
-rule_says {fw} u s k closed (item.Enter g) safe is rest n behind_it waits =
+rule_says {fw} u s k closed (item.Enter g) safe may is rest n behind_it waits =
     record { work = each_joined (IsSaidIn u) (entering g (group_parts s.service g)) rest (entering_said u (usual_of s.service fw u closed) g (group_parts s.service g)) behind_it; queue = waits }
-rule_says {fw} u s k closed (item.Exchange g) safe is rest n behind_it waits = by (is_group_of is_application s.service g)
+rule_says {fw} u s k closed (item.Exchange g) safe may is rest n behind_it waits = by (is_group_of is_application s.service g)
   where
-    by : (t : Bool) → SaysOnly u (if t then application_exchanged g (record s { work = rest; taken = n }) else scene_exchanged g (record s { work = rest; taken = n }))
+    by : (t : Bool) → Emits u (if t then application_exchanged g (record s { work = rest; taken = n }) else scene_exchanged g (record s { work = rest; taken = n }))
     by true = record { work = (tt, behind_it); queue = stays_in u is_input s.queue waits }
     by false = record { work = (tt, behind_it); queue = stays_in u (stays s.application) s.queue waits }
-rule_says {fw} u s k closed item.End safe is rest n behind_it waits = record { work = behind_it; queue = tt }
+rule_says {fw} u s k closed item.End safe may is rest n behind_it waits = record { work = behind_it; queue = tt }
 
 -- Taking
-
-pub key_known : (x : Key) → is_key_number (key_number x) ≡ true
-key_known key.Up = refl
-key_known key.Down = refl
-key_known key.Left = refl
-key_known key.Right = refl
-key_known key.Digit0 = refl
-key_known key.Digit1 = refl
-key_known key.Digit2 = refl
-key_known key.Digit3 = refl
-key_known key.Digit4 = refl
-key_known key.Digit5 = refl
-key_known key.Digit6 = refl
-key_known key.Digit7 = refl
-key_known key.Digit8 = refl
-key_known key.Digit9 = refl
-key_known key.Select = refl
-key_known key.Cancel = refl
-key_known key.Red = refl
-key_known key.Green = refl
-key_known key.Yellow = refl
-key_known key.Blue = refl
-key_known key.Text = refl
 
 key_items_said : (u : Sayings) (x : Key) (m : Option (List ℕ)) (os : List Object) → AreSaidIn u (key_items x m os)
 key_items_said u x None os = tt
@@ -582,17 +569,27 @@ pressed_said u k class.EntryField x before r p b = field_said u k x before r p b
 pressed_said u k class.PushButton x before r p b = push_said u k x r b
 pressed_said u k _ x before r p b = tt
 
-placed_said : (u : Sayings) → SaysUsual u → (app : List ℕ) (t : Timer) (ts : List Timer) → Each (IsWaitIn u) (map (λ x. waiting.Event (timer_event x)) ts) → Each (IsWaitIn u) (map (λ x. waiting.Event (timer_event x)) (placed app t ts))
-placed_said u k app t [] h = (k (group_ref t.group) event.TimerFired (Some (value.Int t.id)) refl, tt)
-placed_said u k app t (x ∷ ts) h = by (is_lt (by_due app t x)) (placed_said u k app t ts h.1)
+-- the timers that are due are told in an order of their own
+
+placed_said : (u : Sayings) (app : List ℕ) (t : Timer) → IsTimerIn u t → (ts : List Timer) → Each (IsWaitIn u) (map (λ x. waiting.Event (timer_event x)) ts) → Each (IsWaitIn u) (map (λ x. waiting.Event (timer_event x)) (placed app t ts))
+placed_said u app t own [] h = (own, tt)
+placed_said u app t own (x ∷ ts) h = by (is_lt (by_due app t x)) (placed_said u app t own ts h.1)
   where
     by : (b : Bool) → Each (IsWaitIn u) (map (λ y. waiting.Event (timer_event y)) (placed app t ts)) → Each (IsWaitIn u) (map (λ y. waiting.Event (timer_event y)) (if b then t ∷ x ∷ ts else x ∷ placed app t ts))
-    by true below = (k (group_ref t.group) event.TimerFired (Some (value.Int t.id)) refl, h)
+    by true below = (own, h)
     by false below = (h.0, below)
 
-ordered_said : (u : Sayings) → SaysUsual u → (app : List ℕ) (ts : List Timer) → Each (IsWaitIn u) (map (λ x. waiting.Event (timer_event x)) (in_order app ts))
-ordered_said u k app [] = tt
-ordered_said u k app (t ∷ ts) = placed_said u k app t (in_order app ts) (ordered_said u k app ts)
+ordered_said : (u : Sayings) (app : List ℕ) (ts : List Timer) → Each (IsTimerIn u) ts → Each (IsWaitIn u) (map (λ x. waiting.Event (timer_event x)) (in_order app ts))
+ordered_said u app [] h = tt
+ordered_said u app (t ∷ ts) h = placed_said u app t h.0 (in_order app ts) (ordered_said u app ts h.1)
+
+pub timers_kept : (u : Sayings) (p : Timer → Bool) (ts : List Timer) → Each (IsTimerIn u) ts → Each (IsTimerIn u) (filter p ts)
+timers_kept u p [] h = tt
+timers_kept u p (t ∷ ts) h = by (p t) (timers_kept u p ts h.1)
+  where
+    by : (b : Bool) → Each (IsTimerIn u) (filter p ts) → Each (IsTimerIn u) (cond b (t ∷ filter p ts) (filter p ts))
+    by true below = (h.0, below)
+    by false below = below
 
 streams_said : (u : Sayings) → SaysUsual u → (n : ℤ) (os : List Object) → Each (IsWaitIn u) (map (λ o. waiting.Event (stream_event n o)) (filter is_streaming os))
 streams_said u k n [] = tt
@@ -610,25 +607,25 @@ contents_said u k p (o ∷ os) = by (p o) (contents_said u k p os)
     by true below = (k o.fixed.key event.ContentAvailable None refl, below)
     by false below = below
 
-taking_says : (u : Sayings) → SaysUsual u → (s : State) (x : Waiting) → SaysOnly u s → SaysOnly u (taking x s)
-taking_says u k s (waiting.Event e) h = record { work = heard_said u e (all s.objects); queue = h.queue }
-taking_says u k s (waiting.Input (input.Key x)) h = by s.interaction
+taking_says : (u : Sayings) → SaysUsual u → (s : State) (x : Waiting) → Each (IsTimerIn u) s.timers → Emits u s → Emits u (taking x s)
+taking_says u k s (waiting.Event e) timed h = record { work = heard_said u e (all s.objects); queue = h.queue }
+taking_says u k s (waiting.Input (input.Key x)) timed h = by s.interaction
   where
-    by : (i : Option Interaction) → SaysOnly u (key_taken x i s)
+    by : (i : Option Interaction) → Emits u (key_taken x i s)
     by None = record { work = key_items_said u x s.scene (all s.objects); queue = h.queue }
     by (Some i) = by_object (object_at i.object (all s.objects))
       where
-        by_object : (m : Option Object) → SaysOnly u (pressed_at x i m s)
+        by_object : (m : Option Object) → Emits u (pressed_at x i m s)
         by_object None = h
         by_object (Some o) = record { work = pressed_said u k o.fixed.class x i.before i.object o.fixed o.body; queue = h.queue }
-taking_says u k s (waiting.Input (input.Tick n)) h = record { work = h.work; queue = each_joined (IsWaitIn u) s.queue (timers_fired (s.moments.present + n) s) h.queue (ordered_said u k s.application (filter (is_due (s.moments.present + n)) s.timers)) }
-taking_says u k s (waiting.Input (input.Stream n)) h = record { work = h.work; queue = each_joined (IsWaitIn u) s.queue (streams_told n s) h.queue (streams_said u k n (all s.objects)) }
-taking_says u k s (waiting.Input (input.Engine n)) h = record { work = heard_said u (engine_event n s.application) (all s.objects); queue = h.queue }
-taking_says u k s (waiting.Input (input.Arrive f)) h = record { work = h.work; queue = each_joined (IsWaitIn u) s.queue (contents_told f.name s) h.queue (contents_said u k (is_waiting f.name s.waits) (all s.objects)) }
+taking_says u k s (waiting.Input (input.Tick n)) timed h = record { work = h.work; queue = each_joined (IsWaitIn u) s.queue (timers_fired (s.moments.present + n) s) h.queue (ordered_said u s.application (filter (is_due (s.moments.present + n)) s.timers) (timers_kept u (is_due (s.moments.present + n)) s.timers timed)) }
+taking_says u k s (waiting.Input (input.Stream n)) timed h = record { work = h.work; queue = each_joined (IsWaitIn u) s.queue (streams_told n s) h.queue (streams_said u k n (all s.objects)) }
+taking_says u k s (waiting.Input (input.Engine n)) timed h = record { work = heard_said u (engine_event n s.application) (all s.objects); queue = h.queue }
+taking_says u k s (waiting.Input (input.Arrive f)) timed h = record { work = h.work; queue = each_joined (IsWaitIn u) s.queue (contents_told f.name s) h.queue (contents_said u k (is_waiting f.name s.waits) (all s.objects)) }
 -- STEPS
-taking_says u k s (waiting.Input (input.Scene g w)) h = by (awaits g s.transition)
+taking_says u k s (waiting.Input (input.Scene g w)) timed h = by (awaits g s.transition)
   where
-    by : (t : Bool) → SaysOnly u (if t then begins action.TransitionTo (group_ref g) (scene_arrived g s) else scene_arrived g s)
+    by : (t : Bool) → Emits u (if t then begins action.TransitionTo (group_ref g) (scene_arrived g s) else scene_arrived g s)
     by true = record { work = out_said u action.TransitionTo (group_ref g) (scene_arrived g s); queue = h.queue }
     by false = record { work = h.work; queue = h.queue }
 
@@ -644,67 +641,32 @@ rest_waits : (u : Sayings) (ws : List Waiting) → Each (IsWaitIn u) ws → Each
 rest_waits u [] h = tt
 rest_waits u (x ∷ ws) h = h.1
 
-pub first_item_said : (u : Sayings) (s : State) (i : Item) → slice_get s.work 0 ≡ Some i → SaysOnly u s → IsSaidIn u i
-first_item_said u s i e h = (first_said u s.work i e h.work).0
+pub first_item_said : (u : Sayings) (s : State) (i : Item) → slice_get s.work 0 ≡ Some i → Each (IsSaidIn u) s.work → IsSaidIn u i
+first_item_said u s i e h = (first_said u s.work i e h).0
 
-pub step_says : {fw : Flow} (u : Sayings) (s : State) (k : IsSafeBy fw s) → IsSaidClosed s.service fw u → SaysOnly u s → SaysOnly u (step s)
-step_says {fw} u s k closed h = unless_ended s.ended
+pub step_emits : {fw : Flow} {q : Doings} (u : Sayings) (s : State) (k : IsSafeBy fw s) → IsSaidClosed s.service fw q u → ((i : Item) → slice_get s.work 0 ≡ Some i → IsSo q (config_of s) i) → Each (IsTimerIn u) s.timers → Emits u s → Emits u (step s)
+step_emits {fw} u s k closed comes timed h = unless_ended s.ended
   where
-    by : (m : Option Item) (x : Option Waiting) → slice_get s.work 0 ≡ m → SaysOnly u (step_by m x s)
+    by : (m : Option Item) (x : Option Waiting) → slice_get s.work 0 ≡ m → Emits u (step_by m x s)
     by None None e = h
-    by None (Some x) e = taking_says u (usual_of s.service fw u closed) (record s { queue = drop 1 s.queue; taken = s.taken + 1 }) x (record { work = h.work; queue = rest_waits u s.queue h.queue })
+    by None (Some x) e = taking_says u (usual_of s.service fw u closed) (record s { queue = drop 1 s.queue; taken = s.taken + 1 }) x timed (record { work = h.work; queue = rest_waits u s.queue h.queue })
     by (Some i) x e =
         let parts = first_said u s.work i e h.work in
-        subst (λ (m : Option Fault). SaysOnly u (did m i s)) (sym (free_first s k i e)) (rule_says u s k closed i (first_item s k i e) parts.0 (drop 1 s.work) (s.taken + 1) parts.1 h.queue)
+        subst (λ (m : Option Fault). Emits u (did m i s)) (sym (free_first s k i e)) (rule_says u s k closed i (first_item s k i e) (comes i e) parts.0 (drop 1 s.work) (s.taken + 1) parts.1 h.queue)
 
-    unless_ended : (t : Bool) → SaysOnly u (if t then s else step_by (slice_get s.work 0) (slice_get s.queue 0) s)
+    unless_ended : (t : Bool) → Emits u (if t then s else step_by (slice_get s.work 0) (slice_get s.queue 0) s)
     unless_ended true = h
     unless_ended false = by (slice_get s.work 0) (slice_get s.queue 0) refl
 
-pub posted_says : (u : Sayings) (s : State) (i : Input) → SaysOnly u s → SaysOnly u (posted i s)
-posted_says u s i h = by (obstacle i s)
+pub posted_emits : (u : Sayings) (s : State) (i : Input) → Emits u s → Emits u (posted i s)
+posted_emits u s i h = by (obstacle i s)
   where
-    by : (m : Option Obstacle) → SaysOnly u (posted_by m i s)
+    by : (m : Option Obstacle) → Emits u (posted_by m i s)
     by None = record { work = h.work; queue = each_joined (IsWaitIn u) s.queue (waiting.Input i ∷ []) h.queue (tt, tt) }
     by (Some o) = h
 
-pub told_says : (u : Sayings) (s : State) (o : Outcome) → SaysOnly u s → SaysOnly u (told o s)
-told_says u s o h = record { work = h.work; queue = h.queue }
+pub told_emits : (u : Sayings) (s : State) (o : Outcome) → Emits u s → Emits u (told o s)
+told_emits u s o h = record { work = h.work; queue = h.queue }
 
-pub begun_says : (u : Sayings) (v : Service) (mjd : ℕ) (fs : List File) → SaysOnly u (begun_with v mjd fs)
-begun_says u v mjd fs = record { work = (tt, tt); queue = tt }
-
--- RUNS
-
-record Says_on (v : Service) (w : Flow) (u : Sayings) (s : State) : Type 0 where
-  safe : IsSafeBy w s
-  service : s.service ≡ v
-  says : SaysOnly u s
-
-says_step : (v : Service) (w : Flow) (u : Sayings) → IsSaidClosed v w u → (s : State) → Says_on v w u s → Says_on v w u (step s)
-says_step v w u closed s g = record {
-  safe = safe_by_step s g.safe;
-  service = step_serves s g.safe ∙ g.service;
-  says = step_says u s g.safe (subst (λ (x : Service). IsSaidClosed x w u) (sym g.service) closed) g.says;
-}
-
-says_move : (v : Service) (w : Flow) (u : Sayings) → IsSaidClosed v w u → (ss : List Signature) (m : Move) (s t : State) → Says_on v w u s → IsMoved ss anything m s t → Says_on v w u t
-says_move v w u closed ss (move.Post i) s t g so =
-    subst (Says_on v w u) (sym so) (record { safe = safe_by_posted s g.safe i; service = posted_serves i s ∙ g.service; says = posted_says u s i g.says })
-says_move v w u closed ss move.Step s t g so = by (s.taken == most_steps) so
-  where
-    with : (c : Option Call) → IsStepWith anything c s t → Says_on v w u t
-    with None e = subst (Says_on v w u) (sym e) (says_step v w u closed s g)
-    with (Some c) e = subst (Says_on v w u) (sym e.2) (says_step v w u closed (told e.0 s) (record { safe = safe_by_told s g.safe e.0; service = g.service; says = told_says u s e.0 g.says }))
-
-    by : (x : Bool) → IsCountedStep x ss anything s t → Says_on v w u t
-    by true e = subst (Says_on v w u) (sym e) g
-    by false e = with (call_next ss s) e
-
-says_all : (v : Service) (w : Flow) (u : Sayings) → IsSaidClosed v w u → (ss : List Signature) (ms : List Move) (s t : State) → Says_on v w u s → IsRun ss anything ms s t → Says_on v w u t
-says_all v w u closed ss [] s t g so = subst (Says_on v w u) (sym so) g
-says_all v w u closed ss (m ∷ ms) s t g so = says_all v w u closed ss ms so.0 t (says_move v w u closed ss m s so.0 g so.1) so.2
-
-pub never_says : NeverSays
-never_says v w k u closed mjd fs ss ms s so =
-    (says_all v w u closed ss ms (begun_with v mjd fs) s (record { safe = safe_by_begun_with v k mjd fs; service = refl; says = begun_says u v mjd fs }) so).says
+pub begun_emits : (u : Sayings) (v : Service) (mjd : ℕ) (fs : List File) → Emits u (begun_with v mjd fs)
+begun_emits u v mjd fs = record { work = (tt, tt); queue = tt }

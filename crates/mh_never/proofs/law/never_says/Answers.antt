@@ -1,4 +1,4 @@
-use Rattle.mh_never.proofs.SayingLemmas.{never_says}
+use Rattle.mh_never.proofs.SaidLemmas.{never_says}
 use Rattle.mh_never.proofs.law.never_says.Goals as goal
 
 pub returns : goal.returns
