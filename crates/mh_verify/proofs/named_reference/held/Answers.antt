@@ -1,6 +1,6 @@
 use Rattle.mh_flow.specs.Solved.{flow_in}
 use Rattle.mh_verify.proofs.SoonestLemmas.{some_best, named_best}
-use Rattle.mh_verify.proofs.naming.held.Goals as goal
+use Rattle.mh_verify.proofs.named_reference.held.Goals as goal
 
 -- what was found is a candidate itself
 pub unreachable-requires-in-None : goal.unreachable-requires-in-None

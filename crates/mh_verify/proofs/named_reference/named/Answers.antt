@@ -2,7 +2,7 @@ use Rattle.mh_flow.specs.Solved.{flow_in}
 use Rattle.mh_verify.specs.declared.refusal.RefusalKind.TheVariants as kind
 use Rattle.mh_verify.specs.Naming.{absent_held, class_held}
 use Rattle.mh_verify.proofs.CandidateLemmas.{absent_way, are_candidates, class_way}
-use Rattle.mh_verify.proofs.naming.named.Goals as goal
+use Rattle.mh_verify.proofs.named_reference.named.Goals as goal
 
 pub held-requires-clause-candidates : goal.held-requires-clause-candidates
 held-requires-clause-candidates c =

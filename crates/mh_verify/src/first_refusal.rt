@@ -8,8 +8,8 @@ ghost use Rattle.mh_verify.specs.Least.{least_of};
 
 use crate::Found;
 use crate::members::least_of_groups;
-use crate::ordering::lesser;
-use crate::telling::{Scope, refused_at};
+use crate::refusal_order::lesser;
+use crate::scope::{Scope, refused_at};
 use mh_flow::sites::sites_of;
 use mh_flow::{Equipped, Flow, Site};
 use mh_model::Config;

@@ -3,7 +3,7 @@ use Rattle.std.specs.List.{flat_map}
 use Rattle.mh_flow.specs.Solved.{held_by}
 use Rattle.mh_verify.specs.Refusals.{wrong_at}
 use Rattle.mh_verify.specs.Least.{least_of}
-use Rattle.mh_verify.proofs.judging.least_of_sites.Given as goal
+use Rattle.mh_verify.proofs.first_refusal.least_of_sites.Given as goal
 
 abbrev pub invariant-loop-site : goal.invariant-loop-site
 invariant-loop-site l =

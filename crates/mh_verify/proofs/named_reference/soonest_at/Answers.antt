@@ -2,7 +2,7 @@ use Rattle.std.proofs.Common.{◌≡◌, ◌∙◌, List, IfOk, subst}
 use Rattle.mh_base.specs.declared.obj_ref.ObjRef.{ObjRef}
 use Rattle.mh_flow.specs.Solved.{held_by, set_of}
 use Rattle.mh_verify.specs.Naming.{IsBest, candidates_at}
-use Rattle.mh_verify.proofs.naming.soonest_at.Goals as goal
+use Rattle.mh_verify.proofs.named_reference.soonest_at.Goals as goal
 
 pub returns : goal.returns
 returns g c =

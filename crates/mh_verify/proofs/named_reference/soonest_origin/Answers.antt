@@ -3,8 +3,8 @@ use Rattle.mh_verify.specs.declared.coming.Coming.{Coming}
 use Rattle.mh_verify.specs.Naming.{IsBest, IsSoonestOf}
 use Rattle.mh_verify.proofs.NearestLemmas.{settled_next}
 use Rattle.mh_verify.proofs.SoonestLemmas.{best_next}
-use Rattle.mh_verify.proofs.naming.soonest_origin.Goals.{then-may_be_sooner+in_ok-next, else-may_be_sooner}
-use Rattle.mh_verify.proofs.naming.soonest_origin.Goals as goal
+use Rattle.mh_verify.proofs.named_reference.soonest_origin.Goals.{then-may_be_sooner+in_ok-next, else-may_be_sooner}
+use Rattle.mh_verify.proofs.named_reference.soonest_origin.Goals as goal
 
 pub loop-at-preserved : goal.loop-at-preserved
 loop-at-preserved c =

@@ -11,8 +11,8 @@ ghost use Rattle.mh_verify.specs.Naming.{AreCandidates, AreHeld, AreNoSooner, Is
 ghost use Rattle.mh_verify.specs.Order.{IsFirst};
 
 use crate::candidates::candidates_at;
-use crate::ordering::{may_be_sooner, sooner};
-use crate::telling::Scope;
+use crate::refusal_order::{may_be_sooner, sooner};
+use crate::scope::Scope;
 use crate::{Coming, Found, RefusalKind};
 use mh_base::{ObjRef, Seq};
 use mh_flow::chain::chain;

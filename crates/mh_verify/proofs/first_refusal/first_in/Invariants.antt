@@ -3,7 +3,7 @@ use Rattle.std.specs.List.{flat_map}
 use Rattle.mh_flow.specs.Solved.{flow_in}
 use Rattle.mh_verify.specs.Refusals.{refusals_in}
 use Rattle.mh_verify.specs.Least.{least_of}
-use Rattle.mh_verify.proofs.judging.first_in.Given as goal
+use Rattle.mh_verify.proofs.first_refusal.first_in.Given as goal
 
 abbrev pub invariant-loop-config : goal.invariant-loop-config
 invariant-loop-config l =

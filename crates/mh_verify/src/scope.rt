@@ -1,7 +1,7 @@
 //! Why one action is refused, in a given configuration.
 //!
 //! Promise: of all that is wrong with an action what comes first by its number is told. Which of several
-//! actions comes first is left to `judging`.
+//! actions comes first is left to `first_refusal`.
 ghost use Rattle.std.specs.Prelude.{◌≡◌, IfOk};
 ghost use Rattle.std.specs.Option.{option_copied};
 ghost use Rattle.mh_flow.specs.Solved.{held_by};

@@ -8,7 +8,7 @@ use Rattle.mh_flow.specs.Nearest.{IsNearest}
 use Rattle.mh_flow.specs.Solved.{flow_in}
 use Rattle.mh_verify.specs.Naming.{AreHeld, AreNoSooner, IsBest}
 use Rattle.mh_verify.proofs.NearestLemmas.{none_where_unheld, origins_later, told_best}
-use Rattle.mh_verify.proofs.naming.soonest.Goals as goal
+use Rattle.mh_verify.proofs.named_reference.soonest.Goals as goal
 
 pub returns-in-None : goal.returns-in-None
 returns-in-None c =
