@@ -31,7 +31,7 @@ use Rattle.mh_laws.specs.Safe.{exchanged}
 use Rattle.mh_laws.specs.Ways.{Told, Sure, Unsure}
 use Rattle.mh_laws.proofs.SetLemmas.{same_itself}
 use Rattle.mh_layers.specs.Arrows.{comes_to, number_by, same_effect}
-use Rattle.mh_layers.specs.Keys.{data_of, waits_for}
+use Rattle.mh_layers.specs.CostNodes.{data_of, waits_for}
 use Rattle.mh_layers.specs.Reading.{same_setting}
 use Rattle.mh_evidence.specs.Putting.{Asked, around_of, could_hear, effect_of, flow_of, is_heard, tells, there}
 use Rattle.mh_evidence.proofs.AnyLemmas.{any_and, any_crossed, any_more, any_same, any_same_where, each_one}

@@ -22,7 +22,7 @@ use Rattle.mh_layers.specs.declared.arrows.arrow.Arrow.{Arrow}
 use Rattle.mh_layers.specs.declared.arrows.arrow.By.{By}
 use Rattle.mh_layers.specs.declared.arrows.arrow.By.TheVariants as by
 use Rattle.mh_layers.specs.Arrows.{counts, granted, held_by, is_action_of, leads, number_by, put_by, puts, same_action, same_effect}
-use Rattle.mh_layers.specs.Keys.{waits_for}
+use Rattle.mh_layers.specs.CostNodes.{waits_for}
 use Rattle.mh_prices.specs.Meter.{Meter}
 use Rattle.mh_prices.specs.Meters.{finding}
 

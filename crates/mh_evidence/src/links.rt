@@ -7,7 +7,7 @@ ghost use Rattle.mh_model.specs.Items.{hears_data, hears_source, hears_type};
 ghost use Rattle.mh_model.specs.Property.{held, as_event, as_value};
 ghost use Rattle.mh_model.specs.Variables.{same_value};
 ghost use Rattle.mh_layers.specs.Arrows.{is_waited_for};
-ghost use Rattle.mh_layers.specs.Keys.{data_of, waits_for};
+ghost use Rattle.mh_layers.specs.CostNodes.{data_of, waits_for};
 ghost use Rattle.mh_evidence.specs.Putting.{could_hear, ref_of};
 
 use mh_base::{EventType, GroupName, Value};

@@ -21,10 +21,10 @@ use Rattle.mh_flow.specs.declared.chain.moves.ActionSite.{ActionSite}
 use Rattle.mh_flow.specs.declared.chain.moves.Move.{Move}
 use Rattle.mh_flow.specs.Chains.{by_action_site}
 use Rattle.mh_flow.specs.Moves.{links_at, links_by, Follows, begin, onward, IsFirstOf}
-use Rattle.mh_flow.specs.Routes.{AreActionSites, same_action_site, same_place, place_number, places_of, action_site_number, arrow_of, start_of, starts_of, with_move, rows_from, rows_of, link_between, link_of, links_of}
+use Rattle.mh_flow.specs.Routes.{AreActionSites, same_action_site, same_holder, holder_number, holders_met, action_site_number, arrow_of, start_of, starts_of, with_move, rows_from, rows_of, link_between, link_of, links_of}
 use Rattle.mh_flow.proofs.ContainsLemmas.{no_member, here, behind, first_or_behind, in_joined, joined_from}
 use Rattle.mh_flow.proofs.ChainRowLemmas.{items_of, row, graph_row, arrow_length, arrow_comes, arrow_stays, arrow_or_new, no_arrows}
-use Rattle.mh_flow.proofs.ChainNumberLemmas.{placed, with_its_action_site, has_to, has_source, sorted_numbers}
+use Rattle.mh_flow.proofs.ChainNumberLemmas.{holder_numbered, with_its_action_site, has_to, has_source, sorted_numbers}
 
 abbrev action_site_of : Link → ActionSite
 action_site_of l = record { key = l.key; index = l.index }
@@ -54,7 +54,7 @@ module _ (ms : List Move) (ss : List ActionSite) (are : AreActionSites ms ss) wh
   same_order (x ∷ ls) (y ∷ ks) h k = λ i. ordering_then (sorted_numbers ms ss are (action_site_of x) (action_site_of y) h.0 k.0 i) (same_order ls ks h.1 k.1 i)
 
   abbrev ps : List Holder
-  ps = places_of ms
+  ps = holders_met ms
 
   -- A move and its arrow.
 
@@ -68,12 +68,12 @@ module _ (ms : List Move) (ss : List ActionSite) (are : AreActionSites ms ss) wh
   move_link : (m : Move) → Contains ms m → link_of ps ss (arrow_of ps ss m) ≡ links_by m
   move_link m k = by m.action_site refl ∙ refl
     where
-      at : slice_get ps (place_number ps m.to) ≡ Some m.to
-      at = (placed ps m.to (has_to ms m k)).0
+      at : slice_get ps (holder_number ps m.to) ≡ Some m.to
+      at = (holder_numbered ps m.to (has_to ms m k)).0
 
-      by : (o : Option ActionSite) → m.action_site ≡ o → link_between (option_and_then (slice_get ss) (option_map (action_site_number ss) o)) (slice_get ps (place_number ps m.to)) ≡ links_at o m.to.at
+      by : (o : Option ActionSite) → m.action_site ≡ o → link_between (option_and_then (slice_get ss) (option_map (action_site_number ss) o)) (slice_get ps (holder_number ps m.to)) ≡ links_at o m.to.at
       by None e = refl
-      by (Some s) e = ap (λ (x : Option ActionSite). link_between x (slice_get ps (place_number ps m.to))) (with_its_action_site ss s (are.each m s k e)).0 ∙ ap (link_between (Some s)) at
+      by (Some s) e = ap (λ (x : Option ActionSite). link_between x (slice_get ps (holder_number ps m.to))) (with_its_action_site ss s (are.each m s k e)).0 ∙ ap (link_between (Some s)) at
 
   move_labels : (m : Move) → labels_of (arrow_of ps ss m) ≡ map (number_of ss) (links_by m)
   move_labels m = by m.action_site
@@ -82,21 +82,21 @@ module _ (ms : List Move) (ss : List ActionSite) (are : AreActionSites ms ss) wh
       by None = refl
       by (Some s) = refl
 
-  -- What leaves a place.
+  -- What leaves a holder.
 
   rows_length : (rows : List (List Arrow)) (m : Move) (o : Option Holder) → length (with_move ps ss rows m o) ≡ length rows
   rows_length rows m None = refl
-  rows_length rows m (Some p) = arrow_length rows (place_number ps p) (arrow_of ps ss m)
+  rows_length rows m (Some p) = arrow_length rows (holder_number ps p) (arrow_of ps ss m)
 
-  -- the arrow is that of one of these moves, which goes from the place with this number
+  -- the arrow is that of one of these moves, which goes from the holder with this number
   abbrev IsOfMove : List Move → ℕ → Arrow → Type 0
-  IsOfMove xs u a = (m : Move) × (p : Holder) × Contains xs m × (m.from ≡ Some p) × (place_number ps p ≡ u) × (arrow_of ps ss m ≡ a)
+  IsOfMove xs u a = (m : Move) × (p : Holder) × Contains xs m × (m.from ≡ Some p) × (holder_number ps p ≡ u) × (arrow_of ps ss m ≡ a)
 
   in_move : (rows : List (List Arrow)) (m : Move) (o : Option Holder) → m.from ≡ o → (u : ℕ) (a : Arrow) → Contains (row (with_move ps ss rows m o) u) a → Contains (row rows u) a ⊎ IsOfMove (m ∷ []) u a
   in_move rows m None e u a k = inl k
-  in_move rows m (Some p) e u a k = by (arrow_or_new rows (place_number ps p) (arrow_of ps ss m) u a k)
+  in_move rows m (Some p) e u a k = by (arrow_or_new rows (holder_number ps p) (arrow_of ps ss m) u a k)
     where
-      by : Contains (row rows u) a ⊎ ((place_number ps p ≡ u) × (arrow_of ps ss m ≡ a)) → Contains (row rows u) a ⊎ IsOfMove (m ∷ []) u a
+      by : Contains (row rows u) a ⊎ ((holder_number ps p ≡ u) × (arrow_of ps ss m ≡ a)) → Contains (row rows u) a ⊎ IsOfMove (m ∷ []) u a
       by (inl k) = inl k
       by (inr k) = inr (m, p, here m [], e, k.0, k.1)
 
@@ -114,24 +114,24 @@ module _ (ms : List Move) (ss : List ActionSite) (are : AreActionSites ms ss) wh
 
   move_stays : (rows : List (List Arrow)) (m : Move) (o : Option Holder) (u : ℕ) (a : Arrow) → Contains (row rows u) a → Contains (row (with_move ps ss rows m o) u) a
   move_stays rows m None u a k = k
-  move_stays rows m (Some p) u a k = arrow_stays rows (place_number ps p) (arrow_of ps ss m) u a k
+  move_stays rows m (Some p) u a k = arrow_stays rows (holder_number ps p) (arrow_of ps ss m) u a k
 
   rows_stay : (rows : List (List Arrow)) (xs : List Move) (u : ℕ) (a : Arrow) → Contains (row rows u) a → Contains (row (rows_from ps ss rows xs) u) a
   rows_stay rows [] u a k = k
   rows_stay rows (m ∷ xs) u a k = rows_stay (with_move ps ss rows m m.from) xs u a (move_stays rows m m.from u a k)
 
-  move_comes : (rows : List (List Arrow)) (m : Move) (o : Option Holder) (p : Holder) → o ≡ Some p → place_number ps p < length rows → Contains (row (with_move ps ss rows m o) (place_number ps p)) (arrow_of ps ss m)
+  move_comes : (rows : List (List Arrow)) (m : Move) (o : Option Holder) (p : Holder) → o ≡ Some p → holder_number ps p < length rows → Contains (row (with_move ps ss rows m o) (holder_number ps p)) (arrow_of ps ss m)
   move_comes rows m None p e h = absurd cc
-  move_comes rows m (Some x) p e h = subst (λ (o : Option Holder). Contains (row (with_move ps ss rows m o) (place_number ps p)) (arrow_of ps ss m)) (sym e) (arrow_comes rows (place_number ps p) (arrow_of ps ss m) h)
+  move_comes rows m (Some x) p e h = subst (λ (o : Option Holder). Contains (row (with_move ps ss rows m o) (holder_number ps p)) (arrow_of ps ss m)) (sym e) (arrow_comes rows (holder_number ps p) (arrow_of ps ss m) h)
 
-  rows_have : (rows : List (List Arrow)) (xs : List Move) (m : Move) (p : Holder) → Contains xs m → m.from ≡ Some p → place_number ps p < length rows → Contains (row (rows_from ps ss rows xs) (place_number ps p)) (arrow_of ps ss m)
+  rows_have : (rows : List (List Arrow)) (xs : List Move) (m : Move) (p : Holder) → Contains xs m → m.from ≡ Some p → holder_number ps p < length rows → Contains (row (rows_from ps ss rows xs) (holder_number ps p)) (arrow_of ps ss m)
   rows_have rows [] m p k e h = absurd (no_member m k)
-  rows_have rows (x ∷ xs) m p k e h = by (first_or_behind x xs m k) (λ k. rows_have (with_move ps ss rows x x.from) xs m p k e (subst (λ (n : ℕ). place_number ps p < n) (sym (rows_length rows x x.from)) h))
+  rows_have rows (x ∷ xs) m p k e h = by (first_or_behind x xs m k) (λ k. rows_have (with_move ps ss rows x x.from) xs m p k e (subst (λ (n : ℕ). holder_number ps p < n) (sym (rows_length rows x x.from)) h))
     where
-      by : (x ≡ m) ⊎ Contains xs m → (Contains xs m → Contains (row (rows_from ps ss rows (x ∷ xs)) (place_number ps p)) (arrow_of ps ss m)) → Contains (row (rows_from ps ss rows (x ∷ xs)) (place_number ps p)) (arrow_of ps ss m)
+      by : (x ≡ m) ⊎ Contains xs m → (Contains xs m → Contains (row (rows_from ps ss rows (x ∷ xs)) (holder_number ps p)) (arrow_of ps ss m)) → Contains (row (rows_from ps ss rows (x ∷ xs)) (holder_number ps p)) (arrow_of ps ss m)
       by (inl same) ih =
-          rows_stay (with_move ps ss rows x x.from) xs (place_number ps p) (arrow_of ps ss m)
-          (subst (λ (y : Move). Contains (row (with_move ps ss rows x x.from) (place_number ps p)) (arrow_of ps ss y)) same
+          rows_stay (with_move ps ss rows x x.from) xs (holder_number ps p) (arrow_of ps ss m)
+          (subst (λ (y : Move). Contains (row (with_move ps ss rows x x.from) (holder_number ps p)) (arrow_of ps ss y)) same
           (move_comes rows x x.from p (ap (λ (y : Move). y.from) same ∙ e) h))
       by (inr k) ih = ih k
 
@@ -157,17 +157,17 @@ module _ (ms : List Move) (ss : List ActionSite) (are : AreActionSites ms ss) wh
         by (inl none) = absurd (no_arrows (length ps) u a none)
         by (inr k) = k
 
-    leaves : (m : Move) (p : Holder) → Contains ms m → m.from ≡ Some p → Contains (arrows_of g (place_number ps p)) (arrow_of ps ss m)
+    leaves : (m : Move) (p : Holder) → Contains ms m → m.from ≡ Some p → Contains (arrows_of g (holder_number ps p)) (arrow_of ps ss m)
     leaves m p k e =
-        let within : place_number ps p < length (replicate (length ps) []) = subst (λ (n : ℕ). place_number ps p < n) (sym (length-replicate (length ps) [])) (placed ps p (has_source ms m p k e)).1 in
-        subst (λ (xs : List Arrow). Contains xs (arrow_of ps ss m)) (sym (graph_row g (place_number ps p)))
-        (subst (λ (rows : List (List Arrow)). Contains (row rows (place_number ps p)) (arrow_of ps ss m)) (sym is) (rows_have (replicate (length ps) []) ms m p k e within))
+        let within : holder_number ps p < length (replicate (length ps) []) = subst (λ (n : ℕ). holder_number ps p < n) (sym (length-replicate (length ps) [])) (holder_numbered ps p (has_source ms m p k e)).1 in
+        subst (λ (xs : List Arrow). Contains xs (arrow_of ps ss m)) (sym (graph_row g (holder_number ps p)))
+        (subst (λ (rows : List (List Arrow)). Contains (row rows (holder_number ps p)) (arrow_of ps ss m)) (sym is) (rows_have (replicate (length ps) []) ms m p k e within))
 
-    -- the chain is one of moves, to the place with this number
+    -- the chain is one of moves, to the holder with this number
     record IsOfMoves (c : List Arrow) (u : ℕ) : Type 0 where
-      place : Holder
-      stands : slice_get ps u ≡ Some place
-      follows : Follows ms (links_of ps ss c) place
+      holder : Holder
+      stands : slice_get ps u ≡ Some holder
+      follows : Follows ms (links_of ps ss c) holder
       labels : labels_along c ≡ map (number_of ss) (links_of ps ss c)
 
     one_link : (m : Move) → Contains ms m → links_of ps ss (arrow_of ps ss m ∷ []) ≡ links_by m
@@ -183,21 +183,21 @@ module _ (ms : List Move) (ss : List ActionSite) (are : AreActionSites ms ss) wh
     more_labels c a h k =
         flat_map-append labels_of c (a ∷ []) ∙ (λ i. h i ++ k i) ∙ sym (map-append (number_of ss) (links_of ps ss c) (links_of ps ss (a ∷ []))) ∙ ap (map (number_of ss)) (sym (more_links c a))
 
-    begun : (m : Move) → Contains ms m → m.from ≡ None → IsOfMoves (arrow_of ps ss m ∷ []) (place_number ps m.to)
+    begun : (m : Move) → Contains ms m → m.from ≡ None → IsOfMoves (arrow_of ps ss m ∷ []) (holder_number ps m.to)
     begun m k e = record {
-      place = m.to;
-      stands = (placed ps m.to (has_to ms m k)).0;
+      holder = m.to;
+      stands = (holder_numbered ps m.to (has_to ms m k)).0;
       follows = subst (λ (ls : List Link). Follows ms ls m.to) (sym (one_link m k)) (begin m k e);
       labels = one_label m k;
     }
 
-    longer : (c : List Arrow) (u : ℕ) (m : Move) (p : Holder) → IsOfMoves c u → Contains ms m → m.from ≡ Some p → place_number ps p ≡ u → IsOfMoves (c ++ arrow_of ps ss m ∷ []) (place_number ps m.to)
+    longer : (c : List Arrow) (u : ℕ) (m : Move) (p : Holder) → IsOfMoves c u → Contains ms m → m.from ≡ Some p → holder_number ps p ≡ u → IsOfMoves (c ++ arrow_of ps ss m ∷ []) (holder_number ps m.to)
     longer c u m p h k e at =
-        let same : Some p ≡ Some h.place = sym (placed ps p (has_source ms m p k e)).0 ∙ ap (slice_get ps) at ∙ h.stands in
+        let same : Some p ≡ Some h.holder = sym (holder_numbered ps p (has_source ms m p k e)).0 ∙ ap (slice_get ps) at ∙ h.stands in
         record {
-          place = m.to;
-          stands = (placed ps m.to (has_to ms m k)).0;
-          follows = subst (λ (ls : List Link). Follows ms ls m.to) (sym (more_links c (arrow_of ps ss m) ∙ ap (λ (ls : List Link). links_of ps ss c ++ ls) (one_link m k))) (onward (links_of ps ss c) h.place m h.follows k (e ∙ same));
+          holder = m.to;
+          stands = (holder_numbered ps m.to (has_to ms m k)).0;
+          follows = subst (λ (ls : List Link). Follows ms ls m.to) (sym (more_links c (arrow_of ps ss m) ∙ ap (λ (ls : List Link). links_of ps ss c ++ ls) (one_link m k))) (onward (links_of ps ss c) h.holder m h.follows k (e ∙ same));
           labels = more_labels c (arrow_of ps ss m) h.labels (one_label m k);
         }
 
@@ -211,12 +211,12 @@ module _ (ms : List Move) (ss : List ActionSite) (are : AreActionSites ms ss) wh
         subst (λ (x : Arrow). IsOfMoves (d ++ x ∷ []) x.to) m.5 (longer d w m.0 m.1 (is_of_moves d w k) m.2 m.3 m.4)
 
     -- moves one behind the other are a chain with their links
-    has_chain : (ls : List Link) (p : Holder) → Follows ms ls p → (c : List Arrow) × Chain g starts c (place_number ps p) × (links_of ps ss c ≡ ls)
+    has_chain : (ls : List Link) (p : Holder) → Follows ms ls p → (c : List Arrow) × Chain g starts c (holder_number ps p) × (links_of ps ss c ≡ ls)
     has_chain ls p (begin m k e) = (arrow_of ps ss m ∷ [], paths.begin (arrow_of ps ss m) (starts_have m k e), one_link m k)
     has_chain ls p (onward ks o m f k e) =
         let before = has_chain ks o f in (
           before.0 ++ arrow_of ps ss m ∷ [],
-          paths.onward before.0 (place_number ps o) (arrow_of ps ss m) before.1 (leaves m o k e),
+          paths.onward before.0 (holder_number ps o) (arrow_of ps ss m) before.1 (leaves m o k e),
           more_links before.0 (arrow_of ps ss m) ∙ (λ i. before.2 i ++ one_link m k i),
         )
 
@@ -226,9 +226,9 @@ module _ (ms : List Move) (ss : List ActionSite) (are : AreActionSites ms ss) wh
 
     -- The first chain.
 
-    module _ (p : Holder) (c : List Arrow) (first : IsFirstShortest g starts (place_number ps p) c) (at : slice_get ps (place_number ps p) ≡ Some p) where
-      mine : IsOfMoves c (place_number ps p)
-      mine = is_of_moves c (place_number ps p) first.chain
+    module _ (p : Holder) (c : List Arrow) (first : IsFirstShortest g starts (holder_number ps p) c) (at : slice_get ps (holder_number ps p) ≡ Some p) where
+      mine : IsOfMoves c (holder_number ps p)
+      mine = is_of_moves c (holder_number ps p) first.chain
 
       follows_mine : Follows ms (links_of ps ss c) p
       follows_mine = subst (λ (x : Holder). Follows ms (links_of ps ss c) x) (some_same (sym mine.stands ∙ at)) mine.follows
@@ -238,11 +238,11 @@ module _ (ms : List Move) (ss : List ActionSite) (are : AreActionSites ms ss) wh
 
       -- another chain with these links
       module _ (ks : List Link) (f : Follows ms ks p) where
-        other : (d : List Arrow) × Chain g starts d (place_number ps p) × (links_of ps ss d ≡ ks)
+        other : (d : List Arrow) × Chain g starts d (holder_number ps p) × (links_of ps ss d ≡ ks)
         other = has_chain ks p f
 
         other_labels : labels_along other.0 ≡ map (number_of ss) ks
-        other_labels = (is_of_moves other.0 (place_number ps p) other.1).labels ∙ ap (map (number_of ss)) other.2
+        other_labels = (is_of_moves other.0 (holder_number ps p) other.1).labels ∙ ap (map (number_of ss)) other.2
 
         other_length : length (labels_along other.0) ≡ length ks
         other_length = ap length other_labels ∙ length-map ks (number_of ss)
@@ -260,11 +260,11 @@ module _ (ms : List Move) (ss : List ActionSite) (are : AreActionSites ms ss) wh
       pub is_first : IsFirstOf ms p (links_of ps ss c)
       is_first = record { follows = follows_mine; shortest = shortest; first = not_less }
 
-    pub none_follow : (p : Holder) → NoChain g starts (place_number ps p) → (ls : List Link) → Follows ms ls p → ⊥
+    pub none_follow : (p : Holder) → NoChain g starts (holder_number ps p) → (ls : List Link) → Follows ms ls p → ⊥
     none_follow p none ls f = let c = has_chain ls p f in none c.0 c.1
 
 -- where no move leads there
-pub none_lead : (ms : List Move) (p : Holder) → list_any (same_place p) (places_of ms) ≡ false → (ls : List Link) → Follows ms ls p → ⊥
+pub none_lead : (ms : List Move) (p : Holder) → list_any (same_holder p) (holders_met ms) ≡ false → (ls : List Link) → Follows ms ls p → ⊥
 none_lead ms p h ls (begin m k e) = let there = has_to ms m k in cc
 none_lead ms p h ls (onward ks o m f k e) = let there = has_to ms m k in cc
 
@@ -281,9 +281,9 @@ rows_are ps ss rows (m ∷ xs) = rows_are ps ss (with_move ps ss rows m m.from) 
   where
     one : (o : Option Holder) → length (with_move ps ss rows m o) ≡ length rows
     one None = refl
-    one (Some p) = arrow_length rows (place_number ps p) (arrow_of ps ss m)
+    one (Some p) = arrow_length rows (holder_number ps p) (arrow_of ps ss m)
 
-module _ (ms : List Move) (goal : Holder) (ks : List Holder) (ss : List ActionSite) (g : Graph) (from : List Arrow) (t : Table) (n : ℕ) (are : AreActionSites ms ss) (places : ks ≡ places_of ms) (is : items_of g.nodes.items ≡ rows_of ks ss ms) (begins : from ≡ starts_of ks ss ms) (first : AreFirst g from t) (at : Some n ≡ position (same_place goal) ks) where
+module _ (ms : List Move) (goal : Holder) (ks : List Holder) (ss : List ActionSite) (g : Graph) (from : List Arrow) (t : Table) (n : ℕ) (are : AreActionSites ms ss) (holders : ks ≡ holders_met ms) (is : items_of g.nodes.items ≡ rows_of ks ss ms) (begins : from ≡ starts_of ks ss ms) (first : AreFirst g from t) (at : Some n ≡ position (same_holder goal) ks) where
   pub number_within : n < length ks → n < length t
   number_within h =
       let nodes : length t ≡ length g.nodes.items = first.nodes in
@@ -291,23 +291,23 @@ module _ (ms : List Move) (goal : Holder) (ks : List Holder) (ss : List ActionSi
       let rows : length (items_of g.nodes.items) ≡ length ks = ap length is ∙ rows_are ks ss (replicate (length ks) []) ms ∙ length-replicate (length ks) [] in
       omega (arith, h, nodes, mapped, rows)
 
-  number : place_number (places_of ms) goal ≡ n
-  number = ap (λ (o : Option ℕ). unwrap_or o 0) (ap (position (same_place goal)) (sym places) ∙ sym at)
+  number : holder_number (holders_met ms) goal ≡ n
+  number = ap (λ (o : Option ℕ). unwrap_or o 0) (ap (position (same_holder goal)) (sym holders) ∙ sym at)
 
-  graph_is : items_of g.nodes.items ≡ rows_of (places_of ms) ss ms
-  graph_is = is ∙ ap (λ (ps : List Holder). rows_of ps ss ms) places
+  graph_is : items_of g.nodes.items ≡ rows_of (holders_met ms) ss ms
+  graph_is = is ∙ ap (λ (ps : List Holder). rows_of ps ss ms) holders
 
-  starts_are : from ≡ starts_of (places_of ms) ss ms
-  starts_are = begins ∙ ap (λ (ps : List Holder). starts_of ps ss ms) places
+  starts_are : from ≡ starts_of (holders_met ms) ss ms
+  starts_are = begins ∙ ap (λ (ps : List Holder). starts_of ps ss ms) holders
 
-  pub told_first : list_any (same_place goal) ks ≡ true → n < length t → (c : Vec Arrow Global) → Some c ≡ slice_index_or t n (Some c) → (ls : List Link) → ls ≡ links_of ks ss c.items → IsFirstOf ms goal ls
+  pub told_first : list_any (same_holder goal) ks ≡ true → n < length t → (c : Vec Arrow Global) → Some c ≡ slice_index_or t n (Some c) → (ls : List Link) → ls ≡ links_of ks ss c.items → IsFirstOf ms goal ls
   told_first has h c e ls same =
-      let there : slice_get (places_of ms) (place_number (places_of ms) goal) ≡ Some goal = (placed (places_of ms) goal (subst (λ (ps : List Holder). list_any (same_place goal) ps ≡ true) places has)).0 in
+      let there : slice_get (holders_met ms) (holder_number (holders_met ms) goal) ≡ Some goal = (holder_numbered (holders_met ms) goal (subst (λ (ps : List Holder). list_any (same_holder goal) ps ≡ true) holders has)).0 in
       let shortest = subst (λ (xs : List Arrow). IsFirstShortest g xs n c.items) starts_are (first.some n c (same_entry t n (Some c) h e)) in
-      subst (λ (xs : List Link). IsFirstOf ms goal xs) (sym (same ∙ ap (λ (ps : List Holder). links_of ps ss c.items) places))
-      (is_first ms ss are g graph_is goal c.items (subst (λ (k : ℕ). IsFirstShortest g (starts_of (places_of ms) ss ms) k c.items) (sym number) shortest) there)
+      subst (λ (xs : List Link). IsFirstOf ms goal xs) (sym (same ∙ ap (λ (ps : List Holder). links_of ps ss c.items) holders))
+      (is_first ms ss are g graph_is goal c.items (subst (λ (k : ℕ). IsFirstShortest g (starts_of (holders_met ms) ss ms) k c.items) (sym number) shortest) there)
 
   pub told_none : n < length t → None ≡ slice_index_or t n None → (ls : List Link) → Follows ms ls goal → ⊥
   told_none h e ls f =
       let none : NoChain g from n = first.none n h (same_entry t n None h e) in
-      none_follow ms ss are g graph_is goal (subst (λ (k : ℕ). NoChain g (starts_of (places_of ms) ss ms) k) (sym number) (subst (λ (xs : List Arrow). NoChain g xs n) starts_are none)) ls f
+      none_follow ms ss are g graph_is goal (subst (λ (k : ℕ). NoChain g (starts_of (holders_met ms) ss ms) k) (sym number) (subst (λ (xs : List Arrow). NoChain g xs n) starts_are none)) ls f

@@ -18,7 +18,7 @@ use Rattle.mh_laws.specs.Least.{by_reference}
 use Rattle.mh_flow.specs.declared.chain.moves.Holder.{Holder}
 use Rattle.mh_flow.specs.declared.chain.moves.ActionSite.{ActionSite}
 use Rattle.mh_flow.specs.declared.chain.moves.Move.{Move}
-use Rattle.mh_flow.specs.Routes.{AreActionSites, same_place, same_action_site, action_site_cmp, place_number, action_site_number, with_place, with_source, places_from, places_of, with_action_site, with_action_site_of, action_sites_from}
+use Rattle.mh_flow.specs.Routes.{AreActionSites, same_holder, same_action_site, action_site_cmp, holder_number, action_site_number, with_holder, with_source, holders_from, holders_met, with_action_site, with_action_site_of, action_sites_from}
 use Rattle.mh_model.specs.Reference.{same_key}
 use Rattle.mh_flow.proofs.ContainsLemmas.{both, halves, no_member, here, behind, first_or_behind}
 use Rattle.mh_flow.proofs.ConfigLemmas.{config_is, config_itself}
@@ -37,15 +37,15 @@ key_is a b h =
 key_itself : (a : ObjRef) → same_key a a ≡ true
 key_itself a = both _ _ ((Decides-eqb a.number a.number).1 refl) ((bytes_eq-Decides a.group a.group).1 refl)
 
-place_is : (a b : Holder) → same_place a b ≡ true → a ≡ b
-place_is a b h =
+holder_is : (a b : Holder) → same_holder a b ≡ true → a ≡ b
+holder_is a b h =
     let two = halves _ _ h in
     let c = config_is a.config b.config two.0 in
     let r = key_is a.at b.at two.1 in
     λ i. record { config = c i; at = r i }
 
-place_itself : (a : Holder) → same_place a a ≡ true
-place_itself a = both _ _ (config_itself a.config) (key_itself a.at)
+holder_itself : (a : Holder) → same_holder a a ≡ true
+holder_itself a = both _ _ (config_itself a.config) (key_itself a.at)
 
 action_site_is : (a b : ActionSite) → same_action_site a b ≡ true → a ≡ b
 action_site_is a b h =
@@ -83,8 +83,8 @@ standing {X} same is xs x h =
       subst (λ (n : ℕ). n < length xs) (sym e) found.3,
     )
 
-pub placed : (ps : List Holder) (p : Holder) → list_any (same_place p) ps ≡ true → (slice_get ps (place_number ps p) ≡ Some p) × (place_number ps p < length ps)
-placed ps p h = standing same_place place_is ps p h
+pub holder_numbered : (ps : List Holder) (p : Holder) → list_any (same_holder p) ps ≡ true → (slice_get ps (holder_number ps p) ≡ Some p) × (holder_number ps p < length ps)
+holder_numbered ps p h = standing same_holder holder_is ps p h
 
 pub with_its_action_site : (ss : List ActionSite) (s : ActionSite) → list_any (same_action_site s) ss ≡ true → (slice_get ss (action_site_number ss s) ≡ Some s) × (action_site_number ss s < length ss)
 with_its_action_site ss s h = standing same_action_site action_site_is ss s h
@@ -118,50 +118,50 @@ put_stays same itself is xs x y false h = any_member same itself (xs ++ y ∷ []
 
 -- Places of moves.
 
-abbrev HasPlace : List Holder → Holder → Type 0
-HasPlace ps p = list_any (same_place p) ps ≡ true
+abbrev HasHolder : List Holder → Holder → Type 0
+HasHolder ps p = list_any (same_holder p) ps ≡ true
 
-place_there : (ps : List Holder) (p : Holder) → HasPlace (with_place ps p) p
-place_there ps p = put_there same_place place_itself ps p (list_any (same_place p) ps) refl
+holder_there : (ps : List Holder) (p : Holder) → HasHolder (with_holder ps p) p
+holder_there ps p = put_there same_holder holder_itself ps p (list_any (same_holder p) ps) refl
 
-place_stays : (ps : List Holder) (p q : Holder) → HasPlace ps p → HasPlace (with_place ps q) p
-place_stays ps p q h = put_stays same_place place_itself place_is ps p q (list_any (same_place q) ps) h
+holder_stays : (ps : List Holder) (p q : Holder) → HasHolder ps p → HasHolder (with_holder ps q) p
+holder_stays ps p q h = put_stays same_holder holder_itself holder_is ps p q (list_any (same_holder q) ps) h
 
-source_there : (ps : List Holder) (o : Option Holder) (p : Holder) → o ≡ Some p → HasPlace (with_source ps o) p
+source_there : (ps : List Holder) (o : Option Holder) (p : Holder) → o ≡ Some p → HasHolder (with_source ps o) p
 source_there ps None p e = cc
-source_there ps (Some q) p e = subst (λ (x : Holder). HasPlace (with_place ps q) x) (some_same e) (place_there ps q)
+source_there ps (Some q) p e = subst (λ (x : Holder). HasHolder (with_holder ps q) x) (some_same e) (holder_there ps q)
 
-source_stays : (ps : List Holder) (o : Option Holder) (p : Holder) → HasPlace ps p → HasPlace (with_source ps o) p
+source_stays : (ps : List Holder) (o : Option Holder) (p : Holder) → HasHolder ps p → HasHolder (with_source ps o) p
 source_stays ps None p h = h
-source_stays ps (Some q) p h = place_stays ps p q h
+source_stays ps (Some q) p h = holder_stays ps p q h
 
-places_stay : (ps : List Holder) (ms : List Move) (p : Holder) → HasPlace ps p → HasPlace (places_from ps ms) p
-places_stay ps [] p h = h
-places_stay ps (m ∷ ms) p h = places_stay (with_place (with_source ps m.from) m.to) ms p (place_stays (with_source ps m.from) p m.to (source_stays ps m.from p h))
+holders_stay : (ps : List Holder) (ms : List Move) (p : Holder) → HasHolder ps p → HasHolder (holders_from ps ms) p
+holders_stay ps [] p h = h
+holders_stay ps (m ∷ ms) p h = holders_stay (with_holder (with_source ps m.from) m.to) ms p (holder_stays (with_source ps m.from) p m.to (source_stays ps m.from p h))
 
-places_to : (ps : List Holder) (ms : List Move) (m : Move) → Contains ms m → HasPlace (places_from ps ms) m.to
-places_to ps [] m k = absurd (no_member m k)
-places_to ps (x ∷ ms) m k = by (first_or_behind x ms m k) (places_to (with_place (with_source ps x.from) x.to) ms m)
+holders_to : (ps : List Holder) (ms : List Move) (m : Move) → Contains ms m → HasHolder (holders_from ps ms) m.to
+holders_to ps [] m k = absurd (no_member m k)
+holders_to ps (x ∷ ms) m k = by (first_or_behind x ms m k) (holders_to (with_holder (with_source ps x.from) x.to) ms m)
   where
-    by : (x ≡ m) ⊎ Contains ms m → (Contains ms m → HasPlace (places_from ps (x ∷ ms)) m.to) → HasPlace (places_from ps (x ∷ ms)) m.to
-    by (inl e) ih = subst (λ (y : Move). HasPlace (places_from ps (x ∷ ms)) y.to) e (places_stay (with_place (with_source ps x.from) x.to) ms x.to (place_there (with_source ps x.from) x.to))
+    by : (x ≡ m) ⊎ Contains ms m → (Contains ms m → HasHolder (holders_from ps (x ∷ ms)) m.to) → HasHolder (holders_from ps (x ∷ ms)) m.to
+    by (inl e) ih = subst (λ (y : Move). HasHolder (holders_from ps (x ∷ ms)) y.to) e (holders_stay (with_holder (with_source ps x.from) x.to) ms x.to (holder_there (with_source ps x.from) x.to))
     by (inr k) ih = ih k
 
-places_source : (ps : List Holder) (ms : List Move) (m : Move) (p : Holder) → Contains ms m → m.from ≡ Some p → HasPlace (places_from ps ms) p
-places_source ps [] m p k e = absurd (no_member m k)
-places_source ps (x ∷ ms) m p k e = by (first_or_behind x ms m k) (λ k. places_source (with_place (with_source ps x.from) x.to) ms m p k e)
+holders_source : (ps : List Holder) (ms : List Move) (m : Move) (p : Holder) → Contains ms m → m.from ≡ Some p → HasHolder (holders_from ps ms) p
+holders_source ps [] m p k e = absurd (no_member m k)
+holders_source ps (x ∷ ms) m p k e = by (first_or_behind x ms m k) (λ k. holders_source (with_holder (with_source ps x.from) x.to) ms m p k e)
   where
-    by : (x ≡ m) ⊎ Contains ms m → (Contains ms m → HasPlace (places_from ps (x ∷ ms)) p) → HasPlace (places_from ps (x ∷ ms)) p
+    by : (x ≡ m) ⊎ Contains ms m → (Contains ms m → HasHolder (holders_from ps (x ∷ ms)) p) → HasHolder (holders_from ps (x ∷ ms)) p
     by (inl same) ih =
         let mine : x.from ≡ Some p = ap (λ (y : Move). y.from) same ∙ e in
-        places_stay (with_place (with_source ps x.from) x.to) ms p (place_stays (with_source ps x.from) p x.to (source_there ps x.from p mine))
+        holders_stay (with_holder (with_source ps x.from) x.to) ms p (holder_stays (with_source ps x.from) p x.to (source_there ps x.from p mine))
     by (inr k) ih = ih k
 
-pub has_to : (ms : List Move) (m : Move) → Contains ms m → HasPlace (places_of ms) m.to
-has_to ms m k = places_to [] ms m k
+pub has_to : (ms : List Move) (m : Move) → Contains ms m → HasHolder (holders_met ms) m.to
+has_to ms m k = holders_to [] ms m k
 
-pub has_source : (ms : List Move) (m : Move) (p : Holder) → Contains ms m → m.from ≡ Some p → HasPlace (places_of ms) p
-has_source ms m p k e = places_source [] ms m p k e
+pub has_source : (ms : List Move) (m : Move) (p : Holder) → Contains ms m → m.from ≡ Some p → HasHolder (holders_met ms) p
+has_source ms m p k e = holders_source [] ms m p k e
 
 -- ActionSites of moves.
 

@@ -34,7 +34,7 @@ use Rattle.mh_group.specs.declared.action_name.ActionName.{ActionName}
 use Rattle.mh_group.specs.declared.action_name.ActionName.TheVariants as action
 use Rattle.mh_flow.specs.Moves.{links_by, Follows, begin, onward}
 use Rattle.mh_flow.specs.Sites.{Site, sites_of}
-use Rattle.mh_flow.specs.Steps.{place, searched_in, first_action_site, action_site_at, comes, goes, stays, first_moves, handed_moves, given_moves, received_moves, filled_moves, kept_moves, passed_moves, led_moves, done_moves, targets, site_moves, moves_in, moves_of, is_one_of, IsExact}
+use Rattle.mh_flow.specs.Steps.{holder_at, searched_in, first_action_site, action_site_at, comes, goes, stays, first_moves, handed_moves, given_moves, received_moves, filled_moves, kept_moves, passed_moves, led_moves, done_moves, targets, site_moves, moves_in, moves_of, is_one_of, IsExact}
 use Rattle.mh_flow.proofs.ContainsLemmas.{both, halves, no_member, here, behind, first_or_behind, in_joined, joined_from}
 use Rattle.mh_flow.proofs.ChainFirstLemmas.{ref_itself}
 use Rattle.mh_flow.proofs.ChainLemmas.{brought_is_held}
@@ -188,16 +188,16 @@ module _ (v : Service) (w : Flow) (e : IsExact v w) (qs : List ObjRef) where
   AreServing ms = Are (Serves v qs) ms
 
   firsts_serve : (c : Config) → Contains w.configs c → (p : Fixed) → Contains (present v c) p → AreServing (first_moves (searched_in v w qs c) p)
-  firsts_serve c reached p among_parts = are_if (Serves v qs) (list_any (is_one_of qs) (firsts p)) (comes (first_action_site p) (place c p.key) ∷ []) (λ h.
+  firsts_serve c reached p among_parts = are_if (Serves v qs) (list_any (is_one_of qs) (firsts p)) (comes (first_action_site p) (holder_at c p.key) ∷ []) (λ h.
       let found = member_any (is_one_of qs) (firsts p) h in
-      are_one (Serves v qs) (comes (first_action_site p) (place c p.key)) (serves_comes v qs found.0 (first_action_site p) (place c p.key) (among found.0 qs found.1) (original c p (e.only_reached c reached) among_parts found.2)))
+      are_one (Serves v qs) (comes (first_action_site p) (holder_at c p.key)) (serves_comes v qs found.0 (first_action_site p) (holder_at c p.key) (among found.0 qs found.1) (original c p (e.only_reached c reached) among_parts found.2)))
 
   module _ (c : Config) (x : Site) (r : ObjRef) (done : IsDone v c x r) where
     argument_serves : (n : ℕ) (y : Argument) → Contains (says x.act.name) (saying.Hands n) → slice_get x.act.arguments n ≡ Some y → reads_reference y x.act.name ≡ true → is_given (present v c) x.act.name r ≡ true → AreServing (handed_moves (searched_in v w qs c) x r y)
-    argument_serves n (argument.Direct (value.Object y)) hands stands reads takes = are_if (Serves v qs) (is_one_of qs y) (comes (action_site_at x) (place c r) ∷ []) (λ h.
-        are_one (Serves v qs) (comes (action_site_at x) (place c r)) (serves_comes v qs y (action_site_at x) (place c r) (among y qs h) (written c x r n done hands stands takes)))
-    argument_serves n (argument.Through y k) hands stands reads takes = are_if (Serves v qs) (is_reference_in (present v c) y && list_any (is_one_of qs) (w.sets c y)) (goes (place c y) (action_site_at x) (place c r) ∷ []) (λ h.
-        are_one (Serves v qs) (goes (place c y) (action_site_at x) (place c r)) (serves_goes v qs (place c y) (action_site_at x) (place c r) (λ q ls b. read ls c x r y n k done hands stands takes reads (halves _ _ h).0 b)))
+    argument_serves n (argument.Direct (value.Object y)) hands stands reads takes = are_if (Serves v qs) (is_one_of qs y) (comes (action_site_at x) (holder_at c r) ∷ []) (λ h.
+        are_one (Serves v qs) (comes (action_site_at x) (holder_at c r)) (serves_comes v qs y (action_site_at x) (holder_at c r) (among y qs h) (written c x r n done hands stands takes)))
+    argument_serves n (argument.Through y k) hands stands reads takes = are_if (Serves v qs) (is_reference_in (present v c) y && list_any (is_one_of qs) (w.sets c y)) (goes (holder_at c y) (action_site_at x) (holder_at c r) ∷ []) (λ h.
+        are_one (Serves v qs) (goes (holder_at c y) (action_site_at x) (holder_at c r)) (serves_goes v qs (holder_at c y) (action_site_at x) (holder_at c r) (λ q ls b. read ls c x r y n k done hands stands takes reads (halves _ _ h).0 b)))
     argument_serves n (argument.Receiver y) hands stands reads takes = are_none (Serves v qs)
     argument_serves n (argument.Direct y) hands stands reads takes = are_none (Serves v qs)
 
@@ -212,14 +212,14 @@ module _ (v : Service) (w : Flow) (e : IsExact v w) (qs : List ObjRef) where
         let two = halves _ _ h in
         let fill_and_list = halves _ _ two.0 in
         are_joined (Serves v qs) (received_moves (searched_in v w qs c) x r) (receivers x.act.arguments) (λ y receives.
-        are_if (Serves v qs) (is_reference_in (present v c) y) (goes (place c r) (action_site_at x) (place c y) ∷ []) (λ is.
-        are_one (Serves v qs) (goes (place c r) (action_site_at x) (place c y)) (serves_goes v qs (place c r) (action_site_at x) (place c y) (λ q ls b. filled ls c x r y done fill_and_list.0 fill_and_list.1 receives is b)))))
+        are_if (Serves v qs) (is_reference_in (present v c) y) (goes (holder_at c r) (action_site_at x) (holder_at c y) ∷ []) (λ is.
+        are_one (Serves v qs) (goes (holder_at c r) (action_site_at x) (holder_at c y)) (serves_goes v qs (holder_at c r) (action_site_at x) (holder_at c y) (λ q ls b. filled ls c x r y done fill_and_list.0 fill_and_list.1 receives is b)))))
 
     passed_serves : (d : Config) (scene : Option (List ℕ)) → leads_to v c x.act.name r ≡ Some d → d.scene ≡ scene → AreServing (passed_moves (searched_in v w qs c) d scene)
     passed_serves d None leads is = are_none (Serves v qs)
     passed_serves d (Some g) leads is = are_joined (Serves v qs) (kept_moves (searched_in v w qs c) d) (group_parts v c.app) (λ p part.
-        are_if (Serves v qs) (list_any (is_one_of qs) (w.sets c p.key)) (stays (place c p.key) (place d p.key) ∷ []) (λ h.
-        are_one (Serves v qs) (stays (place c p.key) (place d p.key)) (serves_stays v qs (place c p.key) (place d p.key) (λ q ls b. passed ls c x r d g p done leads is part b))))
+        are_if (Serves v qs) (list_any (is_one_of qs) (w.sets c p.key)) (stays (holder_at c p.key) (holder_at d p.key) ∷ []) (λ h.
+        are_one (Serves v qs) (stays (holder_at c p.key) (holder_at d p.key)) (serves_stays v qs (holder_at c p.key) (holder_at d p.key) (λ q ls b. passed ls c x r d g p done leads is part b))))
 
     led_serves : (d : Option Config) → leads_to v c x.act.name r ≡ d → AreServing (led_moves (searched_in v w qs c) d)
     led_serves None leads = are_none (Serves v qs)
@@ -249,11 +249,11 @@ module _ (v : Service) (w : Flow) (e : IsExact v w) (qs : List ObjRef) where
   in_config : (c : Config) (m : Move) → Derived v (Reached c) → Contains (moves_in (searched_in v w qs c)) m → Contains (moves_of v w qs) m
   in_config c m at k = in_joined (λ c. moves_in (searched_in v w qs c)) w.configs c m (e.reached c at) k
 
-  first_is_in : (c : Config) (p : Fixed) → Derived v (Reached c) → Contains (present v c) p → list_any (is_one_of qs) (firsts p) ≡ true → Contains (moves_of v w qs) (comes (first_action_site p) (place c p.key))
-  first_is_in c p at k h = in_config c (comes (first_action_site p) (place c p.key)) at
-      (Contains-append_left (flat_map (first_moves (searched_in v w qs c)) (present v c)) (flat_map (site_moves (searched_in v w qs c)) (sites_of (present v c))) (comes (first_action_site p) (place c p.key))
-      (in_joined (first_moves (searched_in v w qs c)) (present v c) p (comes (first_action_site p) (place c p.key)) k
-      (where_true (list_any (is_one_of qs) (firsts p)) (comes (first_action_site p) (place c p.key) ∷ []) (comes (first_action_site p) (place c p.key)) h (here (comes (first_action_site p) (place c p.key)) []))))
+  first_is_in : (c : Config) (p : Fixed) → Derived v (Reached c) → Contains (present v c) p → list_any (is_one_of qs) (firsts p) ≡ true → Contains (moves_of v w qs) (comes (first_action_site p) (holder_at c p.key))
+  first_is_in c p at k h = in_config c (comes (first_action_site p) (holder_at c p.key)) at
+      (Contains-append_left (flat_map (first_moves (searched_in v w qs c)) (present v c)) (flat_map (site_moves (searched_in v w qs c)) (sites_of (present v c))) (comes (first_action_site p) (holder_at c p.key))
+      (in_joined (first_moves (searched_in v w qs c)) (present v c) p (comes (first_action_site p) (holder_at c p.key)) k
+      (where_true (list_any (is_one_of qs) (firsts p)) (comes (first_action_site p) (holder_at c p.key) ∷ []) (comes (first_action_site p) (holder_at c p.key)) h (here (comes (first_action_site p) (holder_at c p.key)) []))))
 
   module _ (c : Config) (x : Site) (r : ObjRef) (done : IsDone v c x r) where
     done_is_in : (m : Move) → Contains (done_moves (searched_in v w qs c) x r) m → Contains (moves_of v w qs) m
@@ -269,21 +269,21 @@ module _ (v : Service) (w : Flow) (e : IsExact v w) (qs : List ObjRef) where
         (where_true (is_given (present v c) x.act.name r) (flat_map (handed_moves (searched_in v w qs c) x r) (option_to_list (handed_argument x.act))) m takes
         (in_joined (handed_moves (searched_in v w qs c) x r) (option_to_list (handed_argument x.act)) y m (tells (handed_argument x.act) y (says_handed x.act n y hands stands reads)) k))))
 
-    filled_is_in : (y : ObjRef) → fills x.act.name ≡ true → is_list_in (present v c) r ≡ true → list_any (is_one_of qs) (w.sets c r) ≡ true → Contains (receivers x.act.arguments) y → is_reference_in (present v c) y ≡ true → Contains (moves_of v w qs) (goes (place c r) (action_site_at x) (place c y))
-    filled_is_in y fill list holds receives is = done_is_in (goes (place c r) (action_site_at x) (place c y))
-        (Contains-append_left (given_moves (searched_in v w qs c) x r ++ filled_moves (searched_in v w qs c) x r) (led_moves (searched_in v w qs c) (leads_to v c x.act.name r)) (goes (place c r) (action_site_at x) (place c y))
-        (Contains-append_right (given_moves (searched_in v w qs c) x r) (filled_moves (searched_in v w qs c) x r) (goes (place c r) (action_site_at x) (place c y))
-        (where_true (fills x.act.name && is_list_in (present v c) r && list_any (is_one_of qs) (w.sets c r)) (flat_map (received_moves (searched_in v w qs c) x r) (receivers x.act.arguments)) (goes (place c r) (action_site_at x) (place c y)) (both _ _ (both _ _ fill list) holds)
-        (in_joined (received_moves (searched_in v w qs c) x r) (receivers x.act.arguments) y (goes (place c r) (action_site_at x) (place c y)) receives
-        (where_true (is_reference_in (present v c) y) (goes (place c r) (action_site_at x) (place c y) ∷ []) (goes (place c r) (action_site_at x) (place c y)) is (here (goes (place c r) (action_site_at x) (place c y)) []))))))
+    filled_is_in : (y : ObjRef) → fills x.act.name ≡ true → is_list_in (present v c) r ≡ true → list_any (is_one_of qs) (w.sets c r) ≡ true → Contains (receivers x.act.arguments) y → is_reference_in (present v c) y ≡ true → Contains (moves_of v w qs) (goes (holder_at c r) (action_site_at x) (holder_at c y))
+    filled_is_in y fill list holds receives is = done_is_in (goes (holder_at c r) (action_site_at x) (holder_at c y))
+        (Contains-append_left (given_moves (searched_in v w qs c) x r ++ filled_moves (searched_in v w qs c) x r) (led_moves (searched_in v w qs c) (leads_to v c x.act.name r)) (goes (holder_at c r) (action_site_at x) (holder_at c y))
+        (Contains-append_right (given_moves (searched_in v w qs c) x r) (filled_moves (searched_in v w qs c) x r) (goes (holder_at c r) (action_site_at x) (holder_at c y))
+        (where_true (fills x.act.name && is_list_in (present v c) r && list_any (is_one_of qs) (w.sets c r)) (flat_map (received_moves (searched_in v w qs c) x r) (receivers x.act.arguments)) (goes (holder_at c r) (action_site_at x) (holder_at c y)) (both _ _ (both _ _ fill list) holds)
+        (in_joined (received_moves (searched_in v w qs c) x r) (receivers x.act.arguments) y (goes (holder_at c r) (action_site_at x) (holder_at c y)) receives
+        (where_true (is_reference_in (present v c) y) (goes (holder_at c r) (action_site_at x) (holder_at c y) ∷ []) (goes (holder_at c r) (action_site_at x) (holder_at c y)) is (here (goes (holder_at c r) (action_site_at x) (holder_at c y)) []))))))
 
-    passed_is_in : (d : Config) (g : List ℕ) (p : Fixed) → leads_to v c x.act.name r ≡ Some d → d.scene ≡ Some g → Contains (group_parts v c.app) p → list_any (is_one_of qs) (w.sets c p.key) ≡ true → Contains (moves_of v w qs) (stays (place c p.key) (place d p.key))
-    passed_is_in d g p leads scene part holds = done_is_in (stays (place c p.key) (place d p.key))
-        (Contains-append_right (given_moves (searched_in v w qs c) x r ++ filled_moves (searched_in v w qs c) x r) (led_moves (searched_in v w qs c) (leads_to v c x.act.name r)) (stays (place c p.key) (place d p.key))
-        (subst (λ (o : Option Config). Contains (led_moves (searched_in v w qs c) o) (stays (place c p.key) (place d p.key))) (sym leads)
-        (subst (λ (o : Option (List ℕ)). Contains (passed_moves (searched_in v w qs c) d o) (stays (place c p.key) (place d p.key))) (sym scene)
-        (in_joined (kept_moves (searched_in v w qs c) d) (group_parts v c.app) p (stays (place c p.key) (place d p.key)) part
-        (where_true (list_any (is_one_of qs) (w.sets c p.key)) (stays (place c p.key) (place d p.key) ∷ []) (stays (place c p.key) (place d p.key)) holds (here (stays (place c p.key) (place d p.key)) []))))))
+    passed_is_in : (d : Config) (g : List ℕ) (p : Fixed) → leads_to v c x.act.name r ≡ Some d → d.scene ≡ Some g → Contains (group_parts v c.app) p → list_any (is_one_of qs) (w.sets c p.key) ≡ true → Contains (moves_of v w qs) (stays (holder_at c p.key) (holder_at d p.key))
+    passed_is_in d g p leads scene part holds = done_is_in (stays (holder_at c p.key) (holder_at d p.key))
+        (Contains-append_right (given_moves (searched_in v w qs c) x r ++ filled_moves (searched_in v w qs c) x r) (led_moves (searched_in v w qs c) (leads_to v c x.act.name r)) (stays (holder_at c p.key) (holder_at d p.key))
+        (subst (λ (o : Option Config). Contains (led_moves (searched_in v w qs c) o) (stays (holder_at c p.key) (holder_at d p.key))) (sym leads)
+        (subst (λ (o : Option (List ℕ)). Contains (passed_moves (searched_in v w qs c) d o) (stays (holder_at c p.key) (holder_at d p.key))) (sym scene)
+        (in_joined (kept_moves (searched_in v w qs c) d) (group_parts v c.app) p (stays (holder_at c p.key) (holder_at d p.key)) part
+        (where_true (list_any (is_one_of qs) (w.sets c p.key)) (stays (holder_at c p.key) (holder_at d p.key) ∷ []) (stays (holder_at c p.key) (holder_at d p.key)) holds (here (stays (holder_at c p.key) (holder_at d p.key)) []))))))
 
   -- one of them, wherever it stands
   one_of_them : (q : ObjRef) → Contains qs q → (rs : List ObjRef) → Contains rs q → list_any (is_one_of qs) rs ≡ true
@@ -292,16 +292,16 @@ module _ (v : Service) (w : Flow) (e : IsExact v w) (qs : List ObjRef) where
   holds_it : (q : ObjRef) → Contains qs q → (ls : List Link) (c : Config) (r : ObjRef) → Brings v q ls c r → list_any (is_one_of qs) (w.sets c r) ≡ true
   holds_it q sought ls c r b = one_of_them q sought (w.sets c r) (among q (w.sets c r) (e.held c r q (brought_is_held v q ls c r b)))
 
-  pub brings_follows : (q : ObjRef) → Contains qs q → (ls : List Link) (c : Config) (r : ObjRef) → Brings v q ls c r → Follows (moves_of v w qs) ls (place c r)
-  brings_follows q sought ls0 c0 r0 (original c p at k first) = begin (comes (first_action_site p) (place c p.key)) (first_is_in c p at k (one_of_them q sought (firsts p) first)) refl
+  pub brings_follows : (q : ObjRef) → Contains qs q → (ls : List Link) (c : Config) (r : ObjRef) → Brings v q ls c r → Follows (moves_of v w qs) ls (holder_at c r)
+  brings_follows q sought ls0 c0 r0 (original c p at k first) = begin (comes (first_action_site p) (holder_at c p.key)) (first_is_in c p at k (one_of_them q sought (firsts p) first)) refl
   brings_follows q sought ls0 c0 r0 (written c x r n done hands stands takes) =
-      begin (comes (action_site_at x) (place c r)) (given_is_in c x r done (comes (action_site_at x) (place c r)) n (argument.Direct (value.Object q)) hands stands refl takes
-      (where_true (is_one_of qs q) (comes (action_site_at x) (place c r) ∷ []) (comes (action_site_at x) (place c r)) (is_among q qs sought) (here (comes (action_site_at x) (place c r)) []))) refl
+      begin (comes (action_site_at x) (holder_at c r)) (given_is_in c x r done (comes (action_site_at x) (holder_at c r)) n (argument.Direct (value.Object q)) hands stands refl takes
+      (where_true (is_one_of qs q) (comes (action_site_at x) (holder_at c r) ∷ []) (comes (action_site_at x) (holder_at c r)) (is_among q qs sought) (here (comes (action_site_at x) (holder_at c r)) []))) refl
   brings_follows q sought ls0 c0 r0 (read ls c x r y n k done hands stands takes reads is b) =
-      onward ls (place c y) (goes (place c y) (action_site_at x) (place c r)) (brings_follows q sought ls c y b) (given_is_in c x r done (goes (place c y) (action_site_at x) (place c r)) n (argument.Through y k) hands stands reads takes
-      (where_true (is_reference_in (present v c) y && list_any (is_one_of qs) (w.sets c y)) (goes (place c y) (action_site_at x) (place c r) ∷ []) (goes (place c y) (action_site_at x) (place c r)) (both _ _ is (holds_it q sought ls c y b)) (here (goes (place c y) (action_site_at x) (place c r)) []))) refl
+      onward ls (holder_at c y) (goes (holder_at c y) (action_site_at x) (holder_at c r)) (brings_follows q sought ls c y b) (given_is_in c x r done (goes (holder_at c y) (action_site_at x) (holder_at c r)) n (argument.Through y k) hands stands reads takes
+      (where_true (is_reference_in (present v c) y && list_any (is_one_of qs) (w.sets c y)) (goes (holder_at c y) (action_site_at x) (holder_at c r) ∷ []) (goes (holder_at c y) (action_site_at x) (holder_at c r)) (both _ _ is (holds_it q sought ls c y b)) (here (goes (holder_at c y) (action_site_at x) (holder_at c r)) []))) refl
   brings_follows q sought ls0 c0 r0 (filled ls c x r y done fill list receives is b) =
-      onward ls (place c r) (goes (place c r) (action_site_at x) (place c y)) (brings_follows q sought ls c r b) (filled_is_in c x r done y fill list (holds_it q sought ls c r b) receives is) refl
+      onward ls (holder_at c r) (goes (holder_at c r) (action_site_at x) (holder_at c y)) (brings_follows q sought ls c r b) (filled_is_in c x r done y fill list (holds_it q sought ls c r b) receives is) refl
   brings_follows q sought ls0 c0 r0 (passed ls c x r d g p done leads scene part b) =
-      subst (λ (ks : List Link). Follows (moves_of v w qs) ks (place d p.key)) (append-nil ls)
-      (onward ls (place c p.key) (stays (place c p.key) (place d p.key)) (brings_follows q sought ls c p.key b) (passed_is_in c x r done d g p leads scene part (holds_it q sought ls c p.key b)) refl)
+      subst (λ (ks : List Link). Follows (moves_of v w qs) ks (holder_at d p.key)) (append-nil ls)
+      (onward ls (holder_at c p.key) (stays (holder_at c p.key) (holder_at d p.key)) (brings_follows q sought ls c p.key b) (passed_is_in c x r done d g p leads scene part (holds_it q sought ls c p.key b)) refl)

@@ -1,4 +1,4 @@
--- The first of the moves of several references that lead to a place is the first of their chains.
+-- The first of the moves of several references that lead to a holder is the first of their chains.
 use Rattle.std.proofs.Common.{◌≡◌, List, [], ◌∷◌, sym, subst, ◌∙◌}
 use Rattle.std.specs.List.{Contains}
 use Rattle.std.specs.declared.cmp.Ordering.TheVariants.{Equal}
@@ -16,7 +16,7 @@ use Rattle.mh_flow.specs.Chart.{with_references}
 use Rattle.mh_flow.specs.Moves.{Follows, IsFirstOf}
 use Rattle.mh_flow.specs.Nearest.{IsNearest}
 use Rattle.mh_flow.specs.Origins.{AreOrigins}
-use Rattle.mh_flow.specs.Steps.{moves_of, place}
+use Rattle.mh_flow.specs.Steps.{moves_of, holder_at}
 use Rattle.mh_flow.proofs.ChainExactLemmas.{is_exact}
 use Rattle.mh_flow.proofs.ChainLemmas.{held_is_brought}
 use Rattle.mh_flow.proofs.ChainStepLemmas.{among, is_among, brings_follows, follows_brings}
@@ -39,12 +39,12 @@ level_origin v os qs ls origins p q (l, rest, is, there) ks (k, others, at, own)
     origins.each l rest q is m (subst (λ (xs : List ObjRef). Contains xs q) (level_begun v k l (first_level k l others rest heads)) own)
 
 module _ (v : Service) (w : Flow) (least : IsLeast v w) (qs : List ObjRef) (c : Config) (r : ObjRef) where
-  follows : (q : ObjRef) (ks : List Link) → Contains qs q → Brings v q ks c r → Follows (moves_of v w (with_references [] qs)) ks (place c r)
+  follows : (q : ObjRef) (ks : List Link) → Contains qs q → Brings v q ks c r → Follows (moves_of v w (with_references [] qs)) ks (holder_at c r)
   follows q ks m b = brings_follows v w (is_exact v w least) (with_references [] qs) q (among_once qs q m) ks c r b
 
-  nearest_is : (ls : List Link) (os : List ObjRef) → IsFirstOf (moves_of v w (with_references [] qs)) (place c r) ls → AreOrigins v (with_references [] qs) ls os → IsNearest v c r qs ls os
+  nearest_is : (ls : List Link) (os : List ObjRef) → IsFirstOf (moves_of v w (with_references [] qs)) (holder_at c r) ls → AreOrigins v (with_references [] qs) ls os → IsNearest v c r qs ls os
   nearest_is ls os first origins =
-      let one = follows_brings v w (is_exact v w least) (with_references [] qs) ls (place c r) first.follows in
+      let one = follows_brings v w (is_exact v w least) (with_references [] qs) ls (holder_at c r) first.follows in
       let begins = brings_begins v one.0 ls c r one.2 in
       record {
         among = λ q m. once_among qs q (origins.among q m);
@@ -54,14 +54,14 @@ module _ (v : Service) (w : Flow) (least : IsLeast v w) (qs : List ObjRef) (c : 
         level = λ q ks m b level. level_origin v os (with_references [] qs) ls origins one.0 q begins ks (brings_begins v q ks c r b) (among_once qs q m) level;
       }
 
-  none_held : ((ls : List Link) → Follows (moves_of v w (with_references [] qs)) ls (place c r) → ⊥) → (q : ObjRef) → Contains qs q → Derived v (Held c r q) → ⊥
+  none_held : ((ls : List Link) → Follows (moves_of v w (with_references [] qs)) ls (holder_at c r) → ⊥) → (q : ObjRef) → Contains qs q → Derived v (Held c r q) → ⊥
   none_held none q m d =
       let found = held_is_brought v q c r d in
       none found.0 (follows q found.0 m found.1)
 
   -- In the words of the code.
 
-  module _ (keys : List ObjRef) (ms : List Move) (p : Holder) (once : keys ≡ with_references [] qs) (same : ms ≡ moves_of v w keys) (at : p ≡ place c r) where
+  module _ (keys : List ObjRef) (ms : List Move) (p : Holder) (once : keys ≡ with_references [] qs) (same : ms ≡ moves_of v w keys) (at : p ≡ holder_at c r) where
     moves_are : ms ≡ moves_of v w (with_references [] qs)
     moves_are = same ∙ (λ i. moves_of v w (once i))
 
@@ -73,4 +73,4 @@ module _ (v : Service) (w : Flow) (least : IsLeast v w) (qs : List ObjRef) (c : 
 
     pub told_unheld : ((ls : List Link) → Follows ms ls p → ⊥) → (q : ObjRef) → Contains qs q → Derived v (Held c r q) → ⊥
     told_unheld none = none_held (λ ls f.
-        none ls (subst (λ (x : Holder). Follows ms ls x) (sym at) (subst (λ (xs : List Move). Follows xs ls (place c r)) (sym moves_are) f)))
+        none ls (subst (λ (x : Holder). Follows ms ls x) (sym at) (subst (λ (xs : List Move). Follows xs ls (holder_at c r)) (sym moves_are) f)))

@@ -9,7 +9,7 @@ use Rattle.mh_laws.specs.Flow.{Flow}
 use Rattle.mh_flow.specs.declared.chain.link.Link.{Link}
 use Rattle.mh_flow.specs.declared.chain.moves.Holder.{Holder}
 use Rattle.mh_flow.specs.Moves.{Follows}
-use Rattle.mh_flow.specs.Steps.{IsExact, moves_of, place}
+use Rattle.mh_flow.specs.Steps.{IsExact, moves_of, holder_at}
 use Rattle.mh_flow.specs.Chains.{Brings}
 
 abbrev pub WhatIsBroughtIsHeld : Type 0
@@ -31,4 +31,4 @@ MovesBring =
 abbrev pub WhatBringsMoves : Type 0
 WhatBringsMoves =
     (v : Service) (w : Flow) → IsExact v w → (qs : List ObjRef) (q : ObjRef) → Contains qs q →
-    (ls : List Link) (c : Config) (r : ObjRef) → Brings v q ls c r → Follows (moves_of v w qs) ls (place c r)
+    (ls : List Link) (c : Config) (r : ObjRef) → Brings v q ls c r → Follows (moves_of v w qs) ls (holder_at c r)

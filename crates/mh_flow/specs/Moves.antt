@@ -18,14 +18,14 @@ links_at (Some s) r = link s.key s.index r ∷ []
 abbrev pub links_by : Move → List Link
 links_by m = links_at m.action_site m.to.at
 
--- these are the links of moves that lead to the place: the first comes from nowhere, and each other from the place to
+-- these are the links of moves that lead to the holder: the first comes from nowhere, and each other from that to
 -- which the one before it leads
 pub data Follows (ms : List Move) : List Link → Holder → Type 0 where
   begin : (m : Move) → Contains ms m → m.from ≡ None → Follows ms (links_by m) m.to
   onward : (ls : List Link) (p : Holder) (m : Move) → Follows ms ls p → Contains ms m → m.from ≡ Some p
       → Follows ms (ls ++ links_by m) m.to
 
--- the links lead to the place, no fewer do, and of those that are as many none whose action sites come before
+-- the links lead to the holder, no fewer do, and of those that are as many none whose action sites come before
 pub record IsFirstOf (ms : List Move) (p : Holder) (ls : List Link) : Type 0 where
   pub follows : Follows ms ls p
   pub shortest : (ks : List Link) → Follows ms ks p → length ls ≤ length ks

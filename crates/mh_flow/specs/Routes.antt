@@ -1,4 +1,4 @@
--- Moves by numbers: those of places and of action sites, and the graph whose arrows are moves.
+-- Moves by numbers: those of holders and of action sites, and the graph whose arrows are moves.
 use Rattle.std.specs.Prelude.{◌≡◌, ℕ, zero, suc, Bool, ◌&&◌, true, ◌==◌, if◌then◌else◌, List, [], ◌∷◌, ◌++◌, length, position, replicate, slice_get, unwrap_or, Option, Some, None, option_and_then}
 use Rattle.std.specs.List.{Contains, flat_map, list_any}
 use Rattle.std.specs.List.Sorted.{IsSorted}
@@ -15,8 +15,8 @@ use Rattle.mh_flow.specs.declared.chain.moves.ActionSite.{ActionSite}
 use Rattle.mh_flow.specs.declared.chain.moves.Move.{Move}
 use Rattle.mh_flow.specs.Chains.{link}
 
-abbrev pub same_place : Holder → Holder → Bool
-same_place a b = same_config a.config b.config && same_key a.at b.at
+abbrev pub same_holder : Holder → Holder → Bool
+same_holder a b = same_config a.config b.config && same_key a.at b.at
 
 abbrev pub same_action_site : ActionSite → ActionSite → Bool
 same_action_site a b = same_key a.key b.key && a.index == b.index
@@ -27,19 +27,19 @@ action_site_cmp = then_cmp (on (λ s. s.key) by_reference) (on (λ s. s.index) n
 
 -- What moves speak of, each once
 
-abbrev pub with_place : List Holder → Holder → List Holder
-with_place ps p = if list_any (same_place p) ps then ps else ps ++ p ∷ []
+abbrev pub with_holder : List Holder → Holder → List Holder
+with_holder ps p = if list_any (same_holder p) ps then ps else ps ++ p ∷ []
 
 abbrev pub with_source : List Holder → Option Holder → List Holder
 with_source ps None = ps
-with_source ps (Some p) = with_place ps p
+with_source ps (Some p) = with_holder ps p
 
-abbrev pub places_from : List Holder → List Move → List Holder
-places_from ps [] = ps
-places_from ps (m ∷ ms) = places_from (with_place (with_source ps m.from) m.to) ms
+abbrev pub holders_from : List Holder → List Move → List Holder
+holders_from ps [] = ps
+holders_from ps (m ∷ ms) = holders_from (with_holder (with_source ps m.from) m.to) ms
 
-abbrev pub places_of : List Move → List Holder
-places_of ms = places_from [] ms
+abbrev pub holders_met : List Move → List Holder
+holders_met ms = holders_from [] ms
 
 -- the action sites of these moves are among these, which are in order
 pub record AreActionSites (ms : List Move) (ss : List ActionSite) : Type 0 where
@@ -48,15 +48,15 @@ pub record AreActionSites (ms : List Move) (ss : List ActionSite) : Type 0 where
 
 -- Numbers
 
-abbrev pub place_number : List Holder → Holder → ℕ
-place_number ps p = unwrap_or (position (same_place p) ps) 0
+abbrev pub holder_number : List Holder → Holder → ℕ
+holder_number ps p = unwrap_or (position (same_holder p) ps) 0
 
 abbrev pub action_site_number : List ActionSite → ActionSite → ℕ
 action_site_number ss s = unwrap_or (position (same_action_site s) ss) 0
 
 -- a move as an arrow
 abbrev pub arrow_of : List Holder → List ActionSite → Move → Arrow
-arrow_of ps ss m = record { label = option_map (action_site_number ss) m.action_site; to = place_number ps m.to }
+arrow_of ps ss m = record { label = option_map (action_site_number ss) m.action_site; to = holder_number ps m.to }
 
 abbrev pub start_of : List Holder → List ActionSite → Move → Option Holder → List Arrow
 start_of ps ss m None = arrow_of ps ss m ∷ []
@@ -74,19 +74,19 @@ with_arrow (row ∷ rows) (suc u) a = row ∷ with_arrow rows u a
 
 abbrev pub with_move : List Holder → List ActionSite → List (List Arrow) → Move → Option Holder → List (List Arrow)
 with_move ps ss rows m None = rows
-with_move ps ss rows m (Some p) = with_arrow rows (place_number ps p) (arrow_of ps ss m)
+with_move ps ss rows m (Some p) = with_arrow rows (holder_number ps p) (arrow_of ps ss m)
 
 abbrev pub rows_from : List Holder → List ActionSite → List (List Arrow) → List Move → List (List Arrow)
 rows_from ps ss rows [] = rows
 rows_from ps ss rows (m ∷ ms) = rows_from ps ss (with_move ps ss rows m m.from) ms
 
--- for each place the arrows that leave it
+-- for each holder the arrows that leave it
 abbrev pub rows_of : List Holder → List ActionSite → List Move → List (List Arrow)
 rows_of ps ss ms = rows_from ps ss (replicate (length ps) []) ms
 
 -- Links
 
--- what an arrow with this action site to this place is
+-- what an arrow with this action site to this holder is
 abbrev pub link_between : Option ActionSite → Option Holder → List Link
 link_between (Some s) (Some p) = link s.key s.index p.at ∷ []
 link_between _ _ = []

@@ -26,8 +26,8 @@ use Rattle.mh_flow.specs.Chart.{firsts, handed_argument}
 use Rattle.mh_flow.specs.Sites.{Site, sites_of}
 use Rattle.mh_flow.specs.Solved.{held_by}
 
-abbrev pub place : Config → ObjRef → Holder
-place c r = record { config = c; at = r }
+abbrev pub holder_at : Config → ObjRef → Holder
+holder_at c r = record { config = c; at = r }
 
 abbrev pub first_action_site : Fixed → ActionSite
 first_action_site p = record { key = p.key; index = 0 }
@@ -35,7 +35,7 @@ first_action_site p = record { key = p.key; index = 0 }
 abbrev pub action_site_at : Site → ActionSite
 action_site_at x = record { key = x.key; index = x.index }
 
--- a reference comes from nowhere; from a place; and stays with what holds it
+-- a reference comes from nowhere; from a holder; and stays with what holds it
 
 abbrev pub comes : ActionSite → Holder → Move
 comes s p = record { from = None; action_site = Some s; to = p }
@@ -69,9 +69,9 @@ pub record SearchedConfigLem : Type 0 where
 abbrev pub ground_of : SearchedConfigLem → SearchedConfig
 ground_of h = record { service = h.service; config = h.config; present = h.present; sets = held_by h.present h.held; sought = h.sought }
 
--- a place there
+-- a holder there
 abbrev pub there : SearchedConfig → ObjRef → Holder
-there g r = place g.config r
+there g r = holder_at g.config r
 
 -- what holds one of them there
 abbrev pub holds : SearchedConfig → ObjRef → Bool
@@ -116,7 +116,7 @@ filled_moves g x r =
 
 -- the object takes along what it holds of them
 abbrev pub kept_moves : SearchedConfig → Config → Fixed → List Move
-kept_moves g d p = if holds g p.key then stays (there g p.key) (place d p.key) ∷ [] else []
+kept_moves g d p = if holds g p.key then stays (there g p.key) (holder_at d p.key) ∷ [] else []
 
 abbrev pub passed_moves : SearchedConfig → Config → Option (List ℕ) → List Move
 passed_moves g d None = []

@@ -22,7 +22,7 @@ ghost use Rattle.mh_flow.specs.Steps.{searched_in, moves_in, moves_of};
 use crate::chain::link::Link;
 use crate::chain::moves::Move;
 use crate::chain::search::first_links;
-use crate::chain::searched_config::{SearchedConfig, place};
+use crate::chain::searched_config::{SearchedConfig, holder_at};
 use crate::chain::sought::alone;
 use crate::equipped::Equipped;
 use crate::flow::Flow;
@@ -94,6 +94,6 @@ pub fn chain(
 {
     let sought = alone(alloc, at)?;
     let moves = moves_of(alloc, service, flow, &sought)?;
-    let goal = place(config, holder)?;
+    let goal = holder_at(config, holder)?;
     first_links(alloc, moves.as_slice(), &goal)
 }

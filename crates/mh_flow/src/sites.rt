@@ -116,7 +116,7 @@ fn push_members<'a>(
 }
 
 /// The sites of an object: start-up, close-down, what a link does, and slots.
-pub(crate) fn sites(alloc: Global, part: &Fixed) -> Result<Vec<Site<'_>>, AllocError>
+pub fn sites(alloc: Global, part: &Fixed) -> Result<Vec<Site<'_>>, AllocError>
     ensures { IfOk result (λ sites. sites.items ≡ sites_lem part.now) }
 {
     let mut sites = Vec::new(alloc);

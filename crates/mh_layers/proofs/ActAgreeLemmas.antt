@@ -1,4 +1,4 @@
--- What actions come to over keys is what they come to over effects.
+-- What actions come to over nodes is what they come to over effects.
 use Rattle.std.specs.Prelude.{◌≡◌, Bool, true, List, refl}
 use Rattle.std.proofs.Common.{arith, subst}
 use Rattle.mh_base.specs.declared.obj_ref.ObjRef.{ObjRef}
@@ -13,8 +13,8 @@ use Rattle.mh_laws.specs.Flow.{reached}
 use Rattle.mh_laws.specs.Price.{One, most_price}
 use Rattle.mh_laws.specs.View as view
 use Rattle.mh_prices.proofs.NearLemmas.{NearDone, done_near}
-use Rattle.mh_layers.specs.Key.{Leave}
-use Rattle.mh_layers.specs.Keys.{objects}
+use Rattle.mh_layers.specs.CostNode.{Leave}
+use Rattle.mh_layers.specs.CostNodes.{objects}
 use Rattle.mh_layers.proofs.AgreeLemmas.{Agrees, SameSets, Setting, agrees_largest, agrees_node, agrees_one, agrees_passes, agrees_plus, agrees_sets, agrees_sum}
 use Rattle.mh_layers.proofs.LifeAgreeLemmas.{all_lists, exchange_agrees, numbered_service}
 

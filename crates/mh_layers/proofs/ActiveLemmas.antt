@@ -8,8 +8,8 @@ use Rattle.mh_model.specs.Reference.{same_key}
 use Rattle.mh_model.specs.Service.{is_there, part_at}
 use Rattle.mh_laws.specs.Flow.{reached}
 use Rattle.mh_laws.proofs.NodeLemmas.{config_among}
-use Rattle.mh_layers.specs.declared.node_key.NodeKey.{NodeKey}
-use Rattle.mh_layers.specs.declared.node_key.NodeKey.TheVariants as key
+use Rattle.mh_layers.specs.declared.numbered_node.NumberedNode.{NumberedNode}
+use Rattle.mh_layers.specs.declared.numbered_node.NumberedNode.TheVariants as node
 use Rattle.mh_layers.specs.Reading.{IsReading, Reading, config_number, flow_read, object_number, same_setting, settings}
 use Rattle.mh_layers.specs.EffectSites.{effect_named}
 use Rattle.mh_layers.specs.Trails.{IsActive, IsStep}
@@ -18,7 +18,7 @@ use Rattle.mh_layers.proofs.MetLemmas.{found_among, there_found}
 use Rattle.mh_layers.proofs.PositionLemmas.{position_is, position_there, put_all}
 use Rattle.mh_layers.proofs.ReadingLemmas.{setting_itself, tells_settings}
 use Rattle.mh_layers.proofs.ContextLemmas.{got_there}
-use Rattle.mh_layers.proofs.KeyGraphLemmas.{active_kept}
+use Rattle.mh_layers.proofs.NodeGraphLemmas.{active_kept}
 
 config_at : (r : Reading) (c : Config) → reached (flow_read r) c ≡ true → slice_get (settings r) (config_number r c) ≡ Some c
 config_at r c here =
@@ -33,29 +33,29 @@ object_at r read c o there =
     ap (λ (n : Option ℕ). slice_get r.listeners.objects (unwrap_or n (length r.listeners.objects))) at.1
     ∙ position_is same_key tells_objects r.listeners.objects o at.0 at.1
 
-abbrev config_in : NodeKey → ℕ
-config_in (key.Effect c o n) = c
+abbrev config_in : NumberedNode → ℕ
+config_in (node.Effect c o n) = c
 config_in _ = 0
 
-abbrev object_in : NodeKey → ℕ
-object_in (key.Effect c o n) = o
+abbrev object_in : NumberedNode → ℕ
+object_in (node.Effect c o n) = o
 object_in _ = 0
 
-pub config_there : (r : Reading) → IsReading r → (k : NodeKey) → IsActive r k → (c o n : ℕ) → k ≡ key.Effect c o n → slice_get (settings r) c ≡ None → ⊥
+pub config_there : (r : Reading) → IsReading r → (k : NumberedNode) → IsActive r k → (c o n : ℕ) → k ≡ node.Effect c o n → slice_get (settings r) c ≡ None → ⊥
 config_there r read k active c o n is none =
     let x = effect_named r k in
     let same : config_number r x.config ≡ c = ap config_in (sym active.own ∙ is) in
     let at = sym none ∙ ap (slice_get (settings r)) (sym same) ∙ config_at r x.config (active_kept r read x active.on).0 in
     absurd cc
 
-pub object_there : (r : Reading) → IsReading r → (k : NodeKey) → IsActive r k → (c o n : ℕ) → k ≡ key.Effect c o n → slice_get r.listeners.objects o ≡ None → ⊥
+pub object_there : (r : Reading) → IsReading r → (k : NumberedNode) → IsActive r k → (c o n : ℕ) → k ≡ node.Effect c o n → slice_get r.listeners.objects o ≡ None → ⊥
 object_there r read k active c o n is none =
     let x = effect_named r k in
     let same : object_number r x.object ≡ o = ap object_in (sym active.own ∙ is) in
     let at = sym none ∙ ap (slice_get r.listeners.objects) (sym same) ∙ object_at r read x.config x.object (active_kept r read x active.on).1 in
     absurd cc
 
-pub part_there : (r : Reading) → IsReading r → (k : NodeKey) → IsActive r k → part_at (effect_named r k).object (present r.service (effect_named r k).config) ≡ None → ⊥
+pub part_there : (r : Reading) → IsReading r → (k : NumberedNode) → IsActive r k → part_at (effect_named r k).object (present r.service (effect_named r k).config) ≡ None → ⊥
 part_there r read k active none =
     let x = effect_named r k in
     let at = there_found x.object (present r.service x.config) (active_kept r read x active.on).1 in
@@ -63,13 +63,13 @@ part_there r read k active none =
     absurd cc
 
 -- the object at the number is the effect's
-pub named_object : (r : Reading) (k : NodeKey) (c o n : ℕ) (at : ObjRef) → k ≡ key.Effect c o n → slice_get r.listeners.objects o ≡ Some at → (effect_named r k).object ≡ at
-named_object r k c o n at is there = ap (λ (j : NodeKey). (effect_named r j).object) is ∙ sym (got_there r o at there)
+pub named_object : (r : Reading) (k : NumberedNode) (c o n : ℕ) (at : ObjRef) → k ≡ node.Effect c o n → slice_get r.listeners.objects o ≡ Some at → (effect_named r k).object ≡ at
+named_object r k c o n at is there = ap (λ (j : NumberedNode). (effect_named r j).object) is ∙ sym (got_there r o at there)
 
 -- the effects of a step are active
 
-pub first_active : (r : Reading) (from first to : NodeKey) → IsStep r from first to → IsActive r from
+pub first_active : (r : Reading) (from first to : NumberedNode) → IsStep r from first to → IsActive r from
 first_active r from first to step = record { own = step.from_number; on = step.from_on }
 
-pub last_active : (r : Reading) (from first to : NodeKey) → IsStep r from first to → IsActive r to
+pub last_active : (r : Reading) (from first to : NumberedNode) → IsStep r from first to → IsActive r to
 last_active r from first to step = record { own = step.to_number; on = step.to_on }

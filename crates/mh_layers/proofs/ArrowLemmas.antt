@@ -40,13 +40,13 @@ use Rattle.mh_layers.specs.declared.arrows.arrow.Arrow.{Arrow}
 use Rattle.mh_layers.specs.declared.arrows.arrow.By.TheVariants as by
 use Rattle.mh_layers.specs.declared.arrows.arrow.Held.{Held}
 use Rattle.mh_layers.specs.declared.cause.Cause.{Cause}
-use Rattle.mh_layers.specs.declared.node_key.NodeKey.{NodeKey}
-use Rattle.mh_layers.specs.declared.node_key.NodeKey.TheVariants as key
+use Rattle.mh_layers.specs.declared.numbered_node.NumberedNode.{NumberedNode}
+use Rattle.mh_layers.specs.declared.numbered_node.NumberedNode.TheVariants as node
 use Rattle.mh_layers.specs.Arrows.{IsGrantedBy, IsWhere, comes_to, counts, granted, is_action_in, is_action_of, is_waited_for, number_by}
 use Rattle.mh_layers.specs.Cycle.{cause_of, first_number}
 use Rattle.mh_layers.specs.Applied.{AppliedAction, IsApplied, number_in}
 use Rattle.mh_layers.specs.Granting.{held_for, with_items}
-use Rattle.mh_layers.specs.Keys.{data_of}
+use Rattle.mh_layers.specs.CostNodes.{data_of}
 use Rattle.mh_layers.specs.Listening.{source_of, type_of}
 use Rattle.mh_layers.specs.Reading.{IsReading, Reading, flow_read, heard_read}
 use Rattle.mh_layers.specs.EffectSites.{effect_named}
@@ -57,7 +57,7 @@ use Rattle.mh_layers.proofs.FocusLemmas.{counts_put, focused}
 use Rattle.mh_layers.proofs.FoundLemmas.{present_found}
 use Rattle.mh_layers.proofs.GrantLemmas.{IsAt, IsHeldAt, all_focused, all_granted, comes_there, put_flow, source_named}
 use Rattle.mh_layers.proofs.HeardLemmas.{among_any}
-use Rattle.mh_layers.proofs.KeyAgreeLemmas.{IsActiveEffect, on_is}
+use Rattle.mh_layers.proofs.NodeAgreeLemmas.{IsActiveEffect, on_is}
 use Rattle.mh_layers.proofs.ListeningLemmas.{tells_objects, tells_values}
 use Rattle.mh_layers.proofs.MetLemmas.{same_itself}
 use Rattle.mh_layers.proofs.ServeLemmas.{read_of}
@@ -141,8 +141,8 @@ present_at ps p n j a there active at =
 
 -- An arrow
 
-pub number_named : (r : Reading) (k : NodeKey) → (effect_named r k).number ≡ number_in k
-number_named r (key.Effect c o n) = refl
+pub number_named : (r : Reading) (k : NumberedNode) → (effect_named r k).number ≡ number_in k
+number_named r (node.Effect c o n) = refl
 number_named r _ = refl
 
 -- the first number, and how many stand between
@@ -168,8 +168,8 @@ comes_targets : (v : Service) (c d : Config) (hs : List Held) (a : Act) (x : Tar
 comes_targets v c d hs a (target.Direct r) t there = there
 comes_targets v c d hs a (target.Through x) t there = there
 
--- from one active effect to another, to which the key leads
-is_arrow_for : (r : Reading) → IsReading r → (x y : Effect) → IsOn r.service (flow_read r) x → IsOn r.service (flow_read r) y → (first : NodeKey) → LeadsTo r first y → (part aim : Fixed) → part_at x.object (present r.service x.config) ≡ Some part → part_at y.object (present r.service y.config) ≡ Some aim
+-- from one active effect to another, to which the node leads
+is_arrow_for : (r : Reading) → IsReading r → (x y : Effect) → IsOn r.service (flow_read r) x → IsOn r.service (flow_read r) y → (first : NumberedNode) → LeadsTo r first y → (part aim : Fixed) → part_at x.object (present r.service x.config) ≡ Some part → part_at y.object (present r.service y.config) ≡ Some aim
     → (d : AppliedAction) → IsApplied r x.config (effect_at part x.number) first d → (a : Arrow) → a.cause ≡ cause_of r.service x → a.index ≡ a.cause.index + d.offset → a.action ≡ d.act.name → a.held ≡ held_for r.service (flow_read r) x.config d.act d.at (source_of aim)
     → number_by a.by ≡ y.number → is_waited_for a.by aim ≡ true → IsArrowFor r.service (flow_read r) x y a
 is_arrow_for r read x y on_x on_y first leads part aim at aim_at d doing a cause index action held number waits = record {
@@ -246,7 +246,7 @@ is_arrow_for r read x y on_x on_y first leads part aim at aim_at d doing a cause
         subst (λ (c : Config). counts y (act r.service (put_flow r.service c y.config a.held d.act) x.config d.act) ≡ true) (sym (ap (λ (c : Cause). c.config) cause))
         (subst (λ (h : List Held). counts y (act r.service (put_flow r.service x.config y.config h d.act) x.config d.act) ≡ true) (sym held) by_all)
 
-pub is_arrow : (r : Reading) → IsReading r → (from first to : NodeKey) → IsStep r from first to → (part aim : Fixed) → part_at (effect_named r from).object (present r.service (effect_named r from).config) ≡ Some part
+pub is_arrow : (r : Reading) → IsReading r → (from first to : NumberedNode) → IsStep r from first to → (part aim : Fixed) → part_at (effect_named r from).object (present r.service (effect_named r from).config) ≡ Some part
     → part_at (effect_named r to).object (present r.service (effect_named r to).config) ≡ Some aim → (d : AppliedAction) → IsApplied r (effect_named r from).config (effect_at part (number_in from)) first d → (a : Arrow) → a.cause ≡ cause_of r.service (effect_named r from) → a.index ≡ a.cause.index + d.offset → a.action ≡ d.act.name
     → a.held ≡ held_for r.service (flow_read r) (effect_named r from).config d.act d.at (source_of aim) → number_by a.by ≡ number_in to → is_waited_for a.by aim ≡ true → IsArrowOf r from to a
 is_arrow r read from first to step part aim at aim_at d doing a cause index action held number waits =

@@ -18,12 +18,12 @@ use Rattle.mh_laws.specs.Safe.{IsPartOf, is_scene_if_any}
 use Rattle.mh_laws.proofs.EachLemmas.{among_each, each_contained, from_joined, from_mapped}
 use Rattle.mh_flow.proofs.ListedLemmas.{is_listed}
 use Rattle.mh_layers.specs.declared.bounds.InputKind.{InputKind}
-use Rattle.mh_layers.specs.Key.{Taken}
-use Rattle.mh_layers.specs.Keys.{IsKept, IsMet, has_groups, takes}
+use Rattle.mh_layers.specs.CostNode.{Taken}
+use Rattle.mh_layers.specs.CostNodes.{IsKept, IsMet, has_groups, takes}
 use Rattle.mh_layers.specs.Known.{top}
 use Rattle.mh_layers.specs.Layering.{AreLayers, Places, cost_in, is_laid}
 use Rattle.mh_layers.specs.Reading.{IsReading, Reading, flow_read, heard_read, kept, number, price, setting}
-use Rattle.mh_layers.proofs.KeyAgreeLemmas.{from_filtered}
+use Rattle.mh_layers.proofs.NodeAgreeLemmas.{from_filtered}
 use Rattle.mh_layers.proofs.MetLemmas.{part_of}
 use Rattle.mh_layers.proofs.ReadingLemmas.{numbers_are_names}
 use Rattle.mh_layers.proofs.ServeLemmas.{serves}

@@ -18,12 +18,12 @@ use Rattle.mh_laws.specs.Flow.{reached}
 use Rattle.mh_laws.specs.Safe.{exchanged}
 use Rattle.mh_laws.specs.Ways.{Sure}
 use Rattle.mh_model.specs.Variables.{same_value}
-use Rattle.mh_layers.specs.Key.{Plain, With}
+use Rattle.mh_layers.specs.CostNode.{Plain, With}
 use Rattle.mh_laws.proofs.NodeLemmas.{config_among}
 use Rattle.mh_flow.specs.Solved.{held_by, held_in}
 use Rattle.mh_flow.proofs.HeldLemmas.{get_mapped, held_is_set}
-use Rattle.mh_layers.specs.declared.node_key.Hears.TheVariants as hears
-use Rattle.mh_layers.specs.Keys.{hearing}
+use Rattle.mh_layers.specs.declared.numbered_node.Hears.TheVariants as hears
+use Rattle.mh_layers.specs.CostNodes.{hearing}
 use Rattle.mh_layers.specs.Reading.{IsReading, IsContext, Reading, config_named, flow_read, hears_among, no_config, no_object, object_named, same_setting, setting, settings, context_at, context_in}
 use Rattle.mh_layers.proofs.PositionLemmas.{any_position, no_left, no_right, once_all, once_at, position_is, put_all}
 use Rattle.mh_layers.proofs.ReadingLemmas.{setting_itself, tells_settings}

@@ -1,4 +1,4 @@
--- The dearest effect of keys, one more key at a time; and the first of numbers that is largest.
+-- The dearest effect of nodes, one more node at a time; and the first of numbers that is largest.
 use Rattle.std.specs.Prelude.{◌≡◌, ◌⊎◌, ◌<◌, ◌≤◌, ◌+◌, ◌==◌, ◌&&◌, ◌||◌, nat_lt, ℕ, zero, suc, Bool, true, false, List, [], ◌∷◌, ◌++◌, get_or, length, take, slice_get, unwrap_or, Option, Some, None, refl}
 use Rattle.std.specs.Option.{option_map_or}
 use Rattle.std.specs.Ordering.{is_lt}
@@ -11,7 +11,7 @@ use Rattle.mh_laws.specs.Each.{Among}
 use Rattle.mh_laws.proofs.EachLemmas.{among_left, among_right}
 use Rattle.mh_layers.specs.declared.cause.Cause.{Cause}
 use Rattle.mh_layers.specs.declared.ways.dearest.Dearest.{Dearest}
-use Rattle.mh_layers.specs.declared.node_key.NodeKey.{NodeKey}
+use Rattle.mh_layers.specs.declared.numbered_node.NumberedNode.{NumberedNode}
 use Rattle.mh_layers.specs.Choosing.{AreChosen, IsChosen, IsLargest, IsLargestTo, IsSeen, effect_cost, is_dearer, number_at}
 use Rattle.mh_layers.specs.Cycle.{by_effect_site}
 use Rattle.mh_layers.specs.Layering.{Places}
@@ -20,7 +20,7 @@ use Rattle.mh_layers.specs.EffectSites.{cause_named}
 use Rattle.mh_layers.proofs.CausedLemmas.{before_or_at}
 use Rattle.mh_layers.proofs.WalkLemmas.{before_none, before_on, behind_one}
 
--- ONE MORE KEY
+-- ONE MORE NODE
 
 not_true : (b : Bool) → (b ≡ true → ⊥) → b ≡ false
 not_true true never = absurd (never refl)
@@ -42,10 +42,10 @@ not_both : (a b : Bool) → (a && b) ≡ false → a ≡ true → b ≡ false
 not_both true b e h = e
 not_both false b e h = absurd cc
 
--- the best stays, where the key costs no more, and does not come before it if it costs as much
-still : (r : Reading) (ts : Places) (seen : List NodeKey) (k : NodeKey) (b : Dearest) → IsChosen r ts seen b → effect_cost ts k ≤ b.cost → (effect_cost ts k ≡ b.cost → is_lt (by_effect_site (cause_named r k) b.cause) ≡ false) → IsChosen r ts (seen ++ k ∷ []) b
+-- the best stays, where the node costs no more, and does not come before it if it costs as much
+still : (r : Reading) (ts : Places) (seen : List NumberedNode) (k : NumberedNode) (b : Dearest) → IsChosen r ts seen b → effect_cost ts k ≤ b.cost → (effect_cost ts k ≡ b.cost → is_lt (by_effect_site (cause_named r k) b.cause) ≡ false) → IsChosen r ts (seen ++ k ∷ []) b
 still r ts seen k b best less later = record {
-  there = among_left seen (k ∷ []) b.key best.there;
+  there = among_left seen (k ∷ []) b.node best.there;
   cause = best.cause;
   cost = best.cost;
   costs = best.costs;
@@ -53,13 +53,13 @@ still r ts seen k b best less later = record {
   first = behind_one seen k best.first later;
 }
 
-pub seen_nothing : (r : Reading) (ts : Places) (k : NodeKey) (old : Option Dearest) → effect_cost ts k ≡ 0 → IsSeen r ts k old old
+pub seen_nothing : (r : Reading) (ts : Places) (k : NumberedNode) (old : Option Dearest) → effect_cost ts k ≡ 0 → IsSeen r ts k old old
 seen_nothing r ts k None none = record { best = λ seen all. behind_one seen k all none }
 seen_nothing r ts k (Some b) none = record {
   best = λ seen best. let some = best.costs in still r ts seen k b best (omega (arith, none)) (λ e. absurd (omega (arith, none, e, some)));
 }
 
-pub seen_later : (r : Reading) (ts : Places) (k : NodeKey) (x : Cause) (cost : ℕ) (old : Option Dearest) → cost ≡ effect_cost ts k → x ≡ cause_named r k → option_map_or (is_dearer cost x) old true ≡ false → IsSeen r ts k old old
+pub seen_later : (r : Reading) (ts : Places) (k : NumberedNode) (x : Cause) (cost : ℕ) (old : Option Dearest) → cost ≡ effect_cost ts k → x ≡ cause_named r k → option_map_or (is_dearer cost x) old true ≡ false → IsSeen r ts k old old
 seen_later r ts k x cost None at is later = absurd cc
 seen_later r ts k x cost (Some b) at is later = record {
   best = λ seen best. still r ts seen k b best (subst (λ (n : ℕ). n ≤ b.cost) at most) (λ e. subst (λ (y : Cause). is_lt (by_effect_site y b.cause) ≡ false) is (behind (at ∙ e)));
@@ -74,11 +74,11 @@ seen_later r ts k x cost (Some b) at is later = record {
     behind : cost ≡ b.cost → is_lt (by_effect_site x b.cause) ≡ false
     behind e = not_both (cost == b.cost) (is_lt (by_effect_site x b.cause)) two.1 ((Decides-eqb cost b.cost).1 e)
 
--- the key is the best now
-now_best : (r : Reading) (ts : Places) (seen : List NodeKey) (k : NodeKey) (b : Dearest) → b.key ≡ k → b.cause ≡ cause_named r k → b.cost ≡ effect_cost ts k → 0 < b.cost → ((j : NodeKey) → Among seen j → effect_cost ts j ≤ b.cost)
-    → ((j : NodeKey) → Among seen j → effect_cost ts j ≡ b.cost → is_lt (by_effect_site (cause_named r j) b.cause) ≡ false) → IsChosen r ts (seen ++ k ∷ []) b
+-- the node is the best now
+now_best : (r : Reading) (ts : Places) (seen : List NumberedNode) (k : NumberedNode) (b : Dearest) → b.node ≡ k → b.cause ≡ cause_named r k → b.cost ≡ effect_cost ts k → 0 < b.cost → ((j : NumberedNode) → Among seen j → effect_cost ts j ≤ b.cost)
+    → ((j : NumberedNode) → Among seen j → effect_cost ts j ≡ b.cost → is_lt (by_effect_site (cause_named r j) b.cause) ≡ false) → IsChosen r ts (seen ++ k ∷ []) b
 now_best r ts seen k b own is at some most first = record {
-  there = among_right seen (k ∷ []) b.key (inl (sym own));
+  there = among_right seen (k ∷ []) b.node (inl (sym own));
   cause = is ∙ ap (cause_named r) (sym own);
   cost = at ∙ ap (effect_cost ts) (sym own);
   costs = some;
@@ -86,7 +86,7 @@ now_best r ts seen k b own is at some most first = record {
   first = behind_one seen k first (λ e. not_true (is_lt (by_effect_site (cause_named r k) b.cause)) (λ h. before_none b.cause (subst (λ (y : Cause). is_lt (by_effect_site y b.cause) ≡ true) (sym is) h)));
 }
 
-pub seen_best : (r : Reading) (ts : Places) (k : NodeKey) (b : Dearest) (old new : Option Dearest) → b.key ≡ k → b.cause ≡ cause_named r k → b.cost ≡ effect_cost ts k → (b.cost == 0) ≡ false → option_map_or (is_dearer b.cost b.cause) old true ≡ true → new ≡ Some b → IsSeen r ts k old new
+pub seen_best : (r : Reading) (ts : Places) (k : NumberedNode) (b : Dearest) (old new : Option Dearest) → b.node ≡ k → b.cause ≡ cause_named r k → b.cost ≡ effect_cost ts k → (b.cost == 0) ≡ false → option_map_or (is_dearer b.cost b.cause) old true ≡ true → new ≡ Some b → IsSeen r ts k old new
 seen_best r ts k b None new own is at some first now = record {
   best = λ seen all.
       subst (AreChosen r ts (seen ++ k ∷ [])) (sym now)
@@ -118,7 +118,7 @@ seen_best r ts k b (Some a) new own is at some first now = record {
     positive : (m n : ℕ) → 0 < m → m < n → 0 < n
     positive m n h i = omega (arith, h, i)
 
-    by : (seen : List NodeKey) → IsChosen r ts seen a → (nat_lt a.cost b.cost ≡ true) ⊎ ((b.cost == a.cost && is_lt (by_effect_site b.cause a.cause)) ≡ true) → IsChosen r ts (seen ++ k ∷ []) b
+    by : (seen : List NumberedNode) → IsChosen r ts seen a → (nat_lt a.cost b.cost ≡ true) ⊎ ((b.cost == a.cost && is_lt (by_effect_site b.cause a.cause)) ≡ true) → IsChosen r ts (seen ++ k ∷ []) b
     by seen best (inl h) =
         let less : a.cost < b.cost = ltb-true a.cost b.cost h in
         now_best r ts seen k b own is at (positive a.cost b.cost best.costs less) (λ j there. less_than (effect_cost ts j) a.cost b.cost (best.most j there) less)
@@ -129,12 +129,12 @@ seen_best r ts k b (Some a) new own is at some first now = record {
         now_best r ts seen k b own is at (subst (λ (n : ℕ). 0 < n) (sym same) best.costs) (λ j there. subst (λ (n : ℕ). effect_cost ts j ≤ n) (sym same) (best.most j there))
         (λ j there e. not_true (is_lt (by_effect_site (cause_named r j) b.cause)) (λ lt. true≢false (sym (before_on (cause_named r j) b.cause a.cause lt two.1) ∙ best.first j there (e ∙ same))))
 
-pub chosen_more : (r : Reading) (ts : Places) (ks : List NodeKey) (i : ℕ) (d : NodeKey) (old new : Option Dearest) → i < length ks → AreChosen r ts (take i ks) old → IsSeen r ts (get_or ks i d) old new → AreChosen r ts (take (i + 1) ks) new
+pub chosen_more : (r : Reading) (ts : Places) (ks : List NumberedNode) (i : ℕ) (d : NumberedNode) (old new : Option Dearest) → i < length ks → AreChosen r ts (take i ks) old → IsSeen r ts (get_or ks i d) old new → AreChosen r ts (take (i + 1) ks) new
 chosen_more r ts ks i d old new less so_far seen =
-    subst (λ (js : List NodeKey). AreChosen r ts js new) (sym (take_more ks i d less)) (seen.best (take i ks) so_far)
+    subst (λ (js : List NumberedNode). AreChosen r ts js new) (sym (take_more ks i d less)) (seen.best (take i ks) so_far)
 
-pub chosen_all : (r : Reading) (ts : Places) (ks : List NodeKey) (i : ℕ) (best : Option Dearest) → length ks ≤ i → AreChosen r ts (take i ks) best → AreChosen r ts ks best
-chosen_all r ts ks i best far so_far = subst (λ (js : List NodeKey). AreChosen r ts js best) (take_all i ks far) so_far
+pub chosen_all : (r : Reading) (ts : Places) (ks : List NumberedNode) (i : ℕ) (best : Option Dearest) → length ks ≤ i → AreChosen r ts (take i ks) best → AreChosen r ts ks best
+chosen_all r ts ks i best far so_far = subst (λ (js : List NumberedNode). AreChosen r ts js best) (take_all i ks far) so_far
 
 -- NUMBERS
 

@@ -23,10 +23,10 @@ use Rattle.mh_laws.specs.Least.{by_reference}
 use Rattle.mh_laws.proofs.EachLemmas.{among_mapped}
 use Rattle.mh_flow.proofs.OrderLemmas.{reference_total}
 use Rattle.mh_layers.specs.declared.cause.Cause.{Cause}
-use Rattle.mh_layers.specs.declared.node_key.NodeKey.{NodeKey}
-use Rattle.mh_layers.specs.declared.node_key.NodeKey.TheVariants as key
+use Rattle.mh_layers.specs.declared.numbered_node.NumberedNode.{NumberedNode}
+use Rattle.mh_layers.specs.declared.numbered_node.NumberedNode.TheVariants as node
 use Rattle.mh_layers.specs.declared.cycle.effect_site.EffectSite.{EffectSite}
-use Rattle.mh_layers.specs.KeyGraph.{label_to}
+use Rattle.mh_layers.specs.NodeGraph.{label_to}
 use Rattle.mh_layers.specs.Cycle.{by_place, cause_of}
 use Rattle.mh_layers.specs.Reading.{Reading, config_named, no_config, no_object, object_named, settings}
 use Rattle.mh_layers.specs.EffectSites.{AreEffectSites, cause_by, cause_named, label_in, same_effect_site, effect_site_cmp, effect_site_named, effect_site_number}
@@ -95,7 +95,7 @@ tied_is a b e =
     λ j. record { at = record { number = n j; group = g j }; index = i j }
 
 -- the places in order, and all of those of these effects
-pub are_effect_sites : (r : Reading) (ks : List NodeKey) (ss : List EffectSite) → IsSorted effect_site_cmp ss → ((s : EffectSite) → list_any (same_effect_site s) ss ≡ list_any (same_effect_site s) (insert_all same_effect_site [] (map (effect_site_named r) ks))) → AreEffectSites r ks ss
+pub are_effect_sites : (r : Reading) (ks : List NumberedNode) (ss : List EffectSite) → IsSorted effect_site_cmp ss → ((s : EffectSite) → list_any (same_effect_site s) ss ≡ list_any (same_effect_site s) (insert_all same_effect_site [] (map (effect_site_named r) ks))) → AreEffectSites r ks ss
 are_effect_sites r ks ss sorted same = record {
   sorted = sorted;
   each = λ k there. same (effect_site_named r k) ∙ put_all same_effect_site context_itself [] (map (effect_site_named r) ks) (effect_site_named r k) (among_mapped (effect_site_named r) ks k there);
@@ -144,9 +144,9 @@ sorted_numbers ss sorted a b ha hb = by (nat_cmp i j) refl (ranked i j (nat_cmp 
 
 -- LABELS
 
-pub labels_order : (r : Reading) (ks : List NodeKey) (ss : List EffectSite) → AreEffectSites r ks ss → (j k : NodeKey) → Among ks j → Among ks k → nat_cmp (label_in r ss j) (label_in r ss k) ≡ by_place (cause_named r j) (cause_named r k)
+pub labels_order : (r : Reading) (ks : List NumberedNode) (ss : List EffectSite) → AreEffectSites r ks ss → (j k : NumberedNode) → Among ks j → Among ks k → nat_cmp (label_in r ss j) (label_in r ss k) ≡ by_place (cause_named r j) (cause_named r k)
 labels_order r ks ss are j k there here =
     sorted_numbers ss are.sorted (effect_site_named r j) (effect_site_named r k) (are.each j there) (are.each k here)
 
-pub label_tells : (label : NodeKey → ℕ) (k : NodeKey) (c o n l : ℕ) → k ≡ key.Effect c o n → l ≡ label k → Some l ≡ label_to label k
-label_tells label k c o n l is e = ap (λ (m : ℕ). Some m) e ∙ subst (λ (j : NodeKey). Some (label j) ≡ label_to label j) (sym is) refl
+pub label_tells : (label : NumberedNode → ℕ) (k : NumberedNode) (c o n l : ℕ) → k ≡ node.Effect c o n → l ≡ label k → Some l ≡ label_to label k
+label_tells label k c o n l is e = ap (λ (m : ℕ). Some m) e ∙ subst (λ (j : NumberedNode). Some (label j) ≡ label_to label j) (sym is) refl

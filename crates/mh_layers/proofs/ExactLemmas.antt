@@ -4,7 +4,7 @@ use Rattle.std.proofs.Common.{arith, ap, ◌∙◌, sym}
 use Rattle.mh_laws.specs.Price.{Price, Nothing, One, Node, Plus, Most, worth}
 use Rattle.mh_laws.proofs.PriceLemmas.{nodes_map, nodes_both, worth_same}
 use Rattle.mh_layers.specs.declared.laying.costs.Laid.{Laid}
-use Rattle.mh_layers.specs.declared.node_key.NodeKey.{NodeKey}
+use Rattle.mh_layers.specs.declared.numbered_node.NumberedNode.{NumberedNode}
 use Rattle.mh_layers.specs.Known.{top, added, larger, known_worth, told, told_of}
 use Rattle.mh_layers.specs.Layering.{AreRanks, CountsKept, CostsExist, IsLower, LayersAreExact, cost_in, cost_of, counted_to, laid_in}
 use Rattle.mh_layers.proofs.KnownLemmas.{known_same}
@@ -35,13 +35,13 @@ comes_cost o x known n e comes is =
     let same : x.cost ≡ n = cc in
     ap cost_of e ∙ ap Some same
 
-pub exact : (price : NodeKey → Price NodeKey) (kept : NodeKey → Type 0) → LayersAreExact price kept
+pub exact : (price : NumberedNode → Price NumberedNode) (kept : NumberedNode → Type 0) → LayersAreExact price kept
 exact price kept ts f counted layers cost k has laid = start (laid_in ts k) refl laid
   where
     Down : ℕ → Type 0
-    Down b = (m : NodeKey) (x : Laid) → kept m → laid_in ts m ≡ Some x → x.rank < b → cost_in ts m ≡ Some (min (f m) top)
+    Down b = (m : NumberedNode) (x : Laid) → kept m → laid_in ts m ≡ Some x → x.rank < b → cost_in ts m ≡ Some (min (f m) top)
 
-    counted_cost : (b : ℕ) (x : Laid) → x.rank < suc b → Down b → (j : NodeKey) (o : Option Laid) → laid_in ts j ≡ o → kept j → IsLower o x.rank → told (cost_in ts) j ≡ Ok (min (f j) top)
+    counted_cost : (b : ℕ) (x : Laid) → x.rank < suc b → Down b → (j : NumberedNode) (o : Option Laid) → laid_in ts j ≡ o → kept j → IsLower o x.rank → told (cost_in ts) j ≡ Ok (min (f j) top)
     counted_cost b x below behind j None e has low = absurd cc
     counted_cost b x below behind j (Some y) e has low = ap (told_of j) (behind j y has e (lower y.rank x.rank b low below))
 
@@ -50,9 +50,9 @@ exact price kept ts f counted layers cost k has laid = start (laid_in ts k) refl
     down (suc b) m x has e below =
         comes_cost (laid_in ts m) x (known_worth (told (cost_in ts)) (price m)) (min (f m) top) e (layers.comes m x has e)
         (known_same (told (cost_in ts)) (λ j. Ok (min (f j) top)) (price m)
-        (nodes_map (λ (j : NodeKey). kept j × IsLower (laid_in ts j) x.rank) (λ (j : NodeKey). told (cost_in ts) j ≡ Ok (min (f j) top))
+        (nodes_map (λ (j : NumberedNode). kept j × IsLower (laid_in ts j) x.rank) (λ (j : NumberedNode). told (cost_in ts) j ≡ Ok (min (f j) top))
         (λ j h. counted_cost b x below (down b) j (laid_in ts j) refl h.0 h.1) (price m)
-        (nodes_both kept (λ (j : NodeKey). IsLower (laid_in ts j) x.rank) (price m) (counted.each m has) (layers.falls m x has e)))
+        (nodes_both kept (λ (j : NumberedNode). IsLower (laid_in ts j) x.rank) (price m) (counted.each m has) (layers.falls m x has e)))
         ∙ known_cut f (price m) ∙ ap (λ (n : ℕ). Ok (min n top)) (sym (cost m has)))
 
     start : (o : Option Laid) → laid_in ts k ≡ o → is_some o ≡ true → cost_in ts k ≡ Some (min (f k) top)
@@ -62,18 +62,18 @@ exact price kept ts f counted layers cost k has laid = start (laid_in ts k) refl
 less_one : (k n : ℕ) → suc k ≤ suc n → k ≤ n
 less_one k n h = omega (arith, h)
 
-deep_enough : (price : NodeKey → Price NodeKey) (kept : NodeKey → Type 0) (rank : NodeKey → ℕ) → CountsKept price kept → AreRanks price kept rank → (d : ℕ) (k : NodeKey) → kept k → rank k < d → (a b : ℕ) → d ≤ a → d ≤ b → counted_to price a k ≡ counted_to price b k
+deep_enough : (price : NumberedNode → Price NumberedNode) (kept : NumberedNode → Type 0) (rank : NumberedNode → ℕ) → CountsKept price kept → AreRanks price kept rank → (d : ℕ) (k : NumberedNode) → kept k → rank k < d → (a b : ℕ) → d ≤ a → d ≤ b → counted_to price a k ≡ counted_to price b k
 deep_enough price kept rank counted l zero k has below a b x y = absurd (omega (arith, below))
 deep_enough price kept rank counted l (suc d) k has below zero b x y = absurd (omega (arith, x))
 deep_enough price kept rank counted l (suc d) k has below (suc a) zero x y = absurd (omega (arith, y))
 deep_enough price kept rank counted l (suc d) k has below (suc a) (suc b) x y =
     worth_same (counted_to price a) (counted_to price b) (price k)
-    (nodes_map (λ (j : NodeKey). kept j × (rank j < rank k)) (λ (j : NodeKey). counted_to price a j ≡ counted_to price b j)
+    (nodes_map (λ (j : NumberedNode). kept j × (rank j < rank k)) (λ (j : NumberedNode). counted_to price a j ≡ counted_to price b j)
     (λ j h. deep_enough price kept rank counted l d j h.0 (lower _ _ _ h.1 below) a b (less_one _ _ x) (less_one _ _ y)) (price k)
-    (nodes_both kept (λ (j : NodeKey). rank j < rank k) (price k) (counted.each k has) (l k has)))
+    (nodes_both kept (λ (j : NumberedNode). rank j < rank k) (price k) (counted.each k has) (l k has)))
 
-pub exist : (price : NodeKey → Price NodeKey) (kept : NodeKey → Type 0) → CostsExist price kept
+pub exist : (price : NumberedNode → Price NumberedNode) (kept : NumberedNode → Type 0) → CostsExist price kept
 exist price kept rank counted l most below k has =
     worth_same (counted_to price most) (counted_to price (suc most)) (price k)
-    (nodes_map kept (λ (j : NodeKey). counted_to price most j ≡ counted_to price (suc most) j)
+    (nodes_map kept (λ (j : NumberedNode). counted_to price most j ≡ counted_to price (suc most) j)
     (λ j h. deep_enough price kept rank counted l most j h (below j h) most (suc most) (omega arith) (omega arith)) (price k) (counted.each k has))

@@ -1,4 +1,4 @@
--- Events by keys agree with events by effects.
+-- Events by nodes agree with events by effects.
 use Rattle.std.specs.Prelude.{◌≡◌, ◌<◌, ℕ, Bool, true, false, ◌&&◌, if◌then◌else◌, List, [], ◌∷◌, Option, Some, None, refl}
 use Rattle.std.specs.List.{list_any}
 use Rattle.std.specs.Option.{option_map_or}
@@ -23,9 +23,9 @@ use Rattle.mh_laws.specs.Flow.{reached}
 use Rattle.mh_laws.specs.Price.{Price, Nothing, One, Node, Plus, most_price, if_price}
 use Rattle.mh_laws.specs.View as view
 use Rattle.mh_laws.specs.Ways.{Told, Sure, Unsure}
-use Rattle.mh_layers.specs.Key.{Effect, Fired, Entry, Hearing, Plain, With, Any}
+use Rattle.mh_layers.specs.CostNode.{Effect, Fired, Entry, Hearing, Plain, With, Any}
 use Rattle.mh_layers.specs.Grouped.{has, is_plain}
-use Rattle.mh_layers.specs.Keys.{bucket, data_of, fired_at, fired_if_there, fired_price, fires, heard_with, hearing, hearing_level, is_caused, is_named, IsMet, knows, links_with, objects, told_by, values, waits_for}
+use Rattle.mh_layers.specs.CostNodes.{bucket, data_of, fired_at, fired_if_there, fired_price, fires, heard_with, hearing, hearing_level, is_caused, is_named, IsMet, knows, links_with, objects, told_by, values, waits_for}
 use Rattle.mh_layers.proofs.AgreeLemmas.{Agrees, Setting, agrees_if, agrees_largest, agrees_node, agrees_nothing, agrees_one, agrees_plus, agrees_sum, agrees_then, agrees_wider, effects_come}
 use Rattle.mh_layers.proofs.HeardLemmas.{AreKnown, any_heard, links, plain_heard, unheard, unnamed, value_heard, value_there}
 use Rattle.mh_layers.proofs.MetLemmas.{link_active, on_of, reached_among}

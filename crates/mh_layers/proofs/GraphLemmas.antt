@@ -1,4 +1,4 @@
--- The graph of the rows is the key graph of their keys.
+-- The graph of the rows is the node graph of their nodes.
 use Rattle.std.specs.Prelude.{◌≡◌, ◌<◌, ◌≤◌, ◌+◌, ℕ, zero, suc, Bool, true, false, ◌||◌, List, [], ◌∷◌, ◌++◌, drop, get_or, length, map, slice_get, unwrap_or, Option, Some, None, Vec, refl}
 use Rattle.std.specs.List.{AllByRecursion, Contains, IsDistinct, list_any}
 use Rattle.std.specs.Option.{option_map, option_map_or}
@@ -15,40 +15,40 @@ use Rattle.mh_paths.specs.Chains.{arrows_of}
 use Rattle.mh_model.proofs.ListLemmas.{some_same}
 use Rattle.mh_laws.specs.Each.{Among, Each}
 use Rattle.mh_laws.proofs.EachLemmas.{among_each, among_mapped, contains_of, each_among, each_contained, from_mapped, got_among}
-use Rattle.mh_layers.specs.declared.node_key.NodeKey.{NodeKey}
+use Rattle.mh_layers.specs.declared.numbered_node.NumberedNode.{NumberedNode}
 use Rattle.mh_layers.specs.declared.cycle.effect_site.EffectSite.{EffectSite}
 use Rattle.mh_layers.specs.Successors.{AreCounted, AreRows, Stays}
-use Rattle.mh_layers.specs.Layered.{active_keys}
-use Rattle.mh_layers.specs.NodeKeys.{same_key}
-use Rattle.mh_layers.specs.NodeKeyLaws.{key_itself}
+use Rattle.mh_layers.specs.Layered.{active_nodes}
+use Rattle.mh_layers.specs.NumberedNodes.{same_node}
+use Rattle.mh_layers.specs.NumberedNodeLaws.{node_itself}
 use Rattle.mh_layers.specs.Reading.{Reading, kept, price}
-use Rattle.mh_layers.specs.EffectSites.{AreEffectSites, arrow_by, label_at, label_in, node_in}
-use Rattle.mh_layers.specs.Walk.{IsKeyGraphOf}
-use Rattle.mh_layers.specs.KeyGraph.{IsArrow, IsKeyGraph, counted, label_to}
-use Rattle.mh_layers.proofs.SuccessorLemmas.{any_among, each_put, stays_among, tells_keys}
+use Rattle.mh_layers.specs.EffectSites.{AreEffectSites, arrow_by, label_at, label_in, node_index}
+use Rattle.mh_layers.specs.Walk.{IsNodeGraphOf}
+use Rattle.mh_layers.specs.NodeGraph.{IsArrow, IsNodeGraph, counted, label_to}
+use Rattle.mh_layers.proofs.SuccessorLemmas.{any_among, each_put, stays_among, tells_nodes}
 use Rattle.mh_layers.proofs.PositionLemmas.{position_is, position_there, put_all}
 
--- KEYS AND THEIR NODES
+-- NODES AND THEIR NUMBERS
 
-among_any : (ks : List NodeKey) (k : NodeKey) → Among ks k → list_any (same_key k) ks ≡ true
+among_any : (ks : List NumberedNode) (k : NumberedNode) → Among ks k → list_any (same_node k) ks ≡ true
 among_any [] k there = absurd cc
-among_any (j ∷ ks) k (inl same) = ap (λ (b : Bool). b || list_any (same_key k) ks) (subst (λ (i : NodeKey). same_key k i ≡ true) (sym same) (key_itself k))
-among_any (j ∷ ks) k (inr more) = ap (λ (b : Bool). same_key k j || b) (among_any ks k more) ∙ or-true (same_key k j)
+among_any (j ∷ ks) k (inl same) = ap (λ (b : Bool). b || list_any (same_node k) ks) (subst (λ (i : NumberedNode). same_node k i ≡ true) (sym same) (node_itself k))
+among_any (j ∷ ks) k (inr more) = ap (λ (b : Bool). same_node k j || b) (among_any ks k more) ∙ or-true (same_node k j)
 
-pub node_found : (ks : List NodeKey) (k : NodeKey) → Among ks k → slice_get ks (node_in ks k) ≡ Some k
+pub node_found : (ks : List NumberedNode) (k : NumberedNode) → Among ks k → slice_get ks (node_index ks k) ≡ Some k
 node_found ks k there =
-    let at = position_there (same_key k) ks (among_any ks k there) in
-    ap (λ (o : Option ℕ). slice_get ks (unwrap_or o 0)) at.1 ∙ position_is same_key tells_keys ks k at.0 at.1
+    let at = position_there (same_node k) ks (among_any ks k there) in
+    ap (λ (o : Option ℕ). slice_get ks (unwrap_or o 0)) at.1 ∙ position_is same_node tells_nodes ks k at.0 at.1
 
-not_behind : (j : NodeKey) (ks : List NodeKey) (n : ℕ) (k : NodeKey) → AllByRecursion (λ i. same_key j i ≡ false) ks → slice_get ks n ≡ Some k → same_key j k ≡ false
+not_behind : (j : NumberedNode) (ks : List NumberedNode) (n : ℕ) (k : NumberedNode) → AllByRecursion (λ i. same_node j i ≡ false) ks → slice_get ks n ≡ Some k → same_node j k ≡ false
 not_behind j [] n k all e = absurd cc
-not_behind j (i ∷ ks) zero k all e = subst (λ (x : NodeKey). same_key j x ≡ false) (some_same e) all.0
+not_behind j (i ∷ ks) zero k all e = subst (λ (x : NumberedNode). same_node j x ≡ false) (some_same e) all.0
 not_behind j (i ∷ ks) (suc n) k all e = not_behind j ks n k all.1 e
 
-twice : (j k : NodeKey) → Some j ≡ Some k → same_key j k ≡ false → ⊥
-twice j k same none = true≢false (sym (key_itself j) ∙ ap (same_key j) (some_same same) ∙ none)
+twice : (j k : NumberedNode) → Some j ≡ Some k → same_node j k ≡ false → ⊥
+twice j k same none = true≢false (sym (node_itself j) ∙ ap (same_node j) (some_same same) ∙ none)
 
-distinct_once : (ks : List NodeKey) → IsDistinct same_key ks → (m n : ℕ) (k : NodeKey) → slice_get ks m ≡ Some k → slice_get ks n ≡ Some k → m ≡ n
+distinct_once : (ks : List NumberedNode) → IsDistinct same_node ks → (m n : ℕ) (k : NumberedNode) → slice_get ks m ≡ Some k → slice_get ks n ≡ Some k → m ≡ n
 unfolding IsDistinct
 distinct_once [] once m n k a b = absurd cc
 distinct_once (j ∷ ks) once zero zero k a b = refl
@@ -93,59 +93,59 @@ row_at {X} {Y} {Z} f g xs ys n same =
     mapped h None = refl
     mapped h (Some w) = refl
 
-label_found : (label : NodeKey → ℕ) (ks : List NodeKey) (k : NodeKey) → Among ks k → label_at (map (label_to label) ks) (node_in ks k) ≡ label_to label k
+label_found : (label : NumberedNode → ℕ) (ks : List NumberedNode) (k : NumberedNode) → Among ks k → label_at (map (label_to label) ks) (node_index ks k) ≡ label_to label k
 label_found label ks k there =
-    ap (λ (o : Option (Option ℕ)). unwrap_or o None) (slice_get-map (label_to label) ks (node_in ks k) ∙ ap (option_map (label_to label)) (node_found ks k there))
+    ap (λ (o : Option (Option ℕ)). unwrap_or o None) (slice_get-map (label_to label) ks (node_index ks k) ∙ ap (option_map (label_to label)) (node_found ks k there))
 
 contained : {X : Type 0} (xs : List X) (x : X) → Contains xs x → Among xs x
 contained xs x there = each_contained (Among xs) xs x (among_each (Among xs) xs (λ y h. h)) there
 
--- what is known of a key graph's parts
-record Parts (r : Reading) (ks : List NodeKey) (rs : List (Vec NodeKey Global)) (mark : NodeKey → ℕ) (g : Graph) : Type 0 where
+-- what is known of a node graph's parts
+record Parts (r : Reading) (ks : List NumberedNode) (rs : List (Vec NumberedNode Global)) (mark : NumberedNode → ℕ) (g : Graph) : Type 0 where
   pub rows : AreRows (price r) (kept r) ks rs
   pub all : slice_get ks (length rs) ≡ None
-  pub once : IsDistinct same_key ks
-  pub nodes : map (λ (row : Vec Arrow Global). row.items) g.nodes.items ≡ map (λ (row : Vec NodeKey Global). map (arrow_by ks (map (label_to mark) ks)) row.items) rs
+  pub once : IsDistinct same_node ks
+  pub nodes : map (λ (row : Vec Arrow Global). row.items) g.nodes.items ≡ map (λ (row : Vec NumberedNode Global). map (arrow_by ks (map (label_to mark) ks)) row.items) rs
 
-module _ (r : Reading) (ks : List NodeKey) (rows : List (Vec NodeKey Global)) (mark : NodeKey → ℕ) (g : Graph) (are : Parts r ks rows mark g) where
-  arrows_at : (n : ℕ) → arrows_of g n ≡ option_map_or (λ (row : Vec NodeKey Global). map (arrow_by ks (map (label_to mark) ks)) row.items) (slice_get rows n) []
-  arrows_at n = row_at (λ (row : Vec Arrow Global). row.items) (λ (row : Vec NodeKey Global). map (arrow_by ks (map (label_to mark) ks)) row.items) g.nodes.items rows n are.nodes
+module _ (r : Reading) (ks : List NumberedNode) (rows : List (Vec NumberedNode Global)) (mark : NumberedNode → ℕ) (g : Graph) (are : Parts r ks rows mark g) where
+  arrows_at : (n : ℕ) → arrows_of g n ≡ option_map_or (λ (row : Vec NumberedNode Global). map (arrow_by ks (map (label_to mark) ks)) row.items) (slice_get rows n) []
+  arrows_at n = row_at (λ (row : Vec Arrow Global). row.items) (λ (row : Vec NumberedNode Global). map (arrow_by ks (map (label_to mark) ks)) row.items) g.nodes.items rows n are.nodes
 
   long : length rows ≡ length ks
   long =
       same_length (length rows) (length ks)
-      (at_most (length rows) (length ks) (λ n less. let row = some_within rows n less in let key = are.rows.each n row.0 row.1 in slice_get_within ks n key.0 key.1))
+      (at_most (length rows) (length ks) (λ n less. let row = some_within rows n less in let node = are.rows.each n row.0 row.1 in slice_get_within ks n node.0 node.1))
       (none_far ks (length rows) are.all)
 
-  key_kept : (n : ℕ) (k : NodeKey) → slice_get ks n ≡ Some k → kept r k
-  key_kept n k at = each_among (kept r) ks k are.rows.holds (got_among ks n k at)
+  node_kept : (n : ℕ) (k : NumberedNode) → slice_get ks n ≡ Some k → kept r k
+  node_kept n k at = each_among (kept r) ks k are.rows.holds (got_among ks n k at)
 
-  is_arrow : (k j : NodeKey) → Among (counted r k) j → Among ks j → IsArrow r ks mark k (arrow_by ks (map (label_to mark) ks) j)
+  is_arrow : (k j : NumberedNode) → Among (counted r k) j → Among ks j → IsArrow r ks mark k (arrow_by ks (map (label_to mark) ks) j)
   is_arrow k j counts there = record { to = j; counts = counts; place = node_found ks j there; label = label_found mark ks j there }
 
-  -- of the row of a key
-  of_row : (n : ℕ) (k : NodeKey) → slice_get ks n ≡ Some k → (row : Vec NodeKey Global) → slice_get rows n ≡ Some row → AreCounted (price r) (kept r) k row.items × Each (Among ks) row.items
+  -- of the row of a node
+  of_row : (n : ℕ) (k : NumberedNode) → slice_get ks n ≡ Some k → (row : Vec NumberedNode Global) → slice_get rows n ≡ Some row → AreCounted (price r) (kept r) k row.items × Each (Among ks) row.items
   of_row n k at row here =
       let own = are.rows.each n row here in
-      (subst (λ (j : NodeKey). AreCounted (price r) (kept r) j row.items) (some_same (sym own.1 ∙ at)) own.2, own.3)
+      (subst (λ (j : NumberedNode). AreCounted (price r) (kept r) j row.items) (some_same (sym own.1 ∙ at)) own.2, own.3)
 
-  arrow_told : (n : ℕ) (k : NodeKey) → slice_get ks n ≡ Some k → (a : Arrow) (o : Option (Vec NodeKey Global)) → slice_get rows n ≡ o
-      → Among (option_map_or (λ (row : Vec NodeKey Global). map (arrow_by ks (map (label_to mark) ks)) row.items) o []) a → IsArrow r ks mark k a
+  arrow_told : (n : ℕ) (k : NumberedNode) → slice_get ks n ≡ Some k → (a : Arrow) (o : Option (Vec NumberedNode Global)) → slice_get rows n ≡ o
+      → Among (option_map_or (λ (row : Vec NumberedNode Global). map (arrow_by ks (map (label_to mark) ks)) row.items) o []) a → IsArrow r ks mark k a
   arrow_told n k at a None e there = absurd cc
   arrow_told n k at a (Some row) e there =
       let own = of_row n k at row e in
       let from = from_mapped (arrow_by ks (map (label_to mark) ks)) row.items a there in
-      subst (λ (x : Arrow). IsArrow r ks mark k x) from.2 (is_arrow k from.0 (own.0.each (key_kept n k at) from.0 from.1) (each_among (Among ks) row.items from.0 own.1 from.1))
+      subst (λ (x : Arrow). IsArrow r ks mark k x) from.2 (is_arrow k from.0 (own.0.each (node_kept n k at) from.0 from.1) (each_among (Among ks) row.items from.0 own.1 from.1))
 
-  arrow_there : (n : ℕ) (k : NodeKey) → slice_get ks n ≡ Some k → (j : NodeKey) → Among (counted r k) j →
+  arrow_there : (n : ℕ) (k : NumberedNode) → slice_get ks n ≡ Some k → (j : NumberedNode) → Among (counted r k) j →
       (a : Arrow) × Contains (arrows_of g n) a × (slice_get ks a.to ≡ Some j) × (a.label ≡ label_to mark j)
   arrow_there n k at j counts =
       let within = slice_get_within ks n k at in
       let row = some_within rows n (subst (λ (m : ℕ). n < m) (sym long) within) in
       let own = of_row n k at row.0 row.1 in
-      let here = own.0.all (key_kept n k at) j counts in
+      let here = own.0.all (node_kept n k at) j counts in
       let there = each_among (Among ks) row.0.items j own.1 here in
-      let all : arrows_of g n ≡ map (arrow_by ks (map (label_to mark) ks)) row.0.items = arrows_at n ∙ ap (λ (o : Option (Vec NodeKey Global)). option_map_or (λ (x : Vec NodeKey Global). map (arrow_by ks (map (label_to mark) ks)) x.items) o []) row.1 in (
+      let all : arrows_of g n ≡ map (arrow_by ks (map (label_to mark) ks)) row.0.items = arrows_at n ∙ ap (λ (o : Option (Vec NumberedNode Global)). option_map_or (λ (x : Vec NumberedNode Global). map (arrow_by ks (map (label_to mark) ks)) x.items) o []) row.1 in (
         arrow_by ks (map (label_to mark) ks) j,
         subst (λ (xs : List Arrow). Contains xs (arrow_by ks (map (label_to mark) ks) j)) (sym all)
             (contains_of (map (arrow_by ks (map (label_to mark) ks)) row.0.items) (arrow_by ks (map (label_to mark) ks) j) (among_mapped (arrow_by ks (map (label_to mark) ks)) row.0.items j here)),
@@ -153,32 +153,32 @@ module _ (r : Reading) (ks : List NodeKey) (rows : List (Vec NodeKey Global)) (m
         label_found mark ks j there,
       )
 
-  is_key_graph : IsKeyGraph r ks mark g
-  is_key_graph = record {
+  is_node_graph : IsNodeGraph r ks mark g
+  is_node_graph = record {
     nodes =
         sym (length-map g.nodes.items (λ (row : Vec Arrow Global). row.items)) ∙ ap length are.nodes
-        ∙ length-map rows (λ (row : Vec NodeKey Global). map (arrow_by ks (map (label_to mark) ks)) row.items) ∙ long;
+        ∙ length-map rows (λ (row : Vec NumberedNode Global). map (arrow_by ks (map (label_to mark) ks)) row.items) ∙ long;
     once = distinct_once ks are.once;
-    kept = key_kept;
+    kept = node_kept;
     arrows = λ n k at a there. arrow_told n k at a (slice_get rows n) refl (subst (λ (xs : List Arrow). Among xs a) (arrows_at n) (contained (arrows_of g n) a there));
     all = arrow_there;
   }
 
--- a key graph of roots
-pub key_graph_made : (r : Reading) (roots all firsts ks : List NodeKey) (rows : List (Vec NodeKey Global)) (ss : List EffectSite) (ls : List (Option ℕ)) (g : Graph) → all ≡ active_keys r → firsts ≡ insert_all same_key [] roots → Stays firsts ks → AreRows (price r) (kept r) ks rows → slice_get ks (length rows) ≡ None
-    → IsDistinct same_key ks → AreEffectSites r all ss → ls ≡ map (label_to (label_in r ss)) ks
-    → map (λ (row : Vec Arrow Global). row.items) g.nodes.items ≡ map (λ (row : Vec NodeKey Global). map (arrow_by ks ls) row.items) rows → IsKeyGraphOf r roots ks g
-key_graph_made r roots all firsts ks rows ss ls g every first stays are full once effect_sites labels nodes = record {
+-- a node graph of roots
+pub node_graph_made : (r : Reading) (roots all firsts ks : List NumberedNode) (rows : List (Vec NumberedNode Global)) (ss : List EffectSite) (ls : List (Option ℕ)) (g : Graph) → all ≡ active_nodes r → firsts ≡ insert_all same_node [] roots → Stays firsts ks → AreRows (price r) (kept r) ks rows → slice_get ks (length rows) ≡ None
+    → IsDistinct same_node ks → AreEffectSites r all ss → ls ≡ map (label_to (label_in r ss)) ks
+    → map (λ (row : Vec Arrow Global). row.items) g.nodes.items ≡ map (λ (row : Vec NumberedNode Global). map (arrow_by ks ls) row.items) rows → IsNodeGraphOf r roots ks g
+node_graph_made r roots all firsts ks rows ss ls g every first stays are full once effect_sites labels nodes = record {
   effect_sites = ss;
-  are = subst (λ (is : List NodeKey). AreEffectSites r is ss) every effect_sites;
-  key_graph = is_key_graph r ks rows (label_in r ss) g (record {
+  are = subst (λ (is : List NumberedNode). AreEffectSites r is ss) every effect_sites;
+  node_graph = is_node_graph r ks rows (label_in r ss) g (record {
     rows = are;
     all = full;
     once = once;
-    nodes = nodes ∙ ap (λ (xs : List (Option ℕ)). map (λ (row : Vec NodeKey Global). map (arrow_by ks xs) row.items) rows) labels;
+    nodes = nodes ∙ ap (λ (xs : List (Option ℕ)). map (λ (row : Vec NumberedNode Global). map (arrow_by ks xs) row.items) rows) labels;
   });
-  listed = among_each (Among ks) roots (λ k there. stays_among firsts ks stays k (subst (λ (is : List NodeKey). Among is k) (sym first) (any_among (insert_all same_key [] roots) k (put_all same_key key_itself [] roots k there))));
+  listed = among_each (Among ks) roots (λ k there. stays_among firsts ks stays k (subst (λ (is : List NumberedNode). Among is k) (sym first) (any_among (insert_all same_node [] roots) k (put_all same_node node_itself [] roots k there))));
 }
 
-pub firsts_kept : (r : Reading) (roots firsts : List NodeKey) → Each (kept r) roots → firsts ≡ insert_all same_key [] roots → Each (kept r) firsts
-firsts_kept r roots firsts each e = subst (λ (ks : List NodeKey). Each (kept r) ks) (sym e) (each_put (kept r) [] roots tt each)
+pub firsts_kept : (r : Reading) (roots firsts : List NumberedNode) → Each (kept r) roots → firsts ≡ insert_all same_node [] roots → Each (kept r) firsts
+firsts_kept r roots firsts each e = subst (λ (ks : List NumberedNode). Each (kept r) ks) (sym e) (each_put (kept r) [] roots tt each)

@@ -20,7 +20,7 @@ use Rattle.mh_laws.specs.Each.{Among}
 use Rattle.mh_laws.specs.Price.{Price, sum_price, most_price, if_price}
 use Rattle.mh_laws.proofs.EachLemmas.{among_mapped}
 use Rattle.mh_layers.specs.Grouped.{has, is_plain}
-use Rattle.mh_layers.specs.Keys.{data_of, knows, waits_for}
+use Rattle.mh_layers.specs.CostNodes.{data_of, knows, waits_for}
 use Rattle.mh_layers.proofs.AgreeLemmas.{Setting, effects_come}
 use Rattle.mh_layers.proofs.MetLemmas.{same_itself}
 use Rattle.mh_layers.proofs.ReckonLemmas.{Below, all_below, all_below_with, below_among, below_none, below_plus, both_below, plus_pairs, plus_right}

@@ -1,4 +1,4 @@
--- What the meter of known costs comes to; and prices by numbers, as the meters of costs and of keys read them.
+-- What the meter of known costs comes to; and prices by numbers, as the meters of costs and of nodes read them.
 use Rattle.std.specs.Prelude.{◌≡◌, ℕ, ◌+◌, Bool, false, [], max, min, Result, Ok, Err, IfOk, refl}
 use Rattle.std.specs.List.{list_any}
 use Rattle.std.proofs.Common.{arith, ap, ◌∙◌, sym}

@@ -15,7 +15,7 @@ pub mod LifeAgreeLemmas
 pub mod TimerLemmas
 pub mod TakenAgreeLemmas
 pub mod ActAgreeLemmas
-pub mod KeyAgreeLemmas
+pub mod NodeAgreeLemmas
 pub mod FoundLemmas
 pub mod BridgeLemmas
 pub mod RankLemmas
@@ -31,7 +31,7 @@ pub mod BoundLemmas
 pub mod LayeredLemmas
 pub mod CausingLemmas
 pub mod ChainLemmas
-pub mod KeyGraphLemmas
+pub mod NodeGraphLemmas
 pub mod SuccessorLemmas
 pub mod EffectSiteLemmas
 pub mod GraphLemmas

@@ -1,4 +1,4 @@
--- What configurations come to over keys is what they come to over effects: an instance of the law of views.
+-- What configurations come to over nodes is what they come to over effects: an instance of the law of views.
 use Rattle.std.specs.Prelude.{◌≡◌, ◌<◌, ◌≤◌, ◌+◌, ℕ, zero, suc, Bool, true, false, not, if◌then◌else◌, List, length, reverse, [], ◌∷◌, Option, Some, None, refl}
 use Rattle.std.specs.List.{range_with_len}
 use Rattle.std.specs.Option.{option_map_or}
@@ -21,15 +21,15 @@ use Rattle.mh_laws.specs.View.{Around}
 use Rattle.mh_laws.specs.Ways.{slots_of}
 use Rattle.mh_laws.proofs.EachLemmas.{from_range}
 use Rattle.mh_prices.proofs.NearLemmas.{NearLists, NearViews, change_near, enter_near, halt_near, leave_all_near, leave_scene_near, run_near}
-use Rattle.mh_layers.specs.Key.{Key, Effect, Change, Enter}
-use Rattle.mh_layers.specs.Keys.{effect, entered, group_effect, is_caused, leave_price, lists, around_of, objects, scene_closes}
+use Rattle.mh_layers.specs.CostNode.{CostNode, Effect, Change, Enter}
+use Rattle.mh_layers.specs.CostNodes.{effect, entered, group_effect, is_caused, leave_price, lists, around_of, objects, scene_closes}
 use Rattle.mh_layers.proofs.AgreeLemmas.{Agrees, SameSets, Setting, agrees_if, agrees_largest, agrees_node, agrees_nothing, agrees_one, agrees_passes, agrees_plus, agrees_sets, agrees_wider, effects_come}
 use Rattle.mh_layers.proofs.FiredLemmas.{heard_agrees}
 use Rattle.mh_layers.proofs.MetLemmas.{found_among, group_active, group_whole, on_of, other_active, part_of}
 use Rattle.mh_layers.proofs.ReckonLemmas.{plus_right, sum_joined}
 
--- a configuration that may be reached, by keys
-abbrev pub numbered_service : {A : Type 0} → Setting A → Config → Around Key
+-- a configuration that may be reached, by nodes
+abbrev pub numbered_service : {A : Type 0} → Setting A → Config → Around CostNode
 numbered_service s c = around_of s.service s.flow s.heard c
 
 -- Slots
@@ -77,7 +77,7 @@ change_agrees s n more c here r =
     change_near (λ q. Agrees s n) (Agrees s n) SameSets (λ q. agrees_passes s n) (agrees_passes s n) (λ q o u a. a) (agrees_sets s n)
     (objects s.service s.flow s.heard c) (costs.objects s.service s.flow c) (views s n more c here) r refl
 
--- a change, by its key if it is a list's
+-- a change, by its node if it is a list's
 changes_agree : {A : Type 0} (s : Setting A) (n : ℕ) → 5 ≤ n → (c : Config) → reached s.flow c ≡ true → (r : ObjRef) → Agrees s n ((lists s.service s.flow s.heard c).change r) (costs.change s.service s.flow c r)
 changes_agree {A} s n more c here r = by (is_list_in (present s.service c) r) refl
   where

@@ -6,7 +6,7 @@ use Rattle.mh_model.specs.declared.object.Fixed.{Fixed}
 use Rattle.mh_model.specs.Configuration.{scene_parts}
 use Rattle.mh_model.specs.Service.{group_parts}
 use Rattle.mh_laws.specs.Price.{Price, sum_price, if_price}
-use Rattle.mh_layers.specs.Keys.{data_of, waits_for}
+use Rattle.mh_layers.specs.CostNodes.{data_of, waits_for}
 use Rattle.mh_layers.specs.Known.{added, known_worth}
 use Rattle.mh_layers.specs.Listening.{SumsOverLinks, link_node}
 use Rattle.mh_layers.proofs.KnowingLemmas.{cut, join}

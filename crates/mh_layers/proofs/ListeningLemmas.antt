@@ -1,7 +1,7 @@
 -- Who listens to what: what is found by numbers is what waits by name.
 use Rattle.std.specs.Prelude.{◌≡◌, ◌⊎◌, ℕ, zero, suc, ◌+◌, ◌<◌, Bool, true, false, ◌&&◌, cond, ◌==◌, drop, filter, length, List, [], ◌∷◌, ◌++◌, map, slice_get, position, unwrap_or, option_and_then, nat_eq, Option, Some, None, refl}
 use Rattle.std.specs.List.{find, flat_map, list_any}
-use Rattle.std.specs.Map.{keys_of, lookup}
+use Rattle.std.specs.Map.{nodes_in, lookup}
 use Rattle.std.specs.Option.{option_eq, option_map, option_map_or, option_to_list}
 use Rattle.std.specs.Str.{bytes_eq}
 use Rattle.std.specs.Cmp.Lexicographic.{nat_list_eq_equiv}
@@ -36,7 +36,7 @@ use Rattle.mh_layers.specs.declared.listening.listener_slot.Share.{Share}
 use Rattle.mh_layers.specs.declared.listening.listener_slot.ListenerSlot.{ListenerSlot}
 use Rattle.mh_layers.specs.Grouped.{has, is_plain}
 use Rattle.mh_layers.specs.Hashing.{value_itself, value_one}
-use Rattle.mh_layers.specs.Keys.{data_of, knows, values, waits_for}
+use Rattle.mh_layers.specs.CostNodes.{data_of, knows, values, waits_for}
 use Rattle.mh_layers.specs.Listening.{AllAreHeard, HeardIsNamed, IsListening, ObjectsAreNumbered, ValuesAreNumbered, Listeners, ear_at, ear_of, ear_with, heard, is_ear, is_place, links_at, listed, lists_at, lists_from, lists_in, mentioned, named, named_by, number_in, objects_of, place_at, place_of, same_ear, same_place, same_share, source_of, with_more}
 use Rattle.mh_layers.proofs.PositionLemmas.{AreOnce, TellsOne, any_position, kept_one, once_all, once_at, once_inserted, position_is, position_there, positions_same, put_all, put_one}
 
@@ -125,7 +125,7 @@ abbrev parts_in : Groups → List ℕ → List Fixed
 parts_in gs g = unwrap_or (option_map (λ e. e.1) (find (λ e. bytes_eq e.0 g) gs)) []
 
 abbrev pub group_number : Groups → List ℕ → Option ℕ
-group_number gs g = position (bytes_eq g) (keys_of gs)
+group_number gs g = position (bytes_eq g) (nodes_in gs)
 
 pub parts_among : (gs : Groups) (g : List ℕ) (p : Fixed) → Among (parts_in gs g) p → Among (all_of gs) p
 parts_among [] g p there = absurd cc
@@ -144,7 +144,7 @@ by_number [] g = refl
 by_number (e ∷ gs) g =
     (λ i. cond (nat_list_eq_equiv.symm e.0 g i) (Some e) (by_number gs g i))
     ∙ by (bytes_eq g e.0) (group_number gs g)
-    ∙ ap (option_and_then (slice_get (e ∷ gs))) (sym (position_next (bytes_eq g) e.0 (keys_of gs)))
+    ∙ ap (option_and_then (slice_get (e ∷ gs))) (sym (position_next (bytes_eq g) e.0 (nodes_in gs)))
   where
     by : (b : Bool) (o : Option ℕ) → cond b (Some e) (option_and_then (slice_get gs) o) ≡ option_and_then (slice_get (e ∷ gs)) (cond b (Some 0) (option_map suc o))
     by true o = refl

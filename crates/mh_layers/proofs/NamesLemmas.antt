@@ -18,16 +18,16 @@ use Rattle.mh_laws.specs.Each.{Among, Each}
 use Rattle.mh_laws.specs.Flow.{Flow, reached}
 use Rattle.mh_laws.proofs.EachLemmas.{among_each, among_mapped, each_among, got_among}
 use Rattle.mh_laws.proofs.NodeLemmas.{config_among}
-use Rattle.mh_layers.specs.declared.node_key.Hears.{Hears}
-use Rattle.mh_layers.specs.declared.node_key.Hears.TheVariants as hears
-use Rattle.mh_layers.specs.declared.node_key.NodeKey.{NodeKey}
-use Rattle.mh_layers.specs.declared.node_key.NodeKey.TheVariants as key
-use Rattle.mh_layers.specs.Key.{With}
-use Rattle.mh_layers.specs.Keys.{is_named, values}
+use Rattle.mh_layers.specs.declared.numbered_node.Hears.{Hears}
+use Rattle.mh_layers.specs.declared.numbered_node.Hears.TheVariants as hears
+use Rattle.mh_layers.specs.declared.numbered_node.NumberedNode.{NumberedNode}
+use Rattle.mh_layers.specs.declared.numbered_node.NumberedNode.TheVariants as node
+use Rattle.mh_layers.specs.CostNode.{With}
+use Rattle.mh_layers.specs.CostNodes.{is_named, values}
 use Rattle.mh_layers.specs.Listening.{ear_at, same_ear}
 use Rattle.mh_layers.specs.Named.{IsEffectKept}
 use Rattle.mh_layers.specs.Reading.{IsReading, Reading, config_named, flow_read, has_config, has_hearing, has_names, has_object, heard_read, hearing_named, kept, longer, no_config, no_object, no_value, object_named, octets_in, same_setting, settings, value_named}
-use Rattle.mh_layers.specs.Stretches.{is_effect_key}
+use Rattle.mh_layers.specs.Stretches.{is_effect_node}
 use Rattle.mh_layers.proofs.ListeningLemmas.{objects_numbered, present_among, tells_objects, tells_values}
 use Rattle.mh_layers.proofs.MetLemmas.{found_among, reached_among, there_found}
 use Rattle.mh_layers.proofs.PositionLemmas.{TellsOne, any_position, position_is, position_there, put_all}
@@ -115,31 +115,31 @@ both_so true b e f = f
 both_so false b e f = absurd cc
 
 -- what is kept has its names
-pub names_there : (r : Reading) → IsReading r → (k : NodeKey) → kept r k → has_names r k ≡ true
-names_there r read (key.Effect c o n) has = both_so (has_config r c) (has_object r o) (config_has r c has.0) (object_has r read (config_named r c) o has.1)
-names_there r read (key.Fired c o kind g) has =
+pub names_there : (r : Reading) → IsReading r → (k : NumberedNode) → kept r k → has_names r k ≡ true
+names_there r read (node.Effect c o n) has = both_so (has_config r c) (has_object r o) (config_has r c has.0) (object_has r read (config_named r c) o has.1)
+names_there r read (node.Fired c o kind g) has =
     both_so (has_config r c) (has_object r o && has_hearing r (object_named r o) kind g) (config_has r c has.0)
     (both_so (has_object r o) (has_hearing r (object_named r o) kind g) (object_has r read (config_named r c) o has.1) (hearing_has r (object_named r o) kind g has.2))
-names_there r read (key.Entry o kind g) has =
+names_there r read (node.Entry o kind g) has =
     both_so (has_object r o) (has_hearing r (object_named r o) kind g) (source_has r o kind g has) (hearing_has r (object_named r o) kind g has)
-names_there r read (key.Change c o) has =
+names_there r read (node.Change c o) has =
     both_so (has_config r c) (has_object r o) (config_has r c has.0) (object_has r read (config_named r c) o (list_there r (config_named r c) (object_named r o) has.1))
-names_there r read (key.Leave c all) has = config_has r c has
-names_there r read (key.Enter c) has = config_has r c has
-names_there r read (key.Taken c k) has = config_has r c has.0
+names_there r read (node.Leave c all) has = config_has r c has
+names_there r read (node.Enter c) has = config_has r c has
+names_there r read (node.Taken c k) has = config_has r c has.0
 
 -- and where there are none, it is not kept
-pub no_names : (r : Reading) → IsReading r → (k : NodeKey) → has_names r k ≡ false → kept r k → ⊥
+pub no_names : (r : Reading) → IsReading r → (k : NumberedNode) → has_names r k ≡ false → kept r k → ⊥
 no_names r read k none has = true≢false (sym (names_there r read k has) ∙ none)
 
--- WHAT A KEY HAS
+-- WHAT A NODE HAS
 
-pub effect_has : (r : Reading) (k : NodeKey) (c o n : ℕ) → k ≡ key.Effect c o n → has_names r k ≡ true → (has_config r c ≡ true) × (has_object r o ≡ true)
+pub effect_has : (r : Reading) (k : NumberedNode) (c o n : ℕ) → k ≡ node.Effect c o n → has_names r k ≡ true → (has_config r c ≡ true) × (has_object r o ≡ true)
 effect_has r k c o n is all =
     let both = ap (has_names r) (sym is) ∙ all in
     (and_left (has_config r c) (has_object r o) both, and_right (has_config r c) (has_object r o) both)
 
-pub fired_has : (r : Reading) (k : NodeKey) (c o : ℕ) (kind : EventType) (g : Hears) → k ≡ key.Fired c o kind g → has_names r k ≡ true
+pub fired_has : (r : Reading) (k : NumberedNode) (c o : ℕ) (kind : EventType) (g : Hears) → k ≡ node.Fired c o kind g → has_names r k ≡ true
     → (has_config r c ≡ true) × (has_object r o ≡ true) × (has_hearing r (object_named r o) kind g ≡ true)
 fired_has r k c o kind g is all =
     let three = ap (has_names r) (sym is) ∙ all in
@@ -149,12 +149,12 @@ fired_has r k c o kind g is all =
       and_right (has_object r o) (has_hearing r (object_named r o) kind g) two,
     )
 
-pub entry_has : (r : Reading) (k : NodeKey) (o : ℕ) (kind : EventType) (g : Hears) → k ≡ key.Entry o kind g → has_names r k ≡ true → (has_object r o ≡ true) × (has_hearing r (object_named r o) kind g ≡ true)
+pub entry_has : (r : Reading) (k : NumberedNode) (o : ℕ) (kind : EventType) (g : Hears) → k ≡ node.Entry o kind g → has_names r k ≡ true → (has_object r o ≡ true) × (has_hearing r (object_named r o) kind g ≡ true)
 entry_has r k o kind g is all =
     let both = ap (has_names r) (sym is) ∙ all in
     (and_left (has_object r o) (has_hearing r (object_named r o) kind g) both, and_right (has_object r o) (has_hearing r (object_named r o) kind g) both)
 
-pub change_has : (r : Reading) (k : NodeKey) (c o : ℕ) → k ≡ key.Change c o → has_names r k ≡ true → (has_config r c ≡ true) × (has_object r o ≡ true)
+pub change_has : (r : Reading) (k : NumberedNode) (c o : ℕ) → k ≡ node.Change c o → has_names r k ≡ true → (has_config r c ≡ true) × (has_object r o ≡ true)
 change_has r k c o is all =
     let both = ap (has_names r) (sym is) ∙ all in
     (and_left (has_config r c) (has_object r o) both, and_right (has_config r c) (has_object r o) both)

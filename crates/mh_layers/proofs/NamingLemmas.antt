@@ -42,8 +42,8 @@ use Rattle.mh_laws.specs.Price.{Nothing, Nodes, if_price, most_price, sum_price}
 use Rattle.mh_laws.specs.Safe.{exchanged}
 use Rattle.mh_laws.specs.Ways.{Told, Sure, Unsure, Share, Prepares, Runs, Halts, Drops, Tells, Sends, Changes, Slots, slots_of, ways}
 use Rattle.mh_laws.proofs.PriceLemmas.{nodes_if, nodes_most, nodes_sum, of_nodes}
-use Rattle.mh_layers.specs.declared.node_key.NodeKey.{NodeKey}
-use Rattle.mh_layers.specs.declared.node_key.NodeKey.TheVariants as key
+use Rattle.mh_layers.specs.declared.numbered_node.NumberedNode.{NumberedNode}
+use Rattle.mh_layers.specs.declared.numbered_node.NumberedNode.TheVariants as node
 use Rattle.mh_layers.specs.Applied.{number_in}
 use Rattle.mh_layers.specs.Listening.{names_event}
 use Rattle.mh_layers.specs.Reading.{IsReading, Reading, flow_read}
@@ -277,14 +277,14 @@ caused_named v w x =
     ))))
 
 -- OF A STEP: the last effect is no link's, or its object is a link that names the source and the type of events.
-pub step_names : (r : Reading) → IsReading r → (from first to : NodeKey) → IsStep r from first to → (aim : Fixed) → part_at (effect_named r to).object (present r.service (effect_named r to).config) ≡ Some aim → number_in to ≡ link_effect → names_event aim ≡ true
+pub step_names : (r : Reading) → IsReading r → (from first to : NumberedNode) → IsStep r from first to → (aim : Fixed) → part_at (effect_named r to).object (present r.service (effect_named r to).config) ≡ Some aim → number_in to ≡ link_effect → names_event aim ≡ true
 step_names r read from first to step aim at is = by (any_among (λ (p : Fixed). same_key y.object p.key && names_event p) (present r.service y.config) there)
   where
     y : Effect
     y = effect_named r to
 
-    number : (k : NodeKey) → (effect_named r k).number ≡ number_in k
-    number (key.Effect c o n) = refl
+    number : (k : NumberedNode) → (effect_named r k).number ≡ number_in k
+    number (node.Effect c o n) = refl
     number _ = refl
 
     own : (y.number == link_effect) ≡ true

@@ -21,10 +21,10 @@ use Rattle.mh_flow.proofs.IndexLemmas.{part_entered}
 use Rattle.mh_laws.specs.Price.{Price, Nothing, One, Node, Plus, Most, sum_price, most_price, if_price}
 use Rattle.mh_laws.specs.Ways.{Told}
 use Rattle.mh_prices.specs.Meter.{Adds, Meter, onto, raise}
-use Rattle.mh_layers.specs.declared.node_key.Hears.{Hears}
-use Rattle.mh_layers.specs.declared.node_key.NodeKey.{NodeKey}
-use Rattle.mh_layers.specs.Key.{Key, Entry, Hearing, Plain, With, Any}
-use Rattle.mh_layers.specs.Keys.{data_of, fired_at, fired_if_there, heard_with, hearing, links_with, values, waits_for}
+use Rattle.mh_layers.specs.declared.numbered_node.Hears.{Hears}
+use Rattle.mh_layers.specs.declared.numbered_node.NumberedNode.{NumberedNode}
+use Rattle.mh_layers.specs.CostNode.{CostNode, Entry, Hearing, Plain, With, Any}
+use Rattle.mh_layers.specs.CostNodes.{data_of, fired_at, fired_if_there, heard_with, hearing, links_with, values, waits_for}
 use Rattle.mh_layers.specs.Listening.{link_node}
 use Rattle.mh_layers.specs.Numbered.{numbered, through}
 use Rattle.mh_layers.specs.Reading.{IsReading, Reading, CostContext, dealt_by, fired_by, heard_read, hears_among, hears_number, hears_told, number, context_in, there_by}
@@ -65,7 +65,7 @@ onto_filtered {K} {S} {M} {X} m t f (x ∷ xs) s = by (t x) (onto_filtered m t f
     by false behind = behind s
 
 -- the links of the application that wait, and then those of the scene
-pub links_come : {S M T E : Type 0} (seen : T → S) (m : Meter Key S M) (v : Service) (c : Config) (o : ObjRef) (kind : EventType) (is : Option Value → Bool) (ps qs : List Fixed) (s t : T) (r : Result T E)
+pub links_come : {S M T E : Type 0} (seen : T → S) (m : Meter CostNode S M) (v : Service) (c : Config) (o : ObjRef) (kind : EventType) (is : Option Value → Bool) (ps qs : List Fixed) (s t : T) (r : Result T E)
     → ps ≡ filter (λ p. waits_for o kind p && is (data_of p)) (group_parts v c.app)
     → qs ≡ filter (λ p. waits_for o kind p && is (data_of p)) (scene_parts v c.scene)
     → seen t ≡ onto m (sum_price (link_node c) ps) (seen s)
@@ -156,7 +156,7 @@ dealt_numbered r c o kind g = by (is_sync kind)
     by true = there_numbered r c o kind g
     by false = refl
 
-pub heard_adds : {S M T E : Type 0} (seen : T → S) (m : Meter NodeKey S M) (s : CostContext) (o : ObjRef) (kind : EventType) (d : Told) (g : Hears) (t : T) (r : Result T E)
+pub heard_adds : {S M T E : Type 0} (seen : T → S) (m : Meter NumberedNode S M) (s : CostContext) (o : ObjRef) (kind : EventType) (d : Told) (g : Hears) (t : T) (r : Result T E)
     → hears_told s.reading o kind d ≡ Some g → Adds seen m (dealt_by s o kind g) t r
     → Adds seen (through (number s.reading) m) (heard_with s.reading.service s.config o kind d (heard_read s.reading o kind)) t r
 heard_adds {S} {M} {T} {E} seen m s o kind d g t r told h = by (heard_read s.reading o kind) refl told
@@ -173,7 +173,7 @@ heard_adds {S} {M} {T} {E} seen m s o kind d g t r told h = by (heard_read s.rea
     by (Some xs) e is =
         by_name seen (number s.reading) m (dealt_by s o kind g) (heard_with s.reading.service s.config o kind d (Some xs)) t r (of xs e (some_same is)) h
 
-pub unheard_adds : {S M : Type 0} (m : Meter NodeKey S M) (s : CostContext) (o : ObjRef) (kind : EventType) (d : Told) (x y : S)
+pub unheard_adds : {S M : Type 0} (m : Meter NumberedNode S M) (s : CostContext) (o : ObjRef) (kind : EventType) (d : Told) (x y : S)
     → hears_told s.reading o kind d ≡ None → y ≡ onto m (if is_sync kind then Nothing else One) x
     → y ≡ onto (through (number s.reading) m) (heard_with s.reading.service s.config o kind d (heard_read s.reading o kind)) x
 unheard_adds {S} m s o kind d x y told is = is ∙ by (heard_read s.reading o kind) told
@@ -194,7 +194,7 @@ configs_numbered : (r : Reading) (o : ObjRef) (kind : EventType) (g : Hearing) (
 configs_numbered r o kind g [] = refl
 configs_numbered r o kind g (c ∷ cs) = λ i. Most (there_numbered r c o kind g i) (configs_numbered r o kind g cs i)
 
-pub entry_adds : {S M T E : Type 0} (seen : T → S) (m : Meter NodeKey S M) (r : Reading) (o : ObjRef) (kind : EventType) (g : Hearing) (n : Hears) (cs : List Config) (s t : T) (x : Result T E)
+pub entry_adds : {S M T E : Type 0} (seen : T → S) (m : Meter NumberedNode S M) (r : Reading) (o : ObjRef) (kind : EventType) (g : Hearing) (n : Hears) (cs : List Config) (s t : T) (x : Result T E)
     → n ≡ hears_number r o kind g → seen t ≡ m.one (seen s) → Adds seen m (most_price (λ c. there_by (context_in r c) o kind n) cs) t x
     → Adds seen (through (number r) m) (Plus One (most_price (λ c. fired_if_there r.service c o kind g) cs)) s x
 entry_adds {S} {M} {T} {E} seen m r o kind g n cs s t x is one h =
@@ -210,6 +210,6 @@ absent r read c o e =
     ap (λ (p : Option Fixed). option_map_or (λ q. true) p false)
     (sym (part_entered r.service c o read.flow.chart.named) ∙ ap (λ (b : Bool). option_map (λ (h : Home). h.part) (cond b (lookup (same_ref o) (indexed r.service)) None)) e)
 
-pub absent_adds : {S M : Type 0} (m : Meter NodeKey S M) (r : Reading) (c : Config) (o : ObjRef) (kind : EventType) (g : Hears) (s : S) (b : Bool) → IsReading r → b ≡ is_entered c o.group → b ≡ false → s ≡ onto m (there_by (context_in r c) o kind g) s
+pub absent_adds : {S M : Type 0} (m : Meter NumberedNode S M) (r : Reading) (c : Config) (o : ObjRef) (kind : EventType) (g : Hears) (s : S) (b : Bool) → IsReading r → b ≡ is_entered c o.group → b ≡ false → s ≡ onto m (there_by (context_in r c) o kind g) s
 absent_adds m r c o kind g s b read entered none =
     sym (ap (λ (d : Bool). onto m (if_price d (fired_by (context_in r c) o kind g)) s) (absent r read c o (sym entered ∙ none)))

@@ -18,8 +18,8 @@ use Rattle.mh_model.specs.Variables.{same_value}
 use Rattle.mh_model.proofs.ListLemmas.{and_left, and_right}
 use Rattle.mh_laws.specs.Flow.{is_list_in, reached}
 use Rattle.mh_laws.proofs.NodeLemmas.{config_among}
-use Rattle.mh_layers.specs.Key.{Key, Effect, Fired, Entry, Change, Leave, Enter, Taken, Hearing, Plain, With, Any}
-use Rattle.mh_layers.specs.Keys.{IsKept, is_named, values}
+use Rattle.mh_layers.specs.CostNode.{CostNode, Effect, Fired, Entry, Change, Leave, Enter, Taken, Hearing, Plain, With, Any}
+use Rattle.mh_layers.specs.CostNodes.{IsKept, is_named, values}
 use Rattle.mh_layers.specs.Listening.{ear_at, same_ear}
 use Rattle.std.specs.Map.{lookup}
 use Rattle.mh_layers.specs.Reading.{IsReading, NumbersAreNames, Reading, config_named, config_number, flow_read, heard_read, hearing_named, hears_number, name, no_config, no_object, no_value, number, object_named, object_number, place_among, same_setting, settings, value_named}
@@ -115,9 +115,9 @@ hears_back : (r : Reading) (o : ObjRef) (kind : EventType) (g : Hearing) → obj
 hears_back r o kind g same named =
     ap (λ (q : ObjRef). hearing_named r q kind (hears_number r o kind g)) same ∙ hearing_back r o kind g named
 
--- keys
+-- nodes
 
-back : (r : Reading) → IsReading r → (k : Key) → IsKept r.service (flow_read r) (heard_read r) k → name r (number r k) ≡ k
+back : (r : Reading) → IsReading r → (k : CostNode) → IsKept r.service (flow_read r) (heard_read r) k → name r (number r k) ≡ k
 back r read (Effect c o n) kept =
     let config = config_back r c kept.0 in
     let object = object_back r read c o kept.1 in

@@ -1,4 +1,4 @@
--- The keys that are laid first: of the start, of all inputs and of all active effects; and the bounds that come of them.
+-- The nodes that are laid first: of the start, of all inputs and of all active effects; and the bounds that come of them.
 use Rattle.std.specs.Prelude.{◌≡◌, ℕ, true, List, [], ◌∷◌, ◌++◌, min, max, refl}
 use Rattle.std.specs.List.{flat_map, list_all}
 use Rattle.std.proofs.Common.{arith, inl, inr, ap, ◌∙◌, subst}
@@ -15,13 +15,13 @@ use Rattle.mh_laws.proofs.EachLemmas.{among_all, among_each, among_joined, among
 use Rattle.mh_flow.specs.Solved.{Solved}
 use Rattle.mh_layers.specs.declared.bounds.InputKind.{InputKind}
 use Rattle.mh_layers.specs.declared.bounds.InputKind.TheVariants as kind
-use Rattle.mh_layers.specs.declared.node_key.NodeKey.{NodeKey}
-use Rattle.mh_layers.specs.declared.node_key.NodeKey.TheVariants as key
-use Rattle.mh_layers.specs.Key.{Taken}
+use Rattle.mh_layers.specs.declared.numbered_node.NumberedNode.{NumberedNode}
+use Rattle.mh_layers.specs.declared.numbered_node.NumberedNode.TheVariants as node
+use Rattle.mh_layers.specs.CostNode.{Taken}
 use Rattle.mh_layers.specs.Bounding.{capped}
-use Rattle.mh_layers.specs.Keys.{takes}
+use Rattle.mh_layers.specs.CostNodes.{takes}
 use Rattle.mh_layers.specs.Known.{top}
-use Rattle.mh_layers.specs.Layered.{AreLayersOf, Layered, active_keys, input_keys, kinds, root_keys}
+use Rattle.mh_layers.specs.Layered.{AreLayersOf, Layered, active_nodes, input_nodes, kinds, root_nodes}
 use Rattle.mh_layers.specs.Layering.{AreLayers, Places, is_laid}
 use Rattle.mh_layers.specs.Reading.{IsReading, Reading, config_number, flow_read, kept, number, price}
 use Rattle.mh_layers.specs.Taking.{bound_laid, bounds_laid, largest_from, or_nothing, taken_laid}
@@ -35,29 +35,29 @@ start_reached r read = read.flow.least.solution.start
 
 -- What is among the roots
 
-pub starts_rooted : (r : Reading) → Among (root_keys r) (number r (Taken (starting r.service) kind.Start))
+pub starts_rooted : (r : Reading) → Among (root_nodes r) (number r (Taken (starting r.service) kind.Start))
 starts_rooted r = inl refl
 
-pub input_rooted : (r : Reading) (c : Config) (k : InputKind) → Among (flow_read r).configs c → Among kinds k → Among (root_keys r) (number r (Taken c k))
+pub input_rooted : (r : Reading) (c : Config) (k : InputKind) → Among (flow_read r).configs c → Among kinds k → Among (root_nodes r) (number r (Taken c k))
 input_rooted r c k there one =
-    inr (among_left (flat_map (input_keys r) (flow_read r).configs) (active_keys r) (number r (Taken c k))
-    (among_joined (input_keys r) (flow_read r).configs c (number r (Taken c k)) there
+    inr (among_left (flat_map (input_nodes r) (flow_read r).configs) (active_nodes r) (number r (Taken c k))
+    (among_joined (input_nodes r) (flow_read r).configs c (number r (Taken c k)) there
     (among_mapped (λ (j : InputKind). number r (Taken c j)) kinds k one)))
 
-pub active_rooted : (r : Reading) (k : NodeKey) → Among (active_keys r) k → Among (root_keys r) k
-active_rooted r k there = inr (among_right (flat_map (input_keys r) (flow_read r).configs) (active_keys r) k there)
+pub active_rooted : (r : Reading) (k : NumberedNode) → Among (active_nodes r) k → Among (root_nodes r) k
+active_rooted r k there = inr (among_right (flat_map (input_nodes r) (flow_read r).configs) (active_nodes r) k there)
 
 -- all of them are kept
-pub roots_kept : (r : Reading) → IsReading r → Each (kept r) (root_keys r)
+pub roots_kept : (r : Reading) → IsReading r → Each (kept r) (root_nodes r)
 roots_kept r read = (
   taken_kept r read (starting r.service) (start_reached r read) kind.Start,
-  each_joined (kept r) (flat_map (input_keys r) (flow_read r).configs) (active_keys r)
-      (among_each (kept r) (flat_map (input_keys r) (flow_read r).configs) inputs_kept) (listed_kept r read),
+  each_joined (kept r) (flat_map (input_nodes r) (flow_read r).configs) (active_nodes r)
+      (among_each (kept r) (flat_map (input_nodes r) (flow_read r).configs) inputs_kept) (listed_kept r read),
 )
   where
-    inputs_kept : (n : NodeKey) → Among (flat_map (input_keys r) (flow_read r).configs) n → kept r n
+    inputs_kept : (n : NumberedNode) → Among (flat_map (input_nodes r) (flow_read r).configs) n → kept r n
     inputs_kept n there =
-        let at = from_joined (input_keys r) (flow_read r).configs n there in
+        let at = from_joined (input_nodes r) (flow_read r).configs n there in
         let one = from_mapped (λ (k : InputKind). number r (Taken at.0 k)) kinds n at.2 in
         subst (kept r) one.2 (taken_kept r read at.0 (reached_among (flow_read r).configs at.0 at.1) one.0)
 
@@ -91,7 +91,7 @@ pub taken_cut : (r : Reading) → IsReading r → (ts : Places) → AreLayers (p
 unfolding taken_laid
 taken_cut r read ts layers cost is c met k laid = ap or_nothing (taken_exact r read ts layers cost is c met k laid)
 
-pub bounds_exact : (r : Reading) → IsReading r → (ts : Places) → AreLayers (price r) (kept r) ts → list_all (is_laid ts) (root_keys r) ≡ true
+pub bounds_exact : (r : Reading) → IsReading r → (ts : Places) → AreLayers (price r) (kept r) ts → list_all (is_laid ts) (root_nodes r) ≡ true
     → (cost : costs.Costing) → IsCost r.service (flow_read r) cost → bounds_laid r ts ≡ capped (six_costs r.service (flow_read r) cost)
 bounds_exact r read ts layers all cost is = λ i. record {
   start = started i;
@@ -105,12 +105,12 @@ bounds_exact r read ts layers all cost is = λ i. record {
     started : taken_laid r ts kind.Start (starting r.service) ≡ min (worth cost (takes r.service (flow_read r) (starting r.service) kind.Start)) top
     started =
         taken_cut r read ts layers cost is (starting r.service) (start_reached r read) kind.Start
-        (among_all (is_laid ts) (root_keys r) (number r (Taken (starting r.service) kind.Start)) all (starts_rooted r))
+        (among_all (is_laid ts) (root_nodes r) (number r (Taken (starting r.service) kind.Start)) all (starts_rooted r))
 
     each : (k : InputKind) → Among kinds k → (c : Config) → Among (flow_read r).configs c → taken_laid r ts k c ≡ min (worth cost (takes r.service (flow_read r) c k)) top
     each k one c there =
         taken_cut r read ts layers cost is c (reached_among (flow_read r).configs c there) k
-        (among_all (is_laid ts) (root_keys r) (number r (Taken c k)) all (input_rooted r c k there one))
+        (among_all (is_laid ts) (root_nodes r) (number r (Taken c k)) all (input_rooted r c k there one))
 
     bound : (k : InputKind) → Among kinds k → bound_laid r ts k ≡ min (worth cost (most_price (λ (c : Config). takes r.service (flow_read r) c k) (flow_read r).configs)) top
     bound k one =
@@ -118,18 +118,18 @@ bounds_exact r read ts layers all cost is = λ i. record {
         ∙ from_nothing (worth cost (most_price (λ (c : Config). takes r.service (flow_read r) c k) (flow_read r).configs))
 
 -- what is laid are the layers
-layers_of : (l : Layered) → IsReading l.reading → AreLayers (price l.reading) (kept l.reading) l.places → list_all (is_laid l.places) (root_keys l.reading) ≡ true → l.bounds ≡ bounds_laid l.reading l.places → AreLayersOf l.reading.service l.reading.flow l
+layers_of : (l : Layered) → IsReading l.reading → AreLayers (price l.reading) (kept l.reading) l.places → list_all (is_laid l.places) (root_nodes l.reading) ≡ true → l.bounds ≡ bounds_laid l.reading l.places → AreLayersOf l.reading.service l.reading.flow l
 layers_of l read layers all bounds = record {
   layering = layering_of l.reading read l.places layers laid;
   exact = costs_of l.reading read l.places layers laid;
   bounds = λ cost is. bounds ∙ bounds_exact l.reading read l.places layers all cost is;
 }
   where
-    laid : (k : NodeKey) → Among (active_keys l.reading) k → is_laid l.places k ≡ true
-    laid k there = among_all (is_laid l.places) (root_keys l.reading) k all (active_rooted l.reading k there)
+    laid : (k : NumberedNode) → Among (active_nodes l.reading) k → is_laid l.places k ≡ true
+    laid k there = among_all (is_laid l.places) (root_nodes l.reading) k all (active_rooted l.reading k there)
 
 -- the same of a service and a flow that were read
-pub layers_read : (l : Layered) (v : Service) (f : Solved) → l.reading.service ≡ v → l.reading.flow ≡ f → IsReading l.reading → AreLayers (price l.reading) (kept l.reading) l.places → list_all (is_laid l.places) (root_keys l.reading) ≡ true
+pub layers_read : (l : Layered) (v : Service) (f : Solved) → l.reading.service ≡ v → l.reading.flow ≡ f → IsReading l.reading → AreLayers (price l.reading) (kept l.reading) l.places → list_all (is_laid l.places) (root_nodes l.reading) ≡ true
     → l.bounds ≡ bounds_laid l.reading l.places → AreLayersOf v f l
 layers_read l v f service flow read layers all bounds =
     subst (λ (g : Solved). AreLayersOf v g l) flow (subst (λ (s : Service). AreLayersOf s l.reading.flow l) service (layers_of l read layers all bounds))
@@ -150,9 +150,9 @@ five_pushed {X} old p q r s t a b c d e one two three four last =
     ∙ five old a b c d e
 
 -- the start, then the inputs, then the effects
-pub rooted : (r : Reading) (n : ℕ) (one two three : List NodeKey) → n ≡ config_number r (starting r.service) → one ≡ key.Taken n kind.Start ∷ []
-    → two ≡ one ++ flat_map (input_keys r) (flow_read r).configs → three ≡ two ++ active_keys r → three ≡ root_keys r
+pub rooted : (r : Reading) (n : ℕ) (one two three : List NumberedNode) → n ≡ config_number r (starting r.service) → one ≡ node.Taken n kind.Start ∷ []
+    → two ≡ one ++ flat_map (input_nodes r) (flow_read r).configs → three ≡ two ++ active_nodes r → three ≡ root_nodes r
 rooted r n one two three at first second third =
-    third ∙ ap (λ (ks : List NodeKey). ks ++ active_keys r) second
-    ∙ ap (λ (ks : List NodeKey). (ks ++ flat_map (input_keys r) (flow_read r).configs) ++ active_keys r) first
-    ∙ ap (λ (m : ℕ). key.Taken m kind.Start ∷ flat_map (input_keys r) (flow_read r).configs ++ active_keys r) at
+    third ∙ ap (λ (ks : List NumberedNode). ks ++ active_nodes r) second
+    ∙ ap (λ (ks : List NumberedNode). (ks ++ flat_map (input_nodes r) (flow_read r).configs) ++ active_nodes r) first
+    ∙ ap (λ (m : ℕ). node.Taken m kind.Start ∷ flat_map (input_nodes r) (flow_read r).configs ++ active_nodes r) at

@@ -1,4 +1,4 @@
--- What an input costs that is taken: over keys as over effects.
+-- What an input costs that is taken: over nodes as over effects.
 use Rattle.std.specs.Prelude.{◌≡◌, ℕ, Bool, true, false, if◌then◌else◌, List, [], filter, reverse, Option, Some, None, refl}
 use Rattle.std.specs.Option.{option_map, option_map_or}
 use Rattle.std.proofs.Common.{arith, ap, ◌∙◌, sym, subst}
@@ -27,8 +27,8 @@ use Rattle.mh_laws.specs.Ways.{Told, Sure, Unsure}
 use Rattle.mh_layers.specs.declared.bounds.InputKind.{InputKind}
 use Rattle.mh_layers.specs.declared.bounds.InputKind.TheVariants as kind
 use Rattle.mh_layers.specs.Inputs as inputs
-use Rattle.mh_layers.specs.Key.{Key, Fired, Enter, Any}
-use Rattle.mh_layers.specs.Keys.{every_timer, fired_of, has_groups, heard_key, is_named, objects, scene_there, taken_price, takes}
+use Rattle.mh_layers.specs.CostNode.{CostNode, Fired, Enter, Any}
+use Rattle.mh_layers.specs.CostNodes.{every_timer, fired_of, has_groups, heard_key, is_named, objects, scene_there, taken_price, takes}
 use Rattle.mh_layers.proofs.ActAgreeLemmas.{leaving}
 use Rattle.mh_layers.proofs.AgreeLemmas.{Agrees, Setting, agrees_if, agrees_largest, agrees_most, agrees_node, agrees_nothing, agrees_one, agrees_plus, agrees_sum, agrees_then, agrees_wider, effects_come}
 use Rattle.mh_layers.proofs.FiredLemmas.{emit_agrees, heard_agrees, silent_fired}
@@ -37,7 +37,7 @@ use Rattle.mh_layers.proofs.ReckonLemmas.{sum_filtered}
 use Rattle.mh_layers.proofs.TimerLemmas.{every_once, once_filtered}
 
 -- what is there
-abbrev own : {A : Type 0} → Setting A → Config → View Key
+abbrev own : {A : Type 0} → Setting A → Config → View CostNode
 own s c = objects s.service s.flow s.heard c
 
 -- an event that waits
@@ -145,7 +145,7 @@ scene_change_agrees s c here g =
 -- All kinds
 
 -- one step, and what comes of it
-begun : {A : Type 0} (s : Setting A) (n : ℕ) (p : Price Key) (q : Price costs.Effect) → Agrees s n p q → Agrees s n (Plus One p) (Plus One q)
+begun : {A : Type 0} (s : Setting A) (n : ℕ) (p : Price CostNode) (q : Price costs.Effect) → Agrees s n p q → Agrees s n (Plus One p) (Plus One q)
 begun s n p q a = agrees_plus s n One p One q (agrees_one s n) a
 
 pub taken_agrees : {A : Type 0} (s : Setting A) (c : Config) → reached s.flow c ≡ true → has_groups s.service c ≡ true → (k : InputKind) → Agrees s 6 (taken_price s.service s.flow s.heard c k) (takes s.service s.flow c k)
@@ -176,13 +176,13 @@ taken_agrees s c here groups kind.Arrive =
     (agrees_wider s 4 6 contents contents_of (omega arith) (contents_agree s c here))
     (agrees_largest s 6 (inputs.scene_change (numbered_service s c)) (costs.scene_change s.service s.flow c) (costs.late_scenes s.service s.flow c) (λ g there. scene_change_agrees s c here g)))
   where
-    contents : Price Key
+    contents : Price CostNode
     contents = sum_price (inputs.content_told (own s c)) (present s.service c)
 
     contents_of : Price costs.Effect
     contents_of = sum_price (λ (p : Fixed). content_of s p (part_at p.key (present s.service c))) (present s.service c)
 
-    changes : Price Key
+    changes : Price CostNode
     changes = most_price (inputs.scene_change (numbered_service s c)) (costs.late_scenes s.service s.flow c)
 
     changes_of : Price costs.Effect

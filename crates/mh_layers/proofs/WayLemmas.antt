@@ -17,21 +17,21 @@ use Rattle.mh_laws.proofs.NodeLemmas.{config_among}
 use Rattle.mh_layers.specs.declared.bounds.InputKind.{InputKind}
 use Rattle.mh_layers.specs.declared.bounds.InputKind.TheVariants as kind
 use Rattle.mh_layers.specs.declared.ways.way.Way.{Way}
-use Rattle.mh_layers.specs.Key.{Key, Taken}
-use Rattle.mh_layers.specs.Bridge.{key_of}
+use Rattle.mh_layers.specs.CostNode.{CostNode, Taken}
+use Rattle.mh_layers.specs.Bridge.{node_of}
 use Rattle.mh_layers.specs.Caused.{IsNamed}
 use Rattle.mh_layers.specs.Causing.{Counts}
 use Rattle.mh_layers.specs.Choosing.{IsLargest, number_at}
 use Rattle.mh_layers.specs.Dearest.{AreDearestWays, AreStages, IsFirstLargest, IsWay, Puts, all_kinds, configs_for, taken_told}
-use Rattle.mh_layers.specs.Keys.{takes}
-use Rattle.mh_layers.specs.Layered.{kinds, root_keys}
+use Rattle.mh_layers.specs.CostNodes.{takes}
+use Rattle.mh_layers.specs.Layered.{kinds, root_nodes}
 use Rattle.mh_layers.specs.Layering.{AreLayers, Places, is_laid}
 use Rattle.mh_layers.specs.Reading.{IsReading, Reading, flow_read, heard_read, kept, name, number, price}
 use Rattle.mh_layers.specs.Staging.{AreStagesFrom, AreWays, IsWayIn, IsWayOf, PutsFrom}
 use Rattle.mh_layers.specs.Taking.{taken_laid}
 use Rattle.mh_layers.proofs.BoundLemmas.{taken_kept, taken_met}
 use Rattle.mh_layers.proofs.CausingLemmas.{counts_price, stands_counts, tested}
-use Rattle.mh_layers.proofs.KeyAgreeLemmas.{key_agrees}
+use Rattle.mh_layers.proofs.NodeAgreeLemmas.{node_agrees}
 use Rattle.mh_layers.proofs.MetLemmas.{reached_among}
 use Rattle.mh_layers.proofs.ReadingLemmas.{numbers_are_names}
 use Rattle.mh_layers.proofs.RootLemmas.{input_rooted, start_reached, starts_rooted, taken_cut}
@@ -45,19 +45,19 @@ record IsTaken (r : Reading) (ts : Places) (k : InputKind) (c : Config) : Type 0
   pub here : reached (flow_read r) c ≡ true
   pub laid : is_laid ts (number r (Taken c k)) ≡ true
 
-start_taken : (r : Reading) → IsReading r → (ts : Places) → list_all (is_laid ts) (root_keys r) ≡ true → IsTaken r ts kind.Start (starting r.service)
+start_taken : (r : Reading) → IsReading r → (ts : Places) → list_all (is_laid ts) (root_nodes r) ≡ true → IsTaken r ts kind.Start (starting r.service)
 start_taken r read ts all = record {
   here = start_reached r read;
-  laid = among_all (is_laid ts) (root_keys r) (number r (Taken (starting r.service) kind.Start)) all (starts_rooted r);
+  laid = among_all (is_laid ts) (root_nodes r) (number r (Taken (starting r.service) kind.Start)) all (starts_rooted r);
 }
 
-input_taken : (r : Reading) (ts : Places) → list_all (is_laid ts) (root_keys r) ≡ true → (k : InputKind) → Among kinds k → (c : Config) → Among (flow_read r).configs c → IsTaken r ts k c
+input_taken : (r : Reading) (ts : Places) → list_all (is_laid ts) (root_nodes r) ≡ true → (k : InputKind) → Among kinds k → (c : Config) → Among (flow_read r).configs c → IsTaken r ts k c
 input_taken r ts all k one c there = record {
   here = reached_among (flow_read r).configs c there;
-  laid = among_all (is_laid ts) (root_keys r) (number r (Taken c k)) all (input_rooted r c k there one);
+  laid = among_all (is_laid ts) (root_nodes r) (number r (Taken c k)) all (input_rooted r c k there one);
 }
 
-each_taken : (r : Reading) → IsReading r → (ts : Places) → list_all (is_laid ts) (root_keys r) ≡ true → (k : InputKind) (c : Config) → Among (configs_for r.service (flow_read r) k) c → IsTaken r ts k c
+each_taken : (r : Reading) → IsReading r → (ts : Places) → list_all (is_laid ts) (root_nodes r) ≡ true → (k : InputKind) (c : Config) → Among (configs_for r.service (flow_read r) k) c → IsTaken r ts k c
 each_taken r read ts all kind.Start c (inl same) = subst (IsTaken r ts kind.Start) same (start_taken r read ts all)
 each_taken r read ts all kind.Start c (inr never) = absurd cc
 each_taken r read ts all kind.Key c there = input_taken r ts all kind.Key (inl refl) c there
@@ -66,7 +66,7 @@ each_taken r read ts all kind.Stream c there = input_taken r ts all kind.Stream 
 each_taken r read ts all kind.Engine c there = input_taken r ts all kind.Engine (inr (inr (inr (inl refl)))) c there
 each_taken r read ts all kind.Arrive c there = input_taken r ts all kind.Arrive (inr (inr (inr (inr (inl refl))))) c there
 
-pub way_here : (r : Reading) → IsReading r → (ts : Places) → list_all (is_laid ts) (root_keys r) ≡ true → (k : InputKind) (cs : List Config) (n : ℕ) (c : Config) → cs ≡ configs_for r.service (flow_read r) k → slice_get cs n ≡ Some c → reached (flow_read r) c ≡ true
+pub way_here : (r : Reading) → IsReading r → (ts : Places) → list_all (is_laid ts) (root_nodes r) ≡ true → (k : InputKind) (cs : List Config) (n : ℕ) (c : Config) → cs ≡ configs_for r.service (flow_read r) k → slice_get cs n ≡ Some c → reached (flow_read r) c ≡ true
 way_here r read ts all k cs n c are at =
     (each_taken r read ts all k c (subst (λ (ds : List Config). Among ds c) are (got_among cs n c at))).here
 
@@ -79,12 +79,12 @@ taken_named r read c here k = record {
 
 -- WHAT IT PUTS TO WORK
 
-taken_puts : (r : Reading) → IsReading r → (c : Config) → reached (flow_read r) c ≡ true → (k : InputKind) (y : costs.Effect) → Counts r.service (flow_read r) (heard_read r) (Taken c k) (key_of y) → Puts r.service (flow_read r) k c y
+taken_puts : (r : Reading) → IsReading r → (c : Config) → reached (flow_read r) c ≡ true → (k : InputKind) (y : costs.Effect) → Counts r.service (flow_read r) (heard_read r) (Taken c k) (node_of y) → Puts r.service (flow_read r) k c y
 taken_puts r read c here k y counts =
-    counts_price r.service (flow_read r) (heard_read r) (read_of r read) y 6 (takes r.service (flow_read r) c k) (Taken c k) (key_of y)
-    (key_agrees (tested r.service (flow_read r) (heard_read r) (read_of r read) y) (Taken c k) tt (taken_met r read c here k)) (taken_met r read c here k) refl counts
+    counts_price r.service (flow_read r) (heard_read r) (read_of r read) y 6 (takes r.service (flow_read r) c k) (Taken c k) (node_of y)
+    (node_agrees (tested r.service (flow_read r) (heard_read r) (read_of r read) y) (Taken c k) tt (taken_met r read c here k)) (taken_met r read c here k) refl counts
 
-puts_taken : (r : Reading) → IsReading r → (c : Config) → reached (flow_read r) c ≡ true → (k : InputKind) (y : costs.Effect) → Puts r.service (flow_read r) k c y → Counts r.service (flow_read r) (heard_read r) (Taken c k) (key_of y)
+puts_taken : (r : Reading) → IsReading r → (c : Config) → reached (flow_read r) c ≡ true → (k : InputKind) (y : costs.Effect) → Puts r.service (flow_read r) k c y → Counts r.service (flow_read r) (heard_read r) (Taken c k) (node_of y)
 puts_taken r read c here k y puts =
     stands_counts r.service (flow_read r) (heard_read r) (read_of r read) y 7 (Taken c k) refl (taken_met r read c here k) (omega arith) puts
 
@@ -93,13 +93,13 @@ named_taken r read c here k = (numbers_are_names r read).back (Taken c k) (taken
 
 -- THE WAY
 
-laid_told : (r : Reading) → IsReading r → (ts : Places) → AreLayers (price r) (kept r) ts → list_all (is_laid ts) (root_keys r) ≡ true → (f : costs.Costing) → IsCost r.service (flow_read r) f → (k : InputKind) (c : Config)
+laid_told : (r : Reading) → IsReading r → (ts : Places) → AreLayers (price r) (kept r) ts → list_all (is_laid ts) (root_nodes r) ≡ true → (f : costs.Costing) → IsCost r.service (flow_read r) f → (k : InputKind) (c : Config)
     → Among (configs_for r.service (flow_read r) k) c → taken_laid r ts k c ≡ taken_told r.service (flow_read r) f k c
 laid_told r read ts layers all f is k c there =
     let taken = each_taken r read ts all k c there in taken_cut r read ts layers f is c taken.here k taken.laid
 
 -- of this kind, in this configuration
-way_so : (r : Reading) → IsReading r → (ts : Places) → AreLayers (price r) (kept r) ts → list_all (is_laid ts) (root_keys r) ≡ true → (f : costs.Costing) → IsCost r.service (flow_read r) f → (k : InputKind) (ns : List ℕ) (n : ℕ) (c : Config)
+way_so : (r : Reading) → IsReading r → (ts : Places) → AreLayers (price r) (kept r) ts → list_all (is_laid ts) (root_nodes r) ≡ true → (f : costs.Costing) → IsCost r.service (flow_read r) f → (k : InputKind) (ns : List ℕ) (n : ℕ) (c : Config)
     → ns ≡ map (taken_laid r ts k) (configs_for r.service (flow_read r) k) → IsLargest ns n → slice_get (configs_for r.service (flow_read r) k) n ≡ Some c
     → IsFirstLargest (taken_told r.service (flow_read r) f k) (configs_for r.service (flow_read r) k) n c × (number_at ns n ≡ taken_told r.service (flow_read r) f k c)
 way_so r read ts layers all f is k ns n c costs_are largest at =
@@ -115,11 +115,11 @@ stages_so : (r : Reading) → IsReading r → (f : costs.Costing) → IsCost r.s
     → AreStages r.service (flow_read r) f (Puts r.service (flow_read r) k c) y.stages.items
 stages_so r read f is c here k y stages =
     stages_same r.service (flow_read r) f (PutsFrom r (number r (Taken c k))) (Puts r.service (flow_read r) k c) y.stages.items
-    (λ x puts. taken_puts r read c here k x (subst (λ (i : Key). Counts r.service (flow_read r) (heard_read r) i (key_of x)) (named_taken r read c here k) puts))
-    (λ x puts. subst (λ (i : Key). Counts r.service (flow_read r) (heard_read r) i (key_of x)) (sym (named_taken r read c here k)) (puts_taken r read c here k x puts))
+    (λ x puts. taken_puts r read c here k x (subst (λ (i : CostNode). Counts r.service (flow_read r) (heard_read r) i (node_of x)) (named_taken r read c here k) puts))
+    (λ x puts. subst (λ (i : CostNode). Counts r.service (flow_read r) (heard_read r) i (node_of x)) (sym (named_taken r read c here k)) (puts_taken r read c here k x puts))
     (stages.by f is)
 
-pub way_found : (r : Reading) → IsReading r → (ts : Places) → AreLayers (price r) (kept r) ts → list_all (is_laid ts) (root_keys r) ≡ true → (k : InputKind) (cs : List Config) (ns : List ℕ) (n : ℕ) (c : Config) (y : Way)
+pub way_found : (r : Reading) → IsReading r → (ts : Places) → AreLayers (price r) (kept r) ts → list_all (is_laid ts) (root_nodes r) ≡ true → (k : InputKind) (cs : List Config) (ns : List ℕ) (n : ℕ) (c : Config) (y : Way)
     → cs ≡ configs_for r.service (flow_read r) k → ns ≡ map (taken_laid r ts k) cs → IsLargest ns n → slice_get cs n ≡ Some c → IsWayIn r c k (number_at ns n) y → IsWayOf r k y
 way_found r read ts layers all k cs ns n c y are costs_are largest at way = record {
   kind = way.kind;

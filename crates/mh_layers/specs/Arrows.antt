@@ -29,7 +29,7 @@ use Rattle.mh_layers.specs.declared.arrows.arrow.By.TheVariants as by
 use Rattle.mh_layers.specs.declared.arrows.arrow.Held.{Held}
 use Rattle.mh_layers.specs.declared.cause.Cause.{Cause}
 use Rattle.mh_layers.specs.Cycle.{AreFirstCycle, first_number}
-use Rattle.mh_layers.specs.Keys.{data_of, waits_for}
+use Rattle.mh_layers.specs.CostNodes.{data_of, waits_for}
 use Rattle.mh_layers.specs.Reading.{same_setting}
 
 -- What is granted

@@ -16,7 +16,7 @@ use Rattle.mh_layers.specs.declared.bounds.InputKind.TheVariants as kind
 use Rattle.mh_layers.specs.declared.ways.way.Stage.{Stage}
 use Rattle.mh_layers.specs.declared.ways.way.Way.{Way}
 use Rattle.mh_layers.specs.Cycle.{by_effect_site, cause_of}
-use Rattle.mh_layers.specs.Keys.{takes}
+use Rattle.mh_layers.specs.CostNodes.{takes}
 use Rattle.mh_layers.specs.Known.{top}
 
 -- Numbers as 64 bits tell them

@@ -13,10 +13,10 @@ use Rattle.mh_laws.specs.Layers.{IsCost, IsLayering, IsOn}
 use Rattle.mh_flow.specs.Solved.{Solved, flow_in}
 use Rattle.mh_layers.specs.declared.bounds.InputKind.{InputKind}
 use Rattle.mh_layers.specs.declared.bounds.InputKind.TheVariants as kind
-use Rattle.mh_layers.specs.declared.node_key.NodeKey.{NodeKey}
-use Rattle.mh_layers.specs.declared.node_key.NodeKey.TheVariants as key
+use Rattle.mh_layers.specs.declared.numbered_node.NumberedNode.{NumberedNode}
+use Rattle.mh_layers.specs.declared.numbered_node.NumberedNode.TheVariants as node
 use Rattle.mh_layers.specs.Bounding.{capped}
-use Rattle.mh_layers.specs.Bridge.{cost_by, key_of, rank_by}
+use Rattle.mh_layers.specs.Bridge.{cost_by, node_of, rank_by}
 use Rattle.mh_layers.specs.Known.{top}
 use Rattle.mh_layers.specs.Layering.{Places}
 use Rattle.mh_layers.specs.Reading.{Reading, config_number, flow_read, number, object_number}
@@ -35,26 +35,26 @@ has_actions p n = not (is_empty (costs.effect_at p n))
 abbrev pub acting : Fixed → List ℕ
 acting p = filter (has_actions p) (range_with_len 0 (length (costs.effects p)))
 
--- the keys of these, and of all such that are active in a configuration, and anywhere
+-- the nodes of these, and of all such that are active in a configuration, and anywhere
 
-abbrev pub keys_at : Reading → ℕ → Fixed → List NodeKey
-keys_at r c p = map (λ n. key.Effect c (object_number r p.key) n) (acting p)
+abbrev pub nodes_at : Reading → ℕ → Fixed → List NumberedNode
+nodes_at r c p = map (λ n. node.Effect c (object_number r p.key) n) (acting p)
 
-abbrev pub keys_of : Reading → Config → Fixed → List NodeKey
-keys_of r c p = keys_at r (config_number r c) p
+abbrev pub nodes_in : Reading → Config → Fixed → List NumberedNode
+nodes_in r c p = nodes_at r (config_number r c) p
 
-abbrev pub keys_active : Reading → Config → List NodeKey
-keys_active r c = flat_map (keys_of r c) (filter (is_active (present r.service c)) (present r.service c))
+abbrev pub nodes_active : Reading → Config → List NumberedNode
+nodes_active r c = flat_map (nodes_in r c) (filter (is_active (present r.service c)) (present r.service c))
 
-abbrev pub active_keys : Reading → List NodeKey
-active_keys r = flat_map (keys_active r) (flow_read r).configs
+abbrev pub active_nodes : Reading → List NumberedNode
+active_nodes r = flat_map (nodes_active r) (flow_read r).configs
 
 abbrev pub rank_laid : Layered → costs.Effect → ℕ
-rank_laid l x = rank_by l.places (number l.reading) (key_of x)
+rank_laid l x = rank_by l.places (number l.reading) (node_of x)
 
 -- what is not laid costs nothing; an active effect is not laid only if it has no actions
 abbrev pub cost_laid : Layered → costs.Effect → ℕ
-cost_laid l x = or_nothing (cost_by l.places (number l.reading) (key_of x))
+cost_laid l x = or_nothing (cost_by l.places (number l.reading) (node_of x))
 
 -- the ranks are a layering of the service; each active effect has its exact cost, and the start and each kind of input its
 -- own, cut at the largest number
@@ -65,13 +65,13 @@ pub record AreLayersOf (v : Service) (f : Solved) (l : Layered) : Type 0 where
       cost_laid l x ≡ min (cost x) top
   pub bounds : (cost : costs.Costing) → IsCost v (flow_in v f) cost → l.bounds ≡ capped (six_costs v (flow_in v f) cost)
 
--- the keys of the start and of all inputs, and after them those of all effects that have actions
+-- the nodes of the start and of all inputs, and after them those of all effects that have actions
 abbrev pub kinds : List InputKind
 kinds = kind.Key ∷ kind.Tick ∷ kind.Stream ∷ kind.Engine ∷ kind.Arrive ∷ []
 
-abbrev pub input_keys : Reading → Config → List NodeKey
-input_keys r c = map (λ k. key.Taken (config_number r c) k) kinds
+abbrev pub input_nodes : Reading → Config → List NumberedNode
+input_nodes r c = map (λ k. node.Taken (config_number r c) k) kinds
 
-abbrev pub root_keys : Reading → List NodeKey
-root_keys r =
-    key.Taken (config_number r (starting r.service)) kind.Start ∷ flat_map (input_keys r) (flow_read r).configs ++ active_keys r
+abbrev pub root_nodes : Reading → List NumberedNode
+root_nodes r =
+    node.Taken (config_number r (starting r.service)) kind.Start ∷ flat_map (input_nodes r) (flow_read r).configs ++ active_nodes r

@@ -1,12 +1,12 @@
 pub mod Known
-pub mod NodeKeys
-pub mod NodeKeyLaws
+pub mod NumberedNodes
+pub mod NumberedNodeLaws
 pub mod Layering
 pub mod Numbered
-pub mod Key
+pub mod CostNode
 pub mod Inputs
 pub mod Grouped
-pub mod Keys
+pub mod CostNodes
 pub mod Bridge
 pub mod Hashing
 pub mod Listening
@@ -18,7 +18,7 @@ pub mod Taking
 pub mod Cycle
 pub mod Cheapest
 pub mod Causing
-pub mod KeyGraph
+pub mod NodeGraph
 pub mod Successors
 pub mod EffectSites
 pub mod Walk

@@ -23,12 +23,12 @@ use Rattle.mh_laws.specs.Each.{Among}
 use Rattle.mh_laws.specs.Flow.{Flow}
 use Rattle.mh_laws.specs.Price.{Price, Node, Plus, sum_price}
 use Rattle.mh_flow.specs.Chart.{all_parts}
-use Rattle.mh_layers.specs.declared.node_key.NodeKey.{NodeKey}
+use Rattle.mh_layers.specs.declared.numbered_node.NumberedNode.{NumberedNode}
 use Rattle.mh_layers.specs.declared.listening.listener_slot.EventKey.{EventKey}
 use Rattle.mh_layers.specs.declared.listening.listener_slot.Share.{Share}
 use Rattle.mh_layers.specs.declared.listening.listener_slot.ListenerSlot.{ListenerSlot}
-use Rattle.mh_layers.specs.Key.{Key, Effect}
-use Rattle.mh_layers.specs.Keys.{Heard, HearsAll, data_of, links_with, waits_for}
+use Rattle.mh_layers.specs.CostNode.{CostNode, Effect}
+use Rattle.mh_layers.specs.CostNodes.{Heard, HearsAll, data_of, links_with, waits_for}
 use Rattle.mh_layers.specs.Known.{known_worth}
 
 -- What is named
@@ -195,15 +195,15 @@ ValuesAreNumbered =
     heard l r kind ≡ Some xs → TellValues xs
 
 -- the sum over the links of the application that wait, and then over those of the scene
-abbrev pub link_node : Config → Fixed → Price Key
+abbrev pub link_node : Config → Fixed → Price CostNode
 link_node c p = Node (Effect c p.key costs.link_effect)
 
-abbrev pub waiting_links : Service → Config → (Fixed → Bool) → Price Key
+abbrev pub waiting_links : Service → Config → (Fixed → Bool) → Price CostNode
 waiting_links v c t =
     Plus (sum_price (link_node c) (filter t (group_parts v c.app))) (sum_price (link_node c) (filter t (scene_parts v c.scene)))
 
 -- comes to what the sum over all that is present does, where the others add nothing
 abbrev pub SumsOverLinks : Type 0
 SumsOverLinks =
-    (v : Service) (c : Config) (r : ObjRef) (kind : EventType) (is : Option Value → Bool) (k : Key → Result ℕ NodeKey) →
+    (v : Service) (c : Config) (r : ObjRef) (kind : EventType) (is : Option Value → Bool) (k : CostNode → Result ℕ NumberedNode) →
     known_worth k (links_with v c r kind is) ≡ known_worth k (waiting_links v c (λ p. waits_for r kind p && is (data_of p)))

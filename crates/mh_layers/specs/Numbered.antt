@@ -1,4 +1,4 @@
--- Keys by number and by name.
+-- Nodes by number and by name.
 use Rattle.std.specs.Prelude.{◌≡◌, ℕ, ◌<◌, Option, Some, Ok}
 use Rattle.mh_laws.specs.Price.{Price, Nothing, One, Node, Plus, Most, Nodes}
 use Rattle.mh_prices.specs.Meter.{Meter}
@@ -16,7 +16,7 @@ numbered g (Most p q) = Most (numbered g p) (numbered g q)
 abbrev pub through : {K L S M : Type 0} → (K → L) → Meter L S M → Meter K S M
 through g m = record { one = m.one; node = λ k s. m.node (g k) s; aside = m.aside; next = m.next; close = m.close }
 
--- costs and ranks by name: each key that has them costs what its price comes to, and its rank is above those that its
+-- costs and ranks by name: each node that has them costs what its price comes to, and its rank is above those that its
 -- price counts
 pub record AreNamed {K : Type 0} (price : K → Price K) (has : K → Type 0) (cost : K → Option ℕ) (rank : K → ℕ) : Type 0 where
   pub comes : (k : K) → has k → (c : ℕ) × (cost k ≡ Some c) × (known_worth (told cost) (price k) ≡ Ok c)

@@ -1,4 +1,4 @@
--- A service as it is read for its layers, and the numbers of its keys: a key is told by the places of its configuration, of
+-- A service as it is read for its layers, and the numbers of its nodes: a node is told by the places of its configuration, of
 -- its object and of its value, each among all of its kind.
 use Rattle.std.specs.Prelude.{◌≡◌, ℕ, Bool, true, ◌&&◌, if◌then◌else◌, List, [], ◌∷◌, length, map, position, slice_get, unwrap_or, get_or, is_some, Option, None, Result}
 use Rattle.std.specs.List.{flat_map}
@@ -22,13 +22,13 @@ use Rattle.mh_laws.specs.Price.{Price, Node, Plus, if_price}
 use Rattle.mh_laws.specs.View.{Around}
 use Rattle.mh_laws.specs.Ways.{Told}
 use Rattle.mh_flow.specs.Solved.{IsFlowOf, Solved, flow_in, held_by, held_in}
-use Rattle.mh_layers.specs.declared.node_key.Hears.{Hears}
-use Rattle.mh_layers.specs.declared.node_key.Hears.TheVariants as hears
-use Rattle.mh_layers.specs.declared.node_key.NodeKey.{NodeKey}
-use Rattle.mh_layers.specs.declared.node_key.NodeKey.TheVariants as key
-use Rattle.mh_layers.specs.Key.{Key, Effect, Fired, Entry, Change, Leave, Enter, Taken, Hearing, Plain, With, Any}
+use Rattle.mh_layers.specs.declared.numbered_node.Hears.{Hears}
+use Rattle.mh_layers.specs.declared.numbered_node.Hears.TheVariants as hears
+use Rattle.mh_layers.specs.declared.numbered_node.NumberedNode.{NumberedNode}
+use Rattle.mh_layers.specs.declared.numbered_node.NumberedNode.TheVariants as node
+use Rattle.mh_layers.specs.CostNode.{CostNode, Effect, Fired, Entry, Change, Leave, Enter, Taken, Hearing, Plain, With, Any}
 use Rattle.mh_layers.specs.Bridge.{AreNumbers, KeptBy}
-use Rattle.mh_layers.specs.Keys.{Heard, every_timer, hearing, around_of, price_of, values}
+use Rattle.mh_layers.specs.CostNodes.{Heard, every_timer, hearing, around_of, price_of, values}
 use Rattle.mh_layers.specs.Known.{told}
 use Rattle.mh_layers.specs.Layering.{Places, cost_in}
 use Rattle.mh_layers.specs.Listening.{IsListening, Listeners, heard}
@@ -89,15 +89,15 @@ hears_among xs Any = hears.Any
 abbrev pub hears_number : Reading → ObjRef → EventType → Hearing → Hears
 hears_number r o kind g = hears_among (values_read r o kind) g
 
--- the number of a key
-abbrev pub number : Reading → Key → NodeKey
-number r (Effect c o n) = key.Effect (config_number r c) (object_number r o) n
-number r (Fired c o kind g) = key.Fired (config_number r c) (object_number r o) kind (hears_number r o kind g)
-number r (Entry o kind g) = key.Entry (object_number r o) kind (hears_number r o kind g)
-number r (Change c o) = key.Change (config_number r c) (object_number r o)
-number r (Leave c all) = key.Leave (config_number r c) all
-number r (Enter c) = key.Enter (config_number r c)
-number r (Taken c k) = key.Taken (config_number r c) k
+-- the number of a node
+abbrev pub number : Reading → CostNode → NumberedNode
+number r (Effect c o n) = node.Effect (config_number r c) (object_number r o) n
+number r (Fired c o kind g) = node.Fired (config_number r c) (object_number r o) kind (hears_number r o kind g)
+number r (Entry o kind g) = node.Entry (object_number r o) kind (hears_number r o kind g)
+number r (Change c o) = node.Change (config_number r c) (object_number r o)
+number r (Leave c all) = node.Leave (config_number r c) all
+number r (Enter c) = node.Enter (config_number r c)
+number r (Taken c k) = node.Taken (config_number r c) k
 
 -- Names: where there is none, one that is not among those that have a number
 
@@ -144,36 +144,36 @@ abbrev pub has_hearing : Reading → ObjRef → EventType → Hears → Bool
 has_hearing r o kind (hears.With n) = is_some (slice_get (values_read r o kind) n)
 has_hearing r o kind _ = true
 
-abbrev pub has_names : Reading → NodeKey → Bool
-has_names r (key.Effect c o n) = has_config r c && has_object r o
-has_names r (key.Fired c o kind g) = has_config r c && (has_object r o && has_hearing r (object_named r o) kind g)
-has_names r (key.Entry o kind g) = has_object r o && has_hearing r (object_named r o) kind g
-has_names r (key.Change c o) = has_config r c && has_object r o
-has_names r (key.Leave c all) = has_config r c
-has_names r (key.Enter c) = has_config r c
-has_names r (key.Taken c k) = has_config r c
+abbrev pub has_names : Reading → NumberedNode → Bool
+has_names r (node.Effect c o n) = has_config r c && has_object r o
+has_names r (node.Fired c o kind g) = has_config r c && (has_object r o && has_hearing r (object_named r o) kind g)
+has_names r (node.Entry o kind g) = has_object r o && has_hearing r (object_named r o) kind g
+has_names r (node.Change c o) = has_config r c && has_object r o
+has_names r (node.Leave c all) = has_config r c
+has_names r (node.Enter c) = has_config r c
+has_names r (node.Taken c k) = has_config r c
 
--- the key with a number
-abbrev pub name : Reading → NodeKey → Key
-name r (key.Effect c o n) = Effect (config_named r c) (object_named r o) n
-name r (key.Fired c o kind g) = Fired (config_named r c) (object_named r o) kind (hearing_named r (object_named r o) kind g)
-name r (key.Entry o kind g) = Entry (object_named r o) kind (hearing_named r (object_named r o) kind g)
-name r (key.Change c o) = Change (config_named r c) (object_named r o)
-name r (key.Leave c all) = Leave (config_named r c) all
-name r (key.Enter c) = Enter (config_named r c)
-name r (key.Taken c k) = Taken (config_named r c) k
+-- the node with a number
+abbrev pub name : Reading → NumberedNode → CostNode
+name r (node.Effect c o n) = Effect (config_named r c) (object_named r o) n
+name r (node.Fired c o kind g) = Fired (config_named r c) (object_named r o) kind (hearing_named r (object_named r o) kind g)
+name r (node.Entry o kind g) = Entry (object_named r o) kind (hearing_named r (object_named r o) kind g)
+name r (node.Change c o) = Change (config_named r c) (object_named r o)
+name r (node.Leave c all) = Leave (config_named r c) all
+name r (node.Enter c) = Enter (config_named r c)
+name r (node.Taken c k) = Taken (config_named r c) k
 
 -- Prices
 
--- what a key costs over others
-abbrev pub price_read : Reading → Key → Price Key
+-- what a node costs over others
+abbrev pub price_read : Reading → CostNode → Price CostNode
 price_read r k = price_of r.service (flow_read r) (heard_read r) k
 
-abbrev pub price : Reading → NodeKey → Price NodeKey
+abbrev pub price : Reading → NumberedNode → Price NumberedNode
 price r n = numbered (number r) (price_read r (name r n))
 
--- the numbers whose keys may have a cost
-abbrev pub kept : Reading → NodeKey → Type 0
+-- the numbers whose nodes may have a cost
+abbrev pub kept : Reading → NumberedNode → Type 0
 kept r n = KeptBy r.service (flow_read r) (heard_read r) (name r) n
 
 -- A numbered service, and what is asked of it
@@ -192,11 +192,11 @@ pub record CostContext : Type 0 where
   pub reading : Reading
   pub config : Config
 
-abbrev pub around_at : CostContext → Around Key
+abbrev pub around_at : CostContext → Around CostNode
 around_at s = around_of s.reading.service (flow_read s.reading) (heard_read s.reading) s.config
 
--- what is known of a key, by its number
-abbrev pub known_by : Reading → Places → Key → Result ℕ NodeKey
+-- what is known of a node, by its number
+abbrev pub known_by : Reading → Places → CostNode → Result ℕ NumberedNode
 known_by r ts k = told (cost_in ts) (number r k)
 
 -- a configuration by its number, and by its name
@@ -206,26 +206,26 @@ context_at r n = record { reading = r; config = config_named r n }
 abbrev pub context_in : Reading → Config → CostContext
 context_in r c = record { reading = r; config = c }
 
--- Numbers of keys of the configuration
+-- Numbers of nodes of the configuration
 
-abbrev pub effect_key : CostContext → ObjRef → ℕ → NodeKey
-effect_key s o n = key.Effect (config_number s.reading s.config) (object_number s.reading o) n
+abbrev pub effect_node : CostContext → ObjRef → ℕ → NumberedNode
+effect_node s o n = node.Effect (config_number s.reading s.config) (object_number s.reading o) n
 
-abbrev pub fired_key : CostContext → ObjRef → EventType → Hears → NodeKey
-fired_key s o kind g = key.Fired (config_number s.reading s.config) (object_number s.reading o) kind g
+abbrev pub fired_node : CostContext → ObjRef → EventType → Hears → NumberedNode
+fired_node s o kind g = node.Fired (config_number s.reading s.config) (object_number s.reading o) kind g
 
 -- what an event of a hearing with this number sets going, all of it, and if its source is there
-abbrev pub fired_by : CostContext → ObjRef → EventType → Hears → Price NodeKey
-fired_by s o kind hears.Plain = Node (fired_key s o kind hears.Plain)
-fired_by s o kind (hears.With n) = Plus (Node (fired_key s o kind hears.Plain)) (Node (fired_key s o kind (hears.With n)))
-fired_by s o kind hears.Any = Node (fired_key s o kind hears.Any)
+abbrev pub fired_by : CostContext → ObjRef → EventType → Hears → Price NumberedNode
+fired_by s o kind hears.Plain = Node (fired_node s o kind hears.Plain)
+fired_by s o kind (hears.With n) = Plus (Node (fired_node s o kind hears.Plain)) (Node (fired_node s o kind (hears.With n)))
+fired_by s o kind hears.Any = Node (fired_node s o kind hears.Any)
 
-abbrev pub there_by : CostContext → ObjRef → EventType → Hears → Price NodeKey
+abbrev pub there_by : CostContext → ObjRef → EventType → Hears → Price NumberedNode
 there_by s o kind g = if_price (is_there o (present s.reading.service s.config)) (fired_by s o kind g)
 
 -- such an event is dealt with at once, or waits
-abbrev pub dealt_by : CostContext → ObjRef → EventType → Hears → Price NodeKey
-dealt_by s o kind g = if is_sync kind then there_by s o kind g else Node (key.Entry (object_number s.reading o) kind g)
+abbrev pub dealt_by : CostContext → ObjRef → EventType → Hears → Price NumberedNode
+dealt_by s o kind g = if is_sync kind then there_by s o kind g else Node (node.Entry (object_number s.reading o) kind g)
 
 -- the number of the hearing of an event of which this is known, if a link hears it
 abbrev pub hears_told : Reading → ObjRef → EventType → Told → Option Hears

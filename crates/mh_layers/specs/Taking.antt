@@ -9,7 +9,7 @@ use Rattle.mh_laws.specs.Budget.{Bounds}
 use Rattle.mh_laws.specs.Costs.{can_lead_to_late}
 use Rattle.mh_layers.specs.declared.bounds.InputKind.{InputKind}
 use Rattle.mh_layers.specs.declared.bounds.InputKind.TheVariants as kind
-use Rattle.mh_layers.specs.declared.node_key.NodeKey.TheVariants as key
+use Rattle.mh_layers.specs.declared.numbered_node.NumberedNode.TheVariants as node
 use Rattle.mh_layers.specs.Layering.{Places, cost_in}
 use Rattle.mh_layers.specs.Reading.{Reading, config_number, flow_read}
 
@@ -25,7 +25,7 @@ or_nothing (Some n) = n
 
 -- what an input of this kind costs that is taken in the configuration, if that is laid
 unfoldable pub taken_laid : Reading → Places → InputKind → Config → ℕ
-taken_laid r ts k c = or_nothing (cost_in ts (key.Taken (config_number r c) k))
+taken_laid r ts k c = or_nothing (cost_in ts (node.Taken (config_number r c) k))
 
 -- the largest of these, and of what it was
 abbrev pub largest_from : {X : Type 0} → (X → ℕ) → ℕ → List X → ℕ

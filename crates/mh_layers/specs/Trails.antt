@@ -1,4 +1,4 @@
--- Trails: the keys by way of which one effect puts another to work, and the arrow that tells of it.
+-- Trails: the nodes by way of which one effect puts another to work, and the arrow that tells of it.
 use Rattle.std.specs.Prelude.{◌≡◌, ◌⊎◌, true, false, ◌&&◌}
 use Rattle.std.specs.List.{list_any}
 use Rattle.std.specs.Option.{option_map_or}
@@ -10,28 +10,28 @@ use Rattle.mh_laws.specs.Flow.{Flow}
 use Rattle.mh_laws.specs.Layers.{IsOn}
 use Rattle.mh_flow.specs.Sites.{sites_of}
 use Rattle.mh_layers.specs.declared.arrows.arrow.Arrow.{Arrow}
-use Rattle.mh_layers.specs.declared.node_key.NodeKey.{NodeKey}
+use Rattle.mh_layers.specs.declared.numbered_node.NumberedNode.{NumberedNode}
 use Rattle.mh_layers.specs.Arrows.{AreGrantedBy, counts, granted, is_action_in, is_action_of, is_waited_for, number_by}
-use Rattle.mh_layers.specs.Bridge.{key_of}
+use Rattle.mh_layers.specs.Bridge.{node_of}
 use Rattle.mh_layers.specs.Causing.{Counts, is_effect}
 use Rattle.mh_layers.specs.Cycle.{cause_of}
 use Rattle.mh_layers.specs.Reading.{Reading, flow_read, heard_read, name}
 use Rattle.mh_layers.specs.EffectSites.{effect_named}
-use Rattle.mh_layers.specs.KeyGraph.{counted, effect_number}
+use Rattle.mh_layers.specs.NodeGraph.{counted, effect_number}
 
--- the key is that of an active effect
-pub record IsActive (r : Reading) (k : NodeKey) : Type 0 where
+-- the node is that of an active effect
+pub record IsActive (r : Reading) (k : NumberedNode) : Type 0 where
   pub own : k ≡ effect_number r (effect_named r k)
   pub on : IsOn r.service (flow_read r) (effect_named r k)
 
--- the key is the effect's, or one that is no effect and counts it
-abbrev pub LeadsTo : Reading → NodeKey → Effect → Type 0
+-- the node is the effect's, or one that is no effect and counts it
+abbrev pub LeadsTo : Reading → NumberedNode → Effect → Type 0
 LeadsTo r k y =
     (k ≡ effect_number r y)
-    ⊎ ((is_effect (name r k) ≡ false) × Counts r.service (flow_read r) (heard_read r) (name r k) (key_of y))
+    ⊎ ((is_effect (name r k) ≡ false) × Counts r.service (flow_read r) (heard_read r) (name r k) (node_of y))
 
--- the first effect, which is active, counts this key, which leads to the last, which is active too
-pub record IsStep (r : Reading) (from first to : NodeKey) : Type 0 where
+-- the first effect, which is active, counts this node, which leads to the last, which is active too
+pub record IsStep (r : Reading) (from first to : NumberedNode) : Type 0 where
   pub from_number : from ≡ effect_number r (effect_named r from)
   pub to_number : to ≡ effect_number r (effect_named r to)
   pub from_on : IsOn r.service (flow_read r) (effect_named r from)
@@ -50,5 +50,5 @@ pub record IsArrowFor (v : Service) (w : Flow) (x y : Effect) (a : Arrow) : Type
   pub waited : option_map_or (is_waited_for a.by) (part_at y.object (present v y.config)) false ≡ true
   pub granted : AreGrantedBy v w a
 
-abbrev pub IsArrowOf : Reading → NodeKey → NodeKey → Arrow → Type 0
+abbrev pub IsArrowOf : Reading → NumberedNode → NumberedNode → Arrow → Type 0
 IsArrowOf r from to a = IsArrowFor r.service (flow_read r) (effect_named r from) (effect_named r to) a

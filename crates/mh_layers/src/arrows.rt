@@ -26,21 +26,24 @@ use crate::cause::Cause;
 use crate::cycle::effect_site::cause_at;
 use crate::effects::effect_acts;
 use crate::listening::named_data::source_of;
-use crate::node_key::NodeKey;
 use crate::numbered::NumberedService;
 use crate::numbered::at::At;
+use crate::numbered_node::NumberedNode;
 use crate::numbering::number_behind;
 use mh_base::Seq;
 use mh_model::Fixed;
 use std::alloc::{AllocError, Global};
 
 /// The configuration of the effect.
-pub(crate) fn config_of<'a>(numbered_service: &'a NumberedService<'_>, key: &NodeKey) -> At<'a>
+pub(crate) fn config_of<'a>(
+    numbered_service: &'a NumberedService<'_>,
+    node: &NumberedNode,
+) -> At<'a>
     requires reading { IsReading numbered_service.now }
-    requires active { IsActive numbered_service.now key.now }
-    ensures { result ≡ context_in numbered_service.now (effect_named numbered_service.now key.now).config }
+    requires active { IsActive numbered_service.now node.now }
+    ensures { result ≡ context_in numbered_service.now (effect_named numbered_service.now node.now).config }
 {
-    let NodeKey::Effect(config, _, _) = key else {
+    let NumberedNode::Effect(config, _, _) = node else {
         unreachable!();
     };
     match At::of(numbered_service, *config) {
@@ -50,14 +53,14 @@ pub(crate) fn config_of<'a>(numbered_service: &'a NumberedService<'_>, key: &Nod
 }
 
 /// What is said of the object of the effect.
-pub(crate) fn part_of<'a>(here: &'a At<'_>, key: &NodeKey) -> &'a Fixed
+pub(crate) fn part_of<'a>(here: &'a At<'_>, node: &NumberedNode) -> &'a Fixed
     requires reading { IsReading here.now.reading }
-    requires active { IsActive here.now.reading key.now }
-    requires config { here.now.config ≡ (effect_named here.now.reading key.now).config }
+    requires active { IsActive here.now.reading node.now }
+    requires config { here.now.config ≡ (effect_named here.now.reading node.now).config }
     ensures { let s = here.now in let ps = present s.reading.service s.config in
-        part_at (effect_named s.reading key.now).object ps ≡ Some result.now }
+        part_at (effect_named s.reading node.now).object ps ≡ Some result.now }
 {
-    let NodeKey::Effect(_, number, _) = key else {
+    let NumberedNode::Effect(_, number, _) = node else {
         unreachable!();
     };
     let Some(at) = here.numbered_service().object_at(*number) else {
@@ -70,11 +73,11 @@ pub(crate) fn part_of<'a>(here: &'a At<'_>, key: &NodeKey) -> &'a Fixed
 }
 
 /// The number of the effect through those of its object.
-pub(crate) fn number_of(key: &NodeKey) -> usize
-    ensures { result ≡ number_in key.now }
+pub(crate) fn number_of(node: &NumberedNode) -> usize
+    ensures { result ≡ number_in node.now }
 {
-    match key {
-        NodeKey::Effect(_, _, number) => *number,
+    match node {
+        NumberedNode::Effect(_, _, number) => *number,
         _ => 0,
     }
 }
@@ -111,9 +114,9 @@ fn arrow_between(
     alloc: Global,
     here: &At<'_>,
     there: &At<'_>,
-    from: &NodeKey,
-    first: &NodeKey,
-    to: &NodeKey,
+    from: &NumberedNode,
+    first: &NumberedNode,
+    to: &NumberedNode,
 ) -> Result<Arrow, AllocError>
     requires reading { IsReading here.now.reading }
     requires step { IsStep here.now.reading from.now first.now to.now }
@@ -141,13 +144,13 @@ fn arrow_between(
     }
 }
 
-/// The arrow from an effect to another, to which the first of its keys leads.
+/// The arrow from an effect to another, to which the first of its nodes leads.
 pub(crate) fn arrow_for(
     alloc: Global,
     numbered_service: &NumberedService<'_>,
-    from: &NodeKey,
-    first: &NodeKey,
-    to: &NodeKey,
+    from: &NumberedNode,
+    first: &NumberedNode,
+    to: &NumberedNode,
 ) -> Result<Arrow, AllocError>
     requires reading { IsReading numbered_service.now }
     requires step { IsStep numbered_service.now from.now first.now to.now }

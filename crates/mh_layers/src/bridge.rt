@@ -1,22 +1,22 @@
-//! Laws between keys and effects.
+//! Laws between nodes and effects.
 //!
-//! Promise: what is laid out over keys is laid out over the effects of the service, and what is not cannot be.
-ghost use Rattle.mh_layers.specs.Bridge.{CountedIsMet, KeysAgree, KeysAreExact, KeysCost, LaidByNumber, LayersAreRanks, RanksAreLayers};
+//! Promise: what is laid out over nodes is laid out over the effects of the service, and what is not cannot be.
+ghost use Rattle.mh_layers.specs.Bridge.{CountedIsMet, NodesAgree, NodesAreExact, NodesCost, LaidByNumber, LayersAreRanks, RanksAreLayers};
 
-/// Prices over keys come to what prices over effects do, and count what is met alone.
-pub fn keys_agree()
-    ensures prices { KeysAgree }
+/// Prices over nodes come to what prices over effects do, and count what is met alone.
+pub fn nodes_agree()
+    ensures prices { NodesAgree }
     ensures met { CountedIsMet }
 {}
 
-/// Where effects have exact costs, keys have, and what is laid is these.
-pub fn keys_cost()
-    ensures cost { KeysCost }
-    ensures exact { KeysAreExact }
+/// Where effects have exact costs, nodes have, and what is laid is these.
+pub fn nodes_cost()
+    ensures cost { NodesCost }
+    ensures exact { NodesAreExact }
 {}
 
-/// Ranks of keys make a layering of effects, and a layering of effects ranks keys.
-pub fn keys_are_ranked()
+/// Ranks of nodes make a layering of effects, and a layering of effects ranks nodes.
+pub fn nodes_are_ranked()
     ensures layers { RanksAreLayers }
     ensures ranks { LayersAreRanks }
 {}

@@ -4,7 +4,7 @@
 //! configuration, with the first of the shortest ways; and none only where no effect does.
 
 pub(crate) mod effect_site;
-pub(crate) mod key_graph;
+pub(crate) mod node_graph;
 pub(crate) mod order;
 pub(crate) mod successors;
 pub(crate) mod trail;
@@ -17,7 +17,7 @@ ghost use Rattle.mh_paths.specs.Chains.{IsFirstCycle, NoCycle};
 ghost use Rattle.mh_laws.specs.Each.{Each};
 ghost use Rattle.mh_layers.specs.Arrows.{AreFirstArrows};
 ghost use Rattle.mh_layers.specs.Cycle.{NoCycles, by_effect_site};
-ghost use Rattle.mh_layers.specs.Layered.{active_keys};
+ghost use Rattle.mh_layers.specs.Layered.{active_nodes};
 ghost use Rattle.mh_layers.specs.Layering.{AreLayers};
 ghost use Rattle.mh_layers.specs.Named.{IsEffectKept};
 ghost use Rattle.mh_layers.specs.Ranked.{IsOrder};
@@ -27,20 +27,20 @@ ghost use Rattle.mh_layers.specs.Walk.{AreBest, IsTried, unlaid};
 use crate::arrows::arrow::Arrow;
 use crate::cause::Cause;
 use crate::cycle::effect_site::{by_effect_site, cause_of};
-use crate::cycle::key_graph::{KeyGraph, key_graph_of, node_of};
+use crate::cycle::node_graph::{NodeGraph, node_graph_of, node_index};
 use crate::cycle::order::Order;
 use crate::cycle::trail::arrows_along;
 use crate::laying::roots::push_effects;
 use crate::laying::{LayersError, Laying};
-use crate::node_key::NodeKey;
 use crate::numbered::NumberedService;
+use crate::numbered_node::NumberedNode;
 use mh_flow::{Equipped, Flow};
 use std::alloc::{AllocError, Global};
 
 /// The first effect so far that is on a cycle, and its first cycle.
 #[derive(Drop)]
 pub(crate) struct Best {
-    pub key: NodeKey,
+    pub node: NumberedNode,
     pub cause: Cause,
     pub trail: Vec<mh_paths::Arrow>,
 }
@@ -56,53 +56,53 @@ fn comes_first(cause: &Cause, best: &Option<Best>) -> bool
 }
 
 /// Sets the best.
-fn set(best: &mut Option<Best>, key: NodeKey, cause: Cause, trail: Vec<mh_paths::Arrow>)
-    ensures { best.new ≡ Some (record { key = key; cause = cause; trail = trail }) }
+fn set(best: &mut Option<Best>, node: NumberedNode, cause: Cause, trail: Vec<mh_paths::Arrow>)
+    ensures { best.new ≡ Some (record { node = node; cause = cause; trail = trail }) }
 {
-    *best = Some(Best { key, cause, trail });
+    *best = Some(Best { node, cause, trail });
 }
 
-/// The first cycle through the node, if there is one. No search is made where the node lies before all cycles.
+/// The first cycle through the node with this number, if there is one. No search is made where it lies before all cycles.
 #[tactic(auto, using(crate::proofs::OrderLemmas::passed_by))]
 fn cycle_through(
     alloc: Global,
-    key_graph: &KeyGraph,
+    node_graph: &NodeGraph,
     order: &Order,
-    node: usize,
+    index: usize,
 ) -> Result<Option<Vec<mh_paths::Arrow>>, AllocError>
-    requires { IsOrder key_graph.now.graph order.now.places.items order.now.behind }
-    ensures some { IfOk result (λ found. IfSome found (λ p. IsFirstCycle key_graph.now.graph node p.items)) }
-    ensures none { IfOk result (λ found. IfNone found (NoCycle key_graph.now.graph node)) }
+    requires { IsOrder node_graph.now.graph order.now.places.items order.now.behind }
+    ensures some { IfOk result (λ found. IfSome found (λ p. IsFirstCycle node_graph.now.graph index p.items)) }
+    ensures none { IfOk result (λ found. IfNone found (NoCycle node_graph.now.graph index)) }
 {
-    if order.is_passed(node) {
+    if order.is_passed(index) {
         return Ok(None);
     }
-    mh_paths::first_cycle(alloc, &key_graph.graph, node)
+    mh_paths::first_cycle(alloc, &node_graph.graph, index)
 }
 
 /// The effect is the best, if it comes before it and is on a cycle.
 #[tactic(auto, using(crate::proofs::WalkLemmas::tried_later, crate::proofs::WalkLemmas::tried_none, crate::proofs::WalkLemmas::tried_found))]
-fn try_key(
+fn try_node(
     alloc: Global,
     numbered_service: &NumberedService<'_>,
-    key_graph: &KeyGraph,
+    node_graph: &NodeGraph,
     order: &Order,
     best: &mut Option<Best>,
-    key: &NodeKey,
+    node: &NumberedNode,
 ) -> Result<(), AllocError>
-    requires order { IsOrder key_graph.now.graph order.now.places.items order.now.behind }
-    requires effect { IsEffectKept numbered_service.now key.now }
-    ensures { OnOk result (IsTried numbered_service.now key_graph.now.keys.keys key_graph.now.graph key.now best.old best.new) }
+    requires order { IsOrder node_graph.now.graph order.now.places.items order.now.behind }
+    requires effect { IsEffectKept numbered_service.now node.now }
+    ensures { OnOk result (IsTried numbered_service.now node_graph.now.nodes.keys node_graph.now.graph node.now best.old best.new) }
 {
-    let cause = cause_of(numbered_service, key)?;
+    let cause = cause_of(numbered_service, node)?;
     if !comes_first(&cause, best) {
         return Ok(());
     }
-    let node = node_of(&key_graph.keys, key);
-    match cycle_through(alloc, key_graph, order, node)? {
+    let index = node_index(&node_graph.nodes, node);
+    match cycle_through(alloc, node_graph, order, index)? {
         None => Ok(()),
         Some(trail) => {
-            set(best, *key, cause, trail);
+            set(best, *node, cause, trail);
             Ok(())
         }
     }
@@ -112,65 +112,75 @@ fn try_key(
 fn first_of(
     alloc: Global,
     numbered_service: &NumberedService<'_>,
-    key_graph: &KeyGraph,
-    keys: &[NodeKey],
+    node_graph: &NodeGraph,
+    nodes: &[NumberedNode],
 ) -> Result<Option<Best>, AllocError>
-    requires { Each (IsEffectKept numbered_service.now) keys.now }
-    ensures { IfOk result (λ best. AreBest numbered_service.now key_graph.now.keys.keys key_graph.now.graph keys.now best) }
+    requires { Each (IsEffectKept numbered_service.now) nodes.now }
+    ensures { IfOk result (λ best. AreBest numbered_service.now node_graph.now.nodes.keys node_graph.now.graph nodes.now best) }
 {
-    let order = Order::of(alloc, &key_graph.graph)?;
+    let order = Order::of(alloc, &node_graph.graph)?;
     let mut best = None;
-    for key in keys {
-        try_key(alloc, numbered_service, key_graph, &order, &mut best, key)?;
+    for node in nodes {
+        try_node(alloc, numbered_service, node_graph, &order, &mut best, node)?;
     }
     Ok(best)
 }
 
-/// Those of these keys that are not laid.
-fn unlaid(alloc: Global, laying: &Laying, keys: &[NodeKey]) -> Result<Vec<NodeKey>, AllocError>
-    ensures { IfOk result (λ left. left.items ≡ unlaid laying.now keys.now) }
+/// Those of these nodes that are not laid.
+fn unlaid(
+    alloc: Global,
+    laying: &Laying,
+    nodes: &[NumberedNode],
+) -> Result<Vec<NumberedNode>, AllocError>
+    ensures { IfOk result (λ left. left.items ≡ unlaid laying.now nodes.now) }
 {
     let mut left = Vec::new(alloc);
-    for key in keys {
-        if !laying.has_laid(key) {
-            left.push(*key)?;
+    for node in nodes {
+        if !laying.has_laid(node) {
+            left.push(*node)?;
         }
     }
     Ok(left)
 }
 
-/// The keys of all active effects that have actions.
+/// The nodes of all active effects that have actions.
 fn effects(
     alloc: Global,
     numbered_service: &NumberedService<'_>,
-) -> Result<Vec<NodeKey>, AllocError>
-    ensures { IfOk result (λ keys. keys.items ≡ active_keys numbered_service.now) }
+) -> Result<Vec<NumberedNode>, AllocError>
+    ensures { IfOk result (λ nodes. nodes.items ≡ active_nodes numbered_service.now) }
 {
-    let mut keys = Vec::new(alloc);
-    push_effects(&mut keys, numbered_service)?;
-    Ok(keys)
+    let mut nodes = Vec::new(alloc);
+    push_effects(&mut nodes, numbered_service)?;
+    Ok(nodes)
 }
 
-/// The first cycle, where these layers are laid and these are the keys of all active effects.
+/// The first cycle, where these layers are laid and these are the nodes of all active effects.
 fn cycle_in(
     alloc: Global,
     numbered_service: &NumberedService<'_>,
     laying: &Laying,
-    keys: &[NodeKey],
+    nodes: &[NumberedNode],
 ) -> Result<Option<Vec<Arrow>>, AllocError>
     requires layers { AreLayers (price numbered_service.now) (kept numbered_service.now) laying.now }
     requires reading { IsReading numbered_service.now }
-    requires all { keys.now ≡ active_keys numbered_service.now }
+    requires all { nodes.now ≡ active_nodes numbered_service.now }
     ensures some { let v = numbered_service.now.service in let w = flow_read numbered_service.now in IfOk result (λ found. IfSome found (λ arrows. AreFirstArrows v w arrows.items)) }
     ensures none { let v = numbered_service.now.service in let w = flow_read numbered_service.now in IfOk result (λ found. IfNone found (NoCycles v w)) }
 {
-    let left = unlaid(alloc, laying, keys)?;
-    let key_graph = key_graph_of(alloc, numbered_service, left.as_slice(), keys)?;
-    match first_of(alloc, numbered_service, &key_graph, left.as_slice())? {
+    let left = unlaid(alloc, laying, nodes)?;
+    let node_graph = node_graph_of(alloc, numbered_service, left.as_slice(), nodes)?;
+    match first_of(alloc, numbered_service, &node_graph, left.as_slice())? {
         None => Ok(None),
         Some(best) => {
             let trail = best.trail.as_slice();
-            let arrows = arrows_along(alloc, numbered_service, &key_graph.keys, best.key, trail)?;
+            let arrows = arrows_along(
+                alloc,
+                numbered_service,
+                &node_graph.nodes,
+                best.node,
+                trail,
+            )?;
             Ok(Some(arrows))
         }
     }
@@ -190,10 +200,10 @@ pub fn first_cycle(
 {
     let numbered_service = NumberedService::of(alloc, service, flow)?;
     numbered_service.read();
-    let keys = effects(alloc, &numbered_service)?;
+    let nodes = effects(alloc, &numbered_service)?;
     let mut laying = Laying::new(alloc)?;
-    if let Err(LayersError::NoMemory) = laying.reach(&numbered_service, keys.as_slice()) {
+    if let Err(LayersError::NoMemory) = laying.reach(&numbered_service, nodes.as_slice()) {
         return Err(AllocError);
     }
-    cycle_in(alloc, &numbered_service, &laying, keys.as_slice())
+    cycle_in(alloc, &numbered_service, &laying, nodes.as_slice())
 }

@@ -1,10 +1,10 @@
 //! Laws of layers.
 //!
-//! Promise: what is laid is exact; keys are told apart; by the least flow effects cost least.
+//! Promise: what is laid is exact; nodes are told apart; by the least flow effects cost least.
 ghost use Rattle.mh_layers.specs.Cheapest.{LeastIsCheapest};
 ghost use Rattle.mh_layers.specs.Grouped.{SumsByData};
 ghost use Rattle.mh_layers.specs.Layering.{CostsExist, LayersAreExact};
-ghost use Rattle.mh_layers.specs.NodeKeys.{KeysAreApart};
+ghost use Rattle.mh_layers.specs.NumberedNodes.{NodesAreApart};
 
 use crate::laying::Prices;
 
@@ -16,9 +16,9 @@ pub fn layers_are_exact<P: Prices>(prices: &P)
     let _ = prices;
 }
 
-/// Keys that are equal are one key.
-pub fn keys_are_apart()
-    ensures { KeysAreApart }
+/// Nodes that are equal are one node.
+pub fn nodes_are_apart()
+    ensures { NodesAreApart }
 {}
 
 /// What an event of unknown data sets going at most is what the links without data do, and the largest sum of

@@ -7,19 +7,19 @@ ghost use Rattle.std.specs.Prelude.{◌≡◌, max, IfOk, IsErrOf};
 ghost use Rattle.mh_model.specs.Configuration.{starting};
 ghost use Rattle.mh_laws.specs.Layers.{IsLayering};
 ghost use Rattle.mh_flow.specs.Solved.{IsFlowOf, flow_in};
-ghost use Rattle.mh_layers.specs.declared.node_key.NodeKey.TheVariants as key;
-ghost use Rattle.mh_layers.specs.Bridge.{key_of};
+ghost use Rattle.mh_layers.specs.declared.numbered_node.NumberedNode.TheVariants as node;
+ghost use Rattle.mh_layers.specs.Bridge.{node_of};
 ghost use Rattle.mh_layers.specs.Cycle.{NoCycles};
 ghost use Rattle.mh_layers.specs.Layered.{AreLayersOf, cost_laid, rank_laid};
 ghost use Rattle.mh_layers.specs.Layering.{cost_in};
-ghost use Rattle.mh_layers.specs.Reading.{config_number, number as number_of_key};
+ghost use Rattle.mh_layers.specs.Reading.{config_number, number as number_of_node};
 ghost use Rattle.mh_layers.specs.Taking.{bound_laid, bounds_laid, largest_from, or_nothing, taken_laid};
 
 use crate::bounds::{Bounds, InputKind};
 use crate::laying::roots::{roots, start_number};
 use crate::laying::{LayersError, Laying, lay};
-use crate::node_key::NodeKey;
 use crate::numbered::NumberedService;
+use crate::numbered_node::NumberedNode;
 use mh_base::ObjRef;
 use mh_flow::{Equipped, Flow};
 use mh_model::Config;
@@ -59,7 +59,7 @@ impl<'a> Layers<'a> {
     pub fn rank(&self, config: &Config, at: &ObjRef, number: usize) -> usize
         ensures { result ≡ rank_laid self.now (record { config = config.now; object = at.now; number = number }) }
     {
-        match self.laying.costs().laid(&self.key(config, at, number)) {
+        match self.laying.costs().laid(&self.node(config, at, number)) {
             None => 0,
             Some(laid) => laid.rank,
         }
@@ -70,16 +70,16 @@ impl<'a> Layers<'a> {
     pub fn cost(&self, config: &Config, at: &ObjRef, number: usize) -> u64
         ensures { result ≡ cost_laid self.now (record { config = config.now; object = at.now; number = number }) }
     {
-        match self.laying.costs().laid(&self.key(config, at, number)) {
+        match self.laying.costs().laid(&self.node(config, at, number)) {
             None => 0,
             Some(laid) => laid.cost,
         }
     }
 
-    fn key(&self, config: &Config, at: &ObjRef, number: usize) -> NodeKey
-        ensures { result ≡ number_of_key self.now.reading (key_of (record { config = config.now; object = at.now; number = number })) }
+    fn node(&self, config: &Config, at: &ObjRef, number: usize) -> NumberedNode
+        ensures { result ≡ number_of_node self.now.reading (node_of (record { config = config.now; object = at.now; number = number })) }
     {
-        NodeKey::Effect(
+        NumberedNode::Effect(
             self.numbered_service.config_number(config),
             self.numbered_service.object_number(at),
             number,
@@ -91,9 +91,9 @@ impl<'a> Layers<'a> {
 
 /// What an input of the kind costs that is taken in the configuration with this number; nothing, if it is not laid.
 fn taken_cost(laying: &Laying, config: usize, kind: InputKind) -> u64
-    ensures { result ≡ or_nothing (cost_in laying.now (key.Taken config kind)) }
+    ensures { result ≡ or_nothing (cost_in laying.now (node.Taken config kind)) }
 {
-    match laying.costs().laid(&NodeKey::Taken(config, kind)) {
+    match laying.costs().laid(&NumberedNode::Taken(config, kind)) {
         None => 0,
         Some(laid) => laid.cost,
     }
@@ -194,9 +194,9 @@ pub fn lay_service<'a>(
 {
     let numbered_service = NumberedService::of(alloc, service, flow)?;
     numbered_service.read();
-    let keys = roots(alloc, &numbered_service)?;
+    let nodes = roots(alloc, &numbered_service)?;
     let start = start_number(&numbered_service)?;
-    match lay(alloc, &numbered_service, keys.as_slice()) {
+    match lay(alloc, &numbered_service, nodes.as_slice()) {
         Ok(laying) => Ok(with_bounds(numbered_service, laying, start)),
         Err(why) => Err(why),
     }

@@ -1,4 +1,4 @@
-//! Layers: costs and ranks of keys and of all that they count, or that there are no ranks.
+//! Layers: costs and ranks of nodes and of all that they count, or that there are no ranks.
 
 pub mod costs;
 pub(crate) mod diving;
@@ -13,33 +13,33 @@ ghost use Rattle.mh_layers.specs.Looping.{HasLoop};
 
 use crate::laying::costs::{Costs, Laid};
 use crate::laying::sums::CostOrMissing;
-use crate::node_key::NodeKey;
+use crate::numbered_node::NumberedNode;
 use std::alloc::{AllocError, Global};
 use std::marker::Model;
 
-/// Keys with prices.
+/// Nodes with prices.
 pub trait Prices {
     ghost use Rattle.std.specs.Prelude.{◌≡◌, IfOk};
     ghost use Rattle.mh_laws.specs.Price.{Price};
-    ghost use Rattle.mh_layers.specs.declared.node_key.NodeKey.{NodeKey as NodeKeyLem};
+    ghost use Rattle.mh_layers.specs.declared.numbered_node.NumberedNode.{NumberedNode as NumberedNodeLem};
     ghost use Rattle.mh_layers.specs.Known.{known_worth, told};
     ghost use Rattle.mh_layers.specs.Layering.{cost_in};
 
-    /// What a key costs, over those that it counts.
-    ghost price: { Self → NodeKeyLem → Price NodeKeyLem };
+    /// What a node costs, over those that it counts.
+    ghost price: { Self → NumberedNodeLem → Price NumberedNodeLem };
 
-    /// The keys whose prices are known.
-    ghost kept: { Self → NodeKeyLem → Type 0 };
+    /// The nodes whose prices are known.
+    ghost kept: { Self → NumberedNodeLem → Type 0 };
 
-    /// What a key costs, or the first that it counts whose cost is not known. Each that it counts is asked for.
-    fn worth(&self, costs: &Costs, key: &NodeKey) -> Result<CostOrMissing, AllocError>
-        ensures { kept self.now key.now → IfOk result (λ worth. worth ≡ known_worth (told (cost_in costs.now)) (price self.now key.now)) };
+    /// What a node costs, or the first that it counts whose cost is not known. Each that it counts is asked for.
+    fn worth(&self, costs: &Costs, node: &NumberedNode) -> Result<CostOrMissing, AllocError>
+        ensures { kept self.now node.now → IfOk result (λ worth. worth ≡ known_worth (told (cost_in costs.now)) (price self.now node.now)) };
 }
 
 /// Why there are no layers.
 #[derive(Clone, Copy)]
 pub enum LayersError {
-    /// A key counts itself, by way of others.
+    /// A node counts itself, by way of others.
     Cycle,
     NoMemory,
 }
@@ -54,22 +54,22 @@ impl From<AllocError> for LayersError {
     }
 }
 
-/// Costs and ranks that are laid so far. A contract sees what is known of each key that has a place.
+/// Costs and ranks that are laid so far. A contract sees what is known of each node that has a place.
 #[derive(Drop)]
 pub struct Laying {
     alloc: Global,
     costs: Costs,
-    /// The rank of the next key that is laid.
+    /// The rank of the next node that is laid.
     next: usize,
 }
 
 impl Model for Laying {
     ghost use Rattle.std.specs.Prelude.{List, Option};
     ghost use Rattle.mh_layers.specs.declared.laying.costs.Laid.{Laid as LaidLem};
-    ghost use Rattle.mh_layers.specs.declared.node_key.NodeKey.{NodeKey as NodeKeyLem};
+    ghost use Rattle.mh_layers.specs.declared.numbered_node.NumberedNode.{NumberedNode as NumberedNodeLem};
     ghost use Rattle.mh_layers.specs.Layering.{AreBelow, HasRoom};
 
-    ghost Value = { List (NodeKeyLem × Option LaidLem) };
+    ghost Value = { List (NumberedNodeLem × Option LaidLem) };
 
     ghost view = { λ l. l.costs };
 
@@ -100,70 +100,70 @@ impl Laying {
         &self.costs
     }
 
-    /// Lays a key with this cost.
-    fn note(&mut self, key: NodeKey, cost: u64) -> Result<(), AllocError>
-        requires { laid_in self.old key ≡ None }
-        ensures noted { OnOk result (IsNoted self.old self.new key cost) }
+    /// Lays a node with this cost.
+    fn note(&mut self, node: NumberedNode, cost: u64) -> Result<(), AllocError>
+        requires { laid_in self.old node ≡ None }
+        ensures noted { OnOk result (IsNoted self.old self.new node cost) }
         ensures kept { OnErr result (self.new ≡ self.old) }
     {
         let rank = self.next;
         let _ = self.costs.len();
-        self.costs.set(key, Some(Laid { cost, rank }))?;
+        self.costs.set(node, Some(Laid { cost, rank }))?;
         self.next = rank + 1;
         Ok(())
     }
 
-    /// Gives a key a place, if it has none: whether it had none.
+    /// Gives a node a place, if it has none: whether it had none.
     #[tactic(auto, using(crate::proofs::LayingLemmas::placed_before))]
-    pub(crate) fn place(&mut self, key: NodeKey) -> Result<bool, AllocError>
-        ensures placed { IfOk result (λ given. IsPlaced self.old self.new key given) }
+    pub(crate) fn place(&mut self, node: NumberedNode) -> Result<bool, AllocError>
+        ensures placed { IfOk result (λ given. IsPlaced self.old self.new node given) }
         ensures kept { OnErr result (self.new ≡ self.old) }
     {
         let _ = self.costs.len();
-        if self.costs.at(&key).is_some() {
+        if self.costs.at(&node).is_some() {
             return Ok(false);
         }
-        self.costs.set(key, None)?;
+        self.costs.set(node, None)?;
         let _ = self.costs.len();
         Ok(true)
     }
 
-    /// Lays a key that is not laid, if all that it counts is: else what it waits for.
+    /// Lays a node that is not laid, if all that it counts is: else what it waits for.
     #[tactic(auto, using(crate::proofs::LayingLemmas::noted_layers, crate::proofs::LayingLemmas::noted_grows, crate::proofs::LayingLemmas::settled_noted, crate::proofs::LayingLemmas::settled_waits, crate::proofs::LayingLemmas::grows_same, crate::proofs::LayingLemmas::grows_equal))]
     pub(crate) fn settle<P: Prices>(
         &mut self,
         prices: &P,
-        key: &NodeKey,
-    ) -> Result<Option<NodeKey>, AllocError>
+        node: &NumberedNode,
+    ) -> Result<Option<NumberedNode>, AllocError>
         requires layers { AreLayers (P.price prices.now) (P.kept prices.now) self.old }
-        requires free { laid_in self.old key.now ≡ None }
+        requires free { laid_in self.old node.now ≡ None }
         ensures layers { AreLayers (P.price prices.now) (P.kept prices.now) self.new }
         ensures grows { Grows self.old self.new }
-        ensures settled { IfOk result (λ waits. IsSettled (P.price prices.now) (P.kept prices.now) self.old self.new key.now waits) }
+        ensures settled { IfOk result (λ waits. IsSettled (P.price prices.now) (P.kept prices.now) self.old self.new node.now waits) }
     {
-        match prices.worth(&self.costs, key)? {
+        match prices.worth(&self.costs, node)? {
             Ok(cost) => {
-                self.note(*key, cost)?;
+                self.note(*node, cost)?;
                 Ok(None)
             }
             Err(next) => Ok(Some(next)),
         }
     }
 
-    /// Lays a key that has a place, or gives what it waits for a place: whether something changed.
+    /// Lays a node that has a place, or gives what it waits for a place: whether something changed.
     #[tactic(auto, using(crate::proofs::LayingLemmas::placed_layers, crate::proofs::LayingLemmas::placed_grows, crate::proofs::LayingLemmas::grows_on, crate::proofs::LayingLemmas::grows_same, crate::proofs::LayingLemmas::settled_step, crate::proofs::LayingLemmas::waits_step, crate::proofs::LayingLemmas::waiting_placed, crate::proofs::LayingLemmas::waiting_true, crate::proofs::LayingLemmas::waiting_laid, crate::proofs::LayingLemmas::same_step))]
-    fn advance<P: Prices>(&mut self, prices: &P, key: &NodeKey) -> Result<bool, AllocError>
+    fn advance<P: Prices>(&mut self, prices: &P, node: &NumberedNode) -> Result<bool, AllocError>
         requires layers { AreLayers (P.price prices.now) (P.kept prices.now) self.old }
-        requires place { has_place self.old key.now ≡ true }
+        requires place { has_place self.old node.now ≡ true }
         ensures layers { AreLayers (P.price prices.now) (P.kept prices.now) self.new }
         ensures grows { Grows self.old self.new }
         ensures step { IfOk result (λ changed. IsStep self.old self.new changed) }
-        ensures waiting { IfOk result (λ changed. IsWaiting (P.price prices.now) (P.kept prices.now) self.old key.now changed) }
+        ensures waiting { IfOk result (λ changed. IsWaiting (P.price prices.now) (P.kept prices.now) self.old node.now changed) }
     {
-        if self.costs.laid(key).is_some() {
+        if self.costs.laid(node).is_some() {
             return Ok(false);
         }
-        match self.settle(prices, key)? {
+        match self.settle(prices, node)? {
             None => Ok(true),
             Some(next) => {
                 let given = self.place(next)?;
@@ -172,8 +172,8 @@ impl Laying {
         }
     }
 
-    /// The same with the key of the place with this number.
-    #[tactic(auto, using(crate::proofs::PlaceLemmas::key_there, crate::proofs::LayingLemmas::waiting_at, crate::proofs::LayingLemmas::waiting_past, crate::proofs::LayingLemmas::grows_same, crate::proofs::LayingLemmas::same_step))]
+    /// The same with the node of the place with this number.
+    #[tactic(auto, using(crate::proofs::PlaceLemmas::node_at_there, crate::proofs::LayingLemmas::waiting_at, crate::proofs::LayingLemmas::waiting_past, crate::proofs::LayingLemmas::grows_same, crate::proofs::LayingLemmas::same_step))]
     fn advance_at<P: Prices>(&mut self, prices: &P, place: usize) -> Result<bool, AllocError>
         requires layers { AreLayers (P.price prices.now) (P.kept prices.now) self.old }
         ensures layers { AreLayers (P.price prices.now) (P.kept prices.now) self.new }
@@ -181,10 +181,10 @@ impl Laying {
         ensures step { IfOk result (λ changed. IsStep self.old self.new changed) }
         ensures waiting { IfOk result (λ changed. IsWaitingAt (P.price prices.now) (P.kept prices.now) self.old place changed) }
     {
-        match self.costs.key_at(place) {
+        match self.costs.node_at(place) {
             None => Ok(false),
-            Some(key) => {
-                let changed = self.advance(prices, &key)?;
+            Some(node) => {
+                let changed = self.advance(prices, &node)?;
                 Ok(changed)
             }
         }
@@ -227,7 +227,7 @@ impl Laying {
 
     /// Gives each of these a place.
     #[tactic(auto, using(crate::proofs::LayingLemmas::placed_layers, crate::proofs::LayingLemmas::placed_grows, crate::proofs::LayingLemmas::grows_on, crate::proofs::LayingLemmas::grows_same))]
-    fn places<P: Prices>(&mut self, prices: &P, roots: &[NodeKey]) -> Result<(), AllocError>
+    fn places<P: Prices>(&mut self, prices: &P, roots: &[NumberedNode]) -> Result<(), AllocError>
         requires layers { AreLayers (P.price prices.now) (P.kept prices.now) self.old }
         ensures layers { AreLayers (P.price prices.now) (P.kept prices.now) self.new }
         ensures grows { Grows self.old self.new }
@@ -239,23 +239,27 @@ impl Laying {
         Ok(())
     }
 
-    /// Whether the key is laid.
-    pub(crate) fn has_laid(&self, key: &NodeKey) -> bool
-        ensures { result ≡ is_laid self.now key.now }
+    /// Whether the node is laid.
+    pub(crate) fn has_laid(&self, node: &NumberedNode) -> bool
+        ensures { result ≡ is_laid self.now node.now }
     {
-        self.costs.laid(key).is_some()
+        self.costs.laid(node).is_some()
     }
 
     /// Whether all of these are laid.
-    pub fn has_all(&self, roots: &[NodeKey]) -> bool
+    pub fn has_all(&self, roots: &[NumberedNode]) -> bool
         ensures { result ≡ list_all (is_laid self.now) roots.now }
     {
         roots.iter().all(|root| self.has_laid(root))
     }
 
-    /// Lays these keys and all that they count. What was laid stays as it was, also where it cannot be done.
+    /// Lays these nodes and all that they count. What was laid stays as it was, also where it cannot be done.
     #[tactic(auto, using(crate::proofs::LayingLemmas::grows_on))]
-    pub fn reach<P: Prices>(&mut self, prices: &P, roots: &[NodeKey]) -> Result<(), LayersError>
+    pub fn reach<P: Prices>(
+        &mut self,
+        prices: &P,
+        roots: &[NumberedNode],
+    ) -> Result<(), LayersError>
         requires layers { AreLayers (P.price prices.now) (P.kept prices.now) self.old }
         requires counted { CountsKept (P.price prices.now) (P.kept prices.now) }
         requires kept { Each (P.kept prices.now) roots.now }
@@ -279,9 +283,13 @@ impl Laying {
     }
 }
 
-/// Lays these keys and all that they count.
+/// Lays these nodes and all that they count.
 #[tactic(auto, using(crate::proofs::LayingLemmas::nothing_laid))]
-pub fn lay<P: Prices>(alloc: Global, prices: &P, roots: &[NodeKey]) -> Result<Laying, LayersError>
+pub fn lay<P: Prices>(
+    alloc: Global,
+    prices: &P,
+    roots: &[NumberedNode],
+) -> Result<Laying, LayersError>
     requires counted { CountsKept (P.price prices.now) (P.kept prices.now) }
     requires kept { Each (P.kept prices.now) roots.now }
     ensures layers { IfOk result (λ laying. AreLayers (P.price prices.now) (P.kept prices.now) laying) }

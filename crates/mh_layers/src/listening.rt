@@ -16,7 +16,7 @@ ghost use Rattle.mh_model.specs.Reference.{same_key};
 ghost use Rattle.mh_model.specs.Service.{group_parts};
 ghost use Rattle.mh_model.specs.Variables.{same_value};
 ghost use Rattle.mh_layers.specs.Grouped.{has, is_plain};
-ghost use Rattle.mh_layers.specs.Keys as keys;
+ghost use Rattle.mh_layers.specs.CostNodes as cost_nodes;
 ghost use Rattle.mh_layers.specs.Listening as spec;
 ghost use Rattle.mh_layers.specs.Listening.{AllAreHeard, HeardIsNamed, IsListening, ObjectsAreNumbered, SumsOverLinks, ValuesAreNumbered, heard, listed, mentioned};
 
@@ -112,7 +112,7 @@ impl Listeners {
     ) -> &[FixedPart]
         requires { IsListening service.now self.now }
         ensures { let ps = group_parts service.now group.now in
-            result.now ≡ filter (λ p. keys.waits_for source.now kind p && is_plain (keys.data_of p)) ps }
+            result.now ≡ filter (λ p. cost_nodes.waits_for source.now kind p && is_plain (cost_nodes.data_of p)) ps }
     {
         let group = service.groups().get_index_of(group);
         self.links_at(group, source, kind, None)
@@ -129,9 +129,9 @@ impl Listeners {
     ) -> &[FixedPart]
         requires { IsListening service.now self.now }
         ensures named { let ps = group_parts service.now group.now in
-            (x : _) → slice_get (keys.values (heard self.now source.now kind)) value ≡ Some x
-            → result.now ≡ filter (λ p. keys.waits_for source.now kind p && has same_value x (keys.data_of p)) ps }
-        ensures unnamed { slice_get (keys.values (heard self.now source.now kind)) value ≡ None → result.now ≡ [] }
+            (x : _) → slice_get (cost_nodes.values (heard self.now source.now kind)) value ≡ Some x
+            → result.now ≡ filter (λ p. cost_nodes.waits_for source.now kind p && has same_value x (cost_nodes.data_of p)) ps }
+        ensures unnamed { slice_get (cost_nodes.values (heard self.now source.now kind)) value ≡ None → result.now ≡ [] }
     {
         let group = service.groups().get_index_of(group);
         self.links_at(group, source, kind, Some(value))

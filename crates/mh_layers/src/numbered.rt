@@ -1,6 +1,6 @@
-//! `NumberedService`: a service and its flow as they are read for the layers, with numbers for what its keys are told by.
+//! `NumberedService`: a service and its flow as they are read for the layers, with numbers for what its nodes are told by.
 //!
-//! Promise: configurations, objects and values are found by their numbers, and numbers by them; numbers and names of keys
+//! Promise: configurations, objects and values are found by their numbers, and numbers by them; numbers and names of nodes
 //! are one for the other.
 
 pub(crate) mod at;
@@ -18,7 +18,7 @@ ghost use Rattle.mh_model.specs.Configuration.{present};
 ghost use Rattle.mh_model.specs.Service.{group_parts};
 ghost use Rattle.mh_flow.specs.Solved.{IsFlowOf, held_in};
 ghost use Rattle.mh_layers.specs.Grouped.{has, is_plain};
-ghost use Rattle.mh_layers.specs.Keys.{data_of, every_timer, waits_for};
+ghost use Rattle.mh_layers.specs.CostNodes.{data_of, every_timer, waits_for};
 ghost use Rattle.mh_layers.specs.Reading.{IsReading, NumbersAreNames, config_number, flow_read, heard_read, lists_read, object_number, place_among, same_setting, setting as spec_setting, settings, values_read};
 ghost use Rattle.mh_model.specs.Variables.{same_value};
 
@@ -255,7 +255,7 @@ impl<'a> NumberedService<'a> {
     }
 }
 
-/// Numbers and names of keys are one for the other.
+/// Numbers and names of nodes are one for the other.
 pub fn numbers_are_names()
     ensures { NumbersAreNames }
 {}

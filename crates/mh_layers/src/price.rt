@@ -1,6 +1,6 @@
-//! What each key of a numbered service comes to.
+//! What each node of a numbered service comes to.
 //!
-//! Promise: the price of the key is added to the sum, by the numbers of keys.
+//! Promise: the price of the node is added to the sum, by the numbers of nodes.
 
 pub(crate) mod entries;
 pub(crate) mod fired;
@@ -15,16 +15,16 @@ pub(crate) mod walk;
 
 ghost use Rattle.std.specs.Prelude.{◌≡◌, true};
 ghost use Rattle.mh_prices.specs.Meter.{Adds};
-ghost use Rattle.mh_layers.specs.declared.node_key.NodeKey.TheVariants as key_lem;
-ghost use Rattle.mh_layers.specs.Key.{Effect, Enter, Fired, Leave};
+ghost use Rattle.mh_layers.specs.declared.numbered_node.NumberedNode.TheVariants as node_lem;
+ghost use Rattle.mh_layers.specs.CostNode.{Effect, Enter, Fired, Leave};
 ghost use Rattle.mh_layers.specs.Numbered.{through};
 ghost use Rattle.mh_layers.specs.Reading.{has_config, has_hearing, has_names, has_object, name, number as number_of, object_named, price_read};
 
 use crate::bounds::InputKind;
 use crate::effects::effect_acts;
-use crate::node_key::{Hears, NodeKey};
 use crate::numbered::NumberedService;
 use crate::numbered::named::{context_at, hearing, object};
+use crate::numbered_node::{Hears, NumberedNode};
 use crate::price::entries::configs_most;
 use crate::price::fired::fired;
 use crate::price::leaving::{entering, leave};
@@ -59,9 +59,9 @@ fn effect<M: Meter>(
     }
 }
 
-// Keys
+// Nodes
 
-fn effect_key<M: Meter>(
+fn effect_node<M: Meter>(
     numbered_service: &NumberedService<'_>,
     meter: &M,
     config: usize,
@@ -72,7 +72,7 @@ fn effect_key<M: Meter>(
     requires config { has_config numbered_service.now config ≡ true }
     requires object { has_object numbered_service.now at ≡ true }
     ensures { let r = numbered_service.now in let m = through (number_of r) (M.meter meter.now) in
-        Adds M.seen m (price_read r (name r (key_lem.Effect config at number))) sum result }
+        Adds M.seen m (price_read r (name r (node_lem.Effect config at number))) sum result }
 {
     let here = context_at(numbered_service, config);
     let at = object(numbered_service, at);
@@ -80,7 +80,7 @@ fn effect_key<M: Meter>(
     effect(&walk, at, number, sum)
 }
 
-fn fired_key<M: Meter>(
+fn fired_node<M: Meter>(
     numbered_service: &NumberedService<'_>,
     meter: &M,
     config: usize,
@@ -93,7 +93,7 @@ fn fired_key<M: Meter>(
     requires object { has_object numbered_service.now source ≡ true }
     requires hearing { has_hearing numbered_service.now (object_named numbered_service.now source) kind hears ≡ true }
     ensures { let r = numbered_service.now in let m = through (number_of r) (M.meter meter.now) in
-        Adds M.seen m (price_read r (name r (key_lem.Fired config source kind hears))) sum result }
+        Adds M.seen m (price_read r (name r (node_lem.Fired config source kind hears))) sum result }
 {
     let here = context_at(numbered_service, config);
     let source = object(numbered_service, source);
@@ -102,7 +102,7 @@ fn fired_key<M: Meter>(
 }
 
 #[tactic(auto, using(crate::proofs::OntoLemmas::entry_adds))]
-fn entry_key<M: Meter>(
+fn entry_node<M: Meter>(
     numbered_service: &NumberedService<'_>,
     meter: &M,
     source: usize,
@@ -113,14 +113,14 @@ fn entry_key<M: Meter>(
     requires object { has_object numbered_service.now source ≡ true }
     requires hearing { has_hearing numbered_service.now (object_named numbered_service.now source) kind hears ≡ true }
     ensures { let r = numbered_service.now in let m = through (number_of r) (M.meter meter.now) in
-        Adds M.seen m (price_read r (name r (key_lem.Entry source kind hears))) sum result }
+        Adds M.seen m (price_read r (name r (node_lem.Entry source kind hears))) sum result }
 {
     let source = object(numbered_service, source);
     let hears = hearing(numbered_service, source, kind, hears);
     configs_most(numbered_service, meter, source, kind, hears, meter.one(sum))
 }
 
-fn change_key<M: Meter>(
+fn change_node<M: Meter>(
     numbered_service: &NumberedService<'_>,
     meter: &M,
     config: usize,
@@ -130,14 +130,14 @@ fn change_key<M: Meter>(
     requires config { has_config numbered_service.now config ≡ true }
     requires object { has_object numbered_service.now list ≡ true }
     ensures { let r = numbered_service.now in let m = through (number_of r) (M.meter meter.now) in
-        Adds M.seen m (price_read r (name r (key_lem.Change config list))) sum result }
+        Adds M.seen m (price_read r (name r (node_lem.Change config list))) sum result }
 {
     let here = context_at(numbered_service, config);
     let list = object(numbered_service, list);
     change(&Walk { here: &here, meter }, list, sum)
 }
 
-fn leave_key<M: Meter>(
+fn leave_node<M: Meter>(
     numbered_service: &NumberedService<'_>,
     meter: &M,
     config: usize,
@@ -146,13 +146,13 @@ fn leave_key<M: Meter>(
 ) -> Result<M::Sum, AllocError>
     requires config { has_config numbered_service.now config ≡ true }
     ensures { let r = numbered_service.now in let m = through (number_of r) (M.meter meter.now) in
-        Adds M.seen m (price_read r (name r (key_lem.Leave config all))) sum result }
+        Adds M.seen m (price_read r (name r (node_lem.Leave config all))) sum result }
 {
     let here = context_at(numbered_service, config);
     leave(&Walk { here: &here, meter }, all, sum)
 }
 
-fn enter_key<M: Meter>(
+fn enter_node<M: Meter>(
     numbered_service: &NumberedService<'_>,
     meter: &M,
     config: usize,
@@ -160,13 +160,13 @@ fn enter_key<M: Meter>(
 ) -> Result<M::Sum, AllocError>
     requires config { has_config numbered_service.now config ≡ true }
     ensures { let r = numbered_service.now in let m = through (number_of r) (M.meter meter.now) in
-        Adds M.seen m (price_read r (name r (key_lem.Enter config))) sum result }
+        Adds M.seen m (price_read r (name r (node_lem.Enter config))) sum result }
 {
     let here = context_at(numbered_service, config);
     entering(&Walk { here: &here, meter }, sum)
 }
 
-fn taken_key<M: Meter>(
+fn taken_node<M: Meter>(
     numbered_service: &NumberedService<'_>,
     meter: &M,
     config: usize,
@@ -175,29 +175,29 @@ fn taken_key<M: Meter>(
 ) -> Result<M::Sum, AllocError>
     requires config { has_config numbered_service.now config ≡ true }
     ensures { let r = numbered_service.now in let m = through (number_of r) (M.meter meter.now) in
-        Adds M.seen m (price_read r (name r (key_lem.Taken config kind))) sum result }
+        Adds M.seen m (price_read r (name r (node_lem.Taken config kind))) sum result }
 {
     let here = context_at(numbered_service, config);
     taken(&Walk { here: &here, meter }, kind, sum)
 }
 
-/// What the key with this number comes to.
+/// What the node with this number comes to.
 pub(crate) fn price<M: Meter>(
     numbered_service: &NumberedService<'_>,
     meter: &M,
-    key: &NodeKey,
+    node: &NumberedNode,
     sum: M::Sum,
 ) -> Result<M::Sum, AllocError>
-    requires { has_names numbered_service.now key.now ≡ true }
+    requires { has_names numbered_service.now node.now ≡ true }
     ensures { let r = numbered_service.now in let m = through (number_of r) (M.meter meter.now) in
-        Adds M.seen m (price_read r (name r key.now)) sum result }
+        Adds M.seen m (price_read r (name r node.now)) sum result }
 {
-    match key {
-        NodeKey::Effect(config, at, number) => {
-            effect_key(numbered_service, meter, *config, *at, *number, sum)
+    match node {
+        NumberedNode::Effect(config, at, number) => {
+            effect_node(numbered_service, meter, *config, *at, *number, sum)
         }
-        NodeKey::Fired(config, source, kind, hears) => {
-            fired_key(
+        NumberedNode::Fired(config, source, kind, hears) => {
+            fired_node(
                 numbered_service,
                 meter,
                 *config,
@@ -207,12 +207,24 @@ pub(crate) fn price<M: Meter>(
                 sum,
             )
         }
-        NodeKey::Entry(source, kind, hears) => {
-            entry_key(numbered_service, meter, *source, *kind, *hears, sum)
+        NumberedNode::Entry(source, kind, hears) => {
+            entry_node(numbered_service, meter, *source, *kind, *hears, sum)
         }
-        NodeKey::Change(config, list) => change_key(numbered_service, meter, *config, *list, sum),
-        NodeKey::Leave(config, all) => leave_key(numbered_service, meter, *config, *all, sum),
-        NodeKey::Enter(config) => enter_key(numbered_service, meter, *config, sum),
-        NodeKey::Taken(config, kind) => taken_key(numbered_service, meter, *config, *kind, sum),
+        NumberedNode::Change(config, list) => change_node(
+            numbered_service,
+            meter,
+            *config,
+            *list,
+            sum,
+        ),
+        NumberedNode::Leave(config, all) => leave_node(numbered_service, meter, *config, *all, sum),
+        NumberedNode::Enter(config) => enter_node(numbered_service, meter, *config, sum),
+        NumberedNode::Taken(config, kind) => taken_node(
+            numbered_service,
+            meter,
+            *config,
+            *kind,
+            sum,
+        ),
     }
 }

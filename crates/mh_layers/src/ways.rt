@@ -15,7 +15,7 @@ ghost use Rattle.mh_laws.specs.Flow.{reached};
 ghost use Rattle.mh_laws.specs.Layers.{IsLayering};
 ghost use Rattle.mh_flow.specs.Solved.{IsFlowOf, flow_in};
 ghost use Rattle.mh_layers.specs.Dearest.{AreDearestWays, configs_for};
-ghost use Rattle.mh_layers.specs.Layered.{root_keys};
+ghost use Rattle.mh_layers.specs.Layered.{root_nodes};
 ghost use Rattle.mh_layers.specs.Layering.{AreLayers, is_laid};
 ghost use Rattle.mh_layers.specs.Reading.{IsReading, flow_read, kept, price};
 ghost use Rattle.mh_layers.specs.Staging.{AreWays, IsWayIn, IsWayOf};
@@ -26,8 +26,8 @@ use crate::cycle::effect_site::copied_config;
 use crate::layers::cost_in_config;
 use crate::laying::roots::{roots, starting};
 use crate::laying::{LayersError, Laying, lay};
-use crate::node_key::NodeKey;
 use crate::numbered::NumberedService;
+use crate::numbered_node::NumberedNode;
 use crate::ways::dearest::{first_largest, number_at};
 use crate::ways::stages::stages_from;
 use crate::ways::way::Way;
@@ -79,7 +79,7 @@ fn way_in(
 ) -> Result<Way, AllocError>
     requires reading { IsReading numbered_service.now }
     requires layers { AreLayers (price numbered_service.now) (kept numbered_service.now) laying.now }
-    requires laid { list_all (is_laid laying.now) (root_keys numbered_service.now) ≡ true }
+    requires laid { list_all (is_laid laying.now) (root_nodes numbered_service.now) ≡ true }
     requires reached { reached (flow_read numbered_service.now) config.now ≡ true }
     ensures { IfOk result (λ way. IsWayIn numbered_service.now config.now kind cost way) }
 {
@@ -88,7 +88,7 @@ fn way_in(
         alloc,
         numbered_service,
         laying,
-        NodeKey::Taken(number, kind),
+        NumberedNode::Taken(number, kind),
     )?;
     let copy = copied_config(config)?;
     Ok(Way {
@@ -117,7 +117,7 @@ fn way_of(
 ) -> Result<Way, AllocError>
     requires reading { IsReading numbered_service.now }
     requires layers { AreLayers (price numbered_service.now) (kept numbered_service.now) laying.now }
-    requires laid { list_all (is_laid laying.now) (root_keys numbered_service.now) ≡ true }
+    requires laid { list_all (is_laid laying.now) (root_nodes numbered_service.now) ≡ true }
     requires start { start.now ≡ starting_lem numbered_service.now.service }
     ensures { IfOk result (IsWayOf numbered_service.now kind) }
 {
@@ -142,7 +142,7 @@ fn ways_of(
 ) -> Result<Vec<Way>, AllocError>
     requires reading { IsReading numbered_service.now }
     requires layers { AreLayers (price numbered_service.now) (kept numbered_service.now) laying.now }
-    requires laid { list_all (is_laid laying.now) (root_keys numbered_service.now) ≡ true }
+    requires laid { list_all (is_laid laying.now) (root_nodes numbered_service.now) ≡ true }
     requires start { start.now ≡ starting_lem numbered_service.now.service }
     ensures { IfOk result (λ ways. AreWays numbered_service.now kinds.now ways.items) }
 {
@@ -171,7 +171,7 @@ fn ways_in(
 ) -> Result<Vec<Way>, AllocError>
     requires reading { IsReading numbered_service.now }
     requires layers { AreLayers (price numbered_service.now) (kept numbered_service.now) laying.now }
-    requires laid { list_all (is_laid laying.now) (root_keys numbered_service.now) ≡ true }
+    requires laid { list_all (is_laid laying.now) (root_nodes numbered_service.now) ≡ true }
     ensures { IfOk result (λ ways. AreDearestWays numbered_service.now.service (flow_read numbered_service.now) ways.items) }
 {
     let start = starting(numbered_service.service())?;
@@ -192,8 +192,8 @@ pub fn dearest_ways(
 {
     let numbered_service = NumberedService::of(alloc, service, flow)?;
     numbered_service.read();
-    let keys = roots(alloc, &numbered_service)?;
-    match lay(alloc, &numbered_service, keys.as_slice()) {
+    let nodes = roots(alloc, &numbered_service)?;
+    match lay(alloc, &numbered_service, nodes.as_slice()) {
         Ok(laying) => Ok(ways_in(alloc, &numbered_service, &laying)?),
         Err(why) => Err(why),
     }

@@ -1,7 +1,7 @@
 //! Whether effects put themselves to work, and to how many steps the start and each input can lead.
 //!
 //! Promise: of a service in which nothing can be stuck, the first cycle of its effects is told, or the first kind of
-//! input that can lead to too many steps, or its bounds. Why something can be stuck is left to `judging`.
+//! input that can lead to too many steps, or its bounds. Why something can be stuck is left to `first_refusal`.
 ghost use Rattle.std.specs.Prelude.{IfOk};
 ghost use Rattle.mh_laws.specs.Acceptable.{IsAcceptableBy};
 ghost use Rattle.mh_flow.specs.Solved.{IsFlowOf, flow_in};

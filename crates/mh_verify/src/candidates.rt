@@ -10,7 +10,7 @@ ghost use Rattle.mh_verify.specs.Naming as spec;
 use crate::Place;
 use crate::alone::KnownAlone;
 use crate::members::{fault_of, is_list_group};
-use crate::telling::Scope;
+use crate::scope::Scope;
 use mh_base::ObjRef;
 use mh_flow::sites::sites_of;
 use mh_flow::{KnownWith, Site};

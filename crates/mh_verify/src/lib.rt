@@ -10,12 +10,12 @@ mod alone;
 mod bounding;
 mod candidates;
 mod coming;
-mod judging;
+mod first_refusal;
 mod members;
-mod naming;
-mod ordering;
+mod named_reference;
 pub mod refusal;
-mod telling;
+mod refusal_order;
+mod scope;
 mod verdict;
 pub mod verifying;
 

@@ -1,7 +1,7 @@
 //! What is refused of members of groups of objects.
 //!
 //! Promise: each function answers what the definition of the same matter says. Of what is refused the
-//! first is named; the actions of their slots are left to `judging`.
+//! first is named; the actions of their slots are left to `first_refusal`.
 ghost use Rattle.std.specs.Prelude.{◌≡◌, [], map, IfOk};
 ghost use Rattle.std.specs.List.{flat_map};
 ghost use Rattle.std.specs.Option.{option_copied, option_map_or};
@@ -13,8 +13,8 @@ ghost use Rattle.mh_flow.specs.Solved.{held_by};
 ghost use Rattle.mh_verify.specs.Refusals.{found_of_part, part_refused};
 ghost use Rattle.mh_verify.specs.Least.{least_of};
 
-use crate::ordering::lesser;
-use crate::telling::{Scope, copied};
+use crate::refusal_order::lesser;
+use crate::scope::{Scope, copied};
 use crate::{Found, Place, RefusalKind};
 use mh_base::ObjRef;
 use mh_flow::Present;

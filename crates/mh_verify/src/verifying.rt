@@ -16,7 +16,9 @@ ghost use Rattle.mh_verify.specs.Verdicts.{IsVerdict, refusal_of_cycle};
 
 use crate::bounding::bound;
 use crate::verdict::{Cycle, Head, Verdict};
-use crate::{Accepted, Coming, Found, Refusal, RefusalKind, Warrant, judging, naming};
+use crate::{
+    Accepted, Coming, Found, Refusal, RefusalKind, Warrant, first_refusal, named_reference,
+};
 use mh_base::Seq;
 use mh_flow::{Equipped, Flow, flow_of};
 use mh_model::Signature;
@@ -87,10 +89,10 @@ fn first_of(
     ensures { IfOk result (IsJudged service.now (flow_in service.now flow.now)) }
 {
     let configs = flow.configs(alloc)?;
-    match judging::first_in(alloc, service, flow, configs.as_slice())? {
+    match first_refusal::first_in(alloc, service, flow, configs.as_slice())? {
         None => Ok(None),
         Some(found) => {
-            let coming = naming::named(alloc, service, flow, &found)?;
+            let coming = named_reference::named(alloc, service, flow, &found)?;
             Ok(Some((found, coming)))
         }
     }

@@ -25,7 +25,7 @@ impl<'a> SearchedConfig<'a> {
         ensures { let g = spec.ground_of self.now in OnOk result (moves.new.items ≡ moves.old.items ++ spec.first_moves g part.now) }
     {
         if is_first(self.sought, part) {
-            push_comes(moves, first_action_site(part)?, self.place(&part.key)?)?;
+            push_comes(moves, first_action_site(part)?, self.holder_at(&part.key)?)?;
         }
         Ok(())
     }
@@ -56,7 +56,7 @@ impl<'a> SearchedConfig<'a> {
             OnOk result (moves.new.items ≡ moves.old.items ++ spec.written_moves g site.now at.now written.now) }
     {
         if is_sought(self.sought, written) {
-            push_comes(moves, action_site_at(site)?, self.place(at)?)?;
+            push_comes(moves, action_site_at(site)?, self.holder_at(at)?)?;
         }
         Ok(())
     }
@@ -75,9 +75,9 @@ impl<'a> SearchedConfig<'a> {
         if self.is_holding(variable) {
             push_goes(
                 moves,
-                self.place(variable)?,
+                self.holder_at(variable)?,
                 action_site_at(site)?,
-                self.place(at)?,
+                self.holder_at(at)?,
             )?;
         }
         Ok(())
@@ -148,9 +148,9 @@ impl<'a> SearchedConfig<'a> {
         if self.present.is_reference(variable) {
             push_goes(
                 moves,
-                self.place(at)?,
+                self.holder_at(at)?,
                 action_site_at(site)?,
-                self.place(variable)?,
+                self.holder_at(variable)?,
             )?;
         }
         Ok(())

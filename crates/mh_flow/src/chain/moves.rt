@@ -20,7 +20,7 @@ pub struct ActionSite {
     pub index: usize,
 }
 
-/// A reference goes from one place to another.
+/// A reference goes from one holder to another.
 #[derive(Drop)]
 pub struct Move {
     /// Where it was before; nowhere, where a chain begins.

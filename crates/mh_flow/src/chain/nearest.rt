@@ -12,7 +12,7 @@ use crate::chain::link::Link;
 use crate::chain::moves_of;
 use crate::chain::origins::origins_of;
 use crate::chain::search::first_links;
-use crate::chain::searched_config::place;
+use crate::chain::searched_config::holder_at;
 use crate::chain::sought::each_once;
 use crate::equipped::Equipped;
 use crate::flow::Flow;
@@ -46,7 +46,7 @@ pub fn nearest_of(
 {
     let sought = each_once(alloc, references)?;
     let moves = moves_of(alloc, service, flow, &sought)?;
-    let goal = place(config, holder)?;
+    let goal = holder_at(config, holder)?;
     match first_links(alloc, moves.as_slice(), &goal)? {
         None => Ok(None),
         Some(links) => {

@@ -1,6 +1,6 @@
 //! Moves by numbers.
 //!
-//! Promise: each place and each action site has a number, those of action sites are in the order of action sites, and the graph has an arrow
+//! Promise: each holder and each action site has a number, those of action sites are in the order of action sites, and the graph has an arrow
 //! for each move.
 ghost use Rattle.std.specs.Prelude.{◌≡◌, ◌++◌, [], map, replicate, IfOk, OnOk};
 ghost use Rattle.mh_flow.specs.Routes as spec;
@@ -13,13 +13,13 @@ use mh_paths::{Arrow, Graph};
 use std::alloc::{AllocError, Global};
 use std::cmp::Ordering;
 
-/// A copy of the place.
-fn copied_place(place: &Holder) -> Result<Holder, AllocError>
-    ensures { IfOk result (λ copy. copy ≡ place.now) }
+/// A copy of the holder.
+fn copied_holder(holder: &Holder) -> Result<Holder, AllocError>
+    ensures { IfOk result (λ copy. copy ≡ holder.now) }
 {
     Ok(Holder {
-        config: place.config.clone()?,
-        at: place.at.clone()?,
+        config: holder.config.clone()?,
+        at: holder.at.clone()?,
     })
 }
 
@@ -34,42 +34,42 @@ fn copied_action_site(action_site: &ActionSite) -> Result<ActionSite, AllocError
     })
 }
 
-/// Puts the place among these, if it is not there.
-fn put_place(places: &mut IndexSet<Holder>, place: &Holder) -> Result<(), AllocError>
-    ensures { OnOk result (places.new.keys ≡ spec.with_place places.old.keys place.now) }
+/// Puts the holder among these, if it is not there.
+fn put_holder(holders: &mut IndexSet<Holder>, holder: &Holder) -> Result<(), AllocError>
+    ensures { OnOk result (holders.new.keys ≡ spec.with_holder holders.old.keys holder.now) }
 {
-    places.insert(copied_place(place)?)?;
+    holders.insert(copied_holder(holder)?)?;
     Ok(())
 }
 
-/// Puts the places of the move among these.
-fn put_places(places: &mut IndexSet<Holder>, made: &Move) -> Result<(), AllocError>
-    ensures { OnOk result (places.new.keys
-        ≡ spec.with_place (spec.with_source places.old.keys made.now.from) made.now.to) }
+/// Puts the holders of the move among these.
+fn put_holders_of(holders: &mut IndexSet<Holder>, made: &Move) -> Result<(), AllocError>
+    ensures { OnOk result (holders.new.keys
+        ≡ spec.with_holder (spec.with_source holders.old.keys made.now.from) made.now.to) }
 {
     if let Some(from) = &made.from {
-        put_place(places, from)?;
+        put_holder(holders, from)?;
     }
-    put_place(places, &made.to)?;
+    put_holder(holders, &made.to)?;
     Ok(())
 }
 
-/// The places of the moves, each once.
-pub(crate) fn places_of(alloc: Global, moves: &[Move]) -> Result<IndexSet<Holder>, AllocError>
-    ensures { IfOk result (λ places. places.keys ≡ spec.places_of moves.now) }
+/// The holders of the moves, each once.
+pub(crate) fn holders_met(alloc: Global, moves: &[Move]) -> Result<IndexSet<Holder>, AllocError>
+    ensures { IfOk result (λ holders. holders.keys ≡ spec.holders_met moves.now) }
 {
-    let mut places = IndexSet::new(alloc);
+    let mut holders = IndexSet::new(alloc);
     for made in moves {
-        put_places(&mut places, made)?;
+        put_holders_of(&mut holders, made)?;
     }
-    Ok(places)
+    Ok(holders)
 }
 
-/// The number of the place.
-fn place_number(places: &IndexSet<Holder>, place: &Holder) -> usize
-    ensures { result ≡ spec.place_number places.now.keys place.now }
+/// The number of the holder.
+fn holder_number(holders: &IndexSet<Holder>, holder: &Holder) -> usize
+    ensures { result ≡ spec.holder_number holders.now.keys holder.now }
 {
-    places.get_index_of(place).unwrap_or(0)
+    holders.get_index_of(holder).unwrap_or(0)
 }
 
 /// The number of the action site.
@@ -136,31 +136,31 @@ pub(crate) fn action_sites_of(
 }
 
 /// The move as an arrow.
-fn arrow_of(places: &IndexSet<Holder>, action_sites: &IndexSet<ActionSite>, made: &Move) -> Arrow
-    ensures { result ≡ spec.arrow_of places.now.keys action_sites.now.keys made.now }
+fn arrow_of(holders: &IndexSet<Holder>, action_sites: &IndexSet<ActionSite>, made: &Move) -> Arrow
+    ensures { result ≡ spec.arrow_of holders.now.keys action_sites.now.keys made.now }
 {
     Arrow {
         label: match &made.action_site {
             None => None,
             Some(action_site) => Some(action_site_number(action_sites, action_site) as u64),
         },
-        to: place_number(places, &made.to),
+        to: holder_number(holders, &made.to),
     }
 }
 
 /// The arrows of those moves that come from nowhere.
 pub(crate) fn starts_of(
     alloc: Global,
-    places: &IndexSet<Holder>,
+    holders: &IndexSet<Holder>,
     action_sites: &IndexSet<ActionSite>,
     moves: &[Move],
 ) -> Result<Vec<Arrow>, AllocError>
-    ensures { IfOk result (λ starts. starts.items ≡ spec.starts_of places.now.keys action_sites.now.keys moves.now) }
+    ensures { IfOk result (λ starts. starts.items ≡ spec.starts_of holders.now.keys action_sites.now.keys moves.now) }
 {
     let mut starts = Vec::new(alloc);
     for made in moves {
         if made.from.is_none() {
-            starts.push(arrow_of(places, action_sites, made))?;
+            starts.push(arrow_of(holders, action_sites, made))?;
         }
     }
     Ok(starts)
@@ -188,19 +188,19 @@ fn put_arrow(rows: &mut Vec<Vec<Arrow>>, number: usize, arrow: Arrow) -> Result<
     Ok(())
 }
 
-/// Puts the arrow of the move into the row of the place from which it goes.
+/// Puts the arrow of the move into the row of the holder from which it goes.
 fn put_move(
     rows: &mut Vec<Vec<Arrow>>,
-    places: &IndexSet<Holder>,
+    holders: &IndexSet<Holder>,
     action_sites: &IndexSet<ActionSite>,
     made: &Move,
 ) -> Result<(), AllocError>
     ensures { let before = map (λ row. row.items) rows.old.items in OnOk result (map (λ row. row.items) rows.new.items
-        ≡ spec.with_move places.now.keys action_sites.now.keys before made.now made.now.from) }
+        ≡ spec.with_move holders.now.keys action_sites.now.keys before made.now made.now.from) }
 {
     if let Some(from) = &made.from {
-        let number = place_number(places, from);
-        put_arrow(rows, number, arrow_of(places, action_sites, made))?;
+        let number = holder_number(holders, from);
+        put_arrow(rows, number, arrow_of(holders, action_sites, made))?;
     }
     Ok(())
 }
@@ -208,16 +208,16 @@ fn put_move(
 /// The graph of the moves.
 pub(crate) fn graph_of(
     alloc: Global,
-    places: &IndexSet<Holder>,
+    holders: &IndexSet<Holder>,
     action_sites: &IndexSet<ActionSite>,
     moves: &[Move],
 ) -> Result<Graph, AllocError>
     ensures { IfOk result (λ graph. map (λ row. row.items) graph.nodes.items
-        ≡ spec.rows_of places.now.keys action_sites.now.keys moves.now) }
+        ≡ spec.rows_of holders.now.keys action_sites.now.keys moves.now) }
 {
-    let mut nodes = empty_rows(alloc, places.len())?;
+    let mut nodes = empty_rows(alloc, holders.len())?;
     for made in moves {
-        put_move(&mut nodes, places, action_sites, made)?;
+        put_move(&mut nodes, holders, action_sites, made)?;
     }
     Ok(Graph { nodes })
 }
@@ -225,20 +225,20 @@ pub(crate) fn graph_of(
 /// Puts the link that the arrow is behind these, if it is one.
 fn put_link(
     links: &mut Vec<Link>,
-    places: &IndexSet<Holder>,
+    holders: &IndexSet<Holder>,
     action_sites: &IndexSet<ActionSite>,
     arrow: &Arrow,
 ) -> Result<(), AllocError>
     ensures { OnOk result (links.new.items
-        ≡ links.old.items ++ spec.link_of places.now.keys action_sites.now.keys arrow.now) }
+        ≡ links.old.items ++ spec.link_of holders.now.keys action_sites.now.keys arrow.now) }
 {
     if let Some(label) = arrow.label {
-        if let (Some(action_site), Some(place)) = (
+        if let (Some(action_site), Some(holder)) = (
             action_sites.get_index(label as usize),
-            places.get_index(arrow.to),
+            holders.get_index(arrow.to),
         ) {
             let key = action_site.key.clone()?;
-            let written = place.at.clone()?;
+            let written = holder.at.clone()?;
             links.push(Link {
                 key,
                 index: action_site.index,
@@ -252,15 +252,15 @@ fn put_link(
 /// The links that the arrows are.
 pub(crate) fn links_of(
     alloc: Global,
-    places: &IndexSet<Holder>,
+    holders: &IndexSet<Holder>,
     action_sites: &IndexSet<ActionSite>,
     trail: &[Arrow],
 ) -> Result<Vec<Link>, AllocError>
-    ensures { IfOk result (λ links. links.items ≡ spec.links_of places.now.keys action_sites.now.keys trail.now) }
+    ensures { IfOk result (λ links. links.items ≡ spec.links_of holders.now.keys action_sites.now.keys trail.now) }
 {
     let mut links = Vec::new(alloc);
     for arrow in trail {
-        put_link(&mut links, places, action_sites, arrow)?;
+        put_link(&mut links, holders, action_sites, arrow)?;
     }
     Ok(links)
 }

@@ -1,16 +1,16 @@
 //! The first of the shortest chains of moves.
 //!
-//! Promise: what is told leads to the place, nothing shorter does, and nothing as short comes before it.
+//! Promise: what is told leads to the holder, nothing shorter does, and nothing as short comes before it.
 ghost use Rattle.std.specs.Prelude.{IfNone, IfOk, IfSome};
 ghost use Rattle.mh_flow.specs.Moves.{Follows, IsFirstOf};
 
 use crate::chain::link::Link;
 use crate::chain::moves::{Holder, Move};
-use crate::chain::routes::{action_sites_of, graph_of, links_of, places_of, starts_of};
+use crate::chain::routes::{action_sites_of, graph_of, holders_met, links_of, starts_of};
 use mh_paths::first_chains;
 use std::alloc::{AllocError, Global};
 
-/// The links of the moves that lead to the place, the first of the shortest, if any do.
+/// The links of the moves that lead to the holder, the first of the shortest, if any do.
 pub(crate) fn first_links(
     alloc: Global,
     moves: &[Move],
@@ -19,16 +19,16 @@ pub(crate) fn first_links(
     ensures some { IfOk result (λ found. IfSome found (λ links. IsFirstOf moves.now goal.now links.items)) }
     ensures none { IfOk result (λ found. IfNone found ((ls : _) → Follows moves.now ls goal.now → ⊥)) }
 {
-    let places = places_of(alloc, moves)?;
+    let holders = holders_met(alloc, moves)?;
     let action_sites = action_sites_of(alloc, moves)?;
-    let Some(number) = places.get_index_of(goal) else {
+    let Some(number) = holders.get_index_of(goal) else {
         return Ok(None);
     };
-    let graph = graph_of(alloc, &places, &action_sites, moves)?;
-    let starts = starts_of(alloc, &places, &action_sites, moves)?;
+    let graph = graph_of(alloc, &holders, &action_sites, moves)?;
+    let starts = starts_of(alloc, &holders, &action_sites, moves)?;
     let chains = first_chains(alloc, &graph, starts.as_slice())?;
     match &chains[number] {
         None => Ok(None),
-        Some(trail) => Ok(Some(links_of(alloc, &places, &action_sites, trail.as_slice())?)),
+        Some(trail) => Ok(Some(links_of(alloc, &holders, &action_sites, trail.as_slice())?)),
     }
 }

@@ -41,9 +41,9 @@ impl<'a> Model for SearchedConfig<'a> {
     } };
 }
 
-/// The place of the object.
-pub(crate) fn place(config: &Config, at: &ObjRef) -> Result<Holder, AllocError>
-    ensures { IfOk result (λ place. place ≡ spec.place config.now at.now) }
+/// The object as a holder.
+pub(crate) fn holder_at(config: &Config, at: &ObjRef) -> Result<Holder, AllocError>
+    ensures { IfOk result (λ holder. holder ≡ spec.holder_at config.now at.now) }
 {
     let config = config.clone()?;
     let at = at.clone()?;
@@ -69,7 +69,7 @@ pub(crate) fn action_site_at(site: &Site<'_>) -> Result<ActionSite, AllocError>
     })
 }
 
-/// Puts behind these that a reference comes to the place.
+/// Puts behind these that a reference comes to the holder.
 pub(crate) fn push_comes(
     moves: &mut Vec<Move>,
     action_site: ActionSite,
@@ -85,7 +85,7 @@ pub(crate) fn push_comes(
     Ok(())
 }
 
-/// Puts behind these that a reference goes from place to place.
+/// Puts behind these that a reference goes from holder to holder.
 pub(crate) fn push_goes(
     moves: &mut Vec<Move>,
     from: Holder,
@@ -115,11 +115,11 @@ pub(crate) fn push_stays(moves: &mut Vec<Move>, from: Holder, to: Holder) -> Res
 }
 
 impl<'a> SearchedConfig<'a> {
-    /// The place of the object.
-    pub(crate) fn place(&self, at: &ObjRef) -> Result<Holder, AllocError>
-        ensures { IfOk result (λ place. place ≡ spec.place self.now.config at.now) }
+    /// The object as a holder.
+    pub(crate) fn holder_at(&self, at: &ObjRef) -> Result<Holder, AllocError>
+        ensures { IfOk result (λ holder. holder ≡ spec.holder_at self.now.config at.now) }
     {
-        place(self.config, at)
+        holder_at(self.config, at)
     }
 
     /// Whether the object holds one that is sought.

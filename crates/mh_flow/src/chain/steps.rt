@@ -6,7 +6,7 @@ ghost use Rattle.std.specs.List.{flat_map};
 ghost use Rattle.mh_flow.specs.Steps as spec;
 
 use crate::chain::moves::Move;
-use crate::chain::searched_config::{SearchedConfig, place, push_stays};
+use crate::chain::searched_config::{SearchedConfig, holder_at, push_stays};
 use crate::present::leads_to;
 use crate::sites::{Site, sites_of};
 use mh_base::ObjRef;
@@ -21,7 +21,7 @@ impl<'a> SearchedConfig<'a> {
             OnOk result (moves.new.items ≡ moves.old.items ++ spec.kept_moves g to.now part.now) }
     {
         if self.holds(&part.key) {
-            push_stays(moves, self.place(&part.key)?, place(to, &part.key)?)?;
+            push_stays(moves, self.holder_at(&part.key)?, holder_at(to, &part.key)?)?;
         }
         Ok(())
     }

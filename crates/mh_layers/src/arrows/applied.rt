@@ -1,15 +1,15 @@
-//! The first action of an effect that counts a key, done to an object to which its target may come.
+//! The first action of an effect that counts a node, done to an object to which its target may come.
 //!
-//! Promise: what is found counts the key so; and where an action does, one is found.
+//! Promise: what is found counts the node so; and where an action does, one is found.
 ghost use Rattle.std.specs.Prelude.{◌≡◌, true, IfNone, IfOk, IfSome};
 ghost use Rattle.mh_laws.specs.Costs.{targets};
 ghost use Rattle.mh_laws.specs.Each.{Among};
-ghost use Rattle.mh_layers.specs.Applied.{CountsKey, IsApplied, NoneApplied, NoneCounts};
+ghost use Rattle.mh_layers.specs.Applied.{CountsNode, IsApplied, NoneApplied, NoneCounts};
 ghost use Rattle.mh_layers.specs.Reading.{flow_read};
 
-use crate::node_key::NodeKey;
 use crate::numbered::at::At;
-use crate::price::meters::SoughtKey;
+use crate::numbered_node::NumberedNode;
+use crate::price::meters::SoughtNode;
 use crate::price::walk::Walk;
 use mh_base::ObjRef;
 use mh_model::{Act, Target};
@@ -34,14 +34,14 @@ impl<'a> Model for AppliedAction<'a> {
     ghost view = { λ d. record { offset = d.offset; act = d.act.now; at = d.at.now } };
 }
 
-/// Whether the action, done to the object, counts the key.
-fn counts_at(here: &At<'_>, act: &Act, at: &ObjRef, key: &NodeKey) -> Result<bool, AllocError>
+/// Whether the action, done to the object, counts the node.
+fn counts_at(here: &At<'_>, act: &Act, at: &ObjRef, node: &NumberedNode) -> Result<bool, AllocError>
     ensures counts { let s = here.now in
-        IfOk result (λ counts. counts ≡ true → CountsKey s.reading s.config act.now at.now key.now) }
+        IfOk result (λ counts. counts ≡ true → CountsNode s.reading s.config act.now at.now node.now) }
     ensures all { let s = here.now in
-        IfOk result (λ counts. CountsKey s.reading s.config act.now at.now key.now → counts ≡ true) }
+        IfOk result (λ counts. CountsNode s.reading s.config act.now at.now node.now → counts ≡ true) }
 {
-    let sought = SoughtKey { key: *key };
+    let sought = SoughtNode { node: *node };
     let walk = Walk {
         here,
         meter: &sought,
@@ -60,39 +60,39 @@ fn targets<'a>(here: &'a At<'_>, target: &'a Target) -> &'a [ObjRef]
     }
 }
 
-/// The first of these objects to which the action is done so that it counts the key; none only where it is so for none.
+/// The first of these objects to which the action is done so that it counts the node; none only where it is so for none.
 fn first_of<'a>(
     here: &At<'_>,
     act: &Act,
     objects: &'a [ObjRef],
-    key: &NodeKey,
+    node: &NumberedNode,
 ) -> Result<Option<&'a ObjRef>, AllocError>
     ensures among { IfOk result (λ found. IfSome found (λ at. Among objects.now at.now)) }
     ensures counts { let s = here.now in
-        IfOk result (λ found. IfSome found (λ at. CountsKey s.reading s.config act.now at.now key.now)) }
+        IfOk result (λ found. IfSome found (λ at. CountsNode s.reading s.config act.now at.now node.now)) }
     ensures all { let s = here.now in
-        IfOk result (λ found. IfNone found (NoneCounts s.reading s.config act.now objects.now key.now)) }
+        IfOk result (λ found. IfNone found (NoneCounts s.reading s.config act.now objects.now node.now)) }
 {
     for at in objects {
-        if counts_at(here, act, at, key)? {
+        if counts_at(here, act, at, node)? {
             return Ok(Some(at));
         }
     }
     Ok(None)
 }
 
-/// The first of these actions that counts the key; none only where no action does.
+/// The first of these actions that counts the node; none only where no action does.
 pub(crate) fn doing_of<'a>(
     here: &'a At<'_>,
     acts: &'a [Act],
-    key: &NodeKey,
+    node: &NumberedNode,
 ) -> Result<Option<AppliedAction<'a>>, AllocError>
-    ensures some { let s = here.now in IfOk result (λ found. IfSome found (IsApplied s.reading s.config acts.now key.now)) }
-    ensures none { let s = here.now in IfOk result (λ found. IfNone found (NoneApplied s.reading s.config acts.now key.now)) }
+    ensures some { let s = here.now in IfOk result (λ found. IfSome found (IsApplied s.reading s.config acts.now node.now)) }
+    ensures none { let s = here.now in IfOk result (λ found. IfNone found (NoneApplied s.reading s.config acts.now node.now)) }
 {
     for offset in 0..acts.len() {
         let act = &acts[offset];
-        let found = first_of(here, act, targets(here, &act.target), key)?;
+        let found = first_of(here, act, targets(here, &act.target), node)?;
         if let Some(at) = found {
             return Ok(Some(AppliedAction { offset, act, at }));
         }

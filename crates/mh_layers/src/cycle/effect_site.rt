@@ -10,12 +10,12 @@ ghost use Rattle.mh_layers.specs.Cycle as spec;
 ghost use Rattle.mh_layers.specs.Named.{IsEffectKept};
 ghost use Rattle.mh_layers.specs.Reading.{has_config, has_object, kept};
 ghost use Rattle.mh_layers.specs.EffectSites.{AreEffectSites, cause_by, cause_named, label_in, same_effect_site, effect_site_cmp, effect_site_named, effect_site_number};
-ghost use Rattle.mh_layers.specs.KeyGraph.{label_to};
+ghost use Rattle.mh_layers.specs.NodeGraph.{label_to};
 
 use crate::cause::Cause;
 use crate::effects::effect_acts;
-use crate::node_key::NodeKey;
 use crate::numbered::NumberedService;
+use crate::numbered_node::NumberedNode;
 use crate::numbering::first_number;
 use indexmap::IndexSet;
 use mh_base::ObjRef;
@@ -123,14 +123,14 @@ fn cause_by(
 /// The effect with this number as a cause.
 pub(crate) fn cause_of(
     numbered_service: &NumberedService<'_>,
-    key: &NodeKey,
+    node: &NumberedNode,
 ) -> Result<Cause, AllocError>
-    requires { IsEffectKept numbered_service.now key.now }
-    ensures { IfOk result (λ cause. cause ≡ cause_named numbered_service.now key.now) }
+    requires { IsEffectKept numbered_service.now node.now }
+    ensures { IfOk result (λ cause. cause ≡ cause_named numbered_service.now node.now) }
 {
     numbered_service.read();
-    match key {
-        NodeKey::Effect(config, object, number) => cause_by(
+    match node {
+        NumberedNode::Effect(config, object, number) => cause_by(
             numbered_service,
             *config,
             *object,
@@ -164,11 +164,14 @@ fn by_order(first: &EffectSite, second: &EffectSite) -> Ordering
 }
 
 /// Where the effect with this number stands.
-fn place_of(numbered_service: &NumberedService<'_>, key: &NodeKey) -> Result<EffectSite, AllocError>
-    requires { IsEffectKept numbered_service.now key.now }
-    ensures { IfOk result (λ effect_site. effect_site ≡ effect_site_named numbered_service.now key.now) }
+fn place_of(
+    numbered_service: &NumberedService<'_>,
+    node: &NumberedNode,
+) -> Result<EffectSite, AllocError>
+    requires { IsEffectKept numbered_service.now node.now }
+    ensures { IfOk result (λ effect_site. effect_site ≡ effect_site_named numbered_service.now node.now) }
 {
-    let cause = cause_of(numbered_service, key)?;
+    let cause = cause_of(numbered_service, node)?;
     Ok(EffectSite {
         at: cause.at,
         index: cause.index,
@@ -179,12 +182,12 @@ fn place_of(numbered_service: &NumberedService<'_>, key: &NodeKey) -> Result<Eff
 fn put(
     effect_sites: &mut IndexSet<EffectSite>,
     numbered_service: &NumberedService<'_>,
-    key: &NodeKey,
+    node: &NumberedNode,
 ) -> Result<(), AllocError>
-    requires { IsEffectKept numbered_service.now key.now }
-    ensures { OnOk result (effect_sites.new.keys ≡ insert_all same_effect_site effect_sites.old.keys (effect_site_named numbered_service.now key.now ∷ [])) }
+    requires { IsEffectKept numbered_service.now node.now }
+    ensures { OnOk result (effect_sites.new.keys ≡ insert_all same_effect_site effect_sites.old.keys (effect_site_named numbered_service.now node.now ∷ [])) }
 {
-    effect_sites.insert(place_of(numbered_service, key)?)?;
+    effect_sites.insert(place_of(numbered_service, node)?)?;
     Ok(())
 }
 
@@ -192,14 +195,14 @@ fn put(
 fn met(
     alloc: Global,
     numbered_service: &NumberedService<'_>,
-    keys: &[NodeKey],
+    nodes: &[NumberedNode],
 ) -> Result<IndexSet<EffectSite>, AllocError>
-    requires { Each (IsEffectKept numbered_service.now) keys.now }
-    ensures { IfOk result (λ effect_sites. effect_sites.keys ≡ insert_all same_effect_site [] (map (effect_site_named numbered_service.now) keys.now)) }
+    requires { Each (IsEffectKept numbered_service.now) nodes.now }
+    ensures { IfOk result (λ effect_sites. effect_sites.keys ≡ insert_all same_effect_site [] (map (effect_site_named numbered_service.now) nodes.now)) }
 {
     let mut effect_sites = IndexSet::new(alloc);
-    for key in keys {
-        put(&mut effect_sites, numbered_service, key)?;
+    for node in nodes {
+        put(&mut effect_sites, numbered_service, node)?;
     }
     Ok(effect_sites)
 }
@@ -208,12 +211,12 @@ fn met(
 pub(crate) fn effect_sites_of(
     alloc: Global,
     numbered_service: &NumberedService<'_>,
-    keys: &[NodeKey],
+    nodes: &[NumberedNode],
 ) -> Result<IndexSet<EffectSite>, AllocError>
-    requires { Each (IsEffectKept numbered_service.now) keys.now }
-    ensures { IfOk result (λ effect_sites. AreEffectSites numbered_service.now keys.now effect_sites.keys) }
+    requires { Each (IsEffectKept numbered_service.now) nodes.now }
+    ensures { IfOk result (λ effect_sites. AreEffectSites numbered_service.now nodes.now effect_sites.keys) }
 {
-    let mut effect_sites = met(alloc, numbered_service, keys)?;
+    let mut effect_sites = met(alloc, numbered_service, nodes)?;
     effect_sites.sort_by(by_order)?;
     Ok(effect_sites)
 }
@@ -229,44 +232,44 @@ fn number_of(effect_sites: &IndexSet<EffectSite>, effect_site: &EffectSite) -> u
 fn label_of(
     numbered_service: &NumberedService<'_>,
     effect_sites: &IndexSet<EffectSite>,
-    key: &NodeKey,
+    node: &NumberedNode,
 ) -> Result<u64, AllocError>
-    requires { IsEffectKept numbered_service.now key.now }
-    ensures { IfOk result (λ label. label ≡ label_in numbered_service.now effect_sites.now.keys key.now) }
+    requires { IsEffectKept numbered_service.now node.now }
+    ensures { IfOk result (λ label. label ≡ label_in numbered_service.now effect_sites.now.keys node.now) }
 {
-    let place = place_of(numbered_service, key)?;
+    let place = place_of(numbered_service, node)?;
     Ok(number_of(effect_sites, &place) as u64)
 }
 
-/// The label of an arrow to this key, if it has one.
+/// The label of an arrow to this node, if it has one.
 #[tactic(auto, using(crate::proofs::EffectSiteLemmas::label_tells))]
 fn label_to(
     numbered_service: &NumberedService<'_>,
     effect_sites: &IndexSet<EffectSite>,
-    key: &NodeKey,
+    node: &NumberedNode,
 ) -> Result<Option<u64>, AllocError>
-    requires { kept numbered_service.now key.now }
-    ensures { IfOk result (λ label. label ≡ label_to (label_in numbered_service.now effect_sites.now.keys) key.now) }
+    requires { kept numbered_service.now node.now }
+    ensures { IfOk result (λ label. label ≡ label_to (label_in numbered_service.now effect_sites.now.keys) node.now) }
 {
-    match key {
-        NodeKey::Effect(..) => Ok(Some(label_of(numbered_service, effect_sites, key)?)),
+    match node {
+        NumberedNode::Effect(..) => Ok(Some(label_of(numbered_service, effect_sites, node)?)),
         _ => Ok(None),
     }
 }
 
-/// The labels of arrows to these keys.
+/// The labels of arrows to these nodes.
 pub(crate) fn labels_of(
     alloc: Global,
     numbered_service: &NumberedService<'_>,
     effect_sites: &IndexSet<EffectSite>,
-    keys: &[NodeKey],
+    nodes: &[NumberedNode],
 ) -> Result<Vec<Option<u64>>, AllocError>
-    requires { Each (kept numbered_service.now) keys.now }
-    ensures { IfOk result (λ labels. labels.items ≡ map (label_to (label_in numbered_service.now effect_sites.now.keys)) keys.now) }
+    requires { Each (kept numbered_service.now) nodes.now }
+    ensures { IfOk result (λ labels. labels.items ≡ map (label_to (label_in numbered_service.now effect_sites.now.keys)) nodes.now) }
 {
     let mut labels = Vec::new(alloc);
-    for key in keys {
-        labels.push(label_to(numbered_service, effect_sites, key)?)?;
+    for node in nodes {
+        labels.push(label_to(numbered_service, effect_sites, node)?)?;
     }
     Ok(labels)
 }

@@ -1,39 +1,39 @@
-//! The costs that are known so far, by key.
+//! The costs that are known so far, by node.
 ghost use Rattle.std.specs.Prelude.{◌≡◌, ◌<◌, ◌^◌, [], length, IfOk, OnOk, OnErr};
 ghost use Rattle.indexmap.specs.IndexMap.{insert_entry};
 ghost use Rattle.mh_layers.specs.Known.{told};
-ghost use Rattle.mh_layers.specs.Layering.{cost_in, key_at, laid_in, place_in};
-ghost use Rattle.mh_layers.specs.NodeKeys.{same_key};
+ghost use Rattle.mh_layers.specs.Layering.{cost_in, node_at, laid_in, place_in};
+ghost use Rattle.mh_layers.specs.NumberedNodes.{same_node};
 
 use crate::laying::sums::CostOrMissing;
-use crate::node_key::NodeKey;
+use crate::numbered_node::NumberedNode;
 use indexmap::IndexMap;
 use std::alloc::{AllocError, Global};
 use std::cell::Cell;
 use std::marker::Model;
 
-/// What a key costs, and its rank: those that it counts have lower ones.
+/// What a node costs, and its rank: those that it counts have lower ones.
 #[derive(Clone, Copy)]
 pub struct Laid {
     pub cost: u64,
     pub rank: usize,
 }
 
-/// What is known of each key that has a place. Beside it stands what was asked for and has none: advice on what to
+/// What is known of each node that has a place. Beside it stands what was asked for and has none: advice on what to
 /// look at first, of which no contract speaks.
 #[derive(Drop)]
 pub struct Costs {
-    places: IndexMap<NodeKey, Option<Laid>>,
-    wants: Vec<Cell<NodeKey>>,
+    places: IndexMap<NumberedNode, Option<Laid>>,
+    wants: Vec<Cell<NumberedNode>>,
     wanted: Cell<usize>,
 }
 
 impl Model for Costs {
     ghost use Rattle.std.specs.Prelude.{List, Option};
     ghost use Rattle.mh_layers.specs.declared.laying.costs.Laid.{Laid as LaidLem};
-    ghost use Rattle.mh_layers.specs.declared.node_key.NodeKey.{NodeKey as NodeKeyLem};
+    ghost use Rattle.mh_layers.specs.declared.numbered_node.NumberedNode.{NumberedNode as NumberedNodeLem};
 
-    ghost Value = { List (NodeKeyLem × Option LaidLem) };
+    ghost Value = { List (NumberedNodeLem × Option LaidLem) };
 
     ghost view = { λ c. c.places.entries };
 }
@@ -41,10 +41,10 @@ impl Model for Costs {
 /// How many are noted at most that were asked for.
 const NOTED: usize = 1_024;
 
-fn no_wants(alloc: Global) -> Result<Vec<Cell<NodeKey>>, AllocError> {
+fn no_wants(alloc: Global) -> Result<Vec<Cell<NumberedNode>>, AllocError> {
     let mut wants = Vec::new(alloc);
     for _ in 0..NOTED {
-        wants.push(Cell::new(NodeKey::Enter(0)))?;
+        wants.push(Cell::new(NumberedNode::Enter(0)))?;
     }
     Ok(wants)
 }
@@ -62,41 +62,41 @@ impl Costs {
         })
     }
 
-    /// What stands at the key's place, if it has one.
-    pub fn at(&self, key: &NodeKey) -> Option<Option<Laid>>
-        ensures { result ≡ place_in self.now key.now }
+    /// What stands at the node's place, if it has one.
+    pub fn at(&self, node: &NumberedNode) -> Option<Option<Laid>>
+        ensures { result ≡ place_in self.now node.now }
     {
-        match self.places.get(key) {
+        match self.places.get(node) {
             None => None,
             Some(laid) => Some(*laid),
         }
     }
 
-    /// The cost of a key, or that it is waited for; and a note, if it has no place.
-    pub fn get(&self, key: &NodeKey) -> CostOrMissing
-        ensures { result ≡ told (cost_in self.now) key.now }
+    /// The cost of a node, or that it is waited for; and a note, if it has no place.
+    pub fn get(&self, node: &NumberedNode) -> CostOrMissing
+        ensures { result ≡ told (cost_in self.now) node.now }
     {
-        match self.at(key) {
+        match self.at(node) {
             Some(Some(laid)) => Ok(laid.cost),
-            Some(None) => Err(*key),
+            Some(None) => Err(*node),
             None => {
-                self.want(*key);
-                Err(*key)
+                self.want(*node);
+                Err(*node)
             }
         }
     }
 
-    /// Cost and rank of a key, if it is laid.
-    pub fn laid(&self, key: &NodeKey) -> Option<Laid>
-        ensures { result ≡ laid_in self.now key.now }
+    /// Cost and rank of a node, if it is laid.
+    pub fn laid(&self, node: &NumberedNode) -> Option<Laid>
+        ensures { result ≡ laid_in self.now node.now }
     {
-        match self.at(key) {
+        match self.at(node) {
             None => None,
             Some(laid) => laid,
         }
     }
 
-    /// How many keys have a place.
+    /// How many nodes have a place.
     pub fn len(&self) -> usize
         ensures all { result ≡ length self.now }
         ensures small { result < 2 ^ 63 }
@@ -104,29 +104,29 @@ impl Costs {
         self.places.len()
     }
 
-    /// The key of the place with this number.
-    pub fn key_at(&self, place: usize) -> Option<NodeKey>
-        ensures { result ≡ key_at self.now place }
+    /// The node of the place with this number.
+    pub fn node_at(&self, place: usize) -> Option<NumberedNode>
+        ensures { result ≡ node_at self.now place }
     {
         match self.places.get_index(place) {
             None => None,
-            Some((key, _)) => Some(*key),
+            Some((node, _)) => Some(*node),
         }
     }
 
-    /// Puts this at the key's place. A key that has none gets one, behind all.
-    pub fn set(&mut self, key: NodeKey, laid: Option<Laid>) -> Result<(), AllocError>
-        ensures done { OnOk result (self.new ≡ insert_entry same_key self.old key laid) }
+    /// Puts this at the node's place. A node that has none gets one, behind all.
+    pub fn set(&mut self, node: NumberedNode, laid: Option<Laid>) -> Result<(), AllocError>
+        ensures done { OnOk result (self.new ≡ insert_entry same_node self.old node laid) }
         ensures kept { OnErr result (self.new ≡ self.old) }
     {
-        self.places.insert(key, laid)?;
+        self.places.insert(node, laid)?;
         Ok(())
     }
 
-    fn want(&self, key: NodeKey) {
+    fn want(&self, node: NumberedNode) {
         let place = self.wanted.get();
         if place < self.wants.len() {
-            self.wants[place].set(key);
+            self.wants[place].set(node);
             self.wanted.set(place + 1);
         }
     }
@@ -137,7 +137,7 @@ impl Costs {
     }
 
     /// One that was asked for.
-    pub fn want_at(&self, place: usize) -> Option<NodeKey> {
+    pub fn want_at(&self, place: usize) -> Option<NumberedNode> {
         if place < self.wants.len() {
             Some(self.wants[place].get())
         } else {

@@ -2,10 +2,10 @@
 ghost use Rattle.std.specs.Prelude.{◌≡◌, ◌+◌, min, max};
 ghost use Rattle.mh_layers.specs.Known.{added, larger, top};
 
-use crate::node_key::NodeKey;
+use crate::numbered_node::NumberedNode;
 
-/// What a price comes to, or the first key that it counts whose cost is not known.
-pub type CostOrMissing = Result<u64, NodeKey>;
+/// What a price comes to, or the first node that it counts whose cost is not known.
+pub type CostOrMissing = Result<u64, NumberedNode>;
 
 /// Both, or the first that is waited for.
 pub fn plus(first: CostOrMissing, second: CostOrMissing) -> CostOrMissing
@@ -13,8 +13,8 @@ pub fn plus(first: CostOrMissing, second: CostOrMissing) -> CostOrMissing
 {
     match (first, second) {
         (Ok(first), Ok(second)) => Ok(sum(first, second)),
-        (Err(key), _) => Err(key),
-        (_, Err(key)) => Err(key),
+        (Err(node), _) => Err(node),
+        (_, Err(node)) => Err(node),
     }
 }
 
@@ -33,7 +33,7 @@ pub fn most(first: CostOrMissing, second: CostOrMissing) -> CostOrMissing
 {
     match (first, second) {
         (Ok(first), Ok(second)) => Ok(first.max(second)),
-        (Err(key), _) => Err(key),
-        (_, Err(key)) => Err(key),
+        (Err(node), _) => Err(node),
+        (_, Err(node)) => Err(node),
     }
 }

@@ -5,7 +5,7 @@ ghost use Rattle.std.specs.Prelude.{◌≡◌, [], IfOk, OnOk, if◌then◌else�
 ghost use Rattle.std.specs.List.{flat_map};
 ghost use Rattle.std.specs.Map.{lookup};
 ghost use Rattle.std.specs.Option.{option_copied};
-ghost use Rattle.mh_layers.specs.Keys as keys;
+ghost use Rattle.mh_layers.specs.CostNodes as cost_nodes;
 ghost use Rattle.mh_layers.specs.Listening as spec;
 ghost use Rattle.mh_layers.specs.Listening.{is_ear, named, named_by, same_ear, with_data, with_more};
 
@@ -37,7 +37,7 @@ pub(crate) fn source_of(part: &Fixed) -> Option<&ObjRef>
 
 /// The data that a link names.
 pub(crate) fn data_of(part: &Fixed) -> Option<&Value>
-    ensures { option_copied result ≡ keys.data_of part.now }
+    ensures { option_copied result ≡ cost_nodes.data_of part.now }
 {
     as_value(part.properties.get(Attribute::EventData))
 }

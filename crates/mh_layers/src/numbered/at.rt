@@ -1,6 +1,6 @@
 //! `At`: a configuration of a numbered service.
 //!
-//! Promise: it answers what is present and held in the configuration, and the numbers of its keys.
+//! Promise: it answers what is present and held in the configuration, and the numbers of its nodes.
 ghost use Rattle.std.specs.Prelude.{◌≡◌, ◌++◌, None, Some, position, slice_get, IfNone, IfOk, IfSome};
 ghost use Rattle.std.specs.Option.{option_copied};
 ghost use Rattle.mh_model.specs.Configuration.{present as present_there};
@@ -10,13 +10,13 @@ ghost use Rattle.mh_laws.specs.Flow.{is_list_in};
 ghost use Rattle.mh_laws.specs.Safe.{exchanged};
 ghost use Rattle.mh_laws.specs.Ways.{Sure};
 ghost use Rattle.mh_flow.specs.Sites.{sites_of as sites_of_lem};
-ghost use Rattle.mh_layers.specs.Key.{Change, Enter, Leave};
-ghost use Rattle.mh_layers.specs.Keys.{hearing};
-ghost use Rattle.mh_layers.specs.Reading.{IsReading, config_number, effect_key as effect_number, fired_key as fired_number, flow_read, hears_among, hears_told, lists_read, number as number_of, same_setting, settings, context_at};
+ghost use Rattle.mh_layers.specs.CostNode.{Change, Enter, Leave};
+ghost use Rattle.mh_layers.specs.CostNodes.{hearing};
+ghost use Rattle.mh_layers.specs.Reading.{IsReading, config_number, effect_node as effect_number, fired_node as fired_number, flow_read, hears_among, hears_told, lists_read, number as number_of, same_setting, settings, context_at};
 
-use crate::node_key::{Hears, NodeKey};
 use crate::numbered::NumberedService;
 use crate::numbered::values::Values;
+use crate::numbered_node::{Hears, NumberedNode};
 use mh_base::{EventType, GroupName, ObjRef, Value};
 use mh_flow::sites::sites_of;
 use mh_flow::{Held, Present, Site};
@@ -217,7 +217,7 @@ impl<'a> At<'a> {
         }
     }
 
-    // The numbers of its keys
+    // The numbers of its nodes
 
     /// The number of the configuration.
     fn number(&self) -> usize
@@ -227,10 +227,10 @@ impl<'a> At<'a> {
     }
 
     /// An effect of an object: 0 at start-up, 1 at close-down, 2 of a link, 3 and on its slots.
-    pub fn effect_key(&self, at: &ObjRef, index: usize) -> NodeKey
+    pub fn effect_node(&self, at: &ObjRef, index: usize) -> NumberedNode
         ensures { result ≡ effect_number self.now at.now index }
     {
-        NodeKey::Effect(
+        NumberedNode::Effect(
             self.number(),
             self.numbered_service.object_number(at),
             index,
@@ -238,10 +238,10 @@ impl<'a> At<'a> {
     }
 
     /// What an event sets going that is dealt with at once.
-    pub fn fired_key(&self, at: &ObjRef, kind: EventType, hears: Hears) -> NodeKey
+    pub fn fired_node(&self, at: &ObjRef, kind: EventType, hears: Hears) -> NumberedNode
         ensures { result ≡ fired_number self.now at.now kind hears }
     {
-        NodeKey::Fired(
+        NumberedNode::Fired(
             self.number(),
             self.numbered_service.object_number(at),
             kind,
@@ -250,23 +250,23 @@ impl<'a> At<'a> {
     }
 
     /// A change of a list.
-    pub fn change_key(&self, at: &ObjRef) -> NodeKey
+    pub fn change_node(&self, at: &ObjRef) -> NumberedNode
         ensures { result ≡ number_of self.now.reading (Change self.now.config at.now) }
     {
-        NodeKey::Change(self.number(), self.numbered_service.object_number(at))
+        NumberedNode::Change(self.number(), self.numbered_service.object_number(at))
     }
 
     /// To leave the scene, or all.
-    pub fn leave_key(&self, all: bool) -> NodeKey
+    pub fn leave_node(&self, all: bool) -> NumberedNode
         ensures { result ≡ number_of self.now.reading (Leave self.now.config all) }
     {
-        NodeKey::Leave(self.number(), all)
+        NumberedNode::Leave(self.number(), all)
     }
 
     /// To enter it.
-    pub fn enter_key(&self) -> NodeKey
+    pub fn enter_node(&self) -> NumberedNode
         ensures { result ≡ number_of self.now.reading (Enter self.now.config) }
     {
-        NodeKey::Enter(self.number())
+        NumberedNode::Enter(self.number())
     }
 }

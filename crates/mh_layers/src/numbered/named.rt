@@ -5,10 +5,10 @@ ghost use Rattle.std.specs.Prelude.{◌≡◌, ◌&&◌, is_some, slice_get, tru
 ghost use Rattle.mh_laws.specs.Flow.{reached};
 ghost use Rattle.mh_layers.specs.Reading.{flow_read, has_config, has_hearing, has_names, has_object, hearing_named, hears_number, object_named, context_at, context_in, values_read};
 
-use crate::node_key::{Hears, NodeKey};
 use crate::numbered::NumberedService;
 use crate::numbered::at::At;
 use crate::numbered::values::Values;
+use crate::numbered_node::{Hears, NumberedNode};
 use mh_base::{EventType, ObjRef, Value};
 use mh_model::Config;
 
@@ -165,22 +165,27 @@ fn has_event(
     }
 }
 
-/// Whether there are the configuration, the object and the value with the numbers that the key has.
-pub(crate) fn has_names(numbered_service: &NumberedService<'_>, key: &NodeKey) -> bool
-    ensures { result ≡ has_names numbered_service.now key.now }
+/// Whether there are the configuration, the object and the value with the numbers that the node has.
+pub(crate) fn has_names(numbered_service: &NumberedService<'_>, node: &NumberedNode) -> bool
+    ensures { result ≡ has_names numbered_service.now node.now }
 {
-    match key {
-        NodeKey::Effect(config, at, _) => has_config(numbered_service, *config)
+    match node {
+        NumberedNode::Effect(config, at, _) => has_config(numbered_service, *config)
             && has_object(numbered_service, *at),
-        NodeKey::Fired(config, source, kind, hears) => {
+        NumberedNode::Fired(config, source, kind, hears) => {
             has_config(numbered_service, *config)
                 && has_event(numbered_service, *source, *kind, *hears)
         }
-        NodeKey::Entry(source, kind, hears) => has_event(numbered_service, *source, *kind, *hears),
-        NodeKey::Change(config, list) => has_config(numbered_service, *config)
+        NumberedNode::Entry(source, kind, hears) => has_event(
+            numbered_service,
+            *source,
+            *kind,
+            *hears,
+        ),
+        NumberedNode::Change(config, list) => has_config(numbered_service, *config)
             && has_object(numbered_service, *list),
-        NodeKey::Leave(config, _) => has_config(numbered_service, *config),
-        NodeKey::Enter(config) => has_config(numbered_service, *config),
-        NodeKey::Taken(config, _) => has_config(numbered_service, *config),
+        NumberedNode::Leave(config, _) => has_config(numbered_service, *config),
+        NumberedNode::Enter(config) => has_config(numbered_service, *config),
+        NumberedNode::Taken(config, _) => has_config(numbered_service, *config),
     }
 }

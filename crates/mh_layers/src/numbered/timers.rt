@@ -8,7 +8,7 @@ ghost use Rattle.indexmap.specs.IndexSet.{insert_all};
 ghost use Rattle.mh_laws.specs.Active.{active_actions};
 ghost use Rattle.mh_laws.specs.Costs.{same_timer as same_timer_lem, set_with};
 ghost use Rattle.mh_flow.specs.Solved.{IsFlowOf, flow_in, held_in};
-ghost use Rattle.mh_layers.specs.Keys.{every_timer};
+ghost use Rattle.mh_layers.specs.CostNodes.{every_timer};
 ghost use Rattle.mh_layers.specs.Reading.{same_setting};
 ghost use Rattle.mh_layers.specs.SetTimers.{set_here, set_in, sets_there, targets_here};
 

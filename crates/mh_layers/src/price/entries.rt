@@ -1,6 +1,6 @@
 //! What an event comes to that waits: the largest over the configurations in which it can be taken.
 //!
-//! Promise: the price is added to the sum, by the numbers of keys.
+//! Promise: the price is added to the sum, by the numbers of nodes.
 ghost use Rattle.std.specs.Prelude.{◌≡◌, true, IfOk};
 ghost use Rattle.std.specs.List.{list_all};
 ghost use Rattle.mh_laws.specs.Flow.{reached};
@@ -8,9 +8,9 @@ ghost use Rattle.mh_laws.specs.Price.{most_price};
 ghost use Rattle.mh_prices.specs.Meter.{Adds, raise};
 ghost use Rattle.mh_layers.specs.Reading.{flow_read, context_in, there_by};
 
-use crate::node_key::Hears;
 use crate::numbered::NumberedService;
 use crate::numbered::named::reached;
+use crate::numbered_node::Hears;
 use crate::price::meter::Meter;
 use crate::price::walk::Walk;
 use mh_base::{EventType, ObjRef};

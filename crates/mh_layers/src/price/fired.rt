@@ -1,21 +1,21 @@
 //! What an event sets going in a configuration: the effects of the links that wait for it.
 //!
-//! Promise: what the key of such an event comes to is added to the sum, by the numbers of keys.
+//! Promise: what the node of such an event comes to is added to the sum, by the numbers of nodes.
 ghost use Rattle.std.specs.Prelude.{◌≡◌, ◌&&◌, filter, slice_get, true, IfOk, Some};
 ghost use Rattle.mh_model.specs.Configuration.{scene_parts as scene_parts_lem};
 ghost use Rattle.mh_model.specs.Variables.{same_value};
 ghost use Rattle.mh_laws.specs.Price.{Node, most_price, sum_price};
 ghost use Rattle.mh_prices.specs.Meter.{Adds, raise};
 ghost use Rattle.mh_layers.specs.Grouped.{has, is_plain};
-ghost use Rattle.mh_layers.specs.Key.{Any, Fired, With};
-ghost use Rattle.mh_layers.specs.Keys.{data_of, links_with as links_with_lem, waits_for};
+ghost use Rattle.mh_layers.specs.CostNode.{Any, Fired, With};
+ghost use Rattle.mh_layers.specs.CostNodes.{data_of, links_with as links_with_lem, waits_for};
 ghost use Rattle.mh_layers.specs.Listening.{link_node};
 ghost use Rattle.mh_layers.specs.Numbered.{through};
 ghost use Rattle.mh_layers.specs.Reading.{has_hearing, hearing_named, number as number_of, price_read, values_read};
 
-use crate::node_key::Hears;
 use crate::numbered::at::At;
 use crate::numbered::values::Datum;
+use crate::numbered_node::Hears;
 use crate::price::meter::Meter;
 use crate::price::walk::Walk;
 use mh_base::{EventType, ObjRef, Value};
@@ -121,8 +121,8 @@ fn one_value<M: Meter>(
         .here
         .numbered_service()
         .value_number(source, kind, value);
-    let key = walk.here.fired_key(source, kind, Hears::With(number));
-    walk.meter.node(key, sum)
+    let node = walk.here.fired_node(source, kind, Hears::With(number));
+    walk.meter.node(node, sum)
 }
 
 /// The largest over these values.
@@ -175,7 +175,7 @@ fn any<M: Meter>(
     ensures { let s = walk.now.here.now in let m = through (number_of s.reading) (M.meter walk.now.meter.now) in
         Adds M.seen m (price_read s.reading (Fired s.config source.now kind Any)) sum result }
 {
-    let plain = walk.here.fired_key(source, kind, Hears::Plain);
+    let plain = walk.here.fired_node(source, kind, Hears::Plain);
     let sum = walk.meter.node(plain, sum)?;
     match walk.here.numbered_service().values(source, kind) {
         None => Ok(sum),

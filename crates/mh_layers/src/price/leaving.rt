@@ -1,12 +1,12 @@
 //! What it comes to that a configuration is left, and that it is entered.
 //!
-//! Promise: the price of the key is added to the sum, by the numbers of keys.
+//! Promise: the price of the node is added to the sum, by the numbers of nodes.
 ghost use Rattle.std.specs.Prelude.{◌≡◌};
 ghost use Rattle.mh_model.specs.Configuration.{scene_parts as scene_parts_lem};
 ghost use Rattle.mh_model.specs.Service.{group_parts};
 ghost use Rattle.mh_prices.specs.Meter.{Adds};
-ghost use Rattle.mh_layers.specs.Key.{Enter, Leave};
-ghost use Rattle.mh_layers.specs.Keys.{entered as entered_lem};
+ghost use Rattle.mh_layers.specs.CostNode.{Enter, Leave};
+ghost use Rattle.mh_layers.specs.CostNodes.{entered as entered_lem};
 ghost use Rattle.mh_layers.specs.Numbered.{through};
 ghost use Rattle.mh_layers.specs.Reading.{number as number_of, price_read};
 

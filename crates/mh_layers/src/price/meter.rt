@@ -1,11 +1,11 @@
 //! `Meter`: what prices are added up to, where all that is counted has a number.
-use crate::node_key::NodeKey;
+use crate::numbered_node::NumberedNode;
 use std::alloc::AllocError;
 
-/// What prices are added up to: a cost, a list of keys, or whether one key is among them.
+/// What prices are added up to: a cost, a list of nodes, or whether one node is among them.
 pub(crate) trait Meter {
     ghost use Rattle.std.specs.Prelude.{◌≡◌, IfOk};
-    ghost use Rattle.mh_layers.specs.declared.node_key.NodeKey.{NodeKey as NodeKeyLem};
+    ghost use Rattle.mh_layers.specs.declared.numbered_node.NumberedNode.{NumberedNode as NumberedNodeLem};
     ghost use Rattle.mh_prices.specs.Meter.{Meter as MeterLem};
 
     /// What prices have come to so far.
@@ -22,15 +22,15 @@ pub(crate) trait Meter {
 
     ghost marked: { Self.Mark → Marked };
 
-    ghost meter: { Self → MeterLem NodeKeyLem Seen Marked };
+    ghost meter: { Self → MeterLem NumberedNodeLem Seen Marked };
 
     /// One step more.
     fn one(&self, sum: Self::Sum) -> Self::Sum
         ensures { seen result ≡ (meter self.now).one (seen sum) };
 
-    /// A key more.
-    fn node(&self, key: NodeKey, sum: Self::Sum) -> Result<Self::Sum, AllocError>
-        ensures { IfOk result (λ s. seen s ≡ (meter self.now).node key (seen sum)) };
+    /// A node more.
+    fn node(&self, node: NumberedNode, sum: Self::Sum) -> Result<Self::Sum, AllocError>
+        ensures { IfOk result (λ s. seen s ≡ (meter self.now).node node (seen sum)) };
 
     /// The sum is put aside, and the first of several prices begins.
     fn aside(&self, sum: Self::Sum) -> (Self::Mark, Self::Sum)

@@ -1,7 +1,7 @@
-//! The meters: what a price costs as far as that is known, which keys it counts, and whether it counts one key.
+//! The meters: what a price costs as far as that is known, which nodes it counts, and whether it counts one node.
 use crate::laying::costs::Costs;
 use crate::laying::sums::{CostOrMissing, most, plus};
-use crate::node_key::NodeKey;
+use crate::numbered_node::NumberedNode;
 use crate::price::meter::Meter;
 use std::alloc::AllocError;
 
@@ -13,7 +13,7 @@ pub(crate) struct KnownCosts<'a> {
 
 impl<'a> Meter for KnownCosts<'a> {
     ghost use Rattle.std.specs.Prelude.{ℕ, Result};
-    ghost use Rattle.mh_layers.specs.declared.node_key.NodeKey.{NodeKey as NodeKeyLem};
+    ghost use Rattle.mh_layers.specs.declared.numbered_node.NumberedNode.{NumberedNode as NumberedNodeLem};
     ghost use Rattle.mh_layers.specs.Known.{knowing, told};
     ghost use Rattle.mh_layers.specs.Layering.{cost_in};
 
@@ -21,9 +21,9 @@ impl<'a> Meter for KnownCosts<'a> {
 
     type Mark = (CostOrMissing, CostOrMissing);
 
-    ghost Seen = { Result ℕ NodeKeyLem };
+    ghost Seen = { Result ℕ NumberedNodeLem };
 
-    ghost Marked = { Result ℕ NodeKeyLem × Result ℕ NodeKeyLem };
+    ghost Marked = { Result ℕ NumberedNodeLem × Result ℕ NumberedNodeLem };
 
     ghost seen = { λ s. s };
 
@@ -35,8 +35,8 @@ impl<'a> Meter for KnownCosts<'a> {
         plus(sum, Ok(1))
     }
 
-    fn node(&self, key: NodeKey, sum: CostOrMissing) -> Result<CostOrMissing, AllocError> {
-        Ok(plus(sum, self.costs.get(&key)))
+    fn node(&self, node: NumberedNode, sum: CostOrMissing) -> Result<CostOrMissing, AllocError> {
+        Ok(plus(sum, self.costs.get(&node)))
     }
 
     fn aside(&self, sum: CostOrMissing) -> ((CostOrMissing, CostOrMissing), CostOrMissing) {
@@ -56,20 +56,20 @@ impl<'a> Meter for KnownCosts<'a> {
     }
 }
 
-/// Keys in the order in which they are counted.
+/// Nodes in the order in which they are counted.
 #[derive(Drop)]
-pub(crate) struct CountedKeys;
+pub(crate) struct CountedNodes;
 
-impl Meter for CountedKeys {
+impl Meter for CountedNodes {
     ghost use Rattle.std.specs.Prelude.{List};
     ghost use Rattle.mh_prices.specs.Meters.{listing};
-    ghost use Rattle.mh_layers.specs.declared.node_key.NodeKey.{NodeKey as NodeKeyLem};
+    ghost use Rattle.mh_layers.specs.declared.numbered_node.NumberedNode.{NumberedNode as NumberedNodeLem};
 
-    type Sum = Vec<NodeKey>;
+    type Sum = Vec<NumberedNode>;
 
     type Mark = ();
 
-    ghost Seen = { List NodeKeyLem };
+    ghost Seen = { List NumberedNodeLem };
 
     ghost Marked = { record {} };
 
@@ -79,39 +79,43 @@ impl Meter for CountedKeys {
 
     ghost meter = { λ a. listing };
 
-    fn one(&self, sum: Vec<NodeKey>) -> Vec<NodeKey> {
+    fn one(&self, sum: Vec<NumberedNode>) -> Vec<NumberedNode> {
         sum
     }
 
-    fn node(&self, key: NodeKey, sum: Vec<NodeKey>) -> Result<Vec<NodeKey>, AllocError> {
-        let mut keys = sum;
-        keys.push(key)?;
-        Ok(keys)
+    fn node(
+        &self,
+        node: NumberedNode,
+        sum: Vec<NumberedNode>,
+    ) -> Result<Vec<NumberedNode>, AllocError> {
+        let mut nodes = sum;
+        nodes.push(node)?;
+        Ok(nodes)
     }
 
-    fn aside(&self, sum: Vec<NodeKey>) -> ((), Vec<NodeKey>) {
+    fn aside(&self, sum: Vec<NumberedNode>) -> ((), Vec<NumberedNode>) {
         ((), sum)
     }
 
-    fn next(&self, mark: (), sum: Vec<NodeKey>) -> ((), Vec<NodeKey>) {
+    fn next(&self, mark: (), sum: Vec<NumberedNode>) -> ((), Vec<NumberedNode>) {
         (mark, sum)
     }
 
-    fn close(&self, _mark: (), sum: Vec<NodeKey>) -> Vec<NodeKey> {
+    fn close(&self, _mark: (), sum: Vec<NumberedNode>) -> Vec<NumberedNode> {
         sum
     }
 }
 
-/// Whether one key was found.
+/// Whether one node was found.
 #[derive(Drop)]
-pub(crate) struct SoughtKey {
-    pub key: NodeKey,
+pub(crate) struct SoughtNode {
+    pub node: NumberedNode,
 }
 
-impl Meter for SoughtKey {
+impl Meter for SoughtNode {
     ghost use Rattle.std.specs.Prelude.{Bool};
     ghost use Rattle.mh_prices.specs.Meters.{finding};
-    ghost use Rattle.mh_layers.specs.NodeKeys.{same_key};
+    ghost use Rattle.mh_layers.specs.NumberedNodes.{same_node};
 
     type Sum = bool;
 
@@ -125,14 +129,14 @@ impl Meter for SoughtKey {
 
     ghost marked = { λ m. record {} };
 
-    ghost meter = { λ a. finding (same_key a.key) };
+    ghost meter = { λ a. finding (same_node a.node) };
 
     fn one(&self, found: bool) -> bool {
         found
     }
 
-    fn node(&self, key: NodeKey, found: bool) -> Result<bool, AllocError> {
-        Ok(found || self.key == key)
+    fn node(&self, node: NumberedNode, found: bool) -> Result<bool, AllocError> {
+        Ok(found || self.node == node)
     }
 
     fn aside(&self, found: bool) -> ((), bool) {

@@ -1,6 +1,6 @@
-//! What the keys of a numbered service cost as far as that is known, and which keys they count.
+//! What the nodes of a numbered service cost as far as that is known, and which nodes they count.
 //!
-//! Promise: a cost is what the key's price comes to, over what is known of keys by their numbers, and all that it counts is told
+//! Promise: a cost is what the node's price comes to, over what is known of nodes by their numbers, and all that it counts is told
 //! in one pass.
 ghost use Rattle.std.specs.Prelude.{◌≡◌, true, IfOk};
 ghost use Rattle.mh_laws.specs.Price.{counted_in};
@@ -11,10 +11,10 @@ ghost use Rattle.mh_layers.specs.Reading.{has_names, kept, price as price_of};
 use crate::laying::Prices;
 use crate::laying::costs::Costs;
 use crate::laying::sums::CostOrMissing;
-use crate::node_key::NodeKey;
 use crate::numbered::NumberedService;
 use crate::numbered::named::has_names;
-use crate::price::meters::{CountedKeys, KnownCosts};
+use crate::numbered_node::NumberedNode;
+use crate::price::meters::{CountedNodes, KnownCosts};
 use crate::price::price;
 use std::alloc::{AllocError, Global};
 
@@ -25,39 +25,39 @@ impl<'a> Prices for NumberedService<'a> {
 
     ghost kept = { kept };
 
-    fn worth(&self, costs: &Costs, node: &NodeKey) -> Result<CostOrMissing, AllocError> {
+    fn worth(&self, costs: &Costs, node: &NumberedNode) -> Result<CostOrMissing, AllocError> {
         self.read();
         if !has_names(self, node) {
-            // no kept key: what is advised to be looked at may be any
+            // no kept node: what is advised to be looked at may be any
             return Ok(Ok(0));
         }
         worth_of(self, costs, node)
     }
 }
 
-/// What a key comes to whose names are there, over what is known.
+/// What a node comes to whose names are there, over what is known.
 #[tactic(auto, using(crate::proofs::KnowingLemmas::known_numbers))]
 fn worth_of(
     numbered_service: &NumberedService<'_>,
     costs: &Costs,
-    key: &NodeKey,
+    node: &NumberedNode,
 ) -> Result<CostOrMissing, AllocError>
-    requires { has_names numbered_service.now key.now ≡ true }
-    ensures { IfOk result (λ worth. worth ≡ known_worth (told (cost_in costs.now)) (price_of numbered_service.now key.now)) }
+    requires { has_names numbered_service.now node.now ≡ true }
+    ensures { IfOk result (λ worth. worth ≡ known_worth (told (cost_in costs.now)) (price_of numbered_service.now node.now)) }
 {
-    price(numbered_service, &KnownCosts { costs }, key, Ok(0))
+    price(numbered_service, &KnownCosts { costs }, node, Ok(0))
 }
 
-/// The keys that the key counts, each as often as it counts it.
+/// The nodes that the node counts, each as often as it counts it.
 #[tactic(auto, using(crate::proofs::KnowingLemmas::counted_numbers))]
-pub(crate) fn counted_keys(
+pub(crate) fn counted_nodes(
     alloc: Global,
     numbered_service: &NumberedService<'_>,
-    key: &NodeKey,
-) -> Result<Vec<NodeKey>, AllocError>
-    requires { kept numbered_service.now key.now }
-    ensures { IfOk result (λ keys. keys.items ≡ counted_in (price_of numbered_service.now key.now)) }
+    node: &NumberedNode,
+) -> Result<Vec<NumberedNode>, AllocError>
+    requires { kept numbered_service.now node.now }
+    ensures { IfOk result (λ nodes. nodes.items ≡ counted_in (price_of numbered_service.now node.now)) }
 {
     numbered_service.read();
-    price(numbered_service, &CountedKeys, key, Vec::new(alloc))
+    price(numbered_service, &CountedNodes, node, Vec::new(alloc))
 }

@@ -1,6 +1,6 @@
 //! What an input comes to that is taken in a configuration.
 //!
-//! Promise: for each kind its price is added to the sum, by the numbers of keys.
+//! Promise: for each kind its price is added to the sum, by the numbers of nodes.
 ghost use Rattle.std.specs.Prelude.{◌≡◌, false, IfOk};
 ghost use Rattle.std.specs.Option.{option_copied, option_map_or};
 ghost use Rattle.std.specs.Str.{bytes_eq};
@@ -10,15 +10,15 @@ ghost use Rattle.mh_laws.specs.Price.{most_price, sum_price};
 ghost use Rattle.mh_prices.specs.Meter.{Adds, raise};
 ghost use Rattle.mh_layers.specs.declared.bounds.InputKind.TheVariants as kind_lem;
 ghost use Rattle.mh_layers.specs.Inputs as inputs;
-ghost use Rattle.mh_layers.specs.Key.{Taken};
-ghost use Rattle.mh_layers.specs.Keys.{fired_of as fired_of_lem, heard_key as heard_key_lem};
+ghost use Rattle.mh_layers.specs.CostNode.{Taken};
+ghost use Rattle.mh_layers.specs.CostNodes.{fired_of as fired_of_lem, heard_key as heard_key_lem};
 ghost use Rattle.mh_layers.specs.Numbered.{through};
 ghost use Rattle.mh_layers.specs.Reading.{around_at, heard_read, number as number_of, price_read};
 
 use crate::bounds::InputKind;
-use crate::node_key::Hears;
 use crate::numbered::at::At;
 use crate::numbered::set_timer::SetTimer;
+use crate::numbered_node::Hears;
 use crate::price::inputs::{content_told, pressed, stream_told};
 use crate::price::late::changes_from;
 use crate::price::meter::Meter;
@@ -45,7 +45,7 @@ fn fired_of<M: Meter>(
         None => Ok(sum),
         Some(_) => walk
             .meter
-            .node(walk.here.fired_key(source, kind, Hears::Any), sum),
+            .node(walk.here.fired_node(source, kind, Hears::Any), sum),
     }
 }
 
@@ -256,7 +256,7 @@ pub(crate) fn taken<M: Meter>(
         Adds M.seen m (price_read s.reading (Taken s.config kind)) sum result }
 {
     match kind {
-        InputKind::Start => walk.meter.node(walk.here.enter_key(), sum),
+        InputKind::Start => walk.meter.node(walk.here.enter_node(), sum),
         InputKind::Key => key_input(walk, sum),
         InputKind::Tick => tick_input(walk, sum),
         InputKind::Stream => stream_input(walk, sum),

@@ -1,18 +1,18 @@
-//! `Walk`: a configuration of a numbered service, and what the keys that are counted there are added up to.
+//! `Walk`: a configuration of a numbered service, and what the nodes that are counted there are added up to.
 //!
-//! Promise: each answer adds what its price comes to, by the numbers of keys. The walk over prices is that of `mh_prices`.
+//! Promise: each answer adds what its price comes to, by the numbers of nodes. The walk over prices is that of `mh_prices`.
 ghost use Rattle.std.specs.Prelude.{◌≡◌, ◌+◌, ◌<◌, ◌^◌, if◌then◌else◌, IfOk};
 ghost use Rattle.std.specs.List.{range_with_len};
 ghost use Rattle.mh_laws.specs.Costs as costs;
 ghost use Rattle.mh_base.specs.Event.{is_sync};
 ghost use Rattle.mh_laws.specs.Price.{Nothing, One, most_price};
 ghost use Rattle.mh_prices.specs.Meter.{Adds, onto, raise};
-ghost use Rattle.mh_layers.specs.Keys.{effect, group_effect as group_effect_lem};
+ghost use Rattle.mh_layers.specs.CostNodes.{effect, group_effect as group_effect_lem};
 ghost use Rattle.mh_layers.specs.Numbered.{through};
 ghost use Rattle.mh_layers.specs.Reading.{dealt_by, fired_by, number as number_of, there_by};
 
-use crate::node_key::{Hears, NodeKey};
 use crate::numbered::at::At;
+use crate::numbered_node::{Hears, NumberedNode};
 use crate::price::meter::Meter;
 use crate::slots::slot_count;
 use mh_base::{EventType, GroupName, ObjRef};
@@ -34,7 +34,8 @@ impl<'a, M: Meter> Walk<'a, M> {
         ensures { let s = self.now.here.now in let m = through (number_of s.reading) (M.meter self.now.meter.now) in
             Adds M.seen m (effect s.config index part.now) sum result }
     {
-        self.meter.node(self.here.effect_key(&part.key, index), sum)
+        self.meter
+            .node(self.here.effect_node(&part.key, index), sum)
     }
 
     /// An effect of a group of the configuration.
@@ -49,7 +50,7 @@ impl<'a, M: Meter> Walk<'a, M> {
     {
         let at = group_ref(group)?;
         if self.here.has(&at) {
-            self.meter.node(self.here.effect_key(&at, index), sum)
+            self.meter.node(self.here.effect_node(&at, index), sum)
         } else {
             Ok(sum)
         }
@@ -67,11 +68,11 @@ impl<'a, M: Meter> Walk<'a, M> {
     {
         match hears {
             Hears::With(_) => {
-                let plain = self.here.fired_key(at, kind, Hears::Plain);
+                let plain = self.here.fired_node(at, kind, Hears::Plain);
                 let sum = self.meter.node(plain, sum)?;
-                self.meter.node(self.here.fired_key(at, kind, hears), sum)
+                self.meter.node(self.here.fired_node(at, kind, hears), sum)
             }
-            _ => self.meter.node(self.here.fired_key(at, kind, hears), sum),
+            _ => self.meter.node(self.here.fired_node(at, kind, hears), sum),
         }
     }
 
@@ -106,7 +107,8 @@ impl<'a, M: Meter> Walk<'a, M> {
             self.fired_if_there(at, kind, hears, sum)
         } else {
             let source = self.here.numbered_service().object_number(at);
-            self.meter.node(NodeKey::Entry(source, kind, hears), sum)
+            self.meter
+                .node(NumberedNode::Entry(source, kind, hears), sum)
         }
     }
 
@@ -167,8 +169,8 @@ impl<'a, M: Meter> Walk<'a, M> {
 
 impl<'a, M: Meter> View for Walk<'a, M> {
     ghost use Rattle.mh_laws.specs.Costs as costs;
-    ghost use Rattle.mh_layers.specs.Key.{Key as KeyLem};
-    ghost use Rattle.mh_layers.specs.Keys.{group_effect};
+    ghost use Rattle.mh_layers.specs.CostNode.{CostNode as CostNodeLem};
+    ghost use Rattle.mh_layers.specs.CostNodes.{group_effect};
     ghost use Rattle.mh_layers.specs.Numbered.{through};
     ghost use Rattle.mh_layers.specs.Reading.{around_at, number as number_of};
 
@@ -180,7 +182,7 @@ impl<'a, M: Meter> View for Walk<'a, M> {
 
     type Stop = AllocError;
 
-    ghost Key = { KeyLem };
+    ghost Key = { CostNodeLem };
 
     ghost Seen = { M.Seen };
 
@@ -254,7 +256,7 @@ impl<'a, M: Meter> View for Walk<'a, M> {
 impl<'a, M: Meter> Lists for Walk<'a, M> {
     fn change(&self, at: &ObjRef, sum: M::Sum) -> Result<M::Sum, AllocError> {
         if self.here.has_list(at) {
-            self.meter.node(self.here.change_key(at), sum)
+            self.meter.node(self.here.change_node(at), sum)
         } else {
             mh_prices::change(self, at, sum)
         }
@@ -283,7 +285,7 @@ impl<'a, M: Meter> Groups for Walk<'a, M> {
 
 impl<'a, M: Meter> Around for Walk<'a, M> {
     fn leave(&self, all: bool, sum: M::Sum) -> Result<M::Sum, AllocError> {
-        self.meter.node(self.here.leave_key(all), sum)
+        self.meter.node(self.here.leave_node(all), sum)
     }
 
     #[tactic(auto, using(crate::proofs::ContextLemmas::reached_numbered))]
@@ -291,7 +293,7 @@ impl<'a, M: Meter> Around for Walk<'a, M> {
         let sum = self.meter.one(sum);
         match self.here.exchanged(group) {
             None => Ok(sum),
-            Some(number) => self.meter.node(NodeKey::Enter(number), sum),
+            Some(number) => self.meter.node(NumberedNode::Enter(number), sum),
         }
     }
 }

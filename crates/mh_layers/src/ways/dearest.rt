@@ -1,4 +1,4 @@
-//! The effect that costs most among keys, and the first of numbers that is largest.
+//! The effect that costs most among nodes, and the first of numbers that is largest.
 //!
 //! Promise: of effects that cost as much the first is told, by its place and then by its configuration; and none only where
 //! none costs anything.
@@ -13,33 +13,33 @@ ghost use Rattle.mh_layers.specs.Choosing.{AreChosen, IsLargest, IsSeen, effect_
 use crate::cause::Cause;
 use crate::cycle::effect_site::{by_effect_site, cause_of};
 use crate::laying::Laying;
-use crate::node_key::NodeKey;
 use crate::numbered::NumberedService;
+use crate::numbered_node::NumberedNode;
 use std::alloc::AllocError;
 
 /// An effect that costs something.
 #[derive(Drop)]
 pub(crate) struct Dearest {
-    pub key: NodeKey,
+    pub node: NumberedNode,
     pub cause: Cause,
     pub cost: u64,
 }
 
-fn laid_cost(laying: &Laying, key: &NodeKey) -> u64
-    ensures { result ≡ or_nothing (cost_in laying.now key.now) }
+fn laid_cost(laying: &Laying, node: &NumberedNode) -> u64
+    ensures { result ≡ or_nothing (cost_in laying.now node.now) }
 {
-    match laying.costs().laid(key) {
+    match laying.costs().laid(node) {
         None => 0,
         Some(laid) => laid.cost,
     }
 }
 
-/// What the effect costs; another key nothing.
-fn effect_cost(laying: &Laying, key: &NodeKey) -> u64
-    ensures { result ≡ effect_cost laying.now key.now }
+/// What the effect costs; another node nothing.
+fn effect_cost(laying: &Laying, node: &NumberedNode) -> u64
+    ensures { result ≡ effect_cost laying.now node.now }
 {
-    match key {
-        NodeKey::Effect(..) => laid_cost(laying, key),
+    match node {
+        NumberedNode::Effect(..) => laid_cost(laying, node),
         _ => 0,
     }
 }
@@ -60,48 +60,48 @@ fn is_best(cost: u64, cause: &Cause, best: &Option<Dearest>) -> bool
     }
 }
 
-fn set(best: &mut Option<Dearest>, key: NodeKey, cause: Cause, cost: u64)
-    ensures { best.new ≡ Some (record { key = key; cause = cause; cost = cost }) }
+fn set(best: &mut Option<Dearest>, node: NumberedNode, cause: Cause, cost: u64)
+    ensures { best.new ≡ Some (record { node = node; cause = cause; cost = cost }) }
 {
-    *best = Some(Dearest { key, cause, cost });
+    *best = Some(Dearest { node, cause, cost });
 }
 
-/// The key is the best, if it is an effect that comes before it.
+/// The node is the best, if it is an effect that comes before it.
 #[tactic(auto, using(crate::proofs::DearestLemmas::seen_nothing, crate::proofs::DearestLemmas::seen_later, crate::proofs::DearestLemmas::seen_best))]
 fn see(
     numbered_service: &NumberedService<'_>,
     laying: &Laying,
     best: &mut Option<Dearest>,
-    key: &NodeKey,
+    node: &NumberedNode,
 ) -> Result<(), AllocError>
-    requires { kept numbered_service.now key.now }
-    ensures { OnOk result (IsSeen numbered_service.now laying.now key.now best.old best.new) }
+    requires { kept numbered_service.now node.now }
+    ensures { OnOk result (IsSeen numbered_service.now laying.now node.now best.old best.new) }
 {
-    let cost = effect_cost(laying, key);
+    let cost = effect_cost(laying, node);
     if cost == 0 {
         return Ok(());
     }
-    let cause = cause_of(numbered_service, key)?;
+    let cause = cause_of(numbered_service, node)?;
     if !is_best(cost, &cause, best) {
         return Ok(());
     }
-    set(best, *key, cause, cost);
+    set(best, *node, cause, cost);
     Ok(())
 }
 
-/// The dearest effect of these keys.
+/// The dearest effect of these nodes.
 #[tactic(auto, using(crate::proofs::DearestLemmas::chosen_all))]
 pub(crate) fn dearest_of(
     numbered_service: &NumberedService<'_>,
     laying: &Laying,
-    keys: &[NodeKey],
+    nodes: &[NumberedNode],
 ) -> Result<Option<Dearest>, AllocError>
-    requires { Each (kept numbered_service.now) keys.now }
-    ensures { IfOk result (λ best. AreChosen numbered_service.now laying.now keys.now best) }
+    requires { Each (kept numbered_service.now) nodes.now }
+    ensures { IfOk result (λ best. AreChosen numbered_service.now laying.now nodes.now best) }
 {
     let mut best = None;
-    for key in keys {
-        see(numbered_service, laying, &mut best, key)?;
+    for node in nodes {
+        see(numbered_service, laying, &mut best, node)?;
     }
     Ok(best)
 }

@@ -1,4 +1,4 @@
-//! The stages of a way: the dearest effect that a key puts to work, the dearest that this one does, and so on.
+//! The stages of a way: the dearest effect that a node puts to work, the dearest that this one does, and so on.
 //!
 //! Promise: each tells of its effect, what that costs, and the first of its actions that cost most.
 ghost use Rattle.std.specs.Prelude.{◌≡◌, ◌<◌, ◌+◌, length, true, map, Ok, IfOk};
@@ -7,7 +7,7 @@ ghost use Rattle.mh_laws.specs.Each.{Each};
 ghost use Rattle.mh_layers.specs.Caused.{IsNamed};
 ghost use Rattle.mh_layers.specs.Choosing.{effect_cost};
 ghost use Rattle.mh_layers.specs.Dearest.{acts_of};
-ghost use Rattle.mh_layers.specs.Layered.{root_keys};
+ghost use Rattle.mh_layers.specs.Layered.{root_nodes};
 ghost use Rattle.mh_layers.specs.Layering.{AreLayers, is_laid};
 ghost use Rattle.mh_layers.specs.Reading.{IsReading, kept, price};
 ghost use Rattle.mh_layers.specs.Staging.{AreStagesFrom, IsCostly, IsKnown, IsNext, IsPart, IsPartAt, IsStageBy, act_worth, all_known};
@@ -18,9 +18,9 @@ use crate::arrows::{config_of, number_of, part_of};
 use crate::effects::effect_acts;
 use crate::laying::Laying;
 use crate::laying::costs::Costs;
-use crate::node_key::NodeKey;
 use crate::numbered::NumberedService;
 use crate::numbered::at::At;
+use crate::numbered_node::NumberedNode;
 use crate::numbering::number_behind;
 use crate::price::meters::KnownCosts;
 use crate::price::walk::Walk;
@@ -40,10 +40,10 @@ pub(crate) struct Part {
     pub cost: u64,
 }
 
-/// A stage, and the key of its effect.
+/// A stage, and the node of its effect.
 #[derive(Drop)]
 pub(crate) struct Next {
-    pub key: NodeKey,
+    pub node: NumberedNode,
     pub stage: Stage,
 }
 
@@ -119,18 +119,18 @@ fn dearest_part(
     alloc: Global,
     numbered_service: &NumberedService<'_>,
     laying: &Laying,
-    key: &NodeKey,
+    node: &NumberedNode,
 ) -> Result<Part, AllocError>
     requires reading { IsReading numbered_service.now }
-    requires active { IsActive numbered_service.now key.now }
+    requires active { IsActive numbered_service.now node.now }
     requires layers { AreLayers (price numbered_service.now) (kept numbered_service.now) laying.now }
-    requires costs { 0 < effect_cost laying.now key.now }
-    ensures { let x = effect_named numbered_service.now key.now in
+    requires costs { 0 < effect_cost laying.now node.now }
+    ensures { let x = effect_named numbered_service.now node.now in
         IfOk result (IsPart numbered_service.now laying.now x.config (acts_of numbered_service.now.service x)) }
 {
-    let here = config_of(numbered_service, key);
-    let fixed = part_of(&here, key);
-    let number = number_of(key);
+    let here = config_of(numbered_service, node);
+    let fixed = part_of(&here, node);
+    let number = number_of(node);
     let acts = effect_acts(fixed, number);
     let part = dearest_act(alloc, &here, laying.costs(), acts)?;
     Ok(part)
@@ -142,17 +142,17 @@ fn dearest_part(
 fn index_of(
     alloc: Global,
     numbered_service: &NumberedService<'_>,
-    key: &NodeKey,
+    node: &NumberedNode,
     offset: usize,
 ) -> Result<usize, AllocError>
     requires reading { IsReading numbered_service.now }
-    requires active { IsActive numbered_service.now key.now }
-    requires within { offset < length (acts_of numbered_service.now.service (effect_named numbered_service.now key.now)) }
-    ensures { IfOk result (λ index. index ≡ (cause_named numbered_service.now key.now).index + offset) }
+    requires active { IsActive numbered_service.now node.now }
+    requires within { offset < length (acts_of numbered_service.now.service (effect_named numbered_service.now node.now)) }
+    ensures { IfOk result (λ index. index ≡ (cause_named numbered_service.now node.now).index + offset) }
 {
-    let here = config_of(numbered_service, key);
-    let fixed = part_of(&here, key);
-    let index = number_behind(alloc, fixed, number_of(key), offset)?;
+    let here = config_of(numbered_service, node);
+    let fixed = part_of(&here, node);
+    let index = number_behind(alloc, fixed, number_of(node), offset)?;
     Ok(index)
 }
 
@@ -164,15 +164,15 @@ fn stage_of(
     dearest: Dearest,
 ) -> Result<Next, AllocError>
     requires reading { IsReading numbered_service.now }
-    requires active { IsActive numbered_service.now dearest.key }
+    requires active { IsActive numbered_service.now dearest.node }
     requires layers { AreLayers (price numbered_service.now) (kept numbered_service.now) laying.now }
     requires chosen { IsCostly numbered_service.now laying.now dearest }
     ensures { IfOk result (λ next. IsStageBy numbered_service.now laying.now dearest next) }
 {
-    let part = dearest_part(alloc, numbered_service, laying, &dearest.key)?;
-    let index = index_of(alloc, numbered_service, &dearest.key, part.offset)?;
+    let part = dearest_part(alloc, numbered_service, laying, &dearest.node)?;
+    let index = index_of(alloc, numbered_service, &dearest.node, part.offset)?;
     Ok(Next {
-        key: dearest.key,
+        node: dearest.node,
         stage: Stage {
             cause: dearest.cause,
             cost: dearest.cost,
@@ -183,22 +183,22 @@ fn stage_of(
     })
 }
 
-/// The stage of the dearest effect that the key puts to work, if one costs anything.
+/// The stage of the dearest effect that the node puts to work, if one costs anything.
 fn next_stage(
     alloc: Global,
     numbered_service: &NumberedService<'_>,
     laying: &Laying,
-    key: &NodeKey,
+    node: &NumberedNode,
 ) -> Result<Option<Next>, AllocError>
     requires reading { IsReading numbered_service.now }
     requires layers { AreLayers (price numbered_service.now) (kept numbered_service.now) laying.now }
-    requires laid { list_all (is_laid laying.now) (root_keys numbered_service.now) ≡ true }
-    requires named { IsNamed numbered_service.now key.now }
-    ensures { IfOk result (λ next. IsNext numbered_service.now key.now next) }
+    requires laid { list_all (is_laid laying.now) (root_nodes numbered_service.now) ≡ true }
+    requires named { IsNamed numbered_service.now node.now }
+    ensures { IfOk result (λ next. IsNext numbered_service.now node.now next) }
 {
-    let found = reached_from(alloc, numbered_service, key)?;
-    let keys = found.as_slice();
-    match dearest_of(numbered_service, laying, keys)? {
+    let found = reached_from(alloc, numbered_service, node)?;
+    let nodes = found.as_slice();
+    match dearest_of(numbered_service, laying, nodes)? {
         None => Ok(None),
         Some(dearest) => {
             let next = stage_of(alloc, numbered_service, laying, dearest)?;
@@ -207,29 +207,29 @@ fn next_stage(
     }
 }
 
-/// The stages from this key on.
+/// The stages from this node on.
 #[tactic(auto, using(crate::proofs::StageLemmas::stages_begin, crate::proofs::StageLemmas::stages_more, crate::proofs::StageLemmas::stages_end))]
 pub(crate) fn stages_from(
     alloc: Global,
     numbered_service: &NumberedService<'_>,
     laying: &Laying,
-    root: NodeKey,
+    root: NumberedNode,
 ) -> Result<Vec<Stage>, AllocError>
     requires reading { IsReading numbered_service.now }
     requires layers { AreLayers (price numbered_service.now) (kept numbered_service.now) laying.now }
-    requires laid { list_all (is_laid laying.now) (root_keys numbered_service.now) ≡ true }
+    requires laid { list_all (is_laid laying.now) (root_nodes numbered_service.now) ≡ true }
     requires named { IsNamed numbered_service.now root }
     ensures { IfOk result (λ stages. AreStagesFrom numbered_service.now root stages.items) }
 {
     let mut stages = Vec::new(alloc);
-    let mut key = root;
+    let mut node = root;
     loop {
         let _ = stages.len();
-        match next_stage(alloc, numbered_service, laying, &key)? {
+        match next_stage(alloc, numbered_service, laying, &node)? {
             None => return Ok(stages),
             Some(next) => {
                 stages.push(next.stage)?;
-                key = next.key;
+                node = next.node;
             }
         }
     }

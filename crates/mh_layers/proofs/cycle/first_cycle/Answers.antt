@@ -13,7 +13,7 @@ reach-requires-clause-counted c = counted_kept c.in_ok-numbered_service.numbered
 
 pub reach-requires-clause-kept : goal.reach-requires-clause-kept
 reach-requires-clause-kept c =
-    subst (Each (kept c.in_ok-numbered_service.numbered_service)) (sym (c.as_slice.ensures.value ∙ c.in_ok-keys.ensures)) (listed_kept c.in_ok-numbered_service.numbered_service c.in_ok-numbered_service.ensures.reading)
+    subst (Each (kept c.in_ok-numbered_service.numbered_service)) (sym (c.as_slice.ensures.value ∙ c.in_ok-nodes.ensures)) (listed_kept c.in_ok-numbered_service.numbered_service c.in_ok-numbered_service.ensures.reading)
 
 pub returns-clause-some : goal.returns-clause-some
 returns-clause-some c =

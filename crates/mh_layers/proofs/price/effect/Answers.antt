@@ -7,7 +7,7 @@ use Rattle.mh_laws.specs.Costs.{effect_at}
 use Rattle.mh_laws.specs.Price.{Nothing, if_price}
 use Rattle.mh_laws.specs.View.{acts}
 use Rattle.mh_prices.specs.Meter.{Adds}
-use Rattle.mh_layers.specs.Keys.{effect_of}
+use Rattle.mh_layers.specs.CostNodes.{effect_of}
 use Rattle.mh_layers.specs.Numbered.{through}
 use Rattle.mh_layers.specs.Reading.{around_at, flow_read, heard_read, number}
 use Rattle.mh_layers.proofs.price.effect.Goals as goal

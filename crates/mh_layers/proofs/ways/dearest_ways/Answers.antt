@@ -11,7 +11,7 @@ lay-requires-clause-counted c = counted_kept c.in_ok-numbered_service.numbered_s
 
 pub lay-requires-clause-kept : goal.lay-requires-clause-kept
 lay-requires-clause-kept c =
-    subst (Each (kept c.in_ok-numbered_service.numbered_service)) (sym (c.as_slice.ensures.value ∙ c.in_ok-keys.ensures)) (roots_kept c.in_ok-numbered_service.numbered_service c.in_ok-numbered_service.ensures.reading)
+    subst (Each (kept c.in_ok-numbered_service.numbered_service)) (sym (c.as_slice.ensures.value ∙ c.in_ok-nodes.ensures)) (roots_kept c.in_ok-numbered_service.numbered_service c.in_ok-numbered_service.ensures.reading)
 
 pub returns-clause-cycle : goal.returns-clause-cycle
 returns-clause-cycle c = λ h rank layering.

@@ -3,4 +3,4 @@ use Rattle.mh_flow.specs.Routes.{rows_from, rows_of}
 use Rattle.mh_flow.proofs.chain.routes.graph_of.Given as goal
 
 abbrev pub invariant-loop-made : goal.invariant-loop-made
-invariant-loop-made l = rows_from l.places.keys l.action_sites.keys (map (λ row. row.items) l.nodes.items) (drop l.made-index l.moves) ≡ rows_of l.places.keys l.action_sites.keys l.moves
+invariant-loop-made l = rows_from l.holders.keys l.action_sites.keys (map (λ row. row.items) l.nodes.items) (drop l.made-index l.moves) ≡ rows_of l.holders.keys l.action_sites.keys l.moves

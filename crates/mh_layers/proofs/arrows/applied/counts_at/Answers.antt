@@ -6,8 +6,8 @@ use Rattle.mh_laws.specs.View.{done_to}
 use Rattle.mh_prices.specs.Meter.{onto}
 use Rattle.mh_prices.specs.Meters.{finding}
 use Rattle.mh_layers.specs.Applied.{puts_so}
-use Rattle.mh_layers.specs.NodeKeys.{same_key}
-use Rattle.mh_layers.specs.NodeKeyLaws.{key_itself}
+use Rattle.mh_layers.specs.NumberedNodes.{same_node}
+use Rattle.mh_layers.specs.NumberedNodeLaws.{node_itself}
 use Rattle.mh_layers.specs.Numbered.{numbered, through}
 use Rattle.mh_layers.specs.Reading.{around_at, number}
 use Rattle.mh_layers.proofs.SuccessorLemmas.{any_among}
@@ -19,16 +19,16 @@ pub returns-clause-counts : goal.returns-clause-counts
 returns-clause-counts c counts =
     let s = c.args.here.now in
     let p = puts_so s.reading s.config c.args.act.now c.args.at.now in
-    let m = through (number s.reading) (finding (same_key c.args.key.now)) in
+    let m = through (number s.reading) (finding (same_node c.args.node.now)) in
     let same = ap (λ (xs : List Argument). onto m (done_to (around_at s) c.args.act.now.name xs c.args.at.now) false) c.as_slice.ensures in
-    any_among (counted_in (numbered (number s.reading) p)) c.args.key.now
-    (sym (sought_numbers (number s.reading) (same_key c.args.key.now) p) ∙ sym same ∙ sym c.in_ok-counts.ensures ∙ counts)
+    any_among (counted_in (numbered (number s.reading) p)) c.args.node.now
+    (sym (sought_numbers (number s.reading) (same_node c.args.node.now) p) ∙ sym same ∙ sym c.in_ok-counts.ensures ∙ counts)
 
 pub returns-clause-all : goal.returns-clause-all
 returns-clause-all c there =
     let s = c.args.here.now in
     let p = puts_so s.reading s.config c.args.act.now c.args.at.now in
-    let m = through (number s.reading) (finding (same_key c.args.key.now)) in
+    let m = through (number s.reading) (finding (same_node c.args.node.now)) in
     let same = ap (λ (xs : List Argument). onto m (done_to (around_at s) c.args.act.now.name xs c.args.at.now) false) c.as_slice.ensures in
-    c.in_ok-counts.ensures ∙ same ∙ sought_numbers (number s.reading) (same_key c.args.key.now) p
-    ∙ among_any (same_key c.args.key.now) (counted_in (numbered (number s.reading) p)) c.args.key.now there (key_itself c.args.key.now)
+    c.in_ok-counts.ensures ∙ same ∙ sought_numbers (number s.reading) (same_node c.args.node.now) p
+    ∙ among_any (same_node c.args.node.now) (counted_in (numbered (number s.reading) p)) c.args.node.now there (node_itself c.args.node.now)

@@ -13,8 +13,8 @@ loop-offset-preserved c =
     let s = c.args.here.now in
     let a = c.index-acts-offset.result in
     let item : get_or c.args.acts.now c.loop-offset.offset a ≡ a = search rules in
-    let none : NoneCounts s.reading s.config a c.targets.result.now c.args.key.now =
-    subst (λ (o : Option (Bor ObjRef)). IfNone o (NoneCounts s.reading s.config a c.targets.result.now c.args.key.now)) c.in_default.is c.in_ok-found.ensures.all in
-    does_more s.reading s.config c.args.acts.now c.loop-offset.offset a c.args.key.now (search rules) c.loop-offset.invariant
-    (subst (λ (x : Act). NoneCounts s.reading s.config x (targets (flow_read s.reading) s.config x.target) c.args.key.now) (sym item)
-    (subst (λ (ts : List ObjRef). NoneCounts s.reading s.config a ts c.args.key.now) c.targets.ensures none))
+    let none : NoneCounts s.reading s.config a c.targets.result.now c.args.node.now =
+    subst (λ (o : Option (Bor ObjRef)). IfNone o (NoneCounts s.reading s.config a c.targets.result.now c.args.node.now)) c.in_default.is c.in_ok-found.ensures.all in
+    does_more s.reading s.config c.args.acts.now c.loop-offset.offset a c.args.node.now (search rules) c.loop-offset.invariant
+    (subst (λ (x : Act). NoneCounts s.reading s.config x (targets (flow_read s.reading) s.config x.target) c.args.node.now) (sym item)
+    (subst (λ (ts : List ObjRef). NoneCounts s.reading s.config a ts c.args.node.now) c.targets.ensures none))

@@ -3,7 +3,7 @@ use Rattle.std.proofs.Common.{◌≡◌, rules, length, refl, subst, true≢fals
 use Rattle.std.proofs.lemmas.Option.{slice_get_read}
 use Rattle.mh_base.specs.declared.obj_ref.ObjRef.{ObjRef}
 use Rattle.mh_laws.proofs.EachLemmas.{got_among}
-use Rattle.mh_layers.specs.Applied.{CountsKey}
+use Rattle.mh_layers.specs.Applied.{CountsNode}
 use Rattle.mh_layers.proofs.DoingLemmas.{none_more}
 use Rattle.mh_layers.proofs.arrows.applied.first_of.Goals as goal
 
@@ -16,6 +16,6 @@ pub loop-at-preserved : goal.loop-at-preserved
 loop-at-preserved c =
     let s = c.args.here.now in
     let item : get_or c.args.objects.now c.loop-at.at-index c.at-item.result ≡ c.at-item.result = search rules in
-    none_more s.reading s.config c.args.act.now c.args.objects.now c.loop-at.at-index c.at-item.result c.args.key.now c.loop-at-test.true c.loop-at.invariant
-    (λ counts. let never = c.in_ok-counts_at.ensures.all (subst (λ (o : ObjRef). CountsKey s.reading s.config c.args.act.now o c.args.key.now) item counts) in
+    none_more s.reading s.config c.args.act.now c.args.objects.now c.loop-at.at-index c.at-item.result c.args.node.now c.loop-at-test.true c.loop-at.invariant
+    (λ counts. let never = c.in_ok-counts_at.ensures.all (subst (λ (o : ObjRef). CountsNode s.reading s.config c.args.act.now o c.args.node.now) item counts) in
     absurd (true≢false (sym never ∙ c.if-branch.false)))

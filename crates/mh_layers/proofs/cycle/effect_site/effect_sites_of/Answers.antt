@@ -10,6 +10,6 @@ use Rattle.mh_layers.proofs.cycle.effect_site.effect_sites_of.Goals as goal
 pub returns : goal.returns
 returns c =
     let facts = c.in_ok-sort_by.ensures in
-    are_effect_sites c.args.numbered_service.now c.args.keys.now c.sort_by.new.self.keys
+    are_effect_sites c.args.numbered_service.now c.args.nodes.now c.sort_by.new.self.keys
     (facts.sorted (λ a b. is_lt (effect_site_cmp a b)) (ranks_by effect_site_total (λ (s : EffectSite). s)) (answers_always _ _ _ (λ f a r g called. search rules)))
     (λ s. facts.reordered.2 s ∙ ap (λ (xs : List EffectSite). list_any (same_effect_site s) xs) c.in_ok-effect_sites.ensures)

@@ -1,9 +1,9 @@
 use Rattle.std.proofs.Common.{◌≡◌, ◌++◌, drop}
 use Rattle.std.specs.List.{flat_map}
-use Rattle.mh_layers.specs.Layered.{active_keys, keys_active}
+use Rattle.mh_layers.specs.Layered.{active_nodes, nodes_active}
 use Rattle.mh_layers.specs.Reading.{flow_read}
 use Rattle.mh_layers.proofs.laying.roots.push_effects.Given as goal
 
 abbrev pub invariant-loop-config : goal.invariant-loop-config
 invariant-loop-config l =
-    l.keys.items ++ flat_map (keys_active l.numbered_service) (drop l.config-index (flow_read l.numbered_service).configs) ≡ l.initial.keys.items ++ active_keys l.numbered_service
+    l.nodes.items ++ flat_map (nodes_active l.numbered_service) (drop l.config-index (flow_read l.numbered_service).configs) ≡ l.initial.nodes.items ++ active_nodes l.numbered_service

@@ -1,9 +1,9 @@
 use Rattle.std.proofs.Common.{◌≡◌, ◌++◌, drop}
 use Rattle.std.specs.List.{flat_map}
-use Rattle.mh_layers.specs.Layered.{input_keys}
+use Rattle.mh_layers.specs.Layered.{input_nodes}
 use Rattle.mh_layers.specs.Reading.{flow_read}
 use Rattle.mh_layers.proofs.laying.roots.push_inputs.Given as goal
 
 abbrev pub invariant-loop-config : goal.invariant-loop-config
 invariant-loop-config l =
-    l.keys.items ++ flat_map (input_keys l.numbered_service) (drop l.config-index (flow_read l.numbered_service).configs) ≡ l.initial.keys.items ++ flat_map (input_keys l.numbered_service) (flow_read l.numbered_service).configs
+    l.nodes.items ++ flat_map (input_nodes l.numbered_service) (drop l.config-index (flow_read l.numbered_service).configs) ≡ l.initial.nodes.items ++ flat_map (input_nodes l.numbered_service) (flow_read l.numbered_service).configs

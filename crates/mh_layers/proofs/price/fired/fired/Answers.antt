@@ -4,10 +4,10 @@ use Rattle.std.proofs.lemmas.Option.{get_or_from_slice_get}
 use Rattle.mh_base.specs.declared.value.Value.{Value}
 use Rattle.mh_model.specs.Variables.{same_value}
 use Rattle.mh_prices.specs.Meter.{Adds}
-use Rattle.mh_layers.specs.declared.node_key.Hears.{Hears}
+use Rattle.mh_layers.specs.declared.numbered_node.Hears.{Hears}
 use Rattle.mh_layers.specs.Grouped.{has}
-use Rattle.mh_layers.specs.Key.{Fired}
-use Rattle.mh_layers.specs.Keys.{links_with}
+use Rattle.mh_layers.specs.CostNode.{Fired}
+use Rattle.mh_layers.specs.CostNodes.{links_with}
 use Rattle.mh_layers.specs.Numbered.{through}
 use Rattle.mh_layers.specs.Reading.{has_hearing, hearing_named, no_value, number, price_read, values_read}
 use Rattle.mh_layers.proofs.NamesLemmas.{some_there}

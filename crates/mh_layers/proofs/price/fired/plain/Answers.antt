@@ -2,7 +2,7 @@ use Rattle.std.proofs.Common.{◌&&◌, filter, ap, ◌∙◌}
 use Rattle.mh_model.specs.declared.config.Config.{Config}
 use Rattle.mh_model.specs.Service.{group_parts}
 use Rattle.mh_layers.specs.Grouped.{is_plain}
-use Rattle.mh_layers.specs.Keys.{data_of, waits_for}
+use Rattle.mh_layers.specs.CostNodes.{data_of, waits_for}
 use Rattle.mh_layers.specs.Numbered.{through}
 use Rattle.mh_layers.specs.Reading.{Reading, number}
 use Rattle.mh_layers.proofs.OntoLemmas.{links_come}

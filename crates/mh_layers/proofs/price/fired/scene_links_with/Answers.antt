@@ -4,7 +4,7 @@ use Rattle.mh_model.specs.Configuration.{scene_parts}
 use Rattle.mh_model.specs.Service.{group_parts}
 use Rattle.mh_model.specs.Variables.{same_value}
 use Rattle.mh_layers.specs.Grouped.{has}
-use Rattle.mh_layers.specs.Keys.{data_of, waits_for}
+use Rattle.mh_layers.specs.CostNodes.{data_of, waits_for}
 use Rattle.mh_layers.specs.Reading.{Reading, values_read}
 use Rattle.mh_layers.proofs.price.fired.scene_links_with.Goals as goal
 

@@ -1,7 +1,7 @@
 use Rattle.std.proofs.Common.{◌≡◌, drop}
 use Rattle.mh_laws.specs.Price.{Node, most_price}
 use Rattle.mh_prices.specs.Meter.{raise}
-use Rattle.mh_layers.specs.Key.{Fired, With}
+use Rattle.mh_layers.specs.CostNode.{Fired, With}
 use Rattle.mh_layers.specs.Numbered.{through}
 use Rattle.mh_layers.specs.Reading.{number}
 use Rattle.mh_layers.proofs.price.fired.values_from.Given as goal

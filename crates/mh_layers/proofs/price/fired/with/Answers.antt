@@ -3,7 +3,7 @@ use Rattle.mh_model.specs.declared.config.Config.{Config}
 use Rattle.mh_model.specs.Service.{group_parts}
 use Rattle.mh_model.specs.Variables.{same_value}
 use Rattle.mh_layers.specs.Grouped.{has}
-use Rattle.mh_layers.specs.Keys.{data_of, waits_for}
+use Rattle.mh_layers.specs.CostNodes.{data_of, waits_for}
 use Rattle.mh_layers.specs.Numbered.{through}
 use Rattle.mh_layers.specs.Reading.{Reading, number, values_read}
 use Rattle.mh_layers.proofs.OntoLemmas.{links_come}

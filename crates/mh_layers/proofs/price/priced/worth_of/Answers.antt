@@ -7,4 +7,4 @@ use Rattle.mh_layers.proofs.price.priced.worth_of.Goals as goal
 pub returns : goal.returns
 returns c =
     let r = c.args.numbered_service.now in
-    known_adds (number r) (told (cost_in c.args.costs.now)) (price_read r (name r c.args.key.now)) c.price.result c.price.ensures
+    known_adds (number r) (told (cost_in c.args.costs.now)) (price_read r (name r c.args.node.now)) c.price.result c.price.ensures

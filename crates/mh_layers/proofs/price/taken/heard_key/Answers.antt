@@ -3,7 +3,7 @@ use Rattle.std.proofs.Common.{ℕ, List, Option, ◌∙◌, ap, subst, sym}
 use Rattle.mh_base.specs.declared.event.EventType.TheVariants as event
 use Rattle.mh_base.specs.declared.obj_ref.ObjRef.{ObjRef}
 use Rattle.mh_prices.specs.Meter.{Adds}
-use Rattle.mh_layers.specs.Keys.{fired_of, heard_key}
+use Rattle.mh_layers.specs.CostNodes.{fired_of, heard_key}
 use Rattle.mh_layers.specs.Numbered.{through}
 use Rattle.mh_layers.specs.Reading.{heard_read, number}
 use Rattle.mh_layers.proofs.price.taken.heard_key.Goals as goal

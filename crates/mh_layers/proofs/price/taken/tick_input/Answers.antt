@@ -3,7 +3,7 @@ use Rattle.mh_laws.specs.Costs.{is_group_in}
 use Rattle.mh_laws.specs.Price.{One, Plus, sum_price}
 use Rattle.mh_prices.specs.Meter.{onto}
 use Rattle.mh_layers.specs.Inputs.{timer_due}
-use Rattle.mh_layers.specs.Keys.{every_timer}
+use Rattle.mh_layers.specs.CostNodes.{every_timer}
 use Rattle.mh_layers.specs.Numbered.{through}
 use Rattle.mh_layers.specs.Reading.{Reading, around_at, flow_read, number}
 use Rattle.mh_layers.proofs.OntoLemmas.{adds_as}

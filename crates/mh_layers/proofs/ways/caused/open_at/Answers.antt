@@ -5,4 +5,4 @@ use Rattle.mh_layers.proofs.ways.caused.open_at.Goals as goal
 
 pub open-requires-clause-kept : goal.open-requires-clause-kept
 open-requires-clause-kept c =
-    each_among (kept c.args.numbered_service.now) c.args.found.now.keys c.in-Some.key c.requires.kept (got_among c.args.found.now.keys c.args.place c.in-Some.key (search rules))
+    each_among (kept c.args.numbered_service.now) c.args.found.now.keys c.in-Some.node c.requires.kept (got_among c.args.found.now.keys c.args.place c.in-Some.node (search rules))

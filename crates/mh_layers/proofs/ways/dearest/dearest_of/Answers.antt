@@ -3,9 +3,9 @@ use Rattle.mh_layers.specs.Reading.{kept}
 use Rattle.mh_layers.proofs.NamesLemmas.{each_item}
 use Rattle.mh_layers.proofs.ways.dearest.dearest_of.Goals as goal
 
-pub loop-key-preserved : goal.loop-key-preserved
-loop-key-preserved c =
-    chosen_more _ _ c.args.keys.now c.loop-key.key-index _ _ _ c.loop-key-test.true c.loop-key.invariant c.in_ok-see.ensures
+pub loop-node-preserved : goal.loop-node-preserved
+loop-node-preserved c =
+    chosen_more _ _ c.args.nodes.now c.loop-node.node-index _ _ _ c.loop-node-test.true c.loop-node.invariant c.in_ok-see.ensures
 
 pub see-requires : goal.see-requires
-see-requires c = each_item (kept c.args.numbered_service.now) c.args.keys.now c.loop-key.key-index _ c.loop-key-test.true c.requires
+see-requires c = each_item (kept c.args.numbered_service.now) c.args.nodes.now c.loop-node.node-index _ c.loop-node-test.true c.requires

@@ -12,13 +12,13 @@ dearest_part-requires-clause-costs c = subst (λ (n : ℕ). 0 < n) c.requires.ch
 pub index_of-requires-clause-within : goal.index_of-requires-clause-within
 index_of-requires-clause-within c =
     let r = c.args.numbered_service.now in
-    slice_get_within (acts_of r.service (effect_named r c.args.dearest.key)) c.in_ok-part.part.offset c.in_ok-part.ensures.act c.in_ok-part.ensures.there
+    slice_get_within (acts_of r.service (effect_named r c.args.dearest.node)) c.in_ok-part.part.offset c.in_ok-part.ensures.act c.in_ok-part.ensures.there
 
 pub returns : goal.returns
 returns c = record {
   part = c.in_ok-part.part;
   is = c.in_ok-part.ensures;
-  key = refl;
+  node = refl;
   cause = refl;
   cost = refl;
   index = c.in_ok-index.ensures ∙ ap (λ (x : Cause). x.index + c.in_ok-part.part.offset) (sym c.requires.chosen.cause);

@@ -2,7 +2,7 @@ use Rattle.std.proofs.Common.{◌≡◌, ◌+◌}
 use Rattle.std.specs.List.{range_with_len}
 use Rattle.mh_laws.specs.Price.{most_price}
 use Rattle.mh_prices.specs.Meter.{raise}
-use Rattle.mh_layers.specs.Keys.{effect}
+use Rattle.mh_layers.specs.CostNodes.{effect}
 use Rattle.mh_layers.specs.Numbered.{through}
 use Rattle.mh_layers.specs.Reading.{number}
 use Rattle.mh_layers.proofs.price.walk.Walk.effects_from.Given as goal

@@ -4,7 +4,7 @@ use Rattle.std.proofs.Common.{subst}
 use Rattle.mh_laws.specs.Costs as costs
 use Rattle.mh_laws.specs.Price.{most_price}
 use Rattle.mh_prices.specs.Meter.{Adds}
-use Rattle.mh_layers.specs.Keys.{effect}
+use Rattle.mh_layers.specs.CostNodes.{effect}
 use Rattle.mh_layers.specs.Numbered.{through}
 use Rattle.mh_layers.specs.Reading.{number}
 use Rattle.mh_layers.proofs.price.walk.WalkView.slots.Goals as goal

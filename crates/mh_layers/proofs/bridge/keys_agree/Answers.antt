@@ -1,8 +1,0 @@
-use Rattle.mh_layers.proofs.BridgeLemmas.{counted_is_met, keys_agree}
-use Rattle.mh_layers.proofs.bridge.keys_agree.Goals as goal
-
-pub returns-clause-prices : goal.returns-clause-prices
-returns-clause-prices c = keys_agree
-
-pub returns-clause-met : goal.returns-clause-met
-returns-clause-met c = counted_is_met

@@ -1,5 +1,0 @@
-use Rattle.mh_layers.proofs.NamesLemmas.{names_there}
-use Rattle.mh_layers.proofs.price.priced.counted_keys.Goals as goal
-
-pub price-requires : goal.price-requires
-price-requires c = names_there c.args.numbered_service.now c.read.ensures c.args.key.now c.requires
