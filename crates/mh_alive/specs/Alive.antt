@@ -1,31 +1,37 @@
 -- What may come to be in runs of a service, and what never does where it is accepted.
-use Rattle.std.specs.Prelude.{◌≡◌, ℕ, ◌==◌, Bool, true, false, ◌&&◌, not, List, [], Option, ℤ}
+use Rattle.std.specs.Prelude.{◌≡◌, ℕ, ◌==◌, Bool, true, false, ◌&&◌, not, List, [], Option, Some, ℤ}
 use Rattle.std.specs.List.{list_any}
 use Rattle.indexmap.specs.IndexSet.{insert_all}
 use Rattle.mh_base.specs.declared.event.EventType.{EventType}
 use Rattle.mh_base.specs.declared.obj_ref.ObjRef.{ObjRef}
 use Rattle.mh_base.specs.declared.value.Value.{Value}
+use Rattle.mh_group.specs.Table.{is_link}
 use Rattle.mh_model.specs.declared.event.Event.{Event}
 use Rattle.mh_model.specs.declared.file.File.{File}
 use Rattle.mh_model.specs.declared.input.Move.{Move}
 use Rattle.mh_model.specs.declared.input.Waiting.TheVariants as waiting
 use Rattle.mh_model.specs.declared.item.Item.TheVariants as item
 use Rattle.mh_model.specs.declared.key.Key.{Key}
+use Rattle.mh_model.specs.declared.object.Fixed.{Fixed}
 use Rattle.mh_model.specs.declared.object.Object.{Object}
 use Rattle.mh_model.specs.declared.program.Signature.{Signature}
+use Rattle.mh_model.specs.declared.time.Timer.{Timer}
 use Rattle.mh_model.specs.Receiver.{IsRun, anything}
-use Rattle.mh_model.specs.Reference.{same_key}
-use Rattle.mh_model.specs.Service.{Service}
+use Rattle.mh_model.specs.Reference.{group_ref, same_key}
+use Rattle.mh_model.specs.Service.{Service, parts}
 use Rattle.mh_model.specs.State.{State, all}
 use Rattle.mh_model.specs.Step.{engine_event, key_event}
+use Rattle.mh_model.specs.Time.{timer_event}
 use Rattle.mh_laws.specs.Acceptable.{IsAcceptableBy}
-use Rattle.mh_laws.specs.Costs.{Effect, link_effect}
+use Rattle.mh_laws.specs.Costs.{Effect, can_hear, link_effect}
 use Rattle.mh_laws.specs.Each.{Among}
 use Rattle.mh_laws.specs.Flow.{Flow, reached}
 use Rattle.mh_laws.specs.Headline.{begun_with}
 use Rattle.mh_laws.specs.Safe.{config_of}
+use Rattle.mh_laws.specs.Weighing.{hears_key}
 use Rattle.mh_alive.specs.declared.sendings.Sending.{Sending}
 use Rattle.mh_alive.specs.Gathering.{Gathered}
+use Rattle.mh_alive.specs.Hearing.{ears, hearers, settled}
 use Rattle.mh_alive.specs.Puts.{all_puts, puts, web_with}
 use Rattle.mh_alive.specs.Runners.{runners}
 use Rattle.mh_alive.specs.Sendings.{may_say, same_sending, sent}
@@ -38,16 +44,24 @@ pub record Alive : Type 0 where
   pub sent : List Sending
   -- the links that may be put to work
   pub puts : List ObjRef
+  -- the links that may hear a timer or a key, or wait for something else
+  pub hearers : List ObjRef
 
 -- what is made of what was gathered
 abbrev pub alive_with : Service → Gathered → Alive
-alive_with v g = record { runners = g.runners; sent = g.sent; puts = insert_all same_key [] (all_puts v (web_with g.told g.timers)) }
+alive_with v g = record {
+  runners = g.runners;
+  sent = g.sent;
+  puts = insert_all same_key [] (all_puts v (web_with g.told g.timers));
+  hearers = hearers v (settled v g.sent g.registers g.settings);
+}
 
 -- they are those of the service, by its flow
 pub record IsAliveOf (v : Service) (w : Flow) (a : Alive) : Type 0 where
   pub runners : a.runners ≡ insert_all same_key [] (runners v w)
   pub sent : a.sent ≡ insert_all same_sending [] (sent v w)
   pub puts : a.puts ≡ insert_all same_key [] (puts v w)
+  pub hearers : a.hearers ≡ hearers v (ears v w)
 
 -- What never happens, by these sets
 
@@ -59,6 +73,9 @@ never_says a kind d = not (may_say a.sent kind d)
 
 abbrev pub never_put : Alive → ObjRef → Bool
 never_put a r = not (list_any (same_key r) a.puts)
+
+abbrev pub never_hears : Alive → ObjRef → Bool
+never_hears a r = not (list_any (same_key r) a.hearers)
 
 -- What that means: in no state of any run, whatever the day, the files that are there, what is posted and whenever, which
 -- programs the receiver has and what they answer.
@@ -82,6 +99,21 @@ pub record IsUnsaid (kind : EventType) (d : Option Value) (s : State) : Type 0 w
   pub queue : (e : Event) → Among s.queue (waiting.Event e) → IsOther kind d e
   pub keys : (x : Key) (r : ObjRef) → IsOther kind d (key_event x r)
   pub engine : (n : ℤ) (g : List ℕ) → IsOther kind d (engine_event n g)
+
+abbrev pub IsUnheard : Fixed → Event → Type 0
+IsUnheard p e = can_hear e p ≡ false
+
+-- The link at the reference hears nothing that can come next: no event among what will be done or among what waits, none of a
+-- timer, no key that the register of the scene lets through, and no number of the engine.
+pub record IsDeaf (r : ObjRef) (s : State) (p : Fixed) : Type 0 where
+  pub work : (e : Event) → Among s.work (item.Emit e) → IsUnheard p e
+  pub queue : (e : Event) → Among s.queue (waiting.Event e) → IsUnheard p e
+  pub timers : (t : Timer) → Among s.timers t → IsUnheard p (timer_event t)
+  pub keys : (x : Key) (g : List ℕ) → s.scene ≡ Some g → hears_key s g x ≡ true → IsUnheard p (key_event x (group_ref g))
+  pub engine : (n : ℤ) → IsUnheard p (engine_event n s.application)
+
+abbrev pub AllDeaf : ObjRef → State → Type 0
+AllDeaf r s = (p : Fixed) → Among (parts (all s.objects)) p → p.key ≡ r → is_link p.class ≡ true → IsDeaf r s p
 
 -- all effects but that of the link at the reference
 abbrev pub is_other : ObjRef → Effect → Bool

@@ -1,5 +1,6 @@
--- What is gathered in one pass over the configurations: what may run, what is sent, what is told, and which timers are set.
-use Rattle.std.specs.Prelude.{List, []}
+-- What is gathered in one pass over the configurations: what may run, what is sent, what is told, which timers are set and by
+-- what, and which registers scenes may have.
+use Rattle.std.specs.Prelude.{List, [], ◌++◌}
 use Rattle.std.specs.List.{flat_map}
 use Rattle.indexmap.specs.IndexSet.{insert_all}
 use Rattle.mh_base.specs.declared.obj_ref.ObjRef.{ObjRef}
@@ -11,9 +12,13 @@ use Rattle.mh_model.specs.Service.{Service}
 use Rattle.mh_laws.specs.Active.{active_actions}
 use Rattle.mh_laws.specs.Flow.{Flow, Sets}
 use Rattle.mh_flow.specs.Sites.{Site}
+use Rattle.mh_alive.specs.declared.registers.Register.{Register}
 use Rattle.mh_alive.specs.declared.sendings.Sending.{Sending}
+use Rattle.mh_alive.specs.declared.settings.Setting.{Setting}
 use Rattle.mh_alive.specs.declared.tellings.Telling.{Telling}
 use Rattle.mh_alive.specs.declared.tellings.SetTimer.{SetTimer}
+use Rattle.mh_alive.specs.Hearing.{settings, settings_among}
+use Rattle.mh_alive.specs.Registers.{registers, registers_by, registers_with, same_register, written_registers}
 use Rattle.mh_alive.specs.Runners.{run_by, run_with, runners, runners_with}
 use Rattle.mh_alive.specs.Sendings.{same_sending, sent, sent_by}
 use Rattle.mh_alive.specs.Tellings.{same_telling, same_timer, set_by, set_timers, told, told_by, told_itself, told_there}
@@ -23,24 +28,30 @@ pub record Gathered : Type 0 where
   pub sent : List Sending
   pub told : List Telling
   pub timers : List SetTimer
+  pub settings : List Setting
+  pub registers : List Register
 
 abbrev pub nothing : Gathered
-nothing = record { runners = []; sent = []; told = []; timers = [] }
+nothing = record { runners = []; sent = []; told = []; timers = []; settings = []; registers = [] }
 
--- with what these objects tell and run of themselves
-abbrev pub with_parts : Sets → Gathered → List Fixed → Gathered
-with_parts h g ps = record g {
+-- with what these objects tell and run of themselves, the registers that are written at them, and the timers that their effects
+-- set, where all these are present
+abbrev pub with_parts : Sets → List Fixed → Gathered → List Fixed → Gathered
+with_parts h all g ps = record g {
   runners = insert_all same_key g.runners (flat_map (run_with h) ps);
   told = insert_all same_telling g.told (flat_map told_itself ps);
+  settings = g.settings ++ settings_among h all ps;
+  registers = insert_all same_register g.registers (flat_map written_registers ps);
 }
 
 -- with what the actions at these sites do
 abbrev pub with_sites : Sets → Gathered → List Site → Gathered
-with_sites h g xs = record {
+with_sites h g xs = record g {
   runners = insert_all same_key g.runners (flat_map (λ x. run_by h x.act) xs);
   sent = insert_all same_sending g.sent (flat_map (λ x. sent_by x.act) xs);
   told = insert_all same_telling g.told (flat_map (λ x. told_by h x.act) xs);
   timers = insert_all same_timer g.timers (flat_map (λ x. set_by h x.act) xs);
+  registers = insert_all same_register g.registers (flat_map (λ x. registers_by h x.act) xs);
 }
 
 -- with what there is where these are present
@@ -50,6 +61,8 @@ with_present h g ps = record {
   sent = insert_all same_sending g.sent (flat_map sent_by (active_actions ps));
   told = insert_all same_telling g.told (told_there h ps);
   timers = insert_all same_timer g.timers (flat_map (set_by h) (active_actions ps));
+  settings = g.settings ++ settings_among h ps ps;
+  registers = insert_all same_register g.registers (registers_with h ps);
 }
 
 -- with what there is in a configuration
@@ -63,4 +76,6 @@ gathered v w = record {
   sent = insert_all same_sending [] (sent v w);
   told = insert_all same_telling [] (told v w);
   timers = insert_all same_timer [] (set_timers v w);
+  settings = settings v w;
+  registers = insert_all same_register [] (registers v w);
 }

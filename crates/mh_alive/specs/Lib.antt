@@ -2,6 +2,9 @@ pub mod There
 pub mod Runners
 pub mod Sendings
 pub mod Tellings
+pub mod Timers
+pub mod Registers
 pub mod Puts
+pub mod Hearing
 pub mod Gathering
 pub mod Alive

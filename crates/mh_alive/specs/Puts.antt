@@ -17,12 +17,12 @@ use Rattle.mh_laws.specs.Flow.{Flow}
 use Rattle.mh_alive.specs.declared.tellings.Telling.{Telling}
 use Rattle.mh_alive.specs.declared.tellings.SetTimer.{SetTimer}
 use Rattle.mh_alive.specs.Tellings.{same_telling, same_timer, set_timers, telling, told}
+use Rattle.mh_alive.specs.Timers.{Timers, is_timed, timers_with}
 
--- what may come of which objects, the timers that can be set, and the groups that have one
+-- what may come of which objects, and the timers that can be set
 pub record Web : Type 0 where
   pub told : List Telling
-  pub timers : List SetTimer
-  pub timed : List ObjRef
+  pub timers : Timers
 
 -- events of this type are counted on of each object that can have them
 abbrev pub comes_always : ObjRef → EventType → Bool
@@ -38,16 +38,10 @@ abbrev pub is_timer : EventType → Bool
 is_timer event.TimerFired = true
 is_timer _ = false
 
--- a timer of the group is set, with the id if one is named
-abbrev pub is_timed : Web → ObjRef → Option Value → Bool
-is_timed x r None = list_any (same_key r) x.timed
-is_timed x r (Some (value.Int n)) = list_any (same_timer (record { at = r; id = n })) x.timers
-is_timed x r (Some v) = false
-
 -- an event of this type may come of the object, for a link that names this data
 abbrev pub may_come : Web → ObjRef → EventType → Option Value → Bool
 may_come x r kind d =
-    comes_always r kind || list_any (same_telling (telling r kind)) x.told || (is_timer kind && is_timed x r d)
+    comes_always r kind || list_any (same_telling (telling r kind)) x.told || (is_timer kind && is_timed x.timers r d)
 
 abbrev pub may_hear : Web → Option Value → Option EventType → Option Value → Bool
 may_hear x (Some (value.Object r)) (Some kind) d = may_come x r kind d
@@ -64,7 +58,7 @@ puts_of x ps = map (λ p. p.key) (filter (is_put x) ps)
 
 -- what is told, and the timers
 abbrev pub web_with : List Telling → List SetTimer → Web
-web_with ts xs = record { told = ts; timers = xs; timed = insert_all same_key [] (map (λ t. t.at) xs) }
+web_with ts xs = record { told = ts; timers = timers_with xs }
 
 abbrev pub web : Service → Flow → Web
 web v w = web_with (insert_all same_telling [] (told v w)) (insert_all same_timer [] (set_timers v w))

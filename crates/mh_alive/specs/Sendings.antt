@@ -1,9 +1,10 @@
 -- With which data events may come: what is usual of their type, and what an active action sends.
-use Rattle.std.specs.Prelude.{ℕ, ◌==◌, Bool, true, false, ◌&&◌, ◌||◌, if◌then◌else◌, List, [], ◌∷◌, Option, Some, None, ℤ, pos}
+use Rattle.std.specs.Prelude.{ℕ, ◌==◌, Bool, true, false, ◌&&◌, ◌||◌, if◌then◌else◌, List, [], ◌∷◌, nat_le, Option, Some, None, ℤ, pos, negsuc}
 use Rattle.std.specs.List.{flat_map, list_any}
 use Rattle.std.specs.Option.{option_map_or}
 use Rattle.std.specs.Ordering.{int_eq}
 use Rattle.mh_base.specs.declared.event.EventType.{EventType}
+use Rattle.mh_base.specs.declared.event.EventType.TheVariants as event
 use Rattle.mh_base.specs.declared.value.Value.{Value}
 use Rattle.mh_base.specs.declared.value.Value.TheVariants as value
 use Rattle.mh_base.specs.Event.{number_of}
@@ -18,7 +19,7 @@ use Rattle.mh_model.specs.Service.{Service}
 use Rattle.mh_laws.specs.Active.{active_actions}
 use Rattle.mh_laws.specs.Costs.{data_sent}
 use Rattle.mh_laws.specs.Flow.{Flow}
-use Rattle.mh_never.specs.Saying.{is_usual}
+use Rattle.mh_never.specs.Saying.{is_number, is_usual}
 use Rattle.mh_laws.specs.Ways.{Told, Sure, Unsure}
 use Rattle.mh_alive.specs.declared.sendings.Sending.{Sending}
 
@@ -70,6 +71,22 @@ is_sent ss kind d =
     list_any (same_sending (sending_of (number_of kind) Unsure)) ss
     || list_any (same_sending (sending_of (number_of kind) (Sure d))) ss
 
+-- the number of a key
+abbrev pub is_key_number : ℤ → Bool
+is_key_number (pos n) = nat_le 1 n && nat_le n 16 || nat_le 100 n && nat_le n 104
+is_key_number (negsuc n) = false
+
+abbrev pub is_key_data : Option Value → Bool
+is_key_data (Some (value.Int n)) = is_key_number n
+is_key_data _ = false
+
+-- Data with which an event of this type comes though no action sends it. Whether a timer is set, and whether a register lets a key
+-- through, is not asked here.
+abbrev pub is_counted : EventType → Option Value → Bool
+is_counted event.TimerFired d = is_number d
+is_counted event.UserInput d = is_key_data d
+is_counted kind d = is_usual kind d
+
 -- an event of this type may come with the data
 abbrev pub may_say : List Sending → EventType → Option Value → Bool
-may_say ss kind d = is_usual kind d || is_sent ss kind d
+may_say ss kind d = is_counted kind d || is_sent ss kind d

@@ -1,3 +1,4 @@
+pub mod BodyLemmas
 pub mod RunningLemmas
 pub mod SayingLemmas
 pub mod TimerLemmas

@@ -44,7 +44,6 @@ use Rattle.mh_model.specs.declared.input.Waiting.{Waiting}
 use Rattle.mh_model.specs.declared.input.Waiting.TheVariants as waiting
 use Rattle.mh_model.specs.declared.key.Key.{Key}
 use Rattle.mh_model.specs.Items.{matches}
-use Rattle.mh_model.specs.Key.{key_number}
 use Rattle.mh_model.specs.Reference.{group_ref}
 use Rattle.mh_model.specs.Service.{parts}
 use Rattle.mh_model.specs.Step.{key_event}

@@ -1,5 +1,5 @@
 -- Nothing runs but what is of a closed set.
-use Rattle.std.specs.Prelude.{◌≡◌, ◌⊎◌, ℕ, suc, ◌+◌, ◌==◌, ◌||◌, ◌&&◌, not, nat_lt, nat_le, Bool, true, false, if◌then◌else◌, cond, List, [], ◌∷◌, ◌++◌, map, filter, length, drop, reverse, slice_get, Option, Some, None, ℤ, pos, negsuc, int_lt, int_div, int_rem, ◌+ℤ◌, ◌-ℤ◌, ◌*ℤ◌, refl}
+use Rattle.std.specs.Prelude.{◌≡◌, ◌⊎◌, ℕ, ◌+◌, ◌==◌, ◌||◌, ◌&&◌, not, nat_lt, nat_le, Bool, true, false, if◌then◌else◌, cond, List, [], ◌∷◌, ◌++◌, map, filter, length, drop, reverse, slice_get, Option, Some, None, ℤ, pos, negsuc, int_lt, int_div, int_rem, ◌+ℤ◌, ◌-ℤ◌, ◌*ℤ◌, refl}
 use Rattle.std.specs.List.{list_any}
 use Rattle.std.specs.Option.{is_some, option_map, option_map_or, option_or}
 use Rattle.std.specs.Ordering.{int_eq}
@@ -34,7 +34,6 @@ use Rattle.mh_model.specs.declared.item.Item.{Item}
 use Rattle.mh_model.specs.declared.item.Item.TheVariants as item
 use Rattle.mh_model.specs.declared.key.Key.{Key}
 use Rattle.mh_model.specs.declared.key.Key.TheVariants as key
-use Rattle.mh_model.specs.declared.object.listing.Entry.{Entry}
 use Rattle.mh_model.specs.declared.object.member.Member.{Member}
 use Rattle.mh_model.specs.declared.object.Body.{Body}
 use Rattle.mh_model.specs.declared.object.Fixed.{Fixed}
@@ -46,15 +45,14 @@ use Rattle.mh_model.specs.Arguments.{receivers, referred, values}
 use Rattle.mh_model.specs.Variables.{converted, fits_int}
 use Rattle.mh_model.specs.Bodies.{brought, changed_by, coloured, divided, dropped, fits_value, given, given_number, halted, number_of, pointed, prepared, replaced, started, stored, text_of}
 use Rattle.mh_model.specs.Configuration.{is_group_of, present, scene_parts}
-use Rattle.mh_model.specs.EntryFields.{Pressed, button_pressed, button_worked, field_pressed, most_typed, not_pressed, overtyped, pressed_by, pressed_of, put_in, typed}
+use Rattle.mh_model.specs.EntryFields.{Pressed, button_pressed, field_pressed, most_typed, not_pressed, overtyped, pressed_by, pressed_of, put_in, typed}
 use Rattle.mh_model.specs.Files.{comes_to, is_loadable, waits_for}
 use Rattle.mh_model.specs.Key.{passes}
 use Rattle.mh_model.specs.Groups.{effect_of, entering, group_effect, halts, is_initially_active, is_shared, leaving, quitting, runs, scene_closing, scene_halts}
 use Rattle.mh_model.specs.Items.{acts, heard, matches, plain_event}
-use Rattle.mh_model.specs.Listed.{Listed}
 use Rattle.mh_model.specs.Lifecycle.{drop_items, emit_if, group_halts, group_runs, halt_items, is_available_at, is_unavailable_at, is_unprepared_at, loaded_at, loads_if, members_halted, members_run, prepare_items, rise_items, run_items, run_places, running_items, started_items, stopping_items, token_told}
 use Rattle.mh_group.specs.Same.{are_same}
-use Rattle.mh_model.specs.Lists.{Shown, count_told, halted_members, is_shown, list_changed, list_events, list_items, list_worked, nothing_shown, relisted, run_members, selection_at, selection_by, selection_wanted, selection_worked, shows, truth_told}
+use Rattle.mh_model.specs.Lists.{Shown, count_told, halted_members, is_shown, list_events, list_items, nothing_shown, relisted, run_members, shows, truth_told}
 use Rattle.std.specs.Prelude.{unwrap_or}
 use Rattle.mh_model.specs.declared.act.Argument.{Argument}
 use Rattle.mh_model.specs.declared.program.Param.{Param}
@@ -71,7 +69,7 @@ use Rattle.mh_model.specs.Service.{Service, fresh, group_parts, object_at, part_
 use Rattle.mh_model.specs.Sort.{sort_of}
 use Rattle.mh_model.specs.State.{Objects, State, all}
 use Rattle.mh_model.specs.Step.{awaits, scene_arrived, engine_event, key_event, register_of, did, key_items, key_taken, obstacle, posted, posted_by, pressed_at, step, step_by, taking}
-use Rattle.mh_model.specs.Tokens.{can_turn, members, token_wanted, turned}
+use Rattle.mh_model.specs.Tokens.{members}
 use Rattle.mh_model.specs.Widget.{Worked, event_with, no_work}
 use Rattle.mh_model.specs.Worked.{is_interacting, worked}
 use Rattle.mh_laws.specs.Describing.{IsListed, IsOf, IsOneOf, AreOf, Piece, can_put, is_list_piece}
@@ -87,6 +85,7 @@ use Rattle.mh_model.specs.Receiver.{IsCountedStep, IsMoved, IsRun, IsStepWith, a
 use Rattle.mh_laws.specs.Headline.{begun_with}
 use Rattle.mh_laws.proofs.BudgetLemmas.{posted_serves, step_serves}
 use Rattle.mh_laws.proofs.StepLemmas.{safe_by_begun_with, safe_by_posted, safe_by_step, safe_by_told}
+use Rattle.mh_never.proofs.BodyLemmas.{pressed_keeps, worked_keeps}
 use Rattle.mh_never.specs.Never.{IsSo}
 use Rattle.mh_never.specs.Running.{Doings, NeverRuns, AreOnlyIn, IsOnlyIn, IsRunClosed, IsRunIn, Runners, RunsOnly, any_act, is_run_piece}
 use Rattle.mh_laws.specs.Safe.{IsFine, IsPartOf, IsSafeBy, IsSafeItem, config_of}
@@ -152,92 +151,6 @@ changed_stays action.SetEntryPoint (value.Int n ∷ []) p b = pointed_stays n b
 changed_stays action.SetOverwriteMode (value.Bool on ∷ []) p b = refl
 changed_stays action.SetLabel (value.Octets os ∷ []) p b = if_stays _ _ b b refl refl
 changed_stays _ _ p b = refl
-
--- widgets
-
-list_stays : (r : ObjRef) (p : Fixed) (b : Body) (m : Option Listed) → Stays b (list_changed r p b m).body
-list_stays r p b None = refl
-list_stays r p b (Some l) = refl
-
-only_list_stays : (t : Bool) (w : Worked) (b : Body) → Stays b w.body → Stays b (if t then w else no_work b).body
-only_list_stays true w b h = h
-only_list_stays false w b h = refl
-
-selected_stays : (want now : Bool) (k : ℕ) (r : ObjRef) (p : Fixed) (b : Body) → Stays b (selection_by want now k r p b).body
-selected_stays true false k r p b = refl
-selected_stays false true k r p b = refl
-selected_stays true true k r p b = refl
-selected_stays false false k r p b = refl
-
-selection_stays : (n : ActionName) (vs : List Value) (r : ObjRef) (p : Fixed) (b : Body) → Stays b (selection_worked n vs r p b).body
-selection_stays n (value.Int (pos (suc k)) ∷ []) r p b = by (slice_get b.list.entries k)
-  where
-    by : (m : Option Entry) → Stays b (selection_at n k m r p b).body
-    by None = refl
-    by (Some e) = selected_stays (selection_wanted n e.selected) e.selected k r p b
-selection_stays n _ r p b = refl
-
-turned_stays : (r : ObjRef) (p : Fixed) (b : Body) (m : Option ℤ) → Stays b (turned r p b m).body
-turned_stays r p b None = refl
-turned_stays r p b (Some (negsuc n)) = refl
-turned_stays r p b (Some (pos n)) = only_list_stays (can_turn p b n) _ b refl
-
-unless_stays : (t : Bool) (w : Worked) (b : Body) → Stays b w.body → Stays b (if t then no_work b else w).body
-unless_stays true w b h = refl
-unless_stays false w b h = h
-
-button_stays : (n : ActionName) (vs : List Value) (r : ObjRef) (p : Fixed) (b : Body) → Stays b (button_worked n vs r p b).body
-button_stays action.SetHighlightStatus (value.Bool on ∷ []) r p b = unless_stays (are_same b.highlighted on) _ b refl
-button_stays action.Select vs r p b = unless_stays (are_same b.selected true) _ b refl
-button_stays action.Deselect vs r p b = unless_stays (are_same b.selected false) _ b refl
-button_stays _ vs r p b = refl
-
-worked_stays : (n : ActionName) (vs : List Value) (r : ObjRef) (p : Fixed) (b : Body) → Stays b (worked n vs r p b).body
-worked_stays action.Move vs r p b = turned_stays r p b (token_wanted action.Move vs p b)
-worked_stays action.MoveTo vs r p b = turned_stays r p b (token_wanted action.MoveTo vs p b)
-worked_stays action.AddItem vs r p b = only_list_stays (is_list_group p.class) (list_worked action.AddItem vs r p b) b (list_stays r p b (relisted action.AddItem vs p b.list))
-worked_stays action.DelItem vs r p b = only_list_stays (is_list_group p.class) (list_worked action.DelItem vs r p b) b (list_stays r p b (relisted action.DelItem vs p b.list))
-worked_stays action.ScrollItems vs r p b = only_list_stays (is_list_group p.class) (list_worked action.ScrollItems vs r p b) b (list_stays r p b (relisted action.ScrollItems vs p b.list))
-worked_stays action.SetFirstItem vs r p b = only_list_stays (is_list_group p.class) (list_worked action.SetFirstItem vs r p b) b (list_stays r p b (relisted action.SetFirstItem vs p b.list))
-worked_stays action.SelectItem vs r p b = selection_stays action.SelectItem vs r p b
-worked_stays action.DeselectItem vs r p b = selection_stays action.DeselectItem vs r p b
-worked_stays action.ToggleItem vs r p b = selection_stays action.ToggleItem vs r p b
-worked_stays action.SetHighlightStatus vs r p b = button_stays action.SetHighlightStatus vs r p b
-worked_stays action.Select vs r p b = button_stays action.Select vs r p b
-worked_stays action.Deselect vs r p b = button_stays action.Deselect vs r p b
-worked_stays _ vs r p b = refl
-
--- keys
-
-typed_stays : (c : ℕ) (r : ObjRef) (p : Fixed) (b : Body) → Stays b (typed c r p b).body
-typed_stays c r p b = by (b.overwrites && nat_lt b.point (length (text_of b))) (int_lt (pos (length (text_of b))) (most_typed p))
-  where
-    by : (over room : Bool) → Stays b (if over then overtyped c b else (if room then put_in c r p b else not_pressed b)).body
-    by true room = refl
-    by false true = refl
-    by false false = refl
-
-field_stays : (k : Key) (before : List ℕ) (r : ObjRef) (p : Fixed) (b : Body) → Stays b (field_pressed k before r p b).body
-field_stays key.Digit0 before r p b = typed_stays 48 r p b
-field_stays key.Digit1 before r p b = typed_stays 49 r p b
-field_stays key.Digit2 before r p b = typed_stays 50 r p b
-field_stays key.Digit3 before r p b = typed_stays 51 r p b
-field_stays key.Digit4 before r p b = typed_stays 52 r p b
-field_stays key.Digit5 before r p b = typed_stays 53 r p b
-field_stays key.Digit6 before r p b = typed_stays 54 r p b
-field_stays key.Digit7 before r p b = typed_stays 55 r p b
-field_stays key.Digit8 before r p b = typed_stays 56 r p b
-field_stays key.Digit9 before r p b = typed_stays 57 r p b
-field_stays _ before r p b = refl
-
-push_stays : (k : Key) (r : ObjRef) (b : Body) → Stays b (button_pressed k r b).body
-push_stays key.Select r b = unless_stays (are_same b.selected true) _ b refl
-push_stays _ r b = refl
-
-pressed_stays : (x : Class) (k : Key) (before : List ℕ) (r : ObjRef) (p : Fixed) (b : Body) → Stays b (pressed_of x k before r p b).body
-pressed_stays class.EntryField k before r p b = field_stays k before r p b
-pressed_stays class.PushButton k before r p b = push_stays k r b
-pressed_stays _ k before r p b = refl
 
 -- OBJECTS
 
@@ -645,7 +558,7 @@ sort_runs {fw} u s k closed a r so may rest n h behind_it sort.Widget same = by 
     by (Some o) e =
         let w : Worked = worked a.name vs r o.fixed o.body in
         record {
-          objects = only_placed u w.placed (changed (λ p b. w.body) r s.objects) (only_changed u (λ p b. w.body) r s.objects (λ x found. subst (λ (y : Object). KeepsOnly u (λ p b. w.body) y) (some_same (sym e ∙ found)) (leaves_only u (λ p b. w.body) o (worked_stays a.name vs r o.fixed o.body))) h);
+          objects = only_placed u w.placed (changed (λ p b. w.body) r s.objects) (only_changed u (λ p b. w.body) r s.objects (λ x found. subst (λ (y : Object). KeepsOnly u (λ p b. w.body) y) (some_same (sym e ∙ found)) (leaves_only u (λ p b. w.body) o ((worked_keeps a.name vs r o.fixed o.body).0))) h);
           work = each_joined (IsRunIn u) w.items rest (widget_in u s k closed a r o so e (λ some. closed.acts (config_of s) k.among a (so.fine).active may some r (target_among fw (config_of s) (present s.service (config_of s)) a.target r so.may))) behind_it;
         }
 sort_runs {fw} u s k closed a r so may rest n h behind_it sort.Interact same = interact_runs u (record s { work = rest; taken = n }) a.name (values (all s.objects) a.arguments) (receivers a.arguments) r (record { objects = h; work = behind_it })
@@ -760,7 +673,7 @@ taking_runs u s (waiting.Input (input.Key x)) h = by s.interaction
         by_object (Some o) e =
             let w : Pressed = pressed_of o.fixed.class x i.before i.object o.fixed o.body in
             record {
-              objects = only_changed u (λ p b. w.body) i.object s.objects (λ z found. subst (λ (y : Object). KeepsOnly u (λ p b. w.body) y) (some_same (sym e ∙ found)) (leaves_only u (λ p b. w.body) o (pressed_stays o.fixed.class x i.before i.object o.fixed o.body))) h.objects;
+              objects = only_changed u (λ p b. w.body) i.object s.objects (λ z found. subst (λ (y : Object). KeepsOnly u (λ p b. w.body) y) (some_same (sym e ∙ found)) (leaves_only u (λ p b. w.body) o ((pressed_keeps o.fixed.class x i.before i.object o.fixed o.body).0))) h.objects;
               work = pressed_in u o.fixed.class x i.before i.object o.fixed o.body;
             }
 taking_runs u s (waiting.Input (input.Tick n)) h = record { objects = h.objects; work = h.work }

@@ -2,7 +2,7 @@
 use Rattle.std.specs.Prelude.{◌≡◌, ℕ, suc, ◌+◌, ◌==◌, ◌&&◌, not, nat_lt, Bool, true, false, if◌then◌else◌, cond, List, [], ◌∷◌, ◌++◌, map, filter, length, drop, reverse, slice_get, Option, Some, None, ℤ, pos, negsuc, int_lt, refl}
 use Rattle.std.specs.Option.{is_some}
 use Rattle.std.specs.Ordering.{int_eq}
-use Rattle.std.proofs.Common.{◌∙◌, sym, subst}
+use Rattle.std.proofs.Common.{sym, subst}
 use Rattle.mh_base.specs.declared.event.EventType.{EventType}
 use Rattle.mh_base.specs.declared.event.EventType.TheVariants as event
 use Rattle.mh_base.specs.declared.obj_ref.ObjRef.{ObjRef}
@@ -43,7 +43,7 @@ use Rattle.mh_model.specs.Bodies.{text_of}
 use Rattle.mh_model.specs.Configuration.{is_group_of}
 use Rattle.mh_model.specs.EntryFields.{button_pressed, button_set, button_worked, field_pressed, most_typed, not_pressed, overtyped, pressed_of, put_in, typed}
 use Rattle.mh_model.specs.Files.{comes_to, is_loadable}
-use Rattle.mh_model.specs.Key.{key_number, passes}
+use Rattle.mh_model.specs.Key.{passes}
 use Rattle.std.specs.Ordering.{is_lt}
 use Rattle.mh_model.specs.declared.time.Timer.{Timer}
 use Rattle.mh_model.specs.Time.{by_due, in_order, is_due, placed, timer_event}
@@ -83,15 +83,7 @@ use Rattle.mh_model.specs.Widget.{Worked, event_with, no_work}
 use Rattle.mh_model.specs.Worked.{is_interacting, worked}
 use Rattle.mh_laws.specs.Each.{Each}
 use Rattle.mh_laws.specs.Flow.{Flow}
-use Rattle.mh_model.specs.declared.input.Move.{Move}
-use Rattle.mh_model.specs.declared.input.Move.TheVariants as move
-use Rattle.mh_model.specs.declared.program.Call.{Call}
-use Rattle.mh_model.specs.declared.program.Signature.{Signature}
-use Rattle.mh_model.specs.Limits.{most_steps}
-use Rattle.mh_model.specs.Receiver.{IsCountedStep, IsMoved, IsRun, IsStepWith, anything, call_next}
 use Rattle.mh_laws.specs.Headline.{begun_with}
-use Rattle.mh_laws.proofs.BudgetLemmas.{posted_serves, step_serves}
-use Rattle.mh_laws.proofs.StepLemmas.{safe_by_begun_with, safe_by_posted, safe_by_step, safe_by_told}
 use Rattle.mh_never.specs.Never.{IsSo}
 use Rattle.mh_never.specs.Running.{Doings}
 use Rattle.mh_never.specs.Saying.{IsSaidClosed, IsSaidIn, IsWaitIn, Sayings, event_by, is_usual}

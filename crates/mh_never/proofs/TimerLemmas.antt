@@ -1,5 +1,5 @@
 -- The timers that are set are of a closed set: only an action sets one, others go.
-use Rattle.std.specs.Prelude.{◌≡◌, Bool, true, false, if◌then◌else◌, List, [], ◌∷◌, ◌++◌, ℕ, ℤ, pos, negsuc, not, filter, slice_get, drop, Option, Some, None, nat_lt, ◌+◌, refl}
+use Rattle.std.specs.Prelude.{◌≡◌, Bool, true, false, if◌then◌else◌, List, [], ◌∷◌, ◌++◌, ℕ, ℤ, pos, negsuc, not, slice_get, drop, Option, Some, None, nat_lt, ◌+◌, refl}
 use Rattle.std.specs.Str.{bytes_eq}
 use Rattle.std.proofs.Common.{sym, subst}
 use Rattle.mh_base.specs.declared.obj_ref.ObjRef.{ObjRef}
@@ -11,9 +11,7 @@ use Rattle.mh_group.specs.declared.action_name.ActionName.TheVariants as action
 use Rattle.mh_group.specs.Table.{is_application}
 use Rattle.mh_model.specs.declared.act.Act.{Act}
 use Rattle.mh_model.specs.declared.act.Argument.{Argument}
-use Rattle.mh_model.specs.declared.event.Event.{Event}
 use Rattle.mh_model.specs.declared.fault.Fault.{Fault}
-use Rattle.mh_model.specs.declared.file.File.{File}
 use Rattle.mh_model.specs.declared.input.Input.{Input}
 use Rattle.mh_model.specs.declared.input.Input.TheVariants as input
 use Rattle.mh_model.specs.declared.input.Obstacle.{Obstacle}
@@ -33,7 +31,7 @@ use Rattle.mh_model.specs.Configuration.{is_group_of}
 use Rattle.mh_model.specs.Files.{is_loadable}
 use Rattle.mh_model.specs.Items.{heard}
 use Rattle.mh_model.specs.Reference.{group_ref}
-use Rattle.mh_model.specs.Rules.{act_on, application_exchanged, begins, begins_or_waits, emitted, interact_rule, is_begun, leads_to_late, load_rule, loaded_with, rule, rule_by, scene_exchanged, transition_rule, whole_rule, widget_at}
+use Rattle.mh_model.specs.Rules.{act_on, application_exchanged, begins, begins_or_waits, interact_rule, is_begun, leads_to_late, load_rule, loaded_with, rule, rule_by, scene_exchanged, transition_rule, whole_rule, widget_at}
 use Rattle.mh_model.specs.Service.{object_at}
 use Rattle.mh_model.specs.Sort.{sort_of}
 use Rattle.mh_model.specs.State.{State, all}
@@ -41,9 +39,7 @@ use Rattle.mh_model.specs.Step.{awaits, did, key_taken, obstacle, posted, posted
 use Rattle.mh_model.specs.Time.{cancelled, entered_at, is_due, is_timer, set_timers, timed, timed_from}
 use Rattle.mh_laws.specs.Each.{Each}
 use Rattle.mh_laws.specs.Flow.{Flow}
-use Rattle.mh_laws.specs.Headline.{begun_with}
 use Rattle.mh_laws.specs.Safe.{IsFine, IsSafeBy, IsSafeItem, config_of}
-use Rattle.mh_laws.proofs.ActLemmas.{IsSound}
 use Rattle.mh_laws.proofs.EachLemmas.{each_joined}
 use Rattle.mh_laws.proofs.MindLemmas.{timer_set}
 use Rattle.mh_laws.proofs.ReadyLemmas.{first_item, free_first, sound_now}

@@ -1,6 +1,6 @@
 -- What is never said. Which events come: with the data that is usual of their type, as an action that may come sends them, of
 -- a timer that one sets, and for the keys that the register of a scene lets through.
-use Rattle.std.specs.Prelude.{◌≡◌, ℕ, ◌&&◌, ◌||◌, Bool, true, false, nat_le, List, ◌∷◌, Option, Some, None, ℤ, pos, negsuc}
+use Rattle.std.specs.Prelude.{◌≡◌, ℕ, Bool, true, false, List, ◌∷◌, Option, Some, None, ℤ, pos}
 use Rattle.mh_base.specs.declared.event.EventType.{EventType}
 use Rattle.mh_base.specs.declared.event.EventType.TheVariants as event
 use Rattle.mh_base.specs.declared.obj_ref.ObjRef.{ObjRef}
