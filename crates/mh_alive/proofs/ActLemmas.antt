@@ -211,7 +211,7 @@ slot_among p n x h =
     let m = from_joined (λ (y : Member). y.slots) (members p) e.0 e.1 in
     among_joined member_actions (members p) m.0 x m.1 (among_joined (λ (z : List Act). z) m.0.slots e.0 x m.2 e.2)
 
-effect_among : (p : Fixed) (n : ℕ) (x : Act) → Among (effect_at p n) x → Among (actions p) x
+pub effect_among : (p : Fixed) (n : ℕ) (x : Act) → Among (effect_at p n) x → Among (actions p) x
 effect_among p n x h = by n h
   where
     start_up : List Act

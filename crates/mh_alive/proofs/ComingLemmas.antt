@@ -35,7 +35,8 @@ use Rattle.mh_laws.proofs.NodeLemmas.{config_among}
 use Rattle.mh_alive.specs.declared.tellings.Telling.{Telling}
 use Rattle.mh_alive.specs.declared.tellings.SetTimer.{SetTimer}
 use Rattle.mh_alive.specs.Alive.{Alive, IsAliveOf}
-use Rattle.mh_alive.specs.Puts.{Web, comes_always, is_put, is_timed, is_timer, may_come, may_hear, puts, puts_of, web}
+use Rattle.mh_alive.specs.Timers.{is_timed}
+use Rattle.mh_alive.specs.Puts.{Web, comes_always, is_put, is_timer, may_come, may_hear, puts, puts_of, web}
 use Rattle.mh_alive.specs.Tellings.{same_telling, same_timer, set_in, set_timers, telling, told, told_in}
 use Rattle.mh_alive.proofs.RunLemmas.{key_itself}
 use Rattle.mh_alive.proofs.SetLemmas.{or_first, or_second, put_there}
@@ -43,7 +44,7 @@ use Rattle.mh_alive.proofs.SetLemmas.{or_first, or_second, put_there}
 telling_itself : (x : Telling) → same_telling x x ≡ true
 telling_itself x = both_true (key_itself x.at) ((Decides-eqb x.kind x.kind).1 refl)
 
-timer_itself : (x : SetTimer) → same_timer x x ≡ true
+pub timer_itself : (x : SetTimer) → same_timer x x ≡ true
 timer_itself x = both_true (key_itself x.at) ((Decides-int_eq x.id x.id).1 refl)
 
 -- types of events with one number are one
@@ -63,12 +64,12 @@ Comes x r kind t = (m d : Option Value) → IsKnown t m → hears_data d m ≡ t
 
 pub always_comes : (x : Web) (r : ObjRef) (kind : EventType) (t : Told) → comes_always r kind ≡ true → Comes x r kind t
 always_comes x r kind t e m d known hears =
-    or_first (comes_always r kind || list_any (same_telling (telling r kind)) x.told) (is_timer kind && is_timed x r d)
+    or_first (comes_always r kind || list_any (same_telling (telling r kind)) x.told) (is_timer kind && is_timed x.timers r d)
     (or_first (comes_always r kind) (list_any (same_telling (telling r kind)) x.told) e)
 
 pub told_comes : (v : Service) (w : Flow) (c : Config) (r : ObjRef) (kind : EventType) (t : Told) → reached w c ≡ true → Among (told_in v w c) (telling r kind) → Comes (web v w) r kind t
 told_comes v w c r kind t among there m d known hears =
-    or_first (comes_always r kind || list_any (same_telling (telling r kind)) (web v w).told) (is_timer kind && is_timed (web v w) r d)
+    or_first (comes_always r kind || list_any (same_telling (telling r kind)) (web v w).told) (is_timer kind && is_timed (web v w).timers r d)
     (or_second (comes_always r kind) (list_any (same_telling (telling r kind)) (web v w).told)
     (put_there same_telling telling_itself [] (told v w) (telling r kind) (among_joined (told_in v w) w.configs c (telling r kind) (config_among w.configs c among) there)))
 
@@ -86,7 +87,7 @@ timer_key x (y ∷ ts) h = by (same_timer x y) refl h (λ k. timer_key x ts k)
     by true is h further = (y, inl refl, is)
     by false is h further = let more = further h in (more.0, inr more.1, more.2)
 
-group_timed : (ts : List SetTimer) (x : SetTimer) → list_any (same_timer x) ts ≡ true → list_any (same_key x.at) (insert_all same_key [] (map (λ (t : SetTimer). t.at) ts)) ≡ true
+pub group_timed : (ts : List SetTimer) (x : SetTimer) → list_any (same_timer x) ts ≡ true → list_any (same_key x.at) (insert_all same_key [] (map (λ (t : SetTimer). t.at) ts)) ≡ true
 group_timed ts x h =
     let y = timer_key x ts h in
     let same : x.at ≡ y.0.at = key_same x.at y.0.at (and_left (same_key x.at y.0.at) (int_eq x.id y.0.id) y.2) in
@@ -98,13 +99,13 @@ group_timed ts x h =
 
 pub timer_comes : (v : Service) (w : Flow) (c : Config) (x : SetTimer) → reached w c ≡ true → Among (set_in v w c) x → Comes (web v w) x.at event.TimerFired (Sure (Some (value.Int x.id)))
 timer_comes v w c x among there m d known hears =
-    or_second (comes_always x.at event.TimerFired || list_any (same_telling (telling x.at event.TimerFired)) (web v w).told) (is_timed (web v w) x.at d)
+    or_second (comes_always x.at event.TimerFired || list_any (same_telling (telling x.at event.TimerFired)) (web v w).told) (is_timed (web v w).timers x.at d)
     (by d (subst (λ (n : Option Value). hears_data d n ≡ true) known hears))
   where
     set : list_any (same_timer x) (timers_of v w) ≡ true
     set = put_there same_timer timer_itself [] (set_timers v w) x (among_joined (set_in v w) w.configs c x (config_among w.configs c among) there)
 
-    by : (d : Option Value) → hears_data d (Some (value.Int x.id)) ≡ true → is_timed (web v w) x.at d ≡ true
+    by : (d : Option Value) → hears_data d (Some (value.Int x.id)) ≡ true → is_timed (web v w).timers x.at d ≡ true
     by None h = group_timed (timers_of v w) x set
     by (Some (value.Int n)) h = subst (λ (k : ℤ). list_any (same_timer (record { at = x.at; id = k })) (timers_of v w) ≡ true) (sym ((Decides-int_eq n x.id).0 h)) set
     by (Some _) h = absurd cc
@@ -157,7 +158,7 @@ found_among p (g ∷ gs) q h = by (p g) h (λ k. found_among p gs q k)
     by true h further = (g, inl refl, h)
     by false h further = let more = further h in (more.0, inr more.1, more.2)
 
-grouped : (v : Service) (c : Config) (p : Fixed) → Among (present v c) p → (g : List ℕ × List Fixed) × Among v.groups g × Among g.1 p
+pub grouped : (v : Service) (c : Config) (p : Fixed) → Among (present v c) p → (g : List ℕ × List Fixed) × Among v.groups g × Among g.1 p
 grouped v c p h = by (among_either (group_parts v c.app) (scene_parts v c.scene) p h)
   where
     of_scene : (m : Option (List ℕ)) → Among (scene_parts v m) p → (g : List ℕ × List Fixed) × Among v.groups g × Among g.1 p

@@ -1,5 +1,5 @@
 -- What is gathered configuration by configuration is what is gathered of all.
-use Rattle.std.specs.Prelude.{◌≡◌, Bool, List, [], ◌∷◌, ◌++◌, ℕ, fold, map, refl}
+use Rattle.std.specs.Prelude.{◌≡◌, Bool, true, false, cond, List, [], ◌∷◌, ◌++◌, ℕ, filter, fold, map, refl}
 use Rattle.std.specs.List.{flat_map}
 use Rattle.std.proofs.Common.{ap, sym, subst, ◌∙◌}
 use Rattle.std.proofs.lemmas.List.Concat.{flat_map-append}
@@ -11,13 +11,15 @@ use Rattle.mh_model.specs.declared.object.Fixed.{Fixed}
 use Rattle.mh_model.specs.Configuration.{present}
 use Rattle.mh_model.specs.Reference.{same_key}
 use Rattle.mh_model.specs.Service.{Service}
-use Rattle.mh_laws.specs.Active.{active_actions}
+use Rattle.mh_laws.specs.Active.{active_actions, is_active}
 use Rattle.mh_laws.specs.Flow.{Flow, Sets}
-use Rattle.mh_flow.specs.Sites.{Site, sites_of}
+use Rattle.mh_flow.specs.Sites.{Site, sites, sites_of}
 use Rattle.mh_flow.specs.Solved.{Solved, flow_in, held_by}
-use Rattle.mh_flow.proofs.SiteLemmas.{through_active}
+use Rattle.mh_flow.proofs.SiteLemmas.{through_active, through_sites}
 use Rattle.mh_alive.specs.Alive.{Alive, IsAliveOf, alive_with}
-use Rattle.mh_alive.specs.Puts.{Web, puts_of}
+use Rattle.mh_alive.specs.declared.settings.Setting.{Setting}
+use Rattle.mh_alive.specs.Hearing.{settings, settings_among, settings_by, settings_in, settings_of}
+use Rattle.mh_alive.specs.Registers.{registers_by, registers_in, same_register, written_registers}
 use Rattle.mh_alive.specs.Gathering.{Gathered, gathered, nothing, with_config, with_parts, with_present, with_sites}
 use Rattle.mh_alive.specs.Runners.{run_by, run_with, runners_in}
 use Rattle.mh_alive.specs.Sendings.{same_sending, sent_by, sent_in}
@@ -43,16 +45,41 @@ acts_of : {K : Type 0} (same : K → K → Bool) (g : Act → List K) (ks : List
     → insert_all same ks (flat_map (λ x. g x.act) xs) ≡ insert_all same ks (flat_map g (active_actions all))
 acts_of same g ks all xs are = ap (insert_all same ks) (ap (λ (ys : List Site). flat_map (λ (x : Site). g x.act) ys) are ∙ through_active g all)
 
+pub part_settings : (h : Sets) (p : Fixed) (xs : List Site) → xs ≡ sites p → flat_map (λ (x : Site). settings_by h p x.act) xs ≡ settings_of h p
+part_settings h p xs are = ap (flat_map (λ (x : Site). settings_by h p x.act)) are ∙ through_sites (settings_by h p) p
+
+-- one list of settings behind the other
+
+appended : (xs ys zs : List Setting) → (xs ++ ys) ++ zs ≡ xs ++ (ys ++ zs)
+appended [] ys zs = refl
+appended (x ∷ xs) ys zs = ap (λ (t : List Setting). x ∷ t) (appended xs ys zs)
+
+among_append : (h : Sets) (all xs ys : List Fixed) → settings_among h all (xs ++ ys) ≡ settings_among h all xs ++ settings_among h all ys
+among_append h all [] ys = refl
+among_append h all (x ∷ xs) ys = by (is_active all x) (among_append h all xs ys)
+  where
+    by : (b : Bool) → settings_among h all (xs ++ ys) ≡ settings_among h all xs ++ settings_among h all ys
+        → flat_map (settings_of h) (cond b (x ∷ filter (is_active all) (xs ++ ys)) (filter (is_active all) (xs ++ ys))) ≡ flat_map (settings_of h) (cond b (x ∷ filter (is_active all) xs) (filter (is_active all) xs)) ++ settings_among h all ys
+    by true rest = ap (λ (t : List Setting). settings_of h x ++ t) rest ∙ sym (appended (settings_of h x) (settings_among h all xs) (settings_among h all ys))
+    by false rest = rest
+
+settings_joined : (h : Sets) (all : List Fixed) (ss : List Setting) (ps qs : List Fixed) → ps ++ qs ≡ all → (ss ++ settings_among h all ps) ++ settings_among h all qs ≡ ss ++ settings_among h all all
+settings_joined h all ss ps qs whole =
+    appended ss (settings_among h all ps) (settings_among h all qs)
+    ∙ ap (λ (t : List Setting). ss ++ t) (sym (among_append h all ps qs) ∙ ap (λ (x : List Fixed). settings_among h all x) whole)
+
 pub there_gathered : (h : Sets) (a b c d : Gathered) (ps qs all : List Fixed) (xs : List Site) → ps ++ qs ≡ all → xs ≡ sites_of all
-    → b ≡ with_parts h a ps → c ≡ with_parts h b qs → d ≡ with_sites h c xs → d ≡ with_present h a all
+    → b ≡ with_parts h all a ps → c ≡ with_parts h all b qs → d ≡ with_sites h c xs → d ≡ with_present h a all
 unfolding with_present
 there_gathered h a b c d ps qs all xs whole are first second third =
-    third ∙ ap (λ (g : Gathered). with_sites h g xs) (second ∙ ap (λ (g : Gathered). with_parts h g qs) first)
+    third ∙ ap (λ (g : Gathered). with_sites h g xs) (second ∙ ap (λ (g : Gathered). with_parts h all g qs) first)
     ∙ (λ i. record {
       runners = three same_key (run_with h) (run_by h) a.runners ps qs all xs whole are i;
       sent = acts_of same_sending sent_by a.sent all xs are i;
       told = three same_telling told_itself (told_by h) a.told ps qs all xs whole are i;
       timers = acts_of same_timer (set_by h) a.timers all xs are i;
+      settings = settings_joined h all a.settings ps qs whole i;
+      registers = three same_register written_registers (registers_by h) a.registers ps qs all xs whole are i;
     })
 
 -- where this is held
@@ -70,6 +97,8 @@ over v w g cs = record {
   sent = insert_all same_sending g.sent (flat_map (sent_in v) cs);
   told = insert_all same_telling g.told (flat_map (told_in v w) cs);
   timers = insert_all same_timer g.timers (flat_map (set_in v w) cs);
+  settings = g.settings ++ flat_map (settings_in v w) cs;
+  registers = insert_all same_register g.registers (flat_map (registers_in v w) cs);
 }
 
 one_more : (v : Service) (w : Flow) (g : Gathered) (c : Config) (cs : List Config) → over v w (with_config v w g c) cs ≡ over v w g (c ∷ cs)
@@ -79,10 +108,16 @@ one_more v w g c cs = λ i. record {
   sent = put_both same_sending g.sent (sent_in v c) (flat_map (sent_in v) cs) i;
   told = put_both same_telling g.told (told_in v w c) (flat_map (told_in v w) cs) i;
   timers = put_both same_timer g.timers (set_in v w c) (flat_map (set_in v w) cs) i;
+  settings = appended g.settings (settings_in v w c) (flat_map (settings_in v w) cs) i;
+  registers = put_both same_register g.registers (registers_in v w c) (flat_map (registers_in v w) cs) i;
 }
 
 all_over : (v : Service) (w : Flow) (g : Gathered) (cs : List Config) → fold (with_config v w) g cs ≡ over v w g cs
-all_over v w g [] = refl
+all_over v w g [] = λ i. record { runners = g.runners; sent = g.sent; told = g.told; timers = g.timers; settings = sym (none g.settings) i; registers = g.registers }
+  where
+    none : (xs : List Setting) → xs ++ [] ≡ xs
+    none [] = refl
+    none (x ∷ xs) = ap (λ (t : List Setting). x ∷ t) (none xs)
 all_over v w g (c ∷ cs) = all_over v w (with_config v w g c) cs ∙ one_more v w g c cs
 
 pub all_gathered : (v : Service) (w : Flow) (a b : Gathered) (cs : List Config) → a ≡ nothing → cs ≡ w.configs → b ≡ fold (with_config v w) a cs → b ≡ gathered v w
@@ -91,8 +126,8 @@ all_gathered v w a b cs none all made =
 
 -- and what is made of it is what may be alive
 pub alive_is : (v : Service) (w : Flow) (g : Gathered) (a : Alive) → g ≡ gathered v w → a ≡ alive_with v g → IsAliveOf v w a
-alive_is v w g a all made = subst (IsAliveOf v w) (sym (made ∙ ap (alive_with v) all)) (record { runners = refl; sent = refl; puts = refl })
+alive_is v w g a all made = subst (IsAliveOf v w) (sym (made ∙ ap (alive_with v) all)) (record { runners = refl; sent = refl; puts = refl; hearers = refl })
 
-pub groups_joined : (x : Web) (gs : List (List ℕ × List Fixed)) → flat_map (puts_of x) (map (λ g. g.1) gs) ≡ flat_map (λ g. puts_of x g.1) gs
-groups_joined x [] = refl
-groups_joined x (g ∷ gs) = ap (λ (t : List ObjRef). puts_of x g.1 ++ t) (groups_joined x gs)
+pub groups_joined : {K : Type 0} (f : List Fixed → List K) (gs : List (List ℕ × List Fixed)) → flat_map f (map (λ g. g.1) gs) ≡ flat_map (λ g. f g.1) gs
+groups_joined f [] = refl
+groups_joined {K} f (g ∷ gs) = ap (λ (t : List K). f g.1 ++ t) (groups_joined f gs)

@@ -1,6 +1,6 @@
 -- What inputs put to work lives; so what may be put to work is closed, and what is not of it is never put.
 use Rattle.std.specs.Prelude.{◌≡◌, ◌⊎◌, ℕ, ◌==◌, Bool, true, false, ◌&&◌, ◌||◌, not, if◌then◌else◌, List, [], ◌∷◌, map, filter, Option, Some, None, refl}
-use Rattle.std.specs.List.{flat_map, list_any}
+use Rattle.std.specs.List.{flat_map, list_all, list_any}
 use Rattle.std.specs.Option.{option_map_or}
 use Rattle.std.specs.Str.{bytes_eq}
 use Rattle.std.proofs.Common.{sym, subst, inl, inr}
@@ -13,6 +13,7 @@ use Rattle.mh_group.specs.declared.action_name.ActionName.TheVariants as action
 use Rattle.mh_group.specs.declared.class.Class.{Class}
 use Rattle.mh_group.specs.declared.class.Class.TheVariants as class
 use Rattle.mh_group.specs.Table.{is_stream}
+use Rattle.mh_model.specs.declared.act.Act.{Act}
 use Rattle.mh_model.specs.declared.act.Argument.{Argument}
 use Rattle.mh_model.specs.declared.act.Argument.TheVariants as argument
 use Rattle.mh_model.specs.declared.config.Config.{Config}
@@ -38,12 +39,12 @@ use Rattle.mh_laws.specs.Flow.{Flow, reached}
 use Rattle.mh_laws.specs.Layers.{costs as costs_of}
 use Rattle.mh_never.specs.Never.{AllPutLiving, IsClosed, ItemsPutLiving, Living, PutsLiving, WaitingPutsLiving}
 use Rattle.mh_laws.specs.Price.{Nothing, Price, if_price}
-use Rattle.mh_never.specs.Running.{IsRunClosed, Runners}
+use Rattle.mh_never.specs.Running.{Doings, IsRunClosed, Runners, any_act}
 use Rattle.mh_laws.specs.Safe.{behind, config_of}
 use Rattle.mh_never.specs.Saying.{IsSaidClosed, Sayings}
 use Rattle.mh_laws.specs.Ways.{Sure, Unsure}
 use Rattle.mh_laws.proofs.EachLemmas.{among_each, among_joined, among_mapped, each_among, from_joined, from_mapped}
-use Rattle.mh_never.proofs.NeverLemmas.{never_put as law}
+use Rattle.mh_never.proofs.NeverLemmas.{never_others as law}
 use Rattle.mh_laws.proofs.NodeLemmas.{among_is}
 use Rattle.mh_laws.proofs.PriceLemmas.{nodes_if, nodes_map, nodes_most, nodes_sum}
 use Rattle.mh_alive.specs.Alive.{Alive, InEachRun, IsAliveOf, is_other, never_put}
@@ -115,7 +116,7 @@ record SetHere (v : Service) (w : Flow) (t : TimerKey) : Type 0 where
   among : reached w config ≡ true
   there : Among (set_in v w config) (record { at = group_ref t.0; id = t.1 })
 
-set_one : (n : ActionName) (xs : List Argument) (rs : List ObjRef) (t : TimerKey) → Among (set_with n xs rs) t → Among (set_to n xs rs) (record { at = group_ref t.0; id = t.1 })
+pub set_one : (n : ActionName) (xs : List Argument) (rs : List ObjRef) (t : TimerKey) → Among (set_with n xs rs) t → Among (set_to n xs rs) (record { at = group_ref t.0; id = t.1 })
 set_one action.SetTimer (argument.Direct (value.Int id) ∷ x ∷ more) rs t h =
     let r = from_mapped (λ (q : ObjRef). (q.group, id)) rs t h in
     subst (λ (y : TimerKey). Among (map (λ (q : ObjRef). timer q id) rs) (record { at = group_ref y.0; id = y.1 })) r.2 (among_mapped (λ (q : ObjRef). timer q id) rs r.0 r.1)
@@ -176,19 +177,26 @@ all_run r = true
 abbrev pub all_say : Sayings
 all_say e = true
 
-run_all : (v : Service) (w : Flow) → IsRunClosed v w all_run
-run_all v w = record {
+pub run_any : (v : Service) (w : Flow) (comes : Doings) → IsRunClosed v w comes all_run
+run_any v w comes = record {
   first = λ c among p there active. refl;
-  acts = λ c among x there runs r comes. refl;
+  acts = λ c among x there may runs r comes. refl;
   lists = λ c among r q list has. refl;
   tokens = λ c among p there group. among_each (λ m. all_run m.object ≡ true) _ (λ m h. refl);
 }
 
-say_all : (v : Service) (w : Flow) → IsSaidClosed v w all_say
+say_all : (v : Service) (w : Flow) → IsSaidClosed v w any_act all_say
 say_all v w = record {
   usual = λ r kind d h. refl;
-  sent = λ c among x there sends y n more are kind numbered r d known. refl;
+  sent = λ c among x there may sends y n more are kind numbered r d known. refl;
+  timers = λ c among x there may t set. refl;
+  keys = λ c among p there scene x passed. refl;
+  registers = λ c among x there may sets n given r may_be y passed. refl;
 }
+
+all_any : (c : Config) (e : List Act) → list_all (any_act c) e ≡ true
+all_any c [] = refl
+all_any c (x ∷ e) = all_any c e
 
 start_reached : (most : ℕ) (v : Service) (k : IsAccepted most v) → reached k.flow (starting v) ≡ true
 start_reached most v k = ((k.acceptable).solution).start
@@ -234,7 +242,7 @@ weaker_wait v w f lives others follows (waiting.Input i) h = tt
 pub unput : (most : ℕ) (v : Service) (k : IsAccepted most v) (a : Alive) (r : ObjRef) → IsAliveOf v k.flow a → never_put a r ≡ true
     → InEachRun v (AllPutLiving v k.flow (costs_of v k.flow k.rank) (is_other r))
 unput most v k a r is never mjd fs ss ms s run =
-    let so = law most v k all_run (run_all v k.flow) all_say (say_all v k.flow) all_run (record { hears = λ c among p there runs e says hears. refl }) (lives_in a) (put_closed v k.flow a is (start_reached most v k)) mjd fs ss ms s run in
+    let so = (law most v k any_act all_run (run_any v k.flow any_act) all_say (say_all v k.flow) all_run (record { hears = λ c among p there runs e says hears. refl }) (lives_in a) (put_closed v k.flow a is (start_reached most v k)) (λ c p n on lives. all_any c (effect_at p n)) mjd fs ss ms s run).put in
     let follows = other_lives a r never in record {
       work = weaker_items v k.flow (costs_of v k.flow k.rank) (lives_in a) (is_other r) follows (config_of s) s.work so.work;
       queue = among_each (WaitingPutsLiving v k.flow (costs_of v k.flow k.rank) (is_other r)) s.queue

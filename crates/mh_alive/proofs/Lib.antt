@@ -7,3 +7,5 @@ pub mod ActLemmas
 pub mod InputLemmas
 pub mod GatheringLemmas
 pub mod ReachLemmas
+pub mod SettleLemmas
+pub mod HearLemmas

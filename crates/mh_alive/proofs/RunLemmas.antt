@@ -28,7 +28,7 @@ use Rattle.mh_laws.specs.Costs.{targets}
 use Rattle.mh_laws.specs.Describing.{can_put}
 use Rattle.mh_laws.specs.Each.{Among}
 use Rattle.mh_laws.specs.Flow.{Flow, is_list_in, reached}
-use Rattle.mh_never.specs.Running.{IsOnlyIn, IsRunClosed, Runners, is_run_piece}
+use Rattle.mh_never.specs.Running.{IsOnlyIn, IsRunClosed, Runners, any_act, is_run_piece}
 use Rattle.mh_laws.proofs.EachLemmas.{among_each, among_joined, among_left, among_mapped, among_right, each_among, each_joined}
 use Rattle.mh_laws.proofs.NodeLemmas.{config_among, part_among}
 use Rattle.mh_never.proofs.RunningLemmas.{never_runs as law}
@@ -92,14 +92,14 @@ can_run_piece : (a : Act) → list_any is_run_piece (can_put a.name) ≡ true �
 unfolding can_run
 can_run_piece a h = h
 
-pub run_closed : (v : Service) (w : Flow) (a : Alive) → IsAliveOf v w a → IsRunClosed v w (runs_in a)
+pub run_closed : (v : Service) (w : Flow) (a : Alive) → IsAliveOf v w a → IsRunClosed v w any_act (runs_in a)
 run_closed v w a is = record {
   first = λ c among p there active.
       may_run v w a is c among p.key
       (with_there v w c p p.key there
       (among_left (first_run p ++ items_run (w.sets c) p) (members_run p) p.key
       (among_left (first_run p) (items_run (w.sets c) p) p.key (if_there (is_initially_active p) (p.key ∷ []) p.key active (inl refl)))));
-  acts = λ c among x there runs r comes.
+  acts = λ c among x there may runs r comes.
       may_run v w a is c among r
       (among_right (flat_map (run_with (w.sets c)) (present v c)) (flat_map (run_by (w.sets c)) (active_actions (present v c))) r
       (among_joined (run_by (w.sets c)) (active_actions (present v c)) x r there

@@ -27,19 +27,22 @@ use Rattle.mh_laws.specs.Active.{active_actions}
 use Rattle.mh_laws.specs.Costs.{data_sent}
 use Rattle.mh_laws.specs.Each.{Among}
 use Rattle.mh_laws.specs.Flow.{Flow}
-use Rattle.mh_never.specs.Saying.{IsSaidClosed, IsSaidIn, IsWaitIn, Sayings, is_key_number, is_usual}
+use Rattle.mh_model.specs.declared.key.Key.{Key}
+use Rattle.mh_model.specs.declared.key.Key.TheVariants as key
+use Rattle.mh_never.specs.Running.{any_act}
+use Rattle.mh_never.specs.Saying.{IsSaidClosed, IsSaidIn, IsWaitIn, Sayings, is_usual}
 use Rattle.mh_laws.specs.Ways.{IsKnown, Told, Sure, Unsure}
 use Rattle.mh_laws.proofs.EachLemmas.{among_joined, each_among}
 use Rattle.mh_laws.proofs.NodeLemmas.{config_among}
-use Rattle.mh_never.proofs.SayingLemmas.{key_known, never_says as law}
+use Rattle.mh_never.proofs.SaidLemmas.{never_says as law}
 use Rattle.mh_model.specs.Key.{key_number}
 use Rattle.mh_model.specs.Step.{engine_event, key_event}
 use Rattle.mh_alive.specs.declared.sendings.Sending.{Sending}
 use Rattle.mh_alive.specs.Alive.{Alive, InEachRun, IsAliveOf, IsUnsaid, never_says}
-use Rattle.mh_alive.specs.Sendings.{is_sent, may_say, same_sending, sending_of, sending_with, sent, sent_by, sent_in}
+use Rattle.mh_alive.specs.Sendings.{is_counted, is_key_number, is_sent, may_say, same_sending, sending_of, sending_with, sent, sent_by, sent_in}
 use Rattle.mh_alive.proofs.SetLemmas.{or_first, or_second, put_there}
 
-sending_itself : (x : Sending) → same_sending x x ≡ true
+pub sending_itself : (x : Sending) → same_sending x x ≡ true
 sending_itself x = both_true (both_true ((Decides-eqb x.kind x.kind).1 refl) ((Decides-eqb x.sort x.sort).1 refl)) ((Decides-int_eq x.number x.number).1 refl)
 
 abbrev pub says_in : Alive → Sayings
@@ -48,7 +51,7 @@ says_in a e = may_say a.sent e.kind e.data
 is_sending_event : (n : ActionName) → n ≡ action.SendEvent → is_sending n ≡ true
 is_sending_event n e = ap is_sending e
 
-sent_here : (x : Act) (y : Argument) (n : ℤ) (more : List Argument) (kind : EventType) → x.name ≡ action.SendEvent
+pub sent_here : (x : Act) (y : Argument) (n : ℤ) (more : List Argument) (kind : EventType) → x.name ≡ action.SendEvent
     → x.arguments ≡ y ∷ argument.Direct (value.Int n) ∷ more → event_numbered n ≡ Some kind → Among (sent_by x) (sending_of (number_of kind) (data_sent more))
 sent_here x y n more kind sends are numbered =
     subst (λ (b : Bool). Among (if b then sending_with x.arguments else []) one) (sym (is_sending_event x.name sends))
@@ -58,11 +61,23 @@ sent_here x y n more kind sends are numbered =
     one : Sending
     one = sending_of (number_of kind) (data_sent more)
 
-pub said_closed : (v : Service) (w : Flow) (a : Alive) → IsAliveOf v w a → IsSaidClosed v w (says_in a)
+pub key_known : (x : Key) → is_key_number (key_number x) ≡ true
+key_known key.Up = refl
+key_known _ = refl
+
+usual_counted : (kind : EventType) (d : Option Value) → is_usual kind d ≡ true → is_counted kind d ≡ true
+usual_counted event.TimerFired d h = absurd cc
+usual_counted event.UserInput d h = absurd cc
+usual_counted _ d h = h
+
+pub said_closed : (v : Service) (w : Flow) (a : Alive) → IsAliveOf v w a → IsSaidClosed v w any_act (says_in a)
 said_closed v w a is = record {
-  usual = λ r kind d h. or_first (is_usual kind d) (is_sent a.sent kind d) h;
-  sent = λ c among x there sends y n more are kind numbered r d known.
-      or_second (is_usual kind d) (is_sent a.sent kind d)
+  usual = λ r kind d h. or_first (is_counted kind d) (is_sent a.sent kind d) (usual_counted kind d h);
+  timers = λ c among x there may t set. refl;
+  keys = λ c among p there scene x passed. or_first (is_key_number (key_number x)) (is_sent a.sent event.UserInput (Some (value.Int (key_number x)))) (key_known x);
+  registers = λ c among x there may sets n given r may_be y passed. or_first (is_key_number (key_number y)) (is_sent a.sent event.UserInput (Some (value.Int (key_number y)))) (key_known y);
+  sent = λ c among x there may sends y n more are kind numbered r d known.
+      or_second (is_counted kind d) (is_sent a.sent kind d)
       (by kind d (data_sent more) known
       (subst (λ (ss : List Sending). list_any (same_sending (sending_of (number_of kind) (data_sent more))) ss ≡ true) (sym is.sent)
       (put_there same_sending sending_itself [] (sent v w) (sending_of (number_of kind) (data_sent more))

@@ -37,7 +37,7 @@ comes same k ks self = by (list_any (same k) ks) refl
     by true e = e
     by false e = list_any-append (same k) ks (k ∷ []) ∙ or_second (list_any (same k) ks) (list_any (same k) (k ∷ [])) (or_first (same k k) false self)
 
-all_stay : {K : Type 0} (same : K → K → Bool) (x : K) (ks ys : List K) → list_any (same x) ks ≡ true → list_any (same x) (insert_all same ks ys) ≡ true
+pub all_stay : {K : Type 0} (same : K → K → Bool) (x : K) (ks ys : List K) → list_any (same x) ks ≡ true → list_any (same x) (insert_all same ks ys) ≡ true
 all_stay same x ks [] h = h
 all_stay same x ks (y ∷ ys) h = all_stay same x (insert_key same ks y) ys (stays same x y ks h)
 

@@ -5,7 +5,6 @@ use Rattle.indexmap.specs.IndexSet.{insert_all}
 use Rattle.mh_base.specs.declared.event.EventType.{EventType}
 use Rattle.mh_base.specs.declared.obj_ref.ObjRef.{ObjRef}
 use Rattle.mh_base.specs.declared.value.Value.{Value}
-use Rattle.mh_group.specs.Table.{is_link}
 use Rattle.mh_model.specs.declared.event.Event.{Event}
 use Rattle.mh_model.specs.declared.file.File.{File}
 use Rattle.mh_model.specs.declared.input.Move.{Move}
@@ -16,9 +15,10 @@ use Rattle.mh_model.specs.declared.object.Fixed.{Fixed}
 use Rattle.mh_model.specs.declared.object.Object.{Object}
 use Rattle.mh_model.specs.declared.program.Signature.{Signature}
 use Rattle.mh_model.specs.declared.time.Timer.{Timer}
+use Rattle.mh_model.specs.Configuration.{present}
 use Rattle.mh_model.specs.Receiver.{IsRun, anything}
 use Rattle.mh_model.specs.Reference.{group_ref, same_key}
-use Rattle.mh_model.specs.Service.{Service, parts}
+use Rattle.mh_model.specs.Service.{Service}
 use Rattle.mh_model.specs.State.{State, all}
 use Rattle.mh_model.specs.Step.{engine_event, key_event}
 use Rattle.mh_model.specs.Time.{timer_event}
@@ -103,17 +103,18 @@ pub record IsUnsaid (kind : EventType) (d : Option Value) (s : State) : Type 0 w
 abbrev pub IsUnheard : Fixed → Event → Type 0
 IsUnheard p e = can_hear e p ≡ false
 
--- The link at the reference hears nothing that can come next: no event among what will be done or among what waits, none of a
--- timer, no key that the register of the scene lets through, and no number of the engine.
-pub record IsDeaf (r : ObjRef) (s : State) (p : Fixed) : Type 0 where
+-- It hears nothing that can come next: no event among what will be done or among what waits, none of a timer that is set, no key
+-- that the register of the scene lets through, and no number of the engine.
+pub record IsDeaf (p : Fixed) (s : State) : Type 0 where
   pub work : (e : Event) → Among s.work (item.Emit e) → IsUnheard p e
   pub queue : (e : Event) → Among s.queue (waiting.Event e) → IsUnheard p e
   pub timers : (t : Timer) → Among s.timers t → IsUnheard p (timer_event t)
   pub keys : (x : Key) (g : List ℕ) → s.scene ≡ Some g → hears_key s g x ≡ true → IsUnheard p (key_event x (group_ref g))
   pub engine : (n : ℤ) → IsUnheard p (engine_event n s.application)
 
-abbrev pub AllDeaf : ObjRef → State → Type 0
-AllDeaf r s = (p : Fixed) → Among (parts (all s.objects)) p → p.key ≡ r → is_link p.class ≡ true → IsDeaf r s p
+-- and so it is with what the files say is present at the reference
+abbrev pub IsDeafAt : Service → ObjRef → State → Type 0
+IsDeafAt v r s = (p : Fixed) → Among (present v (config_of s)) p → p.key ≡ r → IsDeaf p s
 
 -- all effects but that of the link at the reference
 abbrev pub is_other : ObjRef → Effect → Bool

@@ -26,7 +26,7 @@ use Rattle.mh_alive.specs.declared.registers.Register.{Register}
 use Rattle.mh_alive.specs.declared.sendings.Sending.{Sending}
 use Rattle.mh_alive.specs.declared.settings.Setting.{Setting}
 use Rattle.mh_alive.specs.declared.tellings.SetTimer.{SetTimer}
-use Rattle.mh_alive.specs.Registers.{is_let, registers, same_register}
+use Rattle.mh_alive.specs.Registers.{choice_of, is_let, registers, same_register}
 use Rattle.mh_alive.specs.Sendings.{same_sending, sent}
 use Rattle.mh_alive.specs.Tellings.{same_timer, set_by}
 use Rattle.mh_alive.specs.Timers.{Timers, is_timed, timers_with}
@@ -65,7 +65,7 @@ sends ss kind = list_any (λ (s : Sending). s.kind == number_of kind) ss
 -- a timer or a key comes, for a link that names this data; all else is not told apart here
 abbrev pub may_sound : Ears → ObjRef → EventType → Option Value → Bool
 may_sound x r event.TimerFired d = sends x.sent event.TimerFired || is_timed x.timers r d
-may_sound x r event.UserInput d = sends x.sent event.UserInput || is_let x.registers r d
+may_sound x r event.UserInput d = sends x.sent event.UserInput || is_let (choice_of x.registers r) d
 may_sound x r _ d = true
 
 abbrev pub may_listen : Ears → Option Value → Option EventType → Option Value → Bool

@@ -21,6 +21,7 @@ use Rattle.mh_model.specs.Service.{Service}
 use Rattle.mh_laws.specs.Active.{active_actions}
 use Rattle.mh_laws.specs.Flow.{Flow, Sets}
 use Rattle.mh_never.specs.Saying.{first_register}
+use Rattle.mh_alive.specs.declared.registers.Choice.{Choice}
 use Rattle.mh_alive.specs.declared.registers.Register.{Register}
 use Rattle.mh_alive.specs.There.{comes_to}
 
@@ -64,21 +65,25 @@ registers v w = flat_map (registers_in v w) w.configs
 abbrev pub has_register : List Register → ObjRef → ℤ → Bool
 has_register gs r n = list_any (same_register (record { at = r; number = n })) gs
 
--- one of them, of the scene, lets the key through
-abbrev pub lets : List Register → ObjRef → Key → Bool
-lets gs r x = has_register gs r (pos 4) || (has_register gs r (pos 5) && passes (pos 5) x) || (has_register gs r (pos 3) && passes (pos 3) x)
+-- which of them the scene may have
+abbrev pub choice_of : List Register → ObjRef → Choice
+choice_of gs r = record { all = has_register gs r (pos 4); no_digits = has_register gs r (pos 5); colours = has_register gs r (pos 3) }
 
-unfoldable pub lets_any : List Register → ObjRef → Bool
-lets_any gs r = list_any (lets gs r) keys
+-- one of them lets the key through
+abbrev pub lets : Choice → Key → Bool
+lets c x = c.all || c.no_digits && passes (pos 5) x || c.colours && passes (pos 3) x
 
-abbrev pub lets_numbered : List Register → ObjRef → ℤ → Key → Bool
-lets_numbered gs r n x = int_eq (key_number x) n && lets gs r x
+unfoldable pub lets_any : Choice → Bool
+lets_any c = list_any (lets c) keys
 
-unfoldable pub lets_number : List Register → ObjRef → ℤ → Bool
-lets_number gs r n = list_any (lets_numbered gs r n) keys
+abbrev pub lets_numbered : Choice → ℤ → Key → Bool
+lets_numbered c n x = int_eq (key_number x) n && lets c x
+
+unfoldable pub lets_number : Choice → ℤ → Bool
+lets_number c n = list_any (lets_numbered c n) keys
 
 -- a key comes of the scene, for a link that names this data
-abbrev pub is_let : List Register → ObjRef → Option Value → Bool
-is_let gs r None = lets_any gs r
-is_let gs r (Some (value.Int n)) = lets_number gs r n
-is_let gs r (Some v) = false
+abbrev pub is_let : Choice → Option Value → Bool
+is_let c None = lets_any c
+is_let c (Some (value.Int n)) = lets_number c n
+is_let c (Some v) = false

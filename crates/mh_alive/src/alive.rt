@@ -12,9 +12,10 @@ ghost use Rattle.mh_never.specs.Never.{AllPutLiving};
 ghost use Rattle.mh_model.specs.Reference.{same_key};
 ghost use Rattle.mh_flow.specs.Solved.{IsFlowOf, flow_in};
 ghost use Rattle.mh_alive.specs.Alive as spec;
-ghost use Rattle.mh_alive.specs.Alive.{InEachRun, IsAliveOf, IsStill, IsUnsaid, is_other};
+ghost use Rattle.mh_alive.specs.Alive.{InEachRun, IsAliveOf, IsDeafAt, IsStill, IsUnsaid, is_other};
 
 use crate::gathering::{Gathered, gather};
+use crate::hearing::hearers_of;
 use crate::puts::web_of;
 use crate::sendings::{Sending, may_say};
 use indexmap::IndexSet;
@@ -29,6 +30,7 @@ pub struct Alive {
     runners: IndexSet<ObjRef>,
     sent: IndexSet<Sending>,
     puts: IndexSet<ObjRef>,
+    hearers: IndexSet<ObjRef>,
 }
 
 impl Model for Alive {
@@ -36,7 +38,7 @@ impl Model for Alive {
 
     ghost Value = { AliveValue };
 
-    ghost view = { λ a. record { runners = a.runners.keys; sent = a.sent.keys; puts = a.puts.keys } };
+    ghost view = { λ a. record { runners = a.runners.keys; sent = a.sent.keys; puts = a.puts.keys; hearers = a.hearers.keys } };
 }
 
 /// What may come to be in runs of the service, by its flow.
@@ -62,13 +64,17 @@ fn alive_with(
         sent,
         told,
         timers,
+        settings,
+        registers,
     } = gathered;
+    let hearers = hearers_of(alloc, service, &sent, &registers, settings)?;
     let web = web_of(alloc, told, timers)?;
     let puts = web.puts(alloc, service)?;
     Ok(Alive {
         runners,
         sent,
         puts,
+        hearers,
     })
 }
 
@@ -118,5 +124,21 @@ impl Alive {
         ensures { result ≡ spec.never_put self.now at.now }
     {
         !self.puts.contains(at)
+    }
+
+    /// Whether the link never hears what it waits for: no timer that it waits for is ever set, or no register of the scene lets its
+    /// key through.
+    pub fn never_hears(&self, at: &ObjRef) -> bool
+        ensures exact { result ≡ spec.never_hears self.now at.now }
+        ensures law { result ≡ true → (most v : _) → (k : IsAccepted most v) → IsAliveOf v k.flow self.now →
+            InEachRun v (IsDeafAt v at.now) }
+    {
+        self.is_deaf(at)
+    }
+
+    fn is_deaf(&self, at: &ObjRef) -> bool
+        ensures { result ≡ spec.never_hears self.now at.now }
+    {
+        !self.hearers.contains(at)
     }
 }

@@ -7,10 +7,12 @@ ghost use Rattle.mh_model.specs.Configuration.{present};
 ghost use Rattle.mh_alive.specs.Gathering as spec;
 ghost use Rattle.mh_alive.specs.There.{sets_there};
 
+use crate::registers::Register;
 use crate::sendings::Sending;
+use crate::settings::Setting;
 use crate::tellings::{SetTimer, Telling};
 use crate::there::There;
-use crate::{runners, sendings, tellings, timers};
+use crate::{registers, runners, sendings, settings, tellings, timers};
 use indexmap::IndexSet;
 use mh_base::ObjRef;
 use mh_flow::sites::sites_of;
@@ -19,13 +21,15 @@ use mh_model::{Config, FixedPart};
 use std::alloc::{AllocError, Global};
 use std::marker::Model;
 
-/// What may run, what is sent, what is told, and which timers are set.
+/// What may run, what is sent, what is told, which timers are set and by what, and which registers scenes may have.
 #[derive(Drop)]
 pub(crate) struct Gathered {
     pub runners: IndexSet<ObjRef>,
     pub sent: IndexSet<Sending>,
     pub told: IndexSet<Telling>,
     pub timers: IndexSet<SetTimer>,
+    pub settings: Vec<Setting>,
+    pub registers: IndexSet<Register>,
 }
 
 impl Model for Gathered {
@@ -38,6 +42,8 @@ impl Model for Gathered {
       sent = g.sent.keys;
       told = g.told.keys;
       timers = g.timers.keys;
+      settings = g.settings.items;
+      registers = g.registers.keys;
     } };
 }
 
@@ -50,15 +56,24 @@ impl Gathered {
             sent: IndexSet::new(alloc),
             told: IndexSet::new(alloc),
             timers: IndexSet::new(alloc),
+            settings: Vec::new(alloc),
+            registers: IndexSet::new(alloc),
         }
     }
 
-    /// What these objects tell and run of themselves.
-    fn put_parts(&mut self, there: &There<'_>, parts: &[FixedPart]) -> Result<(), AllocError>
-        ensures { OnOk result (self.new ≡ spec.with_parts (sets_there there.now) self.old parts.now) }
+    /// What these objects tell and run of themselves, their registers, and the timers that their effects set.
+    fn put_parts(
+        &mut self,
+        alloc: Global,
+        there: &There<'_>,
+        parts: &[FixedPart],
+    ) -> Result<(), AllocError>
+        ensures { OnOk result (self.new ≡ spec.with_parts (sets_there there.now) there.now.present self.old parts.now) }
     {
         runners::put_parts(&mut self.runners, there, parts)?;
-        tellings::put_parts(&mut self.told, parts)
+        tellings::put_parts(&mut self.told, parts)?;
+        settings::push_parts(alloc, &mut self.settings, there, parts)?;
+        registers::put_parts(&mut self.registers, parts)
     }
 
     /// What the actions at these sites do.
@@ -68,7 +83,8 @@ impl Gathered {
         runners::put_sites(&mut self.runners, there, sites)?;
         sendings::put_sites(&mut self.sent, sites)?;
         tellings::put_sites(&mut self.told, there, sites)?;
-        timers::put_sites(&mut self.timers, there, sites)
+        timers::put_sites(&mut self.timers, there, sites)?;
+        registers::put_sites(&mut self.registers, there, sites)
     }
 
     /// What there is where these are present and hold this.
@@ -84,8 +100,8 @@ impl Gathered {
         let (application, scene) = present.parts();
         let sites = sites_of(alloc, present)?;
         let there = There { present, held };
-        self.put_parts(&there, application)?;
-        self.put_parts(&there, scene)?;
+        self.put_parts(alloc, &there, application)?;
+        self.put_parts(alloc, &there, scene)?;
         self.put_sites(&there, sites.as_slice())?;
         Ok(())
     }

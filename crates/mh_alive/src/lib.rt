@@ -7,11 +7,15 @@
 
 mod alive;
 mod gathering;
+mod hearing;
 mod law;
 mod puts;
 mod references;
+mod registers;
 mod runners;
 mod sendings;
+mod set_timers;
+mod settings;
 mod tellings;
 mod there;
 mod timers;

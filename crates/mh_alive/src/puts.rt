@@ -1,15 +1,17 @@
 //! Which links may be put to work.
 //!
 //! Promise: each function answers, or gathers, what the definition of the same name says.
-ghost use Rattle.std.specs.Prelude.{◌≡◌, ◌&&◌, ◌∷◌, [], Some, map, IfOk, OnOk};
+ghost use Rattle.std.specs.Prelude.{◌≡◌, ◌&&◌, ◌∷◌, [], IfOk, OnOk};
 ghost use Rattle.std.specs.List.{flat_map, list_any};
 ghost use Rattle.std.specs.Option.{option_copied};
 ghost use Rattle.indexmap.specs.IndexSet.{insert_all};
 ghost use Rattle.mh_model.specs.Reference.{same_key};
 ghost use Rattle.mh_alive.specs.Puts as spec;
 ghost use Rattle.mh_alive.specs.Tellings.{same_telling, telling as telling_lem};
+ghost use Rattle.mh_alive.specs.Timers.{is_timed};
 
 use crate::references::put;
+use crate::set_timers::{Timers, timers_with};
 use crate::tellings::{SetTimer, Telling, one_telling};
 use indexmap::IndexSet;
 use mh_base::{EventType, ObjRef, Value};
@@ -20,12 +22,11 @@ use mh_model::{Fixed, FixedPart};
 use std::alloc::{AllocError, Global};
 use std::marker::Model;
 
-/// What may come of which objects, the timers that can be set, and the groups that have one.
+/// What may come of which objects, and the timers that can be set.
 #[derive(Drop)]
 pub(crate) struct Web {
     pub told: IndexSet<Telling>,
-    pub timers: IndexSet<SetTimer>,
-    pub timed: IndexSet<ObjRef>,
+    pub timers: Timers,
 }
 
 impl Model for Web {
@@ -33,7 +34,7 @@ impl Model for Web {
 
     ghost Value = { WebValue };
 
-    ghost view = { λ w. record { told = w.told.keys; timers = w.timers.keys; timed = w.timed.keys } };
+    ghost view = { λ w. record { told = w.told.keys; timers = w.timers } };
 }
 
 /// What may come, where this is told and these timers are set.
@@ -44,23 +45,8 @@ pub(crate) fn web_of(
 ) -> Result<Web, AllocError>
     ensures { IfOk result (λ web. web ≡ spec.web_with told.keys timers.keys) }
 {
-    let timed = timed(alloc, timers.as_slice())?;
-    Ok(Web {
-        told,
-        timers,
-        timed,
-    })
-}
-
-/// The groups that have one of these timers.
-fn timed(alloc: Global, timers: &[SetTimer]) -> Result<IndexSet<ObjRef>, AllocError>
-    ensures { IfOk result (λ timed. timed.keys ≡ insert_all same_key [] (map (λ t. t.at) timers.now)) }
-{
-    let mut timed = IndexSet::new(alloc);
-    for timer in timers {
-        put(&mut timed, &timer.at)?;
-    }
-    Ok(timed)
+    let timers = timers_with(alloc, timers)?;
+    Ok(Web { told, timers })
 }
 
 /// Whether events of this type are counted on of each object that can have them.
@@ -91,27 +77,6 @@ impl Web {
         Ok(self.told.contains(&wanted))
     }
 
-    fn has_timer(&self, at: &ObjRef, id: i32) -> Result<bool, AllocError>
-        ensures { IfOk result (λ timed. timed ≡ spec.is_timed self.now at.now (Some (Value.Int id))) }
-    {
-        let wanted = SetTimer {
-            at: at.clone()?,
-            id,
-        };
-        Ok(self.timers.contains(&wanted))
-    }
-
-    /// Whether a timer of the group is set, with the id if one is named.
-    fn is_timed(&self, at: &ObjRef, value: Option<&Value>) -> Result<bool, AllocError>
-        ensures { IfOk result (λ timed. timed ≡ spec.is_timed self.now at.now (option_copied value.entry)) }
-    {
-        match value {
-            None => Ok(self.timed.contains(at)),
-            Some(Value::Int(id)) => self.has_timer(at, *id),
-            _ => Ok(false),
-        }
-    }
-
     fn is_timer_of(
         &self,
         at: &ObjRef,
@@ -119,10 +84,10 @@ impl Web {
         value: Option<&Value>,
     ) -> Result<bool, AllocError>
         ensures { IfOk result (λ timed. timed
-            ≡ (spec.is_timer kind && spec.is_timed self.now at.now (option_copied value.entry))) }
+            ≡ (spec.is_timer kind && is_timed self.now.timers at.now (option_copied value.entry))) }
     {
         if is_timer(kind) {
-            self.is_timed(at, value)
+            self.timers.is_timed(at, value)
         } else {
             Ok(false)
         }

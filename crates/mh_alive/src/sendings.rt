@@ -177,7 +177,7 @@ pub(crate) fn put_sites(sent: &mut IndexSet<Sending>, sites: &[Site<'_>]) -> Res
 }
 
 fn is_key_number(number: i32) -> bool
-    ensures { result ≡ saying.is_key_number number }
+    ensures { result ≡ spec.is_key_number number }
 {
     match u32::try_from(number) {
         Ok(number) => 1 <= number && number <= 16 || 100 <= number && number <= 104,
@@ -185,9 +185,9 @@ fn is_key_number(number: i32) -> bool
     }
 }
 
-/// Whether an event of this type comes with the data where no action sends it.
-fn is_usual(kind: EventType, value: Option<&Value>) -> bool
-    ensures { result ≡ saying.is_usual kind (option_copied value.entry) }
+/// Whether an event of this type is counted on with the data where no action sends it.
+fn is_counted(kind: EventType, value: Option<&Value>) -> bool
+    ensures { result ≡ spec.is_counted kind (option_copied value.entry) }
 {
     match kind {
         EventType::TestEvent | EventType::FirstItemPresented | EventType::LastItemPresented => {
@@ -208,7 +208,7 @@ fn is_usual(kind: EventType, value: Option<&Value>) -> bool
 }
 
 fn is_key_data(value: Option<&Value>) -> bool
-    ensures { result ≡ saying.is_key_data (option_copied value.entry) }
+    ensures { result ≡ spec.is_key_data (option_copied value.entry) }
 {
     match value {
         Some(Value::Int(number)) => is_key_number(*number),
@@ -243,5 +243,5 @@ fn is_sent(sent: &IndexSet<Sending>, kind: EventType, value: Option<&Value>) -> 
 pub(crate) fn may_say(sent: &IndexSet<Sending>, kind: EventType, value: Option<&Value>) -> bool
     ensures { result ≡ spec.may_say sent.now.keys kind (option_copied value.entry) }
 {
-    is_usual(kind, value) || is_sent(sent, kind, value)
+    is_counted(kind, value) || is_sent(sent, kind, value)
 }

@@ -19,7 +19,7 @@ use mh_model::{Act, Argument};
 use std::alloc::AllocError;
 
 /// The timer of the object's group with this id.
-fn timer(at: &ObjRef, id: i32) -> Result<SetTimer, AllocError>
+pub(crate) fn timer(at: &ObjRef, id: i32) -> Result<SetTimer, AllocError>
     ensures { IfOk result (λ one. one ≡ spec.timer at.now id) }
 {
     let at = group_ref(&at.group)?;

@@ -9,5 +9,5 @@ use Rattle.mh_alive.proofs.puts.Web.puts.Goals as goal
 pub loop-parts-init : goal.loop-parts-init
 loop-parts-init c =
     let x = c.args.self.now in
-    let all = ap (flat_map (puts_of x)) (c.into_iter-parts-iterator.ensures.into_iter_gives ∙ c.values-parts-items.ensures.rest) ∙ groups_joined x c.groups.result.now.entries ∙ ap (flat_map (λ g. puts_of x g.1)) c.groups.ensures.entries in
+    let all = ap (flat_map (puts_of x)) (c.into_iter-parts-iterator.ensures.into_iter_gives ∙ c.values-parts-items.ensures.rest) ∙ groups_joined (puts_of x) c.groups.result.now.entries ∙ ap (flat_map (λ g. puts_of x g.1)) c.groups.ensures.entries in
     λ i. insert_all same_key (c.new-puts.ensures.empty i) (all i)
