@@ -1,7 +1,7 @@
 -- Who listens to what: what is found by numbers is what waits by name.
 use Rattle.std.specs.Prelude.{◌≡◌, ◌⊎◌, ℕ, zero, suc, ◌+◌, ◌<◌, Bool, true, false, ◌&&◌, cond, ◌==◌, drop, filter, length, List, [], ◌∷◌, ◌++◌, map, slice_get, position, unwrap_or, option_and_then, nat_eq, Option, Some, None, refl}
 use Rattle.std.specs.List.{find, flat_map, list_any}
-use Rattle.std.specs.Map.{nodes_in, lookup}
+use Rattle.std.specs.Map.{keys_of, lookup}
 use Rattle.std.specs.Option.{option_eq, option_map, option_map_or, option_to_list}
 use Rattle.std.specs.Str.{bytes_eq}
 use Rattle.std.specs.Cmp.Lexicographic.{nat_list_eq_equiv}
@@ -125,7 +125,7 @@ abbrev parts_in : Groups → List ℕ → List Fixed
 parts_in gs g = unwrap_or (option_map (λ e. e.1) (find (λ e. bytes_eq e.0 g) gs)) []
 
 abbrev pub group_number : Groups → List ℕ → Option ℕ
-group_number gs g = position (bytes_eq g) (nodes_in gs)
+group_number gs g = position (bytes_eq g) (keys_of gs)
 
 pub parts_among : (gs : Groups) (g : List ℕ) (p : Fixed) → Among (parts_in gs g) p → Among (all_of gs) p
 parts_among [] g p there = absurd cc
@@ -144,7 +144,7 @@ by_number [] g = refl
 by_number (e ∷ gs) g =
     (λ i. cond (nat_list_eq_equiv.symm e.0 g i) (Some e) (by_number gs g i))
     ∙ by (bytes_eq g e.0) (group_number gs g)
-    ∙ ap (option_and_then (slice_get (e ∷ gs))) (sym (position_next (bytes_eq g) e.0 (nodes_in gs)))
+    ∙ ap (option_and_then (slice_get (e ∷ gs))) (sym (position_next (bytes_eq g) e.0 (keys_of gs)))
   where
     by : (b : Bool) (o : Option ℕ) → cond b (Some e) (option_and_then (slice_get gs) o) ≡ option_and_then (slice_get (e ∷ gs)) (cond b (Some 0) (option_map suc o))
     by true o = refl
