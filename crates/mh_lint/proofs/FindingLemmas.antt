@@ -18,14 +18,15 @@ use Rattle.mh_laws.specs.Safe.{config_of}
 use Rattle.mh_laws.proofs.EachLemmas.{among_each, from_joined}
 use Rattle.mh_laws.proofs.NodeLemmas.{config_among}
 use Rattle.mh_flow.specs.Index.{is_entered}
-use Rattle.mh_alive.specs.Alive.{Alive, InEachRun, IsAliveOf, never_put, never_runs, never_says}
+use Rattle.mh_alive.specs.Alive.{Alive, InEachRun, IsAliveOf, never_hears, never_put, never_runs, never_says}
+use Rattle.mh_alive.proofs.HearLemmas.{deaf as deaf_law}
 use Rattle.mh_alive.proofs.InputLemmas.{unput as unput_law}
 use Rattle.mh_alive.proofs.ReachLemmas.{stays_reached}
 use Rattle.mh_alive.proofs.RunLemmas.{still}
 use Rattle.mh_alive.proofs.SayLemmas.{unsaid as unsaid_law}
 use Rattle.mh_lint.specs.declared.finding.Finding.{Finding}
 use Rattle.mh_lint.specs.declared.finding.Finding.TheVariants as finding
-use Rattle.mh_lint.specs.Findings.{all_of, all_of_link, beyond, found_of, findings, idle, is_unreached, of_group, of_link, or_unput, root_of, unput, unsaid, waits_beyond}
+use Rattle.mh_lint.specs.Findings.{all_of, all_of_link, beyond, found_of, findings, idle, is_unreached, of_group, of_link, or_unmoved, root_of, unmoved, unsaid, waits_beyond}
 use Rattle.mh_lint.specs.Laws.{FindingsNeverHappen, IsOutside, NeverHappens}
 
 pub groups_joined : {X : Type 0} (f : List Fixed → List X) (gs : List (List ℕ × List Fixed)) → flat_map f (map (λ g. g.1) gs) ≡ flat_map (λ g. f g.1) gs
@@ -64,21 +65,23 @@ unsaid_never most v k a is p (Some kind) (Some x) f e = by (never_says a kind (S
 unsaid_never most v k a is p (Some kind) None f e = absurd cc
 unsaid_never most v k a is p None d f e = absurd cc
 
-unput_never : (most : ℕ) (v : Service) (k : IsAccepted most v) (a : Alive) → IsAliveOf v k.flow a → (p : Fixed) (f : Finding) → Among (option_to_list (unput a p)) f → NeverHappens most v k f
-unput_never most v k a is p f h = by (never_put a p.key) refl h
+unmoved_never : (most : ℕ) (v : Service) (k : IsAccepted most v) (a : Alive) → IsAliveOf v k.flow a → (p : Fixed) (f : Finding) → Among (option_to_list (unmoved a p)) f → NeverHappens most v k f
+unmoved_never most v k a is p f h = by (never_put a p.key) (never_hears a p.key) refl refl h
   where
-    by : (b : Bool) → never_put a p.key ≡ b → Among (option_to_list (if b then Some (finding.Unput p.key) else None)) f → NeverHappens most v k f
-    by true never (inl same) = subst (NeverHappens most v k) same (unput_law most v k a p.key is never)
-    by true never (inr more) = absurd cc
-    by false never h = absurd cc
+    by : (b d : Bool) → never_put a p.key ≡ b → never_hears a p.key ≡ d → Among (option_to_list (if b then Some (finding.Unput p.key) else (if d then Some (finding.Unheard p.key) else None))) f → NeverHappens most v k f
+    by true d never deaf (inl same) = subst (NeverHappens most v k) same (unput_law most v k a p.key is never)
+    by true d never deaf (inr more) = absurd cc
+    by false true never deaf (inl same) = subst (NeverHappens most v k) same (deaf_law most v k a p.key is deaf)
+    by false true never deaf (inr more) = absurd cc
+    by false false never deaf h = absurd cc
 
 link_never : (most : ℕ) (v : Service) (k : IsAccepted most v) (a : Alive) → IsAliveOf v k.flow a → (p : Fixed) (f : Finding) → Among (option_to_list (of_link a p)) f → NeverHappens most v k f
 link_never most v k a is p f h = by (unsaid a p (as_event (held attribute.EventType p.properties)) (as_value (held attribute.EventData p.properties))) refl h
   where
-    by : (m : Option Finding) → unsaid a p (as_event (held attribute.EventType p.properties)) (as_value (held attribute.EventData p.properties)) ≡ m → Among (option_to_list (or_unput a p m)) f → NeverHappens most v k f
+    by : (m : Option Finding) → unsaid a p (as_event (held attribute.EventType p.properties)) (as_value (held attribute.EventData p.properties)) ≡ m → Among (option_to_list (or_unmoved a p m)) f → NeverHappens most v k f
     by (Some g) e (inl same) = subst (NeverHappens most v k) same (unsaid_never most v k a is p (as_event (held attribute.EventType p.properties)) (as_value (held attribute.EventData p.properties)) g e)
     by (Some g) e (inr more) = absurd cc
-    by None e h = unput_never most v k a is p f h
+    by None e h = unmoved_never most v k a is p f h
 
 idle_never : (most : ℕ) (v : Service) (k : IsAccepted most v) (a : Alive) → IsAliveOf v k.flow a → (p : Fixed) (f : Finding) → Among (option_to_list (idle a p)) f → NeverHappens most v k f
 idle_never most v k a is p f h = by (is_runnable p.class && never_runs a p.key) refl h
@@ -117,11 +120,11 @@ either {A} f (x ∷ xs) ys (inr m) = by (either f xs ys m)
 
 all_of_link_never : (most : ℕ) (v : Service) (k : IsAccepted most v) (a : Alive) → IsAliveOf v k.flow a → (p : Fixed) (f : Finding) → Among (all_of_link a p) f → NeverHappens most v k f
 all_of_link_never most v k a is p f h =
-    by (either f (option_to_list (unsaid a p (as_event (held attribute.EventType p.properties)) (as_value (held attribute.EventData p.properties)))) (option_to_list (unput a p)) h)
+    by (either f (option_to_list (unsaid a p (as_event (held attribute.EventType p.properties)) (as_value (held attribute.EventData p.properties)))) (option_to_list (unmoved a p)) h)
   where
-    by : Among (option_to_list (unsaid a p (as_event (held attribute.EventType p.properties)) (as_value (held attribute.EventData p.properties)))) f ⊎ Among (option_to_list (unput a p)) f → NeverHappens most v k f
+    by : Among (option_to_list (unsaid a p (as_event (held attribute.EventType p.properties)) (as_value (held attribute.EventData p.properties)))) f ⊎ Among (option_to_list (unmoved a p)) f → NeverHappens most v k f
     by (inl h) = silent_never most v k a is p (as_event (held attribute.EventType p.properties)) (as_value (held attribute.EventData p.properties)) f h
-    by (inr h) = unput_never most v k a is p f h
+    by (inr h) = unmoved_never most v k a is p f h
 
 all_never : (most : ℕ) (v : Service) (k : IsAccepted most v) (a : Alive) → IsAliveOf v k.flow a → (p : Fixed) (f : Finding) → Among (all_of a p) f → NeverHappens most v k f
 all_never most v k a is p f h = by (is_link p.class) (either f (option_to_list (idle a p)) (if is_link p.class then all_of_link a p else []) h)

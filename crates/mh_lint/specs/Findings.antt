@@ -12,7 +12,7 @@ use Rattle.mh_model.specs.declared.object.Fixed.{Fixed}
 use Rattle.mh_model.specs.Property.{held, as_event, as_value}
 use Rattle.mh_model.specs.Service.{Service}
 use Rattle.mh_flow.specs.Index.{is_entered}
-use Rattle.mh_alive.specs.Alive.{Alive, never_put, never_runs, never_says}
+use Rattle.mh_alive.specs.Alive.{Alive, never_hears, never_put, never_runs, never_says}
 use Rattle.mh_lint.specs.declared.finding.Finding.{Finding}
 use Rattle.mh_lint.specs.declared.finding.Finding.TheVariants as finding
 
@@ -21,16 +21,17 @@ abbrev pub unsaid : Alive → Fixed → Option EventType → Option Value → Op
 unsaid a p (Some kind) (Some d) = if never_says a kind (Some d) then Some (finding.Unsaid p.key kind d) else None
 unsaid a p _ _ = None
 
--- a link that nothing puts to work
-abbrev pub unput : Alive → Fixed → Option Finding
-unput a p = if never_put a p.key then Some (finding.Unput p.key) else None
+-- a link that nothing puts to work, or that never hears what would
+abbrev pub unmoved : Alive → Fixed → Option Finding
+unmoved a p =
+    if never_put a p.key then Some (finding.Unput p.key) else (if never_hears a p.key then Some (finding.Unheard p.key) else None)
 
-abbrev pub or_unput : Alive → Fixed → Option Finding → Option Finding
-or_unput a p (Some f) = Some f
-or_unput a p None = unput a p
+abbrev pub or_unmoved : Alive → Fixed → Option Finding → Option Finding
+or_unmoved a p (Some f) = Some f
+or_unmoved a p None = unmoved a p
 
 abbrev pub of_link : Alive → Fixed → Option Finding
-of_link a p = or_unput a p (unsaid a p (as_event (held attribute.EventType p.properties)) (as_value (held attribute.EventData p.properties)))
+of_link a p = or_unmoved a p (unsaid a p (as_event (held attribute.EventType p.properties)) (as_value (held attribute.EventData p.properties)))
 
 -- nothing leads to the group
 abbrev pub is_unreached : List Config → List ℕ → Bool
@@ -41,7 +42,7 @@ abbrev pub idle : Alive → Fixed → Option Finding
 idle a p = if is_runnable p.class && never_runs a p.key then Some (finding.Idle p.key) else None
 
 -- ROOTS. Of a group that nothing leads to the group alone is a root, and of an object at most one finding: the first that there
--- is, of that nothing runs it, that its data never come, and that nothing puts it to work. A link that waits for what is in a group
+-- is, of that nothing runs it, that its data never come, that nothing puts it to work, and that it never hears. A link that waits for what is in a group
 -- that nothing leads to has none but that it never runs: the root is that group.
 
 abbrev pub is_beyond : List Config → Option Value → Bool
@@ -65,7 +66,7 @@ root_of a cs p =
 abbrev pub all_of_link : Alive → Fixed → List Finding
 all_of_link a p =
     option_to_list (unsaid a p (as_event (held attribute.EventType p.properties)) (as_value (held attribute.EventData p.properties)))
-    ++ option_to_list (unput a p)
+    ++ option_to_list (unmoved a p)
 
 abbrev pub all_of : Alive → Fixed → List Finding
 all_of a p = option_to_list (idle a p) ++ (if is_link p.class then all_of_link a p else [])

@@ -222,41 +222,6 @@ of_start gs p items =
     if is_application p.class && list_any is_initially_active items
     then led_away p.key (position (leaves_at_once gs) (start_up p)) else []
 
--- KEYS. The register of a scene, as it is written, lets no key with this number through.
-
-abbrev pub is_blocked : ℤ → ℤ → Key → Bool
-is_blocked register n k = int_eq (key_number k) n && not (passes register k)
-
-unfoldable pub blocks : ℤ → ℤ → Bool
-blocks register n = list_any (is_blocked register n) keys
-
--- the key with this number of that group is such a key of this scene
-abbrev pub is_blocked_at : ObjRef → ℤ → ObjRef → ℤ → Bool
-is_blocked_at r register s n = same_ref s r && blocks register n
-
--- what a link waits for is such a key
-abbrev pub waits_blocked : ObjRef → ℤ → Option EventType → Option Value → Option Value → Bool
-waits_blocked r register (Some event.UserInput) (Some (value.Object s)) (Some (value.Int n)) = is_blocked_at r register s n
-waits_blocked r register _ _ _ = false
-
-abbrev pub waits_for_blocked : ObjRef → ℤ → Fixed → Bool
-waits_for_blocked r register p =
-    is_link p.class && waits_blocked r register (as_event (held attribute.EventType p.properties))
-    (as_value (held attribute.EventSource p.properties)) (as_value (held attribute.EventData p.properties))
-
-abbrev pub of_key : ObjRef → ℤ → Fixed → List Note
-of_key r register p = if_so (waits_for_blocked r register p) rule.BlockedKey p.key 0
-
-abbrev pub register_at : Fixed → ℤ
-register_at p = as_int (pos 4) (held attribute.InputEventReg p.properties)
-
--- no action gives the scene another register
-abbrev pub keeps_register : Uses → Fixed → Bool
-keeps_register u p = is_scene p.class && not (is_used u.registered p.key)
-
-abbrev pub of_keys : Uses → Fixed → List Fixed → List Note
-of_keys u p items = if keeps_register u p then flat_map (of_key p.key (register_at p)) items else []
-
 -- by the file of a group
 unfoldable pub of_file : List Source → ObjRef → List Note
 of_file fs r =
@@ -269,14 +234,14 @@ abbrev pub runs_items : List (List ℕ) → Fixed → Bool
 runs_items gs p = is_application p.class && not (list_any (leaves_at_once gs) (start_up p))
 
 -- of a group and its items
-unfoldable pub of_group : List Source → Uses → List (List ℕ) → Fixed → List Fixed → List Note
-of_group fs u gs p items = of_file fs p.key ++ of_start gs p items ++ of_keys u p items
+unfoldable pub of_group : List Source → List (List ℕ) → Fixed → List Fixed → List Note
+of_group fs gs p items = of_file fs p.key ++ of_start gs p items
 
 -- of all objects of a group, of which the first is the group itself
 abbrev pub of_parts : Bool → List Source → Uses → List (List ℕ) → List Fixed → List Note
 of_parts all fs u gs [] = []
 of_parts all fs u gs (p ∷ items) =
-    of_group fs u gs p items ++ flat_map (of_object all fs u gs (runs_items gs p)) (p ∷ items)
+    of_group fs gs p items ++ flat_map (of_object all fs u gs (runs_items gs p)) (p ∷ items)
 
 -- of all groups, in their order
 abbrev pub notes : Bool → List Source → Service → List Note

@@ -13,7 +13,6 @@ rule_word rule.UnknownRule = codes "unknown-rule"
 rule_word rule.StartLeadsAway = codes "start-leads-away"
 rule_word rule.NotShared = codes "not-shared"
 rule_word rule.NoActions = codes "no-actions"
-rule_word rule.BlockedKey = codes "blocked-key"
 rule_word rule.BehindTransition = codes "behind-transition"
 rule_word rule.DivisionByZero = codes "division-by-zero"
 rule_word rule.NegativeSize = codes "negative-size"
@@ -33,7 +32,6 @@ rule_text rule.UnknownRule = codes "stands in a file with a comment that allows 
 rule_text rule.StartLeadsAway = codes "leads away at once, so that its items which are active at first do not run"
 rule_text rule.NotShared = codes "is not shared: it ends with the first transition, and nothing runs it again"
 rule_text rule.NoActions = codes "does nothing: its effect has no action"
-rule_text rule.BlockedKey = codes "waits for a key that the register of its scene does not let through"
 rule_text rule.BehindTransition = codes "has an action behind one that leads away, which throws it off unless something led away before"
 rule_text rule.DivisionByZero = codes "divides by zero, which changes nothing"
 rule_text rule.NegativeSize = codes "sets a negative size, which changes nothing"
@@ -50,7 +48,7 @@ rule_text rule.ContentToCome = codes "shows content that has to arrive: the fold
 abbrev pub rules : List Rule
 rules =
     rule.EditorBackup ∷ rule.IdentifierDiffers ∷ rule.UnknownRule ∷ rule.StartLeadsAway ∷ rule.NotShared ∷ rule.NoActions ∷
-    rule.BlockedKey ∷ rule.BehindTransition ∷ rule.DivisionByZero ∷ rule.NegativeSize ∷ rule.ColourOctets ∷ rule.UnheardTimer ∷
+    rule.BehindTransition ∷ rule.DivisionByZero ∷ rule.NegativeSize ∷ rule.ColourOctets ∷ rule.UnheardTimer ∷
     rule.UnreadVariable ∷ rule.OffScreen ∷ rule.CoversNoCell ∷ rule.CutText ∷ rule.TextInItsColour ∷ rule.ContentToCome ∷ []
 
 -- the one with this name, if there is one
@@ -64,7 +62,6 @@ has a rule.UnknownRule = a.unknown_rule
 has a rule.StartLeadsAway = a.start_leads_away
 has a rule.NotShared = a.not_shared
 has a rule.NoActions = a.no_actions
-has a rule.BlockedKey = a.blocked_key
 has a rule.BehindTransition = a.behind_transition
 has a rule.DivisionByZero = a.division_by_zero
 has a rule.NegativeSize = a.negative_size

@@ -5,6 +5,7 @@ use Rattle.std.specs.List.{find, flat_map}
 use Rattle.std.specs.Option.{option_map}
 use Rattle.std.specs.Str.{bytes_eq}
 use Rattle.mh_base.specs.declared.event.EventType.{EventType}
+use Rattle.mh_base.specs.declared.event.EventType.TheVariants as event
 use Rattle.mh_base.specs.declared.obj_ref.ObjRef.{ObjRef}
 use Rattle.mh_base.specs.declared.value.Value.{Value}
 use Rattle.mh_base.specs.declared.value.Value.TheVariants as value
@@ -112,18 +113,44 @@ link_words v (Some p) =
 unfoldable pub unput_words : Service → ObjRef → List ℕ
 unput_words v r = codes " is put to work by nothing" ++ link_words v (part_at r (group_parts v r.group))
 
+-- why the link never hears what it waits for: of a timer, of a key
+
+unfoldable pub deaf_front : EventType → List ℕ
+deaf_front event.TimerFired = codes ": timer"
+deaf_front event.UserInput = codes ": key"
+deaf_front _ = codes ": what it waits for"
+
+unfoldable pub deaf_end : EventType → List ℕ
+deaf_end event.TimerFired = codes " is only set by links that never hear"
+deaf_end event.UserInput = codes " is let through by no register"
+deaf_end _ = codes " never comes"
+
+unfoldable pub deaf_words : Service → List ℕ → Option EventType → Option Value → Option Value → List ℕ
+deaf_words v g (Some kind) (Some (value.Object r)) d = deaf_front kind ++ number_words d ++ of_words v g r ++ deaf_end kind
+deaf_words v g _ _ d = []
+
+unfoldable pub deaf_link_words : Service → Option Fixed → List ℕ
+deaf_link_words v None = []
+deaf_link_words v (Some p) =
+    deaf_words v p.key.group (as_event (held attribute.EventType p.properties)) (as_value (held attribute.EventSource p.properties)) (as_value (held attribute.EventData p.properties))
+
+unfoldable pub unheard_words : Service → ObjRef → List ℕ
+unheard_words v r = codes " hears nothing" ++ deaf_link_words v (part_at r (group_parts v r.group))
+
 -- what is said of a finding behind its object
 abbrev pub said_words : Service → Finding → List ℕ
 said_words v (finding.Unreached r) = unreached_words
 said_words v (finding.Idle r) = idle_words
 said_words v (finding.Unsaid r kind x) = unsaid_words kind x
 said_words v (finding.Unput r) = unput_words v r
+said_words v (finding.Unheard r) = unheard_words v r
 
 abbrev pub object_of : Finding → ObjRef
 object_of (finding.Unreached r) = r
 object_of (finding.Idle r) = r
 object_of (finding.Unsaid r kind x) = r
 object_of (finding.Unput r) = r
+object_of (finding.Unheard r) = r
 
 unfoldable pub finding_words : Service → List Source → Finding → List ℕ
 finding_words v fs f = front_words fs (object_of f) ++ codes " never: " ++ object_words v (object_of f) ++ said_words v f ++ codes "\n"

@@ -37,7 +37,6 @@ changes change.Words action.SetLabel = true
 changes change.Colour action.SetTextColour = true
 changes change.Running action.Run = true
 changes change.Running action.Activate = true
-changes change.Register action.SetInputRegister = true
 changes c n = false
 
 -- what an action is done to that changes this
@@ -131,14 +130,13 @@ is_transit _ = false
 abbrev pub objects : Service → List Fixed
 objects v = flat_map (λ g. g.1) v.groups
 
--- what is moved, given another size, other words, another colour of its text, another register; what is run; which variables
+-- what is moved, given another size, other words, another colour of its text; what is run; which variables
 -- are read; which timers are heard and which are set; and that there is a transition
 pub record Uses : Type 0 where
   pub moved : List Target
   pub resized : List Target
   pub reworded : List Target
   pub tinted : List Target
-  pub registered : List Target
   pub run : List Target
   pub read : List Target
   pub heard : List Timers
@@ -151,7 +149,6 @@ uses_of ps acts = record {
   resized = flat_map (changed_by change.Size) acts;
   reworded = flat_map (changed_by change.Words) acts;
   tinted = flat_map (changed_by change.Colour) acts;
-  registered = flat_map (changed_by change.Register) acts;
   run = flat_map (changed_by change.Running) acts ++ flat_map added_by acts ++ flat_map grouped_by ps;
   read = flat_map read_by acts;
   heard = flat_map heard_by ps;

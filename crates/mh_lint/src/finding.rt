@@ -13,4 +13,6 @@ pub enum Finding {
     Unsaid(ObjRef, EventType, Value),
     /// Nothing puts the link to work.
     Unput(ObjRef),
+    /// The link never hears what it waits for: a timer that only such links set, or a key that no register lets through.
+    Unheard(ObjRef),
 }

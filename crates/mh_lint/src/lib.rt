@@ -9,7 +9,6 @@ mod acts;
 mod ending;
 mod finding;
 mod findings;
-mod keys;
 mod lint;
 mod note;
 mod note_lines;
@@ -24,6 +23,7 @@ mod sights;
 mod sources;
 mod telling;
 mod timers;
+mod unheard;
 mod uses;
 
 pub use finding::Finding;

@@ -8,7 +8,6 @@ ghost use Rattle.mh_lint.specs.Notes as spec;
 
 use crate::acts::leaves_at_once;
 use crate::ending::ends_in;
-use crate::keys::push_keys;
 use crate::note::Note;
 use crate::noting::{push_if, push_note, push_object};
 use crate::place::file_of;
@@ -127,17 +126,15 @@ fn push_group(
     alloc: Global,
     notes: &mut Vec<Note>,
     files: &[(GroupName, Vec<u8>)],
-    uses: &Uses,
     late: &[GroupName],
     group: &Fixed,
     items: &[FixedPart],
 ) -> Result<(), AllocError>
     ensures { OnOk result (notes.new.items
-        ≡ notes.old.items ++ spec.of_group files.now uses.now late.now group.now items.now) }
+        ≡ notes.old.items ++ spec.of_group files.now late.now group.now items.now) }
 {
     push_file(alloc, notes, files, &group.key)?;
-    push_start(notes, late, group, items)?;
-    push_keys(notes, uses, group, items)
+    push_start(notes, late, group, items)
 }
 
 /// What is noted of all objects of a group, of which the first is the group itself.
@@ -158,7 +155,7 @@ fn push_parts(
     };
     let group = first.get();
     let runs_items = runs_items(late, group);
-    push_group(alloc, notes, files, uses, late, group, items)?;
+    push_group(alloc, notes, files, late, group, items)?;
     push_objects(alloc, notes, all, files, uses, late, runs_items, parts)
 }
 

@@ -62,14 +62,17 @@ fn unsaid_with(
     Ok(Some(Finding::Unsaid(at, kind, value)))
 }
 
-/// A link that nothing puts to work.
-fn unput(alive: &Alive, part: &Fixed) -> Result<Option<Finding>, AllocError>
-    ensures { IfOk result (λ found. found ≡ spec.unput alive.now part.now) }
+/// A link that nothing puts to work, or that never hears what would.
+fn unmoved(alive: &Alive, part: &Fixed) -> Result<Option<Finding>, AllocError>
+    ensures { IfOk result (λ found. found ≡ spec.unmoved alive.now part.now) }
 {
-    if !alive.never_put(&part.key) {
-        return Ok(None);
+    if alive.never_put(&part.key) {
+        return Ok(Some(Finding::Unput(part.key.clone()?)));
     }
-    Ok(Some(Finding::Unput(part.key.clone()?)))
+    if alive.never_hears(&part.key) {
+        return Ok(Some(Finding::Unheard(part.key.clone()?)));
+    }
+    Ok(None)
 }
 
 /// What is found of a link that may run.
@@ -84,7 +87,7 @@ fn of_link(alive: &Alive, part: &Fixed) -> Result<Option<Finding>, AllocError>
     )?;
     match found {
         Some(found) => Ok(Some(found)),
-        None => unput(alive, part),
+        None => unmoved(alive, part),
     }
 }
 
@@ -168,7 +171,7 @@ fn push_link(found: &mut Vec<Finding>, alive: &Alive, part: &Fixed) -> Result<()
         as_value(part.properties.get(Attribute::EventData)),
     )?;
     push_one(found, silent)?;
-    push_one(found, unput(alive, part)?)
+    push_one(found, unmoved(alive, part)?)
 }
 
 /// All that is found of an object.

@@ -17,8 +17,6 @@ pub enum Rule {
     NotShared,
     /// A link does nothing.
     NoActions,
-    /// A link waits for a key that the register of its scene does not let through.
-    BlockedKey,
     /// An action stands behind one that leads away.
     BehindTransition,
     /// A number is divided by zero.
@@ -44,14 +42,13 @@ pub enum Rule {
 }
 
 /// All rules.
-pub const RULES: [Rule; 18] = [
+pub const RULES: [Rule; 17] = [
     Rule::EditorBackup,
     Rule::IdentifierDiffers,
     Rule::UnknownRule,
     Rule::StartLeadsAway,
     Rule::NotShared,
     Rule::NoActions,
-    Rule::BlockedKey,
     Rule::BehindTransition,
     Rule::DivisionByZero,
     Rule::NegativeSize,
@@ -85,7 +82,6 @@ impl Rule {
             Rule::StartLeadsAway => b"start-leads-away",
             Rule::NotShared => b"not-shared",
             Rule::NoActions => b"no-actions",
-            Rule::BlockedKey => b"blocked-key",
             Rule::BehindTransition => b"behind-transition",
             Rule::DivisionByZero => b"division-by-zero",
             Rule::NegativeSize => b"negative-size",
@@ -117,8 +113,6 @@ impl Rule {
             Rule::NotShared =>
                 b"is not shared: it ends with the first transition, and nothing runs it again",
             Rule::NoActions => b"does nothing: its effect has no action",
-            Rule::BlockedKey =>
-                b"waits for a key that the register of its scene does not let through",
             Rule::BehindTransition =>
                 b"has an action behind one that leads away, which throws it off unless something led away before",
             Rule::DivisionByZero => b"divides by zero, which changes nothing",
@@ -146,7 +140,6 @@ pub struct Allowed {
     pub start_leads_away: bool,
     pub not_shared: bool,
     pub no_actions: bool,
-    pub blocked_key: bool,
     pub behind_transition: bool,
     pub division_by_zero: bool,
     pub negative_size: bool,
@@ -172,7 +165,6 @@ impl Allowed {
             Rule::StartLeadsAway => self.start_leads_away,
             Rule::NotShared => self.not_shared,
             Rule::NoActions => self.no_actions,
-            Rule::BlockedKey => self.blocked_key,
             Rule::BehindTransition => self.behind_transition,
             Rule::DivisionByZero => self.division_by_zero,
             Rule::NegativeSize => self.negative_size,

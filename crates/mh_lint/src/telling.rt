@@ -8,6 +8,7 @@ ghost use Rattle.mh_lint.specs.Telling as spec;
 
 use crate::finding::Finding;
 use crate::place::place_of;
+use crate::unheard::put_unheard;
 use mh_base::{EventType, GroupName, ObjRef, Value};
 use mh_flow::Equipped;
 use mh_group::{Attribute, event_word};
@@ -147,7 +148,7 @@ fn put_unsaid(text: &mut Text, kind: EventType, value: &Value) -> Result<(), All
 
 /// Puts the number that the link names, if it names one.
 #[tactic(auto, unfolding(crate::specs::Telling::number_words))]
-fn put_number(text: &mut Text, value: Option<&Value>) -> Result<(), AllocError>
+pub(crate) fn put_number(text: &mut Text, value: Option<&Value>) -> Result<(), AllocError>
     ensures { OnOk result (text.new ≡ text.old ++ spec.number_words (option_copied value.entry)) }
 {
     match value {
@@ -177,7 +178,7 @@ fn put_no_action(text: &mut Text) -> Result<(), AllocError>
 
 /// Puts of which object.
 #[tactic(auto, unfolding(crate::specs::Telling::of_words))]
-fn put_of(
+pub(crate) fn put_of(
     text: &mut Text,
     service: &Equipped<'_>,
     from: &GroupName,
@@ -246,6 +247,7 @@ fn put_words(text: &mut Text, service: &Equipped<'_>, finding: &Finding) -> Resu
         Finding::Idle(_) => put_idle(text),
         Finding::Unsaid(_, kind, value) => put_unsaid(text, *kind, value),
         Finding::Unput(at) => put_unput(text, service, at),
+        Finding::Unheard(at) => put_unheard(text, service, at),
     }
 }
 
@@ -257,7 +259,8 @@ fn object_of(finding: &Finding) -> &ObjRef
         Finding::Unreached(at)
         | Finding::Idle(at)
         | Finding::Unsaid(at, _, _)
-        | Finding::Unput(at) => at,
+        | Finding::Unput(at)
+        | Finding::Unheard(at) => at,
     }
 }
 

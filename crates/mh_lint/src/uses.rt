@@ -26,11 +26,9 @@ pub enum Change {
     Colour,
     /// That it runs, or hears.
     Running,
-    /// Which keys a scene hears.
-    Register,
 }
 
-/// What is moved, given another size, other words, another colour of its text, another register; what is run; which
+/// What is moved, given another size, other words, another colour of its text; what is run; which
 /// variables are read; which timers are heard and which are set; and that there is a transition.
 #[derive(Drop)]
 pub(crate) struct Uses {
@@ -38,7 +36,6 @@ pub(crate) struct Uses {
     pub resized: Vec<Target>,
     pub reworded: Vec<Target>,
     pub tinted: Vec<Target>,
-    pub registered: Vec<Target>,
     pub run: Vec<Target>,
     pub read: Vec<Target>,
     pub heard: Vec<Timers>,
@@ -56,7 +53,6 @@ impl Model for Uses {
       resized = u.resized.items;
       reworded = u.reworded.items;
       tinted = u.tinted.items;
-      registered = u.registered.items;
       run = u.run.items;
       read = u.read.items;
       heard = u.heard.items;
@@ -75,7 +71,6 @@ pub(crate) fn changes(change: Change, name: ActionName) -> bool
         Change::Words => matches!(name, ActionName::SetData | ActionName::SetLabel),
         Change::Colour => matches!(name, ActionName::SetTextColour),
         Change::Running => matches!(name, ActionName::Run | ActionName::Activate),
-        Change::Register => matches!(name, ActionName::SetInputRegister),
     }
 }
 

@@ -246,7 +246,6 @@ fn uses_in(alloc: Global, objects: &[FixedPart], acts: &[Act]) -> Result<Uses, A
         resized: changed_of(alloc, Change::Size, acts)?,
         reworded: changed_of(alloc, Change::Words, acts)?,
         tinted: changed_of(alloc, Change::Colour, acts)?,
-        registered: changed_of(alloc, Change::Register, acts)?,
         run: run_of(alloc, objects, acts)?,
         read: read_of(alloc, acts)?,
         heard: heard_of(alloc, objects)?,
