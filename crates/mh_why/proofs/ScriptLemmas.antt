@@ -3,6 +3,7 @@ use Rattle.std.specs.Prelude.{ℕ, ◌-◌, ◌==◌, List, [], ◌∷◌, drop,
 use Rattle.std.specs.Str.{bytes_eq}
 use Rattle.std.specs.Option.{option_map_or}
 use Rattle.bstr.specs.Text.{lines_of, without_terminator}
+use Rattle.mh_script.specs.Script.{key_name}
 use Rattle.mh_why.specs.Advice.{Row, advice, readings, row_with}
 use Rattle.mh_why.specs.declared.script.fault.LineFault.{LineFault}
 use Rattle.mh_why.specs.declared.script.fault.LineFault.TheVariants as fault
@@ -44,7 +45,7 @@ own_put line = optional form_text form_put (row_with forms (first_word line))
 
 key_put : (line : List ℕ) → IsHarmless (key_mend line)
 unfolding key_mend
-key_put line = optional nearest_text nearest_put (near_key (behind_first line)) ⌢ own_put line
+key_put line = optional (λ k. nearest_text (key_name k)) (λ k. nearest_put (key_name k)) (near_key (behind_first line)) ⌢ own_put line
 
 mend_put : (f : LineFault) (line : List ℕ) → IsHarmless (mend_text f line)
 mend_put fault.SpaceInFront line = harmless_paragraph _

@@ -2,6 +2,7 @@
 use Rattle.std.specs.Prelude.{ℕ, ◌-◌, ◌==◌, Bool, if◌then◌else◌, List, [], ◌∷◌, ◌++◌, length, codes, Option, Some, None, slice_get}
 use Rattle.std.specs.Option.{option_and_then, option_map_or}
 use Rattle.bstr.specs.Text.{lines_of, without_terminator}
+use Rattle.mh_script.specs.Script.{key_name}
 use Rattle.mh_why.specs.Advice.{Row, advice, cell, readings, row_with}
 use Rattle.mh_why.specs.declared.script.fault.LineFault.{LineFault}
 use Rattle.mh_why.specs.declared.script.fault.LineFault.TheVariants as fault
@@ -73,7 +74,7 @@ abbrev pub own_mend : List ℕ → List ℕ
 own_mend line = option_map_or form_text (row_with forms (first_word line)) []
 
 abbrev pub near_key_text : List ℕ → List ℕ
-near_key_text word = option_map_or nearest_text (near_key word) []
+near_key_text word = option_map_or (λ k. nearest_text (key_name k)) (near_key word) []
 
 unfoldable pub key_mend : List ℕ → List ℕ
 key_mend line = near_key_text (behind_first line) ++ own_mend line

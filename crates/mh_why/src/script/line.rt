@@ -15,6 +15,7 @@ use crate::script::fault::{LineFault, line_fault};
 use crate::script::forms::{forms, near_form, near_key};
 use crate::wrap::{put_paragraph, put_sentence};
 use bstr::ByteSlice;
+use mh_script::key_name;
 use mh_told::text::Text;
 use std::alloc::{AllocError, Global};
 
@@ -263,7 +264,7 @@ fn put_near_key(alloc: Global, text: &mut Text, word: &[u8]) -> Result<(), Alloc
     ensures { OnOk result (text.new ≡ text.old ++ near_key_text word.now) }
 {
     match near_key(word) {
-        Some(key) => put_nearest(alloc, text, key),
+        Some(key) => put_nearest(alloc, text, key_name(key)),
         None => Ok(()),
     }
 }
