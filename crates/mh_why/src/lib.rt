@@ -9,6 +9,7 @@
 mod explanation;
 mod files;
 mod lint;
+mod numbers;
 mod paint;
 mod place;
 mod script;

@@ -58,7 +58,9 @@ pub(crate) fn put_place(
 }
 
 /// The line in which so many bytes stand before what is meant: its number, the line, and how many of
-/// those bytes are its own. The end of the bytes belongs to the last line.
+/// those bytes are its own. The end of the bytes belongs to the last line. That is another rule than the
+/// one of `mh_places`, which has the end behind a last line feed on a line of its own: here a line is
+/// shown, and there is none.
 fn line_at(bytes: &[u8], offset: usize) -> (u64, &[u8], usize)
     ensures exact { record { number = result.0; bytes = result.1.now; before = result.2 } ≡ line_at bytes.now offset }
     ensures within { result.2 ≤ length result.1.now }

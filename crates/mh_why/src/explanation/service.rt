@@ -6,6 +6,7 @@ ghost use Rattle.mh_why.specs.Services.{repeats, numbers, double_from, is_class,
 
 use crate::explanation::place::put_landmark;
 use crate::files::shown::{Source, source_named};
+use crate::numbers::{BAD_REFERENCE, DOUBLE_NUMBER, LIMIT, NO_SCENE, NOT_AN_APPLICATION};
 use indexmap::IndexSet;
 use mh_base::{GroupName, NameError};
 use mh_text::{Landmark, Sight, landmarks};
@@ -53,13 +54,13 @@ fn landmark_for<'a, 'b>(
 ) -> Result<Option<&'a Landmark<'b>>, AllocError>
     ensures { IfOk result (λ found. option_copied found ≡ landmark_for number.now from.now landmarks.now) }
 {
-    if number == b"32".as_slice() {
+    if number == DOUBLE_NUMBER {
         double_in(alloc, landmarks)
-    } else if number == b"33".as_slice() || number == b"34".as_slice() {
+    } else if number == NOT_AN_APPLICATION || number == LIMIT {
         Ok(class_in(landmarks))
-    } else if number == b"35".as_slice() {
+    } else if number == BAD_REFERENCE {
         astray_in(alloc, from, landmarks)
-    } else if number == b"37".as_slice() {
+    } else if number == NO_SCENE {
         Ok(class_in(landmarks))
     } else {
         Ok(None)

@@ -22,6 +22,7 @@ use crate::explanation::unread::missing::put_missing;
 use crate::explanation::words::{behind_first, first_word, number_in};
 use crate::files::named_file::{NamedFile, put_numbered_line, put_written_line};
 use crate::files::shown::Source;
+use crate::numbers::{NO_SCENE, TAG_LINE};
 use crate::script::line::put_script_told;
 use crate::wrap::{put_paragraph, put_sentence};
 use mh_told::text::Text;
@@ -97,7 +98,7 @@ fn put_late_shown(
     ensures { OnOk result (text.new ≡ text.old ++ shown_late (option_copied late.entry) number.now line.now) }
 {
     match late {
-        Some(file) if number == b"37".as_slice() => put_written_line(alloc, text, file, line),
+        Some(file) if number == NO_SCENE => put_written_line(alloc, text, file, line),
         _ => Ok(()),
     }
 }
@@ -127,7 +128,7 @@ fn put_tag_words(
 ) -> Result<(), AllocError>
     ensures { OnOk result (text.new ≡ text.old ++ tag_words number.now place.now) }
 {
-    if number == b"60".as_slice() {
+    if number == TAG_LINE {
         put_sentence(alloc, text, IS_LINE, place, b" of the file of tags.")
     } else {
         put_sentence(alloc, text, IS_CONTEXT, place, CONTEXTS)
@@ -145,7 +146,7 @@ fn put_tag_line(
     ensures { OnOk result (text.new ≡ text.old ++ shown_tags (option_copied file.entry) number.now place.now) }
 {
     match file {
-        Some(file) if number == b"60".as_slice() => put_line_by(alloc, text, file, place),
+        Some(file) if number == TAG_LINE => put_line_by(alloc, text, file, place),
         _ => Ok(()),
     }
 }

@@ -4,6 +4,9 @@ ghost use Rattle.std.specs.Prelude.{◌≡◌};
 ghost use Rattle.mh_why.specs.Posts.{can_be_refused, is_bad_tick, is_of_any, is_of_file, is_of_scene, is_of_tick, is_refused_length, is_stop, is_told, refuses};
 
 use crate::explanation::words::{behind_first, first_word, number_in};
+use crate::numbers::{
+    CLOCK_FULL, DIFFERS, ENDED, NOT_LATE, QUEUE_FULL, TICK_RANGE, TOO_LARGE, TOO_MANY,
+};
 use crate::script::fault::Command;
 use mh_model::LONGEST_TICK;
 
@@ -48,28 +51,28 @@ fn refuses(number: &[u8], words: &[u8], command: Command) -> bool
 fn is_of_any(number: &[u8]) -> bool
     ensures { result ≡ is_of_any number.now }
 {
-    number == b"51".as_slice() || number == b"52".as_slice()
+    number == QUEUE_FULL || number == ENDED
 }
 
 fn is_of_tick(number: &[u8], words: &[u8]) -> bool
     ensures { result ≡ is_of_tick number.now words.now }
 {
-    if number == b"53".as_slice() {
+    if number == CLOCK_FULL {
         return true;
     }
-    number == b"54".as_slice() && is_bad_tick(words)
+    number == TICK_RANGE && is_bad_tick(words)
 }
 
 fn is_of_file(number: &[u8]) -> bool
     ensures { result ≡ is_of_file number.now }
 {
-    number == b"40".as_slice() || number == b"41".as_slice()
+    number == TOO_LARGE || number == TOO_MANY
 }
 
 fn is_of_scene(number: &[u8]) -> bool
     ensures { result ≡ is_of_scene number.now }
 {
-    number == b"57".as_slice() || number == b"58".as_slice()
+    number == NOT_LATE || number == DIFFERS
 }
 
 /// Whether these digits write the length of a tick that is refused.
