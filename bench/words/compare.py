@@ -1,12 +1,12 @@
 #!/usr/bin/env python3
 """Holds the words of `redlook why` and of docs/PROFILE.md together: for each number and kind that the program prints, the cause and the
-mend in crates/mh_look/src/explanation/advice/tables.rt have to be, word for word, two cells of a row of docs/PROFILE.md. Run it at the top of the repository;
+mend in crates/mh_why/src/explanation/advice/tables.rt have to be, word for word, two cells of a row of docs/PROFILE.md. Run it at the top of the repository;
 it prints each row that differs, and ends with 1 if there is one."""
 
 import re
 import sys
 
-CODE = "crates/mh_look/src/explanation/advice/tables.rt"
+CODE = "crates/mh_why/src/explanation/advice/tables.rt"
 DOCUMENT = "docs/PROFILE.md"
 
 

@@ -1,6 +1,5 @@
 pub mod EscapeLemmas
 pub mod ImageLemmas
-pub mod HarmlessLemmas
 pub mod DifferenceLemmas
 pub mod StepsLemmas
 pub mod CommandLemmas
@@ -16,7 +15,6 @@ pub mod OptionLemmas
 pub mod PartLemmas
 pub mod PictureLemmas
 pub mod PlaceLemmas
-pub mod PlacesLemmas
 pub mod PutLemmas
 pub mod QuotedLemmas
 pub mod ReachLemmas
@@ -28,16 +26,3 @@ pub mod RowPartLemmas
 pub mod SpaceLemmas
 pub mod StepLemmas
 pub mod TailLemmas
-pub mod AdviceLemmas
-pub mod MeantLemmas
-pub mod ValueLemmas
-pub mod PlacedLemmas
-pub mod ScriptLemmas
-pub mod PostLemmas
-pub mod FileLemmas
-pub mod WhyLemmas
-pub mod PaintLemmas
-pub mod FileLineLemmas
-pub mod VariableLemmas
-pub mod VerdictLemmas
-pub mod LintLemmas

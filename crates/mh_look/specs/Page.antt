@@ -6,11 +6,11 @@ use Rattle.bstr.specs.Text.{lines_of, without_terminator}
 use Rattle.mh_model.specs.Planes.{Planes, blank}
 use Rattle.mh_told.specs.Printing.{character, hex_colour}
 use Rattle.mh_told.specs.Told.{total_line}
+use Rattle.mh_why.specs.Posts.{behind_stop, up_to_stop}
 use Rattle.mh_look.specs.declared.report.Part.{Part}
 use Rattle.mh_look.specs.declared.report.Part.TheVariants as part
 use Rattle.mh_look.specs.Report.{Report}
 use Rattle.mh_look.specs.Frames.{differs_at}
-use Rattle.mh_look.specs.Posts.{behind_stop, up_to_stop}
 use Rattle.mh_terminal.specs.Frames.{harmless, turns}
 use Rattle.mh_look.specs.Shown.{line_of, passed}
 use Rattle.mh_look.specs.declared.page.outline.TheConstants.{HEAD, FOOT, STYLE, BACKGROUND, ROW_END, FRAME_BEGIN, FRAME_TITLE_END, FRAME_END}

@@ -1,8 +1,8 @@
 -- What `redplay` prints where it plays nothing, told from a report by how it begins.
 use Rattle.std.specs.Prelude.{ℕ, Bool, List, map}
 use Rattle.std.specs.List.{list_any}
+use Rattle.mh_why.specs.Painting.{begins_with}
 use Rattle.mh_look.specs.declared.report.printed.TheConstants.{BEGINNINGS}
-use Rattle.mh_look.specs.Painting.{begins_with}
 
 unfoldable pub beginnings : List (List ℕ)
 beginnings = map (λ x. x.now) BEGINNINGS

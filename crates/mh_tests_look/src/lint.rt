@@ -6,8 +6,8 @@ mod refused;
 
 use crate::cases::all_hold;
 use mh_cases::{Question, said};
-use mh_look::{Allowed, Asked, lint_of};
 use mh_samples::playing::sources;
+use mh_why::{Allowed, Asked, lint_of};
 use std::alloc::Global;
 
 /// The rules of which none is turned off, or that on links without actions.

@@ -1,7 +1,7 @@
 //! Explanations in colours.
 use crate::cases::all_hold;
 use mh_cases::{Question, said};
-use mh_look::painted;
+use mh_why::painted;
 use std::alloc::Global;
 
 static LINES: &str = r#"

@@ -2,7 +2,7 @@
 use crate::cases::all_hold;
 use bstr::ByteSlice;
 use mh_cases::{Question, number, repeated, said};
-use mh_look::place_text;
+use mh_why::place_text;
 use std::alloc::Global;
 
 /// An offset, a size, the name of a file and its bytes, and what is shown.

@@ -23,8 +23,8 @@ use crate::cases::all_hold;
 use mh_cases::{Question, bytes};
 use mh_flow::Link;
 use mh_layers::Arrow;
-use mh_look::{Case, Known, NamedFile, Verdict, case_of, no_case, verdict_on, ways_of, why};
 use mh_samples::playing::{File, outcome, sources};
+use mh_why::{Case, Known, NamedFile, Verdict, case_of, no_case, verdict_on, ways_of, why};
 use std::alloc::Global;
 
 /// A file that is named, with its bytes, if it is there.

@@ -2,12 +2,7 @@
 //! places, causes and mends. Where the bytes come from, and where the text goes, is left to the caller.
 use crate::command_line::Explain;
 use crate::doing::Outcome;
-use crate::explanation::case::{Case, case_of, no_case};
-use crate::explanation::{Known, why};
-use crate::files::named_file::NamedFile;
-use crate::files::source::{Failure, unknown};
-use crate::verdict::{Verdict, verdict_on, verdict_text};
-use crate::ways::ways_of;
+use crate::source::{Failure, unknown};
 use bstr::ByteSlice;
 use mh_base::Seq;
 use mh_flow::Link;
@@ -15,6 +10,9 @@ use mh_folder::Folder;
 use mh_layers::{Arrow, Way};
 use mh_told::text::Text;
 use mh_verify::Refusal;
+use mh_why::{
+    Case, Known, NamedFile, Verdict, case_of, no_case, verdict_on, verdict_text, ways_of, why,
+};
 use std::alloc::{AllocError, Global};
 
 /// The files that options name, with their bytes.

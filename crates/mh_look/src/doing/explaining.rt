@@ -2,10 +2,10 @@
 use crate::command_line::{Explain, Given};
 use crate::doing::answering::{Answer, Read, answer_of};
 use crate::doing::{Outcome, written};
-use crate::files::source::{Failure, output_of, uncoloured};
-use crate::paint::painted;
+use crate::source::{Failure, output_of, uncoloured};
 use mh_folder::folder_of;
 use mh_told::text::Text;
+use mh_why::painted;
 use std::alloc::Global;
 use std::rt::Runtime;
 

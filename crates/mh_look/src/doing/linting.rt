@@ -5,11 +5,11 @@ use crate::command_line::linting::near_rule;
 use crate::doing::Outcome;
 use crate::doing::answering::{Answer, Read, answer_of};
 use crate::doing::explaining::{is_painted, read_given, written_in};
-use crate::files::source::Failure;
-use crate::lint::lint_of;
+use crate::source::Failure;
 use mh_folder::{Folder, folder_of};
 use mh_lint::RULES;
 use mh_told::text::Text;
+use mh_why::lint_of;
 use std::alloc::{AllocError, Global};
 use std::rt::Runtime;
 

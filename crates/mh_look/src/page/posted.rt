@@ -5,11 +5,10 @@ ghost use Rattle.bstr.specs.Text.{lines_of};
 ghost use Rattle.mh_look.specs.Page.{left_behind, posted, posted_line, posted_lines, tells_more};
 
 use crate::page::escape::put_escaped;
-use crate::place::without_terminator;
 use crate::report::Part;
-use crate::script::posts::{behind_stop, up_to_stop};
 use bstr::ByteSlice;
 use mh_told::text::Text;
+use mh_why::{behind_stop, up_to_stop, without_terminator};
 use std::alloc::AllocError;
 
 /// Puts the lines up to the next of which the report tells, unless something was told of them.

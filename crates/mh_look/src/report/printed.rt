@@ -2,7 +2,7 @@
 ghost use Rattle.std.specs.Prelude.{◌≡◌, map};
 ghost use Rattle.mh_look.specs.Printed.{is_verdict, beginnings};
 
-use crate::paint::begins_with;
+use mh_why::begins_with;
 
 /// What begins a verdict, and what tells of a service that cannot be read. No report begins so.
 pub static BEGINNINGS: [&[u8]; 7] = [

@@ -3,8 +3,8 @@
 use crate::cases::all_hold;
 use crate::why::explanation;
 use mh_cases::Question;
-use mh_look::{verdict_on, verdict_text};
 use mh_samples::playing::{File, outcome, sources};
+use mh_why::{verdict_on, verdict_text};
 use std::alloc::Global;
 
 /// The lines on the verdict on these files.

@@ -2,7 +2,7 @@ use Rattle.std.proofs.Common.{◌≡◌, length}
 use Rattle.std.specs.Prelude.{ℕ, List, map}
 use Rattle.std.specs.Borrow.{Bor}
 use Rattle.std.specs.List.{list_any}
-use Rattle.mh_look.specs.Painting.{begins_with}
+use Rattle.mh_why.specs.Painting.{begins_with}
 use Rattle.mh_look.specs.Printed.{is_verdict}
 use Rattle.mh_look.proofs.report.printed.is_verdict.Given as goal
 

@@ -1,6 +1,0 @@
-use Rattle.std.proofs.Common.{◌≡◌, ◌+◌, drop}
-use Rattle.mh_look.specs.Sources.{count_named}
-use Rattle.mh_look.proofs.explanation.place.named.count_named.Given as goal
-
-abbrev pub invariant-loop-source : goal.invariant-loop-source
-invariant-loop-source l = l.count + count_named l.sought (drop l.source-index l.sources) ≡ count_named l.sought l.sources

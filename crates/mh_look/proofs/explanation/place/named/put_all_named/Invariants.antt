@@ -1,6 +1,0 @@
-use Rattle.std.proofs.Common.{◌≡◌, ◌++◌, drop}
-use Rattle.mh_look.specs.Sources.{shown_named}
-use Rattle.mh_look.proofs.explanation.place.named.put_all_named.Given as goal
-
-abbrev pub invariant-loop-source : goal.invariant-loop-source
-invariant-loop-source l = l.text ++ shown_named l.sought (drop l.source-index l.sources) ≡ l.initial.text ++ shown_named l.sought l.sources

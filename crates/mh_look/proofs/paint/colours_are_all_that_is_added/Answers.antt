@@ -1,5 +1,0 @@
-use Rattle.mh_look.proofs.PaintLemmas.{text_painted}
-use Rattle.mh_look.proofs.paint.colours_are_all_that_is_added.Goals as goal
-
-pub returns : goal.returns
-returns c = text_painted

@@ -1,5 +1,0 @@
-use Rattle.mh_look.proofs.HarmlessLemmas.{harmless_place}
-use Rattle.mh_look.proofs.place.places_are_harmless.Goals as goal
-
-pub returns : goal.returns
-returns c = harmless_place

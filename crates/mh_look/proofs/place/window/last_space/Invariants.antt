@@ -1,6 +1,0 @@
-use Rattle.std.proofs.Common.{◌≡◌}
-use Rattle.mh_look.specs.Places.{last_space}
-use Rattle.mh_look.proofs.place.window.last_space.Given as goal
-
-abbrev pub invariant-loop-at : goal.invariant-loop-at
-invariant-loop-at l = l.space ≡ last_space l.characters l.at

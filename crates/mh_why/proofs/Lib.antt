@@ -1,0 +1,15 @@
+pub mod HarmlessLemmas
+pub mod PlacesLemmas
+pub mod AdviceLemmas
+pub mod MeantLemmas
+pub mod ValueLemmas
+pub mod PlacedLemmas
+pub mod ScriptLemmas
+pub mod PostLemmas
+pub mod FileLemmas
+pub mod WhyLemmas
+pub mod PaintLemmas
+pub mod FileLineLemmas
+pub mod VariableLemmas
+pub mod VerdictLemmas
+pub mod LintLemmas

@@ -1,0 +1,4 @@
+//! Files: those of a service, and those that the command line names.
+
+pub(crate) mod named_file;
+pub(crate) mod shown;
