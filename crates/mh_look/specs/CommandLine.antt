@@ -238,7 +238,6 @@ allowed rows = record {
   start_leads_away = allows rows rule.StartLeadsAway;
   not_shared = allows rows rule.NotShared;
   no_actions = allows rows rule.NoActions;
-  blocked_key = allows rows rule.BlockedKey;
   behind_transition = allows rows rule.BehindTransition;
   division_by_zero = allows rows rule.DivisionByZero;
   negative_size = allows rows rule.NegativeSize;

@@ -3,6 +3,7 @@
 mod noted;
 mod planted;
 mod refused;
+mod unheard;
 
 use crate::cases::all_hold;
 use mh_cases::{Question, said};
@@ -19,7 +20,6 @@ fn allowed(no_actions: bool) -> Allowed {
         start_leads_away: false,
         not_shared: false,
         no_actions,
-        blocked_key: false,
         behind_transition: false,
         division_by_zero: false,
         negative_size: false,

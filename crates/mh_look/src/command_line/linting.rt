@@ -58,7 +58,6 @@ fn allowed(given: &ArgMatches<'_>) -> Allowed
         start_leads_away: allows(given, Rule::StartLeadsAway),
         not_shared: allows(given, Rule::NotShared),
         no_actions: allows(given, Rule::NoActions),
-        blocked_key: allows(given, Rule::BlockedKey),
         behind_transition: allows(given, Rule::BehindTransition),
         division_by_zero: allows(given, Rule::DivisionByZero),
         negative_size: allows(given, Rule::NegativeSize),

@@ -13,7 +13,7 @@ keys: one that the register blocks, one that it lets through, one of another sce
 @a {:Application ("~/a" 0) :OnStartUp ( :TransitionTo (("~/s" 0)) ) }
 @s {:Scene ("~/s" 0) :InputEventReg 3|  :Items ( {:Text 1 :OrigBoxSize 240 16 }|  {:Link 2 :EventSource 0 :EventType UserInput :EventData 6 :LinkEffect ( :SetData (1 'a') ) }|  {:Link 3 :EventSource 0 :EventType UserInput :EventData 100 :LinkEffect ( :TransitionTo (("~/t" 0)) ) } ) }
 @t {:Scene ("~/t" 0) :InputEventReg 3 :OnStartUp ( :SetInputRegister (0 4) )|  :Items ( {:Link 2 :EventSource 0 :EventType UserInput :EventData 6 :LinkEffect ( :TransitionTo (("~/s" 0)) ) } ) }
-=> s:3:10: note: Link 2 waits for a key that the register of its scene does not let through (blocked-key)|;;
+=> s:3:10: never: Link 2 hears nothing: key 6 of Scene 0 is let through by no register|;;
 variables: set and counted up alone; tested; taken as a value; gone through; told how a call went roots
 @a {:Application ("~/a" 0) :OnStartUp ( :TransitionTo (("~/s" 0)) ) }
 @s {:Scene ("~/s" 0) :OnStartUp (|    :Add (1 1) :SetVariable (1 :GInteger 5) :TestVariable (2 1 :GInteger 0) :Add (1 :IndirectRef 3)|    :Run (:IndirectRef 4) :Call (6 5 ( :GOctetString 'ab' :GInteger :IndirectRef 7 )) )|  :Items ( {:IntegerVar 1 :OrigValue 0 } {:IntegerVar 2 :OrigValue 0 } {:IntegerVar 3 :OrigValue 0 } {:ObjectRefVar 4 :OrigValue 8 }|  {:BooleanVar 5 :OrigValue true } {:ResidentPrg 6 :Name 'GSL' } {:IntegerVar 7 :OrigValue 0 } {:Text 8 :OrigBoxSize 24 16 } ) }
