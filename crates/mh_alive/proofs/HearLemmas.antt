@@ -61,20 +61,20 @@ use Rattle.mh_alive.specs.declared.sendings.Sending.{Sending}
 use Rattle.mh_alive.specs.declared.settings.Setting.{Setting}
 use Rattle.mh_alive.specs.declared.tellings.SetTimer.{SetTimer}
 use Rattle.mh_alive.specs.Alive.{Alive, InEachRun, IsAliveOf, IsDeaf, IsDeafAt, IsUnheard, never_hears}
-use Rattle.mh_alive.specs.Hearing.{Ears, ears, hearers, hearing_of, is_hearing, may_listen, may_set, may_sound, sends, setting, settings, settings_by, settings_in, settings_of}
+use Rattle.mh_alive.specs.Hearing.{Ears, by_links, ears, hearers, hearing_of, is_hearing, may_listen, may_set, may_sound, sends, setting, settings, settings_by, settings_in, settings_of}
 use Rattle.mh_alive.specs.Registers.{choice_of, has_register, is_let, lets, lets_any, lets_number, lets_numbered, number_given, plain_register, register, registers, registers_by, registers_in, same_register, sets_register, written_registers}
 use Rattle.mh_alive.specs.Sendings.{same_sending, sending_of, sent, sent_by, sent_in}
 use Rattle.mh_alive.specs.Tellings.{same_timer, set_to}
 use Rattle.mh_alive.specs.There.{comes_to}
 use Rattle.mh_alive.specs.Timers.{Timers, is_timed, timers_with}
 use Rattle.mh_alive.proofs.ActLemmas.{active_effect, effect_among}
-use Rattle.mh_alive.proofs.ComingLemmas.{data_of, group_timed, grouped, one_kind, source_of, type_of}
+use Rattle.mh_alive.proofs.ComingLemmas.{data_of, group_timed, grouped, one_kind, source_of, timer_itself, type_of}
 use Rattle.mh_alive.proofs.InputLemmas.{all_run, run_any, set_one}
 use Rattle.mh_alive.proofs.ReachLemmas.{stays_safe}
 use Rattle.mh_alive.proofs.RunLemmas.{comes_where, if_there, key_itself}
 use Rattle.mh_alive.proofs.SayLemmas.{sending_itself, sent_here}
 use Rattle.mh_alive.proofs.SetLemmas.{or_first, or_second, put_there}
-use Rattle.mh_alive.proofs.SettleLemmas.{settle_closed, settle_groups, settle_keeps}
+use Rattle.mh_alive.proofs.SettleLemmas.{settle_closed, settle_groups, settle_keeps, stays}
 
 or_more : (a b c : Bool) → (b ≡ true → c ≡ true) → (a || b) ≡ true → (a || c) ≡ true
 or_more true b c more h = refl
@@ -198,7 +198,7 @@ sending_kind k (Sure (Some _)) = refl
 
 sends_kind : (v : Service) (w : Flow) (c : Config) (a : Act) (y : Argument) (n : ℤ) (more : List Argument) (kind : EventType) → reached w c ≡ true → Among (active_actions (present v c)) a → a.name ≡ action.SendEvent → a.arguments ≡ y ∷ argument.Direct (value.Int n) ∷ more → event_numbered n ≡ Some kind → sends (ears v w).sent kind ≡ true
 sends_kind v w c a y n more kind among there named are numbered =
-    subst (λ (ss : List Sending). sends ss kind ≡ true) (sym (settle_keeps (length (settings v w)) v _ (settings v w)).0)
+    subst (λ (ss : List Sending). sends ss kind ≡ true) (sym (settle_keeps (length (by_links (settings v w))) v _ (by_links (settings v w))).0)
     (any_more (same_sending one) (λ (s : Sending). s.kind == number_of kind) same (insert_all same_sending [] (sent v w))
     (put_there same_sending sending_itself [] (sent v w) one
     (among_joined (sent_in v) w.configs c one (config_among w.configs c among)
@@ -229,7 +229,7 @@ register_itself g = both_true (key_itself g.at) ((Decides-int_eq g.number g.numb
 
 register_there : (v : Service) (w : Flow) (c : Config) (g : Register) → reached w c ≡ true → Among (registers_in v w c) g → has_register (ears v w).registers g.at g.number ≡ true
 register_there v w c g among h =
-    subst (λ (gs : List Register). list_any (same_register g) gs ≡ true) (sym (settle_keeps (length (settings v w)) v _ (settings v w)).1)
+    subst (λ (gs : List Register). list_any (same_register g) gs ≡ true) (sym (settle_keeps (length (by_links (settings v w))) v _ (by_links (settings v w))).1)
     (put_there same_register register_itself [] (registers v w) g (among_joined (registers_in v w) w.configs c g (config_among w.configs c among) h))
 
 -- one that lets the key through is among those that are told apart
@@ -281,18 +281,37 @@ sets_it : (n : ActionName) → n ≡ action.SetInputRegister → sets_register n
 sets_it n e = ap sets_register e
 
 -- a timer that is set by what may be put to work is there
-set_there : (v : Service) (w : Flow) (c : Config) (p : Fixed) (a : Act) (t : TimerKey) → reached w c ≡ true → Among (present v c) p → is_active (present v c) p ≡ true → (not (is_link p.class) || wakes_in v (ears v w) p.key) ≡ true → Among (actions p) a → Among (set_by w c a) t
-    → list_any (same_timer (timer_of t)) (ears v w).timers.set ≡ true
-set_there v w c p a t among there active awake own h =
-    settle_closed (length (settings v w)) v _ (settings v w) (same_length (length (settings v w))) (setting p (timer_of t))
-    (among_joined (settings_in v w) w.configs c (setting p (timer_of t)) (config_among w.configs c among)
+
+set_among : (v : Service) (w : Flow) (c : Config) (p : Fixed) (a : Act) (t : TimerKey) → reached w c ≡ true → Among (present v c) p → is_active (present v c) p ≡ true → Among (actions p) a → Among (set_by w c a) t → Among (settings v w) (setting p (timer_of t))
+set_among v w c p a t among there active own h =
+    among_joined (settings_in v w) w.configs c (setting p (timer_of t)) (config_among w.configs c among)
     (among_joined (settings_of (w.sets c)) (filter (is_active (present v c)) (present v c)) p (setting p (timer_of t)) (among_filtered (is_active (present v c)) (present v c) p active there)
     (among_joined (settings_by (w.sets c) p) (actions p) a (setting p (timer_of t)) own
     (among_mapped (setting p) (set_to a.name a.arguments (comes_to (w.sets c) a.target)) (timer_of t)
-    (subst (λ (rs : List ObjRef). Among (set_to a.name a.arguments rs) (timer_of t)) (sym (comes_where w c a.target)) (set_one a.name a.arguments (targets w c a.target) t h)))))) awake
+    (subst (λ (rs : List ObjRef). Among (set_to a.name a.arguments rs) (timer_of t)) (sym (comes_where w c a.target)) (set_one a.name a.arguments (targets w c a.target) t h)))))
+
+set_there : (v : Service) (w : Flow) (c : Config) (p : Fixed) (a : Act) (t : TimerKey) → reached w c ≡ true → Among (present v c) p → is_active (present v c) p ≡ true → (not (is_link p.class) || wakes_in v (ears v w) p.key) ≡ true → Among (actions p) a → Among (set_by w c a) t
+    → list_any (same_timer (timer_of t)) (ears v w).timers.set ≡ true
+set_there v w c p a t among there active awake own h = by (is_link p.class) refl
   where
+    all : List Setting
+    all = settings v w
+
+    set : Among all (setting p (timer_of t))
+    set = set_among v w c p a t among there active own h
+
     same_length : (n : ℕ) → n ≤ n
     same_length n = omega arith
+
+    -- of a link by the rounds, and else from the start
+    by : (b : Bool) → is_link p.class ≡ b → list_any (same_timer (timer_of t)) (ears v w).timers.set ≡ true
+    by true link =
+        settle_closed (length (by_links all)) v _ (by_links all) (same_length (length (by_links all))) (setting p (timer_of t))
+        (among_filtered (λ (s : Setting). s.is_link) all (setting p (timer_of t)) link set) awake
+    by false other =
+        stays (length (by_links all)) v _ (by_links all) (timer_of t)
+        (put_there same_timer timer_itself [] (map (λ (s : Setting). s.timer) (filter (λ (s : Setting). not s.is_link) all)) (timer_of t)
+        (among_mapped (λ (s : Setting). s.timer) (filter (λ (s : Setting). not s.is_link) all) (setting p (timer_of t)) (among_filtered (λ (s : Setting). not s.is_link) all (setting p (timer_of t)) (ap not other) set)))
 
 said : (v : Service) (w : Flow) → IsSaidClosed v w (only_set w (ears v w)) (says_in (ears v w))
 said v w = record {
@@ -350,7 +369,7 @@ deaf most v k a r is never mjd fs ss ms s run p there same = record {
     x = ears v k.flow
 
     whole : x.timers ≡ timers_with x.timers.set
-    whole = settle_groups (length (settings v k.flow)) v _ (settings v k.flow) refl
+    whole = settle_groups (length (by_links (settings v k.flow))) v _ (by_links (settings v k.flow)) refl
 
     woken : IsWakeClosed v k.flow all_run (says_in x) (wakes_in v x)
     woken = wake_closed v k.flow x whole

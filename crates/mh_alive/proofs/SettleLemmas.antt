@@ -90,7 +90,7 @@ settle_groups (suc n) v x ss h = by (is_empty (now_of v x ss)) (settle_groups n 
     by false g = g
 
 -- a timer that is there stays
-stays : (n : ℕ) (v : Service) (x : Ears) (ss : List Setting) (t : SetTimer) → list_any (same_timer t) x.timers.set ≡ true → list_any (same_timer t) (settle n v x ss).timers.set ≡ true
+pub stays : (n : ℕ) (v : Service) (x : Ears) (ss : List Setting) (t : SetTimer) → list_any (same_timer t) x.timers.set ≡ true → list_any (same_timer t) (settle n v x ss).timers.set ≡ true
 stays zero v x ss t h = h
 stays (suc n) v x ss t h = by (is_empty (now_of v x ss)) (stays n v (with_set x (now_of v x ss)) (later_of v x ss) t (all_stay same_timer t x.timers.set (map (λ s. s.timer) (now_of v x ss)) h))
   where

@@ -100,9 +100,17 @@ settle (suc n) v x ss =
     if is_empty (filter (may_set (hearers v x)) ss) then x
     else settle n v (with_set x (filter (may_set (hearers v x)) ss)) (filter (λ s. not (may_set (hearers v x) s)) ss)
 
--- as many rounds as may be wanted
+-- the timers that are set elsewhere
+abbrev pub outer_timers : List Setting → List SetTimer
+outer_timers ts = insert_all same_timer [] (map (λ s. s.timer) (filter (λ s. not s.is_link) ts))
+
+abbrev pub by_links : List Setting → List Setting
+by_links ts = filter (λ s. s.is_link) ts
+
+-- from these on as many rounds as may be wanted
 abbrev pub settled : Service → List Sending → List Register → List Setting → Ears
-settled v ss gs ts = settle (length ts) v (record { sent = ss; registers = gs; timers = timers_with [] }) ts
+settled v ss gs ts =
+    settle (length (by_links ts)) v (record { sent = ss; registers = gs; timers = timers_with (outer_timers ts) }) (by_links ts)
 
 abbrev pub ears : Service → Flow → Ears
 ears v w = settled v (insert_all same_sending [] (sent v w)) (insert_all same_register [] (registers v w)) (settings v w)

@@ -185,6 +185,26 @@ fn parted(
     Ok((now, later))
 }
 
+/// The timers that are set elsewhere than in the effects of links, and the settings of links.
+fn outer(
+    alloc: Global,
+    settings: Vec<Setting>,
+) -> Result<(IndexSet<SetTimer>, Vec<Setting>), AllocError>
+    ensures timers { IfOk result (λ x. x.0.keys ≡ spec.outer_timers settings.items) }
+    ensures links { IfOk result (λ x. x.1.items ≡ spec.by_links settings.items) }
+{
+    let mut timers = IndexSet::new(alloc);
+    let mut links = Vec::new(alloc);
+    for setting in settings {
+        if setting.is_link {
+            links.push(setting)?;
+        } else {
+            timers.insert(setting.timer)?;
+        }
+    }
+    Ok((timers, links))
+}
+
 /// These timers and further ones.
 fn with_timers(alloc: Global, timers: Timers, further: Vec<SetTimer>) -> Result<Timers, AllocError>
     ensures { IfOk result (λ more. more ≡ timers_with_lem (insert_all same_timer timers.set further.items)) }
@@ -208,17 +228,18 @@ pub(crate) fn hearers_of(
     ensures { IfOk result (λ hearers. hearers.keys
         ≡ spec.hearers service.now (spec.settled service.now sent.now.keys registers.now.keys settings.items)) }
 {
-    let rounds = settings.len();
-    let timers = timers_with(alloc, IndexSet::new(alloc))?;
+    let (timers, links) = outer(alloc, settings)?;
+    let timers = timers_with(alloc, timers)?;
     let mut ears = Ears {
         sent,
         registers,
         timers,
     };
-    let mut settings = settings;
+    let rounds = links.len();
+    let mut links = links;
     for _ in 0..rounds {
         let hearers = ears.hearers(alloc, service)?;
-        let (now, later) = parted(alloc, &hearers, settings)?;
+        let (now, later) = parted(alloc, &hearers, links)?;
         if now.is_empty() {
             return Ok(hearers);
         }
@@ -228,7 +249,7 @@ pub(crate) fn hearers_of(
             registers,
             timers,
         };
-        settings = later;
+        links = later;
     }
     ears.hearers(alloc, service)
 }

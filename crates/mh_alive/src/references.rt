@@ -14,9 +14,7 @@ use std::alloc::AllocError;
 pub(crate) fn put(references: &mut IndexSet<ObjRef>, at: &ObjRef) -> Result<(), AllocError>
     ensures { OnOk result (references.new.keys ≡ insert_all same_key references.old.keys (at.now ∷ [])) }
 {
-    if !references.contains(at) {
-        references.insert(at.clone()?)?;
-    }
+    references.insert(at.clone()?)?;
     Ok(())
 }
 
