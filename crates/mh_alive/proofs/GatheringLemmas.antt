@@ -2,6 +2,7 @@
 use Rattle.std.specs.Prelude.{◌≡◌, Bool, true, false, cond, List, [], ◌∷◌, ◌++◌, ℕ, filter, fold, map, refl}
 use Rattle.std.specs.List.{flat_map}
 use Rattle.std.proofs.Common.{ap, sym, subst, ◌∙◌}
+use Rattle.std.proofs.lemmas.List.{map-append}
 use Rattle.std.proofs.lemmas.List.Concat.{flat_map-append}
 use Rattle.indexmap.specs.IndexSet.{insert_all}
 use Rattle.mh_base.specs.declared.obj_ref.ObjRef.{ObjRef}
@@ -9,6 +10,7 @@ use Rattle.mh_model.specs.declared.act.Act.{Act}
 use Rattle.mh_model.specs.declared.config.Config.{Config}
 use Rattle.mh_model.specs.declared.object.Fixed.{Fixed}
 use Rattle.mh_model.specs.Configuration.{present}
+use Rattle.mh_model.specs.Effects.{actions}
 use Rattle.mh_model.specs.Reference.{same_key}
 use Rattle.mh_model.specs.Service.{Service}
 use Rattle.mh_laws.specs.Active.{active_actions, is_active}
@@ -18,12 +20,14 @@ use Rattle.mh_flow.specs.Solved.{Solved, flow_in, held_by}
 use Rattle.mh_flow.proofs.SiteLemmas.{through_active, through_sites}
 use Rattle.mh_alive.specs.Alive.{Alive, IsAliveOf, alive_with}
 use Rattle.mh_alive.specs.declared.settings.Setting.{Setting}
-use Rattle.mh_alive.specs.Hearing.{settings, settings_among, settings_by, settings_in, settings_of}
+use Rattle.mh_alive.specs.declared.tellings.SetTimer.{SetTimer}
+use Rattle.mh_alive.specs.Puts.{all_puts, puts, web_with}
+use Rattle.mh_alive.specs.Hearing.{all_timers, setting, settings, settings_among, settings_by, settings_in, settings_of}
 use Rattle.mh_alive.specs.Registers.{registers_by, registers_in, same_register, written_registers}
 use Rattle.mh_alive.specs.Gathering.{Gathered, gathered, nothing, with_config, with_parts, with_present, with_sites}
 use Rattle.mh_alive.specs.Runners.{run_by, run_with, runners_in}
 use Rattle.mh_alive.specs.Sendings.{same_sending, sent_by, sent_in}
-use Rattle.mh_alive.specs.Tellings.{same_telling, same_timer, set_by, set_in, told_by, told_in, told_itself}
+use Rattle.mh_alive.specs.Tellings.{same_telling, same_timer, set_by, set_in, set_timers, told, told_by, told_in, told_itself}
 use Rattle.mh_alive.specs.There.{sets_there}
 use Rattle.mh_alive.proofs.SetLemmas.{put_both}
 
@@ -77,7 +81,6 @@ there_gathered h a b c d ps qs all xs whole are first second third =
       runners = three same_key (run_with h) (run_by h) a.runners ps qs all xs whole are i;
       sent = acts_of same_sending sent_by a.sent all xs are i;
       told = three same_telling told_itself (told_by h) a.told ps qs all xs whole are i;
-      timers = acts_of same_timer (set_by h) a.timers all xs are i;
       settings = settings_joined h all a.settings ps qs whole i;
       registers = three same_register written_registers (registers_by h) a.registers ps qs all xs whole are i;
     })
@@ -96,7 +99,6 @@ over v w g cs = record {
   runners = insert_all same_key g.runners (flat_map (runners_in v w) cs);
   sent = insert_all same_sending g.sent (flat_map (sent_in v) cs);
   told = insert_all same_telling g.told (flat_map (told_in v w) cs);
-  timers = insert_all same_timer g.timers (flat_map (set_in v w) cs);
   settings = g.settings ++ flat_map (settings_in v w) cs;
   registers = insert_all same_register g.registers (flat_map (registers_in v w) cs);
 }
@@ -107,13 +109,12 @@ one_more v w g c cs = λ i. record {
   runners = put_both same_key g.runners (runners_in v w c) (flat_map (runners_in v w) cs) i;
   sent = put_both same_sending g.sent (sent_in v c) (flat_map (sent_in v) cs) i;
   told = put_both same_telling g.told (told_in v w c) (flat_map (told_in v w) cs) i;
-  timers = put_both same_timer g.timers (set_in v w c) (flat_map (set_in v w) cs) i;
   settings = appended g.settings (settings_in v w c) (flat_map (settings_in v w) cs) i;
   registers = put_both same_register g.registers (registers_in v w c) (flat_map (registers_in v w) cs) i;
 }
 
 all_over : (v : Service) (w : Flow) (g : Gathered) (cs : List Config) → fold (with_config v w) g cs ≡ over v w g cs
-all_over v w g [] = λ i. record { runners = g.runners; sent = g.sent; told = g.told; timers = g.timers; settings = sym (none g.settings) i; registers = g.registers }
+all_over v w g [] = λ i. record { runners = g.runners; sent = g.sent; told = g.told; settings = sym (none g.settings) i; registers = g.registers }
   where
     none : (xs : List Setting) → xs ++ [] ≡ xs
     none [] = refl
@@ -124,9 +125,38 @@ pub all_gathered : (v : Service) (w : Flow) (a b : Gathered) (cs : List Config) 
 all_gathered v w a b cs none all made =
     made ∙ (λ i. fold (with_config v w) (none i) (all i)) ∙ all_over v w nothing w.configs
 
+-- the timers of settings are those that are set
+
+joined_map : {X Y Z : Type 0} (f : Y → Z) (g : X → List Y) (k : X → List Z) → ((x : X) → map f (g x) ≡ k x) → (xs : List X) → map f (flat_map g xs) ≡ flat_map k xs
+joined_map f g k each [] = refl
+joined_map {X} {Y} {Z} f g k each (x ∷ xs) = map-append f (g x) (flat_map g xs) ∙ (λ i. each x i ++ joined_map f g k each xs i)
+
+nested : {X Y Z : Type 0} (f : Y → List Z) (g : X → List Y) (xs : List X) → flat_map (λ x. flat_map f (g x)) xs ≡ flat_map f (flat_map g xs)
+nested f g [] = refl
+nested {X} {Y} {Z} f g (x ∷ xs) = ap (λ (t : List Z). flat_map f (g x) ++ t) (nested f g xs) ∙ sym (flat_map-append f (g x) (flat_map g xs))
+
+own_timers : (p : Fixed) (ts : List SetTimer) → map (λ (s : Setting). s.timer) (map (setting p) ts) ≡ ts
+own_timers p [] = refl
+own_timers p (t ∷ ts) = ap (λ (us : List SetTimer). t ∷ us) (own_timers p ts)
+
+timers_in : (v : Service) (w : Flow) (c : Config) → map (λ (s : Setting). s.timer) (settings_in v w c) ≡ set_in v w c
+timers_in v w c =
+    joined_map (λ (s : Setting). s.timer) (settings_of h) (λ p. flat_map (set_by h) (actions p))
+    (λ p. joined_map (λ (s : Setting). s.timer) (settings_by h p) (set_by h) (λ a. own_timers p (set_by h a)) (actions p)) (filter (is_active (present v c)) (present v c))
+    ∙ nested (set_by h) actions (filter (is_active (present v c)) (present v c))
+  where
+    h : Sets
+    h = w.sets c
+
+timers_set : (v : Service) (w : Flow) → map (λ (s : Setting). s.timer) (settings v w) ≡ set_timers v w
+timers_set v w = joined_map (λ (s : Setting). s.timer) (settings_in v w) (set_in v w) (timers_in v w) w.configs
+
 -- and what is made of it is what may be alive
 pub alive_is : (v : Service) (w : Flow) (g : Gathered) (a : Alive) → g ≡ gathered v w → a ≡ alive_with v g → IsAliveOf v w a
-alive_is v w g a all made = subst (IsAliveOf v w) (sym (made ∙ ap (alive_with v) all)) (record { runners = refl; sent = refl; puts = refl; hearers = refl })
+alive_is v w g a all made = subst (IsAliveOf v w) (sym (made ∙ ap (alive_with v) all)) (record { runners = refl; sent = refl; puts = puts_are; hearers = refl })
+  where
+    puts_are : insert_all same_key [] (all_puts v (web_with (insert_all same_telling [] (told v w)) (all_timers (settings v w)))) ≡ insert_all same_key [] (puts v w)
+    puts_are = ap (λ (ts : List SetTimer). insert_all same_key [] (all_puts v (web_with (insert_all same_telling [] (told v w)) (insert_all same_timer [] ts)))) (timers_set v w)
 
 pub groups_joined : {K : Type 0} (f : List Fixed → List K) (gs : List (List ℕ × List Fixed)) → flat_map f (map (λ g. g.1) gs) ≡ flat_map (λ g. f g.1) gs
 groups_joined f [] = refl

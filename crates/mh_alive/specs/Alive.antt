@@ -31,7 +31,7 @@ use Rattle.mh_laws.specs.Safe.{config_of}
 use Rattle.mh_laws.specs.Weighing.{hears_key}
 use Rattle.mh_alive.specs.declared.sendings.Sending.{Sending}
 use Rattle.mh_alive.specs.Gathering.{Gathered}
-use Rattle.mh_alive.specs.Hearing.{ears, hearers, settled}
+use Rattle.mh_alive.specs.Hearing.{all_timers, ears, hearers, settled}
 use Rattle.mh_alive.specs.Puts.{all_puts, puts, web_with}
 use Rattle.mh_alive.specs.Runners.{runners}
 use Rattle.mh_alive.specs.Sendings.{may_say, same_sending, sent}
@@ -52,7 +52,7 @@ abbrev pub alive_with : Service → Gathered → Alive
 alive_with v g = record {
   runners = g.runners;
   sent = g.sent;
-  puts = insert_all same_key [] (all_puts v (web_with g.told g.timers));
+  puts = insert_all same_key [] (all_puts v (web_with g.told (all_timers g.settings)));
   hearers = hearers v (settled v g.sent g.registers g.settings);
 }
 

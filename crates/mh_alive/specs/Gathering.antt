@@ -16,23 +16,21 @@ use Rattle.mh_alive.specs.declared.registers.Register.{Register}
 use Rattle.mh_alive.specs.declared.sendings.Sending.{Sending}
 use Rattle.mh_alive.specs.declared.settings.Setting.{Setting}
 use Rattle.mh_alive.specs.declared.tellings.Telling.{Telling}
-use Rattle.mh_alive.specs.declared.tellings.SetTimer.{SetTimer}
 use Rattle.mh_alive.specs.Hearing.{settings, settings_among}
 use Rattle.mh_alive.specs.Registers.{registers, registers_by, registers_with, same_register, written_registers}
 use Rattle.mh_alive.specs.Runners.{run_by, run_with, runners, runners_with}
 use Rattle.mh_alive.specs.Sendings.{same_sending, sent, sent_by}
-use Rattle.mh_alive.specs.Tellings.{same_telling, same_timer, set_by, set_timers, told, told_by, told_itself, told_there}
+use Rattle.mh_alive.specs.Tellings.{same_telling, told, told_by, told_itself, told_there}
 
 pub record Gathered : Type 0 where
   pub runners : List ObjRef
   pub sent : List Sending
   pub told : List Telling
-  pub timers : List SetTimer
   pub settings : List Setting
   pub registers : List Register
 
 abbrev pub nothing : Gathered
-nothing = record { runners = []; sent = []; told = []; timers = []; settings = []; registers = [] }
+nothing = record { runners = []; sent = []; told = []; settings = []; registers = [] }
 
 -- with what these objects tell and run of themselves, the registers that are written at them, and the timers that their effects
 -- set, where all these are present
@@ -50,7 +48,6 @@ with_sites h g xs = record g {
   runners = insert_all same_key g.runners (flat_map (λ x. run_by h x.act) xs);
   sent = insert_all same_sending g.sent (flat_map (λ x. sent_by x.act) xs);
   told = insert_all same_telling g.told (flat_map (λ x. told_by h x.act) xs);
-  timers = insert_all same_timer g.timers (flat_map (λ x. set_by h x.act) xs);
   registers = insert_all same_register g.registers (flat_map (λ x. registers_by h x.act) xs);
 }
 
@@ -60,7 +57,6 @@ with_present h g ps = record {
   runners = insert_all same_key g.runners (runners_with h ps);
   sent = insert_all same_sending g.sent (flat_map sent_by (active_actions ps));
   told = insert_all same_telling g.told (told_there h ps);
-  timers = insert_all same_timer g.timers (flat_map (set_by h) (active_actions ps));
   settings = g.settings ++ settings_among h ps ps;
   registers = insert_all same_register g.registers (registers_with h ps);
 }
@@ -75,7 +71,6 @@ gathered v w = record {
   runners = insert_all same_key [] (runners v w);
   sent = insert_all same_sending [] (sent v w);
   told = insert_all same_telling [] (told v w);
-  timers = insert_all same_timer [] (set_timers v w);
   settings = settings v w;
   registers = insert_all same_register [] (registers v w);
 }

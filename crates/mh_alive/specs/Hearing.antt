@@ -52,6 +52,10 @@ settings_in v w c = settings_among (w.sets c) (present v c) (present v c)
 abbrev pub settings : Service → Flow → List Setting
 settings v w = flat_map (settings_in v w) w.configs
 
+-- the timers that are set, each once
+abbrev pub all_timers : List Setting → List SetTimer
+all_timers ss = insert_all same_timer [] (map (λ s. s.timer) ss)
+
 -- HEARING. What is sent, which registers there may be, and which timers.
 pub record Ears : Type 0 where
   pub sent : List Sending

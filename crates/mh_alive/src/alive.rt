@@ -1,6 +1,7 @@
 //! `Alive`: what may come to be in runs of a service.
 //!
-//! Promise: what is in none of its sets never runs, never comes and is never put to work, where the service is accepted.
+//! Promise: what is in none of its sets never runs, never comes, is never put to work and never hears, where the service is
+//! accepted.
 ghost use Rattle.std.specs.Prelude.{◌≡◌, ◌++◌, true, [], IfOk, OnOk};
 ghost use Rattle.std.specs.List.{flat_map};
 ghost use Rattle.std.specs.Option.{option_copied};
@@ -18,6 +19,7 @@ use crate::gathering::{Gathered, gather};
 use crate::hearing::hearers_of;
 use crate::puts::web_of;
 use crate::sendings::{Sending, may_say};
+use crate::settings::timers_of;
 use indexmap::IndexSet;
 use mh_base::{EventType, ObjRef, Value};
 use mh_flow::{Equipped, Flow};
@@ -63,10 +65,10 @@ fn alive_with(
         runners,
         sent,
         told,
-        timers,
         settings,
         registers,
     } = gathered;
+    let timers = timers_of(alloc, settings.as_slice())?;
     let hearers = hearers_of(alloc, service, &sent, &registers, settings)?;
     let web = web_of(alloc, told, timers)?;
     let puts = web.puts(alloc, service)?;

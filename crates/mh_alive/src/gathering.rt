@@ -10,9 +10,9 @@ ghost use Rattle.mh_alive.specs.There.{sets_there};
 use crate::registers::Register;
 use crate::sendings::Sending;
 use crate::settings::Setting;
-use crate::tellings::{SetTimer, Telling};
+use crate::tellings::Telling;
 use crate::there::There;
-use crate::{registers, runners, sendings, settings, tellings, timers};
+use crate::{registers, runners, sendings, settings, tellings};
 use indexmap::IndexSet;
 use mh_base::ObjRef;
 use mh_flow::sites::sites_of;
@@ -21,13 +21,12 @@ use mh_model::{Config, FixedPart};
 use std::alloc::{AllocError, Global};
 use std::marker::Model;
 
-/// What may run, what is sent, what is told, which timers are set and by what, and which registers scenes may have.
+/// What may run, what is sent, what is told, which timers are set by what, and which registers scenes may have.
 #[derive(Drop)]
 pub(crate) struct Gathered {
     pub runners: IndexSet<ObjRef>,
     pub sent: IndexSet<Sending>,
     pub told: IndexSet<Telling>,
-    pub timers: IndexSet<SetTimer>,
     pub settings: Vec<Setting>,
     pub registers: IndexSet<Register>,
 }
@@ -41,7 +40,6 @@ impl Model for Gathered {
       runners = g.runners.keys;
       sent = g.sent.keys;
       told = g.told.keys;
-      timers = g.timers.keys;
       settings = g.settings.items;
       registers = g.registers.keys;
     } };
@@ -55,7 +53,6 @@ impl Gathered {
             runners: IndexSet::new(alloc),
             sent: IndexSet::new(alloc),
             told: IndexSet::new(alloc),
-            timers: IndexSet::new(alloc),
             settings: Vec::new(alloc),
             registers: IndexSet::new(alloc),
         }
@@ -83,7 +80,6 @@ impl Gathered {
         runners::put_sites(&mut self.runners, there, sites)?;
         sendings::put_sites(&mut self.sent, sites)?;
         tellings::put_sites(&mut self.told, there, sites)?;
-        timers::put_sites(&mut self.timers, there, sites)?;
         registers::put_sites(&mut self.registers, there, sites)
     }
 

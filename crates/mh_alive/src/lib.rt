@@ -1,8 +1,8 @@
 //! What may come to be in runs of an accepted service, and so what never does: which objects may run, with which
-//! data events may come, and which links may be put to work.
+//! data events may come, which links may be put to work, and which may hear the timer or the key that they wait for.
 //!
-//! Promise: the sets are closed as the laws of `mh_laws` want it, and what is in none of them never runs, never
-//! comes and is never put to work. Nothing is said of what is in them.
+//! Promise: the sets are closed as the laws of `mh_never` want it, and what is in none of them never runs, never
+//! comes, is never put to work and never hears. Nothing is said of what is in them.
 #![tactic(auto)]
 
 mod alive;
@@ -18,7 +18,6 @@ mod set_timers;
 mod settings;
 mod tellings;
 mod there;
-mod timers;
 
 pub use alive::{Alive, alive_of};
 pub use law::stays_reached;

@@ -5,16 +5,18 @@ ghost use Rattle.std.specs.Prelude.{◌≡◌, ◌++◌, ◌∷◌, [], filter, 
 ghost use Rattle.std.specs.List.{flat_map};
 ghost use Rattle.mh_laws.specs.Active.{is_active};
 ghost use Rattle.mh_alive.specs.Hearing as spec;
-ghost use Rattle.mh_alive.specs.Tellings.{set_to, timer as timer_lem};
+ghost use Rattle.indexmap.specs.IndexSet.{insert_all};
+ghost use Rattle.mh_alive.specs.Tellings.{same_timer, set_to, timer as timer_lem};
 ghost use Rattle.mh_alive.specs.There.{comes_to, sets_there};
 
 use crate::tellings::SetTimer;
 use crate::there::There;
-use crate::timers::timer;
+use indexmap::IndexSet;
 use mh_base::{ObjRef, Value};
 use mh_flow::Site;
 use mh_flow::sites::sites;
 use mh_group::{ActionName, Class};
+use mh_model::parts::group_ref;
 use mh_model::{Act, Argument, Fixed, FixedPart};
 use std::alloc::{AllocError, Global};
 
@@ -24,6 +26,14 @@ pub(crate) struct Setting {
     pub by: ObjRef,
     pub is_link: bool,
     pub timer: SetTimer,
+}
+
+/// The timer of the object's group with this id.
+fn timer(at: &ObjRef, id: i32) -> Result<SetTimer, AllocError>
+    ensures { IfOk result (λ one. one ≡ timer_lem at.now id) }
+{
+    let at = group_ref(&at.group)?;
+    Ok(SetTimer { at, id })
 }
 
 fn setting_of(part: &Fixed, at: &ObjRef, id: i32) -> Result<Setting, AllocError>
@@ -133,4 +143,34 @@ pub(crate) fn push_parts(
         }
     }
     Ok(())
+}
+
+fn copied(timer: &SetTimer) -> Result<SetTimer, AllocError>
+    ensures { IfOk result (λ copy. copy ≡ timer.now) }
+{
+    Ok(SetTimer {
+        at: timer.at.clone()?,
+        id: timer.id,
+    })
+}
+
+fn put_timer(timers: &mut IndexSet<SetTimer>, timer: &SetTimer) -> Result<(), AllocError>
+    ensures { OnOk result (timers.new.keys ≡ insert_all same_timer timers.old.keys (timer.now ∷ [])) }
+{
+    timers.insert(copied(timer)?)?;
+    Ok(())
+}
+
+/// The timers that are set, each once.
+pub(crate) fn timers_of(
+    alloc: Global,
+    settings: &[Setting],
+) -> Result<IndexSet<SetTimer>, AllocError>
+    ensures { IfOk result (λ timers. timers.keys ≡ spec.all_timers settings.now) }
+{
+    let mut timers = IndexSet::new(alloc);
+    for setting in settings {
+        put_timer(&mut timers, &setting.timer)?;
+    }
+    Ok(timers)
 }

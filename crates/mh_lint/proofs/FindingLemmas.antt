@@ -68,7 +68,7 @@ unsaid_never most v k a is p None d f e = absurd cc
 unmoved_never : (most : ℕ) (v : Service) (k : IsAccepted most v) (a : Alive) → IsAliveOf v k.flow a → (p : Fixed) (f : Finding) → Among (option_to_list (unmoved a p)) f → NeverHappens most v k f
 unmoved_never most v k a is p f h = by (never_put a p.key) (never_hears a p.key) refl refl h
   where
-    by : (b d : Bool) → never_put a p.key ≡ b → never_hears a p.key ≡ d → Among (option_to_list (if b then Some (finding.Unput p.key) else (if d then Some (finding.Unheard p.key) else None))) f → NeverHappens most v k f
+    by : (b d : Bool) → never_put a p.key ≡ b → never_hears a p.key ≡ d → Among (option_to_list (if b then Some (finding.Unput p.key) else (if d then Some (finding.Deaf p.key) else None))) f → NeverHappens most v k f
     by true d never deaf (inl same) = subst (NeverHappens most v k) same (unput_law most v k a p.key is never)
     by true d never deaf (inr more) = absurd cc
     by false true never deaf (inl same) = subst (NeverHappens most v k) same (deaf_law most v k a p.key is deaf)

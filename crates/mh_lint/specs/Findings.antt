@@ -24,7 +24,7 @@ unsaid a p _ _ = None
 -- a link that nothing puts to work, or that never hears what would
 abbrev pub unmoved : Alive → Fixed → Option Finding
 unmoved a p =
-    if never_put a p.key then Some (finding.Unput p.key) else (if never_hears a p.key then Some (finding.Unheard p.key) else None)
+    if never_put a p.key then Some (finding.Unput p.key) else (if never_hears a p.key then Some (finding.Deaf p.key) else None)
 
 abbrev pub or_unmoved : Alive → Fixed → Option Finding → Option Finding
 or_unmoved a p (Some f) = Some f

@@ -24,7 +24,7 @@ NeverHappens most v k (finding.Unreached r) = InEachRun v (IsOutside r.group)
 NeverHappens most v k (finding.Idle r) = InEachRun v (IsStill r)
 NeverHappens most v k (finding.Unsaid r kind x) = InEachRun v (IsUnsaid kind (Some x))
 NeverHappens most v k (finding.Unput r) = InEachRun v (AllPutLiving v k.flow (costs v k.flow k.rank) (is_other r))
-NeverHappens most v k (finding.Unheard r) = InEachRun v (IsDeafAt v r)
+NeverHappens most v k (finding.Deaf r) = InEachRun v (IsDeafAt v r)
 
 -- THE LAW. What is found of an accepted service, be it a root or what follows from one, happens in no run of it.
 abbrev pub FindingsNeverHappen : Type 0

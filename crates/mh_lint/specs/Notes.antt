@@ -21,8 +21,6 @@ use Rattle.mh_model.specs.declared.act.Target.TheVariants as target
 use Rattle.mh_model.specs.declared.object.Fixed.{Fixed}
 use Rattle.mh_model.specs.declared.object.member.Member.{Member}
 use Rattle.mh_model.specs.Groups.{is_initially_active, is_shared}
-use Rattle.mh_model.specs.declared.key.Key.{Key}
-use Rattle.mh_model.specs.Key.{key_number, keys, passes}
 use Rattle.mh_model.specs.Late.{is_late_scene}
 use Rattle.mh_model.specs.Property.{held, as_effect, as_event, as_int, as_value}
 use Rattle.mh_model.specs.Reference.{same_ref}

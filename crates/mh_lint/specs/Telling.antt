@@ -134,8 +134,8 @@ deaf_link_words v None = []
 deaf_link_words v (Some p) =
     deaf_words v p.key.group (as_event (held attribute.EventType p.properties)) (as_value (held attribute.EventSource p.properties)) (as_value (held attribute.EventData p.properties))
 
-unfoldable pub unheard_words : Service → ObjRef → List ℕ
-unheard_words v r = codes " hears nothing" ++ deaf_link_words v (part_at r (group_parts v r.group))
+unfoldable pub hears_nothing_words : Service → ObjRef → List ℕ
+hears_nothing_words v r = codes " hears nothing" ++ deaf_link_words v (part_at r (group_parts v r.group))
 
 -- what is said of a finding behind its object
 abbrev pub said_words : Service → Finding → List ℕ
@@ -143,14 +143,14 @@ said_words v (finding.Unreached r) = unreached_words
 said_words v (finding.Idle r) = idle_words
 said_words v (finding.Unsaid r kind x) = unsaid_words kind x
 said_words v (finding.Unput r) = unput_words v r
-said_words v (finding.Unheard r) = unheard_words v r
+said_words v (finding.Deaf r) = hears_nothing_words v r
 
 abbrev pub object_of : Finding → ObjRef
 object_of (finding.Unreached r) = r
 object_of (finding.Idle r) = r
 object_of (finding.Unsaid r kind x) = r
 object_of (finding.Unput r) = r
-object_of (finding.Unheard r) = r
+object_of (finding.Deaf r) = r
 
 unfoldable pub finding_words : Service → List Source → Finding → List ℕ
 finding_words v fs f = front_words fs (object_of f) ++ codes " never: " ++ object_words v (object_of f) ++ said_words v f ++ codes "\n"

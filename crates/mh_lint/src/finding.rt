@@ -14,5 +14,5 @@ pub enum Finding {
     /// Nothing puts the link to work.
     Unput(ObjRef),
     /// The link never hears what it waits for: a timer that only such links set, or a key that no register lets through.
-    Unheard(ObjRef),
+    Deaf(ObjRef),
 }

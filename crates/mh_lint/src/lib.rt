@@ -6,6 +6,7 @@
 #![tactic(auto)]
 
 mod acts;
+mod deaf;
 mod ending;
 mod finding;
 mod findings;
@@ -23,7 +24,6 @@ mod sights;
 mod sources;
 mod telling;
 mod timers;
-mod unheard;
 mod uses;
 
 pub use finding::Finding;

@@ -70,7 +70,7 @@ fn unmoved(alive: &Alive, part: &Fixed) -> Result<Option<Finding>, AllocError>
         return Ok(Some(Finding::Unput(part.key.clone()?)));
     }
     if alive.never_hears(&part.key) {
-        return Ok(Some(Finding::Unheard(part.key.clone()?)));
+        return Ok(Some(Finding::Deaf(part.key.clone()?)));
     }
     Ok(None)
 }

@@ -6,9 +6,9 @@ ghost use Rattle.std.specs.List.{flat_map};
 ghost use Rattle.std.specs.Option.{option_copied};
 ghost use Rattle.mh_lint.specs.Telling as spec;
 
+use crate::deaf::put_hears_nothing;
 use crate::finding::Finding;
 use crate::place::place_of;
-use crate::unheard::put_unheard;
 use mh_base::{EventType, GroupName, ObjRef, Value};
 use mh_flow::Equipped;
 use mh_group::{Attribute, event_word};
@@ -247,7 +247,7 @@ fn put_words(text: &mut Text, service: &Equipped<'_>, finding: &Finding) -> Resu
         Finding::Idle(_) => put_idle(text),
         Finding::Unsaid(_, kind, value) => put_unsaid(text, *kind, value),
         Finding::Unput(at) => put_unput(text, service, at),
-        Finding::Unheard(at) => put_unheard(text, service, at),
+        Finding::Deaf(at) => put_hears_nothing(text, service, at),
     }
 }
 
@@ -260,7 +260,7 @@ fn object_of(finding: &Finding) -> &ObjRef
         | Finding::Idle(at)
         | Finding::Unsaid(at, _, _)
         | Finding::Unput(at)
-        | Finding::Unheard(at) => at,
+        | Finding::Deaf(at) => at,
     }
 }
 

@@ -81,13 +81,13 @@ fn put_deaf_link(
     }
 }
 
-#[tactic(auto, unfolding(crate::specs::Telling::unheard_words))]
-pub(crate) fn put_unheard(
+#[tactic(auto, unfolding(crate::specs::Telling::hears_nothing_words))]
+pub(crate) fn put_hears_nothing(
     text: &mut Text,
     service: &Equipped<'_>,
     at: &ObjRef,
 ) -> Result<(), AllocError>
-    ensures { OnOk result (text.new ≡ text.old ++ spec.unheard_words service.now at.now) }
+    ensures { OnOk result (text.new ≡ text.old ++ spec.hears_nothing_words service.now at.now) }
 {
     text.put(b" hears nothing")?;
     put_deaf_link(text, service, service.find(at))
