@@ -203,9 +203,7 @@ fn late<'a>(alloc: Global) -> Arg<'a>
     ensures rule { rule_of result ≡ spec.late }
     ensures local { result.global ≡ false }
 {
-    named(alloc, "late", "FILE").help(
-        "The scenes whose files come late, a name a line; a line `scene NAME` of the script brings one",
-    )
+    named(alloc, "late", "FILE").help("The scenes whose files come late, a name a line")
 }
 
 fn tags<'a>(alloc: Global) -> Arg<'a>
