@@ -1,8 +1,8 @@
 //! The page on embedding (`docs/EMBEDDING.md`): the code that it shows, as it stands there, and the example
 //! `first`, played by it.
-mod first;
+mod example;
 
-use crate::embedding::first::{APPLICATION, LATE_SCREENS, SCENE, SCREENS};
+use crate::embedding::example::{APPLICATION, LATE_SCREENS, SCENE, SCREENS};
 use crate::page::file;
 use mh_base::{GroupName, Octets};
 use mh_cases::are;
