@@ -256,7 +256,8 @@ fn put_in(scene: &mut Option<Group>, ready: Vec<Ready>)
 fn renew_in(scene: &mut Option<Group>, kept: Lined)
     ensures { of_scene scene.new ≡ renewed_in kept (of_scene scene.old) }
 {
-    if let Some(group) = scene {
-        group.renew(kept);
+    match scene {
+        Some(group) => drop(group.renew(kept)),
+        None => drop(kept),
     }
 }
