@@ -13,7 +13,7 @@ use Rattle.mh_verify.specs.Free.{IsVerified, Verified, most_cost}
 use Rattle.mh_report.specs.declared.material.Material.{Material}
 use Rattle.mh_script.specs.declared.script.Command.{Command}
 use Rattle.mh_told.specs.declared.unplayable.Unplayable.{Unplayable}
-use Rattle.mh_told.specs.Reading.{◌>>=◌, Source, late_lines, names_no_scene, read_files, refusal_for, service_of, service_read, service_tagged, table_of, unless_no_scene, unless_refused, with_late, with_names}
+use Rattle.mh_told.specs.Reading.{◌>>=◌, Source, each_once, late_lines, names_no_scene, read_files, refusal_for, service_of, service_read, service_tagged, table_of, unless_no_scene, unless_refused, with_late, with_names}
 use Rattle.mh_codec.specs.Tags.{Tags}
 use Rattle.mh_report.specs.declared.options.Options.{Options}
 use Rattle.mh_script.specs.Contents.{contents}
@@ -44,7 +44,7 @@ unfolding with_names
 plain_late None x s none e =
     let same : x ≡ s = cc in
     subst (λ (y : Service). y.programs ≡ []) same none
-plain_late (Some bytes) x s none e = marked (find (names_no_scene x) (late_lines bytes)) (record x { late = late_lines bytes }) s none e
+plain_late (Some bytes) x s none e = marked (find (names_no_scene x) (late_lines bytes)) (record x { late = each_once (late_lines bytes) }) s none e
 
 plain_read : (tags : Tags) (start : List ℕ) (late : Option (List ℕ)) (files : List Source) (s : Service) → service_read tags start late files ≡ Ok s → s.programs ≡ []
 unfolding service_read

@@ -1,9 +1,11 @@
 -- What files are read as: a service, or the first of them that cannot be read.
-use Rattle.std.specs.Prelude.{◌≡◌, ℕ, ◌-◌, Bool, ◌&&◌, ◌||◌, not, if◌then◌else◌, List, [], ◌∷◌, ◌++◌, length, take, drop, Option, Some, None, Result, Ok, Err, Vec, map, unwrap_or}
+use Rattle.std.specs.Prelude.{◌≡◌, ℕ, ◌-◌, Bool, ◌&&◌, ◌||◌, not, if◌then◌else◌, List, [], ◌∷◌, ◌++◌, length, take, drop, Option, Some, None, Result, Ok, Err, Vec, map, unwrap_or, nat_eq}
 use Rattle.std.specs.List.{find}
+use Rattle.std.specs.Cmp.Lexicographic.{pointwise}
 use Rattle.std.specs.Str.{bytes_eq}
 use Rattle.std.specs.declared.alloc.Global.{Global}
 use Rattle.bstr.specs.Text.{lines_of}
+use Rattle.indexmap.specs.IndexSet.{insert_all}
 use Rattle.mh_base.specs.Path.{is_path}
 use Rattle.mh_group.specs.declared.written.Written.{Written}
 use Rattle.mh_group.specs.Table.{is_scene}
@@ -114,9 +116,13 @@ abbrev pub unless_no_scene : {A : Type 0} → Option (List ℕ) → A → Result
 unless_no_scene None x = Ok x
 unless_no_scene (Some line) x = Err (unplayable.Service 37 line)
 
+-- these names, each once, in the order in which they are first named
+abbrev pub each_once : List (List ℕ) → List (List ℕ)
+each_once names = insert_all (pointwise nat_eq) [] names
+
 -- the service in which these scenes come late, unless one of them is none
 unfoldable pub with_names : List (List ℕ) → Service → Result Service Unplayable
-with_names names service = unless_no_scene (find (names_no_scene service) names) (record service { late = names })
+with_names names service = unless_no_scene (find (names_no_scene service) names) (record service { late = each_once names })
 
 -- the service in which the scenes that a file names come late; without a file none does
 abbrev pub with_late : Option (List ℕ) → Service → Result Service Unplayable

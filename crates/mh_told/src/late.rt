@@ -1,14 +1,17 @@
 //! Which scenes of a service come late, by the file that names them, a name a line.
 //!
 //! Promise: each function answers what the definition of its name in `specs/Reading` says.
-ghost use Rattle.std.specs.Prelude.{◌≡◌, None, if◌then◌else◌, Ok, Err, IfOk};
+ghost use Rattle.std.specs.Prelude.{◌≡◌, None, if◌then◌else◌, Ok, Err, IfOk, IfErr, OnOk, nat_eq, false, [], ◌∷◌};
 ghost use Rattle.std.specs.List.{find};
 ghost use Rattle.std.specs.Option.{option_copied};
-ghost use Rattle.mh_told.specs.Reading.{without_feed, late_lines, names_no_scene, unless_no_scene, with_names, with_late, Gives};
+ghost use Rattle.std.specs.Cmp.Lexicographic.{pointwise};
+ghost use Rattle.indexmap.specs.IndexSet.{insert_all, insert_key};
+ghost use Rattle.mh_told.specs.Reading.{without_feed, late_lines, each_once, names_no_scene, unless_no_scene, with_names, with_late, Fails, Gives};
 ghost use Rattle.mh_told.specs.declared.unplayable.Unplayable.TheVariants as unplayable;
 
 use crate::unplayable::Unplayable;
 use bstr::ByteSlice;
+use indexmap::IndexSet;
 use mh_base::{GroupName, NameError, Octets};
 use mh_service::{Service, Unmarked, UnmarkedWhy};
 use std::alloc::{AllocError, Global};
@@ -39,15 +42,43 @@ fn with_names(alloc: Global, service: Service, bytes: &[u8]) -> Result<Service, 
     marked(service, names)
 }
 
-/// The names in the lines of the file, or the first line that is the name of no scene.
+/// The names in the lines of the file, each once, or the first line that is the name of no scene. A file may say one
+/// name half a million times, so that what was said before is looked up by hash.
 fn late_names(alloc: Global, service: &Service, bytes: &[u8]) -> Result<Vec<GroupName>, Unplayable>
-    ensures { Gives (λ names. names.items) result (unless_no_scene (find (names_no_scene service.now) (late_lines bytes.now)) (late_lines bytes.now)) }
+    ensures { Gives (λ names. names.items) result (unless_no_scene (find (names_no_scene service.now) (late_lines bytes.now)) (each_once (late_lines bytes.now))) }
 {
-    let mut names = Vec::new(alloc);
+    let mut names: IndexSet<GroupName> = IndexSet::new(alloc);
     for line in bytes.lines_with_terminator() {
-        names.push(scene_named(alloc, service, without_feed(line))?)?;
+        add_line(alloc, service, without_feed(line), &mut names)?;
     }
-    Ok(names)
+    Ok(listed(alloc, &names)?)
+}
+
+/// Adds the name that the line says, unless it is there.
+fn add_line(
+    alloc: Global,
+    service: &Service,
+    line: &[u8],
+    names: &mut IndexSet<GroupName>,
+) -> Result<(), Unplayable>
+    ensures scene { OnOk result (names_no_scene service.now line.now ≡ false) }
+    ensures added { OnOk result (names.new.keys ≡ insert_key (pointwise nat_eq) names.old.keys line.now) }
+    ensures refused { IfErr result (λ why. Fails why (unless_no_scene (find (names_no_scene service.now) (line.now ∷ [])) line.now)) }
+{
+    let name = scene_named(alloc, service, line)?;
+    names.insert(name)?;
+    Ok(())
+}
+
+/// The names of a set, in order.
+fn listed(alloc: Global, names: &IndexSet<GroupName>) -> Result<Vec<GroupName>, AllocError>
+    ensures { IfOk result (λ listed. listed.items ≡ names.now.keys) }
+{
+    let mut listed = Vec::new(alloc);
+    for name in names.iter() {
+        listed.push(name.clone()?)?;
+    }
+    Ok(listed)
 }
 
 fn without_feed(line: &[u8]) -> &[u8]

@@ -64,10 +64,24 @@ fn read_files(
     ensures { Gives (λ groups. groups.items) result (read_files tags.now [] files.now) }
 {
     let mut groups = Vec::new(alloc);
+    let added = add_files(alloc, tags, &mut groups, files);
+    added.and(Ok(groups))
+}
+
+/// Puts the groups of the files that are groups behind the others, in order.
+fn add_files(
+    alloc: Global,
+    tags: &TagTable,
+    groups: &mut Vec<(GroupName, Group)>,
+    files: &[(GroupName, Vec<u8>)],
+) -> Result<(), Unplayable>
+    ensures added { OnOk result (read_files tags.now groups.old.items files.now ≡ Ok groups.new.items) }
+    ensures refused { IfErr result (λ why. Fails why (read_files tags.now groups.old.items files.now)) }
+{
     for file in files {
-        add_file(alloc, tags, &mut groups, file)?;
+        add_file(alloc, tags, groups, file)?;
     }
-    Ok(groups)
+    Ok(())
 }
 
 /// Puts the group of a file behind the others, if it is one.
@@ -83,8 +97,9 @@ fn add_file(
 {
     let bytes = file.1.as_slice();
     if is_group_file(tags, bytes) {
+        let name = file.0.clone()?;
         let group = read_file(alloc, tags, file.0.as_bytes(), bytes)?;
-        groups.push((file.0.clone()?, group))?;
+        groups.push((name, group))?;
     }
     Ok(())
 }

@@ -25,7 +25,7 @@ use Rattle.mh_text.specs.declared.text_error.Why.{Why as TextWhy}
 use Rattle.mh_text.specs.declared.text_error.Why.TheVariants as text
 use Rattle.mh_told.specs.declared.unplayable.Unplayable.{Unplayable}
 use Rattle.mh_told.specs.declared.unplayable.Unplayable.TheVariants as unplayable
-use Rattle.mh_told.specs.Reading.{◌>>=◌, Source, Fails, Gives, group_in, is_group_file, late_lines, named, names_no_scene, read_files, refusal_for, service_of, service_read, spelled, unless_no_scene, unless_refused, with_file, with_late, with_names}
+use Rattle.mh_told.specs.Reading.{◌>>=◌, Source, Fails, Gives, group_in, is_group_file, each_once, late_lines, named, names_no_scene, read_files, refusal_for, service_of, service_read, spelled, unless_no_scene, unless_refused, with_file, with_late, with_names}
 use Rattle.redplay_c.specs.Files.{IsUnreadable, reading_number}
 
 -- a number of an error: not 0, and none of the library's own
@@ -192,7 +192,7 @@ unfolding with_names
 plain_late None x s none e =
     let same : x ≡ s = cc in
     subst (λ (y : Service). y.programs ≡ []) same none
-plain_late (Some bytes) x s none e = marked (find (names_no_scene x) (late_lines bytes)) (record x { late = late_lines bytes }) s none e
+plain_late (Some bytes) x s none e = marked (find (names_no_scene x) (late_lines bytes)) (record x { late = each_once (late_lines bytes) }) s none e
 
 plain_read : (tags : Tags) (start : List ℕ) (late : Option (List ℕ)) (files : List Source) (s : Service) → service_read tags start late files ≡ Ok s → s.programs ≡ []
 unfolding service_read
