@@ -270,11 +270,6 @@ none_lead ms p h ls (onward ks o m f k e) = let there = has_to ms m k in cc
 
 -- In the words of the code.
 
-same_entry : (t : Table) (n : ℕ) (o : Option (Vec Arrow Global)) → n < length t → o ≡ slice_index_or t n o → entry t n ≡ o
-same_entry [] n o h e = absurd (omega (arith, h))
-same_entry (x ∷ t) zero o h e = sym e
-same_entry (x ∷ t) (suc n) o h e = same_entry t n o (omega (arith, h)) e
-
 rows_are : (ps : List Holder) (ss : List ActionSite) (rows : List (List Arrow)) (xs : List Move) → length (rows_from ps ss rows xs) ≡ length rows
 rows_are ps ss rows [] = refl
 rows_are ps ss rows (m ∷ xs) = rows_are ps ss (with_move ps ss rows m m.from) xs ∙ one m.from
@@ -283,13 +278,12 @@ rows_are ps ss rows (m ∷ xs) = rows_are ps ss (with_move ps ss rows m m.from) 
     one None = refl
     one (Some p) = arrow_length rows (holder_number ps p) (arrow_of ps ss m)
 
-module _ (ms : List Move) (goal : Holder) (ks : List Holder) (ss : List ActionSite) (g : Graph) (from : List Arrow) (t : Table) (n : ℕ) (are : AreActionSites ms ss) (holders : ks ≡ holders_met ms) (is : items_of g.nodes.items ≡ rows_of ks ss ms) (begins : from ≡ starts_of ks ss ms) (first : AreFirst g from t) (at : Some n ≡ position (same_holder goal) ks) where
-  pub number_within : n < length ks → n < length t
+module _ (ms : List Move) (goal : Holder) (ks : List Holder) (ss : List ActionSite) (g : Graph) (from : List Arrow) (n : ℕ) (are : AreActionSites ms ss) (holders : ks ≡ holders_met ms) (is : items_of g.nodes.items ≡ rows_of ks ss ms) (begins : from ≡ starts_of ks ss ms) (at : Some n ≡ position (same_holder goal) ks) where
+  pub number_within : n < length ks → n < length g.nodes.items
   number_within h =
-      let nodes : length t ≡ length g.nodes.items = first.nodes in
       let mapped : length (items_of g.nodes.items) ≡ length g.nodes.items = length-map g.nodes.items (λ (r : Vec Arrow Global). r.items) in
       let rows : length (items_of g.nodes.items) ≡ length ks = ap length is ∙ rows_are ks ss (replicate (length ks) []) ms ∙ length-replicate (length ks) [] in
-      omega (arith, h, nodes, mapped, rows)
+      omega (arith, h, mapped, rows)
 
   number : holder_number (holders_met ms) goal ≡ n
   number = ap (λ (o : Option ℕ). unwrap_or o 0) (ap (position (same_holder goal)) (sym holders) ∙ sym at)
@@ -300,14 +294,13 @@ module _ (ms : List Move) (goal : Holder) (ks : List Holder) (ss : List ActionSi
   starts_are : from ≡ starts_of (holders_met ms) ss ms
   starts_are = begins ∙ ap (λ (ps : List Holder). starts_of ps ss ms) holders
 
-  pub told_first : list_any (same_holder goal) ks ≡ true → n < length t → (c : Vec Arrow Global) → Some c ≡ slice_index_or t n (Some c) → (ls : List Link) → ls ≡ links_of ks ss c.items → IsFirstOf ms goal ls
-  told_first has h c e ls same =
+  pub told_first : list_any (same_holder goal) ks ≡ true → (c : List Arrow) → IsFirstShortest g from n c → (ls : List Link) → ls ≡ links_of ks ss c → IsFirstOf ms goal ls
+  told_first has c first ls same =
       let there : slice_get (holders_met ms) (holder_number (holders_met ms) goal) ≡ Some goal = (holder_numbered (holders_met ms) goal (subst (λ (ps : List Holder). list_any (same_holder goal) ps ≡ true) holders has)).0 in
-      let shortest = subst (λ (xs : List Arrow). IsFirstShortest g xs n c.items) starts_are (first.some n c (same_entry t n (Some c) h e)) in
-      subst (λ (xs : List Link). IsFirstOf ms goal xs) (sym (same ∙ ap (λ (ps : List Holder). links_of ps ss c.items) holders))
-      (is_first ms ss are g graph_is goal c.items (subst (λ (k : ℕ). IsFirstShortest g (starts_of (holders_met ms) ss ms) k c.items) (sym number) shortest) there)
+      let shortest = subst (λ (xs : List Arrow). IsFirstShortest g xs n c) starts_are first in
+      subst (λ (xs : List Link). IsFirstOf ms goal xs) (sym (same ∙ ap (λ (ps : List Holder). links_of ps ss c) holders))
+      (is_first ms ss are g graph_is goal c (subst (λ (k : ℕ). IsFirstShortest g (starts_of (holders_met ms) ss ms) k c) (sym number) shortest) there)
 
-  pub told_none : n < length t → None ≡ slice_index_or t n None → (ls : List Link) → Follows ms ls goal → ⊥
-  told_none h e ls f =
-      let none : NoChain g from n = first.none n h (same_entry t n None h e) in
+  pub told_none : NoChain g from n → (ls : List Link) → Follows ms ls goal → ⊥
+  told_none none ls f =
       none_follow ms ss are g graph_is goal (subst (λ (k : ℕ). NoChain g (starts_of (holders_met ms) ss ms) k) (sym number) (subst (λ (xs : List Arrow). NoChain g xs n) starts_are none)) ls f

@@ -3,7 +3,7 @@ use Rattle.std.proofs.Common.{◌≡◌, ℕ, suc, zero, ◌+◌, ◌-◌, ◌^�
 use Rattle.std.specs.List.{AllByRecursion, IsDistinct, flat_map, list_any, position}
 use Rattle.std.specs.Map.{lookup}
 use Rattle.std.specs.Option.{option_eq, option_map, option_or, option_to_list}
-use Rattle.std.specs.Prelude.{option_and_then, if◌then◌else◌}
+use Rattle.std.specs.Prelude.{option_and_then, if◌then◌else◌, Result, Ok, IfOk}
 use Rattle.std.specs.Cmp.Lexicographic.{nat_list_eq_equiv}
 use Rattle.std.proofs.lemmas.List.{map-append}
 use Rattle.std.proofs.lemmas.List.Concat.{flat_map-append}
@@ -343,3 +343,9 @@ any_references q qs (r ∷ rs) =
     joined : (a b c : Bool) → ((a || b) || c) ≡ (a || (b || c))
     joined true b c = refl
     joined false b c = refl
+
+-- Parts of a chart.
+
+-- what a call ensures of its answer, where that is known
+pub ok_of : {A E : Type 0} (r : Result A E) (x : A) (P : A → Type 0) → r ≡ Ok x → IfOk r P → P x
+ok_of {A = A} {E = E} r x P is h = subst (λ (r : Result A E). IfOk r P) is h

@@ -3,6 +3,7 @@
 //! Promise: the numbers are those of the definitions.
 
 pub(crate) mod numbering;
+mod parts;
 
 ghost use Rattle.std.specs.Prelude.{◌≡◌, None, if◌then◌else◌, length, IfOk, slice_get};
 ghost use Rattle.std.specs.List.{list_any};
@@ -15,12 +16,11 @@ ghost use Rattle.mh_flow.specs.Chart.{IsChart};
 ghost use Rattle.mh_flow.specs.Index.{AreNamed, held_index, indexed};
 ghost use Rattle.mh_flow.specs.Solved.{is_reached, reached_configs};
 
-use crate::chart::numbering::{first_sets, numbered};
+use crate::chart::parts::{Numbers, References, all_of, numbers_of, references_of};
 use crate::equipped::Equipped;
 use crate::fixpoint::sets::Sets;
 use crate::index::{Home, Index, holders_of, home_of, index_of};
 use crate::present::{Present, is_scene};
-use crate::references::{put_in_order, put_service};
 use indexmap::{IndexMap, IndexSet};
 use mh_base::ObjRef;
 use mh_model::Config;
@@ -82,26 +82,38 @@ impl Chart {
     pub fn of(alloc: Global, service: &Equipped<'_>) -> Result<Chart, AllocError>
         ensures { IfOk result (λ chart. IsChart service.now chart) }
     {
-        let index = index_of(alloc, service)?;
-        let holders = holders_of(alloc, service)?;
-        let configs = service.configurations(alloc)?;
-        let mut sets = first_sets(alloc, service, configs.as_slice())?;
-        let configs = numbered(alloc, service, &mut sets, configs)?;
-        let mut members = IndexSet::new(alloc);
-        let mut targeted = IndexSet::new(alloc);
-        put_service(alloc, &mut members, &mut targeted, service)?;
-        put_in_order(&mut members)?;
-        // that their names are their own is known where there are groups, and that it fits where it has a length
+        let parts = all_of(
+            index_of(alloc, service),
+            holders_of(alloc, service),
+            numbers_of(alloc, service),
+            references_of(alloc, service),
+        )?;
+        // that their names are their own is known where there are groups
         let _ = service.groups();
-        let _ = sets.len();
-        Ok(Chart {
+        Ok(Chart::of_parts(parts))
+    }
+
+    fn of_parts(parts: (Index, Index, Numbers, References)) -> Chart
+        ensures { result ≡ record {
+          configs = parts.2.configs.entries;
+          members = parts.3.members.keys;
+          targeted = parts.3.targeted.keys;
+          sets = parts.2.sets.items;
+          index = parts.0.entries;
+          holders = parts.1.entries;
+        } }
+    {
+        let (index, holders, numbers, references) = parts;
+        let Numbers { configs, sets } = numbers;
+        let References { members, targeted } = references;
+        Chart {
             configs,
             members,
             targeted,
             sets,
             index,
             holders,
-        })
+        }
     }
 
     /// How many sets there are.

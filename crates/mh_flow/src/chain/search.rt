@@ -7,7 +7,7 @@ ghost use Rattle.mh_flow.specs.Moves.{Follows, IsFirstOf};
 use crate::chain::link::Link;
 use crate::chain::moves::{Holder, Move};
 use crate::chain::routes::{action_sites_of, graph_of, holders_met, links_of, starts_of};
-use mh_paths::first_chains;
+use mh_paths::first_chain;
 use std::alloc::{AllocError, Global};
 
 /// The links of the moves that lead to the holder, the first of the shortest, if any do.
@@ -26,8 +26,8 @@ pub(crate) fn first_links(
     };
     let graph = graph_of(alloc, &holders, &action_sites, moves)?;
     let starts = starts_of(alloc, &holders, &action_sites, moves)?;
-    let chains = first_chains(alloc, &graph, starts.as_slice())?;
-    match &chains[number] {
+    let chain = first_chain(alloc, &graph, starts.as_slice(), number)?;
+    match chain {
         None => Ok(None),
         Some(trail) => Ok(Some(links_of(alloc, &holders, &action_sites, trail.as_slice())?)),
     }
