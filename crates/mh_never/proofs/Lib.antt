@@ -4,4 +4,5 @@ pub mod SayingLemmas
 pub mod TimerLemmas
 pub mod RegisterLemmas
 pub mod SaidLemmas
+pub mod FiringLemmas
 pub mod NeverLemmas

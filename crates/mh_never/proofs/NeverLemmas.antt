@@ -14,7 +14,7 @@ use Rattle.mh_model.specs.Reference.{same_ref}
 use Rattle.mh_model.specs.Service.{Service}
 use Rattle.mh_model.specs.State.{State}
 use Rattle.mh_laws.specs.Budget.{AreBounds, IsAccepted, bounds}
-use Rattle.mh_laws.specs.Costs.{Costing, Effect, act, acts_price, done_to, effect_at, effect_price, enter, input_price, targets}
+use Rattle.mh_laws.specs.Costs.{Costing, Effect, act, acts_price, effect_at, effect_price, enter, input_price}
 use Rattle.mh_laws.specs.Each.{Among, Each}
 use Rattle.mh_laws.specs.Flow.{Flow, reached}
 use Rattle.mh_laws.specs.Headline.{begun_with}
@@ -55,6 +55,7 @@ use Rattle.mh_never.specs.Saying.{IsSaidClosed, IsSaidIn, IsWaitIn, Sayings, Say
 use Rattle.mh_laws.proofs.BudgetLemmas.{IsMayWait}
 use Rattle.mh_laws.proofs.FiredLemmas.{matching_hears, matching_runs}
 use Rattle.mh_laws.proofs.ReadyLemmas.{IsMayItem}
+use Rattle.mh_never.proofs.FiringLemmas.{effect_whole, light_nodes, next_living, nodes_each_most, one_at_least}
 use Rattle.mh_never.proofs.RegisterLemmas.{scene_heard}
 use Rattle.mh_never.proofs.SaidLemmas.{begun_says, posted_says, step_says, told_says}
 use Rattle.mh_never.proofs.SayingLemmas.{first_item_said, first_wait}
@@ -68,9 +69,9 @@ use Rattle.mh_never.proofs.RunningLemmas.{begun_runs, posted_runs, step_runs, to
 use Rattle.mh_laws.proofs.StepLemmas.{safe_by_begun_with, safe_by_posted, safe_by_step, safe_by_told}
 use Rattle.mh_laws.proofs.TakenLemmas.{first_waits}
 use Rattle.mh_laws.proofs.EachLemmas.{among_each, among_filtered, each_joined}
-use Rattle.mh_laws.proofs.LayerLemmas.{layered_covers, lower_nodes}
+use Rattle.mh_laws.proofs.LayerLemmas.{lower_nodes}
 use Rattle.mh_laws.proofs.NodeLemmas.{among_is, is_on}
-use Rattle.mh_laws.proofs.PriceLemmas.{among_most, le_same, le_trans, nodes_map, nodes_most, worth_same}
+use Rattle.mh_laws.proofs.PriceLemmas.{le_same, le_trans, nodes_map, nodes_most, worth_same}
 use Rattle.mh_laws.proofs.SetLemmas.{same_itself}
 
 -- So many times, and with so many times as much more for each layer
@@ -164,12 +165,6 @@ living_acts v w k lives rank g q u y c (a ∷ e) h so =
     added : (x y m r s : ℕ) → x ≡ y → m ≡ 0 → r ≤ s → x + m + r ≤ y + s
     added x y m r s a b d = omega (arith, a, b, d)
 
-one_at_least : (v : Service) (w : Flow) (g : Costing) (c : Config) (a : Act) → 1 ≤ worth g (act v w c a)
-one_at_least v w g c a = more (worth g (most_price (done_to v w c a.name a.arguments) (targets w c a.target)))
-  where
-    more : (n : ℕ) → 1 ≤ 1 + n
-    more n = omega arith
-
 dead_acts : (v : Service) (w : Flow) (k : ℕ) (lives : Living) (rank : Effect → ℕ) (g : Costing) (q : Config → Act → Bool) (u : Runners) (y : Sayings) (c : Config) (r : ℕ) (e : List Act) → Nodes (λ y. rank y < r) (acts_price v w c e) → acts_cost v w (heavy k lives rank g q u y) c e ≤ grown k (suc r) (worth g (acts_price v w c e))
 dead_acts v w k lives rank g q u y c r [] h = nothing _
   where
@@ -189,12 +184,6 @@ dead_acts v w k lives rank g q u y c r (a ∷ e) h =
 
     added : (x gx m n tx y gy gxy : ℕ) → x ≤ gx → m ≤ n → n ≤ tx → y ≤ gy → gxy ≡ gx + tx + gy → x + m + y ≤ gxy
     added x gx m n tx y gy gxy a b d e h = omega (arith, a, b, d, e, h)
-
--- what is counted in the largest of some is counted in each
-nodes_each_most : {X : Type 0} (P : Effect → Type 0) (g : X → Price Effect) (xs : List X) (x : X) → Nodes P (most_price g xs) → Among xs x → Nodes P (g x)
-nodes_each_most P g [] x h there = absurd cc
-nodes_each_most {X} P g (y ∷ xs) x h (inl same) = subst (λ (z : X). Nodes P (g z)) same h.0
-nodes_each_most P g (y ∷ xs) x h (inr more) = nodes_each_most P g xs x h.1 more
 
 heavy_covers : (most : ℕ) (v : Service) (k : IsAccepted most v) (u : Runners) (y : Sayings) (lives : Living) → IsClosed v k.flow u lives → (q : Config → Act → Bool) → HoldsOfLiving v k.flow u lives q → (n : ℕ) → CoversAll v k.flow (heavy n lives k.rank (costs v k.flow k.rank) q u y)
 heavy_covers most v k u y lives closed q holds n c reached_it = among_each (IsActiveCovered v k.flow weights c (present v c)) (present v c) one
@@ -220,16 +209,14 @@ heavy_covers most v k u y lives closed q holds n c reached_it = among_each (IsAc
         e : List Act
         e = effect_at p m
 
-        own : Among (filter (λ (z : Fixed). same_ref p.key z.key) (present v c)) p
-        own = among_filtered (λ (z : Fixed). same_ref p.key z.key) (present v c) p (same_itself p.key) there
-
         whole : worth g (acts_price v k.flow c e) ≤ g x
-        whole = le_trans _ _ _ (among_most g (λ (z : Fixed). acts_price v k.flow c (effect_at z m)) (filter (λ (z : Fixed). same_ref p.key z.key) (present v c)) p own) (layered_covers v k.flow k.rank (k.acceptable).service k.layering x on)
+        whole = effect_whole most v k c p m there on
 
         by : (t : Bool) → lives x ≡ t → acts_cost v k.flow weights c e ≤ (if t then g x else grown n (suc (k.rank x)) (g x))
         by true is = le_trans _ _ _ (living_acts v k.flow n lives k.rank g q u y c e (closed.causes c p m awake_on is) (holds c p m awake_on is)) whole
         by false is =
             let lower = nodes_map (λ y. IsOn v k.flow y × (k.rank y < k.rank x)) (λ y. k.rank y < k.rank x) (λ y h. h.1) (effect_price v k.flow x) (lower_nodes v k.flow k.rank x (k.acceptable).service k.layering on) in
+            let own = among_filtered (λ (z : Fixed). same_ref p.key z.key) (present v c) p (same_itself p.key) there in
             let nodes = nodes_each_most (λ y. k.rank y < k.rank x) (λ (z : Fixed). acts_price v k.flow c (effect_at z m)) (filter (λ (z : Fixed). same_ref p.key z.key) (present v c)) p lower own in
             le_trans _ _ _ (dead_acts v k.flow n lives k.rank g q u y c (k.rank x) e nodes) (grown_more n (suc (k.rank x)) (worth g (acts_price v k.flow c e)) (g x) whole)
 
@@ -433,22 +420,6 @@ first_so v q c (j ∷ is) i e h = subst (IsSo q c) (some_same e) h.0
 
 -- EFFECTS. What is within the budget counts none but living effects, and such as cost nothing.
 
-light_nodes : (f : Costing) (n : ℕ) (p : Price Effect) → worth f p < n → Nodes (λ y. f y < n) p
-light_nodes f n Nothing h = tt
-light_nodes f n One h = tt
-light_nodes f n (Node y) h = h
-light_nodes f n (Plus p q) h = (light_nodes f n p (first _ _ _ h), light_nodes f n q (second _ _ _ h))
-  where
-    first : (a b n : ℕ) → a + b < n → a < n
-    first a b n h = omega (arith, h)
-
-    second : (a b n : ℕ) → a + b < n → b < n
-    second a b n h = omega (arith, h)
-light_nodes f n (Most p q) h = (light_nodes f n p (less _ _ _ (le-max_left (worth f p) (worth f q)) h), light_nodes f n q (less _ _ _ (le-max_right (worth f p) (worth f q)) h))
-  where
-    less : (a b n : ℕ) → a ≤ b → b < n → a < n
-    less a b n h k = omega (arith, h, k)
-
 -- a dead effect that costs something costs more than all
 light_lives : (n : ℕ) (lives : Living) (rank : Effect → ℕ) (g : Costing) (y : Effect) → heavy_cost n lives rank g y < n → (lives y ≡ true) ⊎ (g y ≡ 0)
 light_lives n lives rank g y h = by (lives y) (g y) refl h
@@ -489,16 +460,16 @@ items_living v w n lives rank g q u y c (i ∷ is) h =
     second : (a b n : ℕ) → a + b < n → b < n
     second a b n h = omega (arith, h)
 
-queue_living : (v : Service) (w : Flow) (n : ℕ) (lives : Living) (rank : Effect → ℕ) (g : Costing) (b : Bounds) (ws : List Waiting) → queue_cost v w (heavy_cost n lives rank g) b ws < n → Each (WaitingPutsLiving v w g lives) ws
-queue_living v w n lives rank g b [] h = tt
-queue_living v w n lives rank g b (waiting.Event e ∷ ws) h = (puts_living n lives rank g (entry v w e.source e.kind (Sure e.data)) (first _ _ _ h), queue_living v w n lives rank g b ws (second _ _ _ h))
+queue_living : (v : Service) (w : Flow) (n : ℕ) (lives : Living) (rank : Effect → ℕ) (g : Costing) (b : Bounds) → ((c : Config) → reached w c ≡ true → (i : Input) → PutsLiving g lives (input_price v w c i)) → (ws : List Waiting) → queue_cost v w (heavy_cost n lives rank g) b ws < n → Each (WaitingPutsLiving v w g lives) ws
+queue_living v w n lives rank g b posts [] h = tt
+queue_living v w n lives rank g b posts (waiting.Event e ∷ ws) h = (puts_living n lives rank g (entry v w e.source e.kind (Sure e.data)) (first _ _ _ h), queue_living v w n lives rank g b posts ws (second _ _ _ h))
   where
     first : (a b n : ℕ) → a + b < n → a < n
     first a b n h = omega (arith, h)
 
     second : (a b n : ℕ) → a + b < n → b < n
     second a b n h = omega (arith, h)
-queue_living v w n lives rank g b (waiting.Input i ∷ ws) h = (tt, queue_living v w n lives rank g b ws (second _ _ _ h))
+queue_living v w n lives rank g b posts (waiting.Input i ∷ ws) h = (λ c among. posts c among i, queue_living v w n lives rank g b posts ws (second _ _ _ h))
   where
     second : (a b n : ℕ) → a + b < n → b < n
     second a b n h = omega (arith, h)
@@ -510,11 +481,8 @@ never_others most v k q u runners y said z woken lives closed holds mjd fs ss ms
   work = subst (λ (x : Service). AreSo x q (config_of s) s.work) (end.0.plays).service (so_now s (below _ _ _ _ end.1));
   running = end.0.runs;
   said = end.0.says;
-  put = subst (λ (x : Service). AllPutLiving x k.flow g lives s) (end.0.plays).service
-      (record {
-        work = items_living s.service k.flow n lives k.rank g q z y (config_of s) s.work (below _ _ _ _ end.1);
-        queue = queue_living s.service k.flow n lives k.rank g (bounds k) s.queue (beside _ _ _ _ end.1);
-      });
+  put = puts;
+  fired = next_living most v k lives s (end.0.plays).safe (end.0.plays).service puts (λ i. living_posts (config_of s) ((end.0.plays).safe).among i);
 }
   where
     g : Costing
@@ -567,3 +535,13 @@ never_others most v k q u runners y said z woken lives closed holds mjd fs ss ms
 
     beside : (t a b n : ℕ) → t + (a + b) ≤ n → b < suc n
     beside t a b n h = omega (arith, h)
+
+    living_posts : (c : Config) → reached k.flow c ≡ true → (i : Input) → PutsLiving g lives (input_price v k.flow c i)
+    living_posts c among i = nodes_map (λ y. lives y ≡ true) (λ y. (lives y ≡ true) ⊎ (g y ≡ 0)) (λ y h. inl h) (input_price v k.flow c i) (closed.inputs c among i)
+
+    puts : AllPutLiving v k.flow g lives s
+    puts = record {
+      work = subst (λ (x : Service). ItemsPutLiving x k.flow g lives (config_of s) s.work) (end.0.plays).service (items_living s.service k.flow n lives k.rank g q z y (config_of s) s.work (below _ _ _ _ end.1));
+      queue = queue_living v k.flow n lives k.rank g (bounds k) living_posts s.queue
+          (subst (λ (x : Service). queue_cost x k.flow f.cost (bounds k) s.queue < n) (end.0.plays).service (beside _ _ _ _ end.1));
+    }

@@ -1,3 +1,5 @@
 pub mod Running
 pub mod Saying
+pub mod Firing
+pub mod ExampleFiring
 pub mod Never
