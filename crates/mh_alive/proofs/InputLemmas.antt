@@ -1,8 +1,7 @@
 -- What inputs put to work lives; so what may be put to work is closed, and what is not of it is never put.
-use Rattle.std.specs.Prelude.{◌≡◌, ◌⊎◌, ℕ, ◌==◌, Bool, true, false, ◌&&◌, ◌||◌, not, if◌then◌else◌, List, [], ◌∷◌, map, filter, Option, Some, None, refl}
+use Rattle.std.specs.Prelude.{◌≡◌, ℕ, Bool, true, false, not, if◌then◌else◌, List, [], ◌∷◌, map, filter, Option, Some, None, refl}
 use Rattle.std.specs.List.{flat_map, list_all, list_any}
 use Rattle.std.specs.Option.{option_map_or}
-use Rattle.std.specs.Str.{bytes_eq}
 use Rattle.std.proofs.Common.{sym, subst, inl, inr}
 use Rattle.mh_base.specs.declared.event.EventType.{EventType}
 use Rattle.mh_base.specs.declared.event.EventType.TheVariants as event
@@ -19,35 +18,30 @@ use Rattle.mh_model.specs.declared.act.Argument.TheVariants as argument
 use Rattle.mh_model.specs.declared.config.Config.{Config}
 use Rattle.mh_model.specs.declared.input.Input.{Input}
 use Rattle.mh_model.specs.declared.input.Input.TheVariants as input
-use Rattle.mh_model.specs.declared.input.Waiting.{Waiting}
-use Rattle.mh_model.specs.declared.input.Waiting.TheVariants as waiting
-use Rattle.mh_model.specs.declared.item.Item.{Item}
+use Rattle.mh_model.specs.declared.event.Event.{Event}
 use Rattle.mh_model.specs.declared.object.Fixed.{Fixed}
 use Rattle.mh_model.specs.Configuration.{present, starting}
 use Rattle.mh_model.specs.Known.{class_at}
 use Rattle.mh_model.specs.Reference.{group_ref, same_key}
 use Rattle.mh_model.specs.Service.{Service}
-use Rattle.mh_model.proofs.ServiceLemmas.{same_ref-same}
-use Rattle.mh_model.proofs.ListLemmas.{and_left, and_right}
-use Rattle.std.specs.Cmp.Derive.{both_true}
+use Rattle.mh_model.specs.Step.{engine_event, key_event}
 use Rattle.mh_laws.specs.Active.{active_actions}
 use Rattle.mh_laws.specs.Budget.{IsAccepted}
 use Rattle.mh_laws.specs.Costs as costs
-use Rattle.mh_laws.specs.Costs.{Costing, Effect, TimerKey, arrival, content_entries, each_once, effect_at, entry, fired, heard_key, input_price, is_group_in, is_reader, item_price, late_scenes, link_effect, pressed, same_timer, scene_change, set_with, targets, timer_entry, timers}
+use Rattle.mh_laws.specs.Costs.{TimerKey, arrival, each_once, effect_at, entry, fired, heard_key, input_price, is_group_in, is_reader, late_scenes, pressed, same_timer, scene_change, set_with, targets, timer_entry, timers}
 use Rattle.mh_laws.specs.Each.{Among}
 use Rattle.mh_laws.specs.Flow.{Flow, reached}
-use Rattle.mh_laws.specs.Layers.{costs as costs_of}
-use Rattle.mh_never.specs.Never.{AllPutLiving, IsClosed, ItemsPutLiving, Living, PutsLiving, WaitingPutsLiving}
-use Rattle.mh_laws.specs.Price.{Nothing, Price, if_price}
+use Rattle.mh_never.specs.Firing.{FiresLiving, FiresNone, HoldsOfNext, IsUnput, fires}
+use Rattle.mh_never.specs.Never.{IsClosed}
+use Rattle.mh_laws.specs.Price.{Nothing, if_price}
 use Rattle.mh_never.specs.Running.{Doings, IsRunClosed, Runners, any_act}
-use Rattle.mh_laws.specs.Safe.{behind, config_of}
 use Rattle.mh_never.specs.Saying.{IsSaidClosed, Sayings}
 use Rattle.mh_laws.specs.Ways.{Sure, Unsure}
-use Rattle.mh_laws.proofs.EachLemmas.{among_each, among_joined, among_mapped, each_among, from_joined, from_mapped}
+use Rattle.mh_laws.proofs.EachLemmas.{among_each, among_joined, among_mapped, from_joined, from_mapped}
 use Rattle.mh_never.proofs.NeverLemmas.{never_others as law}
 use Rattle.mh_laws.proofs.NodeLemmas.{among_is}
-use Rattle.mh_laws.proofs.PriceLemmas.{nodes_if, nodes_map, nodes_most, nodes_sum}
-use Rattle.mh_alive.specs.Alive.{Alive, InEachRun, IsAliveOf, is_other, never_put}
+use Rattle.mh_laws.proofs.PriceLemmas.{nodes_if, nodes_most, nodes_sum}
+use Rattle.mh_alive.specs.Alive.{Alive, InEachRun, IsAliveOf, never_put}
 use Rattle.mh_alive.specs.Puts.{web}
 use Rattle.mh_alive.specs.Tellings.{set_by, set_in, set_to, tells_itself, timer}
 use Rattle.mh_alive.proofs.ActLemmas.{active_effect, acts_live}
@@ -208,43 +202,25 @@ put_closed v w a is start = record {
   causes = λ c p n on lives. acts_live v w a is c on.among (effect_at p n) (λ x h. active_effect v c p n x on.there on.active h);
 }
 
--- what lives is none of the link's effect
-other_lives : (a : Alive) (r : ObjRef) → never_put a r ≡ true → (y : Effect) → lives_in a y ≡ true → is_other r y ≡ true
-other_lives a r never y h = by (y.number == link_effect) (same_key r y.object) refl h
+pub unput : (most : ℕ) (v : Service) (k : IsAccepted most v) (a : Alive) (r : ObjRef) → IsAliveOf v k.flow a → never_put a r ≡ true → InEachRun v (IsUnput r)
+unput most v k a r is never mjd fs ss ms s run = record {
+  work = λ e first. none e (so.work e first);
+  queue = λ e waits. none e (so.queue e waits);
+  keys = λ x g scene hears. none (key_event x (group_ref g)) (so.keys x g scene hears);
+  engine = λ n. none (engine_event n s.application) (so.engine n);
+}
   where
-    untrue : (b : Bool) → not b ≡ true → b ≡ true → false ≡ true
-    untrue true n e = n
-    untrue false n e = e
+    so : HoldsOfNext (FiresLiving (lives_in a) s) s
+    so = (law most v k any_act all_run (run_any v k.flow any_act) all_say (say_all v k.flow) all_run (record { hears = λ c among p there runs e says hears. refl }) (lives_in a) (put_closed v k.flow a is (start_reached most v k)) (λ c p n on lives. all_any c (effect_at p n)) mjd fs ss ms s run).fired
 
-    one : (q : ObjRef) → same_key r q ≡ true → r ≡ q
-    one q e = same_ref-same r q (both_true (and_right (r.number == q.number) (bytes_eq r.group q.group) e) (and_left (r.number == q.number) (bytes_eq r.group q.group) e))
+    untrue : (b : Bool) → not b ≡ true → b ≡ true → ⊥
+    untrue true n e = absurd cc
+    untrue false n e = absurd cc
 
-    by : (b d : Bool) → same_key r y.object ≡ d → (not b || list_any (same_key y.object) a.puts) ≡ true → not (b && d) ≡ true
-    by false d e g = refl
-    by true false e g = refl
-    by true true e g = untrue (list_any (same_key r) a.puts) never (subst (λ (q : ObjRef). list_any (same_key q) a.puts ≡ true) (sym (one y.object e)) g)
-
-weaker : (f : Costing) (lives others : Living) → ((y : Effect) → lives y ≡ true → others y ≡ true) → (p : Price Effect) → PutsLiving f lives p → PutsLiving f others p
-weaker f lives others follows p h = nodes_map (λ y. (lives y ≡ true) ⊎ (f y ≡ 0)) (λ y. (others y ≡ true) ⊎ (f y ≡ 0)) one p h
-  where
-    one : (y : Effect) → (lives y ≡ true) ⊎ (f y ≡ 0) → (others y ≡ true) ⊎ (f y ≡ 0)
-    one y (inl e) = inl (follows y e)
-    one y (inr e) = inr e
-
-weaker_items : (v : Service) (w : Flow) (f : Costing) (lives others : Living) → ((y : Effect) → lives y ≡ true → others y ≡ true) → (c : Config) (is : List Item) → ItemsPutLiving v w f lives c is → ItemsPutLiving v w f others c is
-weaker_items v w f lives others follows c [] h = tt
-weaker_items v w f lives others follows c (i ∷ is) h = (weaker f lives others follows (item_price v w c i) h.0, weaker_items v w f lives others follows (behind v c i) is h.1)
-
-weaker_wait : (v : Service) (w : Flow) (f : Costing) (lives others : Living) → ((y : Effect) → lives y ≡ true → others y ≡ true) → (x : Waiting) → WaitingPutsLiving v w f lives x → WaitingPutsLiving v w f others x
-weaker_wait v w f lives others follows (waiting.Event e) h = weaker f lives others follows (entry v w e.source e.kind (Sure e.data)) h
-weaker_wait v w f lives others follows (waiting.Input i) h = tt
-
-pub unput : (most : ℕ) (v : Service) (k : IsAccepted most v) (a : Alive) (r : ObjRef) → IsAliveOf v k.flow a → never_put a r ≡ true
-    → InEachRun v (AllPutLiving v k.flow (costs_of v k.flow k.rank) (is_other r))
-unput most v k a r is never mjd fs ss ms s run =
-    let so = (law most v k any_act all_run (run_any v k.flow any_act) all_say (say_all v k.flow) all_run (record { hears = λ c among p there runs e says hears. refl }) (lives_in a) (put_closed v k.flow a is (start_reached most v k)) (λ c p n on lives. all_any c (effect_at p n)) mjd fs ss ms s run).put in
-    let follows = other_lives a r never in record {
-      work = weaker_items v k.flow (costs_of v k.flow k.rank) (lives_in a) (is_other r) follows (config_of s) s.work so.work;
-      queue = among_each (WaitingPutsLiving v k.flow (costs_of v k.flow k.rank) (is_other r)) s.queue
-          (λ x h. weaker_wait v k.flow (costs_of v k.flow k.rank) (lives_in a) (is_other r) follows x (each_among (WaitingPutsLiving v k.flow (costs_of v k.flow k.rank) (lives_in a)) s.queue x so.queue h));
-    }
+    -- a link that fires is one that may be put to work
+    none : (e : Event) → FiresLiving (lives_in a) s e → FiresNone r s e
+    none e h o own same = by (fires e o) refl
+      where
+        by : (b : Bool) → fires e o ≡ b → b ≡ false
+        by true fired = absurd (untrue (list_any (same_key r) a.puts) never (subst (λ (q : ObjRef). list_any (same_key q) a.puts ≡ true) same (h o own fired)))
+        by false fired = refl

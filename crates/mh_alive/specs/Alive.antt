@@ -1,5 +1,5 @@
 -- What may come to be in runs of a service, and what never does where it is accepted.
-use Rattle.std.specs.Prelude.{◌≡◌, ℕ, ◌==◌, Bool, true, false, ◌&&◌, not, List, [], Option, Some, ℤ}
+use Rattle.std.specs.Prelude.{◌≡◌, ℕ, Bool, true, false, not, List, [], Option, Some, ℤ}
 use Rattle.std.specs.List.{list_any}
 use Rattle.indexmap.specs.IndexSet.{insert_all}
 use Rattle.mh_base.specs.declared.event.EventType.{EventType}
@@ -23,7 +23,7 @@ use Rattle.mh_model.specs.State.{State, all}
 use Rattle.mh_model.specs.Step.{engine_event, key_event}
 use Rattle.mh_model.specs.Time.{timer_event}
 use Rattle.mh_laws.specs.Acceptable.{IsAcceptableBy}
-use Rattle.mh_laws.specs.Costs.{Effect, can_hear, link_effect}
+use Rattle.mh_laws.specs.Costs.{can_hear}
 use Rattle.mh_laws.specs.Each.{Among}
 use Rattle.mh_laws.specs.Flow.{Flow, reached}
 use Rattle.mh_laws.specs.Headline.{begun_with}
@@ -115,10 +115,6 @@ pub record IsDeaf (p : Fixed) (s : State) : Type 0 where
 -- and so it is with what the files say is present at the reference
 abbrev pub IsDeafAt : Service → ObjRef → State → Type 0
 IsDeafAt v r s = (p : Fixed) → Among (present v (config_of s)) p → p.key ≡ r → IsDeaf p s
-
--- all effects but that of the link at the reference
-abbrev pub is_other : ObjRef → Effect → Bool
-is_other r y = not (y.number == link_effect && same_key r y.object)
 
 -- THE LAW. Of an acceptable service each state of each run is in a configuration that the flow reaches.
 abbrev pub StaysReached : Type 0

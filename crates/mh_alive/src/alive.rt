@@ -8,12 +8,11 @@ ghost use Rattle.std.specs.Option.{option_copied};
 ghost use Rattle.indexmap.specs.IndexSet.{insert_all};
 ghost use Rattle.mh_laws.specs.Acceptable.{IsAcceptableBy};
 ghost use Rattle.mh_laws.specs.Budget.{IsAccepted};
-ghost use Rattle.mh_laws.specs.Layers.{costs};
-ghost use Rattle.mh_never.specs.Never.{AllPutLiving};
+ghost use Rattle.mh_never.specs.Firing.{IsUnput};
 ghost use Rattle.mh_model.specs.Reference.{same_key};
 ghost use Rattle.mh_flow.specs.Solved.{IsFlowOf, flow_in};
 ghost use Rattle.mh_alive.specs.Alive as spec;
-ghost use Rattle.mh_alive.specs.Alive.{InEachRun, IsAliveOf, IsDeafAt, IsStill, IsUnsaid, is_other};
+ghost use Rattle.mh_alive.specs.Alive.{InEachRun, IsAliveOf, IsDeafAt, IsStill, IsUnsaid};
 
 use crate::gathering::{Gathered, gather};
 use crate::hearing::hearers_of;
@@ -112,12 +111,13 @@ impl Alive {
         !may_say(&self.sent, kind, value)
     }
 
-    /// Whether the link at the reference is never put to work: nothing that will be done, and nothing that waits, leads to its
-    /// effect, unless that has no action.
+    /// Whether the link at the reference is never put to work, unless it does nothing: no event that may be dealt with next fires
+    /// it, be it one that will be emitted or that waits, or, whether posted or not, a key that the register of the scene lets
+    /// through or a number of the engine.
     pub fn never_put(&self, at: &ObjRef) -> bool
         ensures exact { result ≡ spec.never_put self.now at.now }
         ensures law { result ≡ true → (most v : _) → (k : IsAccepted most v) → IsAliveOf v k.flow self.now →
-            InEachRun v (AllPutLiving v k.flow (costs v k.flow k.rank) (is_other at.now)) }
+            InEachRun v (IsUnput at.now) }
     {
         self.is_unput(at)
     }

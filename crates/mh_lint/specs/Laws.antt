@@ -4,11 +4,10 @@ use Rattle.mh_model.specs.Service.{Service}
 use Rattle.mh_model.specs.State.{State}
 use Rattle.mh_laws.specs.Budget.{IsAccepted}
 use Rattle.mh_laws.specs.Each.{Each}
-use Rattle.mh_laws.specs.Layers.{costs}
-use Rattle.mh_never.specs.Never.{AllPutLiving}
+use Rattle.mh_never.specs.Firing.{IsUnput}
 use Rattle.mh_laws.specs.Safe.{config_of}
 use Rattle.mh_flow.specs.Index.{is_entered}
-use Rattle.mh_alive.specs.Alive.{Alive, InEachRun, IsAliveOf, IsDeafAt, IsStill, IsUnsaid, is_other}
+use Rattle.mh_alive.specs.Alive.{Alive, InEachRun, IsAliveOf, IsDeafAt, IsStill, IsUnsaid}
 use Rattle.mh_lint.specs.declared.finding.Finding.{Finding}
 use Rattle.mh_lint.specs.declared.finding.Finding.TheVariants as finding
 use Rattle.mh_lint.specs.Findings.{findings}
@@ -17,13 +16,13 @@ use Rattle.mh_lint.specs.Findings.{findings}
 abbrev pub IsOutside : List ℕ → State → Type 0
 IsOutside g s = is_entered (config_of s) g ≡ false
 
--- In no state of any run is the group entered; is the object running; does the event come; is the link's effect put to work,
--- unless it has no action; or does the link hear what can come next.
+-- In no state of any run is the group entered; is the object running; does the event come; does an event that may be dealt with
+-- next put the link to work, unless it does nothing; or does the link hear what can come next.
 abbrev pub NeverHappens : (most : ℕ) (v : Service) → IsAccepted most v → Finding → Type 0
 NeverHappens most v k (finding.Unreached r) = InEachRun v (IsOutside r.group)
 NeverHappens most v k (finding.Idle r) = InEachRun v (IsStill r)
 NeverHappens most v k (finding.Unsaid r kind x) = InEachRun v (IsUnsaid kind (Some x))
-NeverHappens most v k (finding.Unput r) = InEachRun v (AllPutLiving v k.flow (costs v k.flow k.rank) (is_other r))
+NeverHappens most v k (finding.Unput r) = InEachRun v (IsUnput r)
 NeverHappens most v k (finding.Deaf r) = InEachRun v (IsDeafAt v r)
 
 -- THE LAW. What is found of an accepted service, be it a root or what follows from one, happens in no run of it.
