@@ -21,3 +21,4 @@ mod there;
 
 pub use alive::{Alive, alive_of};
 pub use law::stays_reached;
+pub use sendings::is_key_data;

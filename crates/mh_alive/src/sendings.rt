@@ -207,7 +207,8 @@ fn is_counted(kind: EventType, value: Option<&Value>) -> bool
     }
 }
 
-fn is_key_data(value: Option<&Value>) -> bool
+/// Whether events of keys come with this data: it is the number of one.
+pub fn is_key_data(value: Option<&Value>) -> bool
     ensures { result ≡ spec.is_key_data (option_copied value.entry) }
 {
     match value {

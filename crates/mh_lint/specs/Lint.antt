@@ -14,10 +14,10 @@ use Rattle.mh_lint.specs.Telling.{never_words}
 pub record IsNeverText (all : Bool) (v : Service) (w : Flow) (fs : List Source) (text : List ℕ) : Type 0 where
   pub alive : Alive
   pub is : IsAliveOf v w alive
-  pub lines : text ≡ never_words v fs (findings all v w.configs alive)
+  pub lines : text ≡ never_words v w.configs fs (findings all v w.configs alive)
 
 -- and then those of notes
 pub record IsLintText (q : Asked) (v : Service) (w : Flow) (fs : List Source) (text : List ℕ) : Type 0 where
   pub alive : Alive
   pub is : IsAliveOf v w alive
-  pub lines : text ≡ never_words v fs (findings q.all v w.configs alive) ++ notes_words q.allowed v fs (notes q.all fs v)
+  pub lines : text ≡ never_words v w.configs fs (findings q.all v w.configs alive) ++ notes_words q.allowed v fs (notes q.all fs v)

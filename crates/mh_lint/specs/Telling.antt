@@ -1,4 +1,4 @@
--- The lines of findings: where an object stands, and what of it never happens.
+-- The lines of findings: where an object stands, what of it never happens, and why.
 use Rattle.std.specs.Prelude.{ℕ, ◌==◌, Bool, true, false, not, if◌then◌else◌, List, [], ◌++◌, codes, Option, Some, None, ℤ, pos, int_lt, unsigned_abs}
 use Rattle.std.specs.Fmt.{decimal}
 use Rattle.std.specs.List.{find, flat_map}
@@ -10,7 +10,9 @@ use Rattle.mh_base.specs.declared.obj_ref.ObjRef.{ObjRef}
 use Rattle.mh_base.specs.declared.value.Value.{Value}
 use Rattle.mh_base.specs.declared.value.Value.TheVariants as value
 use Rattle.mh_group.specs.declared.attribute.Attribute.TheVariants as attribute
+use Rattle.mh_group.specs.Table.{is_scene}
 use Rattle.mh_group.specs.Words.{class_word, event_word}
+use Rattle.mh_model.specs.declared.config.Config.{Config}
 use Rattle.mh_model.specs.declared.object.Fixed.{Fixed}
 use Rattle.mh_model.specs.Property.{held, as_event, as_value}
 use Rattle.mh_model.specs.Service.{Service, group_parts, part_at}
@@ -18,8 +20,12 @@ use Rattle.mh_text.specs.Landmarks.{Landmark, Sight, Class, Number, Name, landma
 use Rattle.mh_told.specs.Reading.{Source}
 use Rattle.mh_places.specs.declared.place.Place.{Place}
 use Rattle.mh_places.specs.Places.{place_at, place_text}
+use Rattle.mh_alive.specs.Sendings.{is_key_data}
 use Rattle.mh_lint.specs.declared.finding.Finding.{Finding}
 use Rattle.mh_lint.specs.declared.finding.Finding.TheVariants as finding
+use Rattle.mh_lint.specs.declared.reasons.Lack.{Lack}
+use Rattle.mh_lint.specs.declared.reasons.Lack.TheVariants as lack
+use Rattle.mh_lint.specs.Findings.{is_unreached, waits_beyond}
 
 -- Places
 
@@ -74,76 +80,118 @@ value_words (value.Octets os) = codes "these octets"
 value_words (value.Object r) = codes "this object"
 value_words (value.Content g) = codes "this content"
 
--- Findings
-
-unfoldable pub unreached_words : List ℕ
-unreached_words = codes " is entered by nothing: no active action leads to it"
-
-unfoldable pub idle_words : List ℕ
-idle_words = codes " is run by nothing: it is not active at first, and no active action runs it"
-
-unfoldable pub unsaid_words : EventType → Value → List ℕ
-unsaid_words kind x = codes " waits for " ++ event_word kind ++ codes " with " ++ value_words x ++ codes ": none comes with that"
-
-unfoldable pub number_words : Option Value → List ℕ
-number_words (Some (value.Int n)) = codes " " ++ signed_words n
-number_words _ = []
-
-unfoldable pub no_action_words : List ℕ
-no_action_words = codes ": no active action emits "
-
--- that nothing emits events of this type
-unfoldable pub emits_words : EventType → List ℕ
-emits_words kind = no_action_words ++ event_word kind
+-- data that a link names
+unfoldable pub data_words : Option Value → List ℕ
+data_words None = []
+data_words (Some (value.Int n)) = codes " " ++ signed_words n
+data_words (Some x) = codes " with " ++ value_words x
 
 -- of this object
 unfoldable pub of_words : Service → List ℕ → ObjRef → List ℕ
 of_words v g r = codes " of " ++ source_words v g r
 
--- what the link waits for
-unfoldable pub waits_words : Service → List ℕ → Option EventType → Option Value → Option Value → List ℕ
-waits_words v g (Some kind) (Some (value.Object r)) d = emits_words kind ++ number_words d ++ of_words v g r
-waits_words v g _ _ d = []
+-- REASONS. Of an object in a group that nothing leads to that is the reason, and so it is of a link that waits for one.
 
-unfoldable pub link_words : Service → Option Fixed → List ℕ
-link_words v None = []
-link_words v (Some p) =
-    waits_words v p.key.group (as_event (held attribute.EventType p.properties)) (as_value (held attribute.EventSource p.properties)) (as_value (held attribute.EventData p.properties))
+unfoldable pub beyond_words : List ℕ
+beyond_words = codes ": nothing leads to its group"
 
-unfoldable pub unput_words : Service → ObjRef → List ℕ
-unput_words v r = codes " is put to work by nothing" ++ link_words v (part_at r (group_parts v r.group))
+unfoldable pub source_beyond_words : Service → List ℕ → Option Value → List ℕ
+source_beyond_words v g (Some (value.Object r)) = codes ": nothing leads to the group of " ++ source_words v g r
+source_beyond_words v g d = []
 
--- why the link never hears what it waits for: of a timer, of a key
+unfoldable pub unrun_words : List ℕ
+unrun_words = codes ": it is not active at first, and no active action runs it"
 
-unfoldable pub deaf_front : EventType → List ℕ
-deaf_front event.TimerFired = codes ": timer"
-deaf_front event.UserInput = codes ": key"
-deaf_front _ = codes ": what it waits for"
+unfoldable pub idle_reason : List Config → List ℕ → List ℕ
+idle_reason cs g = if is_unreached cs g then beyond_words else unrun_words
 
-unfoldable pub deaf_end : EventType → List ℕ
-deaf_end event.TimerFired = codes " is only set by links that never hear"
-deaf_end event.UserInput = codes " is let through by no register"
-deaf_end _ = codes " never comes"
+unfoldable pub no_action_words : List ℕ
+no_action_words = codes ": no active action emits "
 
-unfoldable pub deaf_words : Service → List ℕ → Option EventType → Option Value → Option Value → List ℕ
-deaf_words v g (Some kind) (Some (value.Object r)) d = deaf_front kind ++ number_words d ++ of_words v g r ++ deaf_end kind
-deaf_words v g _ _ d = []
+-- that nothing emits the event
+unfoldable pub emits_words : Service → List ℕ → EventType → ObjRef → Option Value → List ℕ
+emits_words v g kind r d = no_action_words ++ event_word kind ++ data_words d ++ of_words v g r
 
-unfoldable pub deaf_link_words : Service → Option Fixed → List ℕ
-deaf_link_words v None = []
-deaf_link_words v (Some p) =
-    deaf_words v p.key.group (as_event (held attribute.EventType p.properties)) (as_value (held attribute.EventSource p.properties)) (as_value (held attribute.EventData p.properties))
+-- Why the link never hears what it waits for: that only such links set the timer, that no key has such data, that the key is one of
+-- what is no scene, or that no register of the scene lets it through.
 
-unfoldable pub hears_nothing_words : Service → ObjRef → List ℕ
-hears_nothing_words v r = codes " hears nothing" ++ deaf_link_words v (part_at r (group_parts v r.group))
+unfoldable pub timer_front : List ℕ
+timer_front = codes ": timer"
 
--- what is said of a finding behind its object
-abbrev pub said_words : Service → Finding → List ℕ
-said_words v (finding.Unreached r) = unreached_words
-said_words v (finding.Idle r) = idle_words
-said_words v (finding.Unsaid r kind x) = unsaid_words kind x
-said_words v (finding.Unput r) = unput_words v r
-said_words v (finding.Deaf r) = hears_nothing_words v r
+unfoldable pub timer_words : Service → List ℕ → ObjRef → Option Value → List ℕ
+timer_words v g r d = timer_front ++ data_words d ++ of_words v g r ++ codes " is only set by links that never hear"
+
+unfoldable pub no_key_words : Value → List ℕ
+no_key_words x = codes ": no key comes with " ++ value_words x
+
+unfoldable pub keyless_words : Service → List ℕ → ObjRef → List ℕ
+keyless_words v g r = codes ": " ++ source_words v g r ++ codes " hears no keys"
+
+unfoldable pub key_front : List ℕ
+key_front = codes ": key"
+
+unfoldable pub blocked_words : Service → List ℕ → ObjRef → Option Value → List ℕ
+blocked_words v g r d = key_front ++ data_words d ++ of_words v g r ++ codes " is let through by no register"
+
+-- there is such an object, and it is a scene
+abbrev pub is_some_scene : Option Fixed → Bool
+is_some_scene None = false
+is_some_scene (Some p) = is_scene p.class
+
+unfoldable pub unlet_words : Service → List ℕ → ObjRef → Option Value → List ℕ
+unlet_words v g r d = if is_some_scene (part_at r (group_parts v r.group)) then blocked_words v g r d else keyless_words v g r
+
+unfoldable pub key_words : Service → List ℕ → ObjRef → Option Value → List ℕ
+key_words v g r None = unlet_words v g r None
+key_words v g r (Some x) = if is_key_data (Some x) then unlet_words v g r (Some x) else no_key_words x
+
+unfoldable pub unheard_words : Service → List ℕ → EventType → ObjRef → Option Value → List ℕ
+unheard_words v g event.TimerFired r d = timer_words v g r d
+unheard_words v g event.UserInput r d = key_words v g r d
+unheard_words v g _ r d = []
+
+-- what the link lacks
+unfoldable pub lack_words : Lack → Service → List ℕ → Option EventType → Option Value → Option Value → List ℕ
+lack_words lack.Emission v g (Some kind) (Some (value.Object r)) d = emits_words v g kind r d
+lack_words lack.Hearing v g (Some kind) (Some (value.Object r)) d = unheard_words v g kind r d
+lack_words l v g _ _ d = []
+
+unfoldable pub waits_words : Lack → Service → List Config → Fixed → List ℕ
+waits_words l v cs p =
+    if waits_beyond cs p then source_beyond_words v p.key.group (as_value (held attribute.EventSource p.properties))
+    else lack_words l v p.key.group (as_event (held attribute.EventType p.properties)) (as_value (held attribute.EventSource p.properties)) (as_value (held attribute.EventData p.properties))
+
+unfoldable pub link_words : Lack → Service → List Config → Option Fixed → List ℕ
+link_words l v cs None = []
+link_words l v cs (Some p) = waits_words l v cs p
+
+unfoldable pub link_reason : Lack → Service → List Config → ObjRef → List ℕ
+link_reason l v cs r = if is_unreached cs r.group then beyond_words else link_words l v cs (part_at r (group_parts v r.group))
+
+-- Findings
+
+unfoldable pub unreached_words : List ℕ
+unreached_words = codes " is entered by nothing: no active action leads to it"
+
+unfoldable pub idle_words : List Config → List ℕ → List ℕ
+idle_words cs g = codes " is run by nothing" ++ idle_reason cs g
+
+unfoldable pub unsaid_words : EventType → Value → List ℕ
+unsaid_words kind x = codes " waits for " ++ event_word kind ++ codes " with " ++ value_words x ++ codes ": none comes with that"
+
+unfoldable pub unput_words : Service → List Config → ObjRef → List ℕ
+unput_words v cs r = codes " is put to work by nothing" ++ link_reason lack.Emission v cs r
+
+unfoldable pub deaf_words : Service → List Config → ObjRef → List ℕ
+deaf_words v cs r = codes " hears nothing" ++ link_reason lack.Hearing v cs r
+
+-- what is said of a finding behind its object, where these configurations are reached
+abbrev pub said_words : Service → List Config → Finding → List ℕ
+said_words v cs (finding.Unreached r) = unreached_words
+said_words v cs (finding.Idle r) = idle_words cs r.group
+said_words v cs (finding.Unsaid r kind x) = unsaid_words kind x
+said_words v cs (finding.Unput r) = unput_words v cs r
+said_words v cs (finding.Deaf r) = deaf_words v cs r
 
 abbrev pub object_of : Finding → ObjRef
 object_of (finding.Unreached r) = r
@@ -152,9 +200,9 @@ object_of (finding.Unsaid r kind x) = r
 object_of (finding.Unput r) = r
 object_of (finding.Deaf r) = r
 
-unfoldable pub finding_words : Service → List Source → Finding → List ℕ
-finding_words v fs f = front_words fs (object_of f) ++ codes " never: " ++ object_words v (object_of f) ++ said_words v f ++ codes "\n"
+unfoldable pub finding_words : Service → List Config → List Source → Finding → List ℕ
+finding_words v cs fs f = front_words fs (object_of f) ++ codes " never: " ++ object_words v (object_of f) ++ said_words v cs f ++ codes "\n"
 
 -- a line each
-abbrev pub never_words : Service → List Source → List Finding → List ℕ
-never_words v fs found = flat_map (finding_words v fs) found
+abbrev pub never_words : Service → List Config → List Source → List Finding → List ℕ
+never_words v cs fs found = flat_map (finding_words v cs fs) found

@@ -6,7 +6,6 @@
 #![tactic(auto)]
 
 mod acts;
-mod deaf;
 mod ending;
 mod finding;
 mod findings;
@@ -17,6 +16,7 @@ mod notes;
 mod noting;
 mod parts;
 mod place;
+mod reasons;
 mod rule;
 mod seen;
 mod sharing;
@@ -24,6 +24,7 @@ mod sights;
 mod sources;
 mod telling;
 mod timers;
+mod unheard;
 mod uses;
 
 pub use finding::Finding;

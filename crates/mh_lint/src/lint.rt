@@ -59,7 +59,14 @@ fn never_text(
     let configs = flow.configs(alloc)?;
     let found = findings_of(alloc, service, configs.as_slice(), &alive, all)?;
     let mut text = Text::new(alloc);
-    put_findings(alloc, &mut text, service, files, found.as_slice())?;
+    put_findings(
+        alloc,
+        &mut text,
+        service,
+        configs.as_slice(),
+        files,
+        found.as_slice(),
+    )?;
     Ok(text)
 }
 

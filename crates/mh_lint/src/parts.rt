@@ -92,7 +92,7 @@ fn of_link(alive: &Alive, part: &Fixed) -> Result<Option<Finding>, AllocError>
 }
 
 /// Whether what the link waits for is in a group that nothing leads to.
-fn waits_beyond(configs: &[Config], part: &Fixed) -> bool
+pub(crate) fn waits_beyond(configs: &[Config], part: &Fixed) -> bool
     ensures { result ≡ spec.waits_beyond configs.now part.now }
 {
     is_beyond(

@@ -1,4 +1,4 @@
-//! The lines of findings: the file, the line and the column, and what never happens.
+//! The lines of findings: the file, the line and the column, what never happens, and why.
 //!
 //! Promise: each function puts what the definition of its name in `specs/Telling` says.
 ghost use Rattle.std.specs.Prelude.{◌≡◌, ◌++◌, Some, OnOk, None, Option};
@@ -6,14 +6,13 @@ ghost use Rattle.std.specs.List.{flat_map};
 ghost use Rattle.std.specs.Option.{option_copied};
 ghost use Rattle.mh_lint.specs.Telling as spec;
 
-use crate::deaf::put_hears_nothing;
 use crate::finding::Finding;
 use crate::place::place_of;
+use crate::reasons::{Lack, put_idle_reason, put_link_reason};
 use mh_base::{EventType, GroupName, ObjRef, Value};
 use mh_flow::Equipped;
-use mh_group::{Attribute, event_word};
-use mh_model::Fixed;
-use mh_model::held::{as_event, as_value};
+use mh_group::event_word;
+use mh_model::{Config, Fixed};
 use mh_places::{Place, put_place};
 use mh_told::text::Text;
 use std::alloc::{AllocError, Global};
@@ -84,7 +83,7 @@ fn put_group(text: &mut Text, from: &GroupName, group: &GroupName) -> Result<(),
 
 /// Puts an object, with its group where that is another.
 #[tactic(auto, unfolding(crate::specs::Telling::source_words))]
-fn put_source(
+pub(crate) fn put_source(
     text: &mut Text,
     service: &Equipped<'_>,
     from: &GroupName,
@@ -107,7 +106,7 @@ fn put_signed(text: &mut Text, number: &i32) -> Result<(), AllocError>
 }
 
 #[tactic(auto, unfolding(crate::specs::Telling::value_words))]
-fn put_value(text: &mut Text, value: &Value) -> Result<(), AllocError>
+pub(crate) fn put_value(text: &mut Text, value: &Value) -> Result<(), AllocError>
     ensures { OnOk result (text.new ≡ text.old ++ spec.value_words value.now) }
 {
     match value {
@@ -127,13 +126,6 @@ fn put_unreached(text: &mut Text) -> Result<(), AllocError>
     text.put(b" is entered by nothing: no active action leads to it")
 }
 
-#[tactic(auto, unfolding(crate::specs::Telling::idle_words))]
-fn put_idle(text: &mut Text) -> Result<(), AllocError>
-    ensures { OnOk result (text.new ≡ text.old ++ spec.idle_words) }
-{
-    text.put(b" is run by nothing: it is not active at first, and no active action runs it")
-}
-
 /// Puts that no event of the type comes with the data for which the link waits.
 #[tactic(auto, unfolding(crate::specs::Telling::unsaid_words))]
 fn put_unsaid(text: &mut Text, kind: EventType, value: &Value) -> Result<(), AllocError>
@@ -146,34 +138,22 @@ fn put_unsaid(text: &mut Text, kind: EventType, value: &Value) -> Result<(), All
     text.put(b": none comes with that")
 }
 
-/// Puts the number that the link names, if it names one.
-#[tactic(auto, unfolding(crate::specs::Telling::number_words))]
-pub(crate) fn put_number(text: &mut Text, value: Option<&Value>) -> Result<(), AllocError>
-    ensures { OnOk result (text.new ≡ text.old ++ spec.number_words (option_copied value.entry)) }
+/// Puts the data that the link names, if it names any.
+#[tactic(auto, unfolding(crate::specs::Telling::data_words))]
+pub(crate) fn put_data(text: &mut Text, value: Option<&Value>) -> Result<(), AllocError>
+    ensures { OnOk result (text.new ≡ text.old ++ spec.data_words (option_copied value.entry)) }
 {
     match value {
+        None => Ok(()),
         Some(Value::Int(number)) => {
             text.put(b" ")?;
             put_signed(text, number)
         }
-        _ => Ok(()),
+        Some(value) => {
+            text.put(b" with ")?;
+            put_value(text, value)
+        }
     }
-}
-
-/// Puts that nothing emits events of this type.
-#[tactic(auto, unfolding(crate::specs::Telling::emits_words))]
-fn put_emits(text: &mut Text, kind: EventType) -> Result<(), AllocError>
-    ensures { OnOk result (text.new ≡ text.old ++ spec.emits_words kind) }
-{
-    put_no_action(text)?;
-    text.put(event_word(kind))
-}
-
-#[tactic(auto, unfolding(crate::specs::Telling::no_action_words))]
-fn put_no_action(text: &mut Text) -> Result<(), AllocError>
-    ensures { OnOk result (text.new ≡ text.old ++ spec.no_action_words) }
-{
-    text.put(b": no active action emits ")
 }
 
 /// Puts of which object.
@@ -190,64 +170,55 @@ pub(crate) fn put_of(
     put_source(text, service, from, at)
 }
 
-/// Puts for which event the link waits that nothing emits.
-#[tactic(auto, unfolding(crate::specs::Telling::waits_words))]
-fn put_waits(
-    text: &mut Text,
-    service: &Equipped<'_>,
-    from: &GroupName,
-    kind: Option<EventType>,
-    source: Option<&Value>,
-    value: Option<&Value>,
-) -> Result<(), AllocError>
-    ensures { OnOk result (text.new
-        ≡ text.old ++ spec.waits_words service.now from.now kind (option_copied source.entry) (option_copied value.entry)) }
+#[tactic(auto, unfolding(crate::specs::Telling::idle_words))]
+fn put_idle(text: &mut Text, configs: &[Config], group: &GroupName) -> Result<(), AllocError>
+    ensures { OnOk result (text.new ≡ text.old ++ spec.idle_words configs.now group.now) }
 {
-    match (kind, source) {
-        (Some(kind), Some(Value::Object(source))) => {
-            put_emits(text, kind)?;
-            put_number(text, value)?;
-            put_of(text, service, from, source)
-        }
-        _ => Ok(()),
-    }
-}
-
-#[tactic(auto, unfolding(crate::specs::Telling::link_words))]
-fn put_link(text: &mut Text, service: &Equipped<'_>, link: Option<&Fixed>) -> Result<(), AllocError>
-    ensures { OnOk result (text.new ≡ text.old ++ spec.link_words service.now (option_copied link.entry)) }
-{
-    match link {
-        None => Ok(()),
-        Some(link) => put_waits(
-            text,
-            service,
-            &link.key.group,
-            as_event(link.properties.get(Attribute::EventType)),
-            as_value(link.properties.get(Attribute::EventSource)),
-            as_value(link.properties.get(Attribute::EventData)),
-        ),
-    }
+    text.put(b" is run by nothing")?;
+    put_idle_reason(text, configs, group)
 }
 
 #[tactic(auto, unfolding(crate::specs::Telling::unput_words))]
-fn put_unput(text: &mut Text, service: &Equipped<'_>, at: &ObjRef) -> Result<(), AllocError>
-    ensures { OnOk result (text.new ≡ text.old ++ spec.unput_words service.now at.now) }
+fn put_unput(
+    text: &mut Text,
+    service: &Equipped<'_>,
+    configs: &[Config],
+    at: &ObjRef,
+) -> Result<(), AllocError>
+    ensures { OnOk result (text.new ≡ text.old ++ spec.unput_words service.now configs.now at.now) }
 {
     text.put(b" is put to work by nothing")?;
-    put_link(text, service, service.find(at))
+    put_link_reason(text, Lack::Emission, service, configs, at)
 }
 
-/// Puts what is said of a finding behind its object.
-fn put_words(text: &mut Text, service: &Equipped<'_>, finding: &Finding) -> Result<(), AllocError>
-    ensures { OnOk result (text.new ≡ text.old ++ spec.said_words service.now finding.now) }
+#[tactic(auto, unfolding(crate::specs::Telling::deaf_words))]
+fn put_deaf(
+    text: &mut Text,
+    service: &Equipped<'_>,
+    configs: &[Config],
+    at: &ObjRef,
+) -> Result<(), AllocError>
+    ensures { OnOk result (text.new ≡ text.old ++ spec.deaf_words service.now configs.now at.now) }
+{
+    text.put(b" hears nothing")?;
+    put_link_reason(text, Lack::Hearing, service, configs, at)
+}
+
+/// Puts what is said of a finding behind its object, where these configurations are reached.
+fn put_words(
+    text: &mut Text,
+    service: &Equipped<'_>,
+    configs: &[Config],
+    finding: &Finding,
+) -> Result<(), AllocError>
+    ensures { OnOk result (text.new ≡ text.old ++ spec.said_words service.now configs.now finding.now) }
 {
     match finding {
         Finding::Unreached(_) => put_unreached(text),
-        Finding::Idle(_) => put_idle(text),
+        Finding::Idle(at) => put_idle(text, configs, &at.group),
         Finding::Unsaid(_, kind, value) => put_unsaid(text, *kind, value),
-        Finding::Unput(at) => put_unput(text, service, at),
-        Finding::Deaf(at) => put_hears_nothing(text, service, at),
+        Finding::Unput(at) => put_unput(text, service, configs, at),
+        Finding::Deaf(at) => put_deaf(text, service, configs, at),
     }
 }
 
@@ -270,31 +241,35 @@ pub fn put_finding(
     alloc: Global,
     text: &mut Text,
     service: &Equipped<'_>,
+    configs: &[Config],
     files: &[(GroupName, Vec<u8>)],
     finding: &Finding,
 ) -> Result<(), AllocError>
-    ensures { OnOk result (text.new ≡ text.old ++ spec.finding_words service.now files.now finding.now) }
+    ensures { OnOk result (text.new
+        ≡ text.old ++ spec.finding_words service.now configs.now files.now finding.now) }
 {
     let at = object_of(finding);
     put_front(alloc, text, files, at)?;
     text.put(b" never: ")?;
     put_object(text, service, at)?;
-    put_words(text, service, finding)?;
+    put_words(text, service, configs, finding)?;
     text.put(b"\n")
 }
 
-/// Puts the lines of all findings.
+/// Puts the lines of all findings, where these configurations are reached.
 pub fn put_findings(
     alloc: Global,
     text: &mut Text,
     service: &Equipped<'_>,
+    configs: &[Config],
     files: &[(GroupName, Vec<u8>)],
     found: &[Finding],
 ) -> Result<(), AllocError>
-    ensures { OnOk result (text.new ≡ text.old ++ spec.never_words service.now files.now found.now) }
+    ensures { OnOk result (text.new
+        ≡ text.old ++ spec.never_words service.now configs.now files.now found.now) }
 {
     for finding in found {
-        put_finding(alloc, text, service, files, finding)?;
+        put_finding(alloc, text, service, configs, files, finding)?;
     }
     Ok(())
 }

@@ -2,6 +2,7 @@
 
 mod noted;
 mod planted;
+mod reasons;
 mod refused;
 mod unheard;
 
@@ -111,8 +112,7 @@ what follows: the objects of a scene that nothing leads to, and a link that is n
 @t {:Scene ("~/t" 0)|  :Items ( {:Text 1 :OrigBoxSize 24 16 } ) }
 => s:2:19: never: Link 7 is run by nothing: it is not active at first, and no active action runs it|s:2:19: never: Link
 7 is put to work by nothing: no active action emits HighlightOn of Scene 0|t:1:2: never: Scene 0 is entered by nothing:
-no active action leads to it|t:2:19: never: Text 1 is run by nothing: it is not active at first, and no active action
-runs it|;;
+no active action leads to it|t:2:19: never: Text 1 is run by nothing: nothing leads to its group|;;
 the root of them roots
 @a {:Application ("~/a" 0) :OnStartUp ( :TransitionTo (("~/s" 0)) ) }
 @s {:Scene ("~/s" 0)|  :Items ( {:Link 7 :InitiallyActive false :EventSource 0 :EventType HighlightOn :LinkEffect ( :SetInputRegister (0 3) ) } ) }

@@ -23,7 +23,7 @@ pub record IsLintOf (q : Asked) (v : Service) (fs : List File) (text : List ℕ)
   pub accepted : IsAccepted most_cost v
   pub alive : Alive
   pub is : IsAliveOf v accepted.flow alive
-  pub lines : text ≡ never_words v fs (findings q.all v (accepted.flow).configs alive) ++ notes_words q.allowed v fs (notes q.all fs v)
+  pub lines : text ≡ never_words v (accepted.flow).configs fs (findings q.all v (accepted.flow).configs alive) ++ notes_words q.allowed v fs (notes q.all fs v)
   pub never : Each (NeverHappens most_cost v accepted) (findings q.all v (accepted.flow).configs alive)
 
 -- They are those of the service as which the files were read, with the built-in programs; and there are none only where they make

@@ -38,7 +38,7 @@ a digit under registers 5 and 3, and under one that is given by number or by a v
 a key of an application, which hears none roots
 @a {:Application ("~/a" 0) :Items ( {:Text 1 :Shared true :OrigBoxSize 240 16 } {:Link 2 :EventSource 0 :EventType IsRunning :LinkEffect ( :TransitionTo (("~/s" 0)) ) }|  {:Link 3 :Shared true :EventSource 0 :EventType UserInput :EventData 100 :LinkEffect ( :SetData (1 'a') ) } ) }
 @s {:Scene ("~/s" 0) }
-=> a:2:10: never: Link 3 hears nothing: key 100 of Application 0 is let through by no register|"#;
+=> a:2:10: never: Link 3 hears nothing: Application 0 hears no keys|"#;
 
 #[test]
 fn links_that_never_hear_are_told(rt: HostRuntime) {
