@@ -95,8 +95,11 @@ of_words v g r = codes " of " ++ source_words v g r
 unfoldable pub beyond_words : List ℕ
 beyond_words = codes ": nothing leads to its group"
 
+unfoldable pub beyond_front : List ℕ
+beyond_front = codes ": nothing leads to the group of "
+
 unfoldable pub source_beyond_words : Service → List ℕ → Option Value → List ℕ
-source_beyond_words v g (Some (value.Object r)) = codes ": nothing leads to the group of " ++ source_words v g r
+source_beyond_words v g (Some (value.Object r)) = beyond_front ++ source_words v g r
 source_beyond_words v g d = []
 
 unfoldable pub unrun_words : List ℕ
@@ -118,20 +121,32 @@ emits_words v g kind r d = no_action_words ++ event_word kind ++ data_words d ++
 unfoldable pub timer_front : List ℕ
 timer_front = codes ": timer"
 
+unfoldable pub timer_end : List ℕ
+timer_end = codes " is only set by links that never hear"
+
 unfoldable pub timer_words : Service → List ℕ → ObjRef → Option Value → List ℕ
-timer_words v g r d = timer_front ++ data_words d ++ of_words v g r ++ codes " is only set by links that never hear"
+timer_words v g r d = timer_front ++ data_words d ++ of_words v g r ++ timer_end
 
 unfoldable pub no_key_words : Value → List ℕ
 no_key_words x = codes ": no key comes with " ++ value_words x
 
+unfoldable pub keyless_front : List ℕ
+keyless_front = codes ": "
+
+unfoldable pub keyless_end : List ℕ
+keyless_end = codes " hears no keys"
+
 unfoldable pub keyless_words : Service → List ℕ → ObjRef → List ℕ
-keyless_words v g r = codes ": " ++ source_words v g r ++ codes " hears no keys"
+keyless_words v g r = keyless_front ++ source_words v g r ++ keyless_end
 
 unfoldable pub key_front : List ℕ
 key_front = codes ": key"
 
+unfoldable pub key_end : List ℕ
+key_end = codes " is let through by no register"
+
 unfoldable pub blocked_words : Service → List ℕ → ObjRef → Option Value → List ℕ
-blocked_words v g r d = key_front ++ data_words d ++ of_words v g r ++ codes " is let through by no register"
+blocked_words v g r d = key_front ++ data_words d ++ of_words v g r ++ key_end
 
 -- there is such an object, and it is a scene
 abbrev pub is_some_scene : Option Fixed → Bool

@@ -32,6 +32,13 @@ fn put_beyond(text: &mut Text) -> Result<(), AllocError>
     text.put(b": nothing leads to its group")
 }
 
+#[tactic(auto, unfolding(crate::specs::Telling::beyond_front))]
+fn put_beyond_front(text: &mut Text) -> Result<(), AllocError>
+    ensures { OnOk result (text.new ≡ text.old ++ spec.beyond_front) }
+{
+    text.put(b": nothing leads to the group of ")
+}
+
 /// Puts that nothing leads to the group of what the link waits for.
 #[tactic(auto, unfolding(crate::specs::Telling::source_beyond_words))]
 fn put_source_beyond(
@@ -45,7 +52,7 @@ fn put_source_beyond(
 {
     match source {
         Some(Value::Object(source)) => {
-            text.put(b": nothing leads to the group of ")?;
+            put_beyond_front(text)?;
             put_source(text, service, from, source)
         }
         _ => Ok(()),

@@ -21,6 +21,13 @@ fn put_timer_front(text: &mut Text) -> Result<(), AllocError>
     text.put(b": timer")
 }
 
+#[tactic(auto, unfolding(crate::specs::Telling::timer_end))]
+fn put_timer_end(text: &mut Text) -> Result<(), AllocError>
+    ensures { OnOk result (text.new ≡ text.old ++ spec.timer_end) }
+{
+    text.put(b" is only set by links that never hear")
+}
+
 /// Puts that only links which never hear set the timer.
 #[tactic(auto, unfolding(crate::specs::Telling::timer_words))]
 fn put_timer(
@@ -36,7 +43,7 @@ fn put_timer(
     put_timer_front(text)?;
     put_data(text, value)?;
     put_of(text, service, from, source)?;
-    text.put(b" is only set by links that never hear")
+    put_timer_end(text)
 }
 
 #[tactic(auto, unfolding(crate::specs::Telling::no_key_words))]
@@ -45,6 +52,20 @@ fn put_no_key(text: &mut Text, value: &Value) -> Result<(), AllocError>
 {
     text.put(b": no key comes with ")?;
     put_value(text, value)
+}
+
+#[tactic(auto, unfolding(crate::specs::Telling::keyless_front))]
+fn put_keyless_front(text: &mut Text) -> Result<(), AllocError>
+    ensures { OnOk result (text.new ≡ text.old ++ spec.keyless_front) }
+{
+    text.put(b": ")
+}
+
+#[tactic(auto, unfolding(crate::specs::Telling::keyless_end))]
+fn put_keyless_end(text: &mut Text) -> Result<(), AllocError>
+    ensures { OnOk result (text.new ≡ text.old ++ spec.keyless_end) }
+{
+    text.put(b" hears no keys")
 }
 
 /// Puts that what the link waits for is no scene, and so hears no keys.
@@ -57,9 +78,9 @@ fn put_keyless(
 ) -> Result<(), AllocError>
     ensures { OnOk result (text.new ≡ text.old ++ spec.keyless_words service.now from.now source.now) }
 {
-    text.put(b": ")?;
+    put_keyless_front(text)?;
     put_source(text, service, from, source)?;
-    text.put(b" hears no keys")
+    put_keyless_end(text)
 }
 
 #[tactic(auto, unfolding(crate::specs::Telling::key_front))]
@@ -67,6 +88,13 @@ fn put_key_front(text: &mut Text) -> Result<(), AllocError>
     ensures { OnOk result (text.new ≡ text.old ++ spec.key_front) }
 {
     text.put(b": key")
+}
+
+#[tactic(auto, unfolding(crate::specs::Telling::key_end))]
+fn put_key_end(text: &mut Text) -> Result<(), AllocError>
+    ensures { OnOk result (text.new ≡ text.old ++ spec.key_end) }
+{
+    text.put(b" is let through by no register")
 }
 
 /// Puts that no register of the scene lets the key through.
@@ -84,7 +112,7 @@ fn put_blocked(
     put_key_front(text)?;
     put_data(text, value)?;
     put_of(text, service, from, source)?;
-    text.put(b" is let through by no register")
+    put_key_end(text)
 }
 
 fn is_some_scene(part: Option<&Fixed>) -> bool
