@@ -10,6 +10,7 @@ mod digest;
 mod entry;
 mod hearing;
 mod links;
+mod outcome;
 mod proposing;
 mod script_text;
 mod search;

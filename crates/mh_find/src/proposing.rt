@@ -42,17 +42,26 @@ pub fn proposal<'a>(
 /// A script that leads to a fault, if one is found.
 fn found(beginning: &Beginning, within: Within) -> Result<Option<Vec<Stimulus>>, AllocError> {
     let mut search = Search::new(beginning.alloc, within);
-    for _ in 0..within.plays {
+    found_by(&mut search, beginning, within.plays)
+}
+
+/// The first script that leads to a fault, of so many that the search goes through.
+fn found_by(
+    search: &mut Search,
+    beginning: &Beginning,
+    plays: u32,
+) -> Result<Option<Vec<Stimulus>>, AllocError> {
+    for _ in 0..plays {
         let Some(script) = search.next_script()? else {
             return Ok(None);
         };
-        let Some(trial) = beginning.tried(script.as_slice())? else {
+        let Some(outcome) = beginning.outcome(script.as_slice())? else {
             return Ok(None);
         };
-        if trial.has_fault() {
+        if outcome.has_fault {
             return Ok(Some(script));
         }
-        search.note(script, &trial)?;
+        search.note(script, outcome)?;
     }
     Ok(None)
 }
@@ -66,7 +75,7 @@ fn shortened(beginning: &Beginning, script: Vec<Stimulus>) -> Result<Option<Text
             script = shorter;
         }
     }
-    text_of(beginning, script.as_slice())
+    beginning.text(script.as_slice())
 }
 
 /// The script without the input at this place.
@@ -81,15 +90,8 @@ fn without(alloc: Global, script: &[Stimulus], place: usize) -> Result<Vec<Stimu
 }
 
 fn faults(beginning: &Beginning, script: &[Stimulus]) -> Result<bool, AllocError> {
-    match beginning.tried(script)? {
-        Some(trial) => Ok(trial.has_fault()),
+    match beginning.outcome(script)? {
+        Some(outcome) => Ok(outcome.has_fault),
         None => Ok(false),
-    }
-}
-
-fn text_of(beginning: &Beginning, script: &[Stimulus]) -> Result<Option<Text>, AllocError> {
-    match beginning.tried(script)? {
-        Some(trial) => Ok(Some(trial.text(script, beginning.steps)?)),
-        None => Ok(None),
     }
 }

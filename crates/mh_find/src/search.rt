@@ -1,9 +1,7 @@
 //! `Search`: which scripts are still to be tried, and which states were seen.
 use crate::entry::Entry;
-use crate::hearing::heard;
+use crate::outcome::Outcome;
 use crate::stimulus::Stimulus;
-use crate::trial::Trial;
-use crate::view::view_of;
 use crate::within::Within;
 use std::alloc::{AllocError, Global};
 use std::collections::{BTreeMap, BTreeSet, VecDeque};
@@ -66,19 +64,18 @@ impl Search {
         }
     }
 
-    /// Notes where a script has come to without a fault, so that it is gone on with where that is new.
-    pub fn note(&mut self, script: Vec<Stimulus>, trial: &Trial) -> Result<(), AllocError> {
-        if script.len() >= self.within.inputs as usize || !trial.goes_on() {
+    /// Notes what a script has come to without a fault, so that it is gone on with where that is new.
+    pub fn note(&mut self, script: Vec<Stimulus>, outcome: Outcome) -> Result<(), AllocError> {
+        if script.len() >= self.within.inputs as usize || !outcome.goes_on {
             return Ok(());
         }
-        let view = view_of(trial);
+        let view = outcome.view;
         if self.is_known(view.whole, script.len()) {
             return Ok(());
         }
         self.states.insert(view.whole, script.len())?;
         let is_new = self.outlines.insert(view.outline)?;
-        let inputs = heard(self.alloc, trial)?;
-        self.push(Entry::new(script, inputs), is_new)
+        self.push(Entry::new(script, outcome.heard), is_new)
     }
 
     /// Whether the state was seen behind no more inputs.

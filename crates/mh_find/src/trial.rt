@@ -6,6 +6,7 @@ use crate::timing::Timing;
 use mh_machine::{Judged, Machine, Rest};
 use mh_model::{File, Input, Timer};
 use mh_script::RUN_LIMIT;
+use mh_service::Service;
 use mh_told::text::Text;
 use std::alloc::{AllocError, Global};
 
@@ -22,8 +23,15 @@ pub struct Trial {
 }
 
 impl Trial {
-    /// Of a machine that has just begun.
-    pub fn new(alloc: Global, machine: Machine) -> Trial {
+    /// Of a machine that begins on this service on this day.
+    pub fn begin(alloc: Global, service: Service, mjd: u32) -> Result<Trial, AllocError> {
+        match Machine::new(alloc, service, mjd) {
+            Ok(machine) => Ok(Trial::new(alloc, machine)),
+            Err(_) => Err(AllocError),
+        }
+    }
+
+    fn new(alloc: Global, machine: Machine) -> Trial {
         let timed = hears_timers(machine.service());
         Trial {
             alloc,
@@ -80,7 +88,7 @@ impl Trial {
     }
 
     /// What was played, as a script.
-    pub fn text(&self, script: &[Stimulus], steps: u32) -> Result<Text, AllocError> {
+    pub fn text_of(&self, script: &[Stimulus], steps: u32) -> Result<Text, AllocError> {
         let running = if self.settled {
             Running::Whole
         } else {
