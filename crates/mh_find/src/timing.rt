@@ -30,7 +30,12 @@ impl Timing {
     /// Notes what the machine's next step does to timers.
     pub fn note(&mut self, machine: &Machine) -> Result<(), AllocError> {
         let front = machine.front()?;
-        match &front {
+        self.note_front(front.as_ref(), machine)
+    }
+
+    /// Notes what the step does that does this item, or takes what waits where there is none.
+    fn note_front(&mut self, front: Option<&Item>, machine: &Machine) -> Result<(), AllocError> {
+        match front {
             Some(Item::Act(act)) => self.note_act(act, machine),
             Some(Item::Exchange(group)) => {
                 self.leave_for(group, machine);
