@@ -1,5 +1,5 @@
 //! What comes from outside in a script that is tried, one at a time.
-use mh_base::GroupName;
+use mh_base::{GroupName, both};
 use mh_model::{Input, Key};
 use mh_service::Service;
 use std::alloc::AllocError;
@@ -35,7 +35,10 @@ pub fn input_of(stimulus: Stimulus, service: &Service) -> Result<Option<Input>, 
 /// The file that the service has under this name.
 fn scene_input(name: &GroupName, service: &Service) -> Result<Option<Input>, AllocError> {
     match service.written(name) {
-        Some(group) => Ok(Some(Input::Scene(name.clone()?, group.clone()?))),
+        Some(group) => {
+            let (name, group) = both(name.clone(), group.clone())?;
+            Ok(Some(Input::Scene(name, group)))
+        }
         None => Ok(None),
     }
 }

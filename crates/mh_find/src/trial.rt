@@ -69,9 +69,7 @@ impl Trial {
     /// Puts the content files there that may be there.
     pub fn preset(&mut self, contents: &[File]) -> Result<(), AllocError> {
         for file in contents {
-            if self.machine.preset_obstacle(file).is_none() {
-                self.machine.preset(file.clone()?)?;
-            }
+            preset_to(&mut self.machine, file)?;
         }
         Ok(())
     }
@@ -134,6 +132,14 @@ impl Trial {
         }
         self.timing.note(&self.machine)?;
         step_once(&mut self.machine)
+    }
+}
+
+/// Puts a copy of the content file there, if it may be there.
+fn preset_to(machine: &mut Machine, file: &File) -> Result<(), AllocError> {
+    match machine.preset_obstacle(file) {
+        Some(_) => Ok(()),
+        None => machine.preset(file.clone()?),
     }
 }
 
