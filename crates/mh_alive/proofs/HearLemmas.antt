@@ -1,5 +1,5 @@
 -- What may sound is closed, and a link that waits for none of it never hears anything.
-use Rattle.std.specs.Prelude.{◌≡◌, ◌≤◌, ℕ, ◌==◌, Bool, true, false, ◌&&◌, ◌||◌, not, if◌then◌else◌, List, [], ◌∷◌, ◌++◌, map, filter, length, Option, Some, None, ℤ, pos, refl}
+use Rattle.std.specs.Prelude.{◌≡◌, ◌≤◌, ℕ, ◌==◌, Bool, true, false, ◌&&◌, ◌||◌, not, if◌then◌else◌, List, [], ◌∷◌, map, filter, length, Option, Some, None, ℤ, pos, refl}
 use Rattle.std.specs.Cmp.Derive.{both_true}
 use Rattle.std.specs.List.{flat_map, list_all, list_any}
 use Rattle.std.specs.Ordering.{int_eq}
@@ -33,26 +33,24 @@ use Rattle.mh_model.specs.Key.{key_number, keys, passes}
 use Rattle.mh_model.specs.Reference.{group_ref, same_key}
 use Rattle.mh_model.specs.Saying.{event_numbered}
 use Rattle.mh_model.specs.Service.{Service}
-use Rattle.mh_model.specs.State.{State}
 use Rattle.mh_model.specs.Step.{engine_event, key_event}
 use Rattle.mh_model.specs.Time.{timer_event}
-use Rattle.mh_model.proofs.ListLemmas.{and_left, and_right, some_same}
+use Rattle.mh_model.proofs.ListLemmas.{and_left, and_right}
 use Rattle.mh_model.proofs.ServiceLemmas.{same_ref-same}
 use Rattle.mh_laws.specs.Active.{active_actions, is_active}
 use Rattle.mh_laws.specs.Budget.{IsAccepted}
-use Rattle.mh_laws.specs.Costs.{Effect, TimerKey, acts_price, can_hear, data_sent, effect_at, enter, input_price, set_by, set_with, targets}
+use Rattle.mh_laws.specs.Costs.{Effect, TimerKey, acts_price, can_hear, data_sent, effect_at, enter, input_price, set_by, targets}
 use Rattle.mh_laws.specs.Each.{Among}
 use Rattle.mh_laws.specs.Flow.{Flow, reached}
 use Rattle.mh_laws.specs.Layers.{costs}
 use Rattle.mh_laws.specs.Price.{Price, Nothing, One, Node, Plus, Most, Nodes}
 use Rattle.mh_laws.specs.Safe.{IsSafeBy, config_of}
 use Rattle.mh_laws.specs.Ways.{Told, Sure, Unsure, IsKnown}
-use Rattle.mh_laws.specs.Weighing.{hears_key}
 use Rattle.mh_laws.proofs.EachLemmas.{among_all, among_filtered, among_joined, among_left, among_mapped, among_right, each_among}
 use Rattle.mh_laws.proofs.NodeLemmas.{config_among}
 use Rattle.mh_never.specs.Never.{HoldsOfLiving, IsClosed, IsOfSets, IsWakeClosed}
 use Rattle.mh_never.specs.Running.{Doings, Runners}
-use Rattle.mh_never.specs.Saying.{IsSaidClosed, IsSaidIn, IsWaitIn, Sayings, SaysOnly, first_register, is_usual}
+use Rattle.mh_never.specs.Saying.{IsSaidClosed, IsSaidIn, IsWaitIn, Sayings, first_register, is_usual}
 use Rattle.mh_never.proofs.NeverLemmas.{never_others as law}
 use Rattle.mh_never.proofs.RegisterLemmas.{scene_heard}
 use Rattle.mh_alive.specs.declared.registers.Choice.{Choice}
@@ -60,14 +58,14 @@ use Rattle.mh_alive.specs.declared.registers.Register.{Register}
 use Rattle.mh_alive.specs.declared.sendings.Sending.{Sending}
 use Rattle.mh_alive.specs.declared.settings.Setting.{Setting}
 use Rattle.mh_alive.specs.declared.tellings.SetTimer.{SetTimer}
-use Rattle.mh_alive.specs.Alive.{Alive, InEachRun, IsAliveOf, IsDeaf, IsDeafAt, IsUnheard, never_hears}
-use Rattle.mh_alive.specs.Hearing.{Ears, by_links, ears, hearers, hearing_of, is_hearing, may_listen, may_set, may_sound, sends, setting, settings, settings_by, settings_in, settings_of}
+use Rattle.mh_alive.specs.Alive.{Alive, InEachRun, IsAliveOf, IsDeafAt, IsUnheard, never_hears}
+use Rattle.mh_alive.specs.Hearing.{Ears, by_links, ears, hearers, hearing_of, is_hearing, may_listen, may_sound, sends, setting, settings, settings_by, settings_in, settings_of}
 use Rattle.mh_alive.specs.Registers.{choice_of, has_register, is_let, lets, lets_any, lets_number, lets_numbered, number_given, plain_register, register, registers, registers_by, registers_in, same_register, sets_register, written_registers}
 use Rattle.mh_alive.specs.Sendings.{same_sending, sending_of, sent, sent_by, sent_in}
 use Rattle.mh_alive.specs.Tellings.{same_timer, set_to}
 use Rattle.mh_alive.specs.There.{comes_to}
 use Rattle.mh_alive.specs.Timers.{Timers, is_timed, timers_with}
-use Rattle.mh_alive.proofs.ActLemmas.{active_effect, effect_among}
+use Rattle.mh_alive.proofs.ActLemmas.{effect_among}
 use Rattle.mh_alive.proofs.ComingLemmas.{data_of, group_timed, grouped, one_kind, source_of, timer_itself, type_of}
 use Rattle.mh_alive.proofs.InputLemmas.{all_run, run_any, set_one}
 use Rattle.mh_alive.proofs.ReachLemmas.{stays_safe}

@@ -2,18 +2,16 @@
 use Rattle.std.specs.Prelude.{◌≡◌, ◌≤◌, ◌+◌, ◌==◌, ℕ, zero, suc, Bool, true, false, not, if◌then◌else◌, cond, List, [], ◌∷◌, length, map, filter, refl}
 use Rattle.std.specs.List.{list_any}
 use Rattle.std.proofs.lemmas.Bool.Decides.{Decides-eqb}
-use Rattle.std.proofs.Common.{arith, ap, sym, subst, inl, inr, ◌∙◌}
+use Rattle.std.proofs.Common.{arith, ap, sym, ◌∙◌}
 use Rattle.indexmap.specs.IndexSet.{insert_all}
 use Rattle.mh_base.specs.declared.obj_ref.ObjRef.{ObjRef}
 use Rattle.mh_model.specs.Service.{Service}
 use Rattle.mh_model.specs.Step.{is_empty}
 use Rattle.mh_laws.specs.Each.{Among}
 use Rattle.mh_laws.proofs.EachLemmas.{among_filtered, among_mapped}
-use Rattle.mh_alive.specs.declared.registers.Register.{Register}
-use Rattle.mh_alive.specs.declared.sendings.Sending.{Sending}
 use Rattle.mh_alive.specs.declared.settings.Setting.{Setting}
 use Rattle.mh_alive.specs.declared.tellings.SetTimer.{SetTimer}
-use Rattle.mh_alive.specs.Hearing.{Ears, hearers, may_set, settle, settled, with_set}
+use Rattle.mh_alive.specs.Hearing.{Ears, hearers, may_set, settle, with_set}
 use Rattle.mh_alive.specs.Tellings.{same_timer}
 use Rattle.mh_alive.specs.Timers.{timers_with}
 use Rattle.mh_alive.proofs.ComingLemmas.{timer_itself}

@@ -1,6 +1,6 @@
 -- Which links may hear a timer or a key: those that wait for a timer which is set by what may be put to work, or for a key that
 -- a register of their scene lets through. A timer that only links set which wait for it in vain is none of these.
-use Rattle.std.specs.Prelude.{◌==◌, ℕ, zero, suc, Bool, true, false, ◌&&◌, ◌||◌, not, if◌then◌else◌, List, [], ◌∷◌, length, map, filter, Option, Some, None}
+use Rattle.std.specs.Prelude.{◌==◌, ℕ, zero, suc, Bool, true, false, ◌&&◌, ◌||◌, not, if◌then◌else◌, List, [], length, map, filter, Option, Some}
 use Rattle.std.specs.List.{flat_map, list_any}
 use Rattle.indexmap.specs.IndexSet.{insert_all}
 use Rattle.mh_base.specs.declared.event.EventType.{EventType}

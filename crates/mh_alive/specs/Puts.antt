@@ -1,5 +1,5 @@
 -- Which links may be put to work: those that wait for an event which may come of its source.
-use Rattle.std.specs.Prelude.{◌==◌, Bool, true, false, ◌&&◌, ◌||◌, List, [], map, filter, Option, Some, None}
+use Rattle.std.specs.Prelude.{◌==◌, Bool, true, false, ◌&&◌, ◌||◌, List, [], map, filter, Option, Some}
 use Rattle.std.specs.List.{flat_map, list_any}
 use Rattle.indexmap.specs.IndexSet.{insert_all}
 use Rattle.mh_base.specs.declared.event.EventType.{EventType}
@@ -11,7 +11,6 @@ use Rattle.mh_group.specs.declared.attribute.Attribute.TheVariants as attribute
 use Rattle.mh_group.specs.Table.{is_link}
 use Rattle.mh_model.specs.declared.object.Fixed.{Fixed}
 use Rattle.mh_model.specs.Property.{held, as_value, as_event}
-use Rattle.mh_model.specs.Reference.{same_key}
 use Rattle.mh_model.specs.Service.{Service}
 use Rattle.mh_laws.specs.Flow.{Flow}
 use Rattle.mh_alive.specs.declared.tellings.Telling.{Telling}

@@ -12,15 +12,18 @@ ghost use Rattle.mh_never.specs.Firing.{IsUnput};
 ghost use Rattle.mh_model.specs.Reference.{same_key};
 ghost use Rattle.mh_flow.specs.Solved.{IsFlowOf, flow_in};
 ghost use Rattle.mh_alive.specs.Alive as spec;
+ghost use Rattle.mh_alive.specs.Hearing.{all_timers};
+ghost use Rattle.mh_alive.specs.Puts.{all_puts, web_with};
 ghost use Rattle.mh_alive.specs.Alive.{InEachRun, IsAliveOf, IsDeafAt, IsStill, IsUnsaid};
 
 use crate::gathering::{Gathered, gather};
 use crate::hearing::hearers_of;
 use crate::puts::web_of;
 use crate::sendings::{Sending, may_say};
-use crate::settings::timers_of;
+use crate::settings::{Setting, timers_of};
+use crate::tellings::Telling;
 use indexmap::IndexSet;
-use mh_base::{EventType, ObjRef, Value};
+use mh_base::{EventType, ObjRef, Value, both};
 use mh_flow::{Equipped, Flow};
 use std::alloc::{AllocError, Global};
 use std::marker::Model;
@@ -67,16 +70,32 @@ fn alive_with(
         settings,
         registers,
     } = gathered;
-    let timers = timers_of(alloc, settings.as_slice())?;
-    let hearers = hearers_of(alloc, service, &sent, &registers, settings)?;
-    let web = web_of(alloc, told, timers)?;
-    let puts = web.puts(alloc, service)?;
+    let puts = puts_of(alloc, service, told, settings.as_slice());
+    let hearers = hearers_of(alloc, service, &sent, &registers, settings);
+    drop(registers);
+    let made = both(hearers, puts)?;
     Ok(Alive {
         runners,
         sent,
-        puts,
-        hearers,
+        puts: made.1,
+        hearers: made.0,
     })
+}
+
+/// The links that may be put to work by what is told and by timers that are set.
+fn puts_of(
+    alloc: Global,
+    service: &Equipped<'_>,
+    told: IndexSet<Telling>,
+    settings: &[Setting],
+) -> Result<IndexSet<ObjRef>, AllocError>
+    ensures { IfOk result (λ puts. puts.keys
+        ≡ insert_all same_key [] (all_puts service.now (web_with told.keys (all_timers settings.now)))) }
+{
+    let timers = timers_of(alloc, settings)?;
+    let web = web_of(alloc, told, timers)?;
+    let puts = web.puts(alloc, service)?;
+    Ok(puts)
 }
 
 impl Alive {
