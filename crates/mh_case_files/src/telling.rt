@@ -1,6 +1,7 @@
 //! What is told of a case that does not hold.
 use crate::case::{Answer, Call, Case};
 use crate::comparing::{Difference, first_difference};
+use bstr::ByteSlice;
 use std::alloc::{AllocError, Global};
 use std::io;
 use std::rt::Runtime;
@@ -30,10 +31,22 @@ pub fn tell_other<R: Runtime + AllocGlobal>(
     if status != wanted {
         println!(rt; "  exit status {status}, and {wanted} is wanted")?;
     }
+    if call.wanted.written.is_empty() {
+        return tell_found(rt, found.written.as_slice());
+    }
     match first_difference(call.wanted.written.as_slice(), found.written.as_slice()) {
         Some(differs) => tell_difference(rt, &differs),
         None => Ok(()),
     }
+}
+
+/// Tells all that was found where nothing is wanted, so that it can be looked at.
+fn tell_found<R: Runtime + AllocGlobal>(rt: &R, found: &[u8]) -> io::Result<()> {
+    for line in found.split_str(b"\n") {
+        let line = shown(rt.alloc(), Some(line))?;
+        println!(rt; "  {line}")?;
+    }
+    Ok(())
 }
 
 fn tell_place<R: Runtime + AllocGlobal>(
