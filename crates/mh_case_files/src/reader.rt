@@ -73,6 +73,9 @@ impl Reader {
 
     fn begin_given(&mut self, alloc: Global, block: &Block<'_>) -> Result<(), Fault> {
         is_named(block)?;
+        if self.has_given(block.rest) {
+            return Err(Fault::Line(block.line, "another `given` above has this name"));
+        }
         let given = Given {
             name: String::from_str(alloc, block.rest)?,
             material: nothing(alloc),
@@ -80,6 +83,15 @@ impl Reader {
         self.givens.push(given)?;
         self.in_given = true;
         Ok(())
+    }
+
+    fn has_given(&self, name: &str) -> bool {
+        for given in &self.givens {
+            if given.name.as_str() == name {
+                return true;
+            }
+        }
+        false
     }
 
     fn begin_case(&mut self, alloc: Global, block: &Block<'_>) -> Result<(), Fault> {
@@ -110,6 +122,9 @@ impl Reader {
     /// Adds what a `given` holds to the case.
     fn add_given(&mut self, alloc: Global, block: &Block<'_>) -> Result<(), Fault> {
         is_named(block)?;
+        if self.in_given {
+            return Err(Fault::Line(block.line, "`with` stands in a case"));
+        }
         let Some(case) = self.cases.last_mut() else {
             return Err(Fault::Line(block.line, "no `case` stands above"));
         };
@@ -163,9 +178,11 @@ impl Reader {
     }
 
     fn want(&mut self, alloc: Global, block: &Block<'_>) -> Result<(), Fault> {
-        let (status, _) = block.rest.split_once(' ').unwrap_or((block.rest, ""));
-        let Ok(status) = status.parse::<u8>() else {
-            return Err(Fault::Line(block.line, "`want` stands before an exit status"));
+        let Some(status) = status_of(block.rest) else {
+            return Err(Fault::Line(
+                block.line,
+                "`want` stands before an exit status, and perhaps `octets`",
+            ));
         };
         let written = Vec::from_slice(alloc, block.bytes.as_slice())?;
         let call = self.last_call(block.line)?;
@@ -173,6 +190,12 @@ impl Reader {
         call.is_whole = true;
         Ok(())
     }
+}
+
+/// The exit status that stands behind `want`.
+fn status_of(rest: &str) -> Option<u8> {
+    let status = rest.strip_suffix(" octets").unwrap_or(rest);
+    status.parse::<u8>().ok()
 }
 
 /// A head with a rest, and with no lines under it.

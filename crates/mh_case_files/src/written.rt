@@ -1,5 +1,6 @@
 //! The bytes that the lines of a block write.
 use crate::fault::Fault;
+use hex::FromHexError;
 use std::alloc::Global;
 
 /// How many times a line may stand at most.
@@ -107,9 +108,12 @@ pub fn put_octets(
     digits: &str,
     at: usize,
 ) -> Result<(), Fault> {
-    let Ok(octets) = hex::decode(alloc, digits) else {
-        return Err(Fault::Line(at, "no two hexadecimal digits for each octet"));
-    };
-    bytes.extend_from_slice(octets.as_slice())?;
-    Ok(())
+    match hex::decode(alloc, digits) {
+        Ok(octets) => {
+            bytes.extend_from_slice(octets.as_slice())?;
+            Ok(())
+        }
+        Err(FromHexError::OutOfMemory) => Err(Fault::NoMemory),
+        Err(_) => Err(Fault::Line(at, "an octet is written by two hexadecimal digits")),
+    }
 }

@@ -1,7 +1,7 @@
 //! Sinks that fail, and sinks over writers: what they took is a beginning of what is meant.
-use crate::cutting_sink::CuttingSink;
+use crate::playing::{DAY, File, options, play, sources};
+use crate::reports::cutting_sink::CuttingSink;
 use mh_report::{Notation, PlayError, Status, WriterSink, convert_bytes};
-use mh_samples::playing::{DAY, File, options, play, sources};
 use std::alloc::Global;
 
 /// The red rectangle that a key moves, what is done with it, and what is written.

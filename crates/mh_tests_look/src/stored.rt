@@ -1,4 +1,4 @@
-//! What is printed of the examples `guide`, `page` and `vote`, as it is stored beside them.
+//! What is printed of the examples `guide`, `page` and `vote`.
 
 pub const GUIDE: &str = r#"did 50 idle
 frame 1

@@ -2,6 +2,7 @@
 //! (`bench/refusals` refuses each in turn): what is prepared is prepared once more where it was refused,
 //! a play that was refused has written a beginning of its report, and a step or a post that was refused is
 //! made again.
+use crate::playing::{DAY, play, sources};
 use mh_base::{GroupName, Octets};
 use mh_cases::add_named;
 use mh_display::changed_rows;
@@ -9,7 +10,6 @@ use mh_engine::{Engine, Stepped};
 use mh_model::picture::ROWS;
 use mh_model::{File, Input, Key, Picture};
 use mh_report::{ListSink, PlayError, Status};
-use mh_samples::playing::{DAY, play, sources};
 use mh_service::Service;
 use mh_told::row::put_row;
 use mh_told::text::Text;
@@ -245,7 +245,8 @@ pub fn service(alloc: Global, files: &str) -> Option<Service> {
     Service::of_files(alloc, groups, start).ok()
 }
 
-fn engine(alloc: Global, files: &str) -> Option<Engine> {
+/// An engine of the service of these files, which the verifier accepts.
+pub fn engine(alloc: Global, files: &str) -> Option<Engine> {
     let accepted = verify(alloc, service(alloc, files)?, &[]).ok()?;
     Engine::start(alloc, accepted, DAY).ok()
 }

@@ -1,18 +1,11 @@
-//! What is written of small services: checks, plays and conversions, each answered by its bytes.
-//!
-//! A case is a block of lines: what it shows; what is done; and behind an `@` each file, with its path
-//! and what it holds, or with the name of a shared one. What is done is `check`, `play` with a script,
-//! `day` with the day on which the play begins and a script, `lenient` with a script that is played
-//! whatever the verifier would say, `start` with the path to start with and a script, and `text` or
-//! `octets` for a conversion. What is written ends in a line with the exit status.
+//! Small services that are played and converted, each answered by its bytes, with a last line that tells the exit
+//! status.
 ghost use Rattle.std.specs.Prelude.{◌≡◌, ◌-◌, ◌<◌, ◌^◌};
 
 use mh_base::GroupName;
+use mh_cases::bytes;
 use mh_cases::examples::path_and_text;
-use mh_cases::{Question, bytes, number};
-use mh_report::{
-    ListSink, Notation, Options, PlayError, Sink, Status, check_bytes, convert_bytes, play_bytes,
-};
+use mh_report::{ListSink, Notation, Options, PlayError, Sink, Status, convert_bytes, play_bytes};
 use std::alloc::Global;
 
 /// A file: its path and what it holds.
@@ -84,17 +77,6 @@ pub fn played(alloc: Global, files: &[File], how: (&str, &str, bool, u32)) -> Op
     }
 }
 
-/// What the verifier writes.
-fn checked(alloc: Global, files: &[File]) -> Option<Vec<u8>> {
-    let options = options(alloc, "a", false, DAY)?;
-    let mut sink = ListSink {
-        bytes: Vec::new(alloc),
-        failures: 0,
-    };
-    let status = check_bytes(alloc, files, &options, &mut sink).ok()?;
-    ended(alloc, sink.bytes, status.code())
-}
-
 /// What the conversion of a file writes.
 pub fn converted(alloc: Global, name: &[u8], bytes: &[u8], to: Notation) -> Option<Vec<u8>> {
     let mut sink = ListSink {
@@ -104,44 +86,4 @@ pub fn converted(alloc: Global, name: &[u8], bytes: &[u8], to: Notation) -> Opti
     let options = options(alloc, "a", false, DAY)?;
     let status = convert_bytes(alloc, name, bytes, to, &options, &mut sink).ok()?;
     ended(alloc, sink.bytes, status.code())
-}
-
-fn conversion(alloc: Global, files: &[File], to: Notation) -> Option<Vec<u8>> {
-    let (name, bytes) = files.first()?;
-    converted(alloc, name.as_bytes(), bytes.as_slice(), to)
-}
-
-/// What is written where this is done with the files.
-pub fn outcome(alloc: Global, task: &str, files: &str) -> Option<Vec<u8>> {
-    let (word, rest) = task.split_once(' ').unwrap_or((task, ""));
-    let how: (&str, &str, bool, u32) = match word {
-        "day" => {
-            let (_, script) = rest.split_once(' ')?;
-            ("a", script, false, number(rest, 0)?)
-        }
-        "start" => {
-            let (start, script) = rest.split_once(' ')?;
-            (start, script, true, DAY)
-        }
-        other => ("a", rest, other == "lenient", DAY),
-    };
-    let files = sources(alloc, files)?;
-    match word {
-        "check" => checked(alloc, files.as_slice()),
-        "text" => conversion(alloc, files.as_slice(), Notation::Textual),
-        "octets" => conversion(alloc, files.as_slice(), Notation::Binary),
-        "play" | "lenient" | "day" | "start" => played(alloc, files.as_slice(), how),
-        _ => None,
-    }
-}
-
-/// What is done with files, as a block tells it.
-pub struct Task;
-
-impl Question for Task {
-    fn answer(alloc: Global, asked: &str, _: &[u8]) -> Option<Vec<u8>> {
-        let (front, files) = asked.split_once('@')?;
-        let (_, task) = front.trim_end().split_once('\n')?;
-        outcome(alloc, task, files)
-    }
 }

@@ -1,10 +1,10 @@
 //! Hostile input: files that are cut off, too long or without an end, and reads that fail.
-use crate::cutting_source::{CuttingSource, ZeroSource};
+use crate::playing::{DAY, File, converted, played, sources};
+use crate::reports::cutting_source::{CuttingSource, ZeroSource};
 use mh_cases::{are, profile, refusal, said};
 use mh_codec::{CodecError, TagTable, decode_group};
 use mh_folder::{Tally, Unread, read_short, read_whole};
 use mh_report::Notation;
-use mh_samples::playing::{DAY, File, converted, played, sources};
 use std::alloc::Global;
 
 /// What is told where a file cannot be read.

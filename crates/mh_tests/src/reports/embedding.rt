@@ -2,8 +2,7 @@
 //! `first`, played by it.
 mod example;
 
-use crate::embedding::example::{APPLICATION, LATE_SCREENS, SCENE, SCREENS};
-use crate::page::file;
+use crate::reports::embedding::example::{APPLICATION, LATE_SCREENS, SCENE, SCREENS};
 use mh_base::{GroupName, Octets};
 use mh_cases::are;
 use mh_codec::{TagTable, decode_group};
@@ -205,6 +204,12 @@ fn of_late<P: Played + Drop>(
 ) -> Option<Vec<u8>> {
     let mut played = played;
     played.as_mut()?.late_screens(alloc, tags, scene)
+}
+
+/// A file of a folder.
+fn file(alloc: Global, path: &str, text: &str) -> Option<Source> {
+    let name = GroupName::of_path(alloc, path.as_bytes()).ok();
+    name.zip(Vec::from_slice(alloc, text.as_bytes()).ok())
 }
 
 fn first(alloc: Global) -> Option<Vec<Source>> {

@@ -1,12 +1,12 @@
 //! Public calls that no other test makes, each once, with ample memory: a run of given moves, a built-in
 //! program under a type of its own, and a receiver that is started whatever a verifier would say, with a file
 //! that is there before the first move and one that comes, and runs of it.
-use crate::refusing::{file, is_told, service, told};
+use crate::playing::DAY;
+use crate::reports::refusing::{file, is_told, service, told};
 use mh_base::Value;
 use mh_engine::{Engine, Receiver, Unequipped, run};
 use mh_model::{Builtin, Input, Key, Move, Now};
 use mh_resident::{BuiltinProgram, Resident};
-use mh_samples::playing::DAY;
 use mh_told::text::Text;
 use std::alloc::Global;
 

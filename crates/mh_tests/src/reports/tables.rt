@@ -1,5 +1,5 @@
 //! Scenes with all that the tables have, carried through both notations.
-use crate::notations::difference;
+use crate::reports::notations::difference;
 use mh_cases::groups::WORDS;
 use mh_cases::profile;
 use mh_cases::scenes::{ROUNDS, scene};

@@ -1,13 +1,10 @@
 //! Plays at a terminal: what its bytes ask for, the script that is recorded, and that a picture that is shown is not drawn again.
 use crate::cases::all_hold;
-use crate::trying::chosen;
+use crate::reports::refusing::engine;
 use mh_cases::{Question, bytes, said};
-use mh_engine::Engine;
 use mh_live::{Ask, Live, asks_of};
-use mh_samples::playing::sources;
 use mh_script::key_name;
 use mh_told::text::Text;
-use mh_try::engine_of;
 use std::alloc::Global;
 
 /// What bytes ask for, a word each.
@@ -60,11 +57,6 @@ impl Question for PlayRecorded {
         let engine = engine(alloc, files)?;
         recorded(alloc, Live::new(alloc, engine), front)
     }
-}
-
-fn engine(alloc: Global, files: &str) -> Option<Engine> {
-    let files = sources(alloc, files)?;
-    engine_of(alloc, files.as_slice(), &chosen(alloc)?).ok()
 }
 
 /// What is recorded of a play with these reads.
