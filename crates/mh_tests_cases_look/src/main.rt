@@ -112,8 +112,12 @@ fn of_failure(alloc: Global, failure: &Failure) -> Option<Answer> {
     })
 }
 
-/// The lines on an accepted service, or what is explained of another one.
+/// The lines on an accepted service, or what is explained of another one. A rule that there is none of is turned off by no
+/// case.
 fn linted(alloc: Global, material: &Material, wanted: &Lint<'_>) -> Option<Answer> {
+    if wanted.unknown.is_some() {
+        return None;
+    }
     match lines_on(alloc, material, wanted)? {
         Some(lines) if lines.as_slice().is_empty() => of_text(alloc, &lines, 0),
         Some(lines) => of_text(alloc, &lines, FOUND),
