@@ -1,7 +1,7 @@
 #!/usr/bin/env python3
 """Holds docs/WRITING.md, examples/recipes and the tests together: each file that the page shows is, line by line, the one of its
-folder; and each file, script and report of a recipe stands in crates/mh_tests_reports/src/writing.rt, white space apart. Run it at the top of the
-repository; it prints what differs, and ends with 1 if something does."""
+folder; and each file, script and report of a recipe stands in the cases of recipes, white space apart. Run it at the top of
+the repository; it prints what differs, and ends with 1 if something does."""
 
 import os
 import re
@@ -9,7 +9,7 @@ import sys
 
 PAGE = "docs/WRITING.md"
 RECIPES = "examples/recipes"
-TESTS = "crates/mh_tests_reports/src/writing.rt"
+TESTS = "crates/mh_tests_cases/data/cases/recipes.cases"
 
 
 def text(path):
@@ -19,6 +19,11 @@ def text(path):
 
 def squeezed(part):
     return "".join(part.split())
+
+
+def written():
+    """The cases, without the signs that join lines."""
+    return squeezed(re.sub(r"\\\n", "", text(TESTS)).replace("\\20", " "))
 
 
 def shown():
@@ -32,13 +37,13 @@ def tested():
     for name in sorted(os.listdir(RECIPES)):
         folder = f"{RECIPES}/{name}"
         for file in sorted(os.listdir(f"{folder}/service")):
-            yield f"{folder}/service/{file}", f"@{file} " + text(f"{folder}/service/{file}")
-        for file in ("script", "report"):
-            yield f"{folder}/{file}", text(f"{folder}/{file}").replace("\n", "|")
+            yield f"{folder}/service/{file}", f"file {file}\n" + text(f"{folder}/service/{file}")
+        yield f"{folder}/script", "script\n" + text(f"{folder}/script")
+        yield f"{folder}/report", text(f"{folder}/report")
 
 
 def main():
-    table = squeezed(text(TESTS))
+    table = written()
     wrong = [path for path, block in shown() if text(path) != block]
     wrong += [path for path, part in tested() if squeezed(part) not in table]
     for path in wrong:

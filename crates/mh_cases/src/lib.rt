@@ -15,7 +15,4 @@ mod table;
 
 pub use reading::{profile, refusal};
 pub use service::{Named, add_named, named};
-pub use table::{
-    Question, are, behind, between, bytes, first_wrong, number, placed, put, quoted, repeated,
-    said, word,
-};
+pub use table::{Question, are, behind, bytes, first_wrong, number, placed, repeated, said, word};

@@ -53,18 +53,6 @@ pub fn said(alloc: Global, answer: &[u8]) -> Option<Vec<u8>> {
     Vec::from_slice(alloc, answer).ok()
 }
 
-/// What stands between these two in what was told.
-pub fn between<'a>(told: &'a [u8], front: &str, behind: &str) -> Option<&'a str> {
-    let (_, rest) = str::from_utf8(told).ok()?.split_once(front)?;
-    let (found, _) = rest.split_once(behind)?;
-    Some(found)
-}
-
-/// What stands between the first two quotation marks of what was told.
-pub fn quoted(alloc: Global, told: &[u8]) -> Option<Vec<u8>> {
-    said(alloc, between(told, "\"", "\"")?.as_bytes())
-}
-
 /// An answer of a number and a place.
 pub fn placed(alloc: Global, number: u32, place: usize) -> Option<Vec<u8>> {
     Some(format!(in alloc; "{number} {place}").ok()?.into_bytes())
@@ -111,18 +99,6 @@ pub fn first_wrong<Q: Question>(alloc: Global, table: &'static str) -> &'static 
         }
     }
     ""
-}
-
-/// Puts what stands in front of a number, the number, and what stands behind it.
-pub fn put(
-    alloc: Global,
-    text: &mut Vec<u8>,
-    front: &str,
-    number: u64,
-    behind: &str,
-) -> Option<()> {
-    let put = format!(in alloc; "{front}{number}{behind}").ok()?;
-    text.extend_from_slice(put.as_bytes()).ok()
 }
 
 /// A front, so many times the same, and what stands behind it.

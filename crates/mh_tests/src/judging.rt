@@ -4,7 +4,4 @@ pub(crate) mod arrows;
 pub(crate) mod chains;
 pub(crate) mod claims;
 pub(crate) mod evidence;
-pub(crate) mod families;
-pub(crate) mod flows;
-pub(crate) mod settling;
 pub(crate) mod verify;

@@ -1,9 +1,10 @@
-//! Tests of the machine, the verifier and what stands between them, through public calls.
+//! Tests of the machine, the verifier, reports and what stands between them, through calls that answer values: typed
+//! answers, sinks and sources that fail, memory that is refused.
 //!
-//! What a contract says is proved where it stands. Here is what no contract says: that the
-//! definitions mean what they should, by values that were worked out by hand, by worked examples and by
-//! octets of another program. The tests of the notations (`mh_tests_notation`), those of reports and conversions
-//! (`mh_tests_reports`) and those of what is explained (`mh_tests_look`) stand apart, so that all are proved side
+//! What a contract says is proved where it stands. Here is what no contract says: that the definitions mean what they
+//! should, by values that were worked out by hand, by worked examples and by octets of another program. What the programs
+//! write is told by cases in files (`mh_tests_cases`, `mh_tests_cases_look`); the tests of the notations
+//! (`mh_tests_notation`) and those of what is made of reports (`mh_tests_look`) stand apart, so that all are proved side
 //! by side.
 #![tactic(auto)]
 
@@ -13,3 +14,7 @@ mod cases;
 mod judging;
 #[cfg(test)]
 mod machine;
+#[cfg(test)]
+mod playing;
+#[cfg(test)]
+mod reports;

@@ -1,7 +1,7 @@
 //! The report of each example: it is read, and shown again.
+use crate::stored::{GUIDE, PAGE, VOTE};
 use bstr::ByteSlice;
 use mh_look::{Part, put_report, read_report};
-use mh_samples::stored::{GUIDE, PAGE, VOTE};
 use mh_told::text::Text;
 
 /// What is printed of the example `clock`.

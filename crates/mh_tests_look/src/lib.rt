@@ -1,6 +1,6 @@
-//! Tests of what is made of reports, and of what is explained, through public calls.
+//! Tests of what is made of reports, and of places in files, through public calls.
 //!
-//! They stand apart from those of `mh_tests`, so that both are proved side by side.
+//! What `redlook why` and `redlook lint` write is told by cases in files (`mh_tests_cases_look`).
 #![tactic(auto)]
 
 #[cfg(test)]
@@ -8,11 +8,9 @@ mod cases;
 #[cfg(test)]
 mod examples;
 #[cfg(test)]
-mod lint;
+mod folders;
 #[cfg(test)]
 mod looking;
-#[cfg(test)]
-mod misread;
 #[cfg(test)]
 mod painting;
 #[cfg(test)]
@@ -22,4 +20,6 @@ mod places;
 #[cfg(test)]
 mod reading;
 #[cfg(test)]
-mod why;
+mod rules;
+#[cfg(test)]
+mod stored;

@@ -3,9 +3,9 @@
 use crate::cases::all_hold;
 use crate::machine::files::{number_if, refusals};
 use crate::machine::service::Asked;
+use crate::playing::DAY;
 use mh_engine::{Engine, Rest, Stepped};
 use mh_model::{Input, Key};
-use mh_samples::playing::DAY;
 use mh_service::Service;
 use std::alloc::Global;
 

@@ -1,9 +1,8 @@
-//! Content files of a folder that are too large or too many: what is written in place of a play, and what
-//! is said before that.
+//! Content files of a folder that are too many: what is written in place of a play.
 use crate::cases::all_hold;
+use crate::playing::{DAY, File, played};
 use mh_base::GroupName;
-use mh_cases::{Question, number, word};
-use mh_samples::playing::{DAY, File, played, sources};
+use mh_cases::{Question, number};
 use std::alloc::Global;
 
 /// A file of this path and of so many octets.
@@ -11,46 +10,6 @@ fn long_file(alloc: Global, path: &str, length: usize) -> Option<File> {
     let name = GroupName::of_path(alloc, path.as_bytes()).ok();
     name.zip(vec![in alloc; b'x'; length].ok())
 }
-
-/// A path and a number of octets, a script, and files; what is written where the file of so many octets
-/// stands behind them.
-struct Large;
-
-impl Question for Large {
-    fn answer(alloc: Global, asked: &str, _: &[u8]) -> Option<Vec<u8>> {
-        let (front, files) = asked.split_once('@')?;
-        let (_, task) = front.trim_end().split_once('\n')?;
-        let (file, script) = task.split_once(" / ")?;
-        let length = number(file, 1)? as usize;
-        let large = long_file(alloc, word(file, 0), length);
-        let (mut files, large) = sources(alloc, files).zip(large)?;
-        let pushed = files.push(large).ok();
-        pushed.and(played(alloc, files.as_slice(), ("a", script, false, DAY)))
-    }
-}
-
-static SIZES: &str = r#"
-as many octets as may be
-x 65535 / run| @waiting
-=> did 7 idle|total 7|exit 0|;;
-one more
-x 65536 / run| @waiting
-=> file x 40 0|exit 2|;;
-one more in a file that no group names
-y 65536 / run| @waiting
-=> did 5 idle|total 5|exit 0|;;
-a group that is refused comes first
-x 65536 / run| @waiting @b {:Scene ("~/b" 0)
-=> file b 21 17|exit 2|;;
-so does a service
-x 65536 / run| @waiting @b {:Application ("~/b" 0) :OnStartUp ( :Quit ((".." 0)) ) }
-=> service 35 b|exit 2|;;
-so does a script
-x 65536 / walk| @waiting
-=> script 1|exit 2|;;
-so does the verifier
-x 65536 / run| @a {:Application ("~/a" 0) :OnStartUp ( :Run (9) :SetData (8 :ContentRef ("x")) ) }
-=> refused V1 a 0 1 Run|config a -|object a 9|exit 1|"#;
 
 /// Puts the text of an application that names so many files, `f0`, `f1`, .. , in the actions of a link that
 /// is not done.
@@ -100,6 +59,5 @@ static NUMBERS: &str = r#"
 
 #[test]
 fn presets_what_is_named(rt: HostRuntime) {
-    all_hold::<Large>(&rt, rt.alloc(), SIZES);
     all_hold::<Many>(&rt, rt.alloc(), NUMBERS);
 }

@@ -11,12 +11,12 @@ ghost use Rattle.mh_model.specs.declared.program.Plain.TheVariants as plain;
 ghost use Rattle.mh_tests.specs.Doubling.{numbers, IsDouble, MayDouble};
 
 use crate::cases::all_hold;
+use crate::playing::DAY;
 use mh_base::{GroupName, Octets, Shared, Value};
 use mh_cases::{Question, add_named, word};
 use mh_engine::{Receiver, Stepped, Unready};
 use mh_model::{Now, Param, Plain, Signature};
 use mh_resident::{Answer, CallFailed, Resident, signatures_of};
-use mh_samples::playing::DAY;
 use mh_service::Service;
 use mh_verify::{Accepted, verify};
 use std::alloc::{AllocError, Global};

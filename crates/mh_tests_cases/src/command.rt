@@ -1,0 +1,73 @@
+//! The words of a call: a program, a subcommand and options, each of which the programs know.
+
+/// The day on which a play begins if no other is told.
+const DAY: u32 = 60_000;
+
+/// A call, word by word.
+#[derive(Clone, Copy)]
+pub struct Command<'a> {
+    pub program: &'a str,
+    pub name: &'a str,
+    pub start: &'a str,
+    pub mjd: u32,
+    pub lenient: bool,
+    pub strict: bool,
+    pub tap: bool,
+    pub keys: u32,
+    pub steps: u32,
+    /// The group and the number of the object that is told alone.
+    pub only: Option<(&'a str, u32)>,
+}
+
+impl<'a> Command<'a> {
+    /// The call that these words say, if they say one.
+    pub fn read(text: &'a str) -> Option<Command<'a>> {
+        let (program, rest) = text.split_once(' ')?;
+        let (name, options) = rest.split_once(' ').unwrap_or((rest, ""));
+        let mut command = Command {
+            program,
+            name,
+            start: "a",
+            mjd: DAY,
+            lenient: false,
+            strict: false,
+            tap: false,
+            keys: 6,
+            steps: 10_000,
+            only: None,
+        };
+        for option in options.split("--").skip(1) {
+            command = command.with(option.trim_end())?;
+        }
+        Some(command)
+    }
+
+    /// The same with an option more.
+    fn with(self, option: &'a str) -> Option<Command<'a>> {
+        let (word, value) = option.split_once(' ').unwrap_or((option, ""));
+        let mut command = self;
+        match word {
+            "lenient" => command.lenient = true,
+            "strict" => command.strict = true,
+            "tap" => command.tap = true,
+            "start" => command.start = unquoted(value),
+            "mjd" => command.mjd = value.parse::<u32>().ok()?,
+            "keys" => command.keys = value.parse::<u32>().ok()?,
+            "steps" => command.steps = value.parse::<u32>().ok()?,
+            "only" => command.only = Some(object(value)?),
+            _ => return None,
+        }
+        Some(command)
+    }
+}
+
+/// A word; `''` is the empty one.
+fn unquoted(word: &str) -> &str {
+    if word == "''" { "" } else { word }
+}
+
+/// A group and a number.
+fn object(value: &str) -> Option<(&str, u32)> {
+    let (group, number) = value.split_once(' ')?;
+    Some((group, number.parse::<u32>().ok()?))
+}

@@ -1,0 +1,138 @@
+//! The program of tests of `redlook why` and `redlook lint`: it plays the files of cases that lie where it runs.
+#![tactic(auto)]
+
+use mh_case_files::{Answer, Call, Case, File, Material, Player, play_all};
+use mh_folder::Folder;
+use mh_look::{Explain, Failure, Lint, Read, Task, answer_of, line_of};
+use mh_told::text::Text;
+use mh_why::lint_of;
+use std::alloc::{AllocError, Global};
+use std::process::ExitCode;
+
+/// The exit status where memory or writing failed.
+const FAILED: u8 = 4;
+
+/// The exit status of `lint` where something is found.
+const FOUND: u8 = 1;
+
+fn main(rt: HostRuntime) -> ExitCode {
+    ExitCode::from(play_all::<Looks, _>(&rt).unwrap_or(FAILED))
+}
+
+/// The program, as far as it explains a service.
+struct Looks;
+
+impl Player for Looks {
+    fn answer(alloc: Global, case: &Case, call: &Call) -> Option<Answer> {
+        let words = words_of(alloc, &case.material, call).ok()?;
+        match line_of(alloc, words.as_slice()).ok()? {
+            Task::Why(asked) => explained(alloc, &case.material, &asked),
+            Task::Lint(wanted) => linted(alloc, &case.material, &wanted),
+            _ => None,
+        }
+    }
+}
+
+/// The words of the command line, with those of what the case has.
+fn words_of<'a>(
+    alloc: Global,
+    material: &Material,
+    call: &'a Call,
+) -> Result<Vec<&'a str>, AllocError> {
+    let mut words = call.words(alloc)?;
+    if material.output.is_some() {
+        words.push("output")?;
+    }
+    words.push("service")?;
+    let options: [(&'static str, bool); 3] = [
+        ("--late=late", material.late.is_some()),
+        ("--tags=tags", material.tags.is_some()),
+        ("--script=script", material.script.is_some()),
+    ];
+    for (option, is_given) in options {
+        if is_given {
+            words.push(option)?;
+        }
+    }
+    Ok(words)
+}
+
+/// A copy of the bytes that an option names; none at all where memory is lacking.
+fn copied(alloc: Global, bytes: &Option<Vec<u8>>) -> Option<Option<Vec<u8>>> {
+    match bytes {
+        Some(bytes) => Some(Some(Vec::from_slice(alloc, bytes.as_slice()).ok()?)),
+        None => Some(None),
+    }
+}
+
+fn read_of(alloc: Global, material: &Material) -> Option<Read> {
+    let late = copied(alloc, &material.late)?;
+    let tags = copied(alloc, &material.tags)?;
+    let script = copied(alloc, &material.script)?;
+    Some(Read { late, tags, script })
+}
+
+fn copied_files(alloc: Global, given: &[File]) -> Result<Vec<File>, AllocError> {
+    let mut files = Vec::new(alloc);
+    for (name, bytes) in given {
+        files.push((name.clone()?, Vec::from_slice(alloc, bytes.as_slice())?))?;
+    }
+    Ok(files)
+}
+
+fn folder_of(alloc: Global, material: &Material) -> Option<Folder> {
+    let files = copied_files(alloc, material.files.as_slice()).ok()?;
+    Some(Folder {
+        files,
+        unread: None,
+    })
+}
+
+/// What is explained, or why nothing is.
+fn explained(alloc: Global, material: &Material, asked: &Explain<'_>) -> Option<Answer> {
+    let given = read_of(alloc, material)?;
+    let folder = folder_of(alloc, material)?;
+    let output = copied(alloc, &material.output)?;
+    match answer_of(alloc, asked, &given, &folder, output) {
+        Ok(answer) => of_text(alloc, &answer.text, answer.outcome.status()),
+        Err(failure) => of_failure(alloc, &failure),
+    }
+}
+
+fn of_text(alloc: Global, text: &Text, status: u8) -> Option<Answer> {
+    let written = Vec::from_slice(alloc, text.as_slice()).ok()?;
+    Some(Answer { status, written })
+}
+
+fn of_failure(alloc: Global, failure: &Failure) -> Option<Answer> {
+    let written = format!(in alloc; "redlook: {failure}\n").ok()?.into_bytes();
+    Some(Answer {
+        status: failure.status(),
+        written,
+    })
+}
+
+/// The lines on an accepted service, or what is explained of another one. A rule that there is none of is turned off by no
+/// case.
+fn linted(alloc: Global, material: &Material, wanted: &Lint<'_>) -> Option<Answer> {
+    if wanted.unknown.is_some() {
+        return None;
+    }
+    match lines_on(alloc, material, wanted)? {
+        Some(lines) if lines.as_slice().is_empty() => of_text(alloc, &lines, 0),
+        Some(lines) => of_text(alloc, &lines, FOUND),
+        None => explained(alloc, material, &wanted.service),
+    }
+}
+
+fn lines_on(alloc: Global, material: &Material, wanted: &Lint<'_>) -> Option<Option<Text>> {
+    lint_of(
+        alloc,
+        material.tags.as_ref().map(|bytes| bytes.as_slice()),
+        material.files.as_slice(),
+        wanted.service.start.as_bytes(),
+        material.late.as_ref().map(|bytes| bytes.as_slice()),
+        wanted.asked,
+    )
+    .ok()
+}
