@@ -12,6 +12,7 @@ use mh_codec::TagTable;
 use mh_find::{Within, proposal};
 use mh_machine::Machine;
 use mh_script::read_contents;
+use mh_service::Service;
 use mh_told::tags::table_of;
 use mh_told::text::Text;
 use mh_told::unplayable::Unplayable;
@@ -42,7 +43,19 @@ fn proposed(
     within: Within,
 ) -> Result<Option<Text>, Unplayable> {
     let service = service_of(alloc, tags, files, chosen)?;
-    let contents = read_contents(alloc, tags, &service, files)?;
+    proposed_for(alloc, tags, files, chosen, within, &service)
+}
+
+/// The script that the search proposes for this service of the files.
+fn proposed_for(
+    alloc: Global,
+    tags: &TagTable,
+    files: &[(GroupName, Vec<u8>)],
+    chosen: &Chosen,
+    within: Within,
+    service: &Service,
+) -> Result<Option<Text>, Unplayable> {
+    let contents = read_contents(alloc, tags, service, files)?;
     let script = proposal(
         alloc,
         tags,

@@ -9,7 +9,7 @@ use mh_told::tags::table_of;
 use mh_told::text::Text;
 use mh_told::unplayable::Unplayable;
 use mh_verdict::refusal_text;
-use mh_verify::{RefusalKind, verify};
+use mh_verify::{Refusal, RefusalKind, verify};
 use std::alloc::Global;
 
 /// An engine at the start of the service of these files, with its content files there. It has a budget of steps if the
@@ -22,11 +22,7 @@ pub fn engine_of(
     let tags = table_of(alloc, bytes_of(&chosen.tags))?;
     let service = service_of(alloc, &tags, files, chosen)?;
     let contents = read_contents(alloc, &tags, &service, files)?;
-    let mut engine = begun(alloc, service, chosen.mjd)?;
-    for content in contents.as_slice() {
-        preset(&mut engine, content)?;
-    }
-    Ok(engine)
+    with_contents(begun(alloc, service, chosen.mjd), contents.as_slice())
 }
 
 /// The lines on the service of these files, if the verifier refuses it.
@@ -37,33 +33,72 @@ pub fn refusal_of(
 ) -> Result<Option<Text>, Unplayable> {
     let tags = table_of(alloc, bytes_of(&chosen.tags))?;
     let service = service_of(alloc, &tags, files, chosen)?;
-    match verify(alloc, service, &[]) {
+    lines_if_refused(alloc, verify(alloc, service, &[]))
+}
+
+/// What is generic in what is accepted does not speak of how a verdict is dropped.
+fn lines_if_refused<A: Drop>(
+    alloc: Global,
+    verdict: Result<A, Refusal>,
+) -> Result<Option<Text>, Unplayable> {
+    match verdict {
         Ok(_) => Ok(None),
-        Err(refusal) => match refusal.kind {
-            RefusalKind::NoMemory => Err(Unplayable::NoMemory),
-            _ => Ok(Some(refusal_text(alloc, &refusal)?)),
-        },
+        Err(refusal) => lines_on(alloc, &refusal),
+    }
+}
+
+fn lines_on(alloc: Global, refusal: &Refusal) -> Result<Option<Text>, Unplayable> {
+    match refusal.kind {
+        RefusalKind::NoMemory => Err(Unplayable::NoMemory),
+        _ => Ok(Some(refusal_text(alloc, refusal)?)),
     }
 }
 
 fn begun(alloc: Global, service: Service, mjd: u32) -> Result<Engine, Unplayable> {
     match verify(alloc, service, &[]) {
-        Ok(accepted) => match Engine::start(alloc, accepted, mjd) {
-            Ok(engine) => Ok(engine),
-            Err(_) => Err(Unplayable::NoMemory),
-        },
-        Err(refusal) => match refusal.kind {
-            RefusalKind::NoMemory => Err(Unplayable::NoMemory),
-            _ => lenient(alloc, refusal.service, mjd),
-        },
+        Ok(accepted) => unless_refused(Engine::start(alloc, accepted, mjd)),
+        Err(refusal) => begun_lenient(alloc, refusal, mjd),
     }
 }
 
-fn lenient(alloc: Global, service: Service, mjd: u32) -> Result<Engine, Unplayable> {
-    match Engine::start_lenient(alloc, service, mjd) {
-        Ok(engine) => Ok(engine),
+fn begun_lenient(alloc: Global, refusal: Refusal, mjd: u32) -> Result<Engine, Unplayable> {
+    match refusal.kind {
+        RefusalKind::NoMemory => Err(Unplayable::NoMemory),
+        _ => unless_refused(Engine::start_lenient(alloc, refusal.service, mjd)),
+    }
+}
+
+/// What was made, unless memory was refused.
+fn unless_refused<M: Drop, W: Drop>(made: Result<M, W>) -> Result<M, Unplayable> {
+    match made {
+        Ok(made) => Ok(made),
         Err(_) => Err(Unplayable::NoMemory),
     }
+}
+
+/// What takes content files. What is generic in it does not speak of how an engine is dropped.
+trait Presets: Drop {
+    /// Puts the content files there; one that is refused is not.
+    fn preset_all(&mut self, contents: &[File]) -> Result<(), Unplayable>;
+}
+
+impl Presets for Engine {
+    fn preset_all(&mut self, contents: &[File]) -> Result<(), Unplayable> {
+        for content in contents {
+            preset(self, content)?;
+        }
+        Ok(())
+    }
+}
+
+/// What has begun, with the content files there.
+fn with_contents<P: Presets>(
+    begun: Result<P, Unplayable>,
+    contents: &[File],
+) -> Result<P, Unplayable> {
+    let mut begun = begun?;
+    begun.preset_all(contents)?;
+    Ok(begun)
 }
 
 /// Puts a content file there; one that is refused is not.
