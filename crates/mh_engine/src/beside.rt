@@ -52,12 +52,15 @@ impl Engine {
         let bounds = rest.bounds();
         let budget = bounds.start;
         match Machine::beside(alloc, service.with_programs(programs), mjd) {
-            Ok(machine) => Ok(Engine {
-                machine,
-                accepted: true,
-                bounds,
-                budget,
-            }),
+            Ok(machine) => {
+                drop(rest);
+                Ok(Engine {
+                    machine,
+                    accepted: true,
+                    bounds,
+                    budget,
+                })
+            }
             Err(unstarted) => Err(Unaccepted {
                 why: StartError::NoMemory,
                 accepted: rest.join(unstarted.service),

@@ -58,9 +58,9 @@ fn judge(alloc: Global, service: &Service, programs: &[Signature]) -> Result<Jud
     ensures verdict { IfOk result (λ judged. IsVerdict (equipped service.now programs.now) judged.flow judged.verdict) }
 {
     let whole = Equipped::new(service, programs);
+    let programs = copies(alloc, programs)?;
     let flow = flow_of(alloc, &whole)?;
     let verdict = verdict_of(alloc, &whole, &flow)?;
-    let programs = copies(alloc, programs)?;
     Ok(Judged {
         flow,
         programs,
@@ -130,9 +130,16 @@ fn decide(alloc: Global, service: Service, judged: Judged) -> Result<Accepted, R
         verdict,
     } = judged;
     match verdict {
-        Verdict::Wrong(found, coming) => Err(refused(alloc, service, found, coming)),
-        Verdict::Cyclic(cycle) => Err(refused_for_cycle(alloc, service, cycle)),
+        Verdict::Wrong(found, coming) => {
+            drop((flow, programs));
+            Err(refused(alloc, service, found, coming))
+        }
+        Verdict::Cyclic(cycle) => {
+            drop((flow, programs));
+            Err(refused_for_cycle(alloc, service, cycle))
+        }
         Verdict::Costly(kind) => {
+            drop((flow, programs));
             let kind = RefusalKind::TooManySteps(kind);
             Err(refused_as(alloc, service, kind))
         }
