@@ -14,6 +14,7 @@ use crate::report::frames::frame_at;
 use crate::report::{Part, Report};
 use crate::show::put_report;
 use crate::source::{Failure, output_of, report_of, unwritable};
+use mh_exit::Exit;
 use mh_model::Picture;
 use mh_terminal::put_frame;
 use mh_told::text::Text;
@@ -38,13 +39,12 @@ pub enum Outcome {
 }
 
 impl Outcome {
-    /// The exit status that tells so: 0 where it is written, 1 where two reports differ, a service is refused or something
-    /// is found of it, 2 where it cannot be read.
-    pub fn status(self) -> u8 {
+    /// How the program ends that tells so.
+    pub fn exit(self) -> Exit {
         match self {
-            Outcome::Written => 0,
-            Outcome::Different | Outcome::Refused | Outcome::Found => 1,
-            Outcome::Unread => 2,
+            Outcome::Written => Exit::Good,
+            Outcome::Different | Outcome::Refused | Outcome::Found => Exit::Otherwise,
+            Outcome::Unread => Exit::Unreadable,
         }
     }
 }

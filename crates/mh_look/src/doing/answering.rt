@@ -58,7 +58,7 @@ pub fn answer_of(
     };
     let text = explanation(alloc, asked, given, folder, &told)?;
     if text.as_slice().is_empty() {
-        return Err(unknown(alloc, asked.output.unwrap_or(asked.folder)));
+        return Err(unknown(alloc, asked.output.unwrap_or(asked.source.folder)));
     }
     Ok(Answer {
         text,
@@ -128,7 +128,7 @@ fn checked(
         alloc,
         given.tags.as_ref().map(|bytes| bytes.as_slice()),
         folder.files.as_slice(),
-        asked.start.as_bytes(),
+        asked.source.start.as_bytes(),
         given.late.as_ref().map(|bytes| bytes.as_slice()),
     );
     match verdict {
@@ -204,9 +204,9 @@ fn explanation(
         cause: told.case.cause.as_slice(),
         mend: told.case.mend.as_slice(),
         detail: told.case.detail,
-        late: named_file(asked.given.late, &given.late),
-        tags: named_file(asked.given.tags, &given.tags),
-        script: named_file(asked.given.script, &given.script),
+        late: named_file(asked.source.late, &given.late),
+        tags: named_file(asked.source.tags, &given.tags),
+        script: named_file(asked.script, &given.script),
     };
     Ok(why(alloc, &known, told.lines.as_slice())?)
 }
@@ -226,7 +226,7 @@ fn wanted_ways(
         alloc,
         given.tags.as_ref().map(|bytes| bytes.as_slice()),
         folder.files.as_slice(),
-        asked.start.as_bytes(),
+        asked.source.start.as_bytes(),
         given.late.as_ref().map(|bytes| bytes.as_slice()),
     )?)
 }

@@ -1,5 +1,5 @@
 //! What is done for `why`: the files are read, and what is explained of them is written.
-use crate::command_line::{Explain, Given};
+use crate::command_line::Explain;
 use crate::doing::answering::{Answer, Read, answer_of};
 use crate::doing::{Outcome, written};
 use crate::source::{Failure, output_of, uncoloured};
@@ -16,8 +16,8 @@ pub(crate) fn explained<R: Runtime + AllocGlobal>(
     is_terminal: bool,
 ) -> Result<Outcome, Failure> {
     let is_painted = is_painted(rt.alloc(), asked.color, is_terminal)?;
-    let given = read_given(rt, &asked.given)?;
-    let folder = folder_of(rt, asked.folder)?;
+    let given = read_given(rt, asked)?;
+    let folder = folder_of(rt, asked.source.folder)?;
     let output = named_bytes(rt, asked.output)?;
     let Answer { text, outcome } = answer_of(rt.alloc(), asked, &given, &folder, output)?;
     written_in(rt, &text, outcome, is_painted)
@@ -47,13 +47,14 @@ pub(crate) fn is_painted(alloc: Global, color: &str, is_terminal: bool) -> Resul
     }
 }
 
+/// The files that options name.
 pub(crate) fn read_given<R: Runtime + AllocGlobal>(
     rt: &R,
-    given: &Given<'_>,
+    asked: &Explain<'_>,
 ) -> Result<Read, Failure> {
-    let script = named_bytes(rt, given.script)?;
-    let late = named_bytes(rt, given.late)?;
-    let tags = named_bytes(rt, given.tags)?;
+    let script = named_bytes(rt, asked.script)?;
+    let late = named_bytes(rt, asked.source.late)?;
+    let tags = named_bytes(rt, asked.source.tags)?;
     Ok(Read { late, tags, script })
 }
 

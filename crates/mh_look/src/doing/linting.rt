@@ -24,8 +24,8 @@ pub(crate) fn linted<R: Runtime + AllocGlobal>(
     }
     let service = &wanted.service;
     let is_painted = is_painted(rt.alloc(), service.color, is_terminal)?;
-    let given = read_given(rt, &service.given)?;
-    let folder = folder_of(rt, service.folder)?;
+    let given = read_given(rt, service)?;
+    let folder = folder_of(rt, service.source.folder)?;
     match lines_on(rt.alloc(), wanted, &given, &folder)? {
         Some(text) => written_in(rt, &text, outcome_of(&text), is_painted),
         None => {
@@ -49,7 +49,7 @@ fn lines_on(
         alloc,
         given.tags.as_ref().map(|bytes| bytes.as_slice()),
         folder.files.as_slice(),
-        wanted.service.start.as_bytes(),
+        wanted.service.source.start.as_bytes(),
         given.late.as_ref().map(|bytes| bytes.as_slice()),
         wanted.asked,
     )

@@ -35,14 +35,14 @@ pub fn answer_by(
 fn told(alloc: Global, answer: Result<Answer, Failure>) -> Option<Vec<u8>> {
     match answer {
         Ok(Answer { text, outcome }) => {
-            let mut told = format!(in alloc; "{}\n", outcome.status())
+            let mut told = format!(in alloc; "{}\n", outcome.exit().code())
                 .ok()?
                 .into_bytes();
             told.extend_from_slice(text.as_slice()).ok()?;
             Some(told)
         }
         Err(failure) => {
-            let told = format!(in alloc; "{}\n{failure}\n", failure.status()).ok()?;
+            let told = format!(in alloc; "{}\n{failure}\n", failure.exit().code()).ok()?;
             Some(told.into_bytes())
         }
     }
