@@ -1,17 +1,14 @@
 -- The command line: the subcommands and options that there are, and what the words ask for. How words are read
 -- against them, what is refused and under which kind, are the definitions of `clap`.
-use Rattle.std.specs.Prelude.{◌≡◌, ◌≢◌, ℕ, Bool, true, false, if◌then◌else◌, List, [], ◌∷◌, Option, Some, None, Result, MatchResult, codes, is_none, unwrap_or, option_map}
+use Rattle.std.specs.Prelude.{ℕ, Bool, false, if◌then◌else◌, List, [], ◌∷◌, Option, Some, None, codes, is_none, unwrap_or, option_map}
 use Rattle.std.specs.List.{find, list_any}
 use Rattle.std.specs.Option.{option_map_or, option_or}
 use Rattle.std.specs.Str.{bytes_eq}
-use Rattle.std.specs.Str.Parse.{digits_value, without_leading_plus}
-use Rattle.clap.specs.Words.{App, IsAmong, Kinds, Row, Rule, Text, all_of, first_of, kind_of, new_app, new_rule, with_rule, with_subcommand}
-use Rattle.clap.specs.Simple.{on_top}
-use Rattle.clap.specs.ValueTests.{is_unsigned_in}
-use Rattle.clap.specs.declared.builder.action.ArgAction.TheVariants.{Append, Set, SetTrue}
+use Rattle.clap.specs.Words.{App, Row, Rule, Text, all_of, first_of, new_app, new_rule, with_rule, with_subcommand}
+use Rattle.clap.specs.declared.builder.action.ArgAction.TheVariants.{Append, Set}
 use Rattle.clap.specs.declared.builder.value_parser.ValueParser.TheVariants as parser
-use Rattle.clap.specs.declared.error.Error.{Error}
-use Rattle.clap.specs.declared.error.kind.ErrorKind.TheVariants as kind
+use Rattle.mh_command.specs.Arguments.{bare, flag, folder, named, path, script, with_choices}
+use Rattle.mh_command.specs.Values.{is_set, named_in, number_in, text_of}
 use Rattle.mh_lint.specs.declared.rule.Allowed.{Allowed}
 use Rattle.mh_lint.specs.declared.rule.Rule.{Rule as NoteRule}
 use Rattle.mh_lint.specs.declared.rule.Rule.TheVariants as rule
@@ -20,35 +17,21 @@ use Rattle.mh_misread.specs.Likeness.{is_like}
 use Rattle.mh_look.specs.declared.command_line.Explain.{Explain}
 use Rattle.mh_look.specs.declared.command_line.Task.{Task}
 use Rattle.mh_look.specs.declared.command_line.Task.TheVariants as task
-use Rattle.mh_look.specs.declared.command_line.error.CommandLineError.{CommandLineError}
-use Rattle.mh_look.specs.declared.command_line.error.CommandLineError.TheVariants as error
 
--- The arguments.
-
--- a file or folder that has to be named
-abbrev pub file : Text → Rule
-file id = record (new_rule id) { required = true; action = Some Set }
+-- The arguments of redlook alone.
 
 abbrev pub report : Rule
-report = file (codes "REPORT")
+report = path (codes "REPORT")
 
 abbrev pub other : Rule
-other = file (codes "OTHER")
+other = path (codes "OTHER")
 
-abbrev pub path : Rule
-path = file (codes "PATH")
+-- what is explained, and behind it, where it is given, the folder
+abbrev pub subject : Rule
+subject = path (codes "PATH")
 
--- behind a path: a folder
-abbrev pub folder : Rule
-folder = record (new_rule (codes "DIR")) { action = Some Set }
-
--- an option with a value
-abbrev pub named : Text → Rule
-named id = record (new_rule id) { long = Some id; action = Some Set; value_names = 1 }
-
--- an option without a value
-abbrev pub flag : Text → Rule
-flag id = record (new_rule id) { long = Some id; action = Some SetTrue }
+abbrev pub subject_folder : Rule
+subject_folder = record (new_rule (codes "DIR")) { action = Some Set }
 
 -- the largest number that a frame can be asked for under
 abbrev pub last_frame : ℕ
@@ -69,31 +52,12 @@ plain = flag (codes "plain")
 abbrev pub lines : Rule
 lines = flag (codes "lines")
 
--- the application to start with
-abbrev pub start : Rule
-start = record (named (codes "start")) { defaults = codes "a" ∷ [] }
-
--- the file that names the scenes whose files come late
-abbrev pub late : Rule
-late = named (codes "late")
-
--- the file that gives the tags of the binary notation
-abbrev pub tags : Rule
-tags = named (codes "tags")
-
--- the script that was played
-abbrev pub script : Rule
-script = named (codes "script")
-
 abbrev pub costs : Rule
 costs = flag (codes "costs")
 
 -- when an explanation is written in colours: the words that there are for that are not told by `clap`
 abbrev pub color : Rule
 color = record (named (codes "color")) { defaults = codes "auto" ∷ [] }
-
-abbrev pub service : Rule
-service = file (codes "DIR")
 
 abbrev pub all : Rule
 all = flag (codes "all")
@@ -118,26 +82,22 @@ diff = with_rule (with_rule (with_rule (new_app (codes "diff")) report) other) l
 -- what is explained, what may be said of the service, and then of the rest
 
 abbrev pub why_paths : App
-why_paths = with_rule (with_rule (new_app (codes "why")) path) folder
+why_paths = with_rule (with_rule (new_app (codes "why")) subject) subject_folder
 
 abbrev pub why_service : App
-why_service = with_rule (with_rule (with_rule why_paths start) late) tags
+why_service = with_choices why_paths
 
 abbrev pub why : App
 why = with_rule (with_rule (with_rule why_service script) costs) color
 
 abbrev pub lint_service : App
-lint_service = with_rule (with_rule (with_rule (with_rule (new_app (codes "lint")) service) start) late) tags
+lint_service = with_choices (with_rule (new_app (codes "lint")) folder)
 
 abbrev pub lint : App
 lint = with_rule (with_rule (with_rule lint_service all) allow) color
 
--- the program without them: it has a version, and one of them has to be given
-abbrev pub bare : App
-bare = on_top (λ s. record s { has_version = true; subcommand_required = true }) (new_app (codes "redlook"))
-
 abbrev pub with_views : App
-with_views = with_subcommand (with_subcommand bare show.top) page.top
+with_views = with_subcommand (with_subcommand (bare (codes "redlook")) show.top) page.top
 
 abbrev pub with_reports : App
 with_reports = with_subcommand (with_subcommand with_views image.top) diff.top
@@ -166,19 +126,8 @@ pub data Asked : Type 0 where
   explained : Explained → Asked
   linted : (service : Explained) (all : Bool) (allowed : Allowed) (unknown : Option Text) → Asked
 
--- the value of an argument; each that is read here is required or has a default
-abbrev pub text_of : Text → List Row → Text
-text_of id rows = unwrap_or (first_of id rows) []
-
-abbrev pub is_set : Text → List Row → Bool
-is_set id rows = option_map_or (λ t. bytes_eq t (codes "true")) (first_of id rows) false
-
--- the number that a text writes; words with another text are refused, by the argument's rule
-abbrev pub number_in : Text → ℕ
-number_in t = if is_unsigned_in 0 last_frame t then digits_value 10 (without_leading_plus t) else 0
-
 abbrev pub frame_of : List Row → Option ℕ
-frame_of rows = option_map number_in (first_of (codes "frame") rows)
+frame_of rows = option_map (number_in last_frame 0) (first_of (codes "frame") rows)
 
 -- what was found for the arguments of a subcommand
 
@@ -286,12 +235,12 @@ asked_by None = paged [] None
 
 abbrev pub explained_as : Explain → Explained
 explained_as e = record {
-  output = option_map (λ s. s.now) e.output;
-  folder = e.folder.now;
-  start = e.start.now;
-  late = option_map (λ s. s.now) e.given.late;
-  tags = option_map (λ s. s.now) e.given.tags;
-  script = option_map (λ s. s.now) e.given.script;
+  output = named_in e.output;
+  folder = e.source.folder.now;
+  start = e.source.start.now;
+  late = named_in e.source.late;
+  tags = named_in e.source.tags;
+  script = named_in e.script;
   costs = e.costs;
   color = e.color.now;
 }
@@ -299,28 +248,8 @@ explained_as e = record {
 -- what a task says
 abbrev pub said : Task → Asked
 said (task.Show report frame plain) = shown report.now frame plain
-said (task.Page report script) = paged report.now (option_map (λ s. s.now) script)
-said (task.Image report frame folder) = drawn report.now frame (option_map (λ s. s.now) folder)
+said (task.Page report script) = paged report.now (named_in script)
+said (task.Image report frame folder) = drawn report.now frame (named_in folder)
 said (task.Diff first second lines) = compared first.now second.now lines
 said (task.Why e) = explained (explained_as e)
-said (task.Lint l) = linted (explained_as l.service) l.asked.all l.asked.allowed (option_map (λ s. s.now) l.unknown)
-
--- Why words ask for nothing that can be done.
-
--- what is told by the error of `clap`: that memory was refused, or the error as it is
-abbrev pub IsToldAs : Error → CommandLineError → Type 0
-IsToldAs told error.NoMemory = kind_of told ≡ kind.OutOfMemory
-IsToldAs told (error.Refused same) = (same ≡ told) × (kind_of told ≢ kind.OutOfMemory)
-
-abbrev pub IsApart : CommandLineError → Type 0
-IsApart error.NoMemory = Unit {0}
-IsApart (error.Refused told) = kind_of told ≢ kind.OutOfMemory
-
--- memory was refused, or the words have one of the faults
-abbrev pub IsFault : Kinds → CommandLineError → Type 0
-IsFault kinds error.NoMemory = Unit {0}
-IsFault kinds (error.Refused told) = IsAmong (kind_of told) kinds
-
--- a task comes only where the words have no fault
-abbrev pub IsRefusedBy : {T : Type 0} → Kinds → Result T CommandLineError → Type 0
-IsRefusedBy kinds r = MatchResult r (λ _. kinds ≡ []) (IsFault kinds)
+said (task.Lint l) = linted (explained_as l.service) l.asked.all l.asked.allowed (named_in l.unknown)

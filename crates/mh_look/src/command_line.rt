@@ -4,22 +4,23 @@
 //! wrong command line are left to it too. Where memory was refused there is no text.
 
 pub(crate) mod arguments;
-pub(crate) mod error;
 pub(crate) mod linting;
 pub(crate) mod program;
 
-ghost use Rattle.std.specs.Prelude.{◌≡◌, [], None, map, true, option_map, IfOk, IfErr};
-ghost use Rattle.clap.specs.Words.{FailsBy, fault_of, first_of, found_of, kind_of, rows_of, subcommand_of, subcommand_rows_of, takes};
-ghost use Rattle.clap.specs.declared.error.kind.ErrorKind.TheVariants.{OutOfMemory};
-ghost use Rattle.mh_look.specs.CommandLine.{IsApart, IsRefusedBy, asked_by, asked_under, folder_of, number_in, frame_of, is_set, output_of, paged, said, text_of};
+ghost use Rattle.std.specs.Prelude.{◌≡◌, [], None, map, true, IfOk, IfErr};
+ghost use Rattle.clap.specs.Words.{fault_of, found_of, rows_of, subcommand_of, subcommand_rows_of, takes};
+ghost use Rattle.mh_command.specs.Refused.{IsRefusedBy, TellsNoMemory};
+ghost use Rattle.mh_command.specs.Values.{named_in};
+ghost use Rattle.mh_command.specs.declared.no_task.NoTask.TheVariants.{NoMemory};
+ghost use Rattle.mh_look.specs.CommandLine.{asked_by, asked_under, folder_of, frame_of, output_of, paged, said};
 ghost use Rattle.mh_look.specs.CommandLine as spec;
-ghost use Rattle.mh_look.specs.declared.command_line.error.CommandLineError.TheVariants.{NoMemory};
 
 use crate::command_line::arguments::LAST_FRAME;
-use crate::command_line::error::CommandLineError;
 use crate::command_line::linting::linting;
 use crate::command_line::program::program;
-use clap::{ArgMatches, Error};
+use clap::ArgMatches;
+use mh_command::values::{file_of, is_set, number_in, text_of};
+use mh_command::{NoTask, Source, matches_of};
 use mh_lint::Asked;
 use std::alloc::Global;
 use std::convert::AsStr;
@@ -72,46 +73,34 @@ pub struct Lint<'a> {
 pub struct Explain<'a> {
     /// The file with what `redplay` printed; without it the service is checked.
     pub output: Option<&'a str>,
-    /// The folder of the service.
-    pub folder: &'a str,
-    /// The path of the application that the service starts with.
-    pub start: &'a str,
-    pub given: Given<'a>,
+    pub source: Source<'a>,
+    /// The file with the script that was played, if one is named.
+    pub script: Option<&'a str>,
     /// Whether it is told what makes inputs dear.
     pub costs: bool,
     /// When it is written in colours.
     pub color: &'a str,
 }
 
-/// The files beside those of a service that are named, where they are.
-#[derive(Drop)]
-pub struct Given<'a> {
-    /// The file that names the scenes whose files come late.
-    pub late: Option<&'a str>,
-    /// The file that gives the tags of the binary notation.
-    pub tags: Option<&'a str>,
-    /// The file with the script that was played.
-    pub script: Option<&'a str>,
-}
-
 /// What the words ask for. The first word is the program's own name.
-pub fn line_of<'a, S: AsStr>(alloc: Global, words: &'a [S]) -> Result<Task<'a>, CommandLineError>
+pub fn line_of<'a, S: AsStr>(alloc: Global, words: &'a [S]) -> Result<Task<'a>, NoTask>
     ensures asked { IfOk result (λ task. said task ≡ asked_by (subcommand_of spec.program (map S.text words.entry.now))) }
     ensures refused { IsRefusedBy (fault_of spec.program (map S.text words.entry.now)) result }
-    ensures passes { IfErr result (λ e. takes spec.program (map S.text words.entry.now) ≡ true → e ≡ NoMemory) }
-    ensures memory { IfErr result IsApart }
+    ensures memory { IfErr result TellsNoMemory }
+    ensures passes { IfErr result (λ why. takes spec.program (map S.text words.entry.now) ≡ true → why ≡ NoMemory) }
 {
     let matches = matched(alloc, words)?;
     Ok(task_of(&matches))
 }
 
-/// The words as they are read against the program.
-fn matched<'a, S: AsStr>(alloc: Global, words: &'a [S]) -> Result<ArgMatches<'a>, Error>
+/// What is found in the words, as they are read against the program.
+fn matched<'a, S: AsStr>(alloc: Global, words: &'a [S]) -> Result<ArgMatches<'a>, NoTask>
     ensures found { IfOk result (λ m. subcommand_rows_of m ≡ subcommand_of spec.program (map S.text words.entry.now)) }
-    ensures refused { FailsBy (fault_of spec.program (map S.text words.entry.now)) result }
-    ensures passes { IfErr result (λ e. takes spec.program (map S.text words.entry.now) ≡ true → kind_of e ≡ OutOfMemory) }
+    ensures refused { IsRefusedBy (fault_of spec.program (map S.text words.entry.now)) result }
+    ensures memory { IfErr result TellsNoMemory }
+    ensures passes { IfErr result (λ why. takes spec.program (map S.text words.entry.now) ≡ true → why ≡ NoMemory) }
 {
-    program(alloc)?.try_get_matches_from(words)
+    matches_of(program(alloc)?, words)
 }
 
 /// What is asked for. `program` requires a subcommand; were there none, `page` would be meant, of
@@ -151,7 +140,7 @@ fn paging<'a>(given: &ArgMatches<'a>) -> Task<'a>
 {
     Task::Page {
         report: text_of(given, "REPORT"),
-        script: named(given, "script"),
+        script: file_of(given, "script"),
     }
 }
 
@@ -171,7 +160,7 @@ fn drawing<'a>(given: &ArgMatches<'a>) -> Task<'a>
     Task::Image {
         report: text_of(given, "REPORT"),
         frame: frame_of(given),
-        folder: named(given, "output"),
+        folder: file_of(given, "output"),
     }
 }
 
@@ -190,13 +179,13 @@ fn explaining<'a>(given: &ArgMatches<'a>) -> Task<'a>
 {
     Task::Why(Explain {
         output: output_of(given),
-        folder: folder_of(given),
-        start: text_of(given, "start"),
-        given: Given {
-            late: named(given, "late"),
-            tags: named(given, "tags"),
-            script: named(given, "script"),
+        source: Source {
+            folder: folder_of(given),
+            start: text_of(given, "start"),
+            late: file_of(given, "late"),
+            tags: file_of(given, "tags"),
         },
+        script: file_of(given, "script"),
         costs: is_set(given, "costs"),
         color: text_of(given, "color"),
     })
@@ -204,10 +193,10 @@ fn explaining<'a>(given: &ArgMatches<'a>) -> Task<'a>
 
 /// The file with an output: the first of two paths.
 fn output_of<'a>(given: &ArgMatches<'a>) -> Option<&'a str>
-    ensures { option_map (λ s. s.now) result ≡ output_of (rows_of (found_of given.now)) }
+    ensures { named_in result ≡ output_of (rows_of (found_of given.now)) }
 {
-    match named(given, "DIR") {
-        Some(_) => named(given, "PATH"),
+    match file_of(given, "DIR") {
+        Some(_) => file_of(given, "PATH"),
         None => None,
     }
 }
@@ -216,33 +205,9 @@ fn output_of<'a>(given: &ArgMatches<'a>) -> Option<&'a str>
 fn folder_of<'a>(given: &ArgMatches<'a>) -> &'a str
     ensures { result.now ≡ folder_of (rows_of (found_of given.now)) }
 {
-    match named(given, "DIR") {
+    match file_of(given, "DIR") {
         Some(folder) => folder,
         None => text_of(given, "PATH"),
-    }
-}
-
-/// The value of an argument that is required or has a default. Were there none, it would be the empty text.
-pub(crate) fn text_of<'a>(given: &ArgMatches<'a>, name: &str) -> &'a str
-    ensures { result.now ≡ text_of name.now (rows_of (found_of given.now)) }
-{
-    given.get_str(name).unwrap_or("")
-}
-
-/// The file that an option names, if one does.
-pub(crate) fn named<'a>(given: &ArgMatches<'a>, name: &str) -> Option<&'a str>
-    ensures { option_map (λ s. s.now) result ≡ first_of name.now (rows_of (found_of given.now)) }
-{
-    given.get_str(name)
-}
-
-/// Whether an option without a value is given.
-pub(crate) fn is_set<'a>(given: &ArgMatches<'a>, name: &str) -> bool
-    ensures { result ≡ is_set name.now (rows_of (found_of given.now)) }
-{
-    match given.get_str(name) {
-        Some(text) => text == "true",
-        None => false,
     }
 }
 
@@ -251,17 +216,7 @@ fn frame_of<'a>(given: &ArgMatches<'a>) -> Option<u64>
     ensures { result ≡ frame_of (rows_of (found_of given.now)) }
 {
     match given.get_str("frame") {
-        Some(text) => Some(number_in(text)),
+        Some(text) => Some(number_in(text, LAST_FRAME, 0)),
         None => None,
-    }
-}
-
-/// The number that a text writes. The argument's rule lets no other text through.
-fn number_in(text: &str) -> u64
-    ensures { result ≡ number_in text.now }
-{
-    match text.parse::<u64>() {
-        Ok(number) if number <= LAST_FRAME => number,
-        _ => 0,
     }
 }

@@ -14,6 +14,7 @@ use crate::report::frames::frame_at;
 use crate::report::{Part, Report};
 use crate::show::put_report;
 use crate::source::{Failure, output_of, report_of, unwritable};
+use mh_exit::Exit;
 use mh_model::Picture;
 use mh_terminal::put_frame;
 use mh_told::text::Text;
@@ -38,13 +39,12 @@ pub enum Outcome {
 }
 
 impl Outcome {
-    /// The exit status that tells so: 0 where it is written, 1 where two reports differ, a service is refused or something
-    /// is found of it, 2 where it cannot be read.
-    pub fn status(self) -> u8 {
+    /// How the program ends that tells so.
+    pub fn exit(self) -> Exit {
         match self {
-            Outcome::Written => 0,
-            Outcome::Different | Outcome::Refused | Outcome::Found => 1,
-            Outcome::Unread => 2,
+            Outcome::Written => Exit::Good,
+            Outcome::Different | Outcome::Refused | Outcome::Found => Exit::Otherwise,
+            Outcome::Unread => Exit::Unreadable,
         }
     }
 }
@@ -84,13 +84,23 @@ fn shown<R: Runtime + AllocGlobal>(
     plain: bool,
 ) -> Result<Outcome, Failure> {
     let report = report_of(rt, name)?;
+    show_report(rt, &report, frame, plain)
+}
+
+/// Writes the report, or one frame of it.
+fn show_report<R: Runtime + AllocGlobal>(
+    rt: &R,
+    report: &Report,
+    frame: Option<u64>,
+    plain: bool,
+) -> Result<Outcome, Failure> {
     let mut text = Text::new(rt.alloc());
     match frame {
         Some(number) => {
-            let picture = picture_of(&report, number)?;
+            let picture = picture_of(report, number)?;
             put_frame(&mut text, number, picture, plain)?;
         }
-        None => put_report(&mut text, &report, plain)?,
+        None => put_report(&mut text, report, plain)?,
     }
     written(rt, &text, Outcome::Written)
 }
@@ -101,11 +111,20 @@ fn paged<R: Runtime + AllocGlobal>(
     script: Option<&str>,
 ) -> Result<Outcome, Failure> {
     let report = report_of(rt, name)?;
+    write_page(rt, &report, script)
+}
+
+/// Writes the page of a report, the script being read where one is named.
+fn write_page<R: Runtime + AllocGlobal>(
+    rt: &R,
+    report: &Report,
+    script: Option<&str>,
+) -> Result<Outcome, Failure> {
     let script = match script {
         Some(name) => output_of(rt, name)?,
         None => Vec::new(rt.alloc()),
     };
-    let page = page_of(rt.alloc(), &report, script.as_slice())?;
+    let page = page_of(rt.alloc(), report, script.as_slice())?;
     written(rt, &page, Outcome::Written)
 }
 
@@ -117,9 +136,19 @@ fn drawn<R: Runtime + AllocGlobal>(
     folder: Option<&str>,
 ) -> Result<Outcome, Failure> {
     let report = report_of(rt, name)?;
+    draw_report(rt, &report, frame, folder, name)
+}
+
+fn draw_report<R: Runtime + AllocGlobal>(
+    rt: &R,
+    report: &Report,
+    frame: Option<u64>,
+    folder: Option<&str>,
+    name: &str,
+) -> Result<Outcome, Failure> {
     match folder {
-        Some(folder) => drawn_into(rt, &report, frame, folder, name),
-        None => drawn_out(rt, &report, frame.ok_or(Failure::NoFolder)?),
+        Some(folder) => drawn_into(rt, report, frame, folder, name),
+        None => drawn_out(rt, report, frame.ok_or(Failure::NoFolder)?),
     }
 }
 
@@ -205,8 +234,26 @@ fn held<R: Runtime + AllocGlobal>(
     lines: bool,
 ) -> Result<Outcome, Failure> {
     let first = report_of(rt, first)?;
+    held_against(rt, &first, second, lines)
+}
+
+fn held_against<R: Runtime + AllocGlobal>(
+    rt: &R,
+    first: &Report,
+    second: &str,
+    lines: bool,
+) -> Result<Outcome, Failure> {
     let second = report_of(rt, second)?;
-    let comparison = compared(rt.alloc(), &first, &second, lines)?;
+    write_comparison(rt, first, &second, lines)
+}
+
+fn write_comparison<R: Runtime + AllocGlobal>(
+    rt: &R,
+    first: &Report,
+    second: &Report,
+    lines: bool,
+) -> Result<Outcome, Failure> {
+    let comparison = compared(rt.alloc(), first, second, lines)?;
     let outcome = if comparison.differs {
         Outcome::Different
     } else {

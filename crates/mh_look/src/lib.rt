@@ -3,7 +3,7 @@
 //! command line of `redlook` asks for it.
 //!
 //! Promise: a report is read exactly where the bytes are the printed form of one, and what is made of
-//! it is exactly what is defined for it. The exit statuses are left to the program.
+//! it is exactly what is defined for it. What went wrong with the words is left to the program to tell.
 #![tactic(auto)]
 
 mod command_line;
@@ -15,7 +15,6 @@ mod report;
 mod show;
 mod source;
 
-pub use command_line::error::CommandLineError;
 pub use command_line::{Explain, Lint, Task, line_of};
 pub use comparison::difference::{Difference, changed_cells, compare, first_difference};
 pub use comparison::telling::told;

@@ -1,6 +1,7 @@
 //! Reports and other output, read from files or from standard input.
 use crate::report::printed::is_verdict;
 use crate::report::{ReadError, Report, read_report};
+use mh_exit::Exit;
 use mh_folder::Unread;
 use std::alloc::{AllocError, AllocFailed, Global};
 use std::io::Read;
@@ -47,12 +48,11 @@ pub enum Failure {
 }
 
 impl Failure {
-    /// The exit status that tells so: 4 where memory or writing failed, 2 where a report, a frame or a service could not be
-    /// had.
-    pub fn status(&self) -> u8 {
+    /// How the program ends that tells so.
+    pub fn exit(&self) -> Exit {
         match self {
-            Failure::Failed => 4,
-            _ => 2,
+            Failure::Failed => Exit::Failed,
+            _ => Exit::Unreadable,
         }
     }
 }

@@ -12,6 +12,9 @@ use Rattle.mh_engine.specs.Answer.{post_refusal, refusal_number}
 use Rattle.mh_engine.specs.declared.refusal.RefusedWhy.{RefusedWhy}
 use Rattle.mh_script.specs.declared.script.Command.{Command}
 use Rattle.mh_script.specs.declared.script.Command.TheVariants as command
+use Rattle.mh_exit.specs.Codes.{code_of}
+use Rattle.mh_exit.specs.declared.Exit.{Exit}
+use Rattle.mh_exit.specs.declared.Exit.TheVariants as exit
 use Rattle.mh_report.specs.declared.status.Status.{Status}
 use Rattle.mh_report.specs.declared.status.Status.TheVariants as status
 use Rattle.mh_told.specs.Frame.{frame_text}
@@ -79,9 +82,12 @@ abbrev pub status_of : List Fault → Status
 status_of [] = status.Good
 status_of (f ∷ fs) = status.Faults
 
--- the exit status that stands for it
+-- how the program ends that has written it, and its exit status
+abbrev pub exit_of : Status → Exit
+exit_of status.Good = exit.Good
+exit_of status.Refused = exit.Otherwise
+exit_of status.Unreadable = exit.Unreadable
+exit_of status.Faults = exit.Faults
+
 abbrev pub exit_code : Status → ℕ
-exit_code status.Good = 0
-exit_code status.Refused = 1
-exit_code status.Unreadable = 2
-exit_code status.Faults = 3
+exit_code s = code_of (exit_of s)

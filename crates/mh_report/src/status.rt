@@ -1,6 +1,8 @@
 //! `Status`: how a play ended.
 ghost use Rattle.std.specs.Prelude.{◌≡◌};
-ghost use Rattle.mh_report.specs.Report.{exit_code};
+ghost use Rattle.mh_report.specs.Report.{exit_code, exit_of};
+
+use mh_exit::Exit;
 
 /// How a play ended, once its report was written whole.
 #[derive(Clone, Copy, PartialEq, Eq)]
@@ -15,15 +17,22 @@ pub enum Status {
 }
 
 impl Status {
-    /// The exit status of the program.
+    /// How the program ends that has written the report.
+    pub fn exit(self) -> Exit
+        ensures { result ≡ exit_of self }
+    {
+        match self {
+            Status::Good => Exit::Good,
+            Status::Refused => Exit::Otherwise,
+            Status::Unreadable => Exit::Unreadable,
+            Status::Faults => Exit::Faults,
+        }
+    }
+
+    /// Its exit status.
     pub fn code(self) -> u8
         ensures { result ≡ exit_code self }
     {
-        match self {
-            Status::Good => 0,
-            Status::Refused => 1,
-            Status::Unreadable => 2,
-            Status::Faults => 3,
-        }
+        self.exit().code()
     }
 }

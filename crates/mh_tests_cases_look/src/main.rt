@@ -94,7 +94,7 @@ fn explained(alloc: Global, material: &Material, asked: &Explain<'_>) -> Option<
     let folder = folder_of(alloc, material)?;
     let output = copied(alloc, &material.output)?;
     match answer_of(alloc, asked, &given, &folder, output) {
-        Ok(answer) => of_text(alloc, &answer.text, answer.outcome.status()),
+        Ok(answer) => of_text(alloc, &answer.text, answer.outcome.exit().code()),
         Err(failure) => of_failure(alloc, &failure),
     }
 }
@@ -107,7 +107,7 @@ fn of_text(alloc: Global, text: &Text, status: u8) -> Option<Answer> {
 fn of_failure(alloc: Global, failure: &Failure) -> Option<Answer> {
     let written = format!(in alloc; "redlook: {failure}\n").ok()?.into_bytes();
     Some(Answer {
-        status: failure.status(),
+        status: failure.exit().code(),
         written,
     })
 }

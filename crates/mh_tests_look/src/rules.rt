@@ -4,7 +4,7 @@ use mh_look::{Failure, Outcome, done, line_of};
 /// Whether it is told, with status 2, that no rule has this name, with rules that begin so.
 fn is_told(outcome: &Result<Outcome, Failure>, name: &str, begins: &str) -> bool {
     match outcome {
-        Err(failure) => failure.status() == 2 && names(failure, name, begins),
+        Err(failure) => failure.exit().code() == 2 && names(failure, name, begins),
         Ok(_) => false,
     }
 }

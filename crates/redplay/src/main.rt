@@ -5,61 +5,44 @@
 pub mod command_line;
 mod program;
 
-use command_line::{NoTask, Source, Task, line_of};
+use command_line::{Task, line_of};
 use mh_base::GroupName;
-use mh_folder::{Folder, Unread, folder_of, read_file, read_input, read_named};
+use mh_command::{
+    Choice, Exit, Source, choice_of, files_of, read_option, tell_no_task, tell_unread, words_of,
+};
+use mh_folder::{Unread, read_file, read_input};
 pub use mh_report::{
     ListSink, Notation, Options, PlayError, Sink, Status, WriterSink, check_bytes, convert_bytes,
     play_bytes,
 };
+use std::io;
 use std::process::ExitCode;
 use std::rt::Runtime;
-use std::{env, io};
-
-/// The exit status where the command line is wrong.
-const WRONG: u8 = 2;
-
-/// The exit status where memory or writing failed.
-const FAILED: u8 = 4;
 
 fn main(rt: HostRuntime) -> ExitCode {
-    ExitCode::from(run(&rt).unwrap_or(FAILED))
+    ExitCode::from(run(&rt).unwrap_or(Exit::Failed).code())
 }
 
-/// Does what the command line asks for, and answers the exit status.
-fn run<R: Runtime + AllocGlobal>(rt: &R) -> io::Result<u8> {
-    let Some(words) = words_of(rt)? else {
-        eprintln!(rt; "redplay: a word of the command line is not UTF-8")?;
-        return Ok(WRONG);
+/// Does what the command line asks for.
+fn run<R: Runtime + AllocGlobal>(rt: &R) -> io::Result<Exit> {
+    let Some(words) = words_of(rt, "redplay")? else {
+        return Ok(Exit::Unreadable);
     };
-    let task = match line_of(rt.alloc(), words.as_slice()) {
-        Ok(task) => task,
-        Err(NoTask::Said(error)) => {
-            error.print(rt)?;
-            return Ok(if error.use_stderr() { WRONG } else { 0 });
-        }
-        Err(NoTask::NoMemory) => return Ok(FAILED),
-    };
-    match done(rt, &task) {
-        Ok(status) => Ok(status),
-        Err(Unread::File(name)) => {
-            println!(rt; "read {name}")?;
-            Ok(Status::Unreadable.code())
-        }
-        Err(Unread::NoMemory) => Ok(FAILED),
+    match line_of(rt.alloc(), words.as_slice()) {
+        Ok(task) => perform(rt, &task),
+        Err(why) => tell_no_task(rt, &why),
     }
 }
 
-/// The words of the command line; none where one of them is not UTF-8.
-fn words_of<R: Runtime + AllocGlobal>(rt: &R) -> io::Result<Option<Vec<String>>> {
-    match env::args(rt) {
-        Ok(words) => Ok(Some(words.collect::<Vec<String>>(rt.alloc())?)),
-        Err(error) if error.kind() == io::ErrorKind::InvalidData => Ok(None),
-        Err(error) => Err(error),
+/// Does a task, or tells what could not be read for it.
+fn perform<R: Runtime + AllocGlobal>(rt: &R, task: &Task) -> io::Result<Exit> {
+    match done(rt, task) {
+        Ok(exit) => Ok(exit),
+        Err(why) => tell_unread(rt, &why),
     }
 }
 
-fn done<R: Runtime + AllocGlobal>(rt: &R, task: &Task) -> Result<u8, Unread> {
+fn done<R: Runtime + AllocGlobal>(rt: &R, task: &Task) -> Result<Exit, Unread> {
     match task {
         Task::Check(source) => checked(rt, source),
         Task::Play {
@@ -72,27 +55,23 @@ fn done<R: Runtime + AllocGlobal>(rt: &R, task: &Task) -> Result<u8, Unread> {
     }
 }
 
-/// The files of a folder, all of which have to be read.
-fn files_of<R: Runtime + AllocGlobal>(
-    rt: &R,
-    folder: &str,
-) -> Result<Vec<(GroupName, Vec<u8>)>, Unread> {
-    let Folder { files, unread } = folder_of(rt, folder)?;
-    match unread {
-        Some(name) => Err(Unread::File(name)),
-        None => Ok(files),
-    }
+fn checked<R: Runtime + AllocGlobal>(rt: &R, source: &Source) -> Result<Exit, Unread> {
+    let files = files_of(rt, source.folder)?;
+    check_files(rt, files.as_slice(), source)
 }
 
-fn checked<R: Runtime + AllocGlobal>(rt: &R, source: &Source) -> Result<u8, Unread> {
-    let files = files_of(rt, source.folder)?;
-    let options = chosen(rt, source, 0, false)?;
+/// Checks the service of these files, what is chosen of it being read.
+fn check_files<R: Runtime + AllocGlobal>(
+    rt: &R,
+    files: &[(GroupName, Vec<u8>)],
+    source: &Source,
+) -> Result<Exit, Unread> {
+    let options = options_of(choice_of(rt, source)?, 0, false);
     let mut sink = WriterSink {
         writer: io::writer(rt),
         failures: 0,
     };
-    let status = check_bytes(rt.alloc(), files.as_slice(), &options, &mut sink);
-    Ok(status.map_or(FAILED, |status| status.code()))
+    Ok(exit_of(check_bytes(rt.alloc(), files, &options, &mut sink)))
 }
 
 fn played<R: Runtime + AllocGlobal>(
@@ -101,17 +80,28 @@ fn played<R: Runtime + AllocGlobal>(
     script: &str,
     mjd: u32,
     lenient: bool,
-) -> Result<u8, Unread> {
+) -> Result<Exit, Unread> {
     let files = files_of(rt, source.folder)?;
+    play_files(rt, files.as_slice(), source, script, mjd, lenient)
+}
+
+/// Plays the service of these files, the script being read, and then what is chosen of the service.
+fn play_files<R: Runtime + AllocGlobal>(
+    rt: &R,
+    files: &[(GroupName, Vec<u8>)],
+    source: &Source,
+    script: &str,
+    mjd: u32,
+    lenient: bool,
+) -> Result<Exit, Unread> {
     let script = read_input(rt, script)?;
-    let options = chosen(rt, source, mjd, lenient)?;
+    let options = options_of(choice_of(rt, source)?, mjd, lenient);
     let mut sink = WriterSink {
         writer: io::writer(rt),
         failures: 0,
     };
-    let files = files.as_slice();
     let status = play_bytes(rt.alloc(), files, script.as_slice(), &options, &mut sink);
-    Ok(status.map_or(FAILED, |status| status.code()))
+    Ok(exit_of(status))
 }
 
 fn converted<R: Runtime + AllocGlobal>(
@@ -119,7 +109,7 @@ fn converted<R: Runtime + AllocGlobal>(
     file: &str,
     to: Notation,
     tags: Option<&str>,
-) -> Result<u8, Unread> {
+) -> Result<Exit, Unread> {
     let bytes = read_file(rt, file, file)?;
     let options = Options {
         start: Vec::new(rt.alloc()),
@@ -140,34 +130,22 @@ fn converted<R: Runtime + AllocGlobal>(
         &options,
         &mut sink,
     );
-    Ok(status.map_or(FAILED, |status| status.code()))
+    Ok(exit_of(status))
 }
 
-/// What is chosen of the service and of a play, the file of late scenes being read, and then that of tags.
-fn chosen<R: Runtime + AllocGlobal>(
-    rt: &R,
-    source: &Source,
-    mjd: u32,
-    lenient: bool,
-) -> Result<Options, Unread> {
-    let late = read_option(rt, source.late)?;
-    let tags = read_option(rt, source.tags)?;
-    Ok(Options {
-        start: Vec::from_slice(rt.alloc(), source.start.as_bytes())?,
+/// What is chosen of a service and of its play.
+fn options_of(choice: Choice, mjd: u32, lenient: bool) -> Options {
+    let Choice { start, late, tags } = choice;
+    Options {
+        start,
         late,
         tags,
         mjd,
         lenient,
-    })
+    }
 }
 
-/// The bytes of the file that an option names, if it is given.
-fn read_option<R: Runtime + AllocGlobal>(
-    rt: &R,
-    name: Option<&str>,
-) -> Result<Option<Vec<u8>>, Unread> {
-    match name {
-        Some(name) => Ok(Some(read_named(rt, name)?)),
-        None => Ok(None),
-    }
+/// How the program ends, once it was tried to write a report whole.
+fn exit_of(status: Result<Status, PlayError>) -> Exit {
+    status.map_or(Exit::Failed, |status| status.exit())
 }

@@ -1,16 +1,19 @@
 //! The words of the command line: what the program is asked to do.
 //!
 //! What the words mean, which are refused and why are `clap`'s rules over `program`.
-use crate::program::program;
-use clap::error::ErrorKind;
-use clap::{ArgMatches, Error};
+use crate::program::{MOST_KEYS, MOST_READS, MOST_STEPS, program};
+use clap::ArgMatches;
 use mh_base::{GroupName, NameError, ObjRef};
+use mh_command::values::{day_of, file_of, is_set, number_of, text_of};
+use mh_command::{NoTask, Source, matches_of, source_of};
 use std::alloc::{AllocError, Global};
 
 /// What is asked for, and of which service.
 #[derive(Drop)]
 pub struct Task<'a> {
-    pub service: Source<'a>,
+    pub source: Source<'a>,
+    /// The modified Julian day on which the play begins.
+    pub mjd: u32,
     pub asked: Asked<'a>,
 }
 
@@ -47,65 +50,61 @@ pub enum Asked<'a> {
     },
 }
 
-/// Where a service is read from, and when its play begins.
+/// Why nothing is tried.
 #[derive(Drop)]
-pub struct Source<'a> {
-    /// The folder with the files of the service.
-    pub folder: &'a str,
-    /// The path of the application to start with.
-    pub start: &'a str,
-    /// The file that names the scenes whose files come late, if one is named.
-    pub late: Option<&'a str>,
-    /// The file that gives the tags of the binary notation, if one is named.
-    pub tags: Option<&'a str>,
-    /// The modified Julian day on which the play begins.
-    pub mjd: u32,
-}
-
-/// Why the words ask for no task.
-#[derive(Drop)]
-pub enum NoTask {
-    /// They are wrong, or ask for help or for the version: `clap` has the text.
-    Said(Error),
+pub enum LineError {
+    /// The words ask for no task.
+    NoTask(NoTask),
     /// What `--only` names is no object.
     NoObject,
-    NoMemory,
 }
 
-impl From<Error> for NoTask {
-    fn from(error: Error) -> NoTask {
-        if error.kind() == ErrorKind::OutOfMemory {
-            NoTask::NoMemory
-        } else {
-            NoTask::Said(error)
-        }
+impl From<NoTask> for LineError {
+    fn from(why: NoTask) -> LineError {
+        LineError::NoTask(why)
     }
 }
 
-impl From<AllocError> for NoTask {
-    fn from(_refused: AllocError) -> NoTask {
-        NoTask::NoMemory
+impl From<AllocError> for LineError {
+    fn from(_refused: AllocError) -> LineError {
+        LineError::NoTask(NoTask::NoMemory)
     }
 }
 
 /// What the words ask for. The first word is the program's own name.
-pub fn line_of<'a>(alloc: Global, words: &'a [String]) -> Result<Task<'a>, NoTask> {
-    let matches = matched(alloc, words)?;
+pub fn line_of<'a>(alloc: Global, words: &'a [String]) -> Result<Task<'a>, LineError> {
+    let matches = matches_of(program(alloc)?, words)?;
+    task_of(alloc, &matches)
+}
+
+/// What is asked for. `program` requires a subcommand.
+fn task_of<'a>(alloc: Global, matches: &ArgMatches<'a>) -> Result<Task<'a>, LineError> {
     match matches.subcommand() {
-        Some((name, given)) => Ok(Task {
-            service: source_of(given),
-            asked: asked_under(alloc, name, given)?,
-        }),
-        None => Err(NoTask::NoMemory),
+        Some((name, given)) => task_under(alloc, name, given),
+        None => Err(LineError::NoTask(NoTask::NoMemory)),
     }
 }
 
-fn matched<'a>(alloc: Global, words: &'a [String]) -> Result<ArgMatches<'a>, Error> {
-    program(alloc)?.try_get_matches_from(words)
+/// What the subcommand of this name asks for, and of which service.
+fn task_under<'a>(
+    alloc: Global,
+    name: &str,
+    given: &ArgMatches<'a>,
+) -> Result<Task<'a>, LineError> {
+    let asked = asked_under(alloc, name, given)?;
+    Ok(Task {
+        source: source_of(given),
+        mjd: day_of(given),
+        asked,
+    })
 }
 
 /// What the subcommand of this name asks for.
-fn asked_under<'a>(alloc: Global, name: &str, given: &ArgMatches<'a>) -> Result<Asked<'a>, NoTask> {
+fn asked_under<'a>(
+    alloc: Global,
+    name: &str,
+    given: &ArgMatches<'a>,
+) -> Result<Asked<'a>, LineError> {
     match name {
         "trace" => Ok(Asked::Trace {
             script: text_of(given, "script"),
@@ -117,43 +116,33 @@ fn asked_under<'a>(alloc: Global, name: &str, given: &ArgMatches<'a>) -> Result<
             tap: is_set(given, "tap"),
         }),
         "find" => Ok(Asked::Find {
-            keys: number_in(given, "keys"),
-            steps: number_in(given, "steps"),
+            keys: number_of(given, "keys", MOST_KEYS) as u32,
+            steps: number_of(given, "steps", MOST_STEPS) as u32,
         }),
         _ => Ok(Asked::Live {
-            record: given.get_str("record"),
-            reads: number_in(given, "reads"),
+            record: file_of(given, "record"),
+            reads: number_of(given, "reads", MOST_READS) as u32,
         }),
-    }
-}
-
-fn source_of<'a>(given: &ArgMatches<'a>) -> Source<'a> {
-    Source {
-        folder: text_of(given, "DIR"),
-        start: text_of(given, "start"),
-        late: given.get_str("late"),
-        tags: given.get_str("tags"),
-        mjd: number_in(given, "mjd"),
     }
 }
 
 /// The object that `--only` names, if it is given.
-fn object_in(alloc: Global, given: &ArgMatches<'_>) -> Result<Option<ObjRef>, NoTask> {
+fn object_in(alloc: Global, given: &ArgMatches<'_>) -> Result<Option<ObjRef>, LineError> {
     match given.get_strs("only") {
         None => Ok(None),
         Some([group, number]) => Ok(Some(object_of(alloc, *group, *number)?)),
-        Some(_) => Err(NoTask::NoObject),
+        Some(_) => Err(LineError::NoObject),
     }
 }
 
-fn object_of(alloc: Global, group: &str, number: &str) -> Result<ObjRef, NoTask> {
+fn object_of(alloc: Global, group: &str, number: &str) -> Result<ObjRef, LineError> {
     let Ok(number) = number.parse::<u32>() else {
-        return Err(NoTask::NoObject);
+        return Err(LineError::NoObject);
     };
     match GroupName::of_path(alloc, group.as_bytes()) {
         Ok(group) => Ok(ObjRef { group, number }),
-        Err(NameError::BadName) => Err(NoTask::NoObject),
-        Err(NameError::NoMemory) => Err(NoTask::NoMemory),
+        Err(NameError::BadName) => Err(LineError::NoObject),
+        Err(NameError::NoMemory) => Err(LineError::NoTask(NoTask::NoMemory)),
     }
 }
 
@@ -170,19 +159,4 @@ fn texts_of<'a>(
         }
     }
     Ok(texts)
-}
-
-/// The value of an argument that is required or has a default. Were there none, it would be the empty text.
-fn text_of<'a>(given: &ArgMatches<'a>, name: &str) -> &'a str {
-    given.get_str(name).unwrap_or("")
-}
-
-/// The number of an argument that has a default, and whose rule lets numbers of 32 bits through alone.
-fn number_in(given: &ArgMatches<'_>, name: &str) -> u32 {
-    text_of(given, name).parse::<u32>().unwrap_or(0)
-}
-
-/// Whether a flag was given.
-fn is_set(given: &ArgMatches<'_>, name: &str) -> bool {
-    text_of(given, name) == "true"
 }

@@ -7,8 +7,8 @@ use std::io;
 /// Why nothing was tried.
 #[derive(Drop)]
 pub enum Failure {
-    /// The file of this name cannot be read.
-    Unread(String),
+    /// A file cannot be read, or memory was refused to read it.
+    Unread(Unread),
     /// The service or the script cannot be read.
     Unplayable(Unplayable),
     /// The file of this name cannot be written.
@@ -19,10 +19,7 @@ pub enum Failure {
 
 impl From<Unread> for Failure {
     fn from(unread: Unread) -> Failure {
-        match unread {
-            Unread::File(name) => Failure::Unread(name),
-            Unread::NoMemory => Failure::Failed,
-        }
+        Failure::Unread(unread)
     }
 }
 

@@ -1,10 +1,30 @@
 //! The program as `clap` sees it: its subcommands and options, with the texts of its help.
-use clap::builder::ValueParser;
 use clap::{Arg, ArgAction, Command};
+use mh_command::arguments::{flag, folder, mjd, named, number, script_to_play};
+use mh_command::{bare, described, with_choices};
 use std::alloc::{AllocError, Global};
 
-/// The version that `--version` prints.
-const VERSION: &str = "0.1.0";
+/// What is told of the program.
+const ABOUT: &str = "Tries red-button television services: key by key, step by step";
+
+/// What is said of the arguments that other programs have, too.
+const FOLDER: &str = "The folder with the files of the service";
+
+const START: &str = "The application to start with";
+
+const TAGS: &str = "The tags of the binary notation, a line each";
+
+const SCRIPT: &str =
+    "The script: a command a line (`redplay help play` tells them); `-` is standard input";
+
+const DAY: &str = "The modified Julian day on which the play begins";
+
+/// The most inputs of a script that is looked for, the most steps behind each, and the most reads of a terminal.
+pub const MOST_KEYS: u64 = 1000;
+
+pub const MOST_STEPS: u64 = 1_000_000;
+
+pub const MOST_READS: u64 = 10_000_000;
 
 /// What is told behind the help of the program.
 const STATUSES: &str = "Exit status:
@@ -43,15 +63,17 @@ Example:
 
 /// The program with all its subcommands.
 pub fn program<'a>(alloc: Global) -> Result<Command<'a>, AllocError> {
-    Command::new(alloc, "redtry")
-        .version(VERSION)
-        .about("Tries red-button television services: key by key, step by step")
-        .after_help(STATUSES)
-        .subcommand_required(true)
-        .subcommand(live(alloc)?)?
-        .subcommand(trace(alloc)?)?
+    with_plays(alloc)?
         .subcommand(cover(alloc)?)?
         .subcommand(find(alloc)?)
+}
+
+/// The program with the subcommands that tell one play.
+fn with_plays<'a>(alloc: Global) -> Result<Command<'a>, AllocError> {
+    bare(alloc, "redtry", ABOUT)
+        .after_help(STATUSES)
+        .subcommand(live(alloc)?)?
+        .subcommand(trace(alloc)?)
 }
 
 fn live<'a>(alloc: Global) -> Result<Command<'a>, AllocError> {
@@ -61,12 +83,8 @@ fn live<'a>(alloc: Global) -> Result<Command<'a>, AllocError> {
         "Plays a service at the terminal, with its keys and its clock",
         KEYS,
     )?
-    .arg(named(alloc, "record", "FILE").help(
-        "Writes the keys that were pressed to this file, as a script",
-    ))?
-    .arg(number(alloc, "reads", "864000", 10_000_000).help(
-        "How often the terminal is read at most; ten times a second where nothing is pressed",
-    ))
+    .arg(record(alloc))?
+    .arg(reads(alloc))
 }
 
 fn trace<'a>(alloc: Global) -> Result<Command<'a>, AllocError> {
@@ -76,19 +94,9 @@ fn trace<'a>(alloc: Global) -> Result<Command<'a>, AllocError> {
         "Tells what each step of a script does, a line a step",
         TRACE,
     )?
-    .arg(
-        named(alloc, "script", "FILE").required(true).help(
-            "The script: a command a line (`redplay help play` tells them); `-` is standard input",
-        ),
-    )?
-    .arg(flag(alloc, "strict").help(
-        "Does not play a service that the verifier refuses, but says why",
-    ))?
-    .arg(
-        named(alloc, "only", "GROUP NUMBER")
-            .num_args(2)
-            .help("Tells the lines alone that name this object"),
-    )
+    .arg(script_to_play(alloc, SCRIPT))?
+    .arg(strict(alloc))?
+    .arg(only(alloc))
 }
 
 fn cover<'a>(alloc: Global) -> Result<Command<'a>, AllocError> {
@@ -98,14 +106,8 @@ fn cover<'a>(alloc: Global) -> Result<Command<'a>, AllocError> {
         "Tells which effects and groups scripts have done and entered, and which none has",
         COVER,
     )?
-    .arg(
-        Arg::new(alloc, "SCRIPT")
-            .required(true)
-            .num_args(1..)
-            .action(ArgAction::Append)
-            .help("The scripts"),
-    )?
-    .arg(flag(alloc, "tap").help("Prints it for test harnesses, in the Test Anything Protocol"))
+    .arg(scripts(alloc))?
+    .arg(tap(alloc))
 }
 
 fn find<'a>(alloc: Global) -> Result<Command<'a>, AllocError> {
@@ -115,10 +117,8 @@ fn find<'a>(alloc: Global) -> Result<Command<'a>, AllocError> {
         "Looks for a script that leads a service to a fault",
         FIND,
     )?
-    .arg(number(alloc, "keys", "6", 1000).help("How many inputs the script has at most"))?
-    .arg(number(alloc, "steps", "10000", 1_000_000).help(
-        "How many steps are made behind each input at most",
-    ))
+    .arg(keys(alloc))?
+    .arg(steps(alloc))
 }
 
 /// A subcommand with what is said of the service.
@@ -128,42 +128,58 @@ fn of_service<'a>(
     about: &'a str,
     example: &'a str,
 ) -> Result<Command<'a>, AllocError> {
-    Command::new(alloc, name)
-        .about(about)
-        .after_help(example)
-        .arg(
-            Arg::new(alloc, "DIR")
-                .required(true)
-                .action(ArgAction::Set)
-                .help("The folder with the files of the service"),
-        )?
-        .arg(
-            named(alloc, "start", "NAME")
-                .default_value("a")
-                .help("The application to start with"),
-        )?
-        .arg(named(alloc, "late", "FILE").help("The scenes whose files come late, a name a line"))?
-        .arg(named(alloc, "tags", "FILE").help("The tags of the binary notation, a line each"))?
-        .arg(number(alloc, "mjd", "60000", 1_000_000).help(
-            "The modified Julian day on which the play begins",
-        ))
+    let command = described(alloc, name, about, example).arg(folder(alloc, FOLDER))?;
+    with_choices(alloc, command, START, TAGS)?.arg(mjd(alloc, DAY))
 }
 
-/// An option with a value.
-fn named<'a>(alloc: Global, name: &'a str, value: &'a str) -> Arg<'a> {
-    Arg::new(alloc, name)
-        .long(name)
-        .action(ArgAction::Set)
-        .value_name(value)
+fn record<'a>(alloc: Global) -> Arg<'a> {
+    named(alloc, "record", "FILE").help(
+        "Writes the keys that were pressed to this file, as a script",
+    )
 }
 
-/// An option with a number, up to this one.
-fn number<'a>(alloc: Global, name: &'a str, usual: &'a str, most: u64) -> Arg<'a> {
-    named(alloc, name, "N")
-        .default_value(usual)
-        .value_parser(ValueParser::unsigned(0, most))
+fn reads<'a>(alloc: Global) -> Arg<'a> {
+    number(alloc, "reads", "864000", MOST_READS).help(
+        "How often the terminal is read at most; ten times a second where nothing is pressed",
+    )
 }
 
-fn flag<'a>(alloc: Global, name: &'a str) -> Arg<'a> {
-    Arg::new(alloc, name).long(name).action(ArgAction::SetTrue)
+fn strict<'a>(alloc: Global) -> Arg<'a> {
+    flag(
+        alloc,
+        "strict",
+        "Does not play a service that the verifier refuses, but says why",
+    )
+}
+
+fn only<'a>(alloc: Global) -> Arg<'a> {
+    named(alloc, "only", "GROUP NUMBER")
+        .num_args(2)
+        .help("Tells the lines alone that name this object")
+}
+
+fn scripts<'a>(alloc: Global) -> Arg<'a> {
+    Arg::new(alloc, "SCRIPT")
+        .required(true)
+        .num_args(1..)
+        .action(ArgAction::Append)
+        .help("The scripts")
+}
+
+fn tap<'a>(alloc: Global) -> Arg<'a> {
+    flag(
+        alloc,
+        "tap",
+        "Prints it for test harnesses, in the Test Anything Protocol",
+    )
+}
+
+fn keys<'a>(alloc: Global) -> Arg<'a> {
+    number(alloc, "keys", "6", MOST_KEYS).help("How many inputs the script has at most")
+}
+
+fn steps<'a>(alloc: Global) -> Arg<'a> {
+    number(alloc, "steps", "10000", MOST_STEPS).help(
+        "How many steps are made behind each input at most",
+    )
 }

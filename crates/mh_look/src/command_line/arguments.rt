@@ -3,14 +3,17 @@
 //! Promise: each function makes what the definition of its name in `specs/CommandLine` says.
 ghost use Rattle.std.specs.Prelude.{◌≡◌, false};
 ghost use Rattle.clap.specs.Words.{rule_of};
+ghost use Rattle.mh_command.specs.Arguments.{script};
 ghost use Rattle.mh_look.specs.CommandLine as spec;
 
 use clap::builder::ValueParser;
 use clap::{Arg, ArgAction};
+use mh_command::arguments;
+use mh_command::arguments::{flag, named, path};
 use std::alloc::Global;
 
-/// The application that a service starts with where none is named.
-const START: &str = "a";
+/// What is said of the file with a report.
+const REPORT: &str = "The file with the report, or `-`";
 
 /// When an explanation is written in colours where nothing is said of it.
 const WHEN: &str = "auto";
@@ -22,45 +25,36 @@ pub(crate) fn report<'a>(alloc: Global) -> Arg<'a>
     ensures rule { rule_of result ≡ spec.report }
     ensures local { result.global ≡ false }
 {
-    file(alloc, "REPORT", "The file with the report, or `-`")
+    path(alloc, "REPORT", REPORT)
 }
 
 pub(crate) fn other<'a>(alloc: Global) -> Arg<'a>
     ensures rule { rule_of result ≡ spec.other }
     ensures local { result.global ≡ false }
 {
-    file(alloc, "OTHER", "The file with the report, or `-`")
+    path(alloc, "OTHER", REPORT)
 }
 
-pub(crate) fn path<'a>(alloc: Global) -> Arg<'a>
-    ensures rule { rule_of result ≡ spec.path }
+/// What is explained.
+pub(crate) fn subject<'a>(alloc: Global) -> Arg<'a>
+    ensures rule { rule_of result ≡ spec.subject }
     ensures local { result.global ≡ false }
 {
-    file(
+    path(
         alloc,
         "PATH",
         "The folder of the service; in front of DIR the file with what `redplay` printed of it, or `-`",
     )
 }
 
-pub(crate) fn folder<'a>(alloc: Global) -> Arg<'a>
-    ensures rule { rule_of result ≡ spec.folder }
+/// The folder of what is explained.
+pub(crate) fn subject_folder<'a>(alloc: Global) -> Arg<'a>
+    ensures rule { rule_of result ≡ spec.subject_folder }
     ensures local { result.global ≡ false }
 {
     Arg::new(alloc, "DIR")
         .action(ArgAction::Set)
         .help("The folder of the service of which PATH was printed")
-}
-
-/// A file or folder that has to be named.
-fn file<'a>(alloc: Global, name: &'a str, help: &'a str) -> Arg<'a>
-    ensures rule { rule_of result ≡ spec.file name.entry.now }
-    ensures local { result.global ≡ false }
-{
-    Arg::new(alloc, name)
-        .required(true)
-        .action(ArgAction::Set)
-        .help(help)
 }
 
 pub(crate) fn frame<'a>(alloc: Global) -> Arg<'a>
@@ -97,34 +91,11 @@ pub(crate) fn lines<'a>(alloc: Global) -> Arg<'a>
     )
 }
 
-pub(crate) fn start<'a>(alloc: Global) -> Arg<'a>
-    ensures rule { rule_of result ≡ spec.start }
-    ensures local { result.global ≡ false }
-{
-    named(alloc, "start", "NAME")
-        .default_value(START)
-        .help("The path of the application to start with")
-}
-
-pub(crate) fn late<'a>(alloc: Global) -> Arg<'a>
-    ensures rule { rule_of result ≡ spec.late }
-    ensures local { result.global ≡ false }
-{
-    named(alloc, "late", "FILE").help("The scenes whose files come late, a name a line")
-}
-
-pub(crate) fn tags<'a>(alloc: Global) -> Arg<'a>
-    ensures rule { rule_of result ≡ spec.tags }
-    ensures local { result.global ≡ false }
-{
-    named(alloc, "tags", "FILE").help("The tags of the binary notation, a line each")
-}
-
 pub(crate) fn script<'a>(alloc: Global) -> Arg<'a>
-    ensures rule { rule_of result ≡ spec.script }
+    ensures rule { rule_of result ≡ script }
     ensures local { result.global ≡ false }
 {
-    named(alloc, "script", "FILE").help("The script that was played")
+    arguments::script(alloc, "The script that was played")
 }
 
 pub(crate) fn costs<'a>(alloc: Global) -> Arg<'a>
@@ -147,14 +118,6 @@ pub(crate) fn color<'a>(alloc: Global) -> Arg<'a>
     )
 }
 
-/// The folder that is looked at.
-pub(crate) fn service<'a>(alloc: Global) -> Arg<'a>
-    ensures rule { rule_of result ≡ spec.service }
-    ensures local { result.global ≡ false }
-{
-    file(alloc, "DIR", "The folder of the service")
-}
-
 pub(crate) fn all<'a>(alloc: Global) -> Arg<'a>
     ensures rule { rule_of result ≡ spec.all }
     ensures local { result.global ≡ false }
@@ -171,26 +134,4 @@ pub(crate) fn allow<'a>(alloc: Global) -> Arg<'a>
         .action(ArgAction::Append)
         .value_name("RULE")
         .help("Turn a rule of notes off, for all files")
-}
-
-/// An option with a value.
-fn named<'a>(alloc: Global, name: &'a str, value: &'a str) -> Arg<'a>
-    ensures rule { rule_of result ≡ spec.named name.entry.now }
-    ensures local { result.global ≡ false }
-{
-    Arg::new(alloc, name)
-        .long(name)
-        .action(ArgAction::Set)
-        .value_name(value)
-}
-
-/// An option without a value.
-fn flag<'a>(alloc: Global, name: &'a str, help: &'a str) -> Arg<'a>
-    ensures rule { rule_of result ≡ spec.flag name.entry.now }
-    ensures local { result.global ≡ false }
-{
-    Arg::new(alloc, name)
-        .long(name)
-        .action(ArgAction::SetTrue)
-        .help(help)
 }

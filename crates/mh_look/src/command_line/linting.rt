@@ -1,15 +1,18 @@
 //! What the words of `lint` ask for.
 //!
 //! Promise: each function answers what the definition of its name in `specs/CommandLine` says.
-ghost use Rattle.std.specs.Prelude.{◌≡◌, option_map};
+ghost use Rattle.std.specs.Prelude.{◌≡◌};
 ghost use Rattle.std.specs.List.{find, list_any};
 ghost use Rattle.std.specs.Str.{bytes_eq};
 ghost use Rattle.clap.specs.Words.{found_of, rows_of};
+ghost use Rattle.mh_command.specs.Values.{named_in};
 ghost use Rattle.mh_look.specs.CommandLine.{explained_as, said};
 ghost use Rattle.mh_look.specs.CommandLine as spec;
 
-use crate::command_line::{Explain, Given, Lint, Task, is_set, named, text_of};
+use crate::command_line::{Explain, Lint, Task};
 use clap::ArgMatches;
+use mh_command::source_of;
+use mh_command::values::{is_set, text_of};
 use mh_lint::{Allowed, Asked, RULES, Rule};
 use mh_misread::is_like;
 
@@ -35,13 +38,8 @@ fn service_of<'a>(given: &ArgMatches<'a>) -> Explain<'a>
     let (output, script) = (None, None);
     Explain {
         output,
-        folder: text_of(given, "DIR"),
-        start: text_of(given, "start"),
-        given: Given {
-            late: named(given, "late"),
-            tags: named(given, "tags"),
-            script,
-        },
+        source: source_of(given),
+        script,
         costs: false,
         color: text_of(given, "color"),
     }
@@ -90,7 +88,7 @@ fn is_among(names: &[&str], word: &[u8]) -> bool
 
 /// The first name that no rule has.
 fn unknown<'a>(given: &ArgMatches<'a>) -> Option<&'a str>
-    ensures { option_map (λ s. s.now) result ≡ spec.unknown (rows_of (found_of given.now)) }
+    ensures { named_in result ≡ spec.unknown (rows_of (found_of given.now)) }
 {
     match given.get_strs("allow") {
         Some(names) => first_unknown(names),

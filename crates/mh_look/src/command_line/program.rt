@@ -2,20 +2,30 @@
 //! `arguments`.
 //!
 //! Promise: each function makes what the definition of its name in `specs/CommandLine` says.
-ghost use Rattle.std.specs.Prelude.{◌≡◌, false, IfOk};
-ghost use Rattle.clap.specs.Words.{app_of, new_app};
+ghost use Rattle.std.specs.Prelude.{◌≡◌, false, codes, IfOk};
+ghost use Rattle.clap.specs.Words.{app_of, new_app, with_rule};
 ghost use Rattle.clap.specs.declared.builder.command.Command.TheViews.{out-Command as fields_of};
+ghost use Rattle.mh_command.specs.Arguments.{folder};
 ghost use Rattle.mh_look.specs.CommandLine as spec;
 
 use crate::command_line::arguments::{
-    all, allow, color, costs, folder, frame, late, lines, other, output, path, plain, report,
-    script, service, start, tags,
+    all, allow, color, costs, frame, lines, other, output, plain, report, script, subject,
+    subject_folder,
 };
 use clap::Command;
+use mh_command::arguments::folder;
+use mh_command::{bare, described, with_choices};
 use std::alloc::{AllocError, Global};
 
-/// The version that `--version` prints.
-const VERSION: &str = "0.1.0";
+/// What is told of the program.
+const ABOUT: &str = "Shows what `redplay` printed; a file `-` is read from standard input";
+
+/// What is said of the arguments that other programs have, too.
+const FOLDER: &str = "The folder of the service";
+
+const START: &str = "The path of the application to start with";
+
+const TAGS: &str = "The tags of the binary notation, a line each";
 
 /// What is told behind the help of `diff`.
 const DIFF_EXAMPLES: &str = "Exit status:
@@ -73,19 +83,9 @@ fn with_reports<'a>(alloc: Global) -> Result<Command<'a>, AllocError>
 fn with_views<'a>(alloc: Global) -> Result<Command<'a>, AllocError>
     ensures { IfOk result (λ c. app_of c ≡ spec.with_views) }
 {
-    bare(alloc)
+    bare(alloc, "redlook", ABOUT)
         .subcommand(show(alloc)?)?
         .subcommand(page(alloc)?)
-}
-
-/// The program without its subcommands.
-fn bare<'a>(alloc: Global) -> Command<'a>
-    ensures { app_of result ≡ spec.bare }
-{
-    Command::new(alloc, "redlook")
-        .version(VERSION)
-        .about("Shows what `redplay` printed; a file `-` is read from standard input")
-        .subcommand_required(true)
 }
 
 fn show<'a>(alloc: Global) -> Result<Command<'a>, AllocError>
@@ -172,16 +172,21 @@ fn lint_service<'a>(alloc: Global) -> Result<Command<'a>, AllocError>
     ensures app { IfOk result (λ c. app_of c ≡ spec.lint_service) }
     ensures local { IfOk result (λ c. (fields_of c).has_globals ≡ false) }
 {
+    with_choices(alloc, lint_folder(alloc)?, START, TAGS)
+}
+
+/// The subcommand with the folder that is looked at.
+fn lint_folder<'a>(alloc: Global) -> Result<Command<'a>, AllocError>
+    ensures app { IfOk result (λ c. app_of c ≡ with_rule (new_app (codes "lint")) folder) }
+    ensures local { IfOk result (λ c. (fields_of c).has_globals ≡ false) }
+{
     described(
         alloc,
         "lint",
         "Tells what of an accepted service never happens, and what seems to be a mistake, with the places in its files",
         LINT_EXAMPLES,
     )
-    .arg(service(alloc))?
-    .arg(start(alloc))?
-    .arg(late(alloc))?
-    .arg(tags(alloc))
+    .arg(folder(alloc, FOLDER))
 }
 
 /// The subcommand with what is explained, and what may be said of the service.
@@ -189,10 +194,7 @@ fn why_service<'a>(alloc: Global) -> Result<Command<'a>, AllocError>
     ensures app { IfOk result (λ c. app_of c ≡ spec.why_service) }
     ensures local { IfOk result (λ c. (fields_of c).has_globals ≡ false) }
 {
-    why_paths(alloc)?
-        .arg(start(alloc))?
-        .arg(late(alloc))?
-        .arg(tags(alloc))
+    with_choices(alloc, why_paths(alloc)?, START, TAGS)
 }
 
 /// The subcommand with what is explained.
@@ -206,14 +208,6 @@ fn why_paths<'a>(alloc: Global) -> Result<Command<'a>, AllocError>
         "Checks a service, and explains why it is refused, with the places in its files, and how to mend it; of an accepted one its bounds",
         WHY_EXAMPLES,
     )
-    .arg(path(alloc))?
-    .arg(folder(alloc))
-}
-
-/// A subcommand with its texts, before it has arguments.
-fn described<'a>(alloc: Global, name: &'a str, about: &'a str, example: &'a str) -> Command<'a>
-    ensures app { app_of result ≡ new_app name.entry.now }
-    ensures local { (fields_of result).has_globals ≡ false }
-{
-    Command::new(alloc, name).about(about).after_help(example)
+    .arg(subject(alloc))?
+    .arg(subject_folder(alloc))
 }

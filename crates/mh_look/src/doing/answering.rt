@@ -4,7 +4,7 @@ use crate::command_line::Explain;
 use crate::doing::Outcome;
 use crate::source::{Failure, unknown};
 use bstr::ByteSlice;
-use mh_base::Seq;
+use mh_base::{Seq, both};
 use mh_flow::Link;
 use mh_folder::Folder;
 use mh_layers::{Arrow, Way};
@@ -52,13 +52,35 @@ pub fn answer_of(
     folder: &Folder,
     output: Option<Vec<u8>>,
 ) -> Result<Answer, Failure> {
-    let told = match output {
-        Some(lines) => printed(alloc, lines, asked, given, folder)?,
-        None => checked(alloc, asked, given, folder)?,
-    };
-    let text = explanation(alloc, asked, given, folder, &told)?;
+    let told = told_of(alloc, asked, given, folder, output)?;
+    answer_on(alloc, asked, given, folder, &told)
+}
+
+/// What is explained: what was printed, or what is found.
+fn told_of(
+    alloc: Global,
+    asked: &Explain<'_>,
+    given: &Read,
+    folder: &Folder,
+    output: Option<Vec<u8>>,
+) -> Result<Told, Failure> {
+    match output {
+        Some(lines) => printed(alloc, lines, asked, given, folder),
+        None => checked(alloc, asked, given, folder),
+    }
+}
+
+/// The explanation of what is told.
+fn answer_on(
+    alloc: Global,
+    asked: &Explain<'_>,
+    given: &Read,
+    folder: &Folder,
+    told: &Told,
+) -> Result<Answer, Failure> {
+    let text = explanation(alloc, asked, given, folder, told)?;
     if text.as_slice().is_empty() {
-        return Err(unknown(alloc, asked.output.unwrap_or(asked.folder)));
+        return Err(unknown(alloc, asked.output.unwrap_or(asked.source.folder)));
     }
     Ok(Answer {
         text,
@@ -128,7 +150,7 @@ fn checked(
         alloc,
         given.tags.as_ref().map(|bytes| bytes.as_slice()),
         folder.files.as_slice(),
-        asked.start.as_bytes(),
+        asked.source.start.as_bytes(),
         given.late.as_ref().map(|bytes| bytes.as_slice()),
     );
     match verdict {
@@ -140,15 +162,15 @@ fn checked(
 /// What a verdict tells. It is taken apart before memory is asked for, since it is dear to drop.
 fn told_by(alloc: Global, verdict: Verdict) -> Result<Told, AllocError> {
     let outcome = outcome_of(&verdict);
-    let lines = lines_on(alloc, &verdict);
-    let case = case_on(alloc, &verdict);
+    let words = both(lines_on(alloc, &verdict), case_on(alloc, &verdict));
     let (chain, cycle) = refusal_parts(alloc, verdict);
+    let (lines, case) = words?;
     Ok(Told {
-        lines: lines?,
+        lines,
         outcome,
         chain,
         cycle,
-        case: case?,
+        case,
     })
 }
 
@@ -204,9 +226,9 @@ fn explanation(
         cause: told.case.cause.as_slice(),
         mend: told.case.mend.as_slice(),
         detail: told.case.detail,
-        late: named_file(asked.given.late, &given.late),
-        tags: named_file(asked.given.tags, &given.tags),
-        script: named_file(asked.given.script, &given.script),
+        late: named_file(asked.source.late, &given.late),
+        tags: named_file(asked.source.tags, &given.tags),
+        script: named_file(asked.script, &given.script),
     };
     Ok(why(alloc, &known, told.lines.as_slice())?)
 }
@@ -226,7 +248,7 @@ fn wanted_ways(
         alloc,
         given.tags.as_ref().map(|bytes| bytes.as_slice()),
         folder.files.as_slice(),
-        asked.start.as_bytes(),
+        asked.source.start.as_bytes(),
         given.late.as_ref().map(|bytes| bytes.as_slice()),
     )?)
 }

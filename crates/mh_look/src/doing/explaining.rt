@@ -1,9 +1,9 @@
 //! What is done for `why`: the files are read, and what is explained of them is written.
-use crate::command_line::{Explain, Given};
-use crate::doing::answering::{Answer, Read, answer_of};
+use crate::command_line::Explain;
+use crate::doing::answering::{Read, answer_of};
 use crate::doing::{Outcome, written};
 use crate::source::{Failure, output_of, uncoloured};
-use mh_folder::folder_of;
+use mh_folder::{Folder, folder_of};
 use mh_told::text::Text;
 use mh_why::painted;
 use std::alloc::Global;
@@ -16,11 +16,32 @@ pub(crate) fn explained<R: Runtime + AllocGlobal>(
     is_terminal: bool,
 ) -> Result<Outcome, Failure> {
     let is_painted = is_painted(rt.alloc(), asked.color, is_terminal)?;
-    let given = read_given(rt, &asked.given)?;
-    let folder = folder_of(rt, asked.folder)?;
+    let given = read_given(rt, asked)?;
+    explained_with(rt, asked, &given, is_painted)
+}
+
+/// The same, of the files that options name.
+fn explained_with<R: Runtime + AllocGlobal>(
+    rt: &R,
+    asked: &Explain<'_>,
+    given: &Read,
+    is_painted: bool,
+) -> Result<Outcome, Failure> {
+    let folder = folder_of(rt, asked.source.folder)?;
+    explained_in(rt, asked, given, &folder, is_painted)
+}
+
+/// The same, of the files of a folder.
+fn explained_in<R: Runtime + AllocGlobal>(
+    rt: &R,
+    asked: &Explain<'_>,
+    given: &Read,
+    folder: &Folder,
+    is_painted: bool,
+) -> Result<Outcome, Failure> {
     let output = named_bytes(rt, asked.output)?;
-    let Answer { text, outcome } = answer_of(rt.alloc(), asked, &given, &folder, output)?;
-    written_in(rt, &text, outcome, is_painted)
+    let answer = answer_of(rt.alloc(), asked, given, folder, output)?;
+    written_in(rt, &answer.text, answer.outcome, is_painted)
 }
 
 /// Writes the text, in colours or not.
@@ -47,13 +68,14 @@ pub(crate) fn is_painted(alloc: Global, color: &str, is_terminal: bool) -> Resul
     }
 }
 
+/// The files that options name.
 pub(crate) fn read_given<R: Runtime + AllocGlobal>(
     rt: &R,
-    given: &Given<'_>,
+    asked: &Explain<'_>,
 ) -> Result<Read, Failure> {
-    let script = named_bytes(rt, given.script)?;
-    let late = named_bytes(rt, given.late)?;
-    let tags = named_bytes(rt, given.tags)?;
+    let script = named_bytes(rt, asked.script)?;
+    let late = named_bytes(rt, asked.source.late)?;
+    let tags = named_bytes(rt, asked.source.tags)?;
     Ok(Read { late, tags, script })
 }
 

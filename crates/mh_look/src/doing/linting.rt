@@ -3,7 +3,7 @@
 use crate::command_line::Lint;
 use crate::command_line::linting::near_rule;
 use crate::doing::Outcome;
-use crate::doing::answering::{Answer, Read, answer_of};
+use crate::doing::answering::{Read, answer_of};
 use crate::doing::explaining::{is_painted, read_given, written_in};
 use crate::source::Failure;
 use mh_folder::{Folder, folder_of};
@@ -24,15 +24,34 @@ pub(crate) fn linted<R: Runtime + AllocGlobal>(
     }
     let service = &wanted.service;
     let is_painted = is_painted(rt.alloc(), service.color, is_terminal)?;
-    let given = read_given(rt, &service.given)?;
-    let folder = folder_of(rt, service.folder)?;
-    match lines_on(rt.alloc(), wanted, &given, &folder)? {
-        Some(text) => written_in(rt, &text, outcome_of(&text), is_painted),
-        None => {
-            let Answer { text, outcome } = answer_of(rt.alloc(), service, &given, &folder, None)?;
-            written_in(rt, &text, outcome, is_painted)
-        }
+    let given = read_given(rt, service)?;
+    linted_with(rt, wanted, &given, is_painted)
+}
+
+/// The same, of the files that options name.
+fn linted_with<R: Runtime + AllocGlobal>(
+    rt: &R,
+    wanted: &Lint<'_>,
+    given: &Read,
+    is_painted: bool,
+) -> Result<Outcome, Failure> {
+    let folder = folder_of(rt, wanted.service.source.folder)?;
+    linted_in(rt, wanted, given, &folder, is_painted)
+}
+
+/// The same, of the files of a folder.
+fn linted_in<R: Runtime + AllocGlobal>(
+    rt: &R,
+    wanted: &Lint<'_>,
+    given: &Read,
+    folder: &Folder,
+    is_painted: bool,
+) -> Result<Outcome, Failure> {
+    if let Some(text) = lines_on(rt.alloc(), wanted, given, folder)? {
+        return written_in(rt, &text, outcome_of(&text), is_painted);
     }
+    let answer = answer_of(rt.alloc(), &wanted.service, given, folder, None)?;
+    written_in(rt, &answer.text, answer.outcome, is_painted)
 }
 
 /// The lines on the service, if all its files are read and it is accepted.
@@ -49,7 +68,7 @@ fn lines_on(
         alloc,
         given.tags.as_ref().map(|bytes| bytes.as_slice()),
         folder.files.as_slice(),
-        wanted.service.start.as_bytes(),
+        wanted.service.source.start.as_bytes(),
         given.late.as_ref().map(|bytes| bytes.as_slice()),
         wanted.asked,
     )

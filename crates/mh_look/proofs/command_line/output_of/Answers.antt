@@ -8,12 +8,12 @@ use Rattle.mh_look.proofs.command_line.output_of.Goals as goal
 pub returns-in-Some : goal.returns-in-Some
 returns-in-Some c =
     let rows = rows_of (found_of c.args.given.now) in
-    c.named-in-Some.ensures
+    c.file_of-in-Some.ensures
     ∙ ap (λ (o : Option (List ℕ)). option_map_or (λ _. first_of (codes "PATH") rows) o None)
-    (sym (ap (option_map (λ (s : Bor (List ℕ)). s.now)) c.in-Some.is) ∙ c.named.ensures)
+    (sym (ap (option_map (λ (s : Bor (List ℕ)). s.now)) c.in-Some.is) ∙ c.file_of.ensures)
 
 pub returns-in-None : goal.returns-in-None
 returns-in-None c =
     let rows = rows_of (found_of c.args.given.now) in
     ap (λ (o : Option (List ℕ)). option_map_or (λ _. first_of (codes "PATH") rows) o None)
-    (sym (ap (option_map (λ (s : Bor (List ℕ)). s.now)) c.in-None.is) ∙ c.named.ensures)
+    (sym (ap (option_map (λ (s : Bor (List ℕ)). s.now)) c.in-None.is) ∙ c.file_of.ensures)

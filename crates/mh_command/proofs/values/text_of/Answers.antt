@@ -1,8 +1,8 @@
 use Rattle.std.specs.Prelude.{ℕ, List, [], Option, unwrap_or}
 use Rattle.std.proofs.Common.{ap, sym}
 use Rattle.clap.specs.Words.{found_of}
-use Rattle.redplay.proofs.CommandLemmas.{value_found, none_found}
-use Rattle.redplay.proofs.command_line.text_of.Goals as goal
+use Rattle.mh_command.proofs.ValueLemmas.{value_found, none_found}
+use Rattle.mh_command.proofs.values.text_of.Goals as goal
 
 pub returns-in-Some : goal.returns-in-Some
 returns-in-Some c =

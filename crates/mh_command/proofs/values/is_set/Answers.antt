@@ -3,8 +3,8 @@ use Rattle.std.specs.Option.{option_map_or}
 use Rattle.std.specs.Str.{bytes_eq}
 use Rattle.std.proofs.Common.{ap, sym, ◌∙◌}
 use Rattle.clap.specs.Words.{found_of}
-use Rattle.redplay.proofs.CommandLemmas.{value_found, none_found}
-use Rattle.redplay.proofs.command_line.is_set.Goals as goal
+use Rattle.mh_command.proofs.ValueLemmas.{value_found, none_found}
+use Rattle.mh_command.proofs.values.is_set.Goals as goal
 
 pub returns-in-Some : goal.returns-in-Some
 returns-in-Some c =
