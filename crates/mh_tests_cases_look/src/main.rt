@@ -130,7 +130,7 @@ fn lines_on(alloc: Global, material: &Material, wanted: &Lint<'_>) -> Option<Opt
         alloc,
         material.tags.as_ref().map(|bytes| bytes.as_slice()),
         material.files.as_slice(),
-        wanted.service.start.as_bytes(),
+        wanted.service.source.start.as_bytes(),
         material.late.as_ref().map(|bytes| bytes.as_slice()),
         wanted.asked,
     )
