@@ -46,6 +46,10 @@ impl Known for KnownNow<'_> {
         }
     }
 
+    fn of_each_class(&self, variable: &ObjRef) -> &[ObjRef] {
+        self.refers(variable)
+    }
+
     fn number(&self, variable: &ObjRef) -> Option<&i32> {
         integer(held_by(self.objects.get(variable)))
     }

@@ -39,6 +39,10 @@ impl<'a> Known for KnownWith<'a> {
         self.held.of(self.present, variable)
     }
 
+    fn of_each_class(&self, variable: &ObjRef) -> &[ObjRef] {
+        self.refers(variable)
+    }
+
     fn number(&self, _variable: &ObjRef) -> Option<&i32> {
         None
     }

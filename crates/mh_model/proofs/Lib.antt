@@ -5,3 +5,4 @@ pub mod PartLemmas
 pub mod ListLemmas
 pub mod ServiceLemmas
 pub mod LeastLemmas
+pub mod ClassLemmas

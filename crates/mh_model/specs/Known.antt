@@ -1,5 +1,6 @@
 -- What is known where an action is judged: in a state all of it, beforehand less.
-use Rattle.std.specs.Prelude.{ℕ, if◌then◌else◌, List, [], Option, Some, None, option_and_then, ℤ}
+use Rattle.std.specs.Prelude.{ℕ, Bool, true, false, ◌==◌, if◌then◌else◌, List, [], ◌∷◌, ◌++◌, Option, Some, None, option_and_then, ℤ}
+use Rattle.std.specs.List.{list_any}
 use Rattle.std.specs.Option.{option_map, option_to_list}
 use Rattle.mh_base.specs.declared.obj_ref.ObjRef.{ObjRef}
 use Rattle.mh_base.specs.declared.value.Value.{Value}
@@ -9,7 +10,7 @@ use Rattle.mh_model.specs.declared.object.Fixed.{Fixed}
 use Rattle.mh_model.specs.declared.object.Object.{Object}
 use Rattle.mh_model.specs.Arguments.{held_by}
 use Rattle.mh_group.specs.declared.attribute.Attribute.TheVariants as attribute
-use Rattle.mh_group.specs.Table.{is_resident_program}
+use Rattle.mh_group.specs.Table.{class_number, is_resident_program}
 use Rattle.mh_model.specs.declared.program.Param.{Param}
 use Rattle.mh_model.specs.declared.program.Signature.{Signature}
 use Rattle.mh_model.specs.Programs.{params_for}
@@ -64,3 +65,22 @@ known_in s os = record {
   number = λ v. as_integer (held_by (object_at v os));
   takes = λ r. params_in s.programs (part_at r (parts os));
 }
+
+-- Of many objects one of each class: what is wrong with an object at a place is told by its class.
+
+-- the same class, or none, as of what is not present
+abbrev pub same_class : Option Class → Option Class → Bool
+same_class None None = true
+same_class (Some c) (Some d) = class_number c == class_number d
+same_class _ _ = false
+
+-- behind objects of these classes, the first of each other class
+abbrev pub each_class_behind : (ObjRef → Option Class) → List (Option Class) → List ObjRef → List ObjRef
+each_class_behind class_of cs [] = []
+each_class_behind class_of cs (r ∷ rs) =
+    if list_any (same_class (class_of r)) cs then each_class_behind class_of cs rs
+    else r ∷ each_class_behind class_of (cs ++ class_of r ∷ []) rs
+
+-- the first object of each class, and the first that is not present, in their order
+abbrev pub each_class : (ObjRef → Option Class) → List ObjRef → List ObjRef
+each_class class_of rs = each_class_behind class_of [] rs

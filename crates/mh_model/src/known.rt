@@ -17,7 +17,7 @@ use std::alloc::AllocError;
 
 /// What is known where an action is judged.
 pub trait Known {
-    ghost use Rattle.mh_model.specs.Known.{Known as KnownLem};
+    ghost use Rattle.mh_model.specs.Known.{Known as KnownLem, each_class};
 
     /// All that is known.
     ghost known: { Self → KnownLem };
@@ -33,6 +33,11 @@ pub trait Known {
     /// The objects to which a variable may refer.
     fn refers(&self, variable: &ObjRef) -> &[ObjRef]
         ensures { result.now ≡ (known self.now).refers variable.now };
+
+    /// Some of these objects, in their order: the first of each class at least, and the first that is not present.
+    fn of_each_class(&self, variable: &ObjRef) -> &[ObjRef]
+        ensures { let of_class = (known self.now).class_of in
+            each_class of_class result.now ≡ each_class of_class ((known self.now).refers variable.now) };
 
     /// The number that a variable holds.
     fn number(&self, variable: &ObjRef) -> Option<&i32>

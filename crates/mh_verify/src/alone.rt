@@ -40,6 +40,10 @@ impl<'a> Known for KnownAlone<'a> {
         }
     }
 
+    fn of_each_class(&self, variable: &ObjRef) -> &[ObjRef] {
+        self.refers(variable)
+    }
+
     fn number(&self, variable: &ObjRef) -> Option<&i32> {
         self.known.number(variable)
     }

@@ -1,12 +1,16 @@
 //! What is wrong with an object that is named at a place of an action: as a target, as a parameter,
 //! or as a variable that holds one.
 //!
+//! Of the objects to which a variable may refer, one of each class is looked at: what is wrong with an object is told by
+//! its class, and the first is named of those that are wrong alike.
+//!
 //! Each function is given the best so far, and leaves there the one that is named of it and of its own.
 ghost use Rattle.std.specs.Prelude.{◌≡◌, None, Some};
 ghost use Rattle.std.specs.List.{flat_map};
 ghost use Rattle.std.specs.Option.{option_copied, option_map_or};
 ghost use Rattle.mh_model.specs.Faults as spec;
 ghost use Rattle.mh_model.specs.Faults.{least};
+ghost use Rattle.mh_model.specs.Known.{each_class};
 ghost use Rattle.mh_model.specs.Variables as variables;
 
 use crate::kinds::variable_kind;
@@ -64,8 +68,8 @@ pub(crate) fn target<'a, R: Rank, K: Known>(best: &mut Best<'a>, known: &'a K, a
     }
 }
 
-/// The objects to which the variable that is the target may refer.
-#[tactic(auto, using(crate::proofs::LeastLemmas::least_append))]
+/// The objects to which the variable that is the target may refer. To a transition it is the class of the group that
+/// counts.
 fn admitted_behind<'a, R: Rank, K: Known>(
     best: &mut Best<'a>,
     known: &'a K,
@@ -76,7 +80,27 @@ fn admitted_behind<'a, R: Rank, K: Known>(
         let at = spec.admitted_wrongs k act.now.name (Some variable.now) in
         best.new ≡ least R.order best.old (flat_map at (k.refers variable.now)) }
 {
-    for at in known.refers(variable) {
+    if is_transition(act.name) {
+        admitted_each::<R, K>(best, known, act, variable, known.refers(variable));
+    } else {
+        let some = known.of_each_class(variable);
+        admitted_each::<R, K>(best, known, act, variable, some);
+    }
+}
+
+/// These objects, to which the variable that is the target may refer.
+#[tactic(auto, using(crate::proofs::LeastLemmas::least_append))]
+fn admitted_each<'a, R: Rank, K: Known>(
+    best: &mut Best<'a>,
+    known: &K,
+    act: &Act,
+    variable: &'a ObjRef,
+    objects: &'a [ObjRef],
+)
+    ensures { let at = spec.admitted_wrongs (K.known known.now) act.now.name (Some variable.now) in
+        best.new ≡ least R.order best.old (flat_map at objects.now) }
+{
+    for at in objects {
         admitted::<R, K>(best, known, act.name, Some(variable), at);
     }
 }
@@ -114,7 +138,6 @@ fn target_class<K: Known>(known: &K, action: ActionName, at: &ObjRef) -> Option<
 }
 
 /// The objects to which the variable that is a parameter may refer.
-#[tactic(auto, using(crate::proofs::LeastLemmas::least_append))]
 pub(crate) fn named_behind<'a, R: Rank, K: Known>(
     best: &mut Best<'a>,
     known: &'a K,
@@ -125,7 +148,23 @@ pub(crate) fn named_behind<'a, R: Rank, K: Known>(
         let at = spec.named_wrongs k act.now.name (Some variable.now) in
         best.new ≡ least R.order best.old (flat_map at (k.refers variable.now)) }
 {
-    for at in known.refers(variable) {
+    let some = known.of_each_class(variable);
+    named_each::<R, K>(best, known, act, variable, some);
+}
+
+/// These objects, to which the variable that is a parameter may refer.
+#[tactic(auto, using(crate::proofs::LeastLemmas::least_append))]
+fn named_each<'a, R: Rank, K: Known>(
+    best: &mut Best<'a>,
+    known: &K,
+    act: &Act,
+    variable: &'a ObjRef,
+    objects: &'a [ObjRef],
+)
+    ensures { let at = spec.named_wrongs (K.known known.now) act.now.name (Some variable.now) in
+        best.new ≡ least R.order best.old (flat_map at objects.now) }
+{
+    for at in objects {
         named::<R, K>(best, known, act.name, Some(variable), at);
     }
 }
@@ -162,7 +201,6 @@ fn takes_object(action: ActionName, class: Class) -> bool
 }
 
 /// A direct value, which each object to which the target may come has to take.
-#[tactic(auto, using(crate::proofs::LeastLemmas::least_append))]
 pub(crate) fn untaken<'a, R: Rank, K: Known, F: Fit>(
     best: &mut Best<'a>,
     known: &'a K,
@@ -173,7 +211,24 @@ pub(crate) fn untaken<'a, R: Rank, K: Known, F: Fit>(
         let at = spec.untaken k (F.fits fit.now) (spec.target_variable act.now.target) in
         best.new ≡ least R.order best.old (flat_map at (spec.targets k act.now.target)) }
 {
-    for at in targets(known, &act.target) {
+    let some = targets_of_each_class(known, &act.target);
+    untaken_by::<R, K, F>(best, known, act, fit, some);
+}
+
+/// A direct value, which each of these objects has to take.
+#[tactic(auto, using(crate::proofs::LeastLemmas::least_append))]
+fn untaken_by<'a, R: Rank, K: Known, F: Fit>(
+    best: &mut Best<'a>,
+    known: &K,
+    act: &'a Act,
+    fit: &F,
+    objects: &'a [ObjRef],
+)
+    ensures { let k = K.known known.now in
+        let at = spec.untaken k (F.fits fit.now) (spec.target_variable act.now.target) in
+        best.new ≡ least R.order best.old (flat_map at objects.now) }
+{
+    for at in objects {
         let takes = target_takes(known, at, fit);
         let through = act.target.variable();
         unless::<R>(best, takes, Reason::WrongKind, through, at);
@@ -181,7 +236,6 @@ pub(crate) fn untaken<'a, R: Rank, K: Known, F: Fit>(
 }
 
 /// A value through a variable, which each object to which the target may come has to take.
-#[tactic(auto, using(crate::proofs::LeastLemmas::least_append))]
 pub(crate) fn untaken_through<'a, R: Rank, K: Known, F: Fit>(
     best: &mut Best<'a>,
     known: &K,
@@ -193,7 +247,23 @@ pub(crate) fn untaken_through<'a, R: Rank, K: Known, F: Fit>(
         let at = spec.untaken_through k (F.fits fit.now) variable.now in
         best.new ≡ least R.order best.old (flat_map at (spec.targets k act.now.target)) }
 {
-    for at in targets(known, &act.target) {
+    let some = targets_of_each_class(known, &act.target);
+    untaken_through_by::<R, K, F>(best, known, fit, variable, some);
+}
+
+/// A value through a variable, which each of these objects has to take.
+#[tactic(auto, using(crate::proofs::LeastLemmas::least_append))]
+fn untaken_through_by<'a, R: Rank, K: Known, F: Fit>(
+    best: &mut Best<'a>,
+    known: &K,
+    fit: &F,
+    variable: &'a ObjRef,
+    objects: &[ObjRef],
+)
+    ensures { let at = spec.untaken_through (K.known known.now) (F.fits fit.now) variable.now in
+        best.new ≡ least R.order best.old (flat_map at objects.now) }
+{
+    for at in objects {
         let takes = target_takes(known, at, fit);
         unless::<R>(best, takes, Reason::WrongKind, None, variable);
     }
@@ -217,5 +287,16 @@ pub(crate) fn targets<'a, K: Known>(known: &'a K, target: &'a Target) -> &'a [Ob
     match target {
         Target::Direct(at) => slice::from_ref(at),
         Target::Through(at) => known.refers(at),
+    }
+}
+
+/// Some of these objects, in their order: the first of each class at least, and the first that is not present.
+fn targets_of_each_class<'a, K: Known>(known: &'a K, target: &'a Target) -> &'a [ObjRef]
+    ensures { let of_class = (K.known known.now).class_of in
+        each_class of_class result.now ≡ each_class of_class (spec.targets (K.known known.now) target.now) }
+{
+    match target {
+        Target::Direct(at) => slice::from_ref(at),
+        Target::Through(at) => known.of_each_class(at),
     }
 }

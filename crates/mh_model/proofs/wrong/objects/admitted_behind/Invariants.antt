@@ -1,8 +1,0 @@
-use Rattle.std.specs.Prelude.{Some, drop}
-use Rattle.std.specs.List.{flat_map}
-use Rattle.std.proofs.Common.{◌≡◌}
-use Rattle.mh_model.specs.Faults.{least, admitted_wrongs}
-use Rattle.mh_model.proofs.wrong.objects.admitted_behind.Given as goal
-
-abbrev pub invariant-loop-at : goal.invariant-loop-at
-invariant-loop-at g l = least g.R.Rank.order l.best (flat_map (admitted_wrongs (g.K.Known.known l.known) l.act.name (Some l.variable)) (drop l.at-index ((g.K.Known.known l.known).refers l.variable))) ≡ least g.R.Rank.order l.fn.best (flat_map (admitted_wrongs (g.K.Known.known l.known) l.act.name (Some l.variable)) ((g.K.Known.known l.known).refers l.variable))
