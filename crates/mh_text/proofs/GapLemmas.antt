@@ -1,5 +1,5 @@
 -- White space at the front of a text.
-use Rattle.std.proofs.Common.{◌≡◌, ℕ, ◌+◌, ◌⊎◌, inl, inr, Bool, true, false, ◌&&◌, not, ◌==◌, if◌then◌else◌, List, [], ◌∷◌, ◌++◌, take, drop, refl, ap, ap₂, sym, ◌∙◌, subst, arith, add-one, append_assoc}
+use Rattle.std.proofs.Common.{◌≡◌, ℕ, ◌+◌, ◌⊎◌, inl, inr, Bool, true, false, ◌&&◌, ◌||◌, not, ◌==◌, nat_le, if◌then◌else◌, List, [], ◌∷◌, ◌++◌, take, drop, refl, ap, ap₂, sym, ◌∙◌, subst, arith, add-one, append_assoc}
 use Rattle.std.specs.List.{list_any}
 use Rattle.std.proofs.lemmas.Bool.Decides.{nat_tests}
 use Rattle.std.proofs.lemmas.Bool.{and_parts, or_parts}
@@ -110,3 +110,15 @@ gaps (b ∷ bs) = (outside_if b bs _ _ refl refl (gaps bs).0 (gaps bs).1, inside
 -- the white space that the reader passes over
 pub gap_found : (bs : List ℕ) → Outside bs (gap_length false bs)
 gap_found bs = (gaps bs).0
+
+-- a byte that is neither control nor space nor slash is no white space
+no_blank : (b : ℕ) → (nat_le b 32 || b == 47) ≡ false → is_space b ≡ false
+no_blank b h = grind (arith, nat_tests)
+
+-- before a byte that is neither control nor space nor slash stands no white space
+pub gap_none : (b : ℕ) (bs : List ℕ) → (nat_le b 32 || b == 47) ≡ false → gap_length false (b ∷ bs) ≡ 0
+gap_none b bs h = rw ((or_parts (nat_le b 32) (b == 47) h).1, no_blank b h) refl
+
+-- and before such a one behind a space stands that space
+pub gap_one : (b : ℕ) (bs : List ℕ) → (nat_le b 32 || b == 47) ≡ false → gap_length false (32 ∷ b ∷ bs) ≡ 1
+gap_one b bs h = ap (λ n. n + 1) (gap_none b bs h)

@@ -1,5 +1,9 @@
 -- A name that is the name of a keyword means that keyword, whichever of the tables has it.
-use Rattle.std.proofs.Common.{◌≡◌, ℕ, true, List, ◌∷◌, Some, Ok, codes, bytes_eq, subst}
+use Rattle.std.proofs.Common.{◌≡◌, ℕ, ◌<◌, Bool, true, false, ◌&&◌, nat_eq, List, [], ◌∷◌, ◌++◌, length, get_or, Some, Ok, codes, bytes_eq, refl, ap, sym, ◌∙◌, subst, w64, arith}
+use Rattle.std.specs.Bool.{one_answer}
+use Rattle.std.specs.Int.{from_le_bytes, to_le_bytes}
+use Rattle.std.proofs.lemmas.Bool.Decides.{nat_tests}
+use Rattle.std.proofs.lemmas.Nat.{le_bytes_8}
 use Rattle.std.proofs.lemmas.Slice.Eq.{bytes_eq-Decides}
 use Rattle.mh_base.specs.declared.value.Kind.{Kind}
 use Rattle.mh_group.specs.declared.class.Class.{Class}
@@ -35,3 +39,30 @@ content_ref_named name = of_name (codes "ContentRef") name sign.ContentRef conte
 
 pub indirect_ref_named : (name : List ℕ) → bytes_eq (codes "IndirectRef") name ≡ true → name_sign name ≡ Some sign.IndirectRef
 indirect_ref_named name = of_name (codes "IndirectRef") name sign.IndirectRef indirect_ref_means
+
+-- eight bytes are the same where the words are that they make
+pub eight_same : (bs cs : List ℕ) (n m : ℕ) → length bs ≡ 8 → length cs ≡ 8 → ((i : ℕ) → get_or bs i 0 < 256) → ((i : ℕ) → get_or cs i 0 < 256)
+    → n ≡ from_le_bytes w64 bs → m ≡ from_le_bytes w64 cs → nat_eq n m ≡ bytes_eq bs cs
+eight_same bs cs n m l k small tiny is are = one_answer (nat_eq n m) (bytes_eq bs cs) (told, tells) (bytes_eq-Decides bs cs)
+  where
+    told : nat_eq n m ≡ true → bs ≡ cs
+    told e =
+        let word : n ≡ m = grind (arith, nat_tests) in
+        sym (le_bytes_8 bs n l small is) ∙ ap (to_le_bytes w64) word ∙ le_bytes_8 cs m k tiny are
+
+    tells : bs ≡ cs → nat_eq n m ≡ true
+    tells same =
+        let word : n ≡ m = is ∙ ap (from_le_bytes w64) same ∙ sym are in
+        grind (arith, nat_tests)
+
+-- lists are the same where their fronts, of one length, and what is behind these are
+pub parts_same : (bs cs xs ys : List ℕ) → length bs ≡ length cs → (bytes_eq bs cs && bytes_eq xs ys) ≡ bytes_eq (bs ++ xs) (cs ++ ys)
+parts_same [] [] xs ys l = refl
+parts_same [] (c ∷ cs) xs ys l = absurd (omega arith)
+parts_same (b ∷ bs) [] xs ys l = absurd (omega arith)
+parts_same (b ∷ bs) (c ∷ cs) xs ys l = first (nat_eq b c) (parts_same bs cs xs ys (omega arith))
+  where
+    first : (t : Bool) → (bytes_eq bs cs && bytes_eq xs ys) ≡ bytes_eq (bs ++ xs) (cs ++ ys)
+        → ((t && bytes_eq bs cs) && bytes_eq xs ys) ≡ (t && bytes_eq (bs ++ xs) (cs ++ ys))
+    first true rest = rest
+    first false rest = refl

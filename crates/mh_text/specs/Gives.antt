@@ -1,5 +1,5 @@
 -- What is refused in a text, and what the readers' errors tell of it.
-use Rattle.std.specs.Prelude.{◌≡◌, Option, Some, None, Result, Ok, Err}
+use Rattle.std.specs.Prelude.{Option, Some, None, Result}
 use Rattle.mh_base.specs.Reading as base
 use Rattle.mh_text.specs.declared.text_error.Why.{Why}
 use Rattle.mh_text.specs.declared.text_error.TextError.{TextError}
@@ -21,9 +21,3 @@ Fails e read = base.Fails (told e) read
 -- what a function returned, seen by view, is what the reading gives, unless memory ran out
 abbrev pub Gives : {X Y : Type 0} → (X → Y) → Result X TextError → Result Y Refusal → Type 0
 Gives view result read = base.Gives told view result read
-
--- where x was read, y was made of it, and the place behind is the same; an error is passed on
-abbrev pub Made : {A B P : Type 0} → (A → B → Type 0) → Result (A × P) TextError → Result (B × P) TextError → Type 0
-Made IsMade (Ok x) (Ok y) = IsMade x.0 y.0 × (y.1 ≡ x.1)
-Made IsMade (Err e) (Err f) = f ≡ e
-Made IsMade _ _ = ⊥

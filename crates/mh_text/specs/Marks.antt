@@ -52,9 +52,9 @@ unfoldable pub marks : List ℕ → List Mark
 marks bytes = marks_from in_group (left false (whole bytes)).pieces
 
 -- the tokens of a place where the next is this one, with what is left behind it
-abbrev pub pieces_of : Option (Piece × Left) → List Piece
-pieces_of None = []
-pieces_of (Some (p, rest)) = p ∷ rest.pieces
+abbrev pub pieces_of : Option Piece → Left → List Piece
+pieces_of None _ = []
+pieces_of (Some p) rest = p ∷ rest.pieces
 
 -- the mark lies within so many bytes
 abbrev pub is_within : ℕ → Mark → Bool

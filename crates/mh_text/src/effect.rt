@@ -4,7 +4,7 @@ ghost use Rattle.std.specs.Prelude.{◌≡◌, ◌&&◌, [], nat_le};
 ghost use Rattle.mh_text.specs.Gives.{Gives};
 ghost use Rattle.mh_text.specs.Reading.{is_close, action, action_name_of, parameters, parameter, generic_parameter, typed, value_of};
 
-use crate::form::{Form, generic, list, made};
+use crate::form::{Form, generic, list};
 use crate::place::{Piece, Place};
 use crate::sign::Sign;
 use crate::value::event_of;
@@ -23,24 +23,17 @@ impl Form for ElementaryAction {
     ghost reading = { action };
 
     #[tactic(auto, unfolding(crate::specs::Reading::action))]
-    fn read<'a>(
-        alloc: Global,
-        piece: &Piece<'_>,
-        place: Place<'a>,
-    ) -> Result<(Action, Place<'a>), TextError> {
+    fn read(alloc: Global, piece: &Piece<'_>, place: &mut Place<'_>) -> Result<Action, TextError> {
         let name = action_name_of(piece)?;
-        let place = place.opened()?;
-        let (piece, place) = place.next()?;
-        let (target, place) = generic::<AnyReference>(alloc, &piece, place)?;
-        let (parameters, place) = parameters(alloc, name.optional(), name.needs(), place)?;
-        Ok((
-            Action {
-                name,
-                target,
-                parameters,
-            },
-            place,
-        ))
+        place.opened()?;
+        let piece = place.next()?;
+        let target = generic::<AnyReference>(alloc, &piece, place)?;
+        let parameters = parameters(alloc, name.optional(), name.needs(), place)?;
+        Ok(Action {
+            name,
+            target,
+            parameters,
+        })
     }
 }
 
@@ -56,27 +49,25 @@ fn action_name_of(piece: &Piece<'_>) -> Result<ActionName, TextError>
 
 /// The parameters that are needed, in their order, up to the closing parenthesis. So many of them may be
 /// missing at the end.
-fn parameters<'a>(
+fn parameters(
     alloc: Global,
     optional: usize,
     needs: &[Need],
-    place: Place<'a>,
-) -> Result<(Seq<Parameter>, Place<'a>), TextError>
-    ensures { Gives (λ x. x) result (parameters optional needs.now [] place.entry) }
+    place: &mut Place<'_>,
+) -> Result<Seq<Parameter>, TextError>
+    ensures { Gives (λ x. (x, place.new)) result (parameters optional needs.now [] place.old) }
 {
     let mut parameters = Seq::with_capacity(alloc, needs.len())?;
-    let mut place = place;
     for (at, need) in needs.iter().enumerate() {
-        let (piece, behind) = place.next()?;
+        let piece = place.next()?;
         if may_end(needs.len() - at, optional, piece.sign()) {
-            return Ok((parameters, behind));
+            return Ok(parameters);
         }
-        let (parameter, behind) = parameter(alloc, *need, &piece, behind)?;
+        let parameter = parameter(alloc, *need, &piece, place)?;
         parameters.push(parameter)?;
-        place = behind;
     }
-    let place = place.closed()?;
-    Ok((parameters, place))
+    place.closed()?;
+    Ok(parameters)
 }
 
 /// Whether the token ends parameters of which so many are missing, and so many may be.
@@ -88,23 +79,20 @@ fn may_end(missing: usize, optional: usize, sign: Sign) -> bool
 
 /// The parameter that begins with this token.
 #[tactic(auto, unfolding(crate::specs::Reading::parameter))]
-fn parameter<'a>(
+fn parameter(
     alloc: Global,
     need: Need,
     piece: &Piece<'_>,
-    place: Place<'a>,
-) -> Result<(Parameter, Place<'a>), TextError>
-    ensures { Gives (λ x. x) result (parameter need piece.now place.entry) }
+    place: &mut Place<'_>,
+) -> Result<Parameter, TextError>
+    ensures { Gives (λ x. (x, place.new)) result (parameter need piece.now place.old) }
 {
     match need {
-        Need::Event => Ok((Parameter::Event(event_of(piece)?), place)),
-        Need::Receiver(_) => made(AnyReference::read(alloc, piece, place), Parameter::Receiver),
-        Need::Typed => made(TypedValue::read(alloc, piece, place), Parameter::Typed),
+        Need::Event => Ok(Parameter::Event(event_of(piece)?)),
+        Need::Receiver(_) => AnyReference::read(alloc, piece, place).map(Parameter::Receiver),
+        Need::Typed => TypedValue::read(alloc, piece, place).map(Parameter::Typed),
         Need::Arguments => {
-            made(
-                list::<TypedValue>(alloc, LONGEST_LIST, piece, place),
-                Parameter::Arguments,
-            )
+            list::<TypedValue>(alloc, LONGEST_LIST, piece, place).map(Parameter::Arguments)
         }
         _ => generic_parameter(alloc, need, piece, place),
     }
@@ -112,24 +100,21 @@ fn parameter<'a>(
 
 /// The parameter that begins with this token, where it may be held by a variable.
 #[tactic(auto, unfolding(crate::specs::Reading::generic_parameter))]
-fn generic_parameter<'a>(
+fn generic_parameter(
     alloc: Global,
     need: Need,
     piece: &Piece<'_>,
-    place: Place<'a>,
-) -> Result<(Parameter, Place<'a>), TextError>
-    ensures { Gives (λ x. x) result (generic_parameter need piece.now place.entry) }
+    place: &mut Place<'_>,
+) -> Result<Parameter, TextError>
+    ensures { Gives (λ x. (x, place.new)) result (generic_parameter need piece.now place.old) }
 {
     match need {
-        Need::Bool => made(generic::<Truth>(alloc, piece, place), Parameter::Bool),
-        Need::Int => made(generic::<Integer>(alloc, piece, place), Parameter::Int),
-        Need::Octets => made(generic::<OctetText>(alloc, piece, place), Parameter::Octets),
-        Need::Ref => made(generic::<AnyReference>(alloc, piece, place), Parameter::Ref),
-        Need::Content => made(
-            generic::<AnyContent>(alloc, piece, place),
-            Parameter::Content,
-        ),
-        Need::Data => made(generic::<Data>(alloc, piece, place), Parameter::Data),
+        Need::Bool => generic::<Truth>(alloc, piece, place).map(Parameter::Bool),
+        Need::Int => generic::<Integer>(alloc, piece, place).map(Parameter::Int),
+        Need::Octets => generic::<OctetText>(alloc, piece, place).map(Parameter::Octets),
+        Need::Ref => generic::<AnyReference>(alloc, piece, place).map(Parameter::Ref),
+        Need::Content => generic::<AnyContent>(alloc, piece, place).map(Parameter::Content),
+        Need::Data => generic::<Data>(alloc, piece, place).map(Parameter::Data),
         _ => Err(piece.refused(Why::Syntax)),
     }
 }
@@ -143,37 +128,30 @@ impl Form for TypedValue {
     ghost reading = { typed };
 
     #[tactic(auto, unfolding(crate::specs::Reading::typed))]
-    fn read<'a>(
-        alloc: Global,
-        piece: &Piece<'_>,
-        place: Place<'a>,
-    ) -> Result<(Typed, Place<'a>), TextError> {
+    fn read(alloc: Global, piece: &Piece<'_>, place: &mut Place<'_>) -> Result<Typed, TextError> {
         let Sign::Kind(kind) = piece.sign() else {
             return Err(piece.refused(Why::Syntax));
         };
-        let (piece, place) = place.next()?;
+        let piece = place.next()?;
         value_of(alloc, kind, &piece, place)
     }
 }
 
 /// The value that begins with this token, which stands behind the keyword of its kind.
 #[tactic(auto, unfolding(crate::specs::Reading::value_of))]
-fn value_of<'a>(
+fn value_of(
     alloc: Global,
     kind: Kind,
     piece: &Piece<'_>,
-    place: Place<'a>,
-) -> Result<(Typed, Place<'a>), TextError>
-    ensures { Gives (λ x. x) result (value_of kind piece.now place.entry) }
+    place: &mut Place<'_>,
+) -> Result<Typed, TextError>
+    ensures { Gives (λ x. (x, place.new)) result (value_of kind piece.now place.old) }
 {
     match kind {
-        Kind::Bool => made(generic::<Truth>(alloc, piece, place), Typed::Bool),
-        Kind::Int => made(generic::<Integer>(alloc, piece, place), Typed::Int),
-        Kind::Octets => made(generic::<OctetText>(alloc, piece, place), Typed::Octets),
-        Kind::Object => made(generic::<AnyReference>(alloc, piece, place), Typed::Ref),
-        Kind::Content => made(
-            generic::<ContentName>(alloc, piece, place),
-            Typed::ContentRef,
-        ),
+        Kind::Bool => generic::<Truth>(alloc, piece, place).map(Typed::Bool),
+        Kind::Int => generic::<Integer>(alloc, piece, place).map(Typed::Int),
+        Kind::Octets => generic::<OctetText>(alloc, piece, place).map(Typed::Octets),
+        Kind::Object => generic::<AnyReference>(alloc, piece, place).map(Typed::Ref),
+        Kind::Content => generic::<ContentName>(alloc, piece, place).map(Typed::ContentRef),
     }
 }

@@ -33,22 +33,20 @@ pub(crate) fn fields<'a>(
     alloc: Global,
     class: Class,
     before: Seq<Field>,
-    place: Place<'a>,
-) -> Result<(Seq<Field>, Piece<'a>, Place<'a>), TextError>
-    ensures { Gives (λ x. x) result (fields_lem class longest_list before place.entry) }
+    place: &mut Place<'a>,
+) -> Result<(Seq<Field>, Piece<'a>), TextError>
+    ensures { Gives (λ x. (x.0, x.1, place.new)) result (fields_lem class longest_list before place.old) }
 {
     let mut fields = before;
-    let mut place = place;
     for _ in 0..LONGEST_LIST {
-        let (member, end, behind) = next_field(alloc, class, fields.as_slice(), place)?;
+        let (member, end) = next_field(alloc, class, fields.as_slice(), place)?;
         let Some(field) = member else {
-            return Ok((fields, end, behind));
+            return Ok((fields, end));
         };
         let more = with_field(fields, field)?;
         fields = more;
-        place = behind;
     }
-    let (piece, _) = place.next()?;
+    let piece = place.next()?;
     Err(piece.refused(Why::Limit))
 }
 
@@ -59,21 +57,21 @@ fn next_field<'a>(
     alloc: Global,
     class: Class,
     fields: &[Field],
-    place: Place<'a>,
-) -> Result<(Option<Field>, Piece<'a>, Place<'a>), TextError>
-    ensures { Gives (λ x. x) result (next_field class fields.now place.entry) }
+    place: &mut Place<'a>,
+) -> Result<(Option<Field>, Piece<'a>), TextError>
+    ensures { Gives (λ x. (x.0, x.1, place.new)) result (next_field class fields.now place.old) }
 {
-    let (piece, place) = place.next()?;
+    let piece = place.next()?;
     if piece.sign().is_close_brace() {
-        return Ok((None, piece, place));
+        return Ok((None, piece));
     }
     let attribute = attribute_of(class, fields, &piece)?;
     let shape = class.shape(attribute);
     if shape.is_items() {
-        return Ok((None, piece, place));
+        return Ok((None, piece));
     }
-    let (setting, place) = setting(alloc, shape, place)?;
-    Ok((Some(Field { attribute, setting }), piece, place))
+    let setting = setting(alloc, shape, place)?;
+    Ok((Some(Field { attribute, setting }), piece))
 }
 
 /// The fields behind the items, which may not come twice.
@@ -82,9 +80,9 @@ pub(crate) fn fields_behind_items<'a>(
     alloc: Global,
     class: Class,
     before: Seq<Field>,
-    place: Place<'a>,
-) -> Result<(Seq<Field>, Piece<'a>, Place<'a>), TextError>
-    ensures { Gives (λ x. x) result (fields_behind_items class before place.entry) }
+    place: &mut Place<'a>,
+) -> Result<(Seq<Field>, Piece<'a>), TextError>
+    ensures { Gives (λ x. (x.0, x.1, place.new)) result (fields_behind_items class before place.old) }
 {
     let read = fields(alloc, class, before, place)?;
     if is_items(class, read.1.sign()) {

@@ -2,7 +2,7 @@
 //! values, and values that a variable may hold.
 ghost use Rattle.std.specs.Prelude.{[], Result};
 ghost use Rattle.mh_text.specs.Rest.{Left, Piece as PieceValue};
-ghost use Rattle.mh_text.specs.Gives.{Gives, Made, Refusal};
+ghost use Rattle.mh_text.specs.Gives.{Gives, Refusal};
 ghost use Rattle.mh_text.specs.Reading.{generic, list, listed, next_member};
 
 use crate::place::{Piece, Place};
@@ -19,55 +19,41 @@ pub(crate) trait Form {
     /// What a token and what is left behind it are read as.
     ghost reading: { PieceValue → Left → Result (Self.Value × Left) Refusal };
 
-    /// The value that begins with this token, and the place behind it.
-    fn read<'a>(
+    /// The value that begins with this token; the place stands behind that, and then behind the value.
+    fn read(
         alloc: Global,
         piece: &Piece<'_>,
-        place: Place<'a>,
-    ) -> Result<(Self::Value, Place<'a>), TextError>
-        ensures { Gives (λ x. x) result (reading piece.now place.entry) };
-}
-
-/// What was read, as a part of what is made of it.
-pub(crate) fn made<'a, A, B, F: FnOnce(A) -> B>(
-    read: Result<(A, Place<'a>), TextError>,
-    make: F,
-) -> Result<(B, Place<'a>), TextError>
-    requires { F.IsAlwaysCallable make }
-    ensures { Made (F.post make) read.entry result }
-{
-    match read {
-        Ok((value, place)) => Ok((make(value), place)),
-        Err(error) => Err(error),
-    }
+        place: &mut Place<'_>,
+    ) -> Result<Self::Value, TextError>
+        ensures { Gives (λ x. (x, place.new)) result (reading piece.now place.old) };
 }
 
 /// A value that is written directly, or the reference of the variable that holds it.
 #[tactic(auto, unfolding(crate::specs::Reading::generic))]
-pub(crate) fn generic<'a, F: Form>(
+pub(crate) fn generic<F: Form>(
     alloc: Global,
     piece: &Piece<'_>,
-    place: Place<'a>,
-) -> Result<(Generic<F::Value>, Place<'a>), TextError>
-    ensures { Gives (λ x. x) result (generic F.reading piece.now place.entry) }
+    place: &mut Place<'_>,
+) -> Result<Generic<F::Value>, TextError>
+    ensures { Gives (λ x. (x, place.new)) result (generic F.reading piece.now place.old) }
 {
     if piece.sign().is_indirect() {
-        let (piece, place) = place.next()?;
-        let (variable, place) = AnyReference::read(alloc, &piece, place)?;
-        return Ok((Generic::Indirect(variable), place));
+        let piece = place.next()?;
+        let variable = AnyReference::read(alloc, &piece, place)?;
+        return Ok(Generic::Indirect(variable));
     }
-    made(F::read(alloc, piece, place), Generic::Direct)
+    F::read(alloc, piece, place).map(Generic::Direct)
 }
 
 /// A list between parentheses, of which this token is the first. It has at most so many members.
 #[tactic(auto, unfolding(crate::specs::Reading::list))]
-pub(crate) fn list<'a, F: Form>(
+pub(crate) fn list<F: Form>(
     alloc: Global,
     most: usize,
     piece: &Piece<'_>,
-    place: Place<'a>,
-) -> Result<(Seq<F::Value>, Place<'a>), TextError>
-    ensures { Gives (λ x. x) result (list F.reading most piece.now place.entry) }
+    place: &mut Place<'_>,
+) -> Result<Seq<F::Value>, TextError>
+    ensures { Gives (λ x. (x, place.new)) result (list F.reading most piece.now place.old) }
 {
     if piece.sign().is_open() {
         members::<F>(alloc, most, place)
@@ -77,38 +63,33 @@ pub(crate) fn list<'a, F: Form>(
 }
 
 /// The members of a list up to its closing parenthesis, at most so many.
-pub(crate) fn members<'a, F: Form>(
+pub(crate) fn members<F: Form>(
     alloc: Global,
     most: usize,
-    place: Place<'a>,
-) -> Result<(Seq<F::Value>, Place<'a>), TextError>
-    ensures { Gives (λ x. x) result (listed F.reading most [] place.entry) }
+    place: &mut Place<'_>,
+) -> Result<Seq<F::Value>, TextError>
+    ensures { Gives (λ x. (x, place.new)) result (listed F.reading most [] place.old) }
 {
     let mut members = Seq::new(alloc);
-    let mut place = place;
     for _ in 0..most {
-        let (next, behind) = next_member::<F>(alloc, place)?;
+        let next = next_member::<F>(alloc, place)?;
         let Some(member) = next else {
-            return Ok((members, behind));
+            return Ok(members);
         };
         members.push(member)?;
-        place = behind;
     }
-    let place = place.closed_list()?;
-    Ok((members, place))
+    place.closed_list()?;
+    Ok(members)
 }
 
-/// The next member of a list and the place behind it; none behind the closing parenthesis.
+/// The next member of a list; none where the closing parenthesis was taken.
 #[tactic(auto, unfolding(crate::specs::Reading::next_member))]
-fn next_member<'a, F: Form>(
-    alloc: Global,
-    place: Place<'a>,
-) -> Result<(Option<F::Value>, Place<'a>), TextError>
-    ensures { Gives (λ x. x) result (next_member F.reading place.entry) }
+fn next_member<F: Form>(alloc: Global, place: &mut Place<'_>) -> Result<Option<F::Value>, TextError>
+    ensures { Gives (λ x. (x, place.new)) result (next_member F.reading place.old) }
 {
-    let (piece, place) = place.next()?;
+    let piece = place.next()?;
     if piece.sign().is_close() {
-        return Ok((None, place));
+        return Ok(None);
     }
-    made(F::read(alloc, &piece, place), Some)
+    F::read(alloc, &piece, place).map(Some)
 }

@@ -2,6 +2,7 @@
 //! keyword of all is tried first, which a few letters of the name choose, and the tables are asked where its
 //! name is another.
 ghost use Rattle.std.specs.Prelude.{◌≡◌, Some, true};
+ghost use Rattle.std.specs.Str.{bytes_eq};
 ghost use Rattle.mh_text.specs.Signs.{name_sign, mark_sign};
 
 use crate::sign::Sign;
@@ -216,14 +217,36 @@ fn is_named(sign: Sign, name: &[u8]) -> bool
     ensures { result ≡ true → name_sign name.now ≡ Some sign }
 {
     match sign {
-        Sign::Class(class) => are_same_bytes(class.word(), name),
-        Sign::Attribute(attribute) => are_same_bytes(attribute.word(), name),
-        Sign::Action(action) => are_same_bytes(action.word(), name),
-        Sign::Kind(kind) => are_same_bytes(mh_group::kind_word(kind), name),
-        Sign::ContentRef => are_same_bytes(CONTENT_REF, name),
-        Sign::IndirectRef => are_same_bytes(INDIRECT_REF, name),
+        Sign::Class(class) => are_same_names(class.word(), name),
+        Sign::Attribute(attribute) => are_same_names(attribute.word(), name),
+        Sign::Action(action) => are_same_names(action.word(), name),
+        Sign::Kind(kind) => are_same_names(mh_group::kind_word(kind), name),
+        Sign::ContentRef => are_same_names(CONTENT_REF, name),
+        Sign::IndirectRef => are_same_names(INDIRECT_REF, name),
         _ => false,
     }
+}
+
+/// Whether the names are the same. Most keywords are longer than eight bytes, so these are compared at once.
+fn are_same_names(one: &[u8], other: &[u8]) -> bool
+    ensures { result ≡ bytes_eq one.now other.now }
+{
+    match (one, other) {
+        ([a, b, c, d, e, f, g, h, one @ ..], [i, j, k, l, m, n, o, p, other @ ..]) => {
+            are_same_eight(
+                [*a, *b, *c, *d, *e, *f, *g, *h],
+                [*i, *j, *k, *l, *m, *n, *o, *p],
+            ) && are_same_names(one, other)
+        }
+        _ => are_same_bytes(one, other),
+    }
+}
+
+/// Whether eight bytes are the same.
+fn are_same_eight(one: [u8; 8], other: [u8; 8]) -> bool
+    ensures { result ≡ bytes_eq one other }
+{
+    u64::from_le_bytes(one) == u64::from_le_bytes(other)
 }
 
 /// What the name of a keyword means, table by table.

@@ -1,6 +1,6 @@
 //! The bytes of tokens and of what lies between them: how long the white space at the front is, and
 //! which token begins behind it. Where a token stands is left to `token`.
-ghost use Rattle.std.specs.Prelude.{◌≡◌, ◌+◌, ◌≤◌, ◌<◌, length, IfSome, false};
+ghost use Rattle.std.specs.Prelude.{◌≡◌, ◌+◌, ◌≤◌, ◌<◌, ◌==◌, ◌||◌, nat_le, length, IfSome, false};
 ghost use Rattle.std.specs.List.{prefix_len};
 ghost use Rattle.mh_text.specs.Bytes.{is_space, is_letter, is_hexadecimal, begins_with};
 ghost use Rattle.mh_text.specs.ByteSets.{bit_of, bits_of};
@@ -31,8 +31,29 @@ pub(crate) fn is_hexadecimal(byte: u8) -> bool
 }
 
 /// How many bytes of white space and comments stand at the front. A comment goes from `//` to the end
-/// of its line.
+/// of its line. Mostly there is none, or one space.
+#[tactic(auto, using(crate::proofs::GapLemmas::gap_none, crate::proofs::GapLemmas::gap_one))]
 pub(crate) fn gap_length(bytes: &[u8]) -> usize
+    ensures exact { result ≡ gap_length false bytes.now }
+    ensures within { result ≤ length bytes.now }
+{
+    match bytes {
+        [first, ..] if !may_begin_gap(*first) => 0,
+        [b' ', second, ..] if !may_begin_gap(*second) => 1,
+        _ => long_gap_length(bytes),
+    }
+}
+
+/// Whether white space or a comment may begin with the byte.
+fn may_begin_gap(byte: u8) -> bool
+    ensures { result ≡ (nat_le byte 32 || byte == 47) }
+{
+    byte <= b' ' || byte == b'/'
+}
+
+/// The same, byte by byte.
+#[inline(never)]
+fn long_gap_length(bytes: &[u8]) -> usize
     ensures exact { result ≡ gap_length false bytes.now }
     ensures within { result ≤ length bytes.now }
 {

@@ -48,7 +48,8 @@ pub fn read_group(alloc: Global, bytes: &[u8]) -> Result<Group, TextError>
             offset: 0,
         });
     }
-    let (written, place) = group(alloc, Place::new(bytes))?;
+    let mut place = Place::new(bytes);
+    let written = group(alloc, &mut place)?;
     place.ended()?;
     match Group::new(written) {
         Ok(group) => Ok(group),
@@ -57,36 +58,33 @@ pub fn read_group(alloc: Global, bytes: &[u8]) -> Result<Group, TextError>
 }
 
 #[tactic(auto, unfolding(crate::specs::Reading::group))]
-fn group<'a>(alloc: Global, place: Place<'a>) -> Result<(Written, Place<'a>), TextError>
-    ensures { Gives (λ x. x) result (group place.entry) }
+fn group(alloc: Global, place: &mut Place<'_>) -> Result<Written, TextError>
+    ensures { Gives (λ x. (x, place.new)) result (group place.old) }
 {
-    let place = place.braced()?;
-    let (piece, place) = place.next()?;
+    place.braced()?;
+    let piece = place.next()?;
     let class = class_of(true, &piece)?;
-    let (identifier, place) = identifier(alloc, place)?;
+    let identifier = identifier(alloc, place)?;
     group_with(alloc, class, identifier, place)
 }
 
 /// The rest of a group, behind its class and identifier.
-fn group_with<'a>(
+fn group_with(
     alloc: Global,
     class: Class,
     identifier: WrittenName,
-    place: Place<'a>,
-) -> Result<(Written, Place<'a>), TextError>
-    ensures { Gives (λ x. x) result (group_with class identifier place.entry) }
+    place: &mut Place<'_>,
+) -> Result<Written, TextError>
+    ensures { Gives (λ x. (x, place.new)) result (group_with class identifier place.old) }
 {
-    let (fields, items, end, place) = body(alloc, class, place)?;
+    let (fields, items, end) = body(alloc, class, place)?;
     complete(class, fields.as_slice(), &end)?;
-    Ok((
-        Written {
-            class,
-            identifier,
-            fields,
-            items,
-        },
-        place,
-    ))
+    Ok(Written {
+        class,
+        identifier,
+        fields,
+        items,
+    })
 }
 
 /// What stands between a group's identifier and its closing brace: the fields, and perhaps the items
@@ -95,13 +93,13 @@ fn group_with<'a>(
 fn body<'a>(
     alloc: Global,
     class: Class,
-    place: Place<'a>,
-) -> Result<(Seq<Field>, Option<Seq<Ingredient>>, Piece<'a>, Place<'a>), TextError>
-    ensures { Gives (λ x. x) result (body class place.entry) }
+    place: &mut Place<'a>,
+) -> Result<(Seq<Field>, Option<Seq<Ingredient>>, Piece<'a>), TextError>
+    ensures { Gives (λ x. (x.0, x.1, x.2, place.new)) result (body class place.old) }
 {
-    let (fields, end, place) = fields(alloc, class, Seq::new(alloc), place)?;
+    let (fields, end) = fields(alloc, class, Seq::new(alloc), place)?;
     if !is_items(class, end.sign()) {
-        return Ok((fields, None, end, place));
+        return Ok((fields, None, end));
     }
     items_and_fields(alloc, class, fields, place)
 }
@@ -111,13 +109,13 @@ fn items_and_fields<'a>(
     alloc: Global,
     class: Class,
     before: Seq<Field>,
-    place: Place<'a>,
-) -> Result<(Seq<Field>, Option<Seq<Ingredient>>, Piece<'a>, Place<'a>), TextError>
-    ensures { Gives (λ x. x) result (items_and_fields class before place.entry) }
+    place: &mut Place<'a>,
+) -> Result<(Seq<Field>, Option<Seq<Ingredient>>, Piece<'a>), TextError>
+    ensures { Gives (λ x. (x.0, x.1, x.2, place.new)) result (items_and_fields class before place.old) }
 {
-    let (items, place) = items(alloc, place)?;
-    let (fields, end, place) = fields_behind_items(alloc, class, before, place)?;
-    Ok((fields, Some(items), end, place))
+    let items = items(alloc, place)?;
+    let (fields, end) = fields_behind_items(alloc, class, before, place)?;
+    Ok((fields, Some(items), end))
 }
 
 /// The class that this token names, of a group or of an ingredient.
@@ -133,27 +131,27 @@ fn class_of(is_group: bool, piece: &Piece<'_>) -> Result<Class, TextError>
 
 /// The group's own identifier: its name, and the number 0.
 #[tactic(auto, unfolding(crate::specs::Reading::identifier))]
-fn identifier<'a>(alloc: Global, place: Place<'a>) -> Result<(WrittenName, Place<'a>), TextError>
-    ensures { Gives (λ x. x) result (identifier_lem place.entry) }
+fn identifier(alloc: Global, place: &mut Place<'_>) -> Result<WrittenName, TextError>
+    ensures { Gives (λ x. (x, place.new)) result (identifier_lem place.old) }
 {
-    let place = place.opened()?;
-    let (piece, place) = place.next()?;
+    place.opened()?;
+    let piece = place.next()?;
     let name = name_of(alloc, &piece)?;
-    let (piece, place) = place.next()?;
+    let piece = place.next()?;
     let number = number_of(&piece)?;
     if number.get() != 0 {
         return Err(piece.refused(Why::Range));
     }
-    let place = place.closed()?;
-    Ok((name, place))
+    place.closed()?;
+    Ok(name)
 }
 
 /// The ingredients between parentheses.
 #[tactic(auto, unfolding(crate::specs::Reading::items))]
-fn items<'a>(alloc: Global, place: Place<'a>) -> Result<(Seq<Ingredient>, Place<'a>), TextError>
-    ensures { Gives (λ x. x) result (items place.entry) }
+fn items(alloc: Global, place: &mut Place<'_>) -> Result<Seq<Ingredient>, TextError>
+    ensures { Gives (λ x. (x, place.new)) result (items place.old) }
 {
-    let (piece, place) = place.next()?;
+    let piece = place.next()?;
     list::<AnyIngredient>(alloc, LONGEST_LIST, &piece, place)
 }
 
@@ -166,39 +164,36 @@ impl Form for AnyIngredient {
     ghost reading = { ingredient };
 
     #[tactic(auto, unfolding(crate::specs::Reading::ingredient))]
-    fn read<'a>(
+    fn read(
         alloc: Global,
         piece: &Piece<'_>,
-        place: Place<'a>,
-    ) -> Result<(Ingredient, Place<'a>), TextError> {
+        place: &mut Place<'_>,
+    ) -> Result<Ingredient, TextError> {
         if !piece.sign().is_open_brace() {
             return Err(piece.refused(Why::Syntax));
         }
-        let (piece, place) = place.next()?;
+        let piece = place.next()?;
         let class = class_of(false, &piece)?;
-        let (piece, place) = place.next()?;
+        let piece = place.next()?;
         let number = ingredient_number_of(&piece)?;
         ingredient_with(alloc, class, number, place)
     }
 }
 
 /// The rest of an ingredient, behind its class and number.
-fn ingredient_with<'a>(
+fn ingredient_with(
     alloc: Global,
     class: Class,
     number: Number,
-    place: Place<'a>,
-) -> Result<(Ingredient, Place<'a>), TextError>
-    ensures { Gives (λ x. x) result (ingredient_with class number place.entry) }
+    place: &mut Place<'_>,
+) -> Result<Ingredient, TextError>
+    ensures { Gives (λ x. (x, place.new)) result (ingredient_with class number place.old) }
 {
-    let (fields, end, place) = fields(alloc, class, Seq::new(alloc), place)?;
+    let (fields, end) = fields(alloc, class, Seq::new(alloc), place)?;
     complete(class, fields.as_slice(), &end)?;
-    Ok((
-        Ingredient {
-            class,
-            number,
-            fields,
-        },
-        place,
-    ))
+    Ok(Ingredient {
+        class,
+        number,
+        fields,
+    })
 }

@@ -1,7 +1,9 @@
 //! `Place`: where reading stands in a text. It gives the next token with its meaning, or the first
-//! thing that is wrong there; what is wanted is left to the readers.
-ghost use Rattle.std.specs.Prelude.{◌≡◌, false, length};
+//! thing that is wrong there; what is wanted is left to the readers. They are lent the place and go on
+//! in it; where one answers an error, the place is of no further use, and nothing is said of it.
+ghost use Rattle.std.specs.Prelude.{◌≡◌, false, length, Some, option_map};
 ghost use Rattle.mh_base.specs.Reading.{whole, refused};
+ghost use Rattle.mh_text.specs.Rest.{Left};
 ghost use Rattle.mh_text.specs.Left.{left, meant};
 ghost use Rattle.mh_text.specs.Signs.{sign_of};
 ghost use Rattle.mh_text.specs.Gives.{Gives, Fails};
@@ -97,29 +99,26 @@ impl<'a> Place<'a> {
         }
     }
 
-    /// The next token and the place behind it; none at the end, whose offset is the second part.
-    pub(crate) fn taken(self) -> Result<Option<(Piece<'a>, Place<'a>)>, TextError>
-        ensures { Gives (λ x. x) result (taken self.entry) }
+    /// Takes the next token; none at the end.
+    pub(crate) fn taken(&mut self) -> Result<Option<Piece<'a>>, TextError>
+        ensures { Gives (option_map (λ p. (p, self.new))) result (taken self.old) }
     {
-        let Place {
-            mut tokens,
-            is_tight,
-        } = self;
-        let offset = tokens.offset();
-        match tokens.next() {
-            Ok(Some(token)) => meant(is_tight, offset, token, tokens),
-            Ok(None) => Ok(None),
-            Err(error) => Err(error),
-        }
+        let offset = self.tokens.offset();
+        let Some(token) = self.tokens.next()? else {
+            return Ok(None);
+        };
+        let piece = meant(self.is_tight, offset, token)?;
+        self.is_tight = needs_gap(token.kind);
+        Ok(Some(piece))
     }
 
-    /// The next token and the place behind it.
-    pub(crate) fn next(self) -> Result<(Piece<'a>, Place<'a>), TextError>
-        ensures { Gives (λ x. x) result (next self.entry) }
+    /// Takes the next token.
+    pub(crate) fn next(&mut self) -> Result<Piece<'a>, TextError>
+        ensures { Gives (λ p. (p, self.new)) result (next self.old) }
     {
         let end = self.tokens.end();
         match self.taken()? {
-            Some(taken) => Ok(taken),
+            Some(piece) => Ok(piece),
             None => Err(TextError::At {
                 why: Why::Syntax,
                 offset: end,
@@ -127,101 +126,90 @@ impl<'a> Place<'a> {
         }
     }
 
-    /// The place behind an opening parenthesis, which is wanted here.
+    /// Takes an opening parenthesis, which is wanted here.
     #[tactic(auto, unfolding(crate::specs::Reading::opened))]
-    pub(crate) fn opened(self) -> Result<Place<'a>, TextError>
-        ensures { Gives (λ x. x) result (opened self.entry) }
+    pub(crate) fn opened(&mut self) -> Result<(), TextError>
+        ensures { Gives (λ _. self.new) result (opened self.old) }
     {
-        let (piece, place) = self.next()?;
+        let piece = self.next()?;
         if piece.sign.is_open() {
-            Ok(place)
+            Ok(())
         } else {
             Err(piece.refused(Why::Syntax))
         }
     }
 
-    /// The place behind a closing parenthesis, which is wanted here.
+    /// Takes a closing parenthesis, which is wanted here.
     #[tactic(auto, unfolding(crate::specs::Reading::closed))]
-    pub(crate) fn closed(self) -> Result<Place<'a>, TextError>
-        ensures { Gives (λ x. x) result (closed self.entry) }
+    pub(crate) fn closed(&mut self) -> Result<(), TextError>
+        ensures { Gives (λ _. self.new) result (closed self.old) }
     {
-        let (piece, place) = self.next()?;
+        let piece = self.next()?;
         if piece.sign.is_close() {
-            Ok(place)
+            Ok(())
         } else {
             Err(piece.refused(Why::Syntax))
         }
     }
 
-    /// The place behind the closing parenthesis of a list that can take no more members.
+    /// Takes the closing parenthesis of a list that can take no more members.
     #[tactic(auto, unfolding(crate::specs::Reading::closed_list))]
-    pub(crate) fn closed_list(self) -> Result<Place<'a>, TextError>
-        ensures { Gives (λ x. x) result (closed_list self.entry) }
+    pub(crate) fn closed_list(&mut self) -> Result<(), TextError>
+        ensures { Gives (λ _. self.new) result (closed_list self.old) }
     {
-        let (piece, place) = self.next()?;
+        let piece = self.next()?;
         if piece.sign.is_close() {
-            Ok(place)
+            Ok(())
         } else {
             Err(piece.refused(Why::Limit))
         }
     }
 
-    /// The place behind an opening brace, which is wanted here.
+    /// Takes an opening brace, which is wanted here.
     #[tactic(auto, unfolding(crate::specs::Reading::braced))]
-    pub(crate) fn braced(self) -> Result<Place<'a>, TextError>
-        ensures { Gives (λ x. x) result (braced self.entry) }
+    pub(crate) fn braced(&mut self) -> Result<(), TextError>
+        ensures { Gives (λ _. self.new) result (braced self.old) }
     {
-        let (piece, place) = self.next()?;
+        let piece = self.next()?;
         if piece.sign.is_open_brace() {
-            Ok(place)
+            Ok(())
         } else {
             Err(piece.refused(Why::Syntax))
         }
     }
 
     /// Nothing but white space is left, which is wanted here.
-    pub(crate) fn ended(self) -> Result<(), TextError>
-        ensures { Gives (λ x. x) result (ended self.entry) }
+    pub(crate) fn ended(&mut self) -> Result<(), TextError>
+        ensures { Gives (λ x. x) result (ended self.old) }
     {
         match self.taken()? {
-            Some((piece, _)) => Err(piece.refused(Why::Syntax)),
+            Some(piece) => Err(piece.refused(Why::Syntax)),
             None => Ok(()),
         }
     }
 }
 
-/// The token with its meaning, and the place behind it. It stood in what was left from the offset on.
-fn meant<'a>(
-    is_tight: bool,
-    offset: usize,
-    token: Token<'a>,
-    behind: Tokens<'a>,
-) -> Result<Option<(Piece<'a>, Place<'a>)>, TextError>
-    ensures { Gives (λ x. x) result (taken (meant is_tight offset token.entry.kind token.entry.start token.entry.text.now
-        (sign_of token.entry.kind token.entry.text.now) (left (needs_gap token.entry.kind) behind.entry))) }
+/// The token with its meaning, whatever is left behind it. It stood in what was left from the offset on.
+fn meant<'a>(is_tight: bool, offset: usize, token: Token<'a>) -> Result<Piece<'a>, TextError>
+    ensures { (behind : Left) → Gives (λ p. Some (p, behind)) result (taken (meant is_tight offset token.entry.kind token.entry.start token.entry.text.now
+        (sign_of token.entry.kind token.entry.text.now) behind)) }
 {
     let start = token.start;
     let sign = match sign_of(token.kind, token.text) {
         Ok(sign) => sign,
         Err(why) => return Err(TextError::At { why, offset: start }),
     };
-    let needs_gap = needs_gap(token.kind);
-    if is_tight && needs_gap && start == offset {
+    if is_tight && needs_gap(token.kind) && start == offset {
         return Err(TextError::At {
             why: Why::Syntax,
             offset: start,
         });
     }
-    let piece = Piece {
+    Ok(Piece {
         sign,
         start,
         text: token.text,
-    };
-    let place = Place {
-        tokens: behind,
-        is_tight: needs_gap,
-    };
-    Ok(Some((piece, place)))
+    })
 }
 
 /// Whether white space has to stand between two tokens of such kinds.

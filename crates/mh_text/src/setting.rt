@@ -2,7 +2,7 @@
 ghost use Rattle.mh_text.specs.Gives.{Gives};
 ghost use Rattle.mh_text.specs.Reading.{setting, setting_at, single, pair, part};
 
-use crate::form::{Form, made};
+use crate::form::Form;
 use crate::place::{Piece, Place};
 use crate::several::several;
 use crate::value::{
@@ -16,32 +16,32 @@ use std::alloc::Global;
 
 /// The value of this shape.
 #[tactic(auto, unfolding(crate::specs::Reading::setting))]
-pub(crate) fn setting<'a>(
+pub(crate) fn setting(
     alloc: Global,
     shape: Shape,
-    place: Place<'a>,
-) -> Result<(Setting, Place<'a>), TextError>
-    ensures { Gives (λ x. x) result (setting shape place.entry) }
+    place: &mut Place<'_>,
+) -> Result<Setting, TextError>
+    ensures { Gives (λ x. (x, place.new)) result (setting shape place.old) }
 {
-    let (piece, place) = place.next()?;
+    let piece = place.next()?;
     setting_at(alloc, shape, &piece, place)
 }
 
 /// The value of this shape, which begins with this token.
 #[tactic(auto, unfolding(crate::specs::Reading::setting_at))]
-fn setting_at<'a>(
+fn setting_at(
     alloc: Global,
     shape: Shape,
     piece: &Piece<'_>,
-    place: Place<'a>,
-) -> Result<(Setting, Place<'a>), TextError>
-    ensures { Gives (λ x. x) result (setting_at shape piece.now place.entry) }
+    place: &mut Place<'_>,
+) -> Result<Setting, TextError>
+    ensures { Gives (λ x. (x, place.new)) result (setting_at shape piece.now place.old) }
 {
     match shape {
-        Shape::Ref => made(AnyReference::read(alloc, piece, place), Setting::Ref),
+        Shape::Ref => AnyReference::read(alloc, piece, place).map(Setting::Ref),
         Shape::Pair | Shape::Size | Shape::Screen => pair(shape, piece, place),
-        Shape::Content => made(AnyContent::read(alloc, piece, place), Setting::Content),
-        Shape::ContentRef => made(ContentName::read(alloc, piece, place), Setting::ContentRef),
+        Shape::Content => AnyContent::read(alloc, piece, place).map(Setting::Content),
+        Shape::ContentRef => ContentName::read(alloc, piece, place).map(Setting::ContentRef),
         Shape::Effect
         | Shape::MovementTable
         | Shape::Members
@@ -50,7 +50,7 @@ fn setting_at<'a>(
         | Shape::NextScenes => several(alloc, shape, piece, place),
         _ => {
             let value = single(alloc, shape, piece)?;
-            Ok((value, place))
+            Ok(value)
         }
     }
 }
@@ -76,17 +76,13 @@ fn single(alloc: Global, shape: Shape, piece: &Piece<'_>) -> Result<Setting, Tex
 
 /// The two integers of a shape, of which the first is this token.
 #[tactic(auto, unfolding(crate::specs::Reading::pair))]
-fn pair<'a>(
-    shape: Shape,
-    piece: &Piece<'_>,
-    place: Place<'a>,
-) -> Result<(Setting, Place<'a>), TextError>
-    ensures { Gives (λ x. x) result (pair shape piece.now place.entry) }
+fn pair(shape: Shape, piece: &Piece<'_>, place: &mut Place<'_>) -> Result<Setting, TextError>
+    ensures { Gives (λ x. (x, place.new)) result (pair shape piece.now place.old) }
 {
     let first = part(shape, 720, piece)?;
-    let (piece, place) = place.next()?;
+    let piece = place.next()?;
     let second = part(shape, 576, &piece)?;
-    Ok((Setting::Pair(first, second), place))
+    Ok(Setting::Pair(first, second))
 }
 
 /// One integer of a pair; the screen's has one value.

@@ -3,7 +3,7 @@ ghost use Rattle.mh_text.specs.Gives.{Gives};
 ghost use Rattle.mh_text.specs.Reading.{several, effect, row, member, list_item, position, next_scene};
 
 use crate::effect::ElementaryAction;
-use crate::form::{Form, list, made, members};
+use crate::form::{Form, list, members};
 use crate::place::{Piece, Place};
 use crate::value::{integer_of, name_of};
 use crate::value_form::{AnyReference, Integer};
@@ -15,50 +15,32 @@ use std::alloc::Global;
 
 /// The value of a shape that is a list, which begins with this token.
 #[tactic(auto, unfolding(crate::specs::Reading::several))]
-pub(crate) fn several<'a>(
+pub(crate) fn several(
     alloc: Global,
     shape: Shape,
     piece: &Piece<'_>,
-    place: Place<'a>,
-) -> Result<(Setting, Place<'a>), TextError>
-    ensures { Gives (λ x. x) result (several shape piece.now place.entry) }
+    place: &mut Place<'_>,
+) -> Result<Setting, TextError>
+    ensures { Gives (λ x. (x, place.new)) result (several shape piece.now place.old) }
 {
     match shape {
         Shape::Effect => {
-            made(
-                list::<ElementaryAction>(alloc, LONGEST_LIST, piece, place),
-                Setting::Effect,
-            )
+            list::<ElementaryAction>(alloc, LONGEST_LIST, piece, place).map(Setting::Effect)
         }
         Shape::MovementTable => {
-            made(
-                list::<Row>(alloc, LONGEST_LIST, piece, place),
-                Setting::MovementTable,
-            )
+            list::<Row>(alloc, LONGEST_LIST, piece, place).map(Setting::MovementTable)
         }
         Shape::Members => {
-            made(
-                list::<SlottedMember>(alloc, LONGEST_LIST, piece, place),
-                Setting::Members,
-            )
+            list::<SlottedMember>(alloc, LONGEST_LIST, piece, place).map(Setting::Members)
         }
         Shape::ListItems => {
-            made(
-                list::<ListItem>(alloc, MOST_LIST_ITEMS, piece, place),
-                Setting::Members,
-            )
+            list::<ListItem>(alloc, MOST_LIST_ITEMS, piece, place).map(Setting::Members)
         }
         Shape::Positions => {
-            made(
-                list::<CellPosition>(alloc, LONGEST_LIST, piece, place),
-                Setting::Positions,
-            )
+            list::<CellPosition>(alloc, LONGEST_LIST, piece, place).map(Setting::Positions)
         }
         Shape::NextScenes => {
-            made(
-                list::<Scene>(alloc, LONGEST_LIST, piece, place),
-                Setting::NextScenes,
-            )
+            list::<Scene>(alloc, LONGEST_LIST, piece, place).map(Setting::NextScenes)
         }
         _ => Err(piece.refused(Why::Syntax)),
     }
@@ -72,11 +54,7 @@ impl Form for Slot {
 
     ghost reading = { effect };
 
-    fn read<'a>(
-        alloc: Global,
-        piece: &Piece<'_>,
-        place: Place<'a>,
-    ) -> Result<(Effect, Place<'a>), TextError> {
+    fn read(alloc: Global, piece: &Piece<'_>, place: &mut Place<'_>) -> Result<Effect, TextError> {
         list::<ElementaryAction>(alloc, LONGEST_LIST, piece, place)
     }
 }
@@ -89,11 +67,11 @@ impl Form for Row {
 
     ghost reading = { row };
 
-    fn read<'a>(
+    fn read(
         alloc: Global,
         piece: &Piece<'_>,
-        place: Place<'a>,
-    ) -> Result<(Seq<i32>, Place<'a>), TextError> {
+        place: &mut Place<'_>,
+    ) -> Result<Seq<i32>, TextError> {
         list::<Integer>(alloc, LONGEST_LIST, piece, place)
     }
 }
@@ -107,18 +85,14 @@ impl Form for SlottedMember {
     ghost reading = { member };
 
     #[tactic(auto, unfolding(crate::specs::Reading::member))]
-    fn read<'a>(
-        alloc: Global,
-        piece: &Piece<'_>,
-        place: Place<'a>,
-    ) -> Result<(Member, Place<'a>), TextError> {
+    fn read(alloc: Global, piece: &Piece<'_>, place: &mut Place<'_>) -> Result<Member, TextError> {
         if !piece.sign().is_open() {
             return Err(piece.refused(Why::Syntax));
         }
-        let (piece, place) = place.next()?;
-        let (object, place) = AnyReference::read(alloc, &piece, place)?;
-        let (slots, place) = members::<Slot>(alloc, LONGEST_LIST, place)?;
-        Ok((Member { object, slots }, place))
+        let piece = place.next()?;
+        let object = AnyReference::read(alloc, &piece, place)?;
+        let slots = members::<Slot>(alloc, LONGEST_LIST, place)?;
+        Ok(Member { object, slots })
     }
 }
 
@@ -131,19 +105,15 @@ impl Form for ListItem {
     ghost reading = { list_item };
 
     #[tactic(auto, unfolding(crate::specs::Reading::list_item))]
-    fn read<'a>(
-        alloc: Global,
-        piece: &Piece<'_>,
-        place: Place<'a>,
-    ) -> Result<(Member, Place<'a>), TextError> {
+    fn read(alloc: Global, piece: &Piece<'_>, place: &mut Place<'_>) -> Result<Member, TextError> {
         if !piece.sign().is_open() {
             return Err(piece.refused(Why::Syntax));
         }
-        let (piece, place) = place.next()?;
-        let (object, place) = AnyReference::read(alloc, &piece, place)?;
-        let place = place.closed()?;
+        let piece = place.next()?;
+        let object = AnyReference::read(alloc, &piece, place)?;
+        place.closed()?;
         let slots = Seq::new(alloc);
-        Ok((Member { object, slots }, place))
+        Ok(Member { object, slots })
     }
 }
 
@@ -156,20 +126,20 @@ impl Form for CellPosition {
     ghost reading = { position };
 
     #[tactic(auto, unfolding(crate::specs::Reading::position))]
-    fn read<'a>(
+    fn read(
         _alloc: Global,
         piece: &Piece<'_>,
-        place: Place<'a>,
-    ) -> Result<(Position, Place<'a>), TextError> {
+        place: &mut Place<'_>,
+    ) -> Result<Position, TextError> {
         if !piece.sign().is_open() {
             return Err(piece.refused(Why::Syntax));
         }
-        let (piece, place) = place.next()?;
+        let piece = place.next()?;
         let x = integer_of(&piece)?;
-        let (piece, place) = place.next()?;
+        let piece = place.next()?;
         let y = integer_of(&piece)?;
-        let place = place.closed()?;
-        Ok((Position { x, y }, place))
+        place.closed()?;
+        Ok(Position { x, y })
     }
 }
 
@@ -182,19 +152,19 @@ impl Form for Scene {
     ghost reading = { next_scene };
 
     #[tactic(auto, unfolding(crate::specs::Reading::next_scene))]
-    fn read<'a>(
+    fn read(
         alloc: Global,
         piece: &Piece<'_>,
-        place: Place<'a>,
-    ) -> Result<(NextScene, Place<'a>), TextError> {
+        place: &mut Place<'_>,
+    ) -> Result<NextScene, TextError> {
         if !piece.sign().is_open() {
             return Err(piece.refused(Why::Syntax));
         }
-        let (piece, place) = place.next()?;
+        let piece = place.next()?;
         let name = name_of(alloc, &piece)?;
-        let (piece, place) = place.next()?;
+        let piece = place.next()?;
         let weight = integer_of(&piece)?;
-        let place = place.closed()?;
-        Ok((NextScene { name, weight }, place))
+        place.closed()?;
+        Ok(NextScene { name, weight })
     }
 }

@@ -1,5 +1,5 @@
 //! Readers of values that are one token, or nearly so: names, numbers, truth values, octets, colours.
-//! Each takes the token at which the value begins, and the place behind that token where it reads on.
+//! Each takes the token at which the value begins, and where it reads on, the place behind that token.
 ghost use Rattle.std.specs.Prelude.{◌≡◌, pos, ◌≤ℤ◌, IfOk};
 ghost use Rattle.mh_text.specs.Gives.{Gives};
 ghost use Rattle.mh_text.specs.Reading.{name_of, integer_of, natural_of, field_length_of, fixed_of, number_of, ingredient_number_of, truth_of, event_of, justification_of, data_of, octets_of, colour_of, named_reference};
@@ -169,16 +169,13 @@ pub(crate) fn colour_of(alloc: Global, piece: &Piece<'_>) -> Result<Colour, Text
 
 /// What stands behind the opening parenthesis of a reference with a name.
 #[tactic(auto, unfolding(crate::specs::Reading::named_reference))]
-pub(crate) fn named_reference<'a>(
-    alloc: Global,
-    place: Place<'a>,
-) -> Result<(Ref, Place<'a>), TextError>
-    ensures { Gives (λ x. x) result (named_reference place.entry) }
+pub(crate) fn named_reference(alloc: Global, place: &mut Place<'_>) -> Result<Ref, TextError>
+    ensures { Gives (λ x. (x, place.new)) result (named_reference place.old) }
 {
-    let (piece, place) = place.next()?;
+    let piece = place.next()?;
     let name = name_of(alloc, &piece)?;
-    let (piece, place) = place.next()?;
+    let piece = place.next()?;
     let number = number_of(&piece)?;
-    let place = place.closed()?;
-    Ok((Ref::In(name, number), place))
+    place.closed()?;
+    Ok(Ref::In(name, number))
 }

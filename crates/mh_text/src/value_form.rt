@@ -1,7 +1,7 @@
 //! The forms of the values that fit a few tokens, and the readers of references and contents.
 ghost use Rattle.mh_text.specs.Reading.{reference, truth, integer, octets, event_data, content_name, content};
 
-use crate::form::{Form, made};
+use crate::form::Form;
 use crate::place::{Piece, Place};
 use crate::sign::Sign;
 use crate::value::{data_of, integer_of, name_of, named_reference, number_of, octets_of, truth_of};
@@ -18,12 +18,8 @@ impl Form for Truth {
 
     ghost reading = { truth };
 
-    fn read<'a>(
-        _alloc: Global,
-        piece: &Piece<'_>,
-        place: Place<'a>,
-    ) -> Result<(bool, Place<'a>), TextError> {
-        Ok((truth_of(piece)?, place))
+    fn read(_alloc: Global, piece: &Piece<'_>, place: &mut Place<'_>) -> Result<bool, TextError> {
+        Ok(truth_of(piece)?)
     }
 }
 
@@ -35,12 +31,8 @@ impl Form for Integer {
 
     ghost reading = { integer };
 
-    fn read<'a>(
-        _alloc: Global,
-        piece: &Piece<'_>,
-        place: Place<'a>,
-    ) -> Result<(i32, Place<'a>), TextError> {
-        Ok((integer_of(piece)?, place))
+    fn read(_alloc: Global, piece: &Piece<'_>, place: &mut Place<'_>) -> Result<i32, TextError> {
+        Ok(integer_of(piece)?)
     }
 }
 
@@ -52,12 +44,8 @@ impl Form for OctetText {
 
     ghost reading = { octets };
 
-    fn read<'a>(
-        alloc: Global,
-        piece: &Piece<'_>,
-        place: Place<'a>,
-    ) -> Result<(Octets, Place<'a>), TextError> {
-        Ok((octets_of(alloc, piece)?, place))
+    fn read(alloc: Global, piece: &Piece<'_>, place: &mut Place<'_>) -> Result<Octets, TextError> {
+        Ok(octets_of(alloc, piece)?)
     }
 }
 
@@ -69,12 +57,12 @@ impl Form for Data {
 
     ghost reading = { event_data };
 
-    fn read<'a>(
+    fn read(
         _alloc: Global,
         piece: &Piece<'_>,
-        place: Place<'a>,
-    ) -> Result<(EventData, Place<'a>), TextError> {
-        Ok((data_of(piece)?, place))
+        place: &mut Place<'_>,
+    ) -> Result<EventData, TextError> {
+        Ok(data_of(piece)?)
     }
 }
 
@@ -87,15 +75,11 @@ impl Form for AnyReference {
     ghost reading = { reference };
 
     #[tactic(auto, unfolding(crate::specs::Reading::reference))]
-    fn read<'a>(
-        alloc: Global,
-        piece: &Piece<'_>,
-        place: Place<'a>,
-    ) -> Result<(Ref, Place<'a>), TextError> {
+    fn read(alloc: Global, piece: &Piece<'_>, place: &mut Place<'_>) -> Result<Ref, TextError> {
         match piece.sign() {
             Sign::Integer(_) => {
                 let number = number_of(piece)?;
-                Ok((Ref::Here(number), place))
+                Ok(Ref::Here(number))
             }
             Sign::OpenParenthesis => named_reference(alloc, place),
             _ => Err(piece.refused(Why::Syntax)),
@@ -112,19 +96,19 @@ impl Form for ContentName {
     ghost reading = { content_name };
 
     #[tactic(auto, unfolding(crate::specs::Reading::content_name))]
-    fn read<'a>(
+    fn read(
         alloc: Global,
         piece: &Piece<'_>,
-        place: Place<'a>,
-    ) -> Result<(WrittenName, Place<'a>), TextError> {
+        place: &mut Place<'_>,
+    ) -> Result<WrittenName, TextError> {
         if !piece.sign().is_content_ref() {
             return Err(piece.refused(Why::Syntax));
         }
-        let place = place.opened()?;
-        let (piece, place) = place.next()?;
+        place.opened()?;
+        let piece = place.next()?;
         let name = name_of(alloc, &piece)?;
-        let place = place.closed()?;
-        Ok((name, place))
+        place.closed()?;
+        Ok(name)
     }
 }
 
@@ -137,15 +121,11 @@ impl Form for AnyContent {
     ghost reading = { content };
 
     #[tactic(auto, unfolding(crate::specs::Reading::content))]
-    fn read<'a>(
-        alloc: Global,
-        piece: &Piece<'_>,
-        place: Place<'a>,
-    ) -> Result<(Content, Place<'a>), TextError> {
+    fn read(alloc: Global, piece: &Piece<'_>, place: &mut Place<'_>) -> Result<Content, TextError> {
         if piece.sign().is_content_ref() {
-            return made(ContentName::read(alloc, piece, place), Content::Referenced);
+            return ContentName::read(alloc, piece, place).map(Content::Referenced);
         }
         let octets = octets_of(alloc, piece)?;
-        Ok((Content::Included(octets), place))
+        Ok(Content::Included(octets))
     }
 }

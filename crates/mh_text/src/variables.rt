@@ -40,8 +40,9 @@ pub fn variables_at(
     let mut found = Vec::new(alloc);
     let mut brackets = 0;
     let mut coming = Coming::Nothing;
-    let mut next = token_at(bytes, start)?;
-    while let Some((piece, rest)) = next {
+    let mut place = Place::new(bytes);
+    let mut next = token_at(&mut place, start)?;
+    while let Some(piece) = next {
         if closes_last(brackets, piece.sign()) {
             break;
         }
@@ -50,21 +51,19 @@ pub fn variables_at(
         }
         brackets = brackets_behind(brackets, piece.sign());
         coming = coming_behind(coming, &piece);
-        next = next_good(rest)?;
+        next = next_good(&mut place)?;
     }
     Ok(found)
 }
 
-/// The token that begins at the offset, and the place behind it.
-fn token_at(bytes: &[u8], start: usize) -> Result<Option<(Piece<'_>, Place<'_>)>, AllocError>
-    ensures { IfOk result (λ next. pieces_of next ≡ pieces_at start (left false (whole bytes.now)).pieces) }
+/// Takes the tokens up to the one that begins at the offset.
+fn token_at<'a>(place: &mut Place<'a>, start: usize) -> Result<Option<Piece<'a>>, AllocError>
+    ensures { IfOk result (λ next. pieces_of next place.new ≡ pieces_at start place.old.pieces) }
 {
-    let mut place = Place::new(bytes);
-    while let Some((piece, rest)) = next_good(place)? {
+    while let Some(piece) = next_good(place)? {
         if piece.start() == start {
-            return Ok(Some((piece, rest)));
+            return Ok(Some(piece));
         }
-        place = rest;
     }
     Ok(None)
 }

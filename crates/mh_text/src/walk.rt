@@ -7,9 +7,9 @@ use crate::TextError;
 use crate::place::{Piece, Place};
 use std::alloc::AllocError;
 
-/// The next token and the place behind it; none where the text ends or goes wrong.
-pub(crate) fn next_good<'a>(place: Place<'a>) -> Result<Option<(Piece<'a>, Place<'a>)>, AllocError>
-    ensures { IfOk result (λ next. pieces_of next ≡ place.entry.pieces) }
+/// Takes the next token; none where the text ends or goes wrong.
+pub(crate) fn next_good<'a>(place: &mut Place<'a>) -> Result<Option<Piece<'a>>, AllocError>
+    ensures { IfOk result (λ next. pieces_of next place.new ≡ place.old.pieces) }
 {
     match place.taken() {
         Ok(next) => Ok(next),

@@ -31,13 +31,12 @@ pub fn landmarks(alloc: Global, bytes: &[u8]) -> Result<Vec<Landmark<'_>>, Alloc
     let mut field = Attribute::Items;
     let mut front = Front::Other;
     let mut place = Place::new(bytes);
-    while let Some((piece, rest)) = next_good(place)? {
+    while let Some(piece) = next_good(&mut place)? {
         if let Some(landmark) = landmark_at(field, front, &piece) {
             found.push(landmark)?;
         }
         field = field_behind(field, piece.sign());
         front = front_behind(front, piece.sign());
-        place = rest;
     }
     Ok(found)
 }

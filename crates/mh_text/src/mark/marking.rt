@@ -29,12 +29,11 @@ pub fn marks(alloc: Global, bytes: &[u8]) -> Result<Vec<Mark>, AllocError>
     let mut found = Vec::new(alloc);
     let mut spot = in_group();
     let mut place = Place::new(bytes);
-    while let Some((piece, rest)) = next_good(place)? {
+    while let Some(piece) = next_good(&mut place)? {
         spot = behind(spot, piece.sign());
         if let Some(mark) = mark_at(spot, &piece) {
             found.push(mark)?;
         }
-        place = rest;
     }
     Ok(found)
 }

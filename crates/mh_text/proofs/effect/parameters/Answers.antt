@@ -14,7 +14,7 @@ returns-in_err-piece c =
 pub returns-then-may_end : goal.returns-then-may_end
 returns-then-may_end c =
     sym c.loop-at.invariant
-    ∙ parameters_done c.args.optional c.args.needs.now c.loop-at.at need.Bool c.loop-at.parameters c.loop-at.place c.loop-at-test.true c.in_ok-piece.piece c.in_ok-piece.behind
+    ∙ parameters_done c.args.optional c.args.needs.now c.loop-at.at need.Bool c.loop-at.parameters c.loop-at.place c.loop-at-test.true _ _
     c.in_ok-piece.ensures (rw c.sign.ensures at c.if-may_end.ensures)
 
 pub returns-in_err-parameter : goal.returns-in_err-parameter
@@ -22,10 +22,10 @@ returns-in_err-parameter c =
     let p = err_from_is_err_and c.from_residual-in_err-parameter.result c.from_residual-in_err-parameter.ensures.1 in
     rw (p.1, p.2) (subst (Fails c.in_err-parameter.field-0.0) c.loop-at.invariant
     (parameter_fails c.args.optional c.args.needs.now c.loop-at.at need.Bool c.loop-at.parameters c.loop-at.place c.loop-at-test.true c.in_err-parameter.field-0.0
-    c.in_ok-piece.piece c.in_ok-piece.behind c.in_ok-piece.ensures (rw c.sign.ensures at c.if-may_end.ensures) c.in_err-parameter.ensures))
+    _ _ c.in_ok-piece.ensures (rw c.sign.ensures at c.if-may_end.ensures) c.in_err-parameter.ensures))
 
 pub loop-at-preserved : goal.loop-at-preserved
 loop-at-preserved c =
-    parameters_more c.args.optional c.args.needs.now c.loop-at.at need.Bool c.loop-at.parameters c.loop-at.place c.loop-at-test.true c.in_ok-piece.piece c.in_ok-piece.behind
-    c.in_ok-parameter.behind c.in_ok-parameter.parameter c.push.new.self c.in_ok-piece.ensures (rw c.sign.ensures at c.if-may_end.ensures) c.in_ok-parameter.ensures c.in_ok-push.ensures.added
+    parameters_more c.args.optional c.args.needs.now c.loop-at.at need.Bool c.loop-at.parameters c.loop-at.place c.loop-at-test.true _ _
+    _ _ c.push.new.self c.in_ok-piece.ensures (rw c.sign.ensures at c.if-may_end.ensures) c.in_ok-parameter.ensures c.in_ok-push.ensures.added
     ∙ c.loop-at.invariant

@@ -20,12 +20,12 @@ loop-preserved g c =
     (omega arith) c.in_ok-next.ensures c.in-Some.is c.in_ok-push.ensures.added
     ∙ c.loop.invariant
 
-pub returns-in_err-place : goal.returns-in_err-place
-returns-in_err-place g c =
-    let p = err_from_is_err_and c.from_residual-in_err-place.result c.from_residual-in_err-place.ensures.1 in
-    rw (p.1, p.2) (subst (λ r. Fails c.in_err-place.field-0.0 r) c.loop.invariant
-    (listed_full_fails g.F.Form.reading (c.args.most - c.loop.counter) c.loop.members c.loop.place c.in_err-place.field-0.0 (omega arith) c.in_err-place.ensures))
+pub returns-in_err-closed_list : goal.returns-in_err-closed_list
+returns-in_err-closed_list g c =
+    let p = err_from_is_err_and c.from_residual-in_err-closed_list.result c.from_residual-in_err-closed_list.ensures.1 in
+    rw (p.1, p.2) (subst (λ r. Fails c.in_err-closed_list.field-0.0 r) c.loop.invariant
+    (listed_full_fails g.F.Form.reading (c.args.most - c.loop.counter) c.loop.members c.loop.place c.in_err-closed_list.field-0.0 (omega arith) c.in_err-closed_list.ensures))
 
 pub returns : goal.returns
 returns g c =
-    sym c.loop.invariant ∙ listed_full g.F.Form.reading (c.args.most - c.loop.counter) c.loop.members c.loop.place _ (omega arith) c.in_ok-place.ensures
+    sym c.loop.invariant ∙ listed_full g.F.Form.reading (c.args.most - c.loop.counter) c.loop.members c.loop.place _ (omega arith) c.in_ok-closed_list.ensures

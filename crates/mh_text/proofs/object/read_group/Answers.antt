@@ -43,6 +43,6 @@ returns-in_err-ended-clause-only c =
 -- a group that was read is one that the tables allow
 pub unreachable-requires : goal.unreachable-requires
 unreachable-requires c =
-    let allowed : is_group c.in_ok-written.written ≡ true = group_allowed c.new.result c.in_ok-written.written c.in_ok-written.place c.in_ok-written.ensures in
+    let allowed : is_group c.in_ok-written.written ≡ true = group_allowed c.new-place.result c.in_ok-written.written _ c.in_ok-written.ensures in
     let refused : is_group c.in_ok-written.written ≡ false = c.in-Err.ensures.unfit in
     cc

@@ -7,8 +7,8 @@ use Rattle.mh_text.proofs.variables.variables_at.Given as goal
 
 abbrev pub invariant-loop-next : goal.invariant-loop-next
 invariant-loop-next l =
-    (l.found.items ++ variables_from l.brackets (coming_of l.coming) (pieces_of l.next) ≡ variables_at l.fn.bytes l.fn.start)
-    × (l.brackets + length (pieces_of l.next) ≤ suc (length l.fn.bytes))
+    (l.found.items ++ variables_from l.brackets (coming_of l.coming) (pieces_of l.next l.place) ≡ variables_at l.fn.bytes l.fn.start)
+    × (l.brackets + length (pieces_of l.next l.place) ≤ suc (length l.fn.bytes))
 
 abbrev pub decreases-loop-next : goal.decreases-loop-next
-decreases-loop-next l = length (pieces_of l.next)
+decreases-loop-next l = length (pieces_of l.next l.place)
